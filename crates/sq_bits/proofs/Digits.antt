@@ -1,0 +1,47 @@
+-- Bytes as the digits of a number.
+use Rattle.std.proofs.Common.{◌≡◌, ℕ, ◌+◌, ◌-◌, ◌*◌, ◌/◌, ◌<◌, ◌≤◌, ◌^◌, List, length, take, set, refl, ◌∙◌, arith, bit_and, [], ◌∷◌, ◌++◌}
+use Rattle.std.proofs.lemmas.Nat.{pow-add, shr-shr, shr_split, and_mask, and_le_r}
+use Rattle.std.proofs.lemmas.Int.Digits.{number_more}
+use Rattle.std.proofs.Math.ListN.{length-set}
+use Rattle.std.proofs.lemmas.List.{take-set, take_more_set, get_or-set_same}
+use Rattle.std.proofs.Math.Nat.{pow-le-pow_right}
+use Rattle.std.specs.Int.Digits.{number_from_digits, AllBelowBase}
+
+-- one more byte below it multiplies a bound by 256
+pub pow_byte : (i : ℕ) → 2 ^ (8 * (i + 1)) ≡ 2 ^ (8 * i) * 256
+pow_byte i = let e : 8 * (i + 1) ≡ 8 * i + 8 = omega arith in rw e (pow-add 2 (8 * i) 8)
+
+pub pow_byte-le : (i : ℕ) → i < 14 → 2 ^ (8 * i) * 256 ≤ 2 ^ 112
+pow_byte-le i small =
+    let fits : 8 * (i + 1) ≤ 112 = omega arith in
+    let bound : 2 ^ (8 * (i + 1)) ≤ 2 ^ 112 = pow-le-pow_right (omega arith) fits in
+    rw (pow_byte i) at bound
+
+-- a byte written behind those before it
+pub digit_written : (bs : List ℕ) (i v : ℕ) → i < length bs
+    → number_from_digits 256 (take (i + 1) (set bs i v)) ≡ number_from_digits 256 (take i bs) * 256 + v
+digit_written bs i v within =
+    let long : i < length (set bs i v) = rw length-set within in
+    number_more 256 (set bs i v) i long ∙ rw (get_or-set_same bs i v 0 within, take-set) refl
+
+-- the leading bits of a number, and the eight below them
+pub byte_below : (n i : ℕ) → i < 14 → n / 2 ^ (112 - 8 * i) * 256 + bit_and (n / 2 ^ (104 - 8 * i)) 255 ≡ n / 2 ^ (112 - 8 * (i + 1))
+byte_below n i small =
+    let k : ℕ = 104 - 8 * i in
+    let high : 112 - 8 * i ≡ k + 8 = omega arith in
+    let low : 112 - 8 * (i + 1) ≡ k = omega arith in
+    rw (high, low, ← shr-shr n k 8, and_mask (n / 2 ^ k) 8) (shr_split (n / 2 ^ k) 8)
+
+-- one more byte behind a number of i bytes
+pub byte_more : (n b i : ℕ) → n < 2 ^ (8 * i) → b < 256 → i < 14 → (n * 256 + b < 2 ^ (8 * (i + 1))) × (n * 256 + b < 2 ^ 112)
+byte_more n b i small byte within =
+    let less : n * 256 + b < 2 ^ (8 * i) * 256 = omega arith in
+    (rw pow_byte less, omega (arith, pow_byte-le i within))
+
+AllBelowBase-push : (b x : ℕ) (xs : List ℕ) → AllBelowBase b xs → x < b → AllBelowBase b (xs ++ x ∷ [])
+AllBelowBase-push b x [] all last = (last, tt)
+AllBelowBase-push b x (y ∷ ys) all last = (all.0, AllBelowBase-push b x ys all.1 last)
+
+pub AllBelowBase-written : (bs : List ℕ) (i n : ℕ) → i < length bs → AllBelowBase 256 (take i bs) → AllBelowBase 256 (take (i + 1) (set bs i (bit_and n 255)))
+AllBelowBase-written bs i n within all =
+    rw (take_more_set bs i (bit_and n 255) within) (AllBelowBase-push 256 (bit_and n 255) (take i bs) all (omega (arith, and_le_r n 255)))

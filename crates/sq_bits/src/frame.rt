@@ -1,0 +1,78 @@
+//! A frame and its bit fields.
+ghost use Rattle.std.specs.Prelude.{◌≡◌, ℕ, ◌+◌, ◌<◌, ◌≤◌, ◌^◌};
+ghost use Rattle.std.specs.Int.Digits.{AllBelowBase};
+
+use crate::laws::each_frame;
+
+/// The 112 bits of an extended squitter (ICAO Annex 10 volume IV, section 3.1.2.3), numbered from 1 to 112: bit 1 is the
+/// most significant bit of byte 0.
+#[derive(Clone, Copy, Debug, PartialEq, Eq)]
+pub struct Frame(pub [u8; 14]);
+
+impl Frame {
+    ghost use Rattle.sq_bits.specs.Frames.{frame_number, field_of, IsApart, IsFrame};
+
+    // The frame as one number of 112 bits.
+    pub(crate) fn number(&self) -> u128
+        ensures value { result ≡ frame_number self.now }
+        ensures small { result < 2 ^ 112 }
+        ensures frame { IsFrame self.now }
+    {
+        each_frame(self);
+        let mut number = 0;
+        for &byte in &self.0 {
+            number = number * 256 + u128::from(byte);
+        }
+        number
+    }
+
+    // The frame of a number of 112 bits.
+    pub(crate) fn from_number(number: u128) -> Frame
+        requires { number < 2 ^ 112 }
+        ensures value { frame_number result ≡ number }
+        ensures frame { IsFrame result }
+    {
+        let mut bytes = [0; 14];
+        for place in 0..14 {
+            bytes[place] = (number >> (104 - 8 * place) & 0xFF) as u8;
+        }
+        Frame(bytes)
+    }
+
+    /// The bits `first` to `first + count - 1` as a number, the most significant first.
+    ///
+    /// `first` is at least 1, `count` is from 1 to 56, and the last of these bits is at most bit 112.
+    pub fn field(&self, first: u8, count: u8) -> u64
+        requires begins { 1 ≤ first }
+        requires some { 1 ≤ count }
+        requires short { count ≤ 56 }
+        requires within { first + count ≤ 113 }
+        ensures value { result ≡ field_of self.now first count }
+        ensures small { result < 2 ^ count }
+    {
+        let below = 113 - first - count;
+        ((self.number() >> below) % (1 << count)) as u64
+    }
+
+    /// The same frame with the bits `first` to `first + count - 1` holding `value`; no other bit changes.
+    ///
+    /// The bits are as for [`Frame::field`], and `value` is below 2 to the number of bits.
+    pub fn with_field(&self, first: u8, count: u8, value: u64) -> Frame
+        requires begins { 1 ≤ first }
+        requires some { 1 ≤ count }
+        requires short { count ≤ 56 }
+        requires within { first + count ≤ 113 }
+        requires fits { value < 2 ^ count }
+        ensures value { field_of result first count ≡ value }
+        ensures kept { (start len : ℕ) → IsApart start len first count → field_of result start len ≡ field_of self.now start len }
+    {
+        let below = 113 - first - count;
+        let held = u128::from(self.field(first, count)) << below;
+        Frame::from_number(self.number() - held + (u128::from(value) << below))
+    }
+}
+
+// What the type says of bytes.
+pub(crate) fn are_bytes(bytes: &[u8])
+    ensures { AllBelowBase 256 bytes.now }
+{}

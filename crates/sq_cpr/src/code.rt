@@ -1,0 +1,47 @@
+//! The code of a point, as it is sent.
+ghost use Rattle.std.specs.Prelude.{◌≡◌, ◌↔◌, ◌<◌, IsSome, IfSome};
+
+// The codes of a zone, in each coordinate: 2^17.
+const CODES: u32 = 131_072;
+
+/// What is sent of a position: the latitude's and the longitude's number, each of 17 bits (RTCA DO-260B, appendix on
+/// compact position reporting).
+#[derive(Clone, Copy, Debug, PartialEq, Eq)]
+pub struct Code {
+    lat: u32,
+    lon: u32,
+    pub ghost lat_below: { lat < 131072 },
+    pub ghost lon_below: { lon < 131072 },
+}
+
+impl Code {
+    ghost use Rattle.sq_cpr.specs.Code.{numbers_of};
+
+    /// The code of these two numbers; `None` exactly unless both are below 131072.
+    pub fn new(lat: u32, lon: u32) -> Option<Code>
+        ensures variant { IsSome result ↔ ((lat < 131072) × (lon < 131072)) }
+        ensures value { IfSome result (λ code. numbers_of code ≡ record { lat = lat; lon = lon }) }
+    {
+        if lat < CODES && lon < CODES {
+            Some(Code { lat, lon })
+        } else {
+            None
+        }
+    }
+
+    /// The latitude's number, below 131072.
+    pub fn lat(&self) -> u32
+        ensures value { result ≡ (numbers_of self.now).lat }
+        ensures small { result < 131072 }
+    {
+        self.lat
+    }
+
+    /// The longitude's number, below 131072.
+    pub fn lon(&self) -> u32
+        ensures value { result ≡ (numbers_of self.now).lon }
+        ensures small { result < 131072 }
+    {
+        self.lon
+    }
+}

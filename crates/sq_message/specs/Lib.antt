@@ -1,0 +1,4 @@
+pub mod TypeCodes
+pub mod Parts
+pub mod Spelling
+pub mod Altitudes

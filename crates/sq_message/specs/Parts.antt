@@ -1,0 +1,43 @@
+-- The parts of the fields and of a squitter, as the calls of their names answer them.
+use Rattle.std.specs.Prelude.{ℕ, Bool}
+use Rattle.sq_message.specs.declared.air.AirFields.{AirFields}
+use Rattle.sq_message.specs.declared.ground.GroundFields.{GroundFields}
+use Rattle.sq_message.specs.declared.other.Other.{Other}
+use Rattle.sq_message.specs.declared.squitter.Me.{Me}
+use Rattle.sq_message.specs.declared.squitter.Squitter.{Squitter}
+
+-- what an airborne position says besides where
+pub record AirParts : Type 0 where
+  pub type_code : ℕ
+  pub status : ℕ
+  pub flag : Bool
+  pub altitude : ℕ
+  pub time : Bool
+
+abbrev pub air_parts : AirFields → AirParts
+air_parts fields = record { type_code = fields.type_code; status = fields.status; flag = fields.flag; altitude = fields.altitude; time = fields.time }
+
+-- what a surface position says besides where
+pub record GroundParts : Type 0 where
+  pub type_code : ℕ
+  pub movement : ℕ
+  pub track_status : Bool
+  pub track : ℕ
+  pub time : Bool
+
+abbrev pub ground_parts : GroundFields → GroundParts
+ground_parts fields =
+    record { type_code = fields.type_code; movement = fields.movement; track_status = fields.track_status; track = fields.track; time = fields.time }
+
+-- the 56 bits of another message
+abbrev pub raw_of : Other → ℕ
+raw_of other = other.raw
+
+-- the capability, the address and the message of a squitter
+pub record SquitterParts : Type 0 where
+  pub ca : ℕ
+  pub address : ℕ
+  pub me : Me
+
+abbrev pub squitter_parts : Squitter → SquitterParts
+squitter_parts squitter = record { ca = squitter.ca; address = squitter.address; me = squitter.me }

@@ -1,0 +1,76 @@
+-- Which frame spells which squitter: the layouts of ICAO Doc 9871, registers 0,5 (airborne) and 0,6 (surface).
+-- ME bit k is frame bit 32 + k.
+use Rattle.std.specs.Prelude.{◌≡◌, ◌≢◌, ℕ, Bool, if◌then◌else◌, Result, MatchResult}
+use Rattle.sq_bits.specs.declared.frame.Frame.{Frame}
+use Rattle.sq_bits.specs.Frames.{field_of, frame_number}
+use Rattle.sq_bits.specs.Parity.{IsMultiple, IsRemainder}
+use Rattle.sq_zones.specs.declared.parity.Parity.{Parity}
+use Rattle.sq_zones.specs.Parity.{parity_index}
+use Rattle.sq_cpr.specs.Code.{CodeNumbers, numbers_of}
+use Rattle.sq_message.specs.Parts.{AirParts, GroundParts, air_parts, ground_parts, raw_of, squitter_parts}
+use Rattle.sq_message.specs.declared.air.Airborne.{Airborne}
+use Rattle.sq_message.specs.declared.ground.Surface.{Surface}
+use Rattle.sq_message.specs.declared.squitter.Me.{Me}
+use Rattle.sq_message.specs.declared.squitter.Me.TheVariants as kinds
+use Rattle.sq_message.specs.declared.squitter.Squitter.{Squitter}
+use Rattle.sq_message.specs.declared.squitter.FrameFault.{FrameFault}
+use Rattle.sq_message.specs.declared.squitter.FrameFault.TheVariants as faults
+
+-- a one-bit field
+abbrev pub bit : Bool → ℕ
+bit b = if b then 1 else 0
+
+-- the ME fields that an airborne position has besides its place
+pub record SpellsAirFields (f : Frame) (p : AirParts) : Type 0 where
+  pub type_code : field_of f 33 5 ≡ p.type_code
+  pub status : field_of f 38 2 ≡ p.status
+  pub flag : field_of f 40 1 ≡ bit p.flag
+  pub altitude : field_of f 41 12 ≡ p.altitude
+  pub time : field_of f 53 1 ≡ bit p.time
+
+-- the ME fields that a surface position has besides its place
+pub record SpellsGroundFields (f : Frame) (p : GroundParts) : Type 0 where
+  pub type_code : field_of f 33 5 ≡ p.type_code
+  pub movement : field_of f 38 7 ≡ p.movement
+  pub track_status : field_of f 45 1 ≡ bit p.track_status
+  pub track : field_of f 46 7 ≡ p.track
+  pub time : field_of f 53 1 ≡ bit p.time
+
+-- the ME fields of a place, in both layouts: F, 0 even and 1 odd, and the numbers of the code
+pub record SpellsPlace (f : Frame) (parity : Parity) (code : CodeNumbers) : Type 0 where
+  pub parity_bit : field_of f 54 1 ≡ parity_index parity
+  pub lat : field_of f 55 17 ≡ code.lat
+  pub lon : field_of f 72 17 ≡ code.lon
+
+-- the ME of an airborne position
+pub record SpellsAirborne (f : Frame) (a : Airborne) : Type 0 where
+  pub fields : SpellsAirFields f (air_parts a.fields)
+  pub place : SpellsPlace f a.parity (numbers_of a.code)
+
+-- the ME of a surface position
+pub record SpellsSurface (f : Frame) (s : Surface) : Type 0 where
+  pub fields : SpellsGroundFields f (ground_parts s.fields)
+  pub place : SpellsPlace f s.parity (numbers_of s.code)
+
+-- the ME of a squitter, by its kind
+abbrev pub SpellsMe : Frame → Me → Type 0
+SpellsMe f (kinds.Airborne a) = SpellsAirborne f a
+SpellsMe f (kinds.Surface s) = SpellsSurface f s
+SpellsMe f (kinds.Other o) = field_of f 33 56 ≡ raw_of o
+
+-- the frame is correct, its DF is 17, and each field stands at its bit places
+pub record Spells (f : Frame) (q : Squitter) : Type 0 where
+  pub multiple : IsMultiple (frame_number f)
+  pub format : field_of f 1 5 ≡ 17
+  pub ca : field_of f 6 3 ≡ (squitter_parts q).ca
+  pub address : field_of f 9 24 ≡ (squitter_parts q).address
+  pub me : SpellsMe f (squitter_parts q).me
+
+-- why a frame spells no squitter: its DF is not 17; else its remainder is not 0
+abbrev pub IsFault : Frame → FrameFault → Type 0
+IsFault f (faults.NotDf17 format) = (field_of f 1 5 ≡ format) × (format ≢ 17)
+IsFault f (faults.Parity remainder) = (field_of f 1 5 ≡ 17) × IsRemainder (frame_number f) remainder × (remainder ≢ 0)
+
+-- what `read_frame` answers
+abbrev pub IsReading : Frame → Result Squitter FrameFault → Type 0
+IsReading f answer = MatchResult answer (Spells f) (IsFault f)

@@ -1,0 +1,129 @@
+//! Airborne positions.
+ghost use Rattle.std.specs.Prelude.{◌≡◌, ◌<◌, ◌↔◌, IfSome, IsSome};
+ghost use Rattle.sq_message.specs.TypeCodes.{IsAirCode};
+
+use sq_cpr::{Code, Parity};
+
+/// What an airborne position says besides where (ICAO Doc 9871, register 0,5): the type code, the surveillance status, bit 8
+/// raw, the altitude field raw, and T.
+#[derive(Clone, Copy, Debug, PartialEq, Eq)]
+pub struct AirFields {
+    pub(crate) type_code: u8,
+    pub(crate) status: u8,
+    pub(crate) flag: bool,
+    pub(crate) altitude: u16,
+    pub(crate) time: bool,
+    pub ghost type_code_in: { IsAirCode type_code },
+    pub ghost status_in: { status < 4 },
+    pub ghost altitude_in: { altitude < 4096 },
+}
+
+impl AirFields {
+    ghost use Rattle.sq_message.specs.Parts.{air_parts};
+
+    /// These fields; `None` exactly unless the type code is 9 to 18 or 20 to 22, the status is below 4 and the altitude
+    /// field is below 4096.
+    pub fn new(
+        type_code: u8,
+        status: u8,
+        flag: bool,
+        altitude: u16,
+        time: bool,
+    ) -> Option<AirFields>
+        ensures variant { IsSome result ↔ (IsAirCode type_code × (status < 4) × (altitude < 4096)) }
+        ensures value { IfSome result (λ fields. air_parts fields
+            ≡ record { type_code = type_code; status = status; flag = flag; altitude = altitude; time = time }) }
+    {
+        if matches!(type_code, 9..=18 | 20..=22) && status < 4 && altitude < 4096 {
+            Some(AirFields {
+                type_code,
+                status,
+                flag,
+                altitude,
+                time,
+            })
+        } else {
+            None
+        }
+    }
+
+    /// The type code, 9 to 18 with barometric altitude or 20 to 22 with GNSS height.
+    pub fn type_code(&self) -> u8
+        ensures value { result ≡ (air_parts self.now).type_code }
+        ensures air { IsAirCode result }
+    {
+        self.type_code
+    }
+
+    /// The surveillance status, below 4, raw.
+    pub fn status(&self) -> u8
+        ensures value { result ≡ (air_parts self.now).status }
+        ensures small { result < 4 }
+    {
+        self.status
+    }
+
+    /// ME bit 8, the single antenna flag or NIC supplement-B, raw.
+    pub fn flag(&self) -> bool
+        ensures { result ≡ (air_parts self.now).flag }
+    {
+        self.flag
+    }
+
+    /// The altitude field of 12 bits, raw.
+    pub fn altitude(&self) -> u16
+        ensures value { result ≡ (air_parts self.now).altitude }
+        ensures small { result < 4096 }
+    {
+        self.altitude
+    }
+
+    /// T, whether the time of the position is synchronised to UTC.
+    pub fn time(&self) -> bool
+        ensures { result ≡ (air_parts self.now).time }
+    {
+        self.time
+    }
+}
+
+/// An airborne position (ICAO Doc 9871, register 0,5).
+#[derive(Clone, Copy, Debug, PartialEq, Eq)]
+pub struct Airborne {
+    pub fields: AirFields,
+    pub parity: Parity,
+    pub code: Code,
+}
+
+impl Airborne {
+    /// What it says besides where.
+    pub fn fields(&self) -> AirFields
+        ensures { result ≡ self.now.fields }
+    {
+        self.fields
+    }
+
+    /// The parity of its code.
+    pub fn parity(&self) -> Parity
+        ensures { result ≡ self.now.parity }
+    {
+        self.parity
+    }
+
+    /// The code of its position.
+    pub fn code(&self) -> Code
+        ensures { result ≡ self.now.code }
+    {
+        self.code
+    }
+}
+
+/// What an altitude field means (ICAO Doc 9871, register 0,5).
+#[derive(Clone, Copy, Debug, PartialEq, Eq)]
+pub enum Altitude {
+    /// No altitude is sent: a barometric field of zero.
+    Missing,
+    /// Feet, a multiple of 25 from -1000 to 50175.
+    Feet(i32),
+    /// A field in another form, or a GNSS height, as its 12 bits.
+    Raw(u16),
+}

@@ -1,0 +1,51 @@
+//! Laws of frames, squitters and altitudes. The contracts of the calls name the same definitions.
+ghost use Rattle.std.specs.Prelude.{◌≡◌, ◌≤◌, ◌↔◌, ℕ, ℤ, Result};
+ghost use Rattle.sq_bits.specs.declared.frame.Frame.{Frame};
+ghost use Rattle.sq_bits.specs.Frames.{IsFrame};
+ghost use Rattle.sq_message.specs.declared.air.Altitude.{Altitude};
+ghost use Rattle.sq_message.specs.declared.air.Altitude.TheVariants.{Feet};
+ghost use Rattle.sq_message.specs.declared.squitter.FrameFault.{FrameFault};
+ghost use Rattle.sq_message.specs.declared.squitter.Squitter.{Squitter};
+ghost use Rattle.sq_message.specs.Altitudes.{IsAltitude, IsFieldOfFeet};
+ghost use Rattle.sq_message.specs.Spelling.{IsReading, Spells};
+
+use crate::{Frame, FrameFault, Squitter, read_frame, write_frame};
+use sq_bits::laws::each_frame;
+
+/// A frame has one reading.
+pub fn one_reading()
+    ensures { (f : Frame) (r s : Result Squitter FrameFault) → IsReading f r → IsReading f s → r ≡ s }
+{}
+
+/// A squitter has one frame.
+pub fn one_frame()
+    ensures { (f g : Frame) (q : Squitter) → IsFrame f → IsFrame g → Spells f q → Spells g q → f ≡ g }
+{}
+
+/// What is written is read as what it was.
+pub fn read_of_written(squitter: &Squitter) -> Result<Squitter, FrameFault>
+    ensures { result ≡ Ok squitter.now }
+{
+    read_frame(&write_frame(squitter))
+}
+
+/// What was read is written as the frame that it was.
+pub fn written_of_read(frame: &Frame) -> Result<Frame, FrameFault>
+    ensures written { (q : Squitter) → IsReading frame.now (Ok q) → result ≡ Ok frame.now }
+    ensures refused { (fault : FrameFault) → IsReading frame.now (Err fault) → result ≡ Err fault }
+{
+    each_frame(frame);
+    let squitter = read_frame(frame)?;
+    Ok(write_frame(&squitter))
+}
+
+/// A field has one meaning under a type code.
+pub fn one_altitude()
+    ensures { (code field : ℕ) (a b : Altitude) → IsAltitude code field a → IsAltitude code field b → a ≡ b }
+{}
+
+/// Of type codes 9 to 18, a field means feet exactly where it is their field.
+pub fn feet_exactly()
+    ensures { (code field : ℕ) (feet : ℤ) (meaning : Altitude) → code ≤ 18 → IsAltitude code field meaning
+        → (meaning ≡ Feet feet) ↔ IsFieldOfFeet field feet }
+{}

@@ -1,0 +1,4 @@
+pub mod BadDigits
+pub mod One
+pub mod OneReading
+pub mod Places

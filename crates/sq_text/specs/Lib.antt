@@ -1,0 +1,5 @@
+pub mod FrameText
+pub mod Digits
+pub mod Faults
+pub mod Reading
+pub mod Show

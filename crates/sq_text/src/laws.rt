@@ -1,0 +1,24 @@
+//! Laws of frame text and of what it spells.
+ghost use Rattle.std.specs.Prelude.{◌≡◌, ℕ, List, Result};
+ghost use Rattle.sq_bits.specs.declared.frame.Frame.{Frame};
+ghost use Rattle.sq_message.specs.declared.squitter.Squitter.{Squitter};
+ghost use Rattle.sq_text.specs.declared.faults.LineFault.{LineFault};
+ghost use Rattle.sq_text.specs.declared.frame_text.TextFault.{TextFault};
+ghost use Rattle.sq_text.specs.FrameText.{IsAnswer};
+ghost use Rattle.sq_text.specs.Reading.{IsSquitterReading};
+ghost use Rattle.sq_text.specs.Show.{IsShown};
+
+/// A text has one answer of `read_text`.
+pub fn one_answer()
+    ensures { (text : List ℕ) (r s : Result Frame TextFault) → IsAnswer text r → IsAnswer text s → r ≡ s }
+{}
+
+/// A text has one reading as a squitter.
+pub fn one_squitter_reading()
+    ensures { (text : List ℕ) (r s : Result Squitter LineFault) → IsSquitterReading text r → IsSquitterReading text s → r ≡ s }
+{}
+
+/// A squitter is shown as one text.
+pub fn one_text()
+    ensures { (squitter : Squitter) (a b : List ℕ) → IsShown squitter a → IsShown squitter b → a ≡ b }
+{}

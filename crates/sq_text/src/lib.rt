@@ -1,0 +1,21 @@
+//! The texts of the program: frames read from text, squitters shown, and the faults of a line.
+//!
+//! A frame text is 28 hexadecimal digits of either case, bare or between `*` and `;`. What is wrong with any other text
+//! is told by its first fault. Texts are made in buffers of fixed size: no call takes memory.
+#![tactic(auto)]
+
+mod digits;
+mod faults;
+mod frame_text;
+pub mod laws;
+mod reading;
+mod show;
+
+pub use digits::{push_decimal, push_hexadecimal};
+pub use faults::{LineFault, push_fault};
+pub use frame_text::{TextFault, read_text};
+pub use reading::read_squitter;
+pub use show::{ShowText, show_text};
+
+#[cfg(test)]
+mod tests;

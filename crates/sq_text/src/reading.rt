@@ -1,0 +1,15 @@
+//! The squitter of a text.
+ghost use Rattle.sq_text.specs.Reading.{IsSquitterReading};
+
+use crate::faults::LineFault;
+use crate::frame_text::read_text;
+use sq_message::{Squitter, read_frame};
+
+/// The squitter that a frame text spells, or the first fault: of the text, and then of its frame. It takes no memory.
+pub fn read_squitter(text: &[u8]) -> Result<Squitter, LineFault>
+    ensures { IsSquitterReading text.now result }
+{
+    let frame = read_text(text)?;
+    let squitter = read_frame(&frame)?;
+    Ok(squitter)
+}

@@ -1,0 +1,6 @@
+//! The parity of a position's form.
+#![tactic(auto)]
+
+mod parity;
+
+pub use parity::Parity;
