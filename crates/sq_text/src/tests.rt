@@ -1,0 +1,139 @@
+//! Frame texts and their faults, and what is shown of squitters.
+use super::*;
+use sq_message::{AirFields, Airborne, Code, Frame, FrameFault, Me, Parity, Squitter, write_frame};
+use std::process::Abort;
+
+const AIR_EVEN: &str = "8D40621D58C382D690C8AC2863A7";
+
+fn fault_text(fault: LineFault) -> arrayvec::ArrayString<32> {
+    let mut text = arrayvec::ArrayString::new();
+    push_fault(&mut text, fault);
+    text
+}
+
+#[test]
+fn reads_frame_texts(rt: HostRuntime) {
+    let frame = Frame([
+        0x8D, 0x40, 0x62, 0x1D, 0x58, 0xC3, 0x82, 0xD6, 0x90, 0xC8, 0xAC, 0x28, 0x63, 0xA7,
+    ]);
+    assert!(rt; read_text(AIR_EVEN.as_bytes()) == Ok(frame));
+    assert!(rt; read_text(b"*8D40621D58C382D690C8AC2863A7;") == Ok(frame));
+    assert!(rt; read_text(b"8d40621d58c382d690c8ac2863a7") == Ok(frame));
+}
+
+#[test]
+fn refuses_other_texts(rt: HostRuntime) {
+    let rows: [(&[u8], TextFault); 11] = [
+        (b"", TextFault::Length(0)),
+        (b"*;", TextFault::Length(0)),
+        (b"*", TextFault::Wrap),
+        (b";", TextFault::Wrap),
+        (b"*8D40621D58C382D690C8AC2863A7", TextFault::Wrap),
+        (b"8D40621D58C382D690C8AC2863A7;", TextFault::Wrap),
+        (b"*5D40621D000000;", TextFault::Short),
+        (b"zzzzzzzzzzzzzz", TextFault::Short),
+        (b"8D40621D58C382D690C8AC2863A7 ", TextFault::Length(29)),
+        (b"8D\xFF0621D58C382D690C8AC2863A7", TextFault::Digit(3)),
+        (b"8D40621D58C382D690C8AC2863AG", TextFault::Digit(28)),
+    ];
+    for (text, fault) in rows {
+        assert!(rt; read_text(text) == Err(fault));
+    }
+}
+
+#[test]
+fn reads_squitters(rt: HostRuntime) {
+    assert!(rt; read_squitter(AIR_EVEN.as_bytes()).is_ok());
+    assert!(rt; read_squitter(b"8D40621D58C382D690C8AC2863A6") == Err(LineFault::Parity(1)));
+    assert!(rt; read_squitter(b"90406B902015A678D4D220AA4BDA") == Err(LineFault::NotDf17(18)));
+    assert!(rt; read_squitter(b"5D40621D000000") == Err(LineFault::Short));
+}
+
+#[test]
+fn converts_faults(rt: HostRuntime) {
+    assert!(rt; LineFault::from(TextFault::Wrap) == LineFault::Wrap);
+    assert!(rt; LineFault::from(TextFault::Short) == LineFault::Short);
+    assert!(rt; LineFault::from(TextFault::Length(2)) == LineFault::Length(2));
+    assert!(rt; LineFault::from(TextFault::Digit(2)) == LineFault::Digit(2));
+    assert!(rt; LineFault::from(FrameFault::NotDf17(2)) == LineFault::NotDf17(2));
+    assert!(rt; LineFault::from(FrameFault::Parity(2)) == LineFault::Parity(2));
+}
+
+#[test]
+fn tells_faults(rt: HostRuntime) {
+    let rows = [
+        (LineFault::LongLine, "long line"),
+        (LineFault::Moment, "bad moment"),
+        (LineFault::Wrap, "bad wrapping"),
+        (LineFault::Short, "short frame"),
+        (LineFault::Length(64), "bad length 64"),
+        (LineFault::Digit(28), "bad digit 28"),
+        (LineFault::NotDf17(18), "not DF17 18"),
+        (LineFault::Parity(1), "parity 000001"),
+        (LineFault::Parity(0xFFF409), "parity FFF409"),
+        (LineFault::MomentBack(u64::MAX), "moment back 18446744073709551615"),
+        (LineFault::Full, "table full"),
+    ];
+    for (fault, text) in rows {
+        assert!(rt; fault_text(fault).as_str() == text, "{text}");
+    }
+}
+
+#[test]
+fn writes_numbers(rt: HostRuntime) {
+    let mut text = arrayvec::ArrayString::<64>::new();
+    push_decimal(&mut text, 0);
+    text.push(' ');
+    push_decimal(&mut text, 18_446_744_073_709_551_615);
+    text.push(' ');
+    push_hexadecimal(&mut text, 0x1A0F, 3);
+    push_hexadecimal(&mut text, 0x1A0F, 6);
+    assert!(rt; text.as_str() == "0 18446744073709551615 A0F001A0F");
+}
+
+fn shown(rt: &impl Abort, text: &str) -> ShowText {
+    let squitter = read_squitter(text.as_bytes()).expect(rt, "a squitter");
+    show_text(&squitter)
+}
+
+#[test]
+fn shows_an_airborne_position(rt: HostRuntime) {
+    let text = shown(&rt, AIR_EVEN);
+    assert!(rt; text.as_str() == "address 40621D\nca 5\ntype 11\nkind air\nstatus 0\nflag 0\naltitude 38000 ft\ntime 0\nparity even\nlat 93000\nlon 51372\n");
+}
+
+#[test]
+fn shows_a_surface_position(rt: HostRuntime) {
+    let text = shown(&rt, "8C4841753AAB238733C8CD4020B1");
+    assert!(rt; text.as_str() == "address 484175\nca 4\ntype 7\nkind ground\nmovement 42\ntrack status 1\ntrack 50\ntime 0\nparity even\nlat 115609\nlon 116941\n");
+}
+
+#[test]
+fn shows_another_message(rt: HostRuntime) {
+    let text = shown(&rt, "8D406B902015A678D4D220AA4BDA");
+    assert!(rt; text.as_str() == "address 406B90\nca 5\ntype 4\nkind other\nme 2015A678D4D220\n");
+}
+
+// What is shown of an odd airborne position with this altitude field.
+fn shown_with(rt: &impl Abort, type_code: u8, field: u16) -> ShowText {
+    let fields = AirFields::new(type_code, 2, true, field, true).expect(rt, "fields");
+    let code = Code::new(131_071, 7).expect(rt, "a code");
+    let me = Me::Airborne(Airborne {
+        fields,
+        parity: Parity::Odd,
+        code,
+    });
+    let squitter = Squitter::new(7, 0xABC, me).expect(rt, "a squitter");
+    assert!(rt; sq_message::read_frame(&write_frame(&squitter)) == Ok(squitter));
+    show_text(&squitter)
+}
+
+#[test]
+fn shows_each_altitude(rt: HostRuntime) {
+    let none = shown_with(&rt, 11, 0);
+    assert!(rt; none.as_str() == "address 000ABC\nca 7\ntype 11\nkind air\nstatus 2\nflag 1\naltitude none\ntime 1\nparity odd\nlat 131071\nlon 7\n");
+    let raw = shown_with(&rt, 20, 0x00F);
+    assert!(rt; raw.as_str() == "address 000ABC\nca 7\ntype 20\nkind air\nstatus 2\nflag 1\naltitude raw 00F\ntime 1\nparity odd\nlat 131071\nlon 7\n");
+    let low = shown_with(&rt, 18, 0x010);
+    assert!(rt; low.as_str() == "address 000ABC\nca 7\ntype 18\nkind air\nstatus 2\nflag 1\naltitude -1000 ft\ntime 1\nparity odd\nlat 131071\nlon 7\n");
+}

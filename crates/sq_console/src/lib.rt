@@ -1,0 +1,14 @@
+//! The console of a program: its words, and its standard streams as devices.
+//!
+//! Input and output are buffered, so that a file goes through in large blocks, and the output is
+//! flushed before the input really waits, so that a slow pipe sees each answer at once. A flush
+//! that fails is not lost: the next put, or the finish, fails.
+#![tactic(auto)]
+
+mod prompt;
+mod start;
+#[cfg(test)]
+mod tests;
+
+pub use prompt::{PromptInput, PromptOutput, SharedOutput};
+pub use start::{Trouble, arguments};

@@ -1,0 +1,176 @@
+//! An input that lets the output go before it waits for more.
+ghost use Rattle.std.specs.Prelude.{◌≡◌, ◌≤◌, IfOk, None, false};
+
+use sq_devices::{Failed, Sink, Source};
+use std::alloc::{AllocError, Global};
+use std::cell::RefCell;
+use std::io::{BufReader, BufWriter, Read, Write};
+
+/// How many bytes one read may bring.
+const INPUT_BYTES: usize = 65536;
+
+/// How many bytes of output wait for a flush at most: more than the input of one read asks for, so
+/// that a file goes through with one write for a read.
+const OUTPUT_BYTES: usize = 2 * INPUT_BYTES;
+
+/// A writer with a buffer, and whether a flush of it has failed.
+#[derive(Drop)]
+struct Buffered<W: Write + Drop> {
+    writer: BufWriter<W>,
+    flush_failed: bool,
+}
+
+/// A buffered writer that an input and an output share.
+///
+/// What is left in the buffer is written when this is dropped.
+#[derive(Drop)]
+pub struct SharedOutput<W: Write + Drop> {
+    buffered: RefCell<Buffered<W>>,
+}
+
+impl<W: Write + Drop> SharedOutput<W> {
+    /// An empty buffer over the writer. `Err` comes where a growth was refused.
+    pub fn new(alloc: Global, writer: W) -> Result<Self, AllocError> {
+        let Ok(writer) = BufWriter::with_capacity(alloc, OUTPUT_BYTES, writer) else {
+            return Err(AllocError);
+        };
+        let buffered = Buffered {
+            writer,
+            flush_failed: false,
+        };
+        Ok(SharedOutput {
+            buffered: RefCell::new(buffered),
+        })
+    }
+
+    /// Writes what is in the buffer. A failure is marked, for the next put or finish to tell.
+    fn flush(&self) {
+        if let Ok(mut buffered) = self.buffered.try_borrow_mut() {
+            if buffered.writer.flush().is_err() {
+                buffered.flush_failed = true;
+            }
+        }
+    }
+}
+
+/// A source over a buffered reader. Before it reads more into an empty buffer, it flushes the
+/// output.
+#[derive(Drop)]
+pub struct PromptInput<'a, R, W: Write + Drop> {
+    reader: BufReader<R>,
+    output: &'a SharedOutput<W>,
+    gets: u64,
+    failed: bool,
+    ghost few: { gets ≤ 1000000000000 },
+}
+
+impl<'a, R: Read + Drop, W: Write + Drop> PromptInput<'a, R, W> {
+    /// A source, not failed, that answers at most `gets` gets (10^12 at most). `Err` comes where a
+    /// growth was refused.
+    pub fn new(
+        alloc: Global,
+        reader: R,
+        output: &'a SharedOutput<W>,
+        gets: u64,
+    ) -> Result<Self, AllocError>
+        requires { gets ≤ 1000000000000 }
+        ensures to_come { IfOk result (λ input. ⟦<PromptInput<'a, R, W> as Source>⟧.to_come input ≡ R.remaining reader) }
+        ensures gets { IfOk result (λ input. ⟦<PromptInput<'a, R, W> as Source>⟧.gets_left input ≡ gets) }
+        ensures unfailed { IfOk result (λ input. ⟦<PromptInput<'a, R, W> as Source>⟧.has_failed input ≡ false) }
+    {
+        let Ok(reader) = BufReader::with_capacity(alloc, INPUT_BYTES, reader) else {
+            return Err(AllocError);
+        };
+        Ok(PromptInput {
+            reader,
+            output,
+            gets,
+            failed: false,
+        })
+    }
+}
+
+impl<R: Read, W: Write + Drop> Source for PromptInput<'_, R, W> {
+    ghost use Rattle.sq_console.specs.Prompt.{get_failed, gets_of, to_come_of};
+
+    ghost to_come = { λ s. to_come_of R.remaining s };
+
+    ghost has_failed = { λ s. get_failed s };
+
+    ghost gets_left = { λ s. gets_of s };
+
+    ghost few_gets = { λ s. s.few };
+
+    fn get(&mut self, into: &mut [u8]) -> Result<usize, Failed> {
+        if self.reader.buffer().is_empty() {
+            self.output.flush();
+        }
+        if self.gets == 0 {
+            self.failed = true;
+            return Err(Failed);
+        }
+        match self.reader.read(into) {
+            Ok(count) => {
+                self.gets -= 1;
+                Ok(count)
+            }
+            Err(_) => {
+                self.failed = true;
+                Err(Failed)
+            }
+        }
+    }
+}
+
+/// A sink over the shared output. It does not tell what was written.
+#[derive(Drop)]
+pub struct PromptOutput<'a, W: Write + Drop> {
+    output: &'a SharedOutput<W>,
+    failed: bool,
+}
+
+impl<'a, W: Write + Drop> PromptOutput<'a, W> {
+    /// A sink, not failed.
+    ///
+    /// A put fails where the writer does, where it takes none of a text that has bytes, or where a
+    /// flush has failed before. `finish` flushes, and fails likewise.
+    pub fn new(output: &'a SharedOutput<W>) -> Self
+        ensures { ⟦<PromptOutput<'a, W> as Sink>⟧.has_failed result ≡ false }
+    {
+        PromptOutput {
+            output,
+            failed: false,
+        }
+    }
+}
+
+impl<W: Write + Drop> Sink for PromptOutput<'_, W> {
+    ghost use Rattle.sq_console.specs.Prompt.{put_failed};
+
+    ghost written = { λ _. None };
+
+    ghost has_failed = { λ s. put_failed s };
+
+    fn put(&mut self, from: &[u8]) -> Result<usize, Failed> {
+        if let Ok(mut buffered) = self.output.buffered.try_borrow_mut() {
+            if !buffered.flush_failed {
+                match buffered.writer.write(from) {
+                    Ok(count) if count > 0 || from.is_empty() => return Ok(count),
+                    _ => {}
+                }
+            }
+        }
+        self.failed = true;
+        Err(Failed)
+    }
+
+    fn finish(&mut self) -> Result<(), Failed> {
+        if let Ok(mut buffered) = self.output.buffered.try_borrow_mut() {
+            if !buffered.flush_failed && buffered.writer.flush().is_ok() {
+                return Ok(());
+            }
+        }
+        self.failed = true;
+        Err(Failed)
+    }
+}

@@ -1,0 +1,19 @@
+//! Devices: what bytes are read from and written to.
+//!
+//! A [`Source`] gives bytes and a [`Sink`] takes them. Contracts over them see the bytes of a device
+//! (those still to come, those written), which it may leave untold, whether it has failed, and how
+//! many more gets a source answers. [`Reading`] is a source over any reader, [`Writing`] a sink over
+//! any writer, [`put_all`] puts a whole text, and [`put_last`] the last one.
+#![tactic(auto)]
+
+mod device;
+mod readers;
+#[cfg(test)]
+mod tests;
+mod texts;
+mod writers;
+
+pub use device::{Failed, Sink, Source};
+pub use readers::Reading;
+pub use texts::{put_all, put_last};
+pub use writers::Writing;

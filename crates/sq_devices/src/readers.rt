@@ -1,0 +1,72 @@
+//! A source over any reader.
+ghost use Rattle.std.specs.Prelude.{◌≡◌, ◌≤◌, false};
+
+use crate::{Failed, Source};
+use std::io::Read;
+
+/// A source over a reader, for a bounded number of gets.
+#[derive(Drop)]
+pub struct Reading<R> {
+    reader: R,
+    gets: u64,
+    failed: bool,
+    ghost few: { gets ≤ 1000000000000 },
+}
+
+impl<R: Read> Reading<R> {
+    ghost use Rattle.sq_devices.specs.Streams.{reader_of};
+
+    /// A source, not failed, that answers at most `gets` gets (10^12 at most).
+    ///
+    /// Each get after these fails, and so does one whose read answers an error.
+    pub fn new(reader: R, gets: u64) -> Self
+        requires { gets ≤ 1000000000000 }
+        ensures reader { reader_of result ≡ reader }
+        ensures to_come { ⟦<Reading<R> as Source>⟧.to_come result ≡ R.remaining reader }
+        ensures gets { ⟦<Reading<R> as Source>⟧.gets_left result ≡ gets }
+        ensures unfailed { ⟦<Reading<R> as Source>⟧.has_failed result ≡ false }
+    {
+        Reading {
+            reader,
+            gets,
+            failed: false,
+        }
+    }
+
+    /// The reader, at the place that the gets left it.
+    pub fn into_inner(self) -> R
+        ensures { result ≡ reader_of self }
+    {
+        let Reading { reader, .. } = self;
+        reader
+    }
+}
+
+impl<R: Read> Source for Reading<R> {
+    ghost use Rattle.sq_devices.specs.Streams.{get_failed, gets_of, reader_of};
+
+    ghost to_come = { λ s. R.remaining (reader_of s) };
+
+    ghost has_failed = { λ s. get_failed s };
+
+    ghost gets_left = { λ s. gets_of s };
+
+    ghost few_gets = { λ s. s.few };
+
+    fn get(&mut self, into: &mut [u8]) -> Result<usize, Failed> {
+        if self.gets == 0 {
+            self.failed = true;
+            return Err(Failed);
+        }
+        match self.reader.read(into) {
+            Ok(count) => {
+                self.gets -= 1;
+                Ok(count)
+            }
+            Err(_) => {
+                self.failed = true;
+                Err(Failed)
+            }
+        }
+    }
+}

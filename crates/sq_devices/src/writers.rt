@@ -1,0 +1,67 @@
+//! A sink over any writer.
+ghost use Rattle.std.specs.Prelude.{◌≡◌, false};
+
+use crate::{Failed, Sink};
+use std::io::Write;
+
+/// A sink over a writer.
+#[derive(Drop)]
+pub struct Writing<W> {
+    writer: W,
+    failed: bool,
+}
+
+impl<W: Write> Writing<W> {
+    ghost use Rattle.sq_devices.specs.Streams.{writer_of};
+
+    /// A sink, not failed.
+    ///
+    /// A put fails whose write answers an error, or 0 for a text that has bytes. `finish` flushes
+    /// the writer, and fails where that does.
+    pub fn new(writer: W) -> Self
+        ensures writer { writer_of result ≡ writer }
+        ensures written { ⟦<Writing<W> as Sink>⟧.written result ≡ W.contents writer }
+        ensures unfailed { ⟦<Writing<W> as Sink>⟧.has_failed result ≡ false }
+    {
+        Writing {
+            writer,
+            failed: false,
+        }
+    }
+
+    /// The writer, with what was put.
+    pub fn into_inner(self) -> W
+        ensures { result ≡ writer_of self }
+    {
+        let Writing { writer, .. } = self;
+        writer
+    }
+}
+
+impl<W: Write> Sink for Writing<W> {
+    ghost use Rattle.sq_devices.specs.Streams.{put_failed, writer_of};
+
+    ghost written = { λ s. W.contents (writer_of s) };
+
+    ghost has_failed = { λ s. put_failed s };
+
+    fn put(&mut self, from: &[u8]) -> Result<usize, Failed> {
+        match self.writer.write(from) {
+            Ok(count) if count > 0 || from.is_empty() => Ok(count),
+            _ => {
+                self.failed = true;
+                Err(Failed)
+            }
+        }
+    }
+
+    fn finish(&mut self) -> Result<(), Failed> {
+        match self.writer.flush() {
+            Ok(()) => Ok(()),
+            Err(_) => {
+                self.failed = true;
+                Err(Failed)
+            }
+        }
+    }
+}

@@ -1,0 +1,13 @@
+use Rattle.std.proofs.Common.{◌≡◌, ◌≢◌, refl}
+use Rattle.sq_words.specs.declared.request.Refusal.{Refusal}
+use Rattle.sq_words.specs.declared.request.Refusal.TheVariants.{Memory, Words}
+use Rattle.sq_tool.proofs.program.run.Goals as goal
+
+-- a refusal that is not for want of memory is one of the words
+of_words : (refusal : Refusal) (X : Type 0) → refusal ≢ Memory → ((text : _) → refusal ≡ Words text → X) → X
+of_words Memory X other words = absurd (other refl)
+of_words (Words text) X other words = words text refl
+
+pub returns-in-Err-clause-usage : goal.returns-in-Err-clause-usage
+returns-in-Err-clause-usage g c usage asked asks =
+    of_words c.in-Err.refusal _ (c.refuse.ensures.memory usage) (λ text is. absurd (c.in-Err.ensures.refused text is asked asks))

@@ -1,0 +1,56 @@
+-- What the program does for each command.
+use Rattle.std.specs.Prelude.{◌≡◌, ◌++◌, ⊤, ℕ, Bool, List, [], Option, Result, MatchResult, codes, false}
+use Rattle.std.specs.Io.KnownBytes.{Appends}
+use Rattle.sq_message.specs.declared.squitter.Squitter.{Squitter}
+use Rattle.sq_text.specs.declared.faults.LineFault.{LineFault}
+use Rattle.sq_text.specs.Faults.{fault_text}
+use Rattle.sq_text.specs.Reading.{IsSquitterReading}
+use Rattle.sq_text.specs.Show.{IsShown}
+use Rattle.sq_words.specs.Requests.{Asked, Show, Encode, Local, Pair, Check, Track}
+
+-- what the program wrote on its output, and told on its sink for faults
+pub record Outputs : Type 0 where
+  pub written_before : Option (List ℕ)
+  pub written_after : Option (List ℕ)
+  pub told_before : Option (List ℕ)
+  pub told_after : Option (List ℕ)
+  -- whether the sink for faults has failed
+  pub untold : Bool
+
+-- what the program read and wrote
+pub record Streams : Type 0 where
+  pub to_come_before : Option (List ℕ)
+  pub to_come_after : Option (List ℕ)
+  pub outputs : Outputs
+
+-- all is good: the text was written
+abbrev pub IsWritten : ℕ → Outputs → List ℕ → Type 0
+IsWritten status o text = (status ≡ 0) × Appends o.written_before o.written_after text
+
+-- a refusal: nothing was written, and the line was told, unless the sink for faults has failed
+abbrev pub IsRefused : ℕ → Outputs → List ℕ → Type 0
+IsRefused status o line =
+    (status ≡ 1) × Appends o.written_before o.written_after [] × (o.untold ≡ false → Appends o.told_before o.told_after (line ++ codes "\n"))
+
+-- `show`: the squitter that the frame text spells is shown, or its fault told
+abbrev pub IsShowRun : List ℕ → ℕ → Outputs → Type 0
+IsShowRun frame status o = (answer : Result Squitter LineFault) × IsSquitterReading frame answer
+    × MatchResult answer (λ squitter. (text : List ℕ) × IsShown squitter text × IsWritten status o text) (λ fault. IsRefused status o (fault_text fault))
+
+-- at exit status 0 or 1, what was written is what the command asks for
+abbrev pub Answers : Asked → ℕ → Streams → Type 0
+Answers (Show frame) status s = IsShowRun frame status s.outputs
+Answers (Encode e) status s = ⊥
+Answers (Local frame lat lon) status s = ⊥
+Answers (Pair older newer lat lon) status s = ⊥
+Answers Check status s = ⊥
+Answers (Track limit window lat lon) status s = ⊥
+
+-- a command that is not yet one of the program's, or an argument at fault
+abbrev pub HasUsageFault : Asked → Type 0
+HasUsageFault (Show frame) = ⊥
+HasUsageFault (Encode e) = ⊤
+HasUsageFault (Local frame lat lon) = ⊤
+HasUsageFault (Pair older newer lat lon) = ⊤
+HasUsageFault Check = ⊤
+HasUsageFault (Track limit window lat lon) = ⊤

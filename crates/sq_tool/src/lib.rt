@@ -1,0 +1,17 @@
+//! The program `squitter` over its devices: what is written is a stated function of what is read.
+//!
+//! [`run`] does what the words of a command line ask for, and answers the exit status. The devices, the words and the
+//! texts are crates of their own below, which are republished here.
+#![tactic(auto)]
+
+mod program;
+mod show;
+mod telling;
+
+pub use program::run;
+pub use sq_devices::{Failed, Reading, Sink, Source, Writing};
+pub use sq_text::{LineFault, TextFault, read_text};
+pub use sq_words::Request;
+
+#[cfg(test)]
+mod tests;

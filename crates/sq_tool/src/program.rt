@@ -1,0 +1,88 @@
+//! The whole program over its devices.
+ghost use Rattle.std.specs.Prelude.{◌≡◌, ◌≢◌, ◌≤◌, ◌⊎◌, map};
+ghost use Rattle.sq_words.specs.Requests.{Asked, Asks, asked_by};
+ghost use Rattle.sq_tool.specs.Runs.{Answers, HasUsageFault};
+
+use crate::show::show;
+use crate::telling::{BROKEN, USAGE, tell};
+use sq_devices::{Sink, Source};
+use sq_words::{Refusal, Request, read_request};
+use std::alloc::Global;
+
+/// Does what the words ask for, and answers the exit status: 0 all is good; 1 a frame was refused; 2 a bad command line;
+/// 3 a read, write or memory fault. The first of the words is the program's name.
+///
+/// An answer goes to the output, a fault in one line to the sink for faults; what could not be written there changes no
+/// status.
+pub fn run<S: Source, K: Sink, F: Sink>(
+    alloc: Global,
+    words: &[&str],
+    input: &mut S,
+    output: &mut K,
+    faults: &mut F,
+) -> u8
+    ensures status { result ≤ 3 }
+    ensures answers { result ≤ 1 → (asked : Asked) × Asks (map (λ word. word.now) words.entry.now) asked
+        × Answers asked result (record {
+          to_come_before = S.to_come input.old;
+          to_come_after = S.to_come input.new;
+          outputs = record {
+            written_before = K.written output.old;
+            written_after = K.written output.new;
+            told_before = F.written faults.old;
+            told_after = F.written faults.new;
+            untold = F.has_failed faults.new;
+          };
+        }) }
+    ensures usage { result ≡ 2 → (asked : Asked) → Asks (map (λ word. word.now) words.entry.now) asked → HasUsageFault asked }
+{
+    match read_request(alloc, words) {
+        Ok(request) => answer(request, input, output, faults),
+        Err(refusal) => refuse(refusal, faults),
+    }
+}
+
+fn answer<S: Source, K: Sink, F: Sink>(
+    request: Request<'_>,
+    input: &mut S,
+    output: &mut K,
+    faults: &mut F,
+) -> u8
+    ensures status { result ≤ 3 }
+    ensures answers { result ≤ 1 → Answers (asked_by request.entry) result (record {
+      to_come_before = S.to_come input.old;
+      to_come_after = S.to_come input.new;
+      outputs = record {
+        written_before = K.written output.old;
+        written_after = K.written output.new;
+        told_before = F.written faults.old;
+        told_after = F.written faults.new;
+        untold = F.has_failed faults.new;
+      };
+    }) }
+    ensures usage { result ≡ 2 → HasUsageFault (asked_by request.entry) }
+{
+    match request {
+        Request::Show { frame } => show(frame, output, faults),
+        _ => {
+            tell("not yet a command\n", faults);
+            USAGE
+        }
+    }
+}
+
+fn refuse<F: Sink>(refusal: Refusal, faults: &mut F) -> u8
+    ensures memory { result ≡ 2 → refusal ≢ Refusal.Memory }
+    ensures status { (result ≡ 2) ⊎ (result ≡ 3) }
+{
+    match refusal {
+        Refusal::Words(text) => {
+            tell(text.as_str(), faults);
+            USAGE
+        }
+        Refusal::Memory => {
+            tell("out of memory\n", faults);
+            BROKEN
+        }
+    }
+}

@@ -1,0 +1,28 @@
+//! The command `show`.
+ghost use Rattle.std.specs.Prelude.{◌≡◌, ◌≤◌, ◌≢◌};
+ghost use Rattle.sq_tool.specs.Runs.{IsShowRun};
+
+use crate::telling::{REFUSED, tell_fault, write_text};
+use sq_devices::Sink;
+use sq_text::{read_squitter, show_text};
+
+/// Shows the fields of the squitter that the frame text spells.
+pub(crate) fn show<K: Sink, F: Sink>(frame: &str, output: &mut K, faults: &mut F) -> u8
+    ensures status { result ≤ 3 }
+    ensures read { result ≢ 2 }
+    ensures answers { result ≤ 1 → IsShowRun frame.now result (record {
+      written_before = K.written output.old;
+      written_after = K.written output.new;
+      told_before = F.written faults.old;
+      told_after = F.written faults.new;
+      untold = F.has_failed faults.new;
+    }) }
+{
+    match read_squitter(frame.as_bytes()) {
+        Ok(squitter) => write_text(show_text(&squitter).as_str(), output, faults),
+        Err(fault) => {
+            tell_fault(fault, faults);
+            REFUSED
+        }
+    }
+}
