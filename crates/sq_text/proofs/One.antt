@@ -1,15 +1,14 @@
 -- A text has one answer.
-use Rattle.std.proofs.Common.{◌≡◌, ◌≢◌, ◌+◌, ◌<◌, ℕ, List, [], ◌∷◌, ◌++◌, length, take, get_or, true, false, Result, Ok, Err, MatchResult, refl, sym, ◌∙◌, ap, subst, arith, inl, inr, ◌⊎◌}
+use Rattle.std.proofs.Common.{◌≡◌, ◌<◌, ℕ, List, [], ◌∷◌, ◌++◌, length, take, get_or, true, Result, Ok, Err, MatchResult, refl, sym, ◌∙◌, ap, subst, arith, inl, inr}
 use Rattle.std.proofs.lemmas.List.{same_from_push, length-take-le, get_or-take}
 use Rattle.std.proofs.lemmas.Bool.{cases_order}
-use Rattle.std.specs.List.{AllPass}
 use Rattle.std.specs.Prelude.{slice_index}
 use Rattle.hex.specs.Hex.{decode_of, is_hex_digit}
 use Rattle.hex.proofs.HexLemmas.{decode_of-ok}
 use Rattle.sq_bits.specs.declared.frame.Frame.{Frame}
 use Rattle.sq_text.specs.declared.frame_text.TextFault.{TextFault}
 use Rattle.sq_text.specs.declared.frame_text.TextFault.TheVariants.{Wrap, Short, Length, Digit}
-use Rattle.sq_text.specs.FrameText.{Begins, Ends, IsBody, IsHalfWrapped, IsFrameText, IsTextFault, IsFirstBadDigit}
+use Rattle.sq_text.specs.FrameText.{IsBody, IsHalfWrapped, IsFrameText, IsTextFault, IsFirstBadDigit}
 
 -- a text has one body
 one_body : (text a b : List ℕ) → IsBody text a → IsBody text b → a ≡ b

@@ -1,6 +1,5 @@
 -- A text has one reading as a squitter, and a squitter one text.
-use Rattle.std.proofs.Common.{◌≡◌, ℕ, List, ◌++◌, Result, Ok, Err, refl, sym, ◌∙◌, ap, ap₂, subst, inl, inr}
-use Rattle.sq_bits.specs.declared.frame.Frame.{Frame}
+use Rattle.std.proofs.Common.{◌≡◌, ℕ, List, ◌++◌, Result, Ok, Err, sym, ◌∙◌, ap, subst, inl, inr}
 use Rattle.sq_message.specs.declared.squitter.Squitter.{Squitter}
 use Rattle.sq_message.specs.declared.squitter.Me.{Me}
 use Rattle.sq_message.specs.declared.squitter.Me.TheVariants as kinds
@@ -9,7 +8,6 @@ use Rattle.sq_message.specs.Spelling.{Spells, IsFault}
 use Rattle.sq_message.proofs.One.{one_squitter, no_fault as no_frame_fault, same_fault as same_frame_fault}
 use Rattle.sq_message.proofs.FeetLemmas.{one_altitude}
 use Rattle.sq_text.specs.declared.faults.LineFault.{LineFault}
-use Rattle.sq_text.specs.FrameText.{IsFrameText}
 use Rattle.sq_text.specs.Faults.{of_text, of_frame}
 use Rattle.sq_text.specs.Reading.{IsSquitterText, IsSquitterFault, IsSquitterReading}
 use Rattle.sq_text.specs.Show.{IsShown, IsShownMe, airborne_lines, head_lines}

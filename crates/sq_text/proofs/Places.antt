@@ -1,5 +1,5 @@
 -- Hexadecimal places, one after another.
-use Rattle.std.proofs.Common.{◌≡◌, ℕ, suc, ◌+◌, ◌-◌, ◌*◌, ◌/◌, ◌%◌, ◌<◌, ◌^◌, List, [], ◌∷◌, ◌++◌, true, bit_and, refl, sym, ap, ap₂, ◌∙◌, subst, arith, add-one}
+use Rattle.std.proofs.Common.{◌≡◌, ℕ, ◌+◌, ◌-◌, ◌*◌, ◌/◌, ◌%◌, ◌<◌, ◌^◌, [], ◌∷◌, ◌++◌, true, bit_and, refl, sym, ap, ap₂, ◌∙◌, subst, arith, add-one}
 use Rattle.std.proofs.lemmas.Nat.{shr-shr, and_mask}
 use Rattle.std.specs.Fmt.{digit_glyph}
 use Rattle.sq_text.specs.Digits.{hexadecimal}
@@ -7,7 +7,7 @@ use Rattle.sq_text.specs.Digits.{hexadecimal}
 -- one more place of a number, below those before it
 pub place_more : (n places i : ℕ) → i < places
     → hexadecimal (i + 1) (n / 2 ^ (4 * (places - (i + 1))))
-      ≡ hexadecimal i (n / 2 ^ (4 * (places - i))) ++ digit_glyph true (bit_and (n / 2 ^ (4 * (places - 1 - i))) 15) ∷ []
+    ≡ hexadecimal i (n / 2 ^ (4 * (places - i))) ++ digit_glyph true (bit_and (n / 2 ^ (4 * (places - 1 - i))) 15) ∷ []
 place_more n places i within =
     let k : ℕ = 4 * (places - 1 - i) in
     let low : 4 * (places - (i + 1)) ≡ k = omega arith in

@@ -12,7 +12,7 @@ use Rattle.sq_message.specs.declared.other.Other.{Other}
 use Rattle.sq_message.specs.declared.squitter.Me.{Me}
 use Rattle.sq_message.specs.declared.squitter.Me.TheVariants as kinds
 use Rattle.sq_message.specs.declared.squitter.Squitter.{Squitter}
-use Rattle.sq_message.specs.Parts.{AirParts, air_parts, ground_parts, raw_of, SquitterParts, squitter_parts}
+use Rattle.sq_message.specs.Parts.{air_parts, ground_parts, raw_of, SquitterParts, squitter_parts}
 use Rattle.sq_message.specs.Altitudes.{IsAltitude}
 use Rattle.sq_message.specs.Spelling.{bit}
 use Rattle.sq_text.specs.Digits.{hexadecimal}

@@ -35,5 +35,9 @@ fn push_digit<const N: usize>(text: &mut ArrayString<N>, digit: u8)
     ensures bytes { text.new.bytes ≡ text.old.bytes ++ digit_glyph true digit ∷ [] }
     ensures len { array_string_len text.new ≡ array_string_len text.old + 1 }
 {
-    text.push(char::from(if digit < 10 { b'0' + digit } else { b'A' - 10 + digit }));
+    text.push(char::from(if digit < 10 {
+        b'0' + digit
+    } else {
+        b'A' - 10 + digit
+    }));
 }

@@ -71,7 +71,10 @@ fn tells_faults(rt: HostRuntime) {
         (LineFault::NotDf17(18), "not DF17 18"),
         (LineFault::Parity(1), "parity 000001"),
         (LineFault::Parity(0xFFF409), "parity FFF409"),
-        (LineFault::MomentBack(u64::MAX), "moment back 18446744073709551615"),
+        (
+            LineFault::MomentBack(u64::MAX),
+            "moment back 18446744073709551615",
+        ),
         (LineFault::Full, "table full"),
     ];
     for (fault, text) in rows {
@@ -99,13 +102,19 @@ fn shown(rt: &impl Abort, text: &str) -> ShowText {
 #[test]
 fn shows_an_airborne_position(rt: HostRuntime) {
     let text = shown(&rt, AIR_EVEN);
-    assert!(rt; text.as_str() == "address 40621D\nca 5\ntype 11\nkind air\nstatus 0\nflag 0\naltitude 38000 ft\ntime 0\nparity even\nlat 93000\nlon 51372\n");
+    assert!(rt;
+        text.as_str()
+            == "address 40621D\nca 5\ntype 11\nkind air\nstatus 0\nflag 0\naltitude 38000 ft\ntime 0\nparity even\nlat 93000\nlon 51372\n"
+    );
 }
 
 #[test]
 fn shows_a_surface_position(rt: HostRuntime) {
     let text = shown(&rt, "8C4841753AAB238733C8CD4020B1");
-    assert!(rt; text.as_str() == "address 484175\nca 4\ntype 7\nkind ground\nmovement 42\ntrack status 1\ntrack 50\ntime 0\nparity even\nlat 115609\nlon 116941\n");
+    assert!(rt;
+        text.as_str()
+            == "address 484175\nca 4\ntype 7\nkind ground\nmovement 42\ntrack status 1\ntrack 50\ntime 0\nparity even\nlat 115609\nlon 116941\n"
+    );
 }
 
 #[test]
@@ -131,9 +140,18 @@ fn shown_with(rt: &impl Abort, type_code: u8, field: u16) -> ShowText {
 #[test]
 fn shows_each_altitude(rt: HostRuntime) {
     let none = shown_with(&rt, 11, 0);
-    assert!(rt; none.as_str() == "address 000ABC\nca 7\ntype 11\nkind air\nstatus 2\nflag 1\naltitude none\ntime 1\nparity odd\nlat 131071\nlon 7\n");
+    assert!(rt;
+        none.as_str()
+            == "address 000ABC\nca 7\ntype 11\nkind air\nstatus 2\nflag 1\naltitude none\ntime 1\nparity odd\nlat 131071\nlon 7\n"
+    );
     let raw = shown_with(&rt, 20, 0x00F);
-    assert!(rt; raw.as_str() == "address 000ABC\nca 7\ntype 20\nkind air\nstatus 2\nflag 1\naltitude raw 00F\ntime 1\nparity odd\nlat 131071\nlon 7\n");
+    assert!(rt;
+        raw.as_str()
+            == "address 000ABC\nca 7\ntype 20\nkind air\nstatus 2\nflag 1\naltitude raw 00F\ntime 1\nparity odd\nlat 131071\nlon 7\n"
+    );
     let low = shown_with(&rt, 18, 0x010);
-    assert!(rt; low.as_str() == "address 000ABC\nca 7\ntype 18\nkind air\nstatus 2\nflag 1\naltitude -1000 ft\ntime 1\nparity odd\nlat 131071\nlon 7\n");
+    assert!(rt;
+        low.as_str()
+            == "address 000ABC\nca 7\ntype 18\nkind air\nstatus 2\nflag 1\naltitude -1000 ft\ntime 1\nparity odd\nlat 131071\nlon 7\n"
+    );
 }

@@ -9,8 +9,11 @@ use sq_text::{LineFault, push_fault};
 
 /// The statuses that the program exits with.
 pub(crate) const GOOD: u8 = 0;
+
 pub(crate) const REFUSED: u8 = 1;
+
 pub(crate) const USAGE: u8 = 2;
+
 pub(crate) const BROKEN: u8 = 3;
 
 /// Writes the text of an answer and finishes the output.

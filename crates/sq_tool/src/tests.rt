@@ -53,19 +53,34 @@ fn assert_refused(rt: &impl Abort, alloc: Global, words: &[&str]) {
 #[test]
 fn shows_an_airborne_position(rt: HostRuntime) {
     let words = ["squitter", "show", "8D40621D58C382D690C8AC2863A7"];
-    assert_written(&rt, rt.alloc(), &words, "address 40621D\nca 5\ntype 11\nkind air\nstatus 0\nflag 0\naltitude 38000 ft\ntime 0\nparity even\nlat 93000\nlon 51372\n");
+    assert_written(
+        &rt,
+        rt.alloc(),
+        &words,
+        "address 40621D\nca 5\ntype 11\nkind air\nstatus 0\nflag 0\naltitude 38000 ft\ntime 0\nparity even\nlat 93000\nlon 51372\n",
+    );
 }
 
 #[test]
 fn shows_a_surface_position(rt: HostRuntime) {
     let words = ["squitter", "show", "8C4841753AAB238733C8CD4020B1"];
-    assert_written(&rt, rt.alloc(), &words, "address 484175\nca 4\ntype 7\nkind ground\nmovement 42\ntrack status 1\ntrack 50\ntime 0\nparity even\nlat 115609\nlon 116941\n");
+    assert_written(
+        &rt,
+        rt.alloc(),
+        &words,
+        "address 484175\nca 4\ntype 7\nkind ground\nmovement 42\ntrack status 1\ntrack 50\ntime 0\nparity even\nlat 115609\nlon 116941\n",
+    );
 }
 
 #[test]
 fn shows_another_message(rt: HostRuntime) {
     let words = ["squitter", "show", "8D406B902015A678D4D220AA4BDA"];
-    assert_written(&rt, rt.alloc(), &words, "address 406B90\nca 5\ntype 4\nkind other\nme 2015A678D4D220\n");
+    assert_written(
+        &rt,
+        rt.alloc(),
+        &words,
+        "address 406B90\nca 5\ntype 4\nkind other\nme 2015A678D4D220\n",
+    );
 }
 
 #[test]
@@ -113,7 +128,10 @@ fn tells_a_writer_that_fails(rt: HostRuntime) -> Result<(), Fail> {
     let mut faults = Writing::new(Vec::new(rt.alloc()));
     let status = run(rt.alloc(), &words, &mut input, &mut output, &mut faults);
     assert_eq!(rt; status, 3);
-    assert_eq!(rt; faults.into_inner().as_slice(), b"write failed\n".as_slice());
+    assert_eq!(rt;
+        faults.into_inner().as_slice(),
+        b"write failed\n".as_slice()
+    );
     let mut lost = Writing::new(Full);
     let status = run(rt.alloc(), &words, &mut input, &mut output, &mut lost);
     assert_eq!(rt; status, 3);

@@ -1,4 +1,4 @@
-use Rattle.std.proofs.Common.{◌++◌, refl, arith, append_assoc}
+use Rattle.std.proofs.Common.{refl, arith, append_assoc}
 use Rattle.sq_text.proofs.Places.{place_more}
 use Rattle.sq_text.proofs.digits.push_hexadecimal.Goals as goal
 
