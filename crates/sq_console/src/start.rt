@@ -2,7 +2,7 @@
 ghost use Rattle.std.specs.Prelude.{◌≡◌, false};
 ghost use Rattle.std.specs.Io.KnownBytes.{Appends};
 
-use sq_devices::{Sink, put_all};
+use sq_devices::{Sink, put_last};
 use std::alloc::{Alloc, AllocError};
 use std::env;
 use std::env::Env;
@@ -41,8 +41,7 @@ impl Trouble {
             Trouble::Words => ("bad words\n", 2),
             Trouble::Memory => ("out of memory\n", 3),
         };
-        let _ = put_all(faults, text.as_bytes());
-        let _ = faults.finish();
+        let _ = put_last(faults, text.as_bytes());
         status
     }
 }

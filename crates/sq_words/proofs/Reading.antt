@@ -112,10 +112,6 @@ asks_none words name rows clap none asked asks =
       values = subst (λ (r : List Row). HasValues r asked) (sym (ap (λ (p : Text × List Row). p.1) one)) asks.values;
     })
 
--- where clap entered no command the words ask for nothing
-pub asks_no_command : (words : List Text) → subcommand_of squitter words ≡ None → (asked : Asked) → ¬ Asks words asked
-asks_no_command words none asked asks = let entered : subcommand_of squitter words ≡ Some (command_name asked, asks.rows) = asks.entered in cc
-
 pair_of : {B : Type 0} (f : B → Text × List Row) (o : Option B) (name : Text) (rows : List Row)
     → Some name ≡ option_map (λ b. (f b).0) o → Some rows ≡ option_map (λ p. p.1) (option_map f o) → option_map f o ≡ Some (name, rows)
 pair_of f None name rows named has = cc
@@ -135,23 +131,12 @@ accepted_by app words m name rows is kinds matches named has = record {
       ∙ pair_of _ (out-ArgMatches m).subcommand name rows named has;
 }
 
--- clap entered no command where its matches have none
-pub no_command_by : (app : App) (words : List Text) (m : ArgMatches) → app ≡ squitter → HasMatchesOf app words m
-    → None ≡ subcommand_name_of m → subcommand_of squitter words ≡ None
-no_command_by app words m is matches none = ap (λ (a : App). subcommand_of a words) (sym is)
-    ∙ sym (matches (ap is_simple is ∙ squitter-is_simple)).1 ∙ none_of _ (out-ArgMatches m).subcommand none
-  where
-    none_of : {B : Type 0} (f : B → Text × List Row) (o : Option B) → None ≡ option_map (λ b. (f b).0) o → option_map f o ≡ None
-    none_of f None is = refl
-    none_of f (Some b) is = cc
-
--- an error that is not memory's comes only where the words ask for nothing
+-- an error that is not memory's comes only where clap finds a fault
 pub refused_by : (app : App) (words : List Text) (e : Error) → app ≡ squitter
-    → (is_simple_and_free app ≡ true → HasKind (fault_of app words) e) → kind_of e ≢ kind.OutOfMemory → (asked : Asked) → ¬ Asks words asked
-refused_by app words e is fails other_kind asked asks =
+    → (is_simple_and_free app ≡ true → HasKind (fault_of app words) e) → kind_of e ≢ kind.OutOfMemory → fault_of squitter words ≢ []
+refused_by app words e is fails other_kind none =
     let has : HasKind (fault_of app words) e = fails (ap is_simple_and_free is ∙ squitter-is_free) in
-    let none : fault_of app words ≡ [] = ap (λ (a : App). fault_of a words) is ∙ asks.accepted in
-    other_kind (fails_by_memory _ e none has)
+    other_kind (fails_by_memory _ e (ap (λ (a : App). fault_of a words) is ∙ none) has)
 
 -- ---- one value
 

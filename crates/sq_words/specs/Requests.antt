@@ -1,5 +1,5 @@
 -- What the words of a command line ask for.
-use Rattle.std.specs.Prelude.{◌≡◌, ⊤, List, [], Option, Some, codes, option_map}
+use Rattle.std.specs.Prelude.{◌≡◌, ◌≢◌, ⊤, List, [], Option, Some, codes, option_map}
 use Rattle.clap.specs.Words.{Text, Row, fault_of, first_of, subcommand_of}
 use Rattle.sq_words.specs.CommandLine.{squitter}
 use Rattle.sq_words.specs.declared.request.EncodeWords.{EncodeWords}
@@ -59,6 +59,10 @@ pub record Asks (words : List Text) (asked : Asked) : Type 0 where
   pub entered : subcommand_of squitter words ≡ Some (command_name asked, rows)
   pub values : HasValues rows asked
 
+-- clap finds a fault in the words, or they ask for its help
+abbrev pub IsFaulty : List Text → Type 0
+IsFaulty words = fault_of squitter words ≢ []
+
 -- the values that a request of `encode` holds
 abbrev pub asked_encode : EncodeWords → AskedEncode
 asked_encode e = record {
@@ -83,3 +87,7 @@ asked_by (variants.Track limit window lat lon) =
 -- words ask for one thing
 abbrev pub OneRequest : Type 0
 OneRequest = (words : List Text) (a b : Asked) → Asks words a → Asks words b → a ≡ b
+
+-- words in which clap finds no fault ask for a command with its values
+abbrev pub AcceptedWordsAsk : Type 0
+AcceptedWordsAsk = (words : List Text) → fault_of squitter words ≡ [] → (asked : Asked) × Asks words asked

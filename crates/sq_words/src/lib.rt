@@ -1,7 +1,8 @@
 //! The command lines of `squitter`: one [`Request`] of the words.
 //!
-//! [`read_request`] has clap read the words. A request is answered exactly as clap reads the words
-//! without a fault, one command with its values, and no type of clap leaves this crate.
+//! [`read_request`] has clap read the words. It answers a request exactly as clap reads the words,
+//! as one command with its values, and refuses words only where clap finds a fault in them. Words
+//! without a fault ask for one thing, as [`laws`] says. No type of clap leaves this crate.
 #![tactic(auto)]
 
 mod command_line;

@@ -1,7 +1,7 @@
 //! What the words of a command line ask for.
 ghost use Rattle.std.specs.Prelude.{◌≡◌, ◌≢◌, IfErr, IfOk, IfSome, IfNone, codes, map};
 ghost use Rattle.clap.specs.Words.{found_of, kind_of, rows_of};
-ghost use Rattle.sq_words.specs.Requests.{Asked, Asks, HasValues, IsAsked, asked_by, command_name};
+ghost use Rattle.sq_words.specs.Requests.{Asked, Asks, IsAsked, IsFaulty, asked_by};
 
 use crate::command_line::squitter_command;
 use clap::error::ErrorKind;
@@ -80,11 +80,12 @@ impl From<AllocError> for Refusal {
 
 /// The command that the words name, with its values. The first of the words is the program's name.
 ///
-/// `Words` comes only for words that ask for no command, and `Memory` where a growth was refused.
+/// `Words` comes only for words in which clap finds a fault, a request for help among them, and
+/// `Memory` where a growth was refused.
 pub fn read_request<'a>(alloc: Global, words: &'a [&'a str]) -> Result<Request<'a>, Refusal>
     ensures asks { IfOk result (λ request. Asks (map (λ word. word.now) words.entry.now) (asked_by request)) }
     ensures refused { IfErr result (λ refusal. (text : _) → refusal ≡ Refusal.Words text
-        → (asked : Asked) → ¬ Asks (map (λ word. word.now) words.entry.now) asked) }
+        → IsFaulty (map (λ word. word.now) words.entry.now)) }
 {
     let command = squitter_command(alloc)?;
     let matches = match command.try_get_matches_from(words) {
@@ -92,11 +93,11 @@ pub fn read_request<'a>(alloc: Global, words: &'a [&'a str]) -> Result<Request<'
         Err(error) => return Err(refusal_of(alloc, &error)),
     };
     let Some((name, values)) = matches.subcommand() else {
-        return Err(Refusal::Words(String::new(alloc)));
+        unreachable!()
     };
     match request_of(name, values) {
         Some(request) => Ok(request),
-        None => Err(Refusal::Words(String::new(alloc))),
+        None => unreachable!(),
     }
 }
 

@@ -10,4 +10,4 @@ of_words (Words text) X other words = words text refl
 
 pub returns-in-Err-clause-usage : goal.returns-in-Err-clause-usage
 returns-in-Err-clause-usage g c usage asked asks =
-    of_words c.in-Err.refusal _ (c.refuse.ensures.memory usage) (λ text is. absurd (c.in-Err.ensures.refused text is asked asks))
+    of_words c.in-Err.refusal _ (c.refuse.ensures.memory usage) (λ text is. absurd (c.in-Err.ensures.refused text is asks.accepted))
