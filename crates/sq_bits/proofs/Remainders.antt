@@ -1,5 +1,7 @@
 -- Steps of the remainder.
-use Rattle.std.proofs.Common.{◌≡◌, ℕ, ◌+◌, ◌-◌, ◌*◌, ◌/◌, ◌%◌, ◌<◌, ◌≤◌, ◌^◌, bit_xor, bit_and, bit_or, refl, sym, ap, ◌∙◌, arith}
+use Rattle.std.proofs.Common.{◌≡◌, ℕ, ◌+◌, ◌-◌, ◌*◌, ◌/◌, ◌%◌, ◌<◌, ◌≤◌, ◌^◌, bit_xor, bit_and, bit_or, refl, sym, ap, ◌∙◌, arith, zero, suc, subst, inl, inr}
+use Rattle.std.proofs.Math.Nat.{pow-suc}
+use Rattle.std.proofs.lemmas.Bool.{cases_lt}
 use Rattle.std.proofs.lemmas.Nat.{xor_comm, xor_lt, xor_shr, shr-shr, and_mask, or_shifted}
 use lib.Bits.{xor_assoc, xor_self, xor_zero_r, xor_block, xor_shifted}
 use Rattle.sq_bits.proofs.Quotient.{field_at}
@@ -83,3 +85,26 @@ joined r b b' small same =
     let low : bit_and r 65535 ≡ r % 2 ^ 16 = and_mask r 16 in
     let whole : r % 2 ^ 16 * 256 % 4294967296 ≡ r % 2 ^ 16 * 2 ^ 8 = omega arith in
     rw (low, whole, same) (or_shifted (r % 2 ^ 16) 8 b small)
+
+-- one more bit behind a number with a remainder
+remainder_more : (n r b : ℕ) → b < 2 → IsRemainder n r → (s : ℕ) × IsRemainder (2 * n + b) s
+remainder_more n r b bit is = elim (cases_lt (r * 2 + b) 16777216) [
+  | inl low ↦ (r * 2 + b, IsRemainder-kept n r b bit (omega arith) is)
+  | inr high ↦ (bit_xor (r * 2 + b) generator, IsRemainder-reduced n r b bit (omega arith) is)
+]
+
+-- each number has a remainder
+remainder_of_bits : (k n : ℕ) → n < 2 ^ k → (r : ℕ) × IsRemainder n r
+remainder_of_bits zero n small =
+    let none : n ≡ 0 = omega arith in
+    (0, subst (λ x. IsRemainder x 0) (sym none) IsRemainder-zero)
+remainder_of_bits (suc k) n small =
+    let wide : 2 ^ suc k ≡ 2 ^ k * 2 = pow-suc 2 k in
+    let short : n < 2 ^ k * 2 = rw wide at small in
+    let before = remainder_of_bits k (n / 2) (omega arith) in
+    let more = remainder_more (n / 2) before.0 (n % 2) (omega arith) before.1 in
+    let whole : 2 * (n / 2) + n % 2 ≡ n = omega arith in
+    (more.0, subst (λ x. IsRemainder x more.0) whole more.1)
+
+pub some_remainder : (n : ℕ) → n < 2 ^ 112 → (r : ℕ) × IsRemainder n r
+some_remainder n small = remainder_of_bits 112 n small

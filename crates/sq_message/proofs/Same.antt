@@ -4,7 +4,7 @@ use Rattle.std.proofs.Props.{props}
 use mathlib.Core.HLevel.{is_prop→PathP}
 use Rattle.sq_message.specs.TypeCodes.{IsAirCode, IsGroundCode, IsOtherCode}
 use Rattle.sq_message.specs.Spelling.{bit}
-use Rattle.sq_zones.specs.Parity.{parity_index}
+use Rattle.sq_zones.specs.Zones.{parity_index}
 use Rattle.sq_message.specs.declared.air.AirFields.{AirFields}
 use Rattle.sq_message.specs.declared.ground.GroundFields.{GroundFields}
 use Rattle.sq_message.specs.declared.other.Other.{Other}

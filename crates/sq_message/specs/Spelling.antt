@@ -5,7 +5,7 @@ use Rattle.sq_bits.specs.declared.frame.Frame.{Frame}
 use Rattle.sq_bits.specs.Frames.{field_of, frame_number}
 use Rattle.sq_bits.specs.Parity.{IsMultiple, IsRemainder}
 use Rattle.sq_zones.specs.declared.parity.Parity.{Parity}
-use Rattle.sq_zones.specs.Parity.{parity_index}
+use Rattle.sq_zones.specs.Zones.{parity_index}
 use Rattle.sq_cpr.specs.Code.{CodeNumbers, numbers_of}
 use Rattle.sq_message.specs.Parts.{AirParts, GroundParts, air_parts, ground_parts, raw_of, squitter_parts}
 use Rattle.sq_message.specs.declared.air.Airborne.{Airborne}

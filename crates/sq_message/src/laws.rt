@@ -17,6 +17,11 @@ pub fn one_reading()
     ensures { (f : Frame) (r s : Result Squitter FrameFault) → IsReading f r → IsReading f s → r ≡ s }
 {}
 
+/// Each frame has a reading.
+pub fn some_reading()
+    ensures { (f : Frame) → IsFrame f → (r : Result Squitter FrameFault) × IsReading f r }
+{}
+
 /// A squitter has one frame.
 pub fn one_frame()
     ensures { (f g : Frame) (q : Squitter) → IsFrame f → IsFrame g → Spells f q → Spells g q → f ≡ g }

@@ -3,7 +3,7 @@ ghost use Rattle.std.specs.Prelude.{◌≡◌};
 ghost use Rattle.sq_message.specs.declared.squitter.Squitter.{Squitter};
 ghost use Rattle.sq_bits.specs.Frames.{field_of};
 ghost use Rattle.sq_cpr.specs.Code.{numbers_of};
-ghost use Rattle.sq_zones.specs.Parity.{parity_index};
+ghost use Rattle.sq_zones.specs.Zones.{parity_index};
 ghost use Rattle.sq_message.specs.Parts.{air_parts, ground_parts};
 ghost use Rattle.sq_message.specs.TypeCodes.{IsAirCode, IsGroundCode};
 ghost use Rattle.sq_message.specs.Spelling.{IsReading, Spells, SpellsAirborne, SpellsAirFields, SpellsGroundFields, SpellsMe, SpellsSurface};

@@ -1,4 +1,5 @@
 pub mod BadDigits
 pub mod One
 pub mod OneReading
+pub mod SomeReading
 pub mod Places

@@ -3,3 +3,4 @@ pub mod Digits
 pub mod Faults
 pub mod Reading
 pub mod Show
+pub mod Summary

@@ -22,3 +22,8 @@ IsSquitterFault text fault =
 -- what is read of a text
 abbrev pub IsSquitterReading : List ℕ → Result Squitter LineFault → Type 0
 IsSquitterReading text answer = MatchResult answer (IsSquitterText text) (IsSquitterFault text)
+
+-- a function that reads every text: there is one, and no two differ at a text
+pub record SquitterReader : Type 0 where
+  pub read : List ℕ → Result Squitter LineFault
+  pub reads : (text : List ℕ) → IsSquitterReading text (read text)

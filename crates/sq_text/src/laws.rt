@@ -5,7 +5,7 @@ ghost use Rattle.sq_message.specs.declared.squitter.Squitter.{Squitter};
 ghost use Rattle.sq_text.specs.declared.faults.LineFault.{LineFault};
 ghost use Rattle.sq_text.specs.declared.frame_text.TextFault.{TextFault};
 ghost use Rattle.sq_text.specs.FrameText.{IsAnswer};
-ghost use Rattle.sq_text.specs.Reading.{IsSquitterReading};
+ghost use Rattle.sq_text.specs.Reading.{IsSquitterReading, SquitterReader};
 ghost use Rattle.sq_text.specs.Show.{IsShown};
 
 /// A text has one answer of `read_text`.
@@ -16,6 +16,11 @@ pub fn one_answer()
 /// A text has one reading as a squitter.
 pub fn one_squitter_reading()
     ensures { (text : List ℕ) (r s : Result Squitter LineFault) → IsSquitterReading text r → IsSquitterReading text s → r ≡ s }
+{}
+
+/// There is a function that reads every text as a squitter.
+pub fn some_reader()
+    ensures { SquitterReader }
 {}
 
 /// A squitter is shown as one text.

@@ -10,12 +10,14 @@ mod frame_text;
 pub mod laws;
 mod reading;
 mod show;
+mod summary;
 
 pub use digits::{push_decimal, push_hexadecimal};
 pub use faults::{LineFault, push_fault};
 pub use frame_text::{TextFault, read_text};
 pub use reading::read_squitter;
 pub use show::{ShowText, show_text};
+pub use summary::push_summary;
 
 #[cfg(test)]
 mod tests;

@@ -1,11 +1,13 @@
 -- What the program does for each command.
-use Rattle.std.specs.Prelude.{◌≡◌, ◌++◌, ⊤, ℕ, Bool, List, [], Option, Result, MatchResult, codes, false}
+use Rattle.std.specs.Prelude.{◌≡◌, ◌==◌, ◌++◌, ⊤, ℕ, Bool, List, [], Option, Some, IfSome, Result, MatchResult, codes, false, if◌then◌else◌}
 use Rattle.std.specs.Io.KnownBytes.{Appends}
 use Rattle.sq_message.specs.declared.squitter.Squitter.{Squitter}
 use Rattle.sq_text.specs.declared.faults.LineFault.{LineFault}
 use Rattle.sq_text.specs.Faults.{fault_text}
-use Rattle.sq_text.specs.Reading.{IsSquitterReading}
+use Rattle.sq_text.specs.Reading.{IsSquitterReading, SquitterReader}
 use Rattle.sq_text.specs.Show.{IsShown}
+use Rattle.sq_lines.specs.Lines.{lines_of}
+use Rattle.sq_tool.specs.Check.{check_output, check_tally}
 use Rattle.sq_words.specs.Requests.{Asked, Show, Encode, Local, Pair, Check, Track}
 
 -- what the program wrote on its output, and told on its sink for faults
@@ -37,13 +39,20 @@ abbrev pub IsShowRun : List ℕ → ℕ → Outputs → Type 0
 IsShowRun frame status o = (answer : Result Squitter LineFault) × IsSquitterReading frame answer
     × MatchResult answer (λ squitter. (text : List ℕ) × IsShown squitter text × IsWritten status o text) (λ fault. IsRefused status o (fault_text fault))
 
+-- `check`: the whole input was read and each of its lines answered; 1 says that one of them was refused
+abbrev pub IsCheckRun : ℕ → (to_come_before to_come_after written_before written_after : Option (List ℕ)) → Type 0
+IsCheckRun status to_come_before to_come_after written_before written_after =
+    IfSome to_come_before (λ input. (to_come_after ≡ Some [])
+      × ((reader : SquitterReader) → Appends written_before written_after (check_output reader (lines_of input))
+      × (status ≡ (if (check_tally reader (lines_of input)).refused == 0 then 0 else 1))))
+
 -- at exit status 0 or 1, what was written is what the command asks for
 abbrev pub Answers : Asked → ℕ → Streams → Type 0
 Answers (Show frame) status s = IsShowRun frame status s.outputs
 Answers (Encode e) status s = ⊥
 Answers (Local frame lat lon) status s = ⊥
 Answers (Pair older newer lat lon) status s = ⊥
-Answers Check status s = ⊥
+Answers Check status s = IsCheckRun status s.to_come_before s.to_come_after s.outputs.written_before s.outputs.written_after
 Answers (Track limit window lat lon) status s = ⊥
 
 -- a command that is not yet one of the program's, or an argument at fault
@@ -52,5 +61,5 @@ HasUsageFault (Show frame) = ⊥
 HasUsageFault (Encode e) = ⊤
 HasUsageFault (Local frame lat lon) = ⊤
 HasUsageFault (Pair older newer lat lon) = ⊤
-HasUsageFault Check = ⊤
+HasUsageFault Check = ⊥
 HasUsageFault (Track limit window lat lon) = ⊤

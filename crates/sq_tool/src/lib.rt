@@ -4,12 +4,16 @@
 //! texts are crates of their own below, which are republished here.
 #![tactic(auto)]
 
+mod check;
 mod program;
 mod show;
+mod stream;
 mod telling;
 
+pub use check::run_check;
 pub use program::run;
 pub use sq_devices::{Failed, Reading, Sink, Source, Writing};
+pub use sq_lines::{Cutter, RunFault, Tally};
 pub use sq_text::{LineFault, TextFault, read_text};
 pub use sq_words::Request;
 

@@ -4,13 +4,14 @@ ghost use Rattle.sq_words.specs.Requests.{Asked, Asks, asked_by};
 ghost use Rattle.sq_tool.specs.Runs.{Answers, HasUsageFault};
 
 use crate::show::show;
+use crate::stream::check;
 use crate::telling::{BROKEN, USAGE, tell};
 use sq_devices::{Sink, Source};
 use sq_words::{Refusal, Request, read_request};
 use std::alloc::Global;
 
-/// Does what the words ask for, and answers the exit status: 0 all is good; 1 a frame was refused; 2 a bad command line;
-/// 3 a read, write or memory fault. The first of the words is the program's name.
+/// Does what the words ask for, and answers the exit status: 0 all is good; 1 a line or a frame was refused; 2 a bad command
+/// line; 3 a read, write or memory fault. The first of the words is the program's name.
 ///
 /// An answer goes to the output, a fault in one line to the sink for faults; what could not be written there changes no
 /// status.
@@ -64,6 +65,7 @@ fn answer<S: Source, K: Sink, F: Sink>(
 {
     match request {
         Request::Show { frame } => show(frame, output, faults),
+        Request::Check => check(input, output, faults),
         _ => {
             tell("not yet a command\n", faults);
             USAGE

@@ -1,1 +1,3 @@
-pub mod Parity
+pub mod Zones
+pub mod Fits
+pub mod Laws

@@ -1,0 +1,57 @@
+-- Orders of fractions.
+use Rattle.std.proofs.Common.{◌≡◌, ℕ, ◌*◌, ◌<◌, pos, neg_ℤ, ◌*ℤ◌, ◌≤ℤ◌, ◌↔◌, arith, ap, ◌∙◌, sym, mul_comm}
+use Rattle.std.proofs.lemmas.Int.{ints}
+use Rattle.sq_angle.specs.Fraction.{Fraction, ◌≼◌, ◌≺◌, ◌≃◌, whole, opposite, IsWithin}
+use Rattle.sq_angle.specs.Scale.{scale-neg, scale_comm, scale-le, scale-lt, le_of_scale, lt_of_scale, same_of_scale}
+
+-- x ≤ y ≤ z
+pub at_most_trans : (x y z : Fraction) → 0 < y.den → x ≼ y → y ≼ z → x ≼ z
+at_most_trans x y z p h k =
+    let first = scale-le z.den (pos y.den *ℤ x.num) (pos x.den *ℤ y.num) h in
+    let second = scale-le x.den (pos z.den *ℤ y.num) (pos y.den *ℤ z.num) k in
+    let turned = scale_comm z.den x.den y.num in
+    let left = scale_comm y.den z.den x.num in
+    let right = scale_comm y.den x.den z.num in
+    le_of_scale y.den (pos z.den *ℤ x.num) (pos x.den *ℤ z.num) p (omega (arith, ints))
+
+-- x < y ≤ z
+pub below_trans : (x y z : Fraction) → 0 < z.den → x ≺ y → y ≼ z → x ≺ z
+below_trans x y z p h k =
+    let first = scale-lt z.den (pos y.den *ℤ x.num) (pos x.den *ℤ y.num) p h in
+    let second = scale-le x.den (pos z.den *ℤ y.num) (pos y.den *ℤ z.num) k in
+    let turned = scale_comm z.den x.den y.num in
+    let left = scale_comm y.den z.den x.num in
+    let right = scale_comm y.den x.den z.num in
+    lt_of_scale y.den (pos z.den *ℤ x.num) (pos x.den *ℤ z.num) (omega (arith, ints))
+
+-- x ≤ y < z
+pub trans_below : (x y z : Fraction) → 0 < x.den → x ≼ y → y ≺ z → x ≺ z
+trans_below x y z p h k =
+    let first = scale-le z.den (pos y.den *ℤ x.num) (pos x.den *ℤ y.num) h in
+    let second = scale-lt x.den (pos z.den *ℤ y.num) (pos y.den *ℤ z.num) p k in
+    let turned = scale_comm z.den x.den y.num in
+    let left = scale_comm y.den z.den x.num in
+    let right = scale_comm y.den x.den z.num in
+    lt_of_scale y.den (pos z.den *ℤ x.num) (pos x.den *ℤ z.num) (omega (arith, ints))
+
+-- one value goes both ways
+pub value_sym : (x y : Fraction) → x ≃ y → y ≃ x
+value_sym x y e = sym e
+
+-- and from one fraction to the next
+pub value_trans : (x y z : Fraction) → 0 < y.den → x ≃ y → y ≃ z → x ≃ z
+value_trans x y z p e f =
+    same_of_scale y.den (pos z.den *ℤ x.num) (pos x.den *ℤ z.num) p
+    (scale_comm y.den z.den x.num ∙ ap (λ n. pos z.den *ℤ n) e ∙ scale_comm z.den x.den y.num ∙ ap (λ n. pos x.den *ℤ n) f ∙ scale_comm x.den y.den z.num)
+
+-- a magnitude of at most so many degrees is to lie from -degrees to degrees
+pub within_window : (degrees : ℕ) (x : Fraction) → IsWithin degrees x ↔ ((opposite (whole degrees) ≼ x) × (x ≼ whole degrees))
+within_window degrees x =
+    let low : pos x.den *ℤ neg_ℤ (pos degrees) ≡ neg_ℤ (pos (degrees * x.den)) = scale-neg x.den (pos degrees) ∙ ap (λ (n : ℕ). neg_ℤ (pos n)) (mul_comm x.den degrees) in
+    let high : pos x.den *ℤ pos degrees ≡ pos (degrees * x.den) = ap pos (mul_comm x.den degrees) in (
+      λ (h : IsWithin degrees x). (rw low (omega (arith, ints)), omega (arith, ints)),
+      λ (h : (opposite (whole degrees) ≼ x) × (x ≼ whole degrees)).
+          let from : neg_ℤ (pos (degrees * x.den)) ≤ℤ (pos 1 *ℤ x.num) = rw low at h.0 in
+          let to = h.1 in
+          omega (arith, ints),
+    )

@@ -1,0 +1,16 @@
+-- for the crates above as well
+pub mod Floors
+pub mod Windows
+pub mod Congruence
+pub mod Rounding
+pub mod Fractions
+pub mod Sizes
+pub mod Orders
+-- of angles and their texts
+pub mod LowestTerms
+pub mod Coprime
+pub mod Decimals
+pub mod OneText
+pub mod OneSpelling
+pub mod Texts
+pub mod OneReading

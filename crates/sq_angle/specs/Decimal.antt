@@ -1,0 +1,22 @@
+-- An angle as text with seven decimals.
+use Rattle.std.specs.Prelude.{◌≡◌, ℕ, zero, suc, ◌+◌, ◌/◌, ◌%◌, ◌^◌, Bool, ◌&&◌, List, [], ◌∷◌, ◌++◌, pos, int_lt, nat_lt, decimal, if◌then◌else◌}
+use Rattle.sq_angle.specs.Fraction.{Fraction, magnitude}
+use Rattle.sq_angle.specs.Nearest.{IsNearest}
+
+-- 10^-7, a unit of the last of seven decimals
+abbrev pub ten_millionth : Fraction
+ten_millionth = record { num = pos 1; den = 10 ^ 7 }
+
+-- n in so many digits
+abbrev pub fixed_digits : ℕ → ℕ → List ℕ
+fixed_digits zero n = []
+fixed_digits (suc places) n = fixed_digits places (n / 10) ++ (48 + n % 10) ∷ []
+
+-- v ten-millionths as text: the sign where a digit is not 0, the whole degrees, a point and seven digits
+abbrev pub seven_places : Bool → ℕ → List ℕ
+seven_places negative v =
+    (if negative && nat_lt 0 v then 45 ∷ [] else []) ++ decimal (v / 10 ^ 7) ++ 46 ∷ [] ++ fixed_digits 7 (v % 10 ^ 7)
+
+-- the text of x: the whole number of ten-millionths nearest to its magnitude, and x's sign
+abbrev pub IsDecimal7 : Fraction → List ℕ → Type 0
+IsDecimal7 x text = (v : ℕ) × IsNearest (magnitude x) ten_millionth (pos v) × (text ≡ seven_places (int_lt x.num (pos 0)) v)

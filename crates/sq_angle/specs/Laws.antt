@@ -1,0 +1,42 @@
+-- Laws of fractions and of the texts of angles, as statements.
+use Rattle.std.specs.Prelude.{◌≡◌, ◌↔◌, ◌≤◌, ℕ, List, IsTrue, Result}
+use Rattle.std.specs.declared.cmp.Ordering.TheVariants.{Less, Equal, Greater}
+use Rattle.sq_angle.specs.declared.angle.Angle.{Angle}
+use Rattle.sq_angle.specs.declared.read.AngleFault.{AngleFault}
+use Rattle.sq_angle.specs.Fraction.{Fraction, ◌≃◌, ◌≺◌, ◌≼◌, IsWithin, opposite, whole}
+use Rattle.sq_angle.specs.Angle.{degrees}
+use Rattle.sq_angle.specs.Order.{same_angle, angle_cmp}
+use Rattle.sq_angle.specs.Lowest.{IsLowestFormOf}
+use Rattle.sq_angle.specs.Decimal.{IsDecimal7}
+use Rattle.sq_angle.specs.Spelling.{Parts, Spells}
+use Rattle.sq_angle.specs.Reading.{IsReading}
+
+-- two fractions have one value exactly if they have one form in lowest terms
+abbrev pub OneLowestForm : Type 0
+OneLowestForm = (x y p q : Fraction) → 1 ≤ x.den → 1 ≤ y.den → IsLowestFormOf x p → IsLowestFormOf y q → (x ≃ y) ↔ (p ≡ q)
+
+-- two angles are equal exactly if they have one form in lowest terms
+abbrev pub OneLowestFormOfAngles : Type 0
+OneLowestFormOfAngles = (x y : Angle) (p q : Fraction) → IsLowestFormOf (degrees x) p → IsLowestFormOf (degrees y) q → IsTrue (same_angle x y) ↔ (p ≡ q)
+
+-- what `==`, `<` and `>` of angles test, as facts on fractions
+abbrev pub OrderedByValue : Type 0
+OrderedByValue =
+    (x y : Angle) → (IsTrue (same_angle x y) ↔ (degrees x ≃ degrees y)) × ((angle_cmp x y ≡ Less) ↔ (degrees x ≺ degrees y))
+    × ((angle_cmp x y ≡ Equal) ↔ (degrees x ≃ degrees y)) × ((angle_cmp x y ≡ Greater) ↔ (degrees y ≺ degrees x))
+
+-- a magnitude of at most so many degrees is a value from minus so many up to so many
+abbrev pub WithinAsFractions : Type 0
+WithinAsFractions = (limit : ℕ) (x : Fraction) → IsWithin limit x ↔ ((opposite (whole limit) ≼ x) × (x ≼ whole limit))
+
+-- a fraction has one text with seven decimals
+abbrev pub OneDecimal7 : Type 0
+OneDecimal7 = (x : Fraction) (s t : List ℕ) → 1 ≤ x.den → IsDecimal7 x s → IsDecimal7 x t → s ≡ t
+
+-- a text has one spelling
+abbrev pub OneSpelling : Type 0
+OneSpelling = (text : List ℕ) (p q : Parts) → Spells text p → Spells text q → p ≡ q
+
+-- reading a text has one answer
+abbrev pub OneReading : Type 0
+OneReading = (text : List ℕ) (r s : Result Angle AngleFault) → IsReading text r → IsReading text s → r ≡ s

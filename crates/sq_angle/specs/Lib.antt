@@ -1,0 +1,14 @@
+pub mod Fraction
+pub mod Whole
+pub mod Scale
+pub mod Nearest
+pub mod Bounds
+pub mod Angle
+pub mod Order
+pub mod Position
+pub mod Lowest
+pub mod Decimal
+pub mod Spelling
+pub mod Points
+pub mod Reading
+pub mod Laws

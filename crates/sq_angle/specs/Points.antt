@@ -1,0 +1,16 @@
+-- Where the point stands in a text: words of the steps in which an angle is read.
+use Rattle.std.specs.Prelude.{◌≡◌, ◌≢◌, ℕ, List, [], ◌∷◌, ◌++◌}
+use Rattle.std.specs.List.{AllByRecursion}
+use Rattle.sq_angle.specs.Spelling.{fraction}
+
+-- no point stands among the characters
+abbrev pub HasNoPoint : List ℕ → Type 0
+HasNoPoint cs = AllByRecursion (λ c. c ≢ 46) cs
+
+-- the first point is the last character
+abbrev pub EndsInPoint : List ℕ → Type 0
+EndsInPoint text = (whole : List ℕ) × HasNoPoint whole × (text ≡ whole ++ 46 ∷ [])
+
+-- the text is these two, with a point between them where there are decimals
+abbrev pub StandsAroundPoint : List ℕ → List ℕ → List ℕ → Type 0
+StandsAroundPoint text whole decimals = HasNoPoint whole × (text ≡ whole ++ fraction decimals)

@@ -1,0 +1,54 @@
+-- The texts of angles: an optional minus, one to three digits, and optionally a point and one or more digits.
+use Rattle.std.specs.Prelude.{◌≡◌, ℕ, ◌≤◌, ◌^◌, Bool, true, false, List, [], ◌∷◌, ◌++◌, length, ℤ, pos, neg_ℤ}
+use Rattle.std.specs.Char.{IsAsciiDigit}
+use Rattle.std.specs.List.{AllByRecursion}
+use Rattle.std.specs.Str.Parse.{digits_value}
+use Rattle.sq_angle.specs.Fraction.{Fraction}
+
+-- what a text is made of: its sign, the digits before the point and those behind it
+pub record Parts : Type 0 where
+  pub negative : Bool
+  pub whole : List ℕ
+  pub decimals : List ℕ
+
+-- one to three digits stand before the point, and digits alone behind it
+pub record IsSpelling (p : Parts) : Type 0 where
+  pub one : 1 ≤ length p.whole
+  pub three : length p.whole ≤ 3
+  pub whole_digits : AllByRecursion IsAsciiDigit p.whole
+  pub decimal_digits : AllByRecursion IsAsciiDigit p.decimals
+
+-- `-` where the angle is negative
+abbrev pub minus : Bool → List ℕ
+minus true = 45 ∷ []
+minus false = []
+
+-- a point and the decimals, where there are any
+abbrev pub fraction : List ℕ → List ℕ
+fraction [] = []
+fraction (d ∷ ds) = 46 ∷ d ∷ ds
+
+-- the text of these parts
+abbrev pub text_of : Parts → List ℕ
+text_of p = minus p.negative ++ p.whole ++ fraction p.decimals
+
+-- the text is one of an angle, with these parts
+abbrev pub Spells : List ℕ → Parts → Type 0
+Spells text p = IsSpelling p × (text ≡ text_of p)
+
+-- n or -n
+abbrev pub signed : Bool → ℕ → ℤ
+signed true n = neg_ℤ (pos n)
+signed false n = pos n
+
+-- all digits as one number, with the sign
+abbrev pub num_of : Parts → ℤ
+num_of p = signed p.negative (digits_value 10 (p.whole ++ p.decimals))
+
+-- 10 to the number of decimals
+abbrev pub den_of : Parts → ℕ
+den_of p = 10 ^ length p.decimals
+
+-- both, as a fraction of degrees
+abbrev pub value_of : Parts → Fraction
+value_of p = record { num = num_of p; den = den_of p }

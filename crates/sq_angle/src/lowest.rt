@@ -1,0 +1,42 @@
+//! An angle in lowest terms.
+ghost use Rattle.std.specs.Prelude.{◌≡◌, ◌≤◌, ◌*◌};
+ghost use Rattle.std.specs.Int.{IsGcd};
+ghost use Rattle.sq_angle.specs.Angle.{degrees};
+ghost use Rattle.sq_angle.specs.Lowest.{IsLowestFormOf};
+
+use crate::angle::Angle;
+
+impl Angle {
+    /// The numerator and the denominator in lowest terms: no number above 1 divides both. Zero is `(0, 1)`.
+    pub fn reduced(&self) -> (i64, u64)
+        ensures { IsLowestFormOf (degrees self.now) (record { num = result.0; den = result.1 }) }
+    {
+        let num = self.num();
+        let (magnitude, den) = lowest_terms(num.unsigned_abs(), self.den());
+        let magnitude = magnitude as i64;
+        (if num < 0 { -magnitude } else { magnitude }, den)
+    }
+}
+
+// The parts of `num / den` without their common divisors.
+fn lowest_terms(num: u64, den: u64) -> (u64, u64)
+    requires { 1 ≤ den }
+    ensures num_at_most { result.0 ≤ num }
+    ensures positive { 1 ≤ result.1 }
+    ensures coprime { IsGcd result.0 result.1 1 }
+    ensures value { result.0 * den ≡ num * result.1 }
+{
+    let divisor = gcd(num, den);
+    (num / divisor, den / divisor)
+}
+
+// The greatest common divisor, by Euclid's steps.
+fn gcd(a: u64, b: u64) -> u64
+    ensures { IsGcd a b result }
+{
+    let (mut x, mut y) = (a, b);
+    while y != 0 {
+        (x, y) = (y, x % y);
+    }
+    x
+}

@@ -1,0 +1,46 @@
+//! A position: a latitude and a longitude.
+ghost use Rattle.std.specs.Prelude.{◌≡◌, ◌↔◌, IsSome, IfSome};
+ghost use Rattle.sq_angle.specs.Angle.{degrees};
+ghost use Rattle.sq_angle.specs.Bounds.{IsPosition};
+
+use crate::angle::Angle;
+
+/// A place on the globe: at most 90 degrees of latitude, north positive, and at most 180 of longitude, east positive.
+///
+/// Two positions are equal if both angles are, by value.
+#[derive(Clone, Copy, Debug, PartialEq, Eq)]
+pub struct Position {
+    lat: Angle,
+    lon: Angle,
+    pub ghost in_range: { IsPosition (degrees lat) (degrees lon) },
+}
+
+impl Position {
+    ghost use Rattle.sq_angle.specs.Position.{lat_of, lon_of};
+
+    /// The position of a latitude and a longitude. None exactly where the latitude's magnitude is above 90 degrees or
+    /// the longitude's above 180.
+    pub fn new(lat: Angle, lon: Angle) -> Option<Position>
+        ensures variant { IsSome result ↔ IsPosition (degrees lat) (degrees lon) }
+        ensures value { IfSome result (λ p. (lat_of p ≡ lat) × (lon_of p ≡ lon)) }
+    {
+        if !lat.is_within(90) || !lon.is_within(180) {
+            return None;
+        }
+        Some(Position { lat, lon })
+    }
+
+    /// The latitude in degrees, as it was given.
+    pub fn lat(&self) -> Angle
+        ensures { result ≡ lat_of self.now }
+    {
+        self.lat
+    }
+
+    /// The longitude in degrees, as it was given.
+    pub fn lon(&self) -> Angle
+        ensures { result ≡ lon_of self.now }
+    {
+        self.lon
+    }
+}

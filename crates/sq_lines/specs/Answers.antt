@@ -1,0 +1,61 @@
+-- What is answered to lines, each by what came before it.
+use Rattle.std.specs.Prelude.{◌+◌, ◌++◌, ℕ, Bool, List, [], ◌∷◌, None, Some, Result, Ok, Err, codes, decimal, true, false, count_by}
+use Rattle.std.specs.List.{flat_map, enumerate_from}
+use Rattle.sq_text.specs.declared.faults.LineFault.{LineFault}
+use Rattle.sq_text.specs.Faults.{fault_text}
+use Rattle.sq_lines.specs.Content.{Answer}
+use Rattle.sq_lines.specs.declared.tallies.Tally.{Tally}
+
+-- how lines are answered: the answer to a line by the past, the past after it, and the text of what was found
+pub record Answerer (Past Found : Type 0) : Type 0 where
+  pub answer : Past → List ℕ → Answer Found
+  pub after : Past → List ℕ → Past
+  pub text : Found → List ℕ
+
+-- the past after these lines
+abbrev pub past_after : {Past Found : Type 0} → Answerer Past Found → Past → List (List ℕ) → Past
+past_after way past [] = past
+past_after way past (line ∷ lines) = past_after way (way.after past line) lines
+
+-- the answers to these lines, each by the past before it
+abbrev pub answers_to : {Past Found : Type 0} → Answerer Past Found → Past → List (List ℕ) → List (Answer Found)
+answers_to way past [] = []
+answers_to way past (line ∷ lines) = way.answer past line ∷ answers_to way (way.after past line) lines
+
+-- the text of what was found, or of the fault
+abbrev pub verdict_text : {Found : Type 0} → (Found → List ℕ) → Result Found LineFault → List ℕ
+verdict_text text (Ok found) = text found
+verdict_text text (Err fault) = fault_text fault
+
+-- the text of the answer to the line with this number
+abbrev pub answer_text : {Found : Type 0} → (Found → List ℕ) → ℕ → Answer Found → List ℕ
+answer_text text number None = []
+answer_text text number (Some verdict) = decimal number ++ codes " " ++ verdict_text text verdict ++ codes "\n"
+
+-- the texts of these answers, which are numbered from 1
+unfoldable pub texts_of : {Found : Type 0} → (Found → List ℕ) → List (Answer Found) → List ℕ
+texts_of text answers = flat_map (λ entry. answer_text text entry.0 entry.1) (enumerate_from 1 answers)
+
+-- the output for these lines
+abbrev pub output_of : {Past Found : Type 0} → Answerer Past Found → Past → List (List ℕ) → List ℕ
+output_of way past lines = texts_of way.text (answers_to way past lines)
+
+abbrev pub is_good : {Found : Type 0} → Answer Found → Bool
+is_good (Some (Ok found)) = true
+is_good (Some (Err fault)) = false
+is_good None = false
+
+abbrev pub is_refused : {Found : Type 0} → Answer Found → Bool
+is_refused (Some (Ok found)) = false
+is_refused (Some (Err fault)) = true
+is_refused None = false
+
+-- how many of the answers are good and how many are refused
+unfoldable pub tally_of : {Found : Type 0} → List (Answer Found) → Tally
+tally_of answers = record { good = count_by is_good answers; refused = count_by is_refused answers }
+
+-- the tally with one more line, of which this was found
+abbrev pub noted : {Found : Type 0} → Tally → Answer Found → Tally
+noted tally None = tally
+noted tally (Some (Ok found)) = record tally { good = tally.good + 1 }
+noted tally (Some (Err fault)) = record tally { refused = tally.refused + 1 }

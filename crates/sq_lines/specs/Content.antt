@@ -1,0 +1,39 @@
+-- What stands on a line.
+use Rattle.std.specs.Prelude.{◌==◌, ℕ, List, Option, None, Some, Result, Err, length, nat_lt, if◌then◌else◌}
+use Rattle.std.specs.Io.BufRead.{strip_last}
+use Rattle.sq_text.specs.declared.faults.LineFault.{LineFault}
+use Rattle.sq_text.specs.declared.faults.LineFault.TheVariants.{LongLine}
+use Rattle.sq_lines.specs.declared.lines.Line.{Line}
+use Rattle.sq_lines.specs.declared.lines.Line.TheVariants as lines
+
+-- too many bytes, nothing, or a text
+pub data Content : Type 0 where
+  Long : Content
+  Empty : Content
+  Text : (text : List ℕ) → Content
+
+-- one carriage return at the end is dropped; it counts for the length alone
+unfoldable pub content : List ℕ → Content
+content line =
+    let text = strip_last 13 line in
+    if nat_lt 64 (length line) then Long else (if length text == 0 then Empty else Text text)
+
+-- what a value of the code stands for
+abbrev pub content_by : Line → Content
+content_by lines.Long = Long
+content_by lines.Empty = Empty
+content_by (lines.Text text) = Text text.now
+
+-- what is found of a line: nothing of an empty one, else what a good one says, or the fault
+abbrev pub Answer : Type 0 → Type 0
+Answer Found = Option (Result Found LineFault)
+
+-- the answer to what stands on a line, whose text is read in this way
+abbrev pub answer_content : {Found : Type 0} → (List ℕ → Result Found LineFault) → Content → Answer Found
+answer_content read Long = Some (Err LongLine)
+answer_content read Empty = None
+answer_content read (Text text) = Some (read text)
+
+-- the answer to a line whose text is read in this way
+abbrev pub answer_by : {Found : Type 0} → (List ℕ → Result Found LineFault) → List ℕ → Answer Found
+answer_by read line = answer_content read (content line)

@@ -1,0 +1,30 @@
+-- What a cutter holds.
+use Rattle.std.specs.Prelude.{◌≡◌, ◌+◌, ℕ, Bool, List, [], length, take, nat_lt, false, MatchBool, if◌then◌else◌}
+use Rattle.std.specs.List.{position_or_len}
+use Rattle.sq_lines.specs.Lines.{is_feed}
+
+-- the first 64 bytes of a line, whether there are more, and whether its line feed was taken
+pub record Held : Type 0 where
+  pub line : List ℕ
+  pub is_long : Bool
+  pub is_complete : Bool
+
+abbrev pub empty_line : Held
+empty_line = record { line = []; is_long = false; is_complete = false }
+
+-- the cutter holds this line
+pub record Holds (held : Held) (line : List ℕ) : Type 0 where
+  pub front : held.line ≡ take 64 line
+  pub more : held.is_long ≡ nat_lt 64 (length line)
+
+-- the next take goes on with this line: a complete one is dropped first
+abbrev pub GoesOn : Held → List ℕ → Type 0
+GoesOn held line = MatchBool held.is_complete (line ≡ []) (Holds held line)
+
+-- whether a line feed stands in the piece
+abbrev pub has_feed : List ℕ → Bool
+has_feed piece = nat_lt (position_or_len is_feed piece) (length piece)
+
+-- the bytes up to and including the first line feed, or all of them, counted
+abbrev pub count_through : List ℕ → ℕ
+count_through piece = if has_feed piece then position_or_len is_feed piece + 1 else length piece

@@ -1,0 +1,6 @@
+pub mod Lines
+pub mod Content
+pub mod Held
+pub mod Answers
+pub mod Pieces
+pub mod Runs

@@ -1,0 +1,68 @@
+//! What answers lines, one after the other.
+ghost use Rattle.std.specs.Prelude.{◌≡◌, ◌+◌, ◌≤◌, ◌++◌, List, ℕ, IfOk, OnErr, Some};
+ghost use Rattle.arrayvec.specs.ArrayString.{array_string_len};
+ghost use Rattle.sq_lines.specs.Held.{Holds};
+ghost use Rattle.sq_lines.specs.Answers.{Answerer, answer_text, verdict_text};
+
+use crate::cutter::Cutter;
+use crate::faults::OutOfMemory;
+use arrayvec::ArrayString;
+use sq_text::{LineFault, push_decimal, push_fault};
+
+/// The text of one line of output.
+pub type LineText = ArrayString<96>;
+
+/// Answers lines: each by the line and by what came before it.
+pub trait Answering {
+    /// What a good line says.
+    type Found;
+
+    /// What came before.
+    ghost Past: { Type 0 };
+
+    /// That the state stands for this past.
+    ghost stands_for: { Self → Self.Past → Type 0 };
+
+    /// The answer to a line by the past, the past after it, and the text of what was found.
+    ghost way: { Answerer Self.Past Self.Found };
+
+    /// That an answer may want memory.
+    ghost MayWantMemory: { Type 0 };
+
+    /// The answer to the held line, `None` for an empty one. Where memory is wanting the line was not heard.
+    fn answer(&mut self, cutter: &Cutter) -> Result<Option<Result<Self::Found, LineFault>>, OutOfMemory>
+        ensures answer { IfOk result (λ answer. (line : List ℕ) (past : Self.Past) → Holds cutter.now line → stands_for self.old past
+            → (answer ≡ way.answer past line) × stands_for self.new (way.after past line)) }
+        ensures unheard { OnErr result (self.new ≡ self.old) }
+        ensures memory { OnErr result MayWantMemory };
+
+    /// Appends the text of what was found, of at most 72 bytes.
+    fn push_text(found: Self::Found, text: &mut LineText)
+        requires { array_string_len text.old ≤ 21 }
+        ensures bytes { text.new.bytes ≡ text.old.bytes ++ way.text found }
+        ensures len { array_string_len text.new ≤ array_string_len text.old + 72 };
+}
+
+/// The text for the line with this number.
+pub(crate) fn line_text<A: Answering>(number: u64, verdict: Result<A::Found, LineFault>) -> LineText
+    ensures { result.bytes ≡ answer_text A.way.text number (Some verdict) }
+{
+    let mut text = LineText::new();
+    push_decimal(&mut text, number);
+    text.push(' ');
+    push_verdict::<A>(verdict, &mut text);
+    text.push('\n');
+    text
+}
+
+// Appends the text of what was found, or of the fault.
+fn push_verdict<A: Answering>(verdict: Result<A::Found, LineFault>, text: &mut LineText)
+    requires { array_string_len text.old ≤ 21 }
+    ensures bytes { text.new.bytes ≡ text.old.bytes ++ verdict_text A.way.text verdict }
+    ensures len { array_string_len text.new ≤ array_string_len text.old + 72 }
+{
+    match verdict {
+        Ok(found) => A::push_text(found, text),
+        Err(fault) => push_fault(text, fault),
+    }
+}

@@ -1,0 +1,107 @@
+//! One line at a time, out of pieces of any length.
+ghost use Rattle.std.specs.Prelude.{◌≡◌, ◌++◌, ◌||◌, List, ℕ, [], length, take, nat_lt, ◌≤◌, position};
+ghost use Rattle.std.specs.List.{before_first, position_or_len};
+ghost use Rattle.sq_lines.specs.Lines.{is_feed};
+ghost use Rattle.sq_lines.specs.Held.{GoesOn, Holds, count_through, empty_line, has_feed};
+
+use arrayvec::ArrayVec;
+use std::marker::Model;
+
+const LINE_LIMIT: usize = 64;
+
+/// Holds one line of at most 64 bytes, or the front of a longer one.
+#[derive(Drop)]
+pub struct Cutter {
+    held: ArrayVec<u8, 64>,
+    is_long: bool,
+    is_complete: bool,
+}
+
+impl Model for Cutter {
+    ghost use Rattle.sq_lines.specs.Held.{Held};
+
+    ghost Value = { Held };
+
+    ghost view = { λ s. record { line = s.held.items; is_long = s.is_long; is_complete = s.is_complete } };
+}
+
+impl Cutter {
+    /// Holds an empty line.
+    pub fn new() -> Self
+        ensures { result ≡ empty_line }
+    {
+        Cutter {
+            held: ArrayVec::new(),
+            is_long: false,
+            is_complete: false,
+        }
+    }
+
+    /// Takes the bytes up to and including the first line feed, or all of them, and says how many
+    /// and whether a line is complete. A line that the last call completed is dropped first.
+    pub fn take(&mut self, piece: &[u8]) -> (usize, bool)
+        ensures count { result.0 ≡ count_through piece.now }
+        ensures complete { result.1 ≡ has_feed piece.now }
+        ensures noted { self.new.is_complete ≡ has_feed piece.now }
+        ensures held { (line : List ℕ) → GoesOn self.old line → Holds self.new (line ++ before_first is_feed piece.now) }
+    {
+        let at = feed_place(piece);
+        self.begin();
+        self.append(&piece[..at]);
+        self.is_complete = at < piece.len();
+        let count = if self.is_complete { at + 1 } else { at };
+        (count, self.is_complete)
+    }
+
+    fn begin(&mut self)
+        ensures { (line : List ℕ) → GoesOn self.old line → Holds self.new line }
+    {
+        if self.is_complete {
+            self.held.clear();
+            self.is_long = false;
+        }
+    }
+
+    fn append(&mut self, bytes: &[u8])
+        ensures { (line : List ℕ) → Holds self.old line → Holds self.new (line ++ bytes.now) }
+    {
+        let room = LINE_LIMIT - self.held.len();
+        if bytes.len() <= room {
+            let _ = self.held.try_extend_from_slice(bytes);
+        } else {
+            let _ = self.held.try_extend_from_slice(&bytes[..room]);
+            self.is_long = true;
+        }
+    }
+
+    /// Whether more than 64 bytes before the line feed were taken for the held line.
+    pub fn long(&self) -> bool
+        ensures { result ≡ self.now.is_long }
+    {
+        self.is_long
+    }
+
+    /// The held line, a long one by its first 64 bytes.
+    pub fn line(&self) -> &[u8]
+        ensures { result.now ≡ self.now.line }
+    {
+        self.held.as_slice()
+    }
+}
+
+/// Where the first line feed stands, or the length where there is none.
+fn feed_place(piece: &[u8]) -> usize
+    ensures place { result ≡ position_or_len is_feed piece.now }
+    ensures fits { result ≤ length piece.now }
+{
+    match first_feed(piece) {
+        Some(at) => at,
+        None => piece.len(),
+    }
+}
+
+fn first_feed(piece: &[u8]) -> Option<usize>
+    ensures { result ≡ position is_feed piece.now }
+{
+    piece.iter().position(|byte| *byte == b'\n')
+}

@@ -1,0 +1,29 @@
+//! What ends a run before the end of its input.
+use thiserror::Error;
+
+/// What ends a run before the end of its input.
+#[derive(Clone, Copy, Debug, PartialEq, Eq, Error)]
+pub enum RunFault {
+    /// A get of this run failed.
+    #[error("read failed")]
+    Read,
+    /// A put of this run failed, or the finish at its end.
+    #[error("write failed")]
+    Write,
+    /// A growth was refused.
+    #[error("out of memory")]
+    Memory,
+}
+
+/// Why a line has no whole answer.
+#[derive(Clone, Copy, Debug, PartialEq, Eq)]
+pub enum Unanswered {
+    /// The sink failed.
+    Write,
+    /// There was no memory to hear the line.
+    Memory,
+}
+
+/// There was no memory for an answer.
+#[derive(Clone, Copy, Debug, PartialEq, Eq)]
+pub struct OutOfMemory;

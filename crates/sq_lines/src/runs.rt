@@ -1,0 +1,176 @@
+//! A run over an input: each line is answered once its line feed was read.
+ghost use Rattle.std.specs.Prelude.{◌≡◌, ◌+◌, ◌^◌, ◌<◌, ◌≤◌, ◌++◌, ◌∷◌, [], List, ℕ, Option, IfErr, IfOk, OnOk, OnErr, false, length, take, true};
+ghost use Rattle.std.specs.Io.KnownBytes.{Appends, Consumes, IsAtEnd};
+ghost use Rattle.sq_devices.specs.Device.{KeepsOrHides};
+
+use crate::answering::{Answering, line_text};
+use crate::cutter::Cutter;
+use crate::faults::{OutOfMemory, RunFault, Unanswered};
+use crate::tallies::Tally;
+use sq_devices::{Failed, Sink, Source, put_all};
+
+/// A run so far.
+#[derive(Drop)]
+pub(crate) struct LineRun {
+    cutter: Cutter,
+    number: u64,
+    tally: Tally,
+    ghost counted: { tally.good + tally.refused ≤ number },
+}
+
+impl LineRun {
+    ghost use Rattle.sq_lines.specs.Lines.{ended_lines, lines_of};
+    ghost use Rattle.sq_lines.specs.Held.{Holds, empty_line};
+    ghost use Rattle.sq_lines.specs.Answers.{answers_to, Answerer, answer_text, noted, tally_of};
+    ghost use Rattle.sq_lines.specs.Runs.{HasAnswered, HasTold, StoppedIn, WroteFront};
+
+    pub(crate) fn new() -> Self
+        ensures number { result.number ≡ 0 }
+        ensures cutter { result.cutter ≡ empty_line }
+        ensures tally { result.tally ≡ record { good = 0; refused = 0 } }
+    {
+        LineRun {
+            cutter: Cutter::new(),
+            number: 0,
+            tally: Tally {
+                good: 0,
+                refused: 0,
+            },
+        }
+    }
+
+    /// Answers the held line.
+    fn answer_line<A: Answering, K: Sink>(&mut self, state: &mut A, sink: &mut K) -> Result<(), Unanswered>
+        requires { self.old.number + 1 < 2 ^ 64 }
+        ensures number { self.new.number ≡ self.old.number + 1 }
+        ensures cutter { self.new.cutter ≡ self.old.cutter }
+        ensures answered { (line : List ℕ) (past : A.Past) → Holds self.old.cutter line → A.stands_for state.old past → OnOk result (
+            A.stands_for state.new (A.way.after past line) × (self.new.tally ≡ noted self.old.tally (A.way.answer past line))
+            × Appends (K.written sink.old) (K.written sink.new) (answer_text A.way.text (self.old.number + 1) (A.way.answer past line))) }
+        ensures memory { IfErr result (λ fault. fault ≡ Unanswered.Memory → (state.new ≡ state.old) × (K.written sink.new ≡ K.written sink.old)) }
+        ensures wanting { IfErr result (λ fault. fault ≡ Unanswered.Memory → A.MayWantMemory) }
+        ensures part { (line : List ℕ) (past : A.Past) → Holds self.old.cutter line → A.stands_for state.old past → IfErr result (λ fault. fault ≡ Unanswered.Write →
+            A.stands_for state.new (A.way.after past line)
+            × WroteFront (K.written sink.old) (K.written sink.new) (answer_text A.way.text (self.old.number + 1) (A.way.answer past line))) }
+        ensures failed { IfErr result (λ fault. fault ≡ Unanswered.Write → K.has_failed sink.new ≡ true) }
+    {
+        self.number += 1;
+        match state.answer(&self.cutter) {
+            Ok(None) => Ok(()),
+            Ok(Some(verdict)) => {
+                self.tally.note(&verdict);
+                let text = line_text::<A>(self.number, verdict);
+                match put_all(sink, text.as_bytes()) {
+                    Ok(()) => Ok(()),
+                    Err(Failed) => Err(Unanswered::Write),
+                }
+            }
+            Err(OutOfMemory) => Err(Unanswered::Memory),
+        }
+    }
+
+    /// Takes the bytes up to and including the first line feed, or all of them, and answers the line
+    /// that this completes.
+    fn answer_front<A: Answering, K: Sink>(&mut self, state: &mut A, sink: &mut K, piece: &[u8]) -> Result<usize, Unanswered>
+        requires some { 0 < length piece.now }
+        requires room { self.old.number + 1 < 2 ^ 64 }
+        ensures number { self.new.number ≤ self.old.number + 1 }
+        ensures some { IfOk result (λ n. 0 < n) }
+        ensures within { IfOk result (λ n. n ≤ length piece.now) }
+        ensures answered { (start : A) (before : Option (List ℕ)) (read : List ℕ)
+            → HasAnswered A.stands_for A.way start before self.old state.old (K.written sink.old) read
+            → IfOk result (λ n. HasAnswered A.stands_for A.way start before self.new state.new (K.written sink.new) (read ++ take n piece.now)) }
+        ensures stopped { (start : A) (before : Option (List ℕ)) (read : List ℕ)
+            → HasAnswered A.stands_for A.way start before self.old state.old (K.written sink.old) read
+            → IfErr result (λ fault. StoppedIn fault A.stands_for A.way start state.new before (K.written sink.new) (ended_lines (read ++ piece.now))) }
+        ensures wanting { IfErr result (λ fault. fault ≡ Unanswered.Memory → A.MayWantMemory) }
+        ensures failed { IfErr result (λ fault. fault ≡ Unanswered.Write → K.has_failed sink.new ≡ true) }
+    {
+        let (count, is_complete) = self.cutter.take(piece);
+        if is_complete {
+            self.answer_line(state, sink)?;
+        }
+        Ok(count)
+    }
+
+    /// Takes the whole piece.
+    fn answer_piece<A: Answering, K: Sink>(&mut self, state: &mut A, sink: &mut K, piece: &[u8]) -> Result<(), Unanswered>
+        requires { self.old.number + length piece.now < 2 ^ 64 }
+        ensures number { self.new.number ≤ self.old.number + length piece.now }
+        ensures answered { (start : A) (before : Option (List ℕ)) (read : List ℕ)
+            → HasAnswered A.stands_for A.way start before self.old state.old (K.written sink.old) read
+            → OnOk result (HasAnswered A.stands_for A.way start before self.new state.new (K.written sink.new) (read ++ piece.now)) }
+        ensures stopped { (start : A) (before : Option (List ℕ)) (read : List ℕ)
+            → HasAnswered A.stands_for A.way start before self.old state.old (K.written sink.old) read
+            → IfErr result (λ fault. StoppedIn fault A.stands_for A.way start state.new before (K.written sink.new) (ended_lines (read ++ piece.now))) }
+        ensures wanting { IfErr result (λ fault. fault ≡ Unanswered.Memory → A.MayWantMemory) }
+        ensures failed { IfErr result (λ fault. fault ≡ Unanswered.Write → K.has_failed sink.new ≡ true) }
+    {
+        let mut at = 0;
+        while at < piece.len() {
+            at += self.answer_front(state, sink, &piece[at..])?;
+        }
+        Ok(())
+    }
+
+    /// Takes the next bytes of the source, and says whether there were any.
+    pub(crate) fn answer_next<S: Source, K: Sink, A: Answering>(&mut self, state: &mut A, source: &mut S, sink: &mut K) -> Result<bool, RunFault>
+        requires { self.old.number + 64 < 2 ^ 64 }
+        ensures number { self.new.number ≤ self.old.number + 64 }
+        ensures used { OnOk result (S.gets_left source.new + 1 ≡ S.gets_left source.old) }
+        ensures end { IfOk result (λ more. more ≡ false → IsAtEnd (S.to_come source.new)) }
+        ensures answered { (start : A) (before : Option (List ℕ)) (read : List ℕ)
+            → HasAnswered A.stands_for A.way start before self.old state.old (K.written sink.old) read
+            → OnOk result ((piece : List ℕ) × Consumes (S.to_come source.old) (S.to_come source.new) piece
+            × HasAnswered A.stands_for A.way start before self.new state.new (K.written sink.new) (read ++ piece)) }
+        ensures unread { IfErr result (λ fault. fault ≡ RunFault.Read → (S.has_failed source.new ≡ true)
+            × KeepsOrHides (S.to_come source.old) (S.to_come source.new)
+            × (self.new ≡ self.old) × (state.new ≡ state.old) × (K.written sink.new ≡ K.written sink.old)) }
+        ensures unanswered { IfErr result (λ fault. fault ≡ RunFault.Memory → (start : A) (before : Option (List ℕ)) (read : List ℕ)
+            → HasAnswered A.stands_for A.way start before self.old state.old (K.written sink.old) read
+            → (piece : List ℕ) × Consumes (S.to_come source.old) (S.to_come source.new) piece
+            × StoppedIn Unanswered.Memory A.stands_for A.way start state.new before (K.written sink.new) (ended_lines (read ++ piece))) }
+        ensures unwritten { IfErr result (λ fault. fault ≡ RunFault.Write → (start : A) (before : Option (List ℕ)) (read : List ℕ)
+            → HasAnswered A.stands_for A.way start before self.old state.old (K.written sink.old) read
+            → (piece : List ℕ) × Consumes (S.to_come source.old) (S.to_come source.new) piece
+            × StoppedIn Unanswered.Write A.stands_for A.way start state.new before (K.written sink.new) (ended_lines (read ++ piece))) }
+        ensures wanting { IfErr result (λ fault. fault ≡ RunFault.Memory → A.MayWantMemory) }
+        ensures failed { IfErr result (λ fault. fault ≡ RunFault.Write → K.has_failed sink.new ≡ true) }
+    {
+        let mut buffer = [0; 64];
+        let Ok(count) = source.get(&mut buffer) else {
+            return Err(RunFault::Read);
+        };
+        match self.answer_piece(state, sink, &buffer[..count]) {
+            Ok(()) => Ok(count > 0),
+            Err(Unanswered::Write) => Err(RunFault::Write),
+            Err(Unanswered::Memory) => Err(RunFault::Memory),
+        }
+    }
+
+    /// Answers what stands behind the last line feed, unless it is empty.
+    pub(crate) fn answer_last<A: Answering, K: Sink>(&mut self, state: &mut A, sink: &mut K) -> Result<(), Unanswered>
+        requires { self.old.number + 1 < 2 ^ 64 }
+        ensures answered { (start : A) (before : Option (List ℕ)) (read : List ℕ)
+            → HasAnswered A.stands_for A.way start before self.old state.old (K.written sink.old) read
+            → OnOk result (HasTold A.stands_for A.way start state.new before (K.written sink.new) (lines_of read)
+            × ((past : A.Past) → A.stands_for start past → self.new.tally ≡ tally_of (answers_to A.way past (lines_of read)))) }
+        ensures stopped { (start : A) (before : Option (List ℕ)) (read : List ℕ)
+            → HasAnswered A.stands_for A.way start before self.old state.old (K.written sink.old) read
+            → IfErr result (λ fault. StoppedIn fault A.stands_for A.way start state.new before (K.written sink.new) (lines_of read)) }
+        ensures wanting { IfErr result (λ fault. fault ≡ Unanswered.Memory → A.MayWantMemory) }
+        ensures failed { IfErr result (λ fault. fault ≡ Unanswered.Write → K.has_failed sink.new ≡ true) }
+    {
+        self.cutter.take(&[]);
+        if self.cutter.line().is_empty() {
+            return Ok(());
+        }
+        self.answer_line(state, sink)
+    }
+
+    pub(crate) fn tally(&self) -> Tally
+        ensures { result ≡ self.now.tally }
+    {
+        self.tally
+    }
+}

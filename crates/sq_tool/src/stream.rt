@@ -1,0 +1,38 @@
+//! The commands over the lines of the input.
+ghost use Rattle.std.specs.Prelude.{◌≡◌, ◌≢◌, ◌≤◌};
+ghost use Rattle.sq_tool.specs.Runs.{IsCheckRun};
+
+use crate::check::run_check;
+use crate::telling::{BROKEN, GOOD, REFUSED, tell};
+use sq_devices::{Sink, Source};
+use sq_lines::RunFault;
+
+/// Answers each line of the input.
+pub(crate) fn check<S: Source, K: Sink, F: Sink>(input: &mut S, output: &mut K, faults: &mut F) -> u8
+    ensures status { result ≤ 3 }
+    ensures read { result ≢ 2 }
+    ensures answers { result ≤ 1 → IsCheckRun result (S.to_come input.old) (S.to_come input.new) (K.written output.old) (K.written output.new) }
+{
+    match run_check(input, output) {
+        Ok(tally) => {
+            if tally.refused == 0 {
+                GOOD
+            } else {
+                REFUSED
+            }
+        }
+        Err(fault) => {
+            tell(text_of(fault), faults);
+            BROKEN
+        }
+    }
+}
+
+// The line that is told of what ended a run.
+fn text_of(fault: RunFault) -> &'static str {
+    match fault {
+        RunFault::Read => "read failed\n",
+        RunFault::Write => "write failed\n",
+        RunFault::Memory => "out of memory\n",
+    }
+}
