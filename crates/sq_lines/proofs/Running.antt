@@ -66,7 +66,6 @@ LineToldPart {Past = Past} stands_for way old now next a b line = (past : Past) 
 
 module _ {State Past Found : Type 0} (stands_for : State → Past → Type 0) (way : Answerer Past Found) (start : State) (before a b : Option (List ℕ))
     (old new : LineRun) (now next : State) (read : List ℕ) (h : HasAnswered stands_for way start before old now a read) where
-
   output_through : (past : Past) (line : List ℕ)
       → output_of way past h.lines ++ answer_text way.text (old.number + 1) (way.answer (past_after way past h.lines) line) ≡ output_of way past (h.lines ++ line ∷ [])
   output_through past line =
@@ -133,7 +132,6 @@ place piece = position_or_len is_feed piece
 
 module _ {State Past Found : Type 0} {stands_for : State → Past → Type 0} {way : Answerer Past Found} {start : State} {before a : Option (List ℕ)}
     {old : LineRun} {now : State} {read : List ℕ} (h : HasAnswered stands_for way start before old now a read) where
-
   abbrev pub line_in : List ℕ → List ℕ
   line_in piece = h.rest ++ before_first is_feed piece
 

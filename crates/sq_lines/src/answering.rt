@@ -30,7 +30,10 @@ pub trait Answering {
     ghost MayWantMemory: { Type 0 };
 
     /// The answer to the held line, `None` for an empty one. Where memory is wanting the line was not heard.
-    fn answer(&mut self, cutter: &Cutter) -> Result<Option<Result<Self::Found, LineFault>>, OutOfMemory>
+    fn answer(
+        &mut self,
+        cutter: &Cutter,
+    ) -> Result<Option<Result<Self::Found, LineFault>>, OutOfMemory>
         ensures answer { IfOk result (λ answer. (line : List ℕ) (past : Self.Past) → Holds cutter.now line → stands_for self.old past
             → (answer ≡ way.answer past line) × stands_for self.new (way.after past line)) }
         ensures unheard { OnErr result (self.new ≡ self.old) }

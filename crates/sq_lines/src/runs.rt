@@ -40,7 +40,11 @@ impl LineRun {
     }
 
     /// Answers the held line.
-    fn answer_line<A: Answering, K: Sink>(&mut self, state: &mut A, sink: &mut K) -> Result<(), Unanswered>
+    fn answer_line<A: Answering, K: Sink>(
+        &mut self,
+        state: &mut A,
+        sink: &mut K,
+    ) -> Result<(), Unanswered>
         requires { self.old.number + 1 < 2 ^ 64 }
         ensures number { self.new.number ≡ self.old.number + 1 }
         ensures cutter { self.new.cutter ≡ self.old.cutter }
@@ -71,7 +75,12 @@ impl LineRun {
 
     /// Takes the bytes up to and including the first line feed, or all of them, and answers the line
     /// that this completes.
-    fn answer_front<A: Answering, K: Sink>(&mut self, state: &mut A, sink: &mut K, piece: &[u8]) -> Result<usize, Unanswered>
+    fn answer_front<A: Answering, K: Sink>(
+        &mut self,
+        state: &mut A,
+        sink: &mut K,
+        piece: &[u8],
+    ) -> Result<usize, Unanswered>
         requires some { 0 < length piece.now }
         requires room { self.old.number + 1 < 2 ^ 64 }
         ensures number { self.new.number ≤ self.old.number + 1 }
@@ -94,7 +103,12 @@ impl LineRun {
     }
 
     /// Takes the whole piece.
-    fn answer_piece<A: Answering, K: Sink>(&mut self, state: &mut A, sink: &mut K, piece: &[u8]) -> Result<(), Unanswered>
+    fn answer_piece<A: Answering, K: Sink>(
+        &mut self,
+        state: &mut A,
+        sink: &mut K,
+        piece: &[u8],
+    ) -> Result<(), Unanswered>
         requires { self.old.number + length piece.now < 2 ^ 64 }
         ensures number { self.new.number ≤ self.old.number + length piece.now }
         ensures answered { (start : A) (before : Option (List ℕ)) (read : List ℕ)
@@ -114,7 +128,12 @@ impl LineRun {
     }
 
     /// Takes the next bytes of the source, and says whether there were any.
-    pub(crate) fn answer_next<S: Source, K: Sink, A: Answering>(&mut self, state: &mut A, source: &mut S, sink: &mut K) -> Result<bool, RunFault>
+    pub(crate) fn answer_next<S: Source, K: Sink, A: Answering>(
+        &mut self,
+        state: &mut A,
+        source: &mut S,
+        sink: &mut K,
+    ) -> Result<bool, RunFault>
         requires { self.old.number + 64 < 2 ^ 64 }
         ensures number { self.new.number ≤ self.old.number + 64 }
         ensures used { OnOk result (S.gets_left source.new + 1 ≡ S.gets_left source.old) }
@@ -149,7 +168,11 @@ impl LineRun {
     }
 
     /// Answers what stands behind the last line feed, unless it is empty.
-    pub(crate) fn answer_last<A: Answering, K: Sink>(&mut self, state: &mut A, sink: &mut K) -> Result<(), Unanswered>
+    pub(crate) fn answer_last<A: Answering, K: Sink>(
+        &mut self,
+        state: &mut A,
+        sink: &mut K,
+    ) -> Result<(), Unanswered>
         requires { self.old.number + 1 < 2 ^ 64 }
         ensures answered { (start : A) (before : Option (List ℕ)) (read : List ℕ)
             → HasAnswered A.stands_for A.way start before self.old state.old (K.written sink.old) read

@@ -13,7 +13,11 @@ use crate::tallies::Tally;
 use sq_devices::{Failed, Sink, Source};
 
 /// Answers the lines of the source until its end.
-pub fn run_lines<S: Source, K: Sink, A: Answering>(source: &mut S, sink: &mut K, state: &mut A) -> Result<Tally, RunFault>
+pub fn run_lines<S: Source, K: Sink, A: Answering>(
+    source: &mut S,
+    sink: &mut K,
+    state: &mut A,
+) -> Result<Tally, RunFault>
     // At the end of the input, all of its lines have been answered.
     ensures whole { IfOk result (λ tally. IfSome (S.to_come source.old) (λ input. (S.to_come source.new ≡ Some [])
         × HasTold A.stands_for A.way state.old state.new (K.written sink.old) (K.written sink.new) (lines_of input)

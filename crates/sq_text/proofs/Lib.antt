@@ -3,3 +3,4 @@ pub mod One
 pub mod OneReading
 pub mod SomeReading
 pub mod Places
+pub mod DigitLemmas

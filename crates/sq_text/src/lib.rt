@@ -4,6 +4,7 @@
 //! is told by its first fault. Texts are made in buffers of fixed size: no call takes memory.
 #![tactic(auto)]
 
+mod digit_values;
 mod digits;
 mod faults;
 mod frame_text;

@@ -155,3 +155,48 @@ fn shows_each_altitude(rt: HostRuntime) {
             == "address 000ABC\nca 7\ntype 18\nkind air\nstatus 2\nflag 1\naltitude -1000 ft\ntime 1\nparity odd\nlat 131071\nlon 7\n"
     );
 }
+
+fn summary_of(rt: &impl Abort, text: &str) -> arrayvec::ArrayString<72> {
+    let squitter = read_squitter(text.as_bytes()).expect(rt, "a squitter");
+    let mut summary = arrayvec::ArrayString::new();
+    push_summary(&mut summary, &squitter);
+    summary
+}
+
+#[test]
+fn sums_squitters_up(rt: HostRuntime) {
+    let rows = [
+        (AIR_EVEN, "ok 40621D air even 93000 51372"),
+        (
+            "8D40621D58C386435CC412692AD6",
+            "ok 40621D air odd 74158 50194",
+        ),
+        ("8D406B902015A678D4D220AA4BDA", "ok 406B90 other 4"),
+        (
+            "8C4841753AAB238733C8CD4020B1",
+            "ok 484175 ground even 115609 116941",
+        ),
+        (
+            "8C4841753A8A35323FAEBDAC702D",
+            "ok 484175 ground odd 39199 110269",
+        ),
+    ];
+    for (frame, want) in rows {
+        assert!(rt; summary_of(&rt, frame).as_str() == want, "{want}");
+    }
+}
+
+#[test]
+fn reads_digits_of_either_case(rt: HostRuntime) {
+    for byte in 0..=255u8 {
+        let text = [
+            b'8', b'D', byte, b'0', b'6', b'2', b'1', b'D', b'5', b'8', b'C', b'3', b'8', b'2',
+            b'D', b'6', b'9', b'0', b'C', b'8', b'A', b'C', b'2', b'8', b'6', b'3', b'A', b'7',
+        ];
+        let digit = byte.is_ascii_hexdigit();
+        assert!(rt; read_text(&text).is_ok() == digit, "byte {byte}");
+        if !digit {
+            assert!(rt; read_text(&text) == Err(TextFault::Digit(3)), "byte {byte}");
+        }
+    }
+}

@@ -50,9 +50,9 @@ stopped-check before after complete (lines, first, told) reader =
 
 pub whole-check : (a b before after : Option (List ℕ)) (tally : Tally)
     → IfSome a (λ input. (b ≡ Some []) × HasToldChecks before after (lines_of input)
-      × ((past : SquitterReader) → Unit {0} → tally ≡ tally_of (answers_to check_way past (lines_of input))))
+    × ((past : SquitterReader) → Unit {0} → tally ≡ tally_of (answers_to check_way past (lines_of input))))
     → IfSome a (λ input. (b ≡ Some []) × ((reader : SquitterReader)
-      → Appends before after (check_output reader (lines_of input)) × (tally ≡ check_tally reader (lines_of input))))
+    → Appends before after (check_output reader (lines_of input)) × (tally ≡ check_tally reader (lines_of input))))
 whole-check None b before after tally whole = tt
 whole-check (Some input) b before after tally whole =
     (whole.0, λ reader. (told-check before after (lines_of input) whole.1 reader, tally-check tally reader (lines_of input) (whole.2 reader tt)))

@@ -43,8 +43,8 @@ IsShowRun frame status o = (answer : Result Squitter LineFault) × IsSquitterRea
 abbrev pub IsCheckRun : ℕ → (to_come_before to_come_after written_before written_after : Option (List ℕ)) → Type 0
 IsCheckRun status to_come_before to_come_after written_before written_after =
     IfSome to_come_before (λ input. (to_come_after ≡ Some [])
-      × ((reader : SquitterReader) → Appends written_before written_after (check_output reader (lines_of input))
-      × (status ≡ (if (check_tally reader (lines_of input)).refused == 0 then 0 else 1))))
+    × ((reader : SquitterReader) → Appends written_before written_after (check_output reader (lines_of input))
+    × (status ≡ (if (check_tally reader (lines_of input)).refused == 0 then 0 else 1))))
 
 -- at exit status 0 or 1, what was written is what the command asks for
 abbrev pub Answers : Asked → ℕ → Streams → Type 0

@@ -10,7 +10,9 @@ ghost use Rattle.sq_text.specs.Reading.{SquitterReader};
 ghost use Rattle.sq_tool.specs.Check.{IsChecking, check_output, check_tally, check_way};
 
 use sq_devices::{Sink, Source};
-use sq_lines::{Answering, Cutter, Line, LineText, OutOfMemory, RunFault, Tally, content_of, run_lines};
+use sq_lines::{
+    Answering, Cutter, Line, LineText, OutOfMemory, RunFault, Tally, content_of, run_lines,
+};
 use sq_message::Squitter;
 use sq_text::{LineFault, push_summary, read_squitter};
 
@@ -29,7 +31,10 @@ impl Answering for Check {
 
     ghost MayWantMemory = { ⊥ };
 
-    fn answer(&mut self, cutter: &Cutter) -> Result<Option<Result<Squitter, LineFault>>, OutOfMemory> {
+    fn answer(
+        &mut self,
+        cutter: &Cutter,
+    ) -> Result<Option<Result<Squitter, LineFault>>, OutOfMemory> {
         Ok(check_line(cutter))
     }
 

@@ -18,4 +18,6 @@ pub use sq_text::{LineFault, TextFault, read_text};
 pub use sq_words::Request;
 
 #[cfg(test)]
+mod stream_tests;
+#[cfg(test)]
 mod tests;

@@ -8,19 +8,17 @@ use sq_devices::{Sink, Source};
 use sq_lines::RunFault;
 
 /// Answers each line of the input.
-pub(crate) fn check<S: Source, K: Sink, F: Sink>(input: &mut S, output: &mut K, faults: &mut F) -> u8
+pub(crate) fn check<S: Source, K: Sink, F: Sink>(
+    input: &mut S,
+    output: &mut K,
+    faults: &mut F,
+) -> u8
     ensures status { result ≤ 3 }
     ensures read { result ≢ 2 }
     ensures answers { result ≤ 1 → IsCheckRun result (S.to_come input.old) (S.to_come input.new) (K.written output.old) (K.written output.new) }
 {
     match run_check(input, output) {
-        Ok(tally) => {
-            if tally.refused == 0 {
-                GOOD
-            } else {
-                REFUSED
-            }
-        }
+        Ok(tally) => { if tally.refused == 0 { GOOD } else { REFUSED } }
         Err(fault) => {
             tell(text_of(fault), faults);
             BROKEN

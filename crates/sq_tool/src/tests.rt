@@ -8,14 +8,19 @@ use std::test::Fail;
 
 // The exit status of a command line, its output and what it told.
 #[derive(Drop)]
-struct Outcome {
-    status: u8,
-    written: Vec<u8>,
-    told: Vec<u8>,
+pub(crate) struct Outcome {
+    pub(crate) status: u8,
+    pub(crate) written: Vec<u8>,
+    pub(crate) told: Vec<u8>,
 }
 
 fn outcome_of(alloc: Global, words: &[&str]) -> Outcome {
-    let mut input = Reading::new(b"".as_slice(), 10);
+    outcome_on(alloc, words, b"")
+}
+
+// The same with an input.
+pub(crate) fn outcome_on(alloc: Global, words: &[&str], text: &[u8]) -> Outcome {
+    let mut input = Reading::new(text, 1_000_000);
     let mut output = Writing::new(Vec::new(alloc));
     let mut faults = Writing::new(Vec::new(alloc));
     let status = run(alloc, words, &mut input, &mut output, &mut faults);

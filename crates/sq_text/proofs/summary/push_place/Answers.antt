@@ -6,6 +6,14 @@ pub returns-clause-bytes : goal.returns-clause-bytes
 unfolding place_words
 returns-clause-bytes g c =
     rw (
-      c.push_decimal-2.ensures.bytes, c.push_str-3.ensures.bytes, c.push_decimal.ensures.bytes, c.push_str-2.ensures.bytes,
-      c.push_parity.ensures.bytes, c.push_str.ensures.bytes, c.from.ensures, c.from-2.ensures, c.lat.ensures.value, c.lon.ensures.value
+      c.push_decimal-2.ensures.bytes,
+      c.push_str-3.ensures.bytes,
+      c.push_decimal.ensures.bytes,
+      c.push_str-2.ensures.bytes,
+      c.push_parity.ensures.bytes,
+      c.push_str.ensures.bytes,
+      c.from.ensures,
+      c.from-2.ensures,
+      c.lat.ensures.value,
+      c.lon.ensures.value,
     ) (simp append_assoc refl)

@@ -18,9 +18,15 @@ pub returns-clause-unwritten : goal.returns-clause-unwritten
 returns-clause-unwritten g c =
     if_err_map c.run_lines.result _ _
     (λ fault unwritten is.
-    let u = unwritten is in
-    (u.0, (u.1.0, u.1.1, elim u.1.2 [
-      | inl ended ↦ inl (stopped-check _ _ _ ended)
-      | inr last ↦ inr (last.0, stopped-check _ _ _ last.1)
-    ])))
+    let u = unwritten is in (
+      u.0,
+      (
+        u.1.0,
+        u.1.1,
+        elim u.1.2 [
+          | inl ended ↦ inl (stopped-check _ _ _ ended)
+          | inr last ↦ inr (last.0, stopped-check _ _ _ last.1)
+        ],
+      ),
+    ))
     c.run_lines.ensures.unwritten

@@ -7,17 +7,17 @@ use Rattle.sq_lines.proofs.runs.LineRun.answer_next.Goals as goal
 pub returns-in-Err-Write-clause-unwritten : goal.returns-in-Err-Write-clause-unwritten
 returns-in-Err-Write-clause-unwritten g c = λ is start before read h.
     let piece : List ℕ = take c.in-Ok.count c.get.new.into in (
-  piece,
-  c.in-Ok.ensures.moved,
-  subst (λ (fault : Unanswered). StoppedIn fault g.A.Answering.stands_for g.A.Answering.way start c.answer_piece.new.state before (g.K.Sink.written c.answer_piece.new.sink) (ended_lines (read ++ piece)))
-      c.in-Err-Write.field-0-is (c.in-Err-Write.ensures.stopped start before read h),
-)
+      piece,
+      c.in-Ok.ensures.moved,
+      subst (λ (fault : Unanswered). StoppedIn fault g.A.Answering.stands_for g.A.Answering.way start c.answer_piece.new.state before (g.K.Sink.written c.answer_piece.new.sink) (ended_lines (read ++ piece)))
+          c.in-Err-Write.field-0-is (c.in-Err-Write.ensures.stopped start before read h),
+    )
 
 pub returns-in-Err-Memory-clause-unanswered : goal.returns-in-Err-Memory-clause-unanswered
 returns-in-Err-Memory-clause-unanswered g c = λ is start before read h.
     let piece : List ℕ = take c.in-Ok.count c.get.new.into in (
-  piece,
-  c.in-Ok.ensures.moved,
-  subst (λ (fault : Unanswered). StoppedIn fault g.A.Answering.stands_for g.A.Answering.way start c.answer_piece.new.state before (g.K.Sink.written c.answer_piece.new.sink) (ended_lines (read ++ piece)))
-      c.in-Err-Memory.field-0-is (c.in-Err-Memory.ensures.stopped start before read h),
-)
+      piece,
+      c.in-Ok.ensures.moved,
+      subst (λ (fault : Unanswered). StoppedIn fault g.A.Answering.stands_for g.A.Answering.way start c.answer_piece.new.state before (g.K.Sink.written c.answer_piece.new.sink) (ended_lines (read ++ piece)))
+          c.in-Err-Memory.field-0-is (c.in-Err-Memory.ensures.stopped start before read h),
+    )

@@ -1,7 +1,7 @@
 use Rattle.std.proofs.Common.{◌≡◌, sym, subst, ◌∙◌}
 use Rattle.sq_text.specs.FrameText.{IsFirstBadDigit}
 use Rattle.sq_text.proofs.BadDigits.{bad_digit}
-use Rattle.sq_text.proofs.frame_text.read_digits.Goals as goal
+use Rattle.sq_text.proofs.frame_text.decode.Goals as goal
 
 pub unreachable-requires : goal.unreachable-requires
 unreachable-requires c =
