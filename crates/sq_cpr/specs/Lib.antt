@@ -1,1 +1,5 @@
 pub mod Code
+pub mod Grid
+pub mod Rounds
+pub mod Zones
+pub mod Laws

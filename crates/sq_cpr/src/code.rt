@@ -1,8 +1,8 @@
 //! The code of a point, as it is sent.
 ghost use Rattle.std.specs.Prelude.{◌≡◌, ◌↔◌, ◌<◌, IsSome, IfSome};
 
-// The codes of a zone, in each coordinate: 2^17.
-const CODES: u32 = 131_072;
+/// The codes of a zone, in each coordinate: 2^17.
+pub(crate) const CODES: u64 = 131_072;
 
 /// What is sent of a position: the latitude's and the longitude's number, each of 17 bits (RTCA DO-260B, appendix on
 /// compact position reporting).
@@ -22,7 +22,7 @@ impl Code {
         ensures variant { IsSome result ↔ ((lat < 131072) × (lon < 131072)) }
         ensures value { IfSome result (λ code. numbers_of code ≡ record { lat = lat; lon = lon }) }
     {
-        if lat < CODES && lon < CODES {
+        if u64::from(lat) < CODES && u64::from(lon) < CODES {
             Some(Code { lat, lon })
         } else {
             None

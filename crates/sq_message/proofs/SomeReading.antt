@@ -1,5 +1,5 @@
 -- Each frame has a reading.
-use Rattle.std.proofs.Common.{◌≡◌, ◌≢◌, ◌⊎◌, ◌/◌, ◌≤◌, ◌<◌, ◌^◌, ℕ, Bool, true, false, Result, Ok, Err, refl, sym, ◌∙◌, ap, subst, inl, inr, arith}
+use Rattle.std.proofs.Common.{◌≡◌, ◌/◌, ◌<◌, ◌^◌, ℕ, Bool, true, false, Result, Ok, Err, refl, sym, subst, inl, inr, arith}
 use Rattle.std.proofs.lemmas.Bool.{cases_lt, cases_eq}
 use lib.Bits.{xor_zero_r}
 use Rattle.sq_bits.specs.declared.frame.Frame.{Frame}

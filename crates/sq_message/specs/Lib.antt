@@ -2,3 +2,5 @@ pub mod TypeCodes
 pub mod Parts
 pub mod Spelling
 pub mod Altitudes
+pub mod Heads
+pub mod Sending

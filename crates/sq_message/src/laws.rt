@@ -6,10 +6,16 @@ ghost use Rattle.sq_message.specs.declared.air.Altitude.{Altitude};
 ghost use Rattle.sq_message.specs.declared.air.Altitude.TheVariants.{Feet};
 ghost use Rattle.sq_message.specs.declared.squitter.FrameFault.{FrameFault};
 ghost use Rattle.sq_message.specs.declared.squitter.Squitter.{Squitter};
+ghost use Rattle.sq_cpr.specs.Grid.{Point};
+ghost use Rattle.sq_cpr.specs.Zones.{ZonePair};
 ghost use Rattle.sq_message.specs.Altitudes.{IsAltitude, IsFieldOfFeet};
+ghost use Rattle.sq_message.specs.Sending.{IsInAirZones, IsInGroundZones, RoundsInAir, RoundsOnGround, SameZonesInAir, SameZonesOnGround};
 ghost use Rattle.sq_message.specs.Spelling.{IsReading, Spells};
 
-use crate::{Frame, FrameFault, Squitter, read_frame, write_frame};
+use crate::{
+    AirHead, Frame, FrameFault, GroundHead, Parity, Position, Squitter, read_frame, send_air,
+    send_ground, write_frame,
+};
 use sq_bits::laws::each_frame;
 
 /// A frame has one reading.
@@ -54,3 +60,53 @@ pub fn feet_exactly()
     ensures { (code field : ℕ) (feet : ℤ) (meaning : Altitude) → code ≤ 18 → IsAltitude code field meaning
         → (meaning ≡ Feet feet) ↔ IsFieldOfFeet field feet }
 {}
+
+/// Where two positions lie in the same zones of a parity's grid of the air, the frames that are sent of them with one head
+/// are equal exactly if the positions round to one point.
+pub fn same_zones_in_air()
+    ensures { SameZonesInAir }
+{}
+
+/// Where two positions lie in the same zones of a parity's grid of the ground, the frames that are sent of them with one head
+/// are equal exactly if the positions round to one point.
+pub fn same_zones_on_ground()
+    ensures { SameZonesOnGround }
+{}
+
+/// The frames that are sent of two positions in the air with one head. Where the positions lie in the same zones, they are
+/// equal exactly if the positions round to one point.
+pub fn frames_in_air(
+    head: AirHead,
+    parity: Parity,
+    here: &Position,
+    there: &Position,
+) -> (Frame, Frame)
+    ensures { (zones : ZonePair) (p q : Point) → IsInAirZones parity here.now zones → IsInAirZones parity there.now zones
+        → p.parity ≡ parity → q.parity ≡ parity → RoundsInAir here.now p → RoundsInAir there.now q
+        → (result.0 ≡ result.1) ↔ (p ≡ q) }
+{
+    let from_here = write_frame(&send_air(head, here, parity));
+    let from_there = write_frame(&send_air(head, there, parity));
+    each_frame(&from_here);
+    each_frame(&from_there);
+    (from_here, from_there)
+}
+
+/// The frames that are sent of two positions on the ground with one head. Where the positions lie in the same zones, they are
+/// equal exactly if the positions round to one point.
+pub fn frames_on_ground(
+    head: GroundHead,
+    parity: Parity,
+    here: &Position,
+    there: &Position,
+) -> (Frame, Frame)
+    ensures { (zones : ZonePair) (p q : Point) → IsInGroundZones parity here.now zones → IsInGroundZones parity there.now zones
+        → p.parity ≡ parity → q.parity ≡ parity → RoundsOnGround here.now p → RoundsOnGround there.now q
+        → (result.0 ≡ result.1) ↔ (p ≡ q) }
+{
+    let from_here = write_frame(&send_ground(head, here, parity));
+    let from_there = write_frame(&send_ground(head, there, parity));
+    each_frame(&from_here);
+    each_frame(&from_there);
+    (from_here, from_there)
+}

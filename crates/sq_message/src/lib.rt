@@ -2,27 +2,36 @@
 //!
 //! Frames and squitters correspond one to one: `read_frame` answers the squitter that a frame spells, and `write_frame`
 //! the one frame that spells a squitter. A squitter is of one of three kinds: air, ground, and other, which is kept raw.
-//! No call takes memory.
+//! [`send_air`] and [`send_ground`] make the squitter of a position: a head with the code of the point to which the position
+//! rounds. No call takes memory.
 #![tactic(auto)]
 
 mod air;
+mod air_head;
 mod feet;
 mod ground;
+mod ground_head;
 pub mod laws;
 mod other;
 mod read;
+mod send;
 mod squitter;
 mod write;
 
 pub use air::{AirFields, Airborne, Altitude};
+pub use air_head::AirHead;
 pub use feet::{altitude, field_of_feet};
 pub use ground::{GroundFields, Surface};
+pub use ground_head::GroundHead;
 pub use other::Other;
 pub use read::read_frame;
+pub use send::{send_air, send_ground};
 pub use sq_bits::Frame;
-pub use sq_cpr::{Code, Parity};
+pub use sq_cpr::{Angle, Code, Parity, Position};
 pub use squitter::{FrameFault, Me, Squitter};
 pub use write::write_frame;
 
+#[cfg(test)]
+mod send_tests;
 #[cfg(test)]
 mod tests;

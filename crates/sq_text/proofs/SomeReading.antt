@@ -1,5 +1,5 @@
 -- Each text has an answer, and a reading as a squitter.
-use Rattle.std.proofs.Common.{◌≡◌, ◌≢◌, ◌⊎◌, ◌+◌, ◌<◌, ℕ, Bool, true, false, List, [], ◌∷◌, ◌++◌, length, get_or, Result, Ok, Err, refl, sym, ◌∙◌, ap, subst, inl, inr, arith, suc, zero}
+use Rattle.std.proofs.Common.{◌≡◌, ◌⊎◌, ◌+◌, ℕ, List, [], ◌∷◌, ◌++◌, length, get_or, Result, Ok, Err, refl, sym, ◌∙◌, ap, inl, inr, arith}
 use Rattle.std.proofs.lemmas.Bool.{cases_eq}
 use Rattle.std.proofs.lemmas.List.{same_from_push}
 use Rattle.hex.specs.Hex.{decode_of}
@@ -16,7 +16,7 @@ use Rattle.sq_text.specs.declared.frame_text.TextFault.{TextFault}
 use Rattle.sq_text.specs.declared.frame_text.TextFault.TheVariants.{Wrap, Short, Length, Digit}
 use Rattle.sq_text.specs.declared.faults.LineFault.{LineFault}
 use Rattle.sq_text.specs.Faults.{of_text, of_frame}
-use Rattle.sq_text.specs.FrameText.{Begins, Ends, IsBody, IsHalfWrapped, IsFrameText, IsTextFault, IsAnswer}
+use Rattle.sq_text.specs.FrameText.{Begins, Ends, IsBody, IsHalfWrapped, IsFrameText, IsAnswer}
 use Rattle.sq_text.specs.Reading.{IsSquitterReading}
 
 -- a text begins with `*` or does not

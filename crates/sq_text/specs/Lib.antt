@@ -4,3 +4,4 @@ pub mod Faults
 pub mod Reading
 pub mod Show
 pub mod Summary
+pub mod Place

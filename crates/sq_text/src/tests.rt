@@ -1,5 +1,6 @@
 //! Frame texts and their faults, and what is shown of squitters.
 use super::*;
+use sq_angle::{Angle, Position};
 use sq_message::{AirFields, Airborne, Code, Frame, FrameFault, Me, Parity, Squitter, write_frame};
 use std::process::Abort;
 
@@ -199,4 +200,32 @@ fn reads_digits_of_either_case(rt: HostRuntime) {
             assert!(rt; read_text(&text) == Err(TextFault::Digit(3)), "byte {byte}");
         }
     }
+}
+
+#[test]
+fn tells_places(rt: HostRuntime) {
+    let rows = [
+        (
+            (428091, 8192),
+            (64215, 16384),
+            "52.2572021 3.9193726\n428091/8192 64215/16384\n",
+        ),
+        (
+            (-90, 1),
+            (-180, 1),
+            "-90.0000000 -180.0000000\n-90/1 -180/1\n",
+        ),
+        ((0, 7), (30, 60), "0.0000000 0.5000000\n0/1 1/2\n"),
+    ];
+    for (lat, lon, text) in rows {
+        assert_place(&rt, lat, lon, text);
+    }
+}
+
+// Asserts the two lines of a position.
+fn assert_place(rt: &impl Abort, lat: (i64, u64), lon: (i64, u64), text: &str) {
+    let lat = Angle::new(lat.0, lat.1).expect(rt, "a latitude");
+    let lon = Angle::new(lon.0, lon.1).expect(rt, "a longitude");
+    let position = Position::new(lat, lon).expect(rt, "a position");
+    assert!(rt; place_text(&position).as_str() == text, "{text}");
 }

@@ -7,8 +7,10 @@ use Rattle.sq_text.specs.Faults.{fault_text}
 use Rattle.sq_text.specs.Reading.{IsSquitterReading, SquitterReader}
 use Rattle.sq_text.specs.Show.{IsShown}
 use Rattle.sq_lines.specs.Lines.{lines_of}
+use Rattle.sq_bits.specs.declared.frame.Frame.{Frame}
 use Rattle.sq_tool.specs.Check.{check_output, check_tally}
-use Rattle.sq_words.specs.Requests.{Asked, Show, Encode, Local, Pair, Check, Track}
+use Rattle.sq_tool.specs.Encode.{EncodeValues, IsEncodeValues, IsFrameOf, frame_line}
+use Rattle.sq_words.specs.Requests.{Asked, AskedEncode, Show, Encode, Local, Pair, Check, Track}
 
 -- what the program wrote on its output, and told on its sink for faults
 pub record Outputs : Type 0 where
@@ -39,6 +41,18 @@ abbrev pub IsShowRun : List ℕ → ℕ → Outputs → Type 0
 IsShowRun frame status o = (answer : Result Squitter LineFault) × IsSquitterReading frame answer
     × MatchResult answer (λ squitter. (text : List ℕ) × IsShown squitter text × IsWritten status o text) (λ fault. IsRefused status o (fault_text fault))
 
+-- `encode`: the frame of these values is written
+pub record IsEncodeRun (words : AskedEncode) (status : ℕ) (o : Outputs) : Type 0 where
+  pub values : EncodeValues
+  pub spelled : IsEncodeValues words values
+  pub frame : Frame
+  pub sent : IsFrameOf values.kind values frame
+  pub written : IsWritten status o (frame_line frame)
+
+-- the words spell no values
+abbrev pub HasNoEncodeValues : AskedEncode → Type 0
+HasNoEncodeValues words = (values : EncodeValues) → ¬ IsEncodeValues words values
+
 -- `check`: the whole input was read and each of its lines answered; 1 says that one of them was refused
 abbrev pub IsCheckRun : ℕ → (to_come_before to_come_after written_before written_after : Option (List ℕ)) → Type 0
 IsCheckRun status to_come_before to_come_after written_before written_after =
@@ -49,7 +63,7 @@ IsCheckRun status to_come_before to_come_after written_before written_after =
 -- at exit status 0 or 1, what was written is what the command asks for
 abbrev pub Answers : Asked → ℕ → Streams → Type 0
 Answers (Show frame) status s = IsShowRun frame status s.outputs
-Answers (Encode e) status s = ⊥
+Answers (Encode words) status s = IsEncodeRun words status s.outputs
 Answers (Local frame lat lon) status s = ⊥
 Answers (Pair older newer lat lon) status s = ⊥
 Answers Check status s = IsCheckRun status s.to_come_before s.to_come_after s.outputs.written_before s.outputs.written_after
@@ -58,7 +72,7 @@ Answers (Track limit window lat lon) status s = ⊥
 -- a command that is not yet one of the program's, or an argument at fault
 abbrev pub HasUsageFault : Asked → Type 0
 HasUsageFault (Show frame) = ⊥
-HasUsageFault (Encode e) = ⊤
+HasUsageFault (Encode words) = HasNoEncodeValues words
 HasUsageFault (Local frame lat lon) = ⊤
 HasUsageFault (Pair older newer lat lon) = ⊤
 HasUsageFault Check = ⊥

@@ -4,7 +4,9 @@
 //! texts are crates of their own below, which are republished here.
 #![tactic(auto)]
 
+mod arguments;
 mod check;
+mod encode;
 mod program;
 mod show;
 mod stream;
@@ -17,6 +19,8 @@ pub use sq_lines::{Cutter, RunFault, Tally};
 pub use sq_text::{LineFault, TextFault, read_text};
 pub use sq_words::Request;
 
+#[cfg(test)]
+mod encode_tests;
 #[cfg(test)]
 mod stream_tests;
 #[cfg(test)]

@@ -3,10 +3,12 @@ ghost use Rattle.std.specs.Prelude.{◌≡◌, ◌≢◌, ◌≤◌, ◌⊎◌, 
 ghost use Rattle.sq_words.specs.Requests.{Asked, Asks, asked_by};
 ghost use Rattle.sq_tool.specs.Runs.{Answers, HasUsageFault};
 
+use crate::encode::encode;
 use crate::show::show;
 use crate::stream::check;
 use crate::telling::{BROKEN, USAGE, tell};
 use sq_devices::{Sink, Source};
+use sq_words::laws::one_request;
 use sq_words::{Refusal, Request, read_request};
 use std::alloc::Global;
 
@@ -38,12 +40,16 @@ pub fn run<S: Source, K: Sink, F: Sink>(
     ensures usage { result ≡ 2 → (asked : Asked) → Asks (map (λ word. word.now) words.entry.now) asked → HasUsageFault asked }
 {
     match read_request(alloc, words) {
-        Ok(request) => answer(request, input, output, faults),
+        Ok(request) => {
+            one_request();
+            answer(alloc, request, input, output, faults)
+        }
         Err(refusal) => refuse(refusal, faults),
     }
 }
 
 fn answer<S: Source, K: Sink, F: Sink>(
+    alloc: Global,
     request: Request<'_>,
     input: &mut S,
     output: &mut K,
@@ -65,6 +71,7 @@ fn answer<S: Source, K: Sink, F: Sink>(
 {
     match request {
         Request::Show { frame } => show(frame, output, faults),
+        Request::Encode(words) => encode(alloc, &words, output, faults),
         Request::Check => check(input, output, faults),
         _ => {
             tell("not yet a command\n", faults);

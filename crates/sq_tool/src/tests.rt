@@ -32,7 +32,7 @@ pub(crate) fn outcome_on(alloc: Global, words: &[&str], text: &[u8]) -> Outcome 
 }
 
 // Asserts the output and the status of a command line that is good.
-fn assert_written(rt: &impl Abort, alloc: Global, words: &[&str], text: &str) {
+pub(crate) fn assert_written(rt: &impl Abort, alloc: Global, words: &[&str], text: &str) {
     let ran = outcome_of(alloc, words);
     assert!(rt; ran.written.as_slice() == text.as_bytes(), "{text}");
     assert!(rt; ran.told.is_empty());
@@ -40,7 +40,7 @@ fn assert_written(rt: &impl Abort, alloc: Global, words: &[&str], text: &str) {
 }
 
 // Asserts the line that a command line is refused with, and the status.
-fn assert_told(rt: &impl Abort, alloc: Global, words: &[&str], status: u8, text: &str) {
+pub(crate) fn assert_told(rt: &impl Abort, alloc: Global, words: &[&str], status: u8, text: &str) {
     let ran = outcome_of(alloc, words);
     assert!(rt; ran.told.as_slice() == text.as_bytes(), "{text}");
     assert!(rt; ran.written.is_empty());

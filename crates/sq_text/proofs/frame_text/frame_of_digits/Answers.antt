@@ -1,4 +1,4 @@
-use Rattle.std.proofs.Common.{◌≡◌, ◌+◌, ◌*◌, ◌<◌, ◌∙◌, get_or, arith, rules}
+use Rattle.std.proofs.Common.{◌+◌, ◌*◌, ◌∙◌, get_or, arith, rules}
 use Rattle.hex.proofs.Pairs.{decode_step, decode_done}
 use Rattle.hex.proofs.HexLemmas.{decode_of-even}
 use Rattle.sq_text.proofs.DigitLemmas.{pair_from}

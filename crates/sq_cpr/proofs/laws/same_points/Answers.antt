@@ -1,0 +1,5 @@
+use Rattle.sq_cpr.proofs.Points.{same_points}
+use Rattle.sq_cpr.proofs.laws.same_points.Goals as goal
+
+pub returns : goal.returns
+returns g c = same_points g.S.Span.DEGREES g.S.Span.REPEATS

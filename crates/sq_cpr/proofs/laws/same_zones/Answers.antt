@@ -1,0 +1,5 @@
+use Rattle.sq_cpr.proofs.Codes.{same_zones}
+use Rattle.sq_cpr.proofs.laws.same_zones.Goals as goal
+
+pub returns : goal.returns
+returns g c = same_zones g.S.Span.DEGREES g.S.Span.REPEATS g.S.Span.full_circle

@@ -1,0 +1,77 @@
+-- The grid of a span and a parity (RTCA DO-260B, appendix on compact position reporting).
+-- A span covers `degrees` degrees and fits `repeats` times into the circle: 360 and 1 in the air, 90 and 4 on the ground.
+use Rattle.std.specs.Prelude.{◌≡◌, ℕ, ◌-◌, ◌*◌, ◌%◌, ◌^◌, ◌<◌, ℤ, pos, ◌-ℤ◌, ◌*ℤ◌, unsigned_abs, nat_lt, if◌then◌else◌}
+use Rattle.std.specs.Int.{int_rem_euclid}
+use Rattle.sq_angle.specs.Fraction.{Fraction, IsWithin}
+use Rattle.sq_angle.specs.Whole.{IsCongruent}
+use Rattle.sq_zones.specs.Zones.{lon_zones_at, parity_index}
+use Rattle.sq_zones.specs.declared.parity.Parity.{Parity}
+use Rattle.sq_cpr.specs.Code.{CodeNumbers}
+
+-- a point by its parity, its latitude index, its number of longitude zones and its longitude index
+pub record Point : Type 0 where
+  pub parity : Parity
+  pub lat_index : ℤ
+  pub zones : ℕ
+  pub lon_index : ℕ
+
+-- the codes of one zone, in each coordinate
+abbrev pub codes_of_zone : ℕ
+codes_of_zone = 2 ^ 17
+
+-- so many steps
+abbrev pub steps : ℤ → Fraction → Fraction
+steps k step = record { num = step.num *ℤ k; den = step.den }
+
+-- one step is a span over its zones and over the codes of a zone
+abbrev pub step : ℕ → ℕ → Fraction
+step degrees zones = record { num = pos degrees; den = zones * codes_of_zone }
+
+-- the latitude zones of a parity: 60 even, 59 odd
+abbrev pub lat_zones : Parity → ℕ
+lat_zones parity = 60 - parity_index parity
+
+-- the longitude steps of a circle of so many zones a span
+abbrev pub circle : ℕ → ℕ → ℕ
+circle zones repeats = zones * codes_of_zone * repeats
+
+-- the latitude of an index
+abbrev pub grid_latitude : ℕ → Parity → ℤ → Fraction
+grid_latitude degrees parity lat_index = steps lat_index (step degrees (lat_zones parity))
+
+-- the longitude of an index of the circle: so many steps, less 360 degrees from 180 up
+abbrev pub grid_longitude : ℕ → ℕ → ℕ → Fraction
+grid_longitude degrees zones lon_index =
+    let den = zones * codes_of_zone in
+    let num = degrees * lon_index in
+    record { num = if nat_lt num (180 * den) then pos num else (pos num -ℤ pos (360 * den)); den = den }
+
+abbrev pub latitude : ℕ → Point → Fraction
+latitude degrees point = grid_latitude degrees point.parity point.lat_index
+
+abbrev pub longitude : ℕ → Point → Fraction
+longitude degrees point = grid_longitude degrees point.zones point.lon_index
+
+-- the latitude of the index lies in -90 to 90
+abbrev pub IsLatitude : ℕ → Parity → ℤ → Type 0
+IsLatitude degrees parity lat_index = IsWithin 90 (grid_latitude degrees parity lat_index)
+
+-- a point of the grid: its latitude is one, its zones are those of its own latitude, and its longitude index is on the circle
+pub record IsGridPoint (degrees repeats : ℕ) (point : Point) : Type 0 where
+  pub north_south : IsLatitude degrees point.parity point.lat_index
+  pub zones : point.zones ≡ lon_zones_at point.parity (latitude degrees point)
+  pub east_west : point.lon_index < circle point.zones repeats
+
+-- the grid has a point with these indices
+abbrev pub HasPoint : ℕ → ℕ → Parity → ℤ → ℕ → Type 0
+HasPoint degrees repeats parity lat_index lon_index =
+    (zones : ℕ) × IsGridPoint degrees repeats (record { parity = parity; lat_index = lat_index; zones = zones; lon_index = lon_index })
+
+-- the code of a point: both indices modulo 2^17
+abbrev pub code_of : Point → CodeNumbers
+code_of point = record { lat = unsigned_abs (int_rem_euclid point.lat_index (pos codes_of_zone)); lon = point.lon_index % codes_of_zone }
+
+-- the point has this code: each index and its number differ by a whole multiple of 2^17
+pub record HasCode (point : Point) (code : CodeNumbers) : Type 0 where
+  pub latitude : IsCongruent codes_of_zone point.lat_index (pos code.lat)
+  pub longitude : IsCongruent codes_of_zone (pos point.lon_index) (pos code.lon)

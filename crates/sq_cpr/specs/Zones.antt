@@ -1,0 +1,36 @@
+-- The zones of a position (RTCA DO-260B, appendix on compact position reporting), shifted south and west by half a step: the
+-- indices to which the angles of one zone round are then 2^17 in a row, so that no two of them have one number in the code.
+use Rattle.std.specs.Prelude.{◌≡◌, ℕ, ◌*◌, ◌<◌, ℤ, pos, ◌+ℤ◌, ◌-ℤ◌, ◌*ℤ◌}
+use Rattle.sq_angle.specs.Fraction.{Fraction, ◌≼◌, ◌≺◌}
+use Rattle.sq_angle.specs.Nearest.{half_steps}
+use Rattle.sq_zones.specs.declared.parity.Parity.{Parity}
+use Rattle.sq_cpr.specs.Grid.{Point, step, lat_zones, codes_of_zone}
+use Rattle.sq_cpr.specs.Rounds.{RoundsTo}
+
+-- half a step before the first index of the zone
+abbrev pub zone_start : Fraction → ℤ → Fraction
+zone_start step zone = half_steps (pos 2 *ℤ (pos codes_of_zone *ℤ zone) -ℤ pos 1) step
+
+-- x lies in the zone: from half a step before its first index up to half a step before the next zone's
+pub record IsInZone (x step : Fraction) (zone : ℤ) : Type 0 where
+  pub from : zone_start step zone ≼ x
+  pub below : x ≺ zone_start step (zone +ℤ pos 1)
+
+-- x and so many turns of 360 degrees
+abbrev pub turned : Fraction → ℤ → Fraction
+turned x turns = record { num = x.num +ℤ pos (360 * x.den) *ℤ turns; den = x.den }
+
+-- a zone of latitude, counted from the equator, and one of longitude, counted eastwards from the prime meridian
+pub record ZonePair : Type 0 where
+  pub lat : ℤ
+  pub lon : ℕ
+
+-- The position lies in these zones of the parity's grid. There are as many longitude zones a span as the point has to which the
+-- position rounds.
+pub record IsInZones (degrees repeats : ℕ) (parity : Parity) (lat lon : Fraction) (zones : ZonePair) : Type 0 where
+  pub point : Point
+  pub of_parity : point.parity ≡ parity
+  pub rounds : RoundsTo degrees repeats lat lon point
+  pub north_south : IsInZone lat (step degrees (lat_zones parity)) zones.lat
+  pub of_circle : zones.lon < point.zones * repeats
+  pub east_west : (turns : ℤ) × IsInZone (turned lon turns) (step degrees point.zones) (pos zones.lon)

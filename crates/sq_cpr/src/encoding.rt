@@ -1,0 +1,78 @@
+//! The point to which a position rounds, and its code.
+ghost use Rattle.std.specs.Prelude.{◌≡◌, ◌≤◌, ◌<◌, ℤ, pos};
+ghost use Rattle.sq_angle.specs.Angle.{degrees};
+ghost use Rattle.sq_angle.specs.Fraction.{IsWithin};
+ghost use Rattle.sq_angle.specs.Nearest.{IsNearest};
+ghost use Rattle.sq_angle.specs.Position.{lat_of, lon_of};
+ghost use Rattle.sq_angle.specs.Whole.{IsCongruent};
+ghost use Rattle.sq_cpr.specs.Code.{numbers_of};
+ghost use Rattle.sq_cpr.specs.Grid.{Point, IsGridPoint, IsLatitude, step, circle, lat_zones as lat_zones_of, latitude, longitude, code_of};
+ghost use Rattle.sq_cpr.specs.Rounds.{RoundsTo};
+
+use crate::code::{CODES, Code};
+use crate::grid::{GridPoint, angle_at, lat_zones};
+use crate::rounding::{nearest_index, wrapped};
+use crate::span::Span;
+use sq_angle::{Angle, Position};
+use sq_zones::{Parity, lon_zones};
+
+/// The point of the parity's grid to which a position rounds (RTCA DO-260B, appendix on compact position reporting): the
+/// nearest latitude index, a tie taken north, and by the longitude zones of that latitude the nearest longitude index, a
+/// tie taken east.
+///
+/// Each position rounds to exactly one point; a point's own [`GridPoint::position`] rounds to that point.
+pub fn nearest<S: Span>(position: &Position, parity: Parity) -> GridPoint<S>
+    ensures parity { result.parity ≡ parity }
+    ensures of_grid { IsGridPoint S.DEGREES S.REPEATS result }
+    ensures rounds { RoundsTo S.DEGREES S.REPEATS (degrees (lat_of position.now)) (degrees (lon_of position.now)) result }
+    ensures only { (point : Point) → point.parity ≡ parity
+        → RoundsTo S.DEGREES S.REPEATS (degrees (lat_of position.now)) (degrees (lon_of position.now)) point → point ≡ result }
+    ensures itself { (point : Point) → IsGridPoint S.DEGREES S.REPEATS point → point.parity ≡ parity
+        → degrees (lat_of position.now) ≡ latitude S.DEGREES point → degrees (lon_of position.now) ≡ longitude S.DEGREES point
+        → point ≡ result }
+{
+    rounded(position, parity)
+}
+
+/// The code of the point to which a position rounds.
+pub fn encode<S: Span>(position: &Position, parity: Parity) -> Code
+    ensures code { (point : Point) × (point.parity ≡ parity)
+        × RoundsTo S.DEGREES S.REPEATS (degrees (lat_of position.now)) (degrees (lon_of position.now)) point
+        × (numbers_of result ≡ code_of point) }
+    ensures only { (point : Point) → point.parity ≡ parity
+        → RoundsTo S.DEGREES S.REPEATS (degrees (lat_of position.now)) (degrees (lon_of position.now)) point
+        → numbers_of result ≡ code_of point }
+{
+    nearest::<S>(position, parity).code()
+}
+
+// A point to which a position rounds.
+fn rounded<S: Span>(position: &Position, parity: Parity) -> GridPoint<S>
+    ensures parity { result.parity ≡ parity }
+    ensures rounds { RoundsTo S.DEGREES S.REPEATS (degrees (lat_of position.now)) (degrees (lon_of position.now)) result }
+{
+    let lat_index = nearest_latitude::<S>(&position.lat(), parity);
+    let lat = angle_at::<S>(parity, lat_index).unwrap();
+    let lon_index = nearest_longitude::<S>(&position.lon(), lon_zones(&lat, parity));
+    GridPoint::new(parity, lat_index, lon_index).unwrap()
+}
+
+// The nearest latitude index.
+fn nearest_latitude<S: Span>(lat: &Angle, parity: Parity) -> i32
+    requires { IsWithin 90 (degrees lat.now) }
+    ensures nearest { IsNearest (degrees lat.now) (step S.DEGREES (lat_zones_of parity)) result }
+    ensures within { IsLatitude S.DEGREES parity result }
+{
+    nearest_index(lat, S::DEGREES, lat_zones(parity)) as i32
+}
+
+// The index of the circle that stands for the nearest number of longitude steps.
+fn nearest_longitude<S: Span>(lon: &Angle, zones: u8) -> u32
+    requires at_least { 1 ≤ zones }
+    requires at_most { zones ≤ 59 }
+    ensures within { result < circle zones S.REPEATS }
+    ensures nearest { (index : ℤ) × IsNearest (degrees lon.now) (step S.DEGREES zones) index × IsCongruent (circle zones S.REPEATS) index (pos result) }
+{
+    let index = nearest_index(lon, S::DEGREES, zones);
+    wrapped(index, u32::from(zones) * CODES as u32 * S::REPEATS)
+}

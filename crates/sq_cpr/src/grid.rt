@@ -1,0 +1,157 @@
+//! The points of a grid.
+ghost use Rattle.std.specs.Prelude.{◌≡◌, ◌↔◌, IsSome, IfSome, ◌≤◌, ◌<◌, ◌*◌, ◌^◌, pos, ◌-ℤ◌, nat_lt, if◌then◌else◌};
+ghost use Rattle.sq_angle.specs.Angle.{degrees};
+ghost use Rattle.sq_angle.specs.Fraction.{IsWithin};
+ghost use Rattle.sq_angle.specs.Position.{lat_of, lon_of};
+ghost use Rattle.sq_cpr.specs.Code.{numbers_of};
+ghost use Rattle.sq_cpr.specs.Grid.{Point, IsGridPoint, HasPoint, IsLatitude, circle, lat_zones as lat_zones_of, grid_latitude, grid_longitude, latitude, longitude, code_of};
+
+use crate::code::{CODES, Code};
+use crate::span::Span;
+use sq_angle::{Angle, Position};
+use sq_zones::{Parity, lon_zones};
+use std::marker::{Model, PhantomData};
+
+/// A point of a parity's grid (RTCA DO-260B, appendix on compact position reporting): its latitude is `lat_index` steps of
+/// the latitude zones, its longitude `lon_index` steps of as many longitude zones as its own latitude has.
+///
+/// Two points of a span are equal exactly if their parity and both indices are.
+#[derive_where(Clone, Copy, Debug, PartialEq, Eq)]
+pub struct GridPoint<S: Span> {
+    parity: Parity,
+    lat_index: i32,
+    zones: u8,
+    lon_index: u32,
+    span: PhantomData<S>,
+}
+
+impl<S: Span> Model for GridPoint<S> {
+    ghost Value = { Point };
+
+    ghost view = { λ p. record { parity = p.parity; lat_index = p.lat_index; zones = p.zones; lon_index = p.lon_index } };
+
+    ghost invariant = { λ p. IsGridPoint S.DEGREES S.REPEATS (record { parity = p.parity; lat_index = p.lat_index; zones = p.zones; lon_index = p.lon_index }) };
+
+    ghost inverse = { λ p. record { parity = p.parity; lat_index = p.lat_index; zones = p.zones; lon_index = p.lon_index; span = record {} } };
+}
+
+impl<S: Span> GridPoint<S> {
+    /// The point with these indices; `None` exactly where the grid has no such point: where the latitude would lie outside
+    /// -90 to 90 degrees, or the longitude index is not below the steps of its circle.
+    pub fn new(parity: Parity, lat_index: i32, lon_index: u32) -> Option<GridPoint<S>>
+        ensures variant { IsSome result ↔ HasPoint S.DEGREES S.REPEATS parity lat_index lon_index }
+        ensures value { IfSome result (λ p. (p.parity ≡ parity) × (p.lat_index ≡ lat_index) × (p.lon_index ≡ lon_index)) }
+        ensures of_grid { IfSome result (IsGridPoint S.DEGREES S.REPEATS) }
+    {
+        let lat = angle_at::<S>(parity, lat_index)?;
+        let zones = lon_zones(&lat, parity);
+        if u64::from(lon_index) >= u64::from(zones) * CODES * u64::from(S::REPEATS) {
+            return None;
+        }
+        Some(GridPoint {
+            parity,
+            lat_index,
+            zones,
+            lon_index,
+            span: PhantomData,
+        })
+    }
+
+    /// The parity of its grid.
+    pub fn parity(&self) -> Parity
+        ensures value { result ≡ self.now.parity }
+        ensures of_grid { IsGridPoint S.DEGREES S.REPEATS self.now }
+    {
+        self.parity
+    }
+
+    /// The latitude in steps, north positive.
+    pub fn lat_index(&self) -> i32
+        ensures { result ≡ self.now.lat_index }
+    {
+        self.lat_index
+    }
+
+    /// The number of longitude zones of its own latitude, from 1 to 59.
+    pub fn zones(&self) -> u8
+        ensures { result ≡ self.now.zones }
+    {
+        self.zones
+    }
+
+    /// The longitude in steps, eastwards from the prime meridian.
+    pub fn lon_index(&self) -> u32
+        ensures { result ≡ self.now.lon_index }
+    {
+        self.lon_index
+    }
+
+    /// The code that is sent of this point: both indices modulo 2^17.
+    pub fn code(&self) -> Code
+        ensures { numbers_of result ≡ code_of self.now }
+    {
+        let lat = self.lat_index.rem_euclid(CODES as i32) as u32;
+        let lon = self.lon_index % CODES as u32;
+        Code::new(lat, lon).unwrap()
+    }
+
+    /// The position of this point, exactly: the latitude is `lat_index * W` over `(60 - i) * 2^17`, and the longitude
+    /// `lon_index * W` over `zones * 2^17`, less 360 degrees from 180 up, where W is the span's degrees and i is 0 for even
+    /// and 1 for odd.
+    pub fn position(&self) -> Position
+        ensures lat { degrees (lat_of result) ≡ latitude S.DEGREES self.now }
+        ensures lon { degrees (lon_of result) ≡ longitude S.DEGREES self.now }
+    {
+        let lat = angle_at::<S>(self.parity, self.lat_index).unwrap();
+        let lon = lon_angle::<S>(self.zones, self.lon_index);
+        Position::new(lat, lon).unwrap()
+    }
+}
+
+// 60 zones of latitude for even and 59 for odd.
+pub(crate) fn lat_zones(parity: Parity) -> u8
+    ensures { result ≡ lat_zones_of parity }
+{
+    60 - parity.index()
+}
+
+// The latitude at an index, where it is one.
+pub(crate) fn angle_at<S: Span>(parity: Parity, lat_index: i32) -> Option<Angle>
+    ensures variant { IsSome result ↔ IsLatitude S.DEGREES parity lat_index }
+    ensures value { IfSome result (λ a. degrees a ≡ grid_latitude S.DEGREES parity lat_index) }
+{
+    let num = i64::from(S::DEGREES) * i64::from(lat_index);
+    let angle = Angle::new(num, u64::from(lat_zones(parity)) * CODES)?;
+    if angle.is_within(90) {
+        Some(angle)
+    } else {
+        None
+    }
+}
+
+// The longitude at an index.
+fn lon_angle<S: Span>(zones: u8, lon_index: u32) -> Angle
+    requires at_least { 1 ≤ zones }
+    requires of_circle { lon_index < circle zones S.REPEATS }
+    ensures value { degrees result ≡ grid_longitude S.DEGREES zones lon_index }
+    ensures within { IsWithin 180 (degrees result) }
+{
+    let den = u64::from(zones) * CODES;
+    let east = u64::from(S::DEGREES) * u64::from(lon_index);
+    let num = west_from_180(east, den);
+    Angle::new(num, den).unwrap()
+}
+
+// `east / den` degrees, less 360 degrees from 180 up, over `den`.
+fn west_from_180(east: u64, den: u64) -> i64
+    requires small { den < 2 ^ 40 }
+    requires of_circle { east < 360 * den }
+    ensures value { result ≡ (if nat_lt east (180 * den) then pos east else (pos east -ℤ pos (360 * den))) }
+    ensures within { IsWithin 180 (record { num = result; den = den }) }
+{
+    if east < 180 * den {
+        east as i64
+    } else {
+        east as i64 - (360 * den) as i64
+    }
+}

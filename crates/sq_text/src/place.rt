@@ -1,0 +1,52 @@
+//! A position in two lines.
+ghost use Rattle.std.specs.Prelude.{◌≡◌, ◌+◌, ◌≤◌, ◌<◌, ◌^◌, ◌++◌, List, ℕ, codes, decimal, length, unsigned_abs};
+ghost use Rattle.std.specs.Fmt.{signed_decimal};
+ghost use Rattle.arrayvec.specs.ArrayString.{array_string_len};
+ghost use Rattle.sq_angle.specs.Angle.{degrees};
+ghost use Rattle.sq_angle.specs.Decimal.{IsDecimal7};
+ghost use Rattle.sq_text.specs.Place.{IsFractionText, IsPlaceText};
+
+use crate::digits::push_decimal;
+use arrayvec::ArrayString;
+use itoa::Buffer;
+use sq_angle::{Angle, Position};
+
+/// The text of a position: two lines.
+pub type PlaceText = ArrayString<160>;
+
+/// The position in two lines: latitude and longitude with seven decimals, and then both in lowest terms, as `num/den`.
+pub fn place_text(position: &Position) -> PlaceText
+    ensures { IsPlaceText position.now result.bytes }
+{
+    let mut text = PlaceText::new();
+    push_decimals(&mut text, &position.lat());
+    text.push_str(" ");
+    push_decimals(&mut text, &position.lon());
+    text.push_str("\n");
+    push_fraction(&mut text, &position.lat());
+    text.push_str(" ");
+    push_fraction(&mut text, &position.lon());
+    text.push_str("\n");
+    text
+}
+
+fn push_decimals(text: &mut PlaceText, angle: &Angle)
+    requires { array_string_len text.old ≤ 100 }
+    ensures bytes { (part : List ℕ) × IsDecimal7 (degrees angle.now) part × (text.new.bytes ≡ text.old.bytes ++ part) }
+    ensures len { array_string_len text.new ≤ array_string_len text.old + 12 }
+{
+    let decimals = angle.decimal7();
+    text.push_str(decimals.as_str());
+}
+
+fn push_fraction(text: &mut PlaceText, angle: &Angle)
+    requires { array_string_len text.old ≤ 100 }
+    ensures bytes { (part : List ℕ) × IsFractionText (degrees angle.now) part × (text.new.bytes ≡ text.old.bytes ++ part) }
+    ensures len { array_string_len text.new ≤ array_string_len text.old + 41 }
+{
+    let (num, den) = angle.reduced();
+    let mut buffer = Buffer::new();
+    text.push_str(buffer.format(num));
+    text.push_str("/");
+    push_decimal(text, den);
+}
