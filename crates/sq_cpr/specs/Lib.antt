@@ -3,3 +3,10 @@ pub mod Grid
 pub mod Rounds
 pub mod Zones
 pub mod Laws
+pub mod Near
+pub mod Close
+pub mod Multiplied
+pub mod Local
+pub mod Pair
+pub mod Slow
+pub mod DecodeLaws

@@ -48,13 +48,27 @@ impl<S: Span> GridPoint<S> {
         if u64::from(lon_index) >= u64::from(zones) * CODES * u64::from(S::REPEATS) {
             return None;
         }
-        Some(GridPoint {
+        Some(GridPoint::of_parts(parity, lat_index, zones, lon_index))
+    }
+
+    // The point of these parts, which are those of one.
+    pub(crate) fn of_parts(
+        parity: Parity,
+        lat_index: i32,
+        zones: u8,
+        lon_index: u32,
+    ) -> GridPoint<S>
+        requires { IsGridPoint S.DEGREES S.REPEATS (record { parity = parity; lat_index = lat_index; zones = zones; lon_index = lon_index }) }
+        ensures value { result ≡ record { parity = parity; lat_index = lat_index; zones = zones; lon_index = lon_index } }
+        ensures of_grid { IsGridPoint S.DEGREES S.REPEATS result }
+    {
+        GridPoint {
             parity,
             lat_index,
             zones,
             lon_index,
             span: PhantomData,
-        })
+        }
     }
 
     /// The parity of its grid.

@@ -1,8 +1,11 @@
-//! Laws of grids, codes and zones, over the definitions that the calls' contracts name.
+//! Laws of grids, codes, zones and decoding, over the definitions that the calls' contracts name.
 //!
 //! Each function but the last does nothing: its contract is the law.
 ghost use Rattle.std.specs.Prelude.{◌≡◌, ◌↔◌, IsTrue};
 ghost use Rattle.sq_cpr.specs.Laws.{RoundsToOne, RoundsToItself, OnePairOfZones, SameZones, SamePoints, OneCode};
+ghost use Rattle.sq_cpr.specs.DecodeLaws.{FractionsAgree, OneNearLatitude, OneNearLongitude, OneLocalAnswer, StrictlyNearIsNear, NearPointIsLocal, StrictlyNearPointIsLocal, LocalKeepsCode};
+ghost use Rattle.sq_cpr.specs.DecodeLaws.{OneCloseLatitudes, OneCloseLongitudes, OneZoneIsClose, OnePairAnswer, OneAirPairAnswer, PairKeepsCode, AirPairKeepsCode, CloseAirPointsAreAnswered, CloseGroundPointsAreAnswered};
+ghost use Rattle.sq_cpr.specs.DecodeLaws.{TameAirPointsAreAnswered, TameGroundPointsAreAnswered, SlowIsTame, RoundsNearSite, FollowingIsNear};
 
 use crate::grid::GridPoint;
 use crate::span::Span;
@@ -35,6 +38,118 @@ pub fn one_code()
 /// Two points of a grid are one exactly if their parity and both indices are.
 pub fn same_points<S: Span>()
     ensures { SamePoints S.DEGREES S.REPEATS }
+{}
+
+/// The windows near a reference and between close angles, with fractions, mean what their multiplied-out forms mean.
+pub fn fractions_agree<S: Span>()
+    ensures { FractionsAgree S.DEGREES }
+{}
+
+/// Each latitude code has exactly one index near a reference.
+pub fn one_near_latitude<S: Span>()
+    ensures { OneNearLatitude S.DEGREES }
+{}
+
+/// Each longitude code has exactly one index on the circle near a reference, whatever the number of zones.
+pub fn one_near_longitude<S: Span>()
+    ensures { OneNearLongitude S.DEGREES S.REPEATS }
+{}
+
+/// Decoding near a reference has one answer.
+pub fn one_local_answer<S: Span>()
+    ensures { OneLocalAnswer S.DEGREES S.REPEATS }
+{}
+
+/// A strictly near point is near.
+pub fn strictly_near_is_near<S: Span>()
+    ensures { StrictlyNearIsNear S.DEGREES S.REPEATS }
+{}
+
+/// A point with the code that is near the reference is what is decoded there.
+pub fn near_point_is_local<S: Span>()
+    ensures { NearPointIsLocal S.DEGREES S.REPEATS }
+{}
+
+/// So is a strictly near one.
+pub fn strictly_near_point_is_local<S: Span>()
+    ensures { StrictlyNearPointIsLocal S.DEGREES S.REPEATS }
+{}
+
+/// What is decoded near a reference has the code that was given.
+pub fn local_keeps_code<S: Span>()
+    ensures { LocalKeepsCode S.DEGREES S.REPEATS }
+{}
+
+/// Any two latitude codes have exactly one close pair of latitudes.
+pub fn one_close_latitudes<S: Span>()
+    ensures { OneCloseLatitudes S.DEGREES }
+{}
+
+/// Any two longitude codes have exactly one close pair of longitudes, for each zone count from 1 to 59.
+pub fn one_close_longitudes<S: Span>()
+    ensures { OneCloseLongitudes S.DEGREES }
+{}
+
+/// Where each grid has one zone, any two angles are close.
+pub fn one_zone_is_close<S: Span>()
+    ensures { OneZoneIsClose S.DEGREES }
+{}
+
+/// Decoding a pair at a place has one answer.
+pub fn one_pair_answer<S: Span>()
+    ensures { OnePairAnswer S.DEGREES S.REPEATS }
+{}
+
+/// Decoding a pair in the air has one answer.
+pub fn one_air_pair_answer()
+    ensures { OneAirPairAnswer }
+{}
+
+/// What a pair is decoded to at a place has the newest code.
+pub fn pair_keeps_code<S: Span>()
+    ensures { PairKeepsCode S.DEGREES S.REPEATS }
+{}
+
+/// What a pair in the air is decoded to has the newest code.
+pub fn air_pair_keeps_code()
+    ensures { AirPairKeepsCode }
+{}
+
+/// Close points in the air are answered by the newest.
+pub fn close_air_points_are_answered()
+    ensures { CloseAirPointsAreAnswered }
+{}
+
+/// Close points on the ground are answered by the newest, where both lie less than 45 degrees from the site.
+pub fn close_ground_points_are_answered()
+    ensures { CloseGroundPointsAreAnswered }
+{}
+
+/// Points in the air with close latitudes and, where their zone counts agree, close longitudes are answered by the newest or
+/// by their zone counts, and never as out of range.
+pub fn tame_air_points_are_answered()
+    ensures { TameAirPointsAreAnswered }
+{}
+
+/// The same on the ground, where both lie less than 45 degrees from the site.
+pub fn tame_ground_points_are_answered()
+    ensures { TameGroundPointsAreAnswered }
+{}
+
+/// True positions that differ by less than the closeness less the odd grid's step, in latitude and, where the zone counts
+/// agree on two or more, in longitude, round to such points.
+pub fn slow_is_tame<S: Span>()
+    ensures { SlowIsTame S.DEGREES S.REPEATS }
+{}
+
+/// A position less than 44 degrees from the site rounds to a point less than 45 degrees from it.
+pub fn rounds_near_site<S: Span>()
+    ensures { RoundsNearSite S.DEGREES S.REPEATS }
+{}
+
+/// Positions that are slow for following round to points that are strictly near one another.
+pub fn following_is_near<S: Span>()
+    ensures { FollowingIsNear S.DEGREES S.REPEATS }
 {}
 
 /// Whether two points are equal, which they are exactly if their parity and both indices are.

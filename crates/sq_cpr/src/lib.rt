@@ -1,23 +1,35 @@
 //! Compact position reporting: the grids, the points to which positions round, and the codes that are sent of them.
 //!
 //! [`nearest`] answers the one point of a parity's grid to which a position rounds, and [`encode`] its code, two numbers
-//! of 17 bits. All of it is written and proved once for every lawful span; [`Air`] and [`Ground`] are the two that are
+//! of 17 bits. [`local`] answers the point of a code near a reference, [`pair_air`] and [`pair_ground`] the close points of an
+//! even and an odd code. All of it is written and proved once for every lawful span; [`Air`] and [`Ground`] are the two that are
 //! sent. No call takes memory.
 #![tactic(auto)]
 
 mod code;
+mod decode_local;
+mod decode_pair;
 mod encoding;
+mod faults;
 mod grid;
+mod index;
 pub mod laws;
 mod rounding;
 mod span;
 
 pub use code::Code;
+pub use decode_local::local;
+pub use decode_pair::{pair_air, pair_ground};
 pub use encoding::{encode, nearest};
+pub use faults::{LocalFault, PairFault};
 pub use grid::GridPoint;
 pub use span::{Air, Ground, Span};
 pub use sq_angle::{Angle, Position};
 pub use sq_zones::Parity;
 
+#[cfg(test)]
+mod decode_tests;
+#[cfg(test)]
+mod pair_tests;
 #[cfg(test)]
 mod tests;

@@ -1,0 +1,33 @@
+-- The index that a window leaves, over plain numbers.
+use Rattle.std.proofs.Common.{◌≡◌, ℕ, ◌*◌, ◌<◌, ◌≤◌, ℤ, pos, neg_ℤ, ◌+ℤ◌, ◌-ℤ◌, ◌*ℤ◌, ◌≤ℤ◌, unsigned_abs, arith, ◌^◌, mul-le-mul_right, le_of_mul-le-mul_right}
+use Rattle.std.proofs.Math.IntN.{negsuc}
+use Rattle.std.proofs.lemmas.Int.{ints, unsigned_abs-mul}
+use Rattle.sq_angle.specs.Fraction.{Fraction, IsWithin}
+use Rattle.sq_angle.specs.Scale.{scales}
+use Rattle.sq_angle.proofs.Sizes.{mul_pos, scaled_size}
+use Rattle.sq_cpr.specs.Grid.{codes_of_zone}
+use Rattle.sq_cpr.specs.Multiplied.{LiesWithin}
+
+-- twice the distance of the answer
+pub settled : (count step steps : ℕ) (base num turns : ℤ) →
+    pos 2 *ℤ (pos step *ℤ (base +ℤ pos (count * codes_of_zone) *ℤ neg_ℤ turns) -ℤ pos steps *ℤ num)
+    ≡ pos 2 *ℤ (pos step *ℤ base -ℤ pos steps *ℤ num) -ℤ pos (2 * (count * codes_of_zone * step)) *ℤ turns
+settled count step steps base num turns = simp scales (omega (arith, ints))
+
+-- An index within half a span of a reference is below 2^31.
+abs_at_most : (a : ℤ) (n : ℕ) → a ≤ℤ pos n → neg_ℤ (pos n) ≤ℤ a → unsigned_abs a ≤ n
+abs_at_most (pos a) n h k = omega (arith, ints)
+abs_at_most (negsuc a) n h k = omega (arith, ints)
+
+pub index_small : (count degrees zones : ℕ) (index : ℤ) (r : Fraction) → count ≤ 60 → zones ≤ 60 → 0 < degrees → 0 < r.den → IsWithin 180 r →
+    LiesWithin count degrees zones index r → unsigned_abs index < 2 ^ 31
+index_small count degrees zones index r c z d p w h =
+    let unit : ℕ = degrees * r.den in
+    let positive : 0 < unit = mul_pos degrees r.den d p in
+    let steps : unsigned_abs (pos (zones * codes_of_zone) *ℤ r.num) ≤ 60 * codes_of_zone * (180 * r.den) = scaled_size (zones * codes_of_zone) (60 * codes_of_zone) (180 * r.den) r.num (omega arith) w in
+    let more : 1 * r.den ≤ degrees * r.den = mul-le-mul_right r.den d in
+    let width : count * codes_of_zone * unit ≤ 60 * codes_of_zone * unit = mul-le-mul_right unit (omega arith) in
+    let size : unsigned_abs (pos unit *ℤ index) ≤ 1422000000 * unit = abs_at_most (pos unit *ℤ index) (1422000000 * unit) (omega (arith, ints, h.0, h.1)) (omega (arith, ints, h.0, h.1)) in
+    let product : unsigned_abs index * unit ≤ 1422000000 * unit = omega (arith, unsigned_abs-mul (pos unit) index) in
+    let small : unsigned_abs index ≤ 1422000000 = le_of_mul-le-mul_right product positive in
+    omega arith

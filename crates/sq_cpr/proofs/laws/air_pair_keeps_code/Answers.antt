@@ -1,0 +1,5 @@
+use Rattle.sq_cpr.proofs.PairPoints.{air_pair_keeps_code}
+use Rattle.sq_cpr.proofs.laws.air_pair_keeps_code.Goals as goal
+
+pub returns : goal.returns
+returns c = air_pair_keeps_code

@@ -1,0 +1,5 @@
+use Rattle.sq_cpr.proofs.PairPoints.{close_air_points_are_answered}
+use Rattle.sq_cpr.proofs.laws.close_air_points_are_answered.Goals as goal
+
+pub returns : goal.returns
+returns c = close_air_points_are_answered

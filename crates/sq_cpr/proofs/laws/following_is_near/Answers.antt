@@ -1,0 +1,5 @@
+use Rattle.sq_cpr.proofs.FollowLaw.{following_is_near}
+use Rattle.sq_cpr.proofs.laws.following_is_near.Goals as goal
+
+pub returns : goal.returns
+returns g c = following_is_near g.S.Span.DEGREES g.S.Span.REPEATS g.S.Span.full_circle

@@ -1,0 +1,5 @@
+use Rattle.sq_cpr.proofs.NearLaw.{local_keeps_code}
+use Rattle.sq_cpr.proofs.laws.local_keeps_code.Goals as goal
+
+pub returns : goal.returns
+returns g c = local_keeps_code g.S.Span.DEGREES g.S.Span.REPEATS

@@ -1,0 +1,5 @@
+use Rattle.sq_cpr.proofs.CloseLaw.{one_close_longitudes}
+use Rattle.sq_cpr.proofs.laws.one_close_longitudes.Goals as goal
+
+pub returns : goal.returns
+returns g c = one_close_longitudes g.S.Span.DEGREES g.S.Span.REPEATS g.S.Span.full_circle

@@ -1,0 +1,5 @@
+use Rattle.sq_cpr.proofs.PairPoints.{pair_keeps_code}
+use Rattle.sq_cpr.proofs.laws.pair_keeps_code.Goals as goal
+
+pub returns : goal.returns
+returns g c = pair_keeps_code g.S.Span.DEGREES g.S.Span.REPEATS

@@ -1,0 +1,5 @@
+use Rattle.sq_cpr.proofs.SlowLaw.{slow_is_tame}
+use Rattle.sq_cpr.proofs.laws.slow_is_tame.Goals as goal
+
+pub returns : goal.returns
+returns g c = slow_is_tame g.S.Span.DEGREES g.S.Span.REPEATS g.S.Span.full_circle

@@ -1,0 +1,5 @@
+use Rattle.sq_cpr.proofs.NearLaw.{strictly_near_is_near}
+use Rattle.sq_cpr.proofs.laws.strictly_near_is_near.Goals as goal
+
+pub returns : goal.returns
+returns g c = strictly_near_is_near g.S.Span.DEGREES g.S.Span.REPEATS

@@ -1,0 +1,5 @@
+use Rattle.sq_cpr.proofs.NearLaw.{strictly_near_point_is_local}
+use Rattle.sq_cpr.proofs.laws.strictly_near_point_is_local.Goals as goal
+
+pub returns : goal.returns
+returns g c = strictly_near_point_is_local g.S.Span.DEGREES g.S.Span.REPEATS g.S.Span.full_circle

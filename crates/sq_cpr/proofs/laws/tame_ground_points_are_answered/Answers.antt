@@ -1,0 +1,5 @@
+use Rattle.sq_cpr.proofs.PairPoints.{tame_ground_points_are_answered}
+use Rattle.sq_cpr.proofs.laws.tame_ground_points_are_answered.Goals as goal
+
+pub returns : goal.returns
+returns c = tame_ground_points_are_answered

@@ -1,0 +1,28 @@
+-- Decoding near a reference (RTCA DO-260B, appendix on compact position reporting: local decoding; ICAO Doc 9871).
+use Rattle.std.specs.Prelude.{◌≡◌, ℕ, ℤ, pos, Result, Ok, Err}
+use Rattle.sq_angle.specs.Fraction.{Fraction}
+use Rattle.sq_angle.specs.Whole.{IsCongruent}
+use Rattle.sq_zones.specs.declared.parity.Parity.{Parity}
+use Rattle.sq_cpr.specs.declared.faults.LocalFault.{LocalFault}
+use Rattle.sq_cpr.specs.declared.faults.LocalFault.TheVariants.{OutOfRange}
+use Rattle.sq_cpr.specs.Code.{CodeNumbers}
+use Rattle.sq_cpr.specs.Grid.{Point, IsGridPoint, HasCode, IsLatitude, codes_of_zone, lat_zones, grid_latitude}
+use Rattle.sq_cpr.specs.Near.{IsNear, half_zone, IsNearPoint}
+
+-- the latitude index has the code and is near
+pub record IsNearLatitude (degrees : ℕ) (parity : Parity) (lat : Fraction) (code : ℕ) (index : ℤ) : Type 0 where
+  pub has_code : IsCongruent codes_of_zone index (pos code)
+  pub near : IsNear (half_zone degrees (lat_zones parity)) lat (grid_latitude degrees parity index)
+
+-- a point of the parity's grid with this code that is near
+pub record IsLocalPoint (degrees repeats : ℕ) (code : CodeNumbers) (parity : Parity) (lat lon : Fraction) (point : Point) : Type 0 where
+  pub of_grid : IsGridPoint degrees repeats point
+  pub of_parity : point.parity ≡ parity
+  pub has_code : HasCode point code
+  pub near : IsNearPoint degrees repeats lat lon point
+
+-- what a code is decoded to near (lat, lon): such a point, or that the near latitude lies outside -90 to 90
+abbrev pub LocalAnswer : ℕ → ℕ → CodeNumbers → Parity → Fraction → Fraction → Result Point LocalFault → Type 0
+LocalAnswer degrees repeats code parity lat lon (Ok point) = IsLocalPoint degrees repeats code parity lat lon point
+LocalAnswer degrees repeats code parity lat lon (Err OutOfRange) =
+    (index : ℤ) × IsNearLatitude degrees parity lat code.lat index × ¬ IsLatitude degrees parity index

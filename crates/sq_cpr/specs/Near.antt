@@ -1,0 +1,56 @@
+-- Near a reference (RTCA DO-260B, appendix on compact position reporting: local decoding; ICAO Doc 9871).
+use Rattle.std.specs.Prelude.{ℕ, ◌*◌, ℤ, pos}
+use Rattle.sq_angle.specs.Fraction.{Fraction, ◌≼◌, ◌≺◌, plus, minus}
+use Rattle.sq_angle.specs.Whole.{IsCongruent}
+use Rattle.sq_cpr.specs.Grid.{Point, steps, step, lat_zones, circle, latitude}
+
+-- r - h < x ≤ r + h
+pub record IsNear (h r x : Fraction) : Type 0 where
+  pub above : minus r h ≺ x
+  pub at_most : x ≼ plus r h
+
+-- r - h < x < r + h
+pub record IsStrictlyNear (h r x : Fraction) : Type 0 where
+  pub above : minus r h ≺ x
+  pub below : x ≺ plus r h
+
+-- half a zone, of so many zones to a span
+abbrev pub half_zone : ℕ → ℕ → Fraction
+half_zone degrees zones = record { num = pos degrees; den = 2 * zones }
+
+-- half a span: 180 degrees in the air, 45 on the ground
+abbrev pub half_span : ℕ → Fraction
+half_span degrees = record { num = pos degrees; den = 2 }
+
+-- of the angles that differ by whole spans, x is the one that represents them at r: r - W/2 < x ≤ r + W/2
+abbrev pub IsRepresentative : ℕ → Fraction → Fraction → Type 0
+IsRepresentative degrees r x = IsNear (half_span degrees) r x
+
+-- the angle of an index of so many zones to a span
+abbrev pub angle_at : ℕ → ℕ → ℤ → Fraction
+angle_at degrees zones index = steps index (step degrees zones)
+
+-- Some angle that differs from that of the index by whole turns of 360 degrees has the property: a turn is the circle's
+-- steps.
+abbrev pub OnSomeTurn : ℕ → ℕ → (ℤ → Type 0) → Type 0
+OnSomeTurn circle index P = (turned : ℤ) × IsCongruent circle turned (pos index) × P turned
+
+-- the longitude of the index is near, modulo 360 degrees: within half a longitude zone
+abbrev pub IsNearLongitude : ℕ → ℕ → ℕ → Fraction → ℕ → Type 0
+IsNearLongitude degrees repeats zones lon index =
+    OnSomeTurn (circle zones repeats) index (λ turned. IsNear (half_zone degrees zones) lon (angle_at degrees zones turned))
+
+-- the same with both ends of the interval left out
+abbrev pub IsStrictlyNearLongitude : ℕ → ℕ → ℕ → Fraction → ℕ → Type 0
+IsStrictlyNearLongitude degrees repeats zones lon index =
+    OnSomeTurn (circle zones repeats) index (λ turned. IsStrictlyNear (half_zone degrees zones) lon (angle_at degrees zones turned))
+
+-- the point is near the place: within half a zone in both coordinates, of the zones that the point itself has
+pub record IsNearPoint (degrees repeats : ℕ) (lat lon : Fraction) (point : Point) : Type 0 where
+  pub north_south : IsNear (half_zone degrees (lat_zones point.parity)) lat (latitude degrees point)
+  pub east_west : IsNearLongitude degrees repeats point.zones lon point.lon_index
+
+-- the same with both ends of both intervals left out
+pub record IsStrictlyNearPoint (degrees repeats : ℕ) (lat lon : Fraction) (point : Point) : Type 0 where
+  pub north_south : IsStrictlyNear (half_zone degrees (lat_zones point.parity)) lat (latitude degrees point)
+  pub east_west : IsStrictlyNearLongitude degrees repeats point.zones lon point.lon_index

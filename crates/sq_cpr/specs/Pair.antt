@@ -1,0 +1,78 @@
+-- Decoding an even and an odd code together (RTCA DO-260B, appendix on compact position reporting: globally unambiguous
+-- decoding, airborne and surface; ICAO Doc 9871).
+use Rattle.std.specs.Prelude.{◌≡◌, ◌≢◌, ℕ, ℤ, pos, Result, Ok, Err}
+use Rattle.sq_angle.specs.Fraction.{Fraction}
+use Rattle.sq_angle.specs.Whole.{IsCongruent}
+use Rattle.sq_zones.specs.declared.parity.Parity.{Parity}
+use Rattle.sq_zones.specs.declared.parity.Parity.TheVariants.{Even, Odd}
+use Rattle.sq_cpr.specs.declared.faults.PairFault.{PairFault}
+use Rattle.sq_cpr.specs.declared.faults.PairFault.TheVariants.{OutOfRange, ZoneCounts}
+use Rattle.sq_cpr.specs.Code.{CodeNumbers}
+use Rattle.sq_cpr.specs.Grid.{Point, IsGridPoint, IsLatitude, lat_zones, circle, grid_latitude}
+use Rattle.sq_cpr.specs.Near.{IsRepresentative, angle_at}
+use Rattle.sq_cpr.specs.Close.{IsClosePair, count_at, zones_of, HaveOneCount}
+
+-- the one of the parity
+abbrev pub of_parity : {A : Type 0} → Parity → A → A → A
+of_parity Even even odd = even
+of_parity Odd even odd = odd
+
+-- p and q are the latitude indices of a close pair with these codes
+abbrev pub AreLatitudes : ℕ → CodeNumbers → CodeNumbers → ℤ → ℤ → Type 0
+AreLatitudes degrees even odd p q = IsClosePair degrees (lat_zones Even) (lat_zones Odd) even.lat odd.lat p q
+
+-- both latitudes lie in -90 to 90
+pub record AreInRange (degrees : ℕ) (p q : ℤ) : Type 0 where
+  pub even : IsLatitude degrees Even p
+  pub odd : IsLatitude degrees Odd q
+
+-- both latitudes are the representatives at the reference
+pub record AreAt (degrees : ℕ) (lat : Fraction) (p q : ℤ) : Type 0 where
+  pub even : IsRepresentative degrees lat (grid_latitude degrees Even p)
+  pub odd : IsRepresentative degrees lat (grid_latitude degrees Odd q)
+
+-- The newest point of a close pair with these codes: both latitudes lie in -90 to 90 and have one zone count, and the
+-- longitudes are close by the zones of that count.
+pub record IsPointOfPair (degrees repeats : ℕ) (even odd : CodeNumbers) (newest : Parity) (point : Point) : Type 0 where
+  pub even_lat : ℤ
+  pub odd_lat : ℤ
+  pub even_lon : ℤ
+  pub odd_lon : ℤ
+  pub latitudes : AreLatitudes degrees even odd even_lat odd_lat
+  pub in_range : AreInRange degrees even_lat odd_lat
+  pub counts : HaveOneCount degrees even_lat odd_lat
+  pub longitudes : IsClosePair degrees (zones_of Even (count_at degrees Even even_lat)) (zones_of Odd (count_at degrees Even even_lat)) even.lon odd.lon even_lon odd_lon
+  pub of_grid : IsGridPoint degrees repeats point
+  pub parity : point.parity ≡ newest
+  pub lat_index : point.lat_index ≡ of_parity newest even_lat odd_lat
+  pub lon_index : IsCongruent (circle point.zones repeats) (pos point.lon_index) (of_parity newest even_lon odd_lon)
+
+-- both latitudes lie in -90 to 90, and their zone counts are these two, which differ
+pub record HaveTwoCounts (degrees : ℕ) (p q : ℤ) (even_count odd_count : ℕ) : Type 0 where
+  pub in_range : AreInRange degrees p q
+  pub even : even_count ≡ count_at degrees Even p
+  pub odd : odd_count ≡ count_at degrees Odd q
+  pub differ : even_count ≢ odd_count
+
+-- What a pair of codes in the air is decoded to: the newest point of the close pair; or that the close latitudes are not
+-- both in -90 to 90; or their two zone counts.
+abbrev pub AirPairAnswer : CodeNumbers → CodeNumbers → Parity → Result Point PairFault → Type 0
+AirPairAnswer even odd newest (Ok point) = IsPointOfPair 360 1 even odd newest point
+AirPairAnswer even odd newest (Err OutOfRange) = (p q : ℤ) → AreLatitudes 360 even odd p q → ¬ AreInRange 360 p q
+AirPairAnswer even odd newest (Err (ZoneCounts even_count odd_count)) =
+    (p q : ℤ) × AreLatitudes 360 even odd p q × HaveTwoCounts 360 p q even_count odd_count
+
+-- the newest point of the close pair, each coordinate by its representative at the place
+pub record IsPointOfPairAt (degrees repeats : ℕ) (even odd : CodeNumbers) (newest : Parity) (lat lon : Fraction) (point : Point) : Type 0 where
+  pub of_pair : IsPointOfPair degrees repeats even odd newest point
+  pub lat_at : AreAt degrees lat of_pair.even_lat of_pair.odd_lat
+  pub lon_at : IsRepresentative degrees lon (angle_at degrees point.zones (of_parity newest of_pair.even_lon of_pair.odd_lon))
+
+-- What a pair of codes is decoded to at the place (lat, lon): each latitude by its representative there, whatever the
+-- other's is.
+abbrev pub PairAnswer : ℕ → ℕ → CodeNumbers → CodeNumbers → Parity → Fraction → Fraction → Result Point PairFault → Type 0
+PairAnswer degrees repeats even odd newest lat lon (Ok point) = IsPointOfPairAt degrees repeats even odd newest lat lon point
+PairAnswer degrees repeats even odd newest lat lon (Err OutOfRange) =
+    (p q : ℤ) × AreLatitudes degrees even odd p q × AreAt degrees lat p q × ¬ AreInRange degrees p q
+PairAnswer degrees repeats even odd newest lat lon (Err (ZoneCounts even_count odd_count)) =
+    (p q : ℤ) × AreLatitudes degrees even odd p q × AreAt degrees lat p q × HaveTwoCounts degrees p q even_count odd_count

@@ -1,0 +1,62 @@
+//! Decoding near a reference.
+ghost use Rattle.std.specs.Prelude.{◌≡◌, ◌*◌, ◌<◌, ◌≤◌};
+ghost use Rattle.sq_angle.specs.Angle.{degrees};
+ghost use Rattle.sq_angle.specs.Position.{lat_of, lon_of};
+ghost use Rattle.sq_cpr.specs.Code.{numbers_of};
+ghost use Rattle.sq_cpr.specs.Local.{LocalAnswer};
+
+use crate::code::Code;
+use crate::faults::LocalFault;
+use crate::grid::{GridPoint, angle_at, lat_zones};
+use crate::index::{index_within, on_circle};
+use crate::span::Span;
+use sq_angle::Position;
+use sq_zones::{Parity, lon_zones};
+
+// The degrees of the span.
+pub(crate) fn degrees_of<S: Span>() -> u32
+    ensures value { result ≡ S.DEGREES }
+    ensures some { 0 < result }
+    ensures small { result ≤ 360 }
+{
+    S::DEGREES
+}
+
+// How often the span fits into the circle.
+pub(crate) fn repeats_of<S: Span>() -> u32
+    ensures value { result ≡ S.REPEATS }
+    ensures some { 0 < result }
+    ensures small { result ≤ 360 }
+{
+    S::REPEATS
+}
+
+/// The one point with this code that is near the reference: its latitude lies at most half a latitude zone from the
+/// reference's, its longitude, modulo 360 degrees, at most half a longitude zone, of the zones that the point's own latitude
+/// has. Of two such latitudes or longitudes, half a zone to either side, it is the northern or the eastern.
+///
+/// `OutOfRange` exactly where the near latitude lies outside -90 to 90 degrees. RTCA DO-260B, appendix on compact position
+/// reporting, local decoding.
+pub fn local<S: Span>(
+    code: Code,
+    parity: Parity,
+    reference: &Position,
+) -> Result<GridPoint<S>, LocalFault>
+    ensures { LocalAnswer S.DEGREES S.REPEATS (numbers_of code) parity (degrees (lat_of reference.now)) (degrees (lon_of reference.now)) result }
+{
+    let span = degrees_of::<S>();
+    let lat_index = index_within(
+        code.lat() as i128,
+        1,
+        lat_zones(parity),
+        span,
+        &reference.lat(),
+    );
+    let Some(lat) = angle_at::<S>(parity, lat_index) else {
+        return Err(LocalFault::OutOfRange);
+    };
+    let zones = lon_zones(&lat, parity);
+    let turned = index_within(code.lon() as i128, 1, zones, span, &reference.lon());
+    let lon_index = on_circle(turned, zones, repeats_of::<S>());
+    Ok(GridPoint::of_parts(parity, lat_index, zones, lon_index))
+}

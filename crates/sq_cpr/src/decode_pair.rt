@@ -1,0 +1,177 @@
+//! Decoding an even and an odd code together.
+ghost use Rattle.std.specs.Prelude.{◌≡◌, ℕ, ℤ, ◌*◌, ◌<◌, ◌≤◌, pos};
+ghost use Rattle.sq_angle.specs.Angle.{degrees};
+ghost use Rattle.sq_angle.specs.Fraction.{IsWithin, whole};
+ghost use Rattle.sq_angle.specs.Position.{lat_of, lon_of};
+ghost use Rattle.sq_cpr.specs.Code.{numbers_of};
+ghost use Rattle.sq_cpr.specs.Near.{IsRepresentative};
+ghost use Rattle.sq_cpr.specs.Near.{angle_at as angle_of_index};
+ghost use Rattle.sq_cpr.specs.Close.{IsClosePair};
+ghost use Rattle.sq_cpr.specs.Close.{zones_of as zones_of_count};
+ghost use Rattle.sq_cpr.specs.Pair.{of_parity, AreLatitudes, AreAt, AirPairAnswer, PairAnswer};
+
+use crate::code::Code;
+use crate::decode_local::{degrees_of, repeats_of};
+use crate::faults::PairFault;
+use crate::grid::{GridPoint, angle_at};
+use crate::index::{index_of, index_within, on_circle, pair_zone};
+use crate::span::{Air, Ground, Span};
+use sq_angle::{Angle, Position};
+use sq_zones::{Parity, zone_count};
+
+// An index of the even and one of the odd grid.
+#[derive(Clone, Copy)]
+struct Indices {
+    even: i32,
+    odd: i32,
+}
+
+impl Indices {
+    // The index of the parity's grid.
+    fn of(self, parity: Parity) -> i32
+        ensures { result ≡ of_parity parity self.even self.odd }
+    {
+        match parity {
+            Parity::Even => self.even,
+            Parity::Odd => self.odd,
+        }
+    }
+}
+
+// The longitude's number in the code of the parity.
+fn lon_of_newest(newest: Parity, even: Code, odd: Code) -> u32
+    ensures value { result ≡ of_parity newest (numbers_of even).lon (numbers_of odd).lon }
+    ensures small { result < 131072 }
+{
+    match newest {
+        Parity::Even => even.lon(),
+        Parity::Odd => odd.lon(),
+    }
+}
+
+// The longitude zones of a parity where the zone count is `count`.
+fn zones_of(parity: Parity, count: u8) -> u8
+    requires some { 1 ≤ count }
+    requires small { count ≤ 59 }
+    ensures value { result ≡ zones_of_count parity count }
+    ensures at_least { 1 ≤ result }
+    ensures at_most { result ≤ 59 }
+{
+    (count - parity.index()).max(1)
+}
+
+// The close latitudes of two codes, each by its representative at the reference.
+fn close_latitudes(span: u32, even: Code, odd: Code, reference: &Angle) -> Indices
+    requires span_some { 0 < span }
+    requires span_small { span ≤ 360 }
+    requires reference_small { IsWithin 180 (degrees reference.now) }
+    ensures latitudes { AreLatitudes span (numbers_of even) (numbers_of odd) result.even result.odd }
+    ensures at { AreAt span (degrees reference.now) result.even result.odd }
+{
+    let zone = pair_zone(60, 59, even.lat(), odd.lat());
+    Indices {
+        even: index_within(index_of(even.lat(), zone), 60, 60, span, reference),
+        odd: index_within(index_of(odd.lat(), zone), 59, 59, span, reference),
+    }
+}
+
+// The newest of the close longitudes of two codes, by its representative at the reference, where both latitudes have the
+// zone count `count`.
+fn close_longitude(
+    span: u32,
+    count: u8,
+    newest: Parity,
+    even: Code,
+    odd: Code,
+    reference: &Angle,
+) -> i32
+    requires span_some { 0 < span }
+    requires span_small { span ≤ 360 }
+    requires count_some { 1 ≤ count }
+    requires count_small { count ≤ 59 }
+    requires reference_small { IsWithin 180 (degrees reference.now) }
+    ensures longitudes { (p q : ℤ) × IsClosePair span (zones_of_count Parity.Even count) (zones_of_count Parity.Odd count) (numbers_of even).lon (numbers_of odd).lon p q × (result ≡ of_parity newest p q) }
+    ensures at { IsRepresentative span (degrees reference.now) (angle_of_index span (zones_of_count newest count) result) }
+{
+    let zone = pair_zone(
+        zones_of(Parity::Even, count),
+        zones_of(Parity::Odd, count),
+        even.lon(),
+        odd.lon(),
+    );
+    let zones = zones_of(newest, count);
+    index_within(
+        index_of(lon_of_newest(newest, even, odd), zone),
+        zones,
+        zones,
+        span,
+        reference,
+    )
+}
+
+// The newest point of the close pair, each coordinate by its representative at the place.
+fn pair<S: Span>(
+    even: Code,
+    odd: Code,
+    newest: Parity,
+    place: &Position,
+) -> Result<GridPoint<S>, PairFault>
+    ensures { PairAnswer S.DEGREES S.REPEATS (numbers_of even) (numbers_of odd) newest (degrees (lat_of place.now)) (degrees (lon_of place.now)) result }
+{
+    let span = degrees_of::<S>();
+    let lats = close_latitudes(span, even, odd, &place.lat());
+    let Some(even_lat) = angle_at::<S>(Parity::Even, lats.even) else {
+        return Err(PairFault::OutOfRange);
+    };
+    let Some(odd_lat) = angle_at::<S>(Parity::Odd, lats.odd) else {
+        return Err(PairFault::OutOfRange);
+    };
+    let count = zone_count(&even_lat);
+    let odd_count = zone_count(&odd_lat);
+    if count != odd_count {
+        return Err(PairFault::ZoneCounts(count, odd_count));
+    }
+    let turned = close_longitude(span, count, newest, even, odd, &place.lon());
+    let zones = zones_of(newest, count);
+    let lon_index = on_circle(turned, zones, repeats_of::<S>());
+    Ok(GridPoint::of_parts(newest, lats.of(newest), zones, lon_index))
+}
+
+// Latitude and longitude 0.
+fn origin() -> Position
+    ensures lat { degrees (lat_of result) ≡ whole 0 }
+    ensures lon { degrees (lon_of result) ≡ whole 0 }
+{
+    let zero = Angle::new(0, 1).unwrap();
+    Position::new(zero, zero).unwrap()
+}
+
+/// The point of two codes that were sent from nearly one place in the air: the newest parity's of the one pair whose
+/// latitudes are close, and whose longitudes are.
+///
+/// `OutOfRange` exactly where the close latitudes do not both lie in -90 to 90 degrees, by whole turns of 360; else
+/// `ZoneCounts` exactly where their zone counts differ, the even one's first. RTCA DO-260B, appendix on compact position
+/// reporting, globally unambiguous airborne decoding.
+pub fn pair_air(even: Code, odd: Code, newest: Parity) -> Result<GridPoint<Air>, PairFault>
+    ensures { AirPairAnswer (numbers_of even) (numbers_of odd) newest result }
+{
+    pair::<Air>(even, odd, newest, &origin())
+}
+
+/// The point of two codes that were sent from nearly one place on the ground: the newest parity's of the one pair whose
+/// latitudes are close, and whose longitudes are. Of the places that these codes have, 90 degrees apart, it is the one
+/// within 45 degrees of the site in both coordinates; of two such, 45 degrees to either side, the northern or the eastern.
+///
+/// `OutOfRange` exactly where one of the latitudes, so chosen by itself, lies outside -90 to 90 degrees; else `ZoneCounts`
+/// exactly where their zone counts differ, the even one's first. RTCA DO-260B, appendix on compact position reporting,
+/// globally unambiguous surface decoding.
+pub fn pair_ground(
+    even: Code,
+    odd: Code,
+    newest: Parity,
+    site: &Position,
+) -> Result<GridPoint<Ground>, PairFault>
+    ensures { PairAnswer 90 4 (numbers_of even) (numbers_of odd) newest (degrees (lat_of site.now)) (degrees (lon_of site.now)) result }
+{
+    pair::<Ground>(even, odd, newest, site)
+}

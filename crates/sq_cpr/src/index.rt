@@ -1,0 +1,112 @@
+//! Which of the indices of a code is meant: the one within half a window of a reference, or the one of a close pair.
+//!
+//! All numbers are whole. One function multiplies, divides or subtracts once, so that each fits 128 bits visibly.
+ghost use Rattle.std.specs.Prelude.{◌≡◌, ℕ, ◌*◌, ◌^◌, ◌<◌, ◌≤◌, ℤ, pos, ◌+ℤ◌, ◌-ℤ◌, ◌*ℤ◌, ◌≤ℤ◌, ◌<ℤ◌, neg_ℤ, unsigned_abs};
+ghost use Rattle.sq_angle.specs.Angle.{degrees};
+ghost use Rattle.sq_angle.specs.Fraction.{IsWithin};
+ghost use Rattle.sq_angle.specs.Whole.{IsCongruent};
+ghost use Rattle.sq_cpr.specs.Grid.{codes_of_zone, circle};
+ghost use Rattle.sq_cpr.specs.Multiplied.{apart, LiesWithin, IsZone};
+
+use crate::code::CODES;
+use sq_angle::Angle;
+
+// The quotient, rounded down.
+fn quotient_down(value: i128, divisor: u128) -> i128
+    requires value_small { unsigned_abs value < 2 ^ 120 }
+    requires divisor_some { 0 < divisor }
+    requires divisor_small { divisor < 2 ^ 120 }
+    ensures reached { (pos divisor *ℤ result) ≤ℤ value }
+    ensures next { value <ℤ (pos divisor *ℤ result +ℤ pos divisor) }
+    ensures small { unsigned_abs result ≤ unsigned_abs value }
+{
+    value.div_euclid(divisor as i128)
+}
+
+// How many times `2 * width` is to be taken from `2 * away`, to come into (-width, width].
+fn turns(away: i128, width: u128) -> i128
+    requires away_small { unsigned_abs away < 2 ^ 100 }
+    requires width_some { 0 < width }
+    requires width_small { width < 2 ^ 100 }
+    ensures above { neg_ℤ (pos width) <ℤ (pos 2 *ℤ away -ℤ pos (2 * width) *ℤ result) }
+    ensures below { (pos 2 *ℤ away -ℤ pos (2 * width) *ℤ result) ≤ℤ pos width }
+    ensures small { unsigned_abs result < 2 ^ 102 }
+{
+    quotient_down(2 * away + (width as i128 - 1), 2 * width)
+}
+
+// A whole number times a natural factor.
+fn scaled(factor: u64, value: i128) -> i128
+    requires { factor * unsigned_abs value < 2 ^ 127 }
+    ensures { result ≡ pos factor *ℤ value }
+{
+    i128::from(factor) * value
+}
+
+// How far the index lies above the reference, in the parts that both are whole numbers of.
+fn distance(index: i128, zones: u8, span: u32, reference: &Angle) -> i128
+    requires index_small { unsigned_abs index < 2 ^ 44 }
+    requires zones_small { zones ≤ 60 }
+    requires span_small { span ≤ 360 }
+    ensures value { result ≡ apart span zones index (degrees reference.now) }
+    ensures small { unsigned_abs result < 2 ^ 100 }
+{
+    let step = span as u64 * reference.den();
+    let steps = zones as u64 * CODES;
+    scaled(step, index) - scaled(steps, reference.num() as i128)
+}
+
+/// Of the indices `count` zones apart, the one within half that many zones of the reference.
+pub(crate) fn index_within(base: i128, count: u8, zones: u8, span: u32, reference: &Angle) -> i32
+    requires base_small { unsigned_abs base < 2 ^ 44 }
+    requires some { 0 < count }
+    requires count_small { count ≤ 60 }
+    requires zones_small { zones ≤ 60 }
+    requires span_some { 0 < span }
+    requires span_small { span ≤ 360 }
+    requires reference_small { IsWithin 180 (degrees reference.now) }
+    ensures congruent { IsCongruent (count * codes_of_zone) result base }
+    ensures within { LiesWithin count span zones result (degrees reference.now) }
+{
+    let period = count as u64 * CODES;
+    let width = period as u128 * (span as u64 * reference.den()) as u128;
+    let turns = turns(distance(base, zones, span, reference), width);
+    (base - scaled(period, turns)) as i32
+}
+
+/// How many zones a close pair lies above its codes.
+pub(crate) fn pair_zone(even_zones: u8, odd_zones: u8, even: u32, odd: u32) -> i128
+    requires even_zones_small { even_zones ≤ 60 }
+    requires odd_zones_small { odd_zones ≤ 60 }
+    requires even_small { even < 2 ^ 17 }
+    requires odd_small { odd < 2 ^ 17 }
+    ensures zone { IsZone even_zones odd_zones even odd result }
+    ensures small { unsigned_abs result < 2 ^ 24 }
+{
+    let above = odd_zones as u64 * even as u64;
+    let below = even_zones as u64 * odd as u64;
+    quotient_down(above as i128 - below as i128 + 65536, CODES as u128)
+}
+
+/// The index of a code, so many zones up.
+pub(crate) fn index_of(code: u32, zone: i128) -> i128
+    requires code_small { code < 2 ^ 17 }
+    requires zone_small { unsigned_abs zone < 2 ^ 24 }
+    ensures value { result ≡ pos code +ℤ pos codes_of_zone *ℤ zone }
+    ensures small { unsigned_abs result < 2 ^ 44 }
+{
+    code as i128 + CODES as i128 * zone
+}
+
+/// The index on the circle of longitude.
+pub(crate) fn on_circle(index: i32, zones: u8, repeats: u32) -> u32
+    requires some_zones { 0 < zones }
+    requires small_zones { zones ≤ 59 }
+    requires some_repeats { 0 < repeats }
+    requires small_repeats { repeats ≤ 360 }
+    ensures congruent { IsCongruent (circle zones repeats) (pos result) index }
+    ensures below { result < circle zones repeats }
+{
+    let circle = zones as u64 * CODES * repeats as u64;
+    (index as i64).rem_euclid(circle as i64) as u32
+}
