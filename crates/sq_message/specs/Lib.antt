@@ -4,3 +4,4 @@ pub mod Spelling
 pub mod Altitudes
 pub mod Heads
 pub mod Sending
+pub mod Places

@@ -1,0 +1,129 @@
+-- Where squitters are: the points that their codes are decoded to, and what is sent of a point (RTCA DO-260B, appendix on
+-- compact position reporting; ICAO Doc 9871). In the air a span is 360 degrees, on the ground 90.
+use Rattle.std.specs.Prelude.{◌≡◌, ◌≢◌, ⊤, Option, None, Some, Result, Ok, Err}
+use Rattle.sq_angle.specs.declared.position.Position.{Position}
+use Rattle.sq_angle.specs.Angle.{degrees}
+use Rattle.sq_angle.specs.Fraction.{Fraction}
+use Rattle.sq_angle.specs.Position.{lat_of, lon_of}
+use Rattle.sq_zones.specs.declared.parity.Parity.{Parity}
+use Rattle.sq_cpr.specs.declared.faults.LocalFault.{LocalFault}
+use Rattle.sq_cpr.specs.declared.faults.LocalFault.TheVariants as locals
+use Rattle.sq_cpr.specs.declared.faults.PairFault.{PairFault}
+use Rattle.sq_cpr.specs.declared.faults.PairFault.TheVariants as pairs
+use Rattle.sq_cpr.specs.Code.{numbers_of}
+use Rattle.sq_cpr.specs.Grid.{Point, latitude, longitude}
+use Rattle.sq_cpr.specs.Local.{LocalAnswer}
+use Rattle.sq_cpr.specs.Pair.{of_parity, AirPairAnswer, PairAnswer}
+use Rattle.sq_message.specs.declared.air.Airborne.{Airborne}
+use Rattle.sq_message.specs.declared.ground.Surface.{Surface}
+use Rattle.sq_message.specs.declared.squitter.Me.{Me}
+use Rattle.sq_message.specs.declared.squitter.Me.TheVariants as kinds
+use Rattle.sq_message.specs.declared.place.Place.{Place}
+use Rattle.sq_message.specs.declared.place.Place.TheVariants.{Air, Ground}
+use Rattle.sq_message.specs.declared.place.PlaceFault.{PlaceFault}
+use Rattle.sq_message.specs.declared.place.PlaceFault.TheVariants.{NotPosition, OtherAddress, OtherKind, SameParity, NoSite, OutOfRange, ZoneCounts}
+use Rattle.sq_message.specs.Heads.{AirHeadParts, GroundHeadParts}
+use Rattle.sq_message.specs.Parts.{SquitterParts}
+use Rattle.sq_message.specs.Sending.{IsAirSquitter, IsGroundSquitter}
+
+-- the latitude of a place is its point's
+abbrev pub place_latitude : Place → Fraction
+place_latitude (Air point) = latitude 360 point
+place_latitude (Ground point) = latitude 90 point
+
+-- the longitude of a place is its point's
+abbrev pub place_longitude : Place → Fraction
+place_longitude (Air point) = longitude 360 point
+place_longitude (Ground point) = longitude 90 point
+
+-- the position has the place's latitude and longitude
+pub record IsPositionOf (place : Place) (position : Position) : Type 0 where
+  pub lat : degrees (lat_of position) ≡ place_latitude place
+  pub lon : degrees (lon_of position) ≡ place_longitude place
+
+-- an airborne or a surface position
+abbrev pub IsPosition : Me → Type 0
+IsPosition (kinds.Airborne airborne) = ⊤
+IsPosition (kinds.Surface surface) = ⊤
+IsPosition (kinds.Other other) = ⊥
+
+-- both are air or both are ground
+abbrev pub Fits : Me → Place → Type 0
+Fits (kinds.Airborne airborne) (Air point) = ⊤
+Fits (kinds.Airborne airborne) (Ground point) = ⊥
+Fits (kinds.Surface surface) (Air point) = ⊥
+Fits (kinds.Surface surface) (Ground point) = ⊤
+Fits (kinds.Other other) place = ⊥
+
+-- all of an airborne squitter but its place
+abbrev pub air_head_of : SquitterParts → Airborne → AirHeadParts
+air_head_of squitter airborne = record { ca = squitter.ca; address = squitter.address; fields = airborne.fields }
+
+-- all of a surface squitter but its place
+abbrev pub ground_head_of : SquitterParts → Surface → GroundHeadParts
+ground_head_of squitter surface = record { ca = squitter.ca; address = squitter.address; fields = surface.fields }
+
+-- what is sent of a place of the squitter's kind: the squitter's head, with the parity and the code of the point
+abbrev pub IsSentAt : SquitterParts → Place → SquitterParts → Type 0
+IsSentAt squitter (Air point) sent =
+    (airborne : Airborne) × (squitter.me ≡ kinds.Airborne airborne) × IsAirSquitter (air_head_of squitter airborne) point sent
+IsSentAt squitter (Ground point) sent =
+    (surface : Surface) × (squitter.me ≡ kinds.Surface surface) × IsGroundSquitter (ground_head_of squitter surface) point sent
+
+-- the decoder's fault near a reference, as a place's
+abbrev pub of_local : LocalFault → PlaceFault
+of_local locals.OutOfRange = OutOfRange
+
+-- the decoder's fault of a pair, as a place's
+abbrev pub of_pair : PairFault → PlaceFault
+of_pair pairs.OutOfRange = OutOfRange
+of_pair (pairs.ZoneCounts even odd) = ZoneCounts even odd
+
+-- the decoder's answer, as a place of this kind or its fault
+abbrev pub place_of : {Fault : Type 0} → (Point → Place) → (Fault → PlaceFault) → Result Point Fault → Result Place PlaceFault
+place_of kind named (Ok point) = Ok (kind point)
+place_of kind named (Err fault) = Err (named fault)
+
+-- what a message is decoded to near a reference: its code, by its span and parity
+abbrev pub IsLocalPlace : Me → Position → Result Place PlaceFault → Type 0
+IsLocalPlace (kinds.Airborne airborne) reference answer = (found : Result Point LocalFault)
+    × LocalAnswer 360 1 (numbers_of airborne.code) airborne.parity (degrees (lat_of reference)) (degrees (lon_of reference)) found
+    × (answer ≡ place_of Air of_local found)
+IsLocalPlace (kinds.Surface surface) reference answer = (found : Result Point LocalFault)
+    × LocalAnswer 90 4 (numbers_of surface.code) surface.parity (degrees (lat_of reference)) (degrees (lon_of reference)) found
+    × (answer ≡ place_of Ground of_local found)
+IsLocalPlace (kinds.Other other) reference answer = answer ≡ Err NotPosition
+
+-- two positions in the air, of different parity: what their codes are decoded to, the even one's first
+abbrev pub IsAirPairPlace : (older newer : Airborne) → Result Place PlaceFault → Type 0
+IsAirPairPlace older newer answer = (found : Result Point PairFault)
+    × AirPairAnswer (of_parity newer.parity (numbers_of newer.code) (numbers_of older.code)) (of_parity newer.parity (numbers_of older.code) (numbers_of newer.code)) newer.parity found
+    × (answer ≡ place_of Air of_pair found)
+
+-- two positions on the ground, of different parity: without a site none; else what their codes are decoded to there
+abbrev pub IsGroundPairPlace : (older newer : Surface) → Option Position → Result Place PlaceFault → Type 0
+IsGroundPairPlace older newer None answer = answer ≡ Err NoSite
+IsGroundPairPlace older newer (Some site) answer = (found : Result Point PairFault)
+    × PairAnswer 90 4 (of_parity newer.parity (numbers_of newer.code) (numbers_of older.code)) (of_parity newer.parity (numbers_of older.code) (numbers_of newer.code)) newer.parity
+    (degrees (lat_of site)) (degrees (lon_of site)) found
+    × (answer ≡ place_of Ground of_pair found)
+
+-- one parity is a fault; of two parities there is this answer
+abbrev pub NeedsTwoParities : (older newer : Parity) → Result Place PlaceFault → Type 0 → Type 0
+NeedsTwoParities older newer answer Rest = (older ≡ newer → answer ≡ Err SameParity) × (older ≢ newer → Rest)
+
+-- two positions of one address
+abbrev pub IsKindredPlace : (older newer : Me) → Option Position → Result Place PlaceFault → Type 0
+IsKindredPlace (kinds.Airborne older) (kinds.Airborne newer) site answer = NeedsTwoParities older.parity newer.parity answer (IsAirPairPlace older newer answer)
+IsKindredPlace (kinds.Surface older) (kinds.Surface newer) site answer = NeedsTwoParities older.parity newer.parity answer (IsGroundPairPlace older newer site answer)
+IsKindredPlace (kinds.Airborne older) (kinds.Surface newer) site answer = answer ≡ Err OtherKind
+IsKindredPlace (kinds.Surface older) (kinds.Airborne newer) site answer = answer ≡ Err OtherKind
+IsKindredPlace (kinds.Airborne older) (kinds.Other newer) site answer = ⊥
+IsKindredPlace (kinds.Surface older) (kinds.Other newer) site answer = ⊥
+IsKindredPlace (kinds.Other older) newer site answer = ⊥
+
+-- What two squitters are decoded to: the first fault that applies, else the place of the newer.
+pub record IsPairPlace (older newer : SquitterParts) (site : Option Position) (answer : Result Place PlaceFault) : Type 0 where
+  pub other : ¬ (IsPosition older.me × IsPosition newer.me) → answer ≡ Err NotPosition
+  pub strangers : IsPosition older.me × IsPosition newer.me → older.address ≢ newer.address → answer ≡ Err OtherAddress
+  pub kindred : IsPosition older.me × IsPosition newer.me → older.address ≡ newer.address → IsKindredPlace older.me newer.me site answer

@@ -1,0 +1,219 @@
+//! Places: the points that squitters are decoded to, and what is sent of a point.
+ghost use Rattle.std.specs.Prelude.{◌≡◌, ◌↔◌, IsTrue, option_map};
+ghost use Rattle.sq_cpr.specs.Code.{numbers_of};
+ghost use Rattle.sq_cpr.specs.Pair.{of_parity};
+ghost use Rattle.sq_message.specs.Parts.{squitter_parts};
+ghost use Rattle.sq_message.specs.Places.{Fits, IsAirPairPlace, IsGroundPairPlace, IsLocalPlace, IsPairPlace, IsPosition, IsPositionOf, IsSentAt, NeedsTwoParities, of_local, of_pair};
+
+use crate::{Airborne, Me, Squitter, Surface};
+use sq_cpr::{
+    Air, Code, GridPoint, Ground, LocalFault, PairFault, Parity, Position, local, pair_air,
+    pair_ground,
+};
+
+/// Where a squitter is: a point of the air's grid or of the ground's.
+#[derive(Clone, Copy, Debug, PartialEq, Eq)]
+pub enum Place {
+    Air(GridPoint<Air>),
+    Ground(GridPoint<Ground>),
+}
+
+impl Place {
+    /// The position of its point, exactly.
+    pub fn position(&self) -> Position
+        ensures { IsPositionOf self.now result }
+    {
+        match self {
+            Place::Air(point) => point.position(),
+            Place::Ground(point) => point.position(),
+        }
+    }
+}
+
+/// Why squitters are decoded to no place: the first of these that applies.
+#[derive(Clone, Copy, Debug, PartialEq, Eq)]
+pub enum PlaceFault {
+    /// A squitter is no position: it is of kind other.
+    NotPosition,
+    /// The addresses of a pair differ.
+    OtherAddress,
+    /// One of a pair is in the air and one on the ground.
+    OtherKind,
+    /// Both of a pair are even, or both are odd.
+    SameParity,
+    /// A pair on the ground has no site.
+    NoSite,
+    /// The latitude near the reference, or one of the close latitudes of a pair, lies outside -90 to 90 degrees.
+    OutOfRange,
+    /// The zone counts of a pair's even and of its odd latitude, which differ.
+    ZoneCounts(u8, u8),
+}
+
+impl From<LocalFault> for PlaceFault {
+    ghost from_gives = { λ fault result. result ≡ of_local fault };
+
+    fn from(fault: LocalFault) -> PlaceFault {
+        match fault {
+            LocalFault::OutOfRange => PlaceFault::OutOfRange,
+        }
+    }
+}
+
+impl From<PairFault> for PlaceFault {
+    ghost from_gives = { λ fault result. result ≡ of_pair fault };
+
+    fn from(fault: PairFault) -> PlaceFault {
+        match fault {
+            PairFault::OutOfRange => PlaceFault::OutOfRange,
+            PairFault::ZoneCounts(even, odd) => PlaceFault::ZoneCounts(even, odd),
+        }
+    }
+}
+
+impl Squitter {
+    /// Whether it is an airborne or a surface position.
+    pub fn is_position(&self) -> bool
+        ensures { IsTrue result ↔ IsPosition (squitter_parts self.now).me }
+    {
+        match self.me {
+            Me::Airborne(_) | Me::Surface(_) => true,
+            Me::Other(_) => false,
+        }
+    }
+
+    /// Whether the place is of its kind: both are air or both are ground.
+    pub fn fits(&self, place: &Place) -> bool
+        ensures { IsTrue result ↔ Fits (squitter_parts self.now).me place.now }
+    {
+        match (&self.me, place) {
+            (Me::Airborne(_), Place::Air(_)) | (Me::Surface(_), Place::Ground(_)) => true,
+            _ => false,
+        }
+    }
+}
+
+/// The squitter with the parity and the code of a place of its kind, and all else as it was.
+pub fn send_point(squitter: &Squitter, place: &Place) -> Squitter
+    requires { Fits (squitter_parts squitter.now).me place.now }
+    ensures { IsSentAt (squitter_parts squitter.now) place.now (squitter_parts result) }
+{
+    let me = match (&squitter.me, place) {
+        (Me::Airborne(airborne), Place::Air(point)) => Me::Airborne(Airborne {
+            fields: airborne.fields,
+            parity: point.parity(),
+            code: point.code(),
+        }),
+        (Me::Surface(surface), Place::Ground(point)) => Me::Surface(Surface {
+            fields: surface.fields,
+            parity: point.parity(),
+            code: point.code(),
+        }),
+        _ => squitter.me,
+    };
+    Squitter {
+        ca: squitter.ca,
+        address: squitter.address,
+        me,
+    }
+}
+
+/// The place of a squitter near a reference: the one point with its code, of its span and parity, that lies within half a
+/// zone of the reference in both coordinates.
+///
+/// `NotPosition` exactly for a squitter of kind other; else `OutOfRange` exactly where the latitude near the reference lies
+/// outside -90 to 90 degrees. RTCA DO-260B, appendix on compact position reporting, local decoding.
+pub fn place_local(squitter: &Squitter, reference: &Position) -> Result<Place, PlaceFault>
+    ensures { IsLocalPlace (squitter_parts squitter.now).me reference.now result }
+{
+    match &squitter.me {
+        Me::Airborne(airborne) => {
+            let point = local::<Air>(airborne.code, airborne.parity, reference)?;
+            Ok(Place::Air(point))
+        }
+        Me::Surface(surface) => {
+            let point = local::<Ground>(surface.code, surface.parity, reference)?;
+            Ok(Place::Ground(point))
+        }
+        Me::Other(_) => Err(PlaceFault::NotPosition),
+    }
+}
+
+/// The place of the newer of two squitters that were sent from nearly one place: its point of the one pair whose latitudes are
+/// close, and whose longitudes are; on the ground within 45 degrees of the site. A pair in the air does not look at the site.
+///
+/// `Err` tells the first fault of [`PlaceFault`] that applies, and comes exactly where one does. RTCA DO-260B, appendix on
+/// compact position reporting, globally unambiguous decoding.
+pub fn place_pair(
+    older: &Squitter,
+    newer: &Squitter,
+    site: Option<&Position>,
+) -> Result<Place, PlaceFault>
+    ensures { IsPairPlace (squitter_parts older.now) (squitter_parts newer.now) (option_map (λ s. s.now) site.entry) result }
+{
+    if !older.is_position() || !newer.is_position() {
+        return Err(PlaceFault::NotPosition);
+    }
+    if older.address != newer.address {
+        return Err(PlaceFault::OtherAddress);
+    }
+    match (&older.me, &newer.me) {
+        (Me::Airborne(older), Me::Airborne(newer)) => air_pair(older, newer),
+        (Me::Surface(older), Me::Surface(newer)) => ground_pair(older, newer, site),
+        _ => Err(PlaceFault::OtherKind),
+    }
+}
+
+// An even and an odd code.
+#[derive(Clone, Copy)]
+struct Codes {
+    even: Code,
+    odd: Code,
+}
+
+// The codes of two parities, of which this is the newer's.
+fn by_parity(newest: Parity, older: Code, newer: Code) -> Codes
+    ensures even { numbers_of result.even ≡ of_parity newest (numbers_of newer) (numbers_of older) }
+    ensures odd { numbers_of result.odd ≡ of_parity newest (numbers_of older) (numbers_of newer) }
+{
+    match newest {
+        Parity::Even => Codes {
+            even: newer,
+            odd: older,
+        },
+        Parity::Odd => Codes {
+            even: older,
+            odd: newer,
+        },
+    }
+}
+
+// The place of the newer of two airborne positions.
+fn air_pair(older: &Airborne, newer: &Airborne) -> Result<Place, PlaceFault>
+    ensures { NeedsTwoParities older.now.parity newer.now.parity result (IsAirPairPlace older.now newer.now result) }
+{
+    if older.parity == newer.parity {
+        return Err(PlaceFault::SameParity);
+    }
+    let codes = by_parity(newer.parity, older.code, newer.code);
+    let point = pair_air(codes.even, codes.odd, newer.parity)?;
+    Ok(Place::Air(point))
+}
+
+// The place of the newer of two surface positions.
+fn ground_pair(
+    older: &Surface,
+    newer: &Surface,
+    site: Option<&Position>,
+) -> Result<Place, PlaceFault>
+    ensures { NeedsTwoParities older.now.parity newer.now.parity result (IsGroundPairPlace older.now newer.now (option_map (λ s. s.now) site.entry) result) }
+{
+    if older.parity == newer.parity {
+        return Err(PlaceFault::SameParity);
+    }
+    let Some(site) = site else {
+        return Err(PlaceFault::NoSite);
+    };
+    let codes = by_parity(newer.parity, older.code, newer.code);
+    let point = pair_ground(codes.even, codes.odd, newer.parity, site)?;
+    Ok(Place::Ground(point))
+}
