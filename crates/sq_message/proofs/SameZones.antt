@@ -20,7 +20,7 @@ use Rattle.sq_message.proofs.Same.{same_squitter}
 use Rattle.sq_message.proofs.One.{one_squitter, one_frame}
 
 -- squitters of one head and one point are one
-same_sent_in_air : (head : AirHeadParts) (p : Point) (a b : Squitter) → IsAirSquitter head p (squitter_parts a) → IsAirSquitter head p (squitter_parts b) → a ≡ b
+pub same_sent_in_air : (head : AirHeadParts) (p : Point) (a b : Squitter) → IsAirSquitter head p (squitter_parts a) → IsAirSquitter head p (squitter_parts b) → a ≡ b
 same_sent_in_air head p a b h k =
     let fields = h.fields ∙ sym k.fields in
     let parity = h.parity ∙ sym k.parity in
@@ -29,7 +29,7 @@ same_sent_in_air head p a b h k =
     let airborne : h.airborne ≡ k.airborne = λ i. record { fields = fields i; parity = parity i; code = code i } in
     same_squitter a b (h.ca ∙ sym k.ca) (h.address ∙ sym k.address) (h.me ∙ ap kinds.Airborne airborne ∙ sym k.me)
 
-same_sent_on_ground : (head : GroundHeadParts) (p : Point) (a b : Squitter) → IsGroundSquitter head p (squitter_parts a) → IsGroundSquitter head p (squitter_parts b) → a ≡ b
+pub same_sent_on_ground : (head : GroundHeadParts) (p : Point) (a b : Squitter) → IsGroundSquitter head p (squitter_parts a) → IsGroundSquitter head p (squitter_parts b) → a ≡ b
 same_sent_on_ground head p a b h k =
     let fields = h.fields ∙ sym k.fields in
     let parity = h.parity ∙ sym k.parity in

@@ -5,3 +5,4 @@ pub mod Altitudes
 pub mod Heads
 pub mod Sending
 pub mod Places
+pub mod Headline

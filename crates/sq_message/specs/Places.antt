@@ -1,6 +1,6 @@
 -- Where squitters are: the points that their codes are decoded to, and what is sent of a point (RTCA DO-260B, appendix on
 -- compact position reporting; ICAO Doc 9871). In the air a span is 360 degrees, on the ground 90.
-use Rattle.std.specs.Prelude.{◌≡◌, ◌≢◌, ⊤, Option, None, Some, Result, Ok, Err}
+use Rattle.std.specs.Prelude.{◌≡◌, ◌≢◌, ◌⊎◌, ⊤, Option, None, Some, Result, Ok, Err}
 use Rattle.sq_angle.specs.declared.position.Position.{Position}
 use Rattle.sq_angle.specs.Angle.{degrees}
 use Rattle.sq_angle.specs.Fraction.{Fraction}
@@ -94,19 +94,28 @@ IsLocalPlace (kinds.Surface surface) reference answer = (found : Result Point Lo
     × (answer ≡ place_of Ground of_local found)
 IsLocalPlace (kinds.Other other) reference answer = answer ≡ Err NotPosition
 
--- two positions in the air, of different parity: what their codes are decoded to, the even one's first
+-- the even one of two, where the newer is of this parity
+abbrev pub even_of : {A : Type 0} → Parity → (older newer : A) → A
+even_of newest older newer = of_parity newest newer older
+
+-- the odd one of two, where the newer is of this parity
+abbrev pub odd_of : {A : Type 0} → Parity → (older newer : A) → A
+odd_of newest older newer = of_parity newest older newer
+
+-- two positions in the air, of different parity: what their codes are decoded to
 abbrev pub IsAirPairPlace : (older newer : Airborne) → Result Place PlaceFault → Type 0
-IsAirPairPlace older newer answer = (found : Result Point PairFault)
-    × AirPairAnswer (of_parity newer.parity (numbers_of newer.code) (numbers_of older.code)) (of_parity newer.parity (numbers_of older.code) (numbers_of newer.code)) newer.parity found
-    × (answer ≡ place_of Air of_pair found)
+IsAirPairPlace older newer answer =
+    let even = even_of newer.parity (numbers_of older.code) (numbers_of newer.code) in
+    let odd = odd_of newer.parity (numbers_of older.code) (numbers_of newer.code) in
+    (found : Result Point PairFault) × AirPairAnswer even odd newer.parity found × (answer ≡ place_of Air of_pair found)
 
 -- two positions on the ground, of different parity: without a site none; else what their codes are decoded to there
 abbrev pub IsGroundPairPlace : (older newer : Surface) → Option Position → Result Place PlaceFault → Type 0
 IsGroundPairPlace older newer None answer = answer ≡ Err NoSite
-IsGroundPairPlace older newer (Some site) answer = (found : Result Point PairFault)
-    × PairAnswer 90 4 (of_parity newer.parity (numbers_of newer.code) (numbers_of older.code)) (of_parity newer.parity (numbers_of older.code) (numbers_of newer.code)) newer.parity
-    (degrees (lat_of site)) (degrees (lon_of site)) found
-    × (answer ≡ place_of Ground of_pair found)
+IsGroundPairPlace older newer (Some site) answer =
+    let even = even_of newer.parity (numbers_of older.code) (numbers_of newer.code) in
+    let odd = odd_of newer.parity (numbers_of older.code) (numbers_of newer.code) in
+    (found : Result Point PairFault) × PairAnswer 90 4 even odd newer.parity (degrees (lat_of site)) (degrees (lon_of site)) found × (answer ≡ place_of Ground of_pair found)
 
 -- one parity is a fault; of two parities there is this answer
 abbrev pub NeedsTwoParities : (older newer : Parity) → Result Place PlaceFault → Type 0 → Type 0
@@ -127,3 +136,9 @@ pub record IsPairPlace (older newer : SquitterParts) (site : Option Position) (a
   pub other : ¬ (IsPosition older.me × IsPosition newer.me) → answer ≡ Err NotPosition
   pub strangers : IsPosition older.me × IsPosition newer.me → older.address ≢ newer.address → answer ≡ Err OtherAddress
   pub kindred : IsPosition older.me × IsPosition newer.me → older.address ≡ newer.address → IsKindredPlace older.me newer.me site answer
+
+-- the place is one that the squitter is decoded to: near some reference, or as the newer of some pair
+abbrev pub IsDecoded : SquitterParts → Place → Type 0
+IsDecoded squitter place =
+    ((reference : Position) × IsLocalPlace squitter.me reference (Ok place))
+    ⊎ ((older : SquitterParts) × (site : Option Position) × IsPairPlace older squitter site (Ok place))

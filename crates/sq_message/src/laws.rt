@@ -1,5 +1,5 @@
 //! Laws of frames, squitters and altitudes. The contracts of the calls name the same definitions.
-ghost use Rattle.std.specs.Prelude.{◌≡◌, ◌≤◌, ◌↔◌, ℕ, ℤ, Result};
+ghost use Rattle.std.specs.Prelude.{◌≡◌, ◌≤◌, ◌↔◌, ℕ, ℤ, Result, IfOk};
 ghost use Rattle.sq_bits.specs.declared.frame.Frame.{Frame};
 ghost use Rattle.sq_bits.specs.Frames.{IsFrame};
 ghost use Rattle.sq_message.specs.declared.air.Altitude.{Altitude};
@@ -9,12 +9,13 @@ ghost use Rattle.sq_message.specs.declared.squitter.Squitter.{Squitter};
 ghost use Rattle.sq_cpr.specs.Grid.{Point};
 ghost use Rattle.sq_cpr.specs.Zones.{ZonePair};
 ghost use Rattle.sq_message.specs.Altitudes.{IsAltitude, IsFieldOfFeet};
+ghost use Rattle.sq_message.specs.Headline.{ClosePairInAir, ClosePairOnGround, NearReferenceInAir, NearReferenceOnGround, OneLocalPlace, OnePairPlace, SentAgainInAir, SentAgainOnGround, WrittenAgain};
 ghost use Rattle.sq_message.specs.Sending.{IsInAirZones, IsInGroundZones, RoundsInAir, RoundsOnGround, SameZonesInAir, SameZonesOnGround};
 ghost use Rattle.sq_message.specs.Spelling.{IsReading, Spells};
 
 use crate::{
-    AirHead, Frame, FrameFault, GroundHead, Parity, Position, Squitter, read_frame, send_air,
-    send_ground, write_frame,
+    AirHead, Frame, FrameFault, GroundHead, Parity, PlaceFault, Position, Squitter, place_local,
+    place_pair, read_frame, send_air, send_ground, send_point, write_frame,
 };
 use sq_bits::laws::each_frame;
 
@@ -110,3 +111,57 @@ pub fn frames_on_ground(
     each_frame(&from_there);
     (from_here, from_there)
 }
+
+/// Decoding a squitter near a reference has one answer.
+pub fn one_local_place()
+    ensures { OneLocalPlace }
+{}
+
+/// Decoding a pair of squitters has one answer.
+pub fn one_pair_place()
+    ensures { OnePairPlace }
+{}
+
+/// A squitter that is decoded near a reference and sent again: it is the same squitter.
+pub fn local_again(squitter: &Squitter, reference: &Position) -> Result<Squitter, PlaceFault>
+    ensures { IfOk result (λ again. again ≡ squitter.now) }
+{
+    let place = place_local(squitter, reference)?;
+    Ok(send_point(squitter, &place))
+}
+
+/// The newer squitter of a pair that is decoded, sent again: it is the same squitter.
+pub fn pair_again(
+    older: &Squitter,
+    newer: &Squitter,
+    site: Option<&Position>,
+) -> Result<Squitter, PlaceFault>
+    ensures { IfOk result (λ again. again ≡ newer.now) }
+{
+    let place = place_pair(older, newer, site)?;
+    Ok(send_point(newer, &place))
+}
+
+/// What frames of positions say, whole.
+///
+/// Two positions in the same zones of a parity's grid are written as the same frame exactly if they round to the same grid
+/// point. A frame read with a reference strictly within half a zone of that point gives that point, and so does a close even
+/// and odd pair with equal zone counts. Writing any decoded point again gives the same frame.
+pub fn headline()
+    // Two positions in the same zones have one frame exactly if they round to one point.
+    ensures same_frame_in_air { SameZonesInAir }
+    ensures same_frame_on_ground { SameZonesOnGround }
+
+    // Read with a reference strictly within half a zone of the point, a frame gives that point.
+    ensures near_reference_in_air { NearReferenceInAir }
+    ensures near_reference_on_ground { NearReferenceOnGround }
+
+    // An even and an odd frame of close points with one zone count give the newer one's point.
+    ensures close_pair_in_air { ClosePairInAir }
+    ensures close_pair_on_ground { ClosePairOnGround }
+
+    // What is decoded is written again as the same frame, from the point and from its position.
+    ensures written_again { WrittenAgain }
+    ensures sent_again_in_air { SentAgainInAir }
+    ensures sent_again_on_ground { SentAgainOnGround }
+{}

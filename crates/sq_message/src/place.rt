@@ -1,9 +1,8 @@
 //! Places: the points that squitters are decoded to, and what is sent of a point.
 ghost use Rattle.std.specs.Prelude.{◌≡◌, ◌↔◌, IsTrue, option_map};
 ghost use Rattle.sq_cpr.specs.Code.{numbers_of};
-ghost use Rattle.sq_cpr.specs.Pair.{of_parity};
 ghost use Rattle.sq_message.specs.Parts.{squitter_parts};
-ghost use Rattle.sq_message.specs.Places.{Fits, IsAirPairPlace, IsGroundPairPlace, IsLocalPlace, IsPairPlace, IsPosition, IsPositionOf, IsSentAt, NeedsTwoParities, of_local, of_pair};
+ghost use Rattle.sq_message.specs.Places.{Fits, IsAirPairPlace, IsGroundPairPlace, IsLocalPlace, IsPairPlace, IsPosition, IsPositionOf, IsSentAt, NeedsTwoParities, even_of, odd_of, of_local, of_pair};
 
 use crate::{Airborne, Me, Squitter, Surface};
 use sq_cpr::{
@@ -172,8 +171,8 @@ struct Codes {
 
 // The codes of two parities, of which this is the newer's.
 fn by_parity(newest: Parity, older: Code, newer: Code) -> Codes
-    ensures even { numbers_of result.even ≡ of_parity newest (numbers_of newer) (numbers_of older) }
-    ensures odd { numbers_of result.odd ≡ of_parity newest (numbers_of older) (numbers_of newer) }
+    ensures even { numbers_of result.even ≡ even_of newest (numbers_of older) (numbers_of newer) }
+    ensures odd { numbers_of result.odd ≡ odd_of newest (numbers_of older) (numbers_of newer) }
 {
     match newest {
         Parity::Even => Codes {
