@@ -34,6 +34,8 @@ pub use squitter::{FrameFault, Me, Squitter};
 pub use write::write_frame;
 
 #[cfg(test)]
+mod place_tests;
+#[cfg(test)]
 mod send_tests;
 #[cfg(test)]
 mod tests;
