@@ -1,37 +1,12 @@
 //! Places of worked frames, each fault in its order, and what is sent of a place.
 use super::*;
+use crate::send_tests::position;
+use crate::tests::{AIR_EVEN, AIR_ODD, GROUND_EVEN, GROUND_ODD, IDENTITY};
 use std::process::Abort;
 
-const AIR_EVEN: [u8; 14] = [
-    0x8D, 0x40, 0x62, 0x1D, 0x58, 0xC3, 0x82, 0xD6, 0x90, 0xC8, 0xAC, 0x28, 0x63, 0xA7,
-];
-
-const AIR_ODD: [u8; 14] = [
-    0x8D, 0x40, 0x62, 0x1D, 0x58, 0xC3, 0x86, 0x43, 0x5C, 0xC4, 0x12, 0x69, 0x2A, 0xD6,
-];
-
-const GROUND_EVEN: [u8; 14] = [
-    0x8C, 0x48, 0x41, 0x75, 0x3A, 0xAB, 0x23, 0x87, 0x33, 0xC8, 0xCD, 0x40, 0x20, 0xB1,
-];
-
-const GROUND_ODD: [u8; 14] = [
-    0x8C, 0x48, 0x41, 0x75, 0x3A, 0x8A, 0x35, 0x32, 0x3F, 0xAE, 0xBD, 0xAC, 0x70, 0x2D,
-];
-
-const IDENTITY: [u8; 14] = [
-    0x8D, 0x40, 0x6B, 0x90, 0x20, 0x15, 0xA6, 0x78, 0xD4, 0xD2, 0x20, 0xAA, 0x4B, 0xDA,
-];
-
 // The squitter of a frame.
-fn read(rt: &impl Abort, bytes: [u8; 14]) -> Squitter {
-    read_frame(&Frame(bytes)).expect(rt, "a squitter")
-}
-
-// The position of two fractions, each a numerator over a denominator.
-fn position(rt: &impl Abort, lat: (i64, u64), lon: (i64, u64)) -> Position {
-    let lat = Angle::new(lat.0, lat.1).expect(rt, "a latitude");
-    let lon = Angle::new(lon.0, lon.1).expect(rt, "a longitude");
-    Position::new(lat, lon).expect(rt, "a position")
+fn read(rt: &impl Abort, frame: &Frame) -> Squitter {
+    read_frame(frame).expect(rt, "a squitter")
 }
 
 // An airborne squitter of this parity and code.
@@ -76,10 +51,10 @@ fn sent(rt: &impl Abort, squitter: &Squitter, place: &Place) -> Squitter {
 #[test]
 fn decodes_near_a_reference(rt: HostRuntime) {
     let reference = position(&rt, (52_258, 1000), (3918, 1000));
-    let place = place_local(&read(&rt, AIR_EVEN), &reference).expect(&rt, "a place");
+    let place = place_local(&read(&rt, &AIR_EVEN), &reference).expect(&rt, "a place");
     assert!(rt; place.position() == position(&rt, (428_091, 8192), (64_215, 16_384)));
     let site = position(&rt, (5199, 100), (4375, 1000));
-    let place = place_local(&read(&rt, GROUND_ODD), &site).expect(&rt, "a place");
+    let place = place_local(&read(&rt, &GROUND_ODD), &site).expect(&rt, "a place");
     assert!(rt; place.position() == position(&rt, (202_304_115, 3_866_624), (2_172_069, 458_752)));
 }
 
@@ -88,13 +63,13 @@ fn refuses_near_a_reference(rt: HostRuntime) {
     let north = position(&rt, (89, 1), (0, 1));
     let squitter = airborne(&rt, 1, Parity::Even, 21_845, 0);
     assert!(rt; place_local(&squitter, &north) == Err(PlaceFault::OutOfRange));
-    assert!(rt; place_local(&read(&rt, IDENTITY), &north) == Err(PlaceFault::NotPosition));
+    assert!(rt; place_local(&read(&rt, &IDENTITY), &north) == Err(PlaceFault::NotPosition));
     assert!(rt; place_local(&other(&rt, 1), &north) == Err(PlaceFault::NotPosition));
 }
 
 #[test]
 fn decodes_pairs(rt: HostRuntime) {
-    let (even, odd) = (read(&rt, AIR_EVEN), read(&rt, AIR_ODD));
+    let (even, odd) = (read(&rt, &AIR_EVEN), read(&rt, &AIR_ODD));
     let place = place_pair(&odd, &even, None).expect(&rt, "a place");
     assert!(rt; place.position() == position(&rt, (428_091, 8192), (64_215, 16_384)));
     let place = place_pair(&even, &odd, None).expect(&rt, "a place");
@@ -105,7 +80,7 @@ fn decodes_pairs(rt: HostRuntime) {
 
 #[test]
 fn decodes_pairs_at_a_site(rt: HostRuntime) {
-    let (even, odd) = (read(&rt, GROUND_EVEN), read(&rt, GROUND_ODD));
+    let (even, odd) = (read(&rt, &GROUND_EVEN), read(&rt, &GROUND_ODD));
     let lat = (202_304_115, 3_866_624);
     let south = (-145_692_045, 3_866_624);
     let rows = [
@@ -172,13 +147,13 @@ fn tells_the_first_fault_of_a_pair(rt: HostRuntime) {
 
 #[test]
 fn tells_the_faults_of_worked_pairs(rt: HostRuntime) {
-    let even = read(&rt, AIR_EVEN);
-    assert!(rt; place_pair(&even, &read(&rt, IDENTITY), None) == Err(PlaceFault::NotPosition));
-    assert!(rt; place_pair(&even, &read(&rt, GROUND_ODD), None) == Err(PlaceFault::OtherAddress));
+    let even = read(&rt, &AIR_EVEN);
+    assert!(rt; place_pair(&even, &read(&rt, &IDENTITY), None) == Err(PlaceFault::NotPosition));
+    assert!(rt; place_pair(&even, &read(&rt, &GROUND_ODD), None) == Err(PlaceFault::OtherAddress));
     let ground = surface(&rt, 0x40621D, Parity::Odd, 0, 0);
     assert!(rt; place_pair(&even, &ground, None) == Err(PlaceFault::OtherKind));
     assert!(rt; place_pair(&even, &even, None) == Err(PlaceFault::SameParity));
-    let (older, newer) = (read(&rt, GROUND_EVEN), read(&rt, GROUND_ODD));
+    let (older, newer) = (read(&rt, &GROUND_EVEN), read(&rt, &GROUND_ODD));
     assert!(rt; place_pair(&older, &newer, None) == Err(PlaceFault::NoSite));
     let border = airborne(&rt, 7, Parity::Even, 97_659, 80_100);
     let beyond = airborne(&rt, 7, Parity::Odd, 93_846, 80_100);
@@ -190,18 +165,18 @@ fn tells_the_faults_of_worked_pairs(rt: HostRuntime) {
 #[test]
 fn sends_a_place_again(rt: HostRuntime) {
     let reference = position(&rt, (52_258, 1000), (3918, 1000));
-    for bytes in [AIR_EVEN, AIR_ODD, GROUND_EVEN, GROUND_ODD] {
-        let squitter = read(&rt, bytes);
+    for frame in [AIR_EVEN, AIR_ODD, GROUND_EVEN, GROUND_ODD] {
+        let squitter = read(&rt, &frame);
         let place = place_local(&squitter, &reference).expect(&rt, "a place");
         let again = sent(&rt, &squitter, &place);
         assert!(rt; again == squitter);
-        assert!(rt; write_frame(&again) == Frame(bytes));
+        assert!(rt; write_frame(&again) == frame);
         assert!(rt; laws::local_again(&squitter, &reference) == Ok(squitter));
     }
-    let (older, newer) = (read(&rt, GROUND_EVEN), read(&rt, GROUND_ODD));
+    let (older, newer) = (read(&rt, &GROUND_EVEN), read(&rt, &GROUND_ODD));
     assert!(rt; laws::pair_again(&older, &newer, Some(&reference)) == Ok(newer));
     assert!(rt; laws::pair_again(&newer, &older, Some(&reference)) == Ok(older));
-    let identity = read(&rt, IDENTITY);
+    let identity = read(&rt, &IDENTITY);
     assert!(rt; laws::local_again(&identity, &reference) == Err(PlaceFault::NotPosition));
     assert!(rt; laws::pair_again(&older, &newer, None) == Err(PlaceFault::NoSite));
     laws::headline();
@@ -213,7 +188,7 @@ fn sends_a_place_again(rt: HostRuntime) {
 #[test]
 fn sends_another_point(rt: HostRuntime) {
     let point = GridPoint::new(Parity::Odd, 131_075, 5).expect(&rt, "a point");
-    let again = sent(&rt, &read(&rt, AIR_EVEN), &Place::Air(point));
+    let again = sent(&rt, &read(&rt, &AIR_EVEN), &Place::Air(point));
     assert!(rt; again == airborne(&rt, 0x40621D, Parity::Odd, 3, 5));
     let point = GridPoint::new(Parity::Even, -1, 131_080).expect(&rt, "a point");
     let squitter = surface(&rt, 9, Parity::Odd, 1, 2);

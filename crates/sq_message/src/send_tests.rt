@@ -3,7 +3,7 @@ use super::*;
 use std::process::Abort;
 
 // The position of two fractions, each a numerator over a denominator.
-fn position(rt: &impl Abort, lat: (i64, u64), lon: (i64, u64)) -> Position {
+pub fn position(rt: &impl Abort, lat: (i64, u64), lon: (i64, u64)) -> Position {
     let lat = Angle::new(lat.0, lat.1).expect(rt, "a latitude");
     let lon = Angle::new(lon.0, lon.1).expect(rt, "a longitude");
     Position::new(lat, lon).expect(rt, "a position")
