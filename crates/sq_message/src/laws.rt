@@ -1,5 +1,5 @@
 //! Laws of frames, squitters and altitudes. The contracts of the calls name the same definitions.
-ghost use Rattle.std.specs.Prelude.{◌≡◌, ◌≤◌, ◌↔◌, ℕ, ℤ, Result, IfOk};
+ghost use Rattle.std.specs.Prelude.{◌≡◌, ◌≤◌, ◌↔◌, ℕ, ℤ, Result, IfErr, IfOk, option_map};
 ghost use Rattle.sq_bits.specs.declared.frame.Frame.{Frame};
 ghost use Rattle.sq_bits.specs.Frames.{IsFrame};
 ghost use Rattle.sq_message.specs.declared.air.Altitude.{Altitude};
@@ -10,6 +10,8 @@ ghost use Rattle.sq_cpr.specs.Grid.{Point};
 ghost use Rattle.sq_cpr.specs.Zones.{ZonePair};
 ghost use Rattle.sq_message.specs.Altitudes.{IsAltitude, IsFieldOfFeet};
 ghost use Rattle.sq_message.specs.Headline.{ClosePairInAir, ClosePairOnGround, NearReferenceInAir, NearReferenceOnGround, OneLocalPlace, OnePairPlace, SentAgainInAir, SentAgainOnGround, WrittenAgain};
+ghost use Rattle.sq_message.specs.Parts.{squitter_parts};
+ghost use Rattle.sq_message.specs.Places.{IsLocalPlace, IsPairPlace};
 ghost use Rattle.sq_message.specs.Sending.{IsInAirZones, IsInGroundZones, RoundsInAir, RoundsOnGround, SameZonesInAir, SameZonesOnGround};
 ghost use Rattle.sq_message.specs.Spelling.{IsReading, Spells};
 
@@ -124,7 +126,8 @@ pub fn one_pair_place()
 
 /// A squitter that is decoded near a reference and sent again: it is the same squitter.
 pub fn local_again(squitter: &Squitter, reference: &Position) -> Result<Squitter, PlaceFault>
-    ensures { IfOk result (λ again. again ≡ squitter.now) }
+    ensures again { IfOk result (λ again. again ≡ squitter.now) }
+    ensures refused { IfErr result (λ fault. IsLocalPlace (squitter_parts squitter.now).me reference.now (Err fault)) }
 {
     let place = place_local(squitter, reference)?;
     Ok(send_point(squitter, &place))
@@ -136,7 +139,8 @@ pub fn pair_again(
     newer: &Squitter,
     site: Option<&Position>,
 ) -> Result<Squitter, PlaceFault>
-    ensures { IfOk result (λ again. again ≡ newer.now) }
+    ensures again { IfOk result (λ again. again ≡ newer.now) }
+    ensures refused { IfErr result (λ fault. IsPairPlace (squitter_parts older.now) (squitter_parts newer.now) (option_map (λ s. s.now) site.entry) (Err fault)) }
 {
     let place = place_pair(older, newer, site)?;
     Ok(send_point(newer, &place))
