@@ -5,3 +5,4 @@ pub mod Reading
 pub mod Show
 pub mod Summary
 pub mod Place
+pub mod PlaceFaults

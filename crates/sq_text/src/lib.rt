@@ -10,6 +10,7 @@ mod faults;
 mod frame_text;
 pub mod laws;
 mod place;
+mod place_faults;
 mod reading;
 mod show;
 mod summary;
@@ -18,9 +19,12 @@ pub use digits::{push_decimal, push_hexadecimal};
 pub use faults::{LineFault, push_fault};
 pub use frame_text::{TextFault, read_text};
 pub use place::{PlaceText, place_text};
+pub use place_faults::push_place_fault;
 pub use reading::read_squitter;
 pub use show::{ShowText, show_text};
 pub use summary::push_summary;
 
+#[cfg(test)]
+mod place_fault_tests;
 #[cfg(test)]
 mod tests;

@@ -3,6 +3,7 @@ ghost use Rattle.std.specs.Prelude.{◌≡◌, ◌≤◌, ◌<◌, ◌^◌, ◌+
 ghost use Rattle.sq_message.specs.Heads.{air_head_parts, ground_head_parts};
 ghost use Rattle.sq_words.specs.Requests.{asked_encode};
 ghost use Rattle.sq_tool.specs.Encode.{EncodeValues, IsAirFrame, IsAirHead, IsEncodeValues, IsFrameOf, IsGroundFrame, IsGroundHead, frame_line as line_of};
+ghost use Rattle.sq_tool.specs.Outputs.{outputs};
 ghost use Rattle.sq_tool.specs.Runs.{HasNoEncodeValues, IsEncodeRun};
 
 use crate::arguments::{
@@ -27,13 +28,8 @@ pub(crate) fn encode<K: Sink, F: Sink>(
     faults: &mut F,
 ) -> u8
     ensures status { result ≤ 3 }
-    ensures answers { result ≤ 1 → IsEncodeRun (asked_encode words.now) result (record {
-      written_before = K.written output.old;
-      written_after = K.written output.new;
-      told_before = F.written faults.old;
-      told_after = F.written faults.new;
-      untold = F.has_failed faults.new;
-    }) }
+    ensures answers { result ≤ 1 → IsEncodeRun (asked_encode words.now) result
+        (outputs (K.written output.old) (K.written output.new) (F.written faults.old) (F.written faults.new) (F.has_failed faults.new)) }
     ensures usage { result ≡ 2 → HasNoEncodeValues (asked_encode words.now) }
 {
     match frame_of(words) {

@@ -7,6 +7,9 @@
 mod arguments;
 mod check;
 mod encode;
+mod local;
+mod pair;
+mod places;
 mod program;
 mod show;
 mod stream;
@@ -21,6 +24,10 @@ pub use sq_words::Request;
 
 #[cfg(test)]
 mod encode_tests;
+#[cfg(test)]
+mod local_tests;
+#[cfg(test)]
+mod pair_tests;
 #[cfg(test)]
 mod stream_tests;
 #[cfg(test)]

@@ -1,9 +1,12 @@
 //! The whole program over its devices.
 ghost use Rattle.std.specs.Prelude.{◌≡◌, ◌≢◌, ◌≤◌, ◌⊎◌, map};
 ghost use Rattle.sq_words.specs.Requests.{Asked, Asks, asked_by};
-ghost use Rattle.sq_tool.specs.Runs.{Answers, HasUsageFault};
+ghost use Rattle.sq_tool.specs.Outputs.{outputs};
+ghost use Rattle.sq_tool.specs.Runs.{Answers, HasUsageFault, streams};
 
 use crate::encode::encode;
+use crate::local::local;
+use crate::pair::pair;
 use crate::show::show;
 use crate::stream::check;
 use crate::telling::{BROKEN, USAGE, tell};
@@ -26,17 +29,8 @@ pub fn run<S: Source, K: Sink, F: Sink>(
 ) -> u8
     ensures status { result ≤ 3 }
     ensures answers { result ≤ 1 → (asked : Asked) × Asks (map (λ word. word.now) words.entry.now) asked
-        × Answers asked result (record {
-          to_come_before = S.to_come input.old;
-          to_come_after = S.to_come input.new;
-          outputs = record {
-            written_before = K.written output.old;
-            written_after = K.written output.new;
-            told_before = F.written faults.old;
-            told_after = F.written faults.new;
-            untold = F.has_failed faults.new;
-          };
-        }) }
+        × Answers asked result (streams (S.to_come input.old) (S.to_come input.new)
+        (outputs (K.written output.old) (K.written output.new) (F.written faults.old) (F.written faults.new) (F.has_failed faults.new))) }
     ensures usage { result ≡ 2 → (asked : Asked) → Asks (map (λ word. word.now) words.entry.now) asked → HasUsageFault asked }
 {
     match read_request(alloc, words) {
@@ -56,24 +50,22 @@ fn answer<S: Source, K: Sink, F: Sink>(
     faults: &mut F,
 ) -> u8
     ensures status { result ≤ 3 }
-    ensures answers { result ≤ 1 → Answers (asked_by request.entry) result (record {
-      to_come_before = S.to_come input.old;
-      to_come_after = S.to_come input.new;
-      outputs = record {
-        written_before = K.written output.old;
-        written_after = K.written output.new;
-        told_before = F.written faults.old;
-        told_after = F.written faults.new;
-        untold = F.has_failed faults.new;
-      };
-    }) }
+    ensures answers { result ≤ 1 → Answers (asked_by request.entry) result (streams (S.to_come input.old) (S.to_come input.new)
+        (outputs (K.written output.old) (K.written output.new) (F.written faults.old) (F.written faults.new) (F.has_failed faults.new))) }
     ensures usage { result ≡ 2 → HasUsageFault (asked_by request.entry) }
 {
     match request {
         Request::Show { frame } => show(frame, output, faults),
         Request::Encode(words) => encode(alloc, &words, output, faults),
+        Request::Local { frame, lat, lon } => local(frame, lat, lon, output, faults),
+        Request::Pair {
+            older,
+            newer,
+            lat,
+            lon,
+        } => pair(older, newer, lat, lon, output, faults),
         Request::Check => check(input, output, faults),
-        _ => {
+        Request::Track { .. } => {
             tell("not yet a command\n", faults);
             USAGE
         }

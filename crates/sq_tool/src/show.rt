@@ -1,5 +1,6 @@
 //! The command `show`.
 ghost use Rattle.std.specs.Prelude.{◌≡◌, ◌≤◌, ◌≢◌};
+ghost use Rattle.sq_tool.specs.Outputs.{outputs};
 ghost use Rattle.sq_tool.specs.Runs.{IsShowRun};
 
 use crate::telling::{REFUSED, tell_fault, write_text};
@@ -10,13 +11,8 @@ use sq_text::{read_squitter, show_text};
 pub(crate) fn show<K: Sink, F: Sink>(frame: &str, output: &mut K, faults: &mut F) -> u8
     ensures status { result ≤ 3 }
     ensures read { result ≢ 2 }
-    ensures answers { result ≤ 1 → IsShowRun frame.now result (record {
-      written_before = K.written output.old;
-      written_after = K.written output.new;
-      told_before = F.written faults.old;
-      told_after = F.written faults.new;
-      untold = F.has_failed faults.new;
-    }) }
+    ensures answers { result ≤ 1 → IsShowRun frame.now result
+        (outputs (K.written output.old) (K.written output.new) (F.written faults.old) (F.written faults.new) (F.has_failed faults.new)) }
 {
     match read_squitter(frame.as_bytes()) {
         Ok(squitter) => write_text(show_text(&squitter).as_str(), output, faults),

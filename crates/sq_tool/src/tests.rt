@@ -4,7 +4,6 @@ use std::alloc::Global;
 use std::io;
 use std::io::{ErrorKind, Write};
 use std::process::Abort;
-use std::test::Fail;
 
 // The exit status of a command line, its output and what it told.
 #[derive(Drop)]
@@ -125,22 +124,35 @@ impl Write for Full {
     }
 }
 
-#[test]
-fn tells_a_writer_that_fails(rt: HostRuntime) -> Result<(), Fail> {
-    let words = ["squitter", "show", "8D40621D58C382D690C8AC2863A7"];
+// Asserts that an answer which cannot be written is a fault, told where that can be.
+pub(crate) fn assert_unwritten(rt: &impl Abort, alloc: Global, words: &[&str]) {
     let mut input = Reading::new(b"".as_slice(), 10);
     let mut output = Writing::new(Full);
-    let mut faults = Writing::new(Vec::new(rt.alloc()));
-    let status = run(rt.alloc(), &words, &mut input, &mut output, &mut faults);
+    let mut faults = Writing::new(Vec::new(alloc));
+    let status = run(alloc, words, &mut input, &mut output, &mut faults);
     assert_eq!(rt; status, 3);
-    assert_eq!(rt;
-        faults.into_inner().as_slice(),
-        b"write failed\n".as_slice()
-    );
+    assert!(rt; faults.into_inner().as_slice() == b"write failed\n".as_slice());
     let mut lost = Writing::new(Full);
-    let status = run(rt.alloc(), &words, &mut input, &mut output, &mut lost);
+    let status = run(alloc, words, &mut input, &mut output, &mut lost);
     assert_eq!(rt; status, 3);
-    Ok(())
+}
+
+// Asserts the status of a command line whose fault cannot be told.
+pub(crate) fn assert_untold(rt: &impl Abort, alloc: Global, words: &[&str], status: u8) {
+    let mut input = Reading::new(b"".as_slice(), 10);
+    let mut output = Writing::new(Vec::new(alloc));
+    let mut lost = Writing::new(Full);
+    assert_eq!(rt;
+        run(alloc, words, &mut input, &mut output, &mut lost),
+        status
+    );
+    assert!(rt; output.into_inner().is_empty());
+}
+
+#[test]
+fn tells_a_writer_that_fails(rt: HostRuntime) {
+    let words = ["squitter", "show", "8D40621D58C382D690C8AC2863A7"];
+    assert_unwritten(&rt, rt.alloc(), &words);
 }
 
 #[test]

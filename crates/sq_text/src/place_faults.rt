@@ -1,0 +1,40 @@
+//! Why squitters are decoded to no place.
+ghost use Rattle.std.specs.Prelude.{◌≡◌, ◌+◌, ◌≤◌, ◌++◌, decimal};
+ghost use Rattle.arrayvec.specs.ArrayString.{array_string_len};
+ghost use Rattle.sq_text.specs.PlaceFaults.{place_fault_text};
+
+use arrayvec::ArrayString;
+use itoa::Buffer;
+use sq_message::PlaceFault;
+
+/// Appends the text of a place's fault, of at most 32 bytes.
+pub fn push_place_fault<const N: usize>(text: &mut ArrayString<N>, fault: PlaceFault)
+    requires { array_string_len text.old + 32 ≤ N }
+    ensures bytes { text.new.bytes ≡ text.old.bytes ++ place_fault_text fault }
+    ensures len { array_string_len text.new ≤ array_string_len text.old + 32 }
+{
+    match fault {
+        PlaceFault::NotPosition => text.push_str("not a position"),
+        PlaceFault::OtherAddress => text.push_str("other address"),
+        PlaceFault::OtherKind => text.push_str("other kind"),
+        PlaceFault::SameParity => text.push_str("same parity"),
+        PlaceFault::NoSite => text.push_str("no site"),
+        PlaceFault::OutOfRange => text.push_str("latitude out of range"),
+        PlaceFault::ZoneCounts(even, odd) => {
+            text.push_str("zone counts ");
+            push_count(text, even);
+            text.push_str(" ");
+            push_count(text, odd);
+        }
+    }
+}
+
+// Appends a zone count, at most 3 digits.
+fn push_count<const N: usize>(text: &mut ArrayString<N>, count: u8)
+    requires { array_string_len text.old + 3 ≤ N }
+    ensures bytes { text.new.bytes ≡ text.old.bytes ++ decimal count }
+    ensures len { array_string_len text.new ≤ array_string_len text.old + 3 }
+{
+    let mut buffer = Buffer::new();
+    text.push_str(buffer.format(count));
+}
