@@ -29,10 +29,17 @@ outputs written written' told told' has_failed = record {
 abbrev pub IsWritten : ℕ → Outputs → List ℕ → Type 0
 IsWritten status o text = (status ≡ 0) × Appends o.written_before o.written_after text
 
--- a refusal: nothing was written, and the line was told, unless the sink for faults has failed
+-- the line was told, unless the sink for faults has failed
+abbrev pub IsTold : Outputs → List ℕ → Type 0
+IsTold o line = o.untold ≡ false → Appends o.told_before o.told_after (line ++ codes "\n")
+
+-- nothing was written
+abbrev pub IsUnwritten : Outputs → Type 0
+IsUnwritten o = Appends o.written_before o.written_after []
+
+-- a refusal: nothing was written, and the line was told
 abbrev pub IsRefused : ℕ → Outputs → List ℕ → Type 0
-IsRefused status o line =
-    (status ≡ 1) × Appends o.written_before o.written_after [] × (o.untold ≡ false → Appends o.told_before o.told_after (line ++ codes "\n"))
+IsRefused status o line = (status ≡ 1) × IsUnwritten o × IsTold o line
 
 -- a frame text is read: of its squitter the rest holds, or its fault is told
 abbrev pub IsFrameRun : List ℕ → (Squitter → Type 0) → ℕ → Outputs → Type 0

@@ -1,5 +1,5 @@
 //! The arguments of the commands, read from their words.
-ghost use Rattle.std.specs.Prelude.{◌≡◌, ◌≢◌, ◌≤◌, ◌<◌, ◌^◌, ◌++◌, ◌∷◌, List, ℤ, ℕ, IfOk, OnErr, IsTrue, ◌↔◌, length, option_map, MatchOption, Option};
+ghost use Rattle.std.specs.Prelude.{◌≡◌, ◌≢◌, ◌≤◌, ◌<◌, ◌^◌, ◌++◌, ◌∷◌, List, ℤ, ℕ, IfErr, IfOk, OnErr, IsTrue, ◌↔◌, codes, length, option_map, MatchOption, Option};
 ghost use Rattle.std.specs.Bool.{OnFalse};
 ghost use Rattle.std.specs.Char.{IsAsciiDigit};
 ghost use Rattle.std.specs.Int.Digits.{number_from_digits};
@@ -16,6 +16,7 @@ ghost use Rattle.sq_zones.specs.declared.parity.Parity.{Parity};
 ghost use Rattle.sq_text.specs.Show.{parity_name};
 ghost use Rattle.sq_tool.specs.declared.arguments.Kind.{Kind};
 ghost use Rattle.sq_tool.specs.Encode.{IsAltitudeOf};
+ghost use Rattle.sq_tool.specs.Misuses.{IsAngleFault, IsPositionFault, IsSiteFault, argument_text};
 ghost use Rattle.sq_tool.specs.Arguments.{IsAddress, IsFeet, IsFeetText, IsPositionWords, IsSiteWords, kind_name};
 
 use sq_angle::{Angle, AngleFault, Position};
@@ -42,7 +43,9 @@ pub(crate) enum ArgumentFault {
 
 impl ArgumentFault {
     /// The line that is told of it.
-    pub(crate) fn line(self) -> &'static str {
+    pub(crate) fn line(self) -> &'static str
+        ensures { result.now ≡ argument_text self ++ codes "\n" }
+    {
         match self {
             ArgumentFault::Kind => "bad kind\n",
             ArgumentFault::Parity => "bad parity\n",
@@ -63,6 +66,7 @@ impl ArgumentFault {
 pub(crate) fn read_kind(word: &str) -> Result<Kind, ArgumentFault>
     ensures ok { IfOk result (λ kind. word.now ≡ kind_name kind) }
     ensures err { OnErr result ((kind : Kind) → word.now ≢ kind_name kind) }
+    ensures fault { IfErr result (λ fault. fault ≡ ArgumentFault.Kind) }
 {
     match word {
         "air" => Ok(Kind::Air),
@@ -75,6 +79,7 @@ pub(crate) fn read_kind(word: &str) -> Result<Kind, ArgumentFault>
 pub(crate) fn read_parity(word: &str) -> Result<Parity, ArgumentFault>
     ensures ok { IfOk result (λ parity. word.now ≡ parity_name parity) }
     ensures err { OnErr result ((parity : Parity) → word.now ≢ parity_name parity) }
+    ensures fault { IfErr result (λ fault. fault ≡ ArgumentFault.Parity) }
 {
     match word {
         "even" => Ok(Parity::Even),
@@ -88,6 +93,7 @@ pub(crate) fn read_address(word: &str) -> Result<u32, ArgumentFault>
     ensures ok { IfOk result (IsAddress word.now) }
     ensures small { IfOk result (λ address. address < 2 ^ 24) }
     ensures err { OnErr result ((address : ℕ) → ¬ IsAddress word.now address) }
+    ensures fault { IfErr result (λ fault. fault ≡ ArgumentFault.Address) }
 {
     let mut bytes = [0; 3];
     match hex::decode_to_slice(word, &mut bytes) {
@@ -114,6 +120,7 @@ fn read_feet(word: &str) -> Result<u16, ArgumentFault>
     ensures ok { IfOk result (IsFeet word.now) }
     ensures small { IfOk result (λ field. field < 4096) }
     ensures err { OnErr result ((field : ℕ) → ¬ IsFeet word.now field) }
+    ensures fault { IfErr result (λ fault. fault ≡ ArgumentFault.Feet) }
 {
     match feet_of(word) {
         Some(feet) => match field_of_feet(feet) {
@@ -129,6 +136,7 @@ pub(crate) fn read_altitude(kind: Kind, feet: Option<&str>) -> Result<u16, Argum
     ensures ok { IfOk result (IsAltitudeOf kind (option_map (λ word. word.now) feet.entry)) }
     ensures small { IfOk result (λ altitude. altitude < 4096) }
     ensures err { OnErr result ((altitude : ℕ) → ¬ IsAltitudeOf kind (option_map (λ word. word.now) feet.entry) altitude) }
+    ensures fault { IfErr result (λ fault. fault ≡ ArgumentFault.Feet) }
 {
     match (kind, feet) {
         (_, None) => Ok(0),
@@ -189,6 +197,7 @@ fn signed(negative: bool, magnitude: u64) -> i32
 pub(crate) fn read_position(lat: &str, lon: &str) -> Result<Position, ArgumentFault>
     ensures ok { IfOk result (IsPositionWords lat.now lon.now) }
     ensures err { OnErr result ((position : Position) → ¬ IsPositionWords lat.now lon.now position) }
+    ensures fault { IfErr result (IsPositionFault lat.now lon.now) }
 {
     let latitude = match read_angle(lat, 90) {
         Ok(angle) => angle,
@@ -198,10 +207,7 @@ pub(crate) fn read_position(lat: &str, lon: &str) -> Result<Position, ArgumentFa
         Ok(angle) => angle,
         Err(fault) => return Err(ArgumentFault::Lon(fault)),
     };
-    match Position::new(latitude, longitude) {
-        Some(position) => Ok(position),
-        None => Err(ArgumentFault::Lat(AngleFault::OutOfRange)),
-    }
+    Ok(Position::new(latitude, longitude).unwrap())
 }
 
 // An angle of at most so many degrees.
@@ -209,6 +215,7 @@ fn read_angle(word: &str, limit: u16) -> Result<Angle, AngleFault>
     ensures ok { IfOk result (λ angle. IsReading word.now (Ok angle)) }
     ensures within { IfOk result (λ angle. IsWithin limit (degrees angle)) }
     ensures err { OnErr result ((angle : Angle) → IsReading word.now (Ok angle) → ¬ IsWithin limit (degrees angle)) }
+    ensures fault { IfErr result (IsAngleFault limit word.now) }
 {
     let angle = Angle::read(word)?;
     if !angle.is_within(limit) {
@@ -224,6 +231,7 @@ pub(crate) fn read_site(
 ) -> Result<Option<Position>, ArgumentFault>
     ensures ok { IfOk result (IsSiteWords (option_map (λ word. word.now) lat.entry) (option_map (λ word. word.now) lon.entry)) }
     ensures err { OnErr result ((site : Option Position) → ¬ IsSiteWords (option_map (λ word. word.now) lat.entry) (option_map (λ word. word.now) lon.entry) site) }
+    ensures fault { IfErr result (IsSiteFault (option_map (λ word. word.now) lat.entry) (option_map (λ word. word.now) lon.entry)) }
 {
     match (lat, lon) {
         (Some(lat), Some(lon)) => match read_position(lat, lon) {

@@ -1,6 +1,9 @@
 //! The whole program over its devices.
-ghost use Rattle.std.specs.Prelude.{◌≡◌, ◌≢◌, ◌≤◌, ◌⊎◌, map};
+ghost use Rattle.std.specs.Prelude.{◌≡◌, ◌≢◌, ◌≤◌, ◌⊎◌, ◌++◌, [], codes, false, map};
+ghost use Rattle.std.specs.Io.KnownBytes.{Appends};
 ghost use Rattle.sq_words.specs.Requests.{Asked, Asks, asked_by};
+ghost use Rattle.sq_lines.specs.declared.faults.RunFault.TheVariants as run_faults;
+ghost use Rattle.sq_tool.specs.Misuses.{IsBroken, IsMisused, broken_text};
 ghost use Rattle.sq_tool.specs.Outputs.{outputs};
 ghost use Rattle.sq_tool.specs.Runs.{Answers, HasUsageFault, streams};
 
@@ -32,6 +35,10 @@ pub fn run<S: Source, K: Sink, F: Sink>(
         × Answers asked result (streams (S.to_come input.old) (S.to_come input.new)
         (outputs (K.written output.old) (K.written output.new) (F.written faults.old) (F.written faults.new) (F.has_failed faults.new))) }
     ensures usage { result ≡ 2 → (asked : Asked) → Asks (map (λ word. word.now) words.entry.now) asked → HasUsageFault asked }
+    ensures misused { result ≡ 2 → (asked : Asked) → Asks (map (λ word. word.now) words.entry.now) asked → IsMisused asked
+        (outputs (K.written output.old) (K.written output.new) (F.written faults.old) (F.written faults.new) (F.has_failed faults.new)) }
+    ensures unwritten { result ≡ 2 → Appends (K.written output.old) (K.written output.new) [] }
+    ensures broken { result ≡ 3 → IsBroken (outputs (K.written output.old) (K.written output.new) (F.written faults.old) (F.written faults.new) (F.has_failed faults.new)) }
 {
     match read_request(alloc, words) {
         Ok(request) => {
@@ -53,6 +60,9 @@ fn answer<S: Source, K: Sink, F: Sink>(
     ensures answers { result ≤ 1 → Answers (asked_by request.entry) result (streams (S.to_come input.old) (S.to_come input.new)
         (outputs (K.written output.old) (K.written output.new) (F.written faults.old) (F.written faults.new) (F.has_failed faults.new))) }
     ensures usage { result ≡ 2 → HasUsageFault (asked_by request.entry) }
+    ensures misused { result ≡ 2 → IsMisused (asked_by request.entry)
+        (outputs (K.written output.old) (K.written output.new) (F.written faults.old) (F.written faults.new) (F.has_failed faults.new)) }
+    ensures broken { result ≡ 3 → IsBroken (outputs (K.written output.old) (K.written output.new) (F.written faults.old) (F.written faults.new) (F.has_failed faults.new)) }
 {
     match request {
         Request::Show { frame } => show(frame, output, faults),
@@ -75,6 +85,7 @@ fn answer<S: Source, K: Sink, F: Sink>(
 fn refuse<F: Sink>(refusal: Refusal, faults: &mut F) -> u8
     ensures memory { result ≡ 2 → refusal ≢ Refusal.Memory }
     ensures status { (result ≡ 2) ⊎ (result ≡ 3) }
+    ensures broken { result ≡ 3 → F.has_failed faults.new ≡ false → Appends (F.written faults.old) (F.written faults.new) (broken_text run_faults.Memory ++ codes "\n") }
 {
     match refusal {
         Refusal::Words(text) => {

@@ -1,5 +1,7 @@
 //! The commands over the lines of the input.
-ghost use Rattle.std.specs.Prelude.{◌≡◌, ◌≢◌, ◌≤◌};
+ghost use Rattle.std.specs.Prelude.{◌≡◌, ◌≢◌, ◌≤◌, ◌++◌, codes};
+ghost use Rattle.sq_tool.specs.Misuses.{IsBroken, broken_text};
+ghost use Rattle.sq_tool.specs.Outputs.{outputs};
 ghost use Rattle.sq_tool.specs.Runs.{IsCheckRun};
 
 use crate::check::run_check;
@@ -15,6 +17,7 @@ pub(crate) fn check<S: Source, K: Sink, F: Sink>(
 ) -> u8
     ensures status { result ≤ 3 }
     ensures read { result ≢ 2 }
+    ensures broken { result ≡ 3 → IsBroken (outputs (K.written output.old) (K.written output.new) (F.written faults.old) (F.written faults.new) (F.has_failed faults.new)) }
     ensures answers { result ≤ 1 → IsCheckRun result (S.to_come input.old) (S.to_come input.new) (K.written output.old) (K.written output.new) }
 {
     match run_check(input, output) {
@@ -27,7 +30,9 @@ pub(crate) fn check<S: Source, K: Sink, F: Sink>(
 }
 
 // The line that is told of what ended a run.
-fn text_of(fault: RunFault) -> &'static str {
+fn text_of(fault: RunFault) -> &'static str
+    ensures { result.now ≡ broken_text fault ++ codes "\n" }
+{
     match fault {
         RunFault::Read => "read failed\n",
         RunFault::Write => "write failed\n",

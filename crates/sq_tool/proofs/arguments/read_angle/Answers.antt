@@ -1,4 +1,4 @@
-use Rattle.std.proofs.Common.{subst, sym}
+use Rattle.std.proofs.Common.{inr, refl, subst, sym}
 use Rattle.std.proofs.lemmas.Result.{err_from_is_err_and}
 use Rattle.sq_angle.specs.Angle.{degrees}
 use Rattle.sq_angle.specs.Fraction.{IsWithin}
@@ -15,3 +15,15 @@ returns-then-not-is_within-clause-err c angle is within =
     let same = one_angle_read c.args.word.now c.in_ok-angle.angle angle c.in_ok-angle.ensures is in
     let bad = c.if-not-is_within.ensures.1 (subst (λ a. IsWithin c.args.limit (degrees a)) (sym same) within) in
     absurd (cc bad)
+
+pub returns-then-not-is_within-clause-fault : goal.returns-then-not-is_within-clause-fault
+returns-then-not-is_within-clause-fault c = inr (
+  refl,
+  (
+    c.in_ok-angle.angle,
+    c.in_ok-angle.ensures,
+    λ within.
+        let bad = c.if-not-is_within.ensures.1 within in
+        absurd (cc bad),
+  ),
+)

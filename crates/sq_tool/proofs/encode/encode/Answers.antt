@@ -1,3 +1,4 @@
+use Rattle.sq_lines.specs.declared.faults.RunFault.TheVariants.{Memory}
 use Rattle.std.proofs.Common.{◌∙◌, subst}
 use Rattle.sq_tool.proofs.Statuses.{good_from}
 use Rattle.std.specs.Io.KnownBytes.{Appends}
@@ -15,3 +16,6 @@ returns-in-Some-clause-answers g c small =
       sent = said.2;
       written = (ok, subst (λ t. Appends (g.K.Sink.written c.args.output.now) (g.K.Sink.written c.write_text.new.output) t) text (c.write_text.ensures.written ok));
     }
+
+pub returns-in-None-clause-broken : goal.returns-in-None-clause-broken
+returns-in-None-clause-broken g c e = (Memory, c.tell.ensures)

@@ -1,5 +1,7 @@
 use Rattle.std.specs.Prelude.{Result, Ok, Err, OnErr, option_map}
-use Rattle.std.proofs.Common.{◌∙◌, ap, subst}
+use Rattle.std.proofs.Common.{◌∙◌, ap, inl, inr, subst, sym}
+use Rattle.std.proofs.lemmas.Result.{err_from_is_err_and}
+use Rattle.sq_tool.specs.Misuses.{IsPositionFault}
 use Rattle.sq_tool.specs.Arguments.{kind_name}
 use Rattle.sq_tool.specs.Encode.{IsAltitudeOf}
 use Rattle.sq_tool.specs.declared.arguments.Kind.TheVariants.{Air, Ground}
@@ -54,3 +56,21 @@ returns-in-Ground-clause-ok c = (
   },
   c.ground_frame.ensures,
 )
+
+pub returns-in_err-address-clause-fault : goal.returns-in_err-address-clause-fault
+returns-in_err-address-clause-fault c =
+    let p = err_from_is_err_and c.from_residual-in_err-address.result c.from_residual-in_err-address.ensures.1 in
+    rw p.1
+    (inr ((c.in_ok-kind.kind, c.in_ok-kind.ensures.ok),
+    inr ((c.in_ok-parity.parity, c.in_ok-parity.ensures.ok),
+    inl (p.2 ∙ c.in_err-address.ensures.fault, λ good. c.in_err-address.ensures.err good.0 good.1))))
+
+pub returns-in_err-position-clause-fault : goal.returns-in_err-position-clause-fault
+returns-in_err-position-clause-fault c =
+    let p = err_from_is_err_and c.from_residual-in_err-position.result c.from_residual-in_err-position.ensures.1 in
+    let why = subst (IsPositionFault c.args.words.now.lat.now c.args.words.now.lon.now) (sym p.2) c.in_err-position.ensures.fault in
+    rw p.1
+    (inr ((c.in_ok-kind.kind, c.in_ok-kind.ensures.ok),
+    inr ((c.in_ok-parity.parity, c.in_ok-parity.ensures.ok),
+    inr ((c.in_ok-address.address, c.in_ok-address.ensures.ok),
+    inr ((c.in_ok-kind.kind, c.in_ok-kind.ensures.ok, (c.in_ok-altitude.altitude, c.in_ok-altitude.ensures.ok)), why)))))

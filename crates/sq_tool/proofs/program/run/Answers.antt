@@ -2,6 +2,8 @@ use Rattle.std.proofs.Common.{◌≡◌, ◌≢◌, refl, subst}
 use Rattle.sq_words.specs.declared.request.Refusal.{Refusal}
 use Rattle.sq_words.specs.declared.request.Refusal.TheVariants.{Memory, Words}
 use Rattle.sq_words.specs.Requests.{asked_by}
+use Rattle.sq_tool.specs.Misuses.{IsMisused}
+use Rattle.sq_tool.specs.Outputs.{outputs}
 use Rattle.sq_tool.specs.Runs.{HasUsageFault}
 use Rattle.sq_tool.proofs.program.run.Goals as goal
 
@@ -17,3 +19,8 @@ returns-in-Err-clause-usage g c usage asked asks =
 pub returns-in-Ok-clause-usage : goal.returns-in-Ok-clause-usage
 returns-in-Ok-clause-usage g c usage asked asks =
     subst HasUsageFault (c.one_request.ensures _ (asked_by c.in-Ok.request) asked c.in-Ok.ensures.asks asks) (c.answer.ensures.usage usage)
+
+pub returns-in-Ok-clause-misused : goal.returns-in-Ok-clause-misused
+returns-in-Ok-clause-misused g c usage asked asks =
+    let after = outputs (g.K.Sink.written c.args.output.now) (g.K.Sink.written c.answer.new.output) (g.F.Sink.written c.args.faults.now) (g.F.Sink.written c.answer.new.faults) (g.F.Sink.has_failed c.answer.new.faults) in
+    subst (λ a. IsMisused a after) (c.one_request.ensures _ (asked_by c.in-Ok.request) asked c.in-Ok.ensures.asks asks) (c.answer.ensures.misused usage)
