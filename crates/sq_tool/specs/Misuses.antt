@@ -1,5 +1,5 @@
 -- What the program tells of arguments at fault, and of a run that broke off.
-use Rattle.std.specs.Prelude.{◌≡◌, ◌≢◌, ◌⊎◌, ◌++◌, ℕ, List, Option, None, Some, Ok, Err, codes}
+use Rattle.std.specs.Prelude.{◌≡◌, ◌⊎◌, ◌++◌, ℕ, List, Option, None, Some, Ok, Err, codes, true}
 use Rattle.sq_angle.specs.declared.angle.Angle.{Angle}
 use Rattle.sq_angle.specs.declared.read.AngleFault.{AngleFault}
 use Rattle.sq_angle.specs.declared.read.AngleFault.TheVariants.{NotANumber, TooManyDecimals, OutOfRange}
@@ -17,6 +17,7 @@ use Rattle.sq_tool.specs.declared.arguments.Kind.{Kind as OfKind}
 use Rattle.sq_tool.specs.Arguments.{IsAddress, kind_name}
 use Rattle.sq_tool.specs.Encode.{IsAltitudeOf}
 use Rattle.sq_tool.specs.Outputs.{Outputs, IsTold, IsUnwritten}
+use Rattle.sq_tool.specs.Runs.{Streams}
 
 -- ---- lines
 
@@ -97,6 +98,25 @@ IsMisused (Pair older newer lat lon) o = (fault : ArgumentFault) × IsSiteFault 
 IsMisused Check o = ⊥
 IsMisused (Track limit window lat lon) o = IsUnwritten o × IsTold o (codes "not yet a command")
 
--- at exit status 3: what broke the run off was told
-abbrev pub IsBroken : Outputs → Type 0
-IsBroken o = (fault : RunFault) × IsTold o (broken_text fault)
+-- ---- runs that broke off
+
+-- the output has failed, and that is told
+abbrev pub IsUnwritable : Outputs → Type 0
+IsUnwritable o = (o.unwritable ≡ true) × IsTold o (broken_text Write)
+
+-- the input has failed, and that is told
+abbrev pub IsUnreadable : Streams → Type 0
+IsUnreadable s = (s.unreadable ≡ true) × IsTold s.outputs (broken_text Read)
+
+-- a growth was refused, and that is told
+abbrev pub LacksMemory : Outputs → Type 0
+LacksMemory o = IsTold o (broken_text Memory)
+
+-- at exit status 3: what broke the command off was told
+abbrev pub IsBroken : Asked → Streams → Type 0
+IsBroken (Show frame) s = IsUnwritable s.outputs
+IsBroken (Encode words) s = IsUnwritable s.outputs ⊎ LacksMemory s.outputs
+IsBroken (Local frame lat lon) s = IsUnwritable s.outputs
+IsBroken (Pair older newer lat lon) s = IsUnwritable s.outputs
+IsBroken Check s = IsUnreadable s ⊎ IsUnwritable s.outputs
+IsBroken (Track limit window lat lon) s = ⊥

@@ -10,19 +10,22 @@ use Rattle.sq_text.specs.Reading.{IsSquitterReading}
 pub record Outputs : Type 0 where
   pub written_before : Option (List ℕ)
   pub written_after : Option (List ℕ)
+  -- whether the output has failed
+  pub unwritable : Bool
   pub told_before : Option (List ℕ)
   pub told_after : Option (List ℕ)
   -- whether the sink for faults has failed
   pub untold : Bool
 
--- the same of a sink's bytes before and after, those of the sink for faults, and whether that has failed
-abbrev pub outputs : (written written' told told' : Option (List ℕ)) → (has_failed : Bool) → Outputs
-outputs written written' told told' has_failed = record {
+-- the same of each sink's bytes before and after, and whether it has failed
+abbrev pub outputs : (written written' : Option (List ℕ)) → (unwritable : Bool) → (told told' : Option (List ℕ)) → (untold : Bool) → Outputs
+outputs written written' unwritable told told' untold = record {
   written_before = written;
   written_after = written';
+  unwritable = unwritable;
   told_before = told;
   told_after = told';
-  untold = has_failed;
+  untold = untold;
 }
 
 -- all is good: the text was written

@@ -1,5 +1,5 @@
 -- What the program does for each command.
-use Rattle.std.specs.Prelude.{◌≡◌, ◌==◌, ⊤, ℕ, List, [], Option, Some, IfSome, if◌then◌else◌}
+use Rattle.std.specs.Prelude.{◌≡◌, ◌==◌, ⊤, ℕ, Bool, List, [], Option, Some, IfSome, if◌then◌else◌}
 use Rattle.std.specs.Io.KnownBytes.{Appends}
 use Rattle.sq_text.specs.Reading.{SquitterReader}
 use Rattle.sq_text.specs.Show.{IsShown}
@@ -15,11 +15,13 @@ use Rattle.sq_words.specs.Requests.{Asked, AskedEncode, Show, Encode, Local, Pai
 pub record Streams : Type 0 where
   pub to_come_before : Option (List ℕ)
   pub to_come_after : Option (List ℕ)
+  -- whether the input has failed
+  pub unreadable : Bool
   pub outputs : Outputs
 
--- the same of a source's bytes before and after, and the outputs
-abbrev pub streams : (to_come to_come' : Option (List ℕ)) → Outputs → Streams
-streams to_come to_come' o = record { to_come_before = to_come; to_come_after = to_come'; outputs = o }
+-- the same of a source's bytes before and after, whether it has failed, and the outputs
+abbrev pub streams : (to_come to_come' : Option (List ℕ)) → (unreadable : Bool) → Outputs → Streams
+streams to_come to_come' unreadable o = record { to_come_before = to_come; to_come_after = to_come'; unreadable = unreadable; outputs = o }
 
 -- `show`: the squitter that the frame text spells is shown, or its fault told
 abbrev pub IsShowRun : List ℕ → ℕ → Outputs → Type 0

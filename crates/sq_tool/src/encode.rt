@@ -1,10 +1,10 @@
 //! The command `encode`.
-ghost use Rattle.std.specs.Prelude.{◌≡◌, ◌≤◌, ◌<◌, ◌^◌, ◌++◌, codes, length, IfErr, IfOk, OnErr, IfSome};
+ghost use Rattle.std.specs.Prelude.{◌≡◌, ◌≤◌, ◌<◌, ◌^◌, ◌++◌, ◌⊎◌, codes, length, IfErr, IfOk, OnErr, IfSome};
 ghost use Rattle.sq_message.specs.Heads.{air_head_parts, ground_head_parts};
 ghost use Rattle.sq_words.specs.Requests.{asked_encode};
 ghost use Rattle.sq_tool.specs.Encode.{EncodeValues, IsAirFrame, IsAirHead, IsEncodeValues, IsFrameOf, IsGroundFrame, IsGroundHead, frame_line as line_of};
 ghost use Rattle.sq_tool.specs.declared.arguments.ArgumentFault.{ArgumentFault};
-ghost use Rattle.sq_tool.specs.Misuses.{IsBroken, IsEncodeFault, IsMisusedBy};
+ghost use Rattle.sq_tool.specs.Misuses.{IsEncodeFault, IsMisusedBy, IsUnwritable, LacksMemory};
 ghost use Rattle.sq_tool.specs.Outputs.{outputs};
 ghost use Rattle.sq_tool.specs.Runs.{HasNoEncodeValues, IsEncodeRun};
 
@@ -31,11 +31,12 @@ pub(crate) fn encode<K: Sink, F: Sink>(
 ) -> u8
     ensures status { result ≤ 3 }
     ensures answers { result ≤ 1 → IsEncodeRun (asked_encode words.now) result
-        (outputs (K.written output.old) (K.written output.new) (F.written faults.old) (F.written faults.new) (F.has_failed faults.new)) }
+        (outputs (K.written output.old) (K.written output.new) (K.has_failed output.new) (F.written faults.old) (F.written faults.new) (F.has_failed faults.new)) }
     ensures usage { result ≡ 2 → HasNoEncodeValues (asked_encode words.now) }
     ensures misused { result ≡ 2 → (fault : ArgumentFault) × IsEncodeFault (asked_encode words.now) fault × IsMisusedBy fault
-        (outputs (K.written output.old) (K.written output.new) (F.written faults.old) (F.written faults.new) (F.has_failed faults.new)) }
-    ensures broken { result ≡ 3 → IsBroken (outputs (K.written output.old) (K.written output.new) (F.written faults.old) (F.written faults.new) (F.has_failed faults.new)) }
+        (outputs (K.written output.old) (K.written output.new) (K.has_failed output.new) (F.written faults.old) (F.written faults.new) (F.has_failed faults.new)) }
+    ensures broken { result ≡ 3 → IsUnwritable (outputs (K.written output.old) (K.written output.new) (K.has_failed output.new) (F.written faults.old) (F.written faults.new) (F.has_failed faults.new))
+        ⊎ LacksMemory (outputs (K.written output.old) (K.written output.new) (K.has_failed output.new) (F.written faults.old) (F.written faults.new) (F.has_failed faults.new)) }
 {
     match frame_of(words) {
         Ok(frame) => match frame_line(alloc, &frame) {

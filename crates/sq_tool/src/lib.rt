@@ -18,7 +18,7 @@ mod telling;
 pub use check::run_check;
 pub use program::run;
 pub use sq_devices::{Failed, Reading, Sink, Source, Writing};
-pub use sq_lines::{Cutter, RunFault, Tally};
+pub use sq_lines::{Cutter, RunFault, Tally, laws};
 pub use sq_text::{LineFault, TextFault, read_text};
 pub use sq_words::Request;
 

@@ -1,7 +1,7 @@
 //! The command `local`.
 ghost use Rattle.std.specs.Prelude.{◌≡◌, ◌≢◌, ◌≤◌};
 ghost use Rattle.sq_tool.specs.declared.arguments.ArgumentFault.{ArgumentFault};
-ghost use Rattle.sq_tool.specs.Misuses.{IsBroken, IsMisusedBy, IsPositionFault};
+ghost use Rattle.sq_tool.specs.Misuses.{IsUnwritable, IsMisusedBy, IsPositionFault};
 ghost use Rattle.sq_tool.specs.Outputs.{outputs};
 ghost use Rattle.sq_tool.specs.Places.{HasNoPosition, IsLocalRun, IsOneFrameRun};
 
@@ -23,11 +23,11 @@ pub(crate) fn local<K: Sink, F: Sink>(
 ) -> u8
     ensures status { result ≤ 3 }
     ensures answers { result ≤ 1 → IsLocalRun frame.now lat.now lon.now result
-        (outputs (K.written output.old) (K.written output.new) (F.written faults.old) (F.written faults.new) (F.has_failed faults.new)) }
+        (outputs (K.written output.old) (K.written output.new) (K.has_failed output.new) (F.written faults.old) (F.written faults.new) (F.has_failed faults.new)) }
     ensures usage { result ≡ 2 → HasNoPosition lat.now lon.now }
     ensures misused { result ≡ 2 → (fault : ArgumentFault) × IsPositionFault lat.now lon.now fault × IsMisusedBy fault
-        (outputs (K.written output.old) (K.written output.new) (F.written faults.old) (F.written faults.new) (F.has_failed faults.new)) }
-    ensures broken { result ≡ 3 → IsBroken (outputs (K.written output.old) (K.written output.new) (F.written faults.old) (F.written faults.new) (F.has_failed faults.new)) }
+        (outputs (K.written output.old) (K.written output.new) (K.has_failed output.new) (F.written faults.old) (F.written faults.new) (F.has_failed faults.new)) }
+    ensures broken { result ≡ 3 → IsUnwritable (outputs (K.written output.old) (K.written output.new) (K.has_failed output.new) (F.written faults.old) (F.written faults.new) (F.has_failed faults.new)) }
 {
     match read_position(lat, lon) {
         Ok(reference) => local_near(frame, &reference, output, faults),
@@ -47,9 +47,9 @@ fn local_near<K: Sink, F: Sink>(
 ) -> u8
     ensures status { result ≤ 3 }
     ensures read { result ≢ 2 }
-    ensures broken { result ≡ 3 → IsBroken (outputs (K.written output.old) (K.written output.new) (F.written faults.old) (F.written faults.new) (F.has_failed faults.new)) }
+    ensures broken { result ≡ 3 → IsUnwritable (outputs (K.written output.old) (K.written output.new) (K.has_failed output.new) (F.written faults.old) (F.written faults.new) (F.has_failed faults.new)) }
     ensures answers { result ≤ 1 → IsOneFrameRun frame.now reference.now result
-        (outputs (K.written output.old) (K.written output.new) (F.written faults.old) (F.written faults.new) (F.has_failed faults.new)) }
+        (outputs (K.written output.old) (K.written output.new) (K.has_failed output.new) (F.written faults.old) (F.written faults.new) (F.has_failed faults.new)) }
 {
     match read_squitter(frame.as_bytes()) {
         Ok(squitter) => write_place(place_local(&squitter, reference), output, faults),

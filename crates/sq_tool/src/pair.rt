@@ -1,7 +1,7 @@
 //! The command `pair`.
 ghost use Rattle.std.specs.Prelude.{◌≡◌, ◌≢◌, ◌≤◌, option_map};
 ghost use Rattle.sq_tool.specs.declared.arguments.ArgumentFault.{ArgumentFault};
-ghost use Rattle.sq_tool.specs.Misuses.{IsBroken, IsMisusedBy, IsSiteFault};
+ghost use Rattle.sq_tool.specs.Misuses.{IsUnwritable, IsMisusedBy, IsSiteFault};
 ghost use Rattle.sq_tool.specs.Outputs.{outputs};
 ghost use Rattle.sq_tool.specs.Places.{HasNoSite, IsPairRun, IsTwoFramesRun};
 
@@ -25,12 +25,12 @@ pub(crate) fn pair<K: Sink, F: Sink>(
     ensures status { result ≤ 3 }
     ensures answers { result ≤ 1
         → IsPairRun older.now newer.now (option_map (λ word. word.now) lat.entry) (option_map (λ word. word.now) lon.entry) result
-        (outputs (K.written output.old) (K.written output.new) (F.written faults.old) (F.written faults.new) (F.has_failed faults.new)) }
+        (outputs (K.written output.old) (K.written output.new) (K.has_failed output.new) (F.written faults.old) (F.written faults.new) (F.has_failed faults.new)) }
     ensures usage { result ≡ 2 → HasNoSite (option_map (λ word. word.now) lat.entry) (option_map (λ word. word.now) lon.entry) }
     ensures misused { result ≡ 2
         → (fault : ArgumentFault) × IsSiteFault (option_map (λ word. word.now) lat.entry) (option_map (λ word. word.now) lon.entry) fault × IsMisusedBy fault
-        (outputs (K.written output.old) (K.written output.new) (F.written faults.old) (F.written faults.new) (F.has_failed faults.new)) }
-    ensures broken { result ≡ 3 → IsBroken (outputs (K.written output.old) (K.written output.new) (F.written faults.old) (F.written faults.new) (F.has_failed faults.new)) }
+        (outputs (K.written output.old) (K.written output.new) (K.has_failed output.new) (F.written faults.old) (F.written faults.new) (F.has_failed faults.new)) }
+    ensures broken { result ≡ 3 → IsUnwritable (outputs (K.written output.old) (K.written output.new) (K.has_failed output.new) (F.written faults.old) (F.written faults.new) (F.has_failed faults.new)) }
 {
     match read_site(lat, lon) {
         Ok(site) => pair_at(older, newer, site.as_ref(), output, faults),
@@ -51,9 +51,9 @@ fn pair_at<K: Sink, F: Sink>(
 ) -> u8
     ensures status { result ≤ 3 }
     ensures read { result ≢ 2 }
-    ensures broken { result ≡ 3 → IsBroken (outputs (K.written output.old) (K.written output.new) (F.written faults.old) (F.written faults.new) (F.has_failed faults.new)) }
+    ensures broken { result ≡ 3 → IsUnwritable (outputs (K.written output.old) (K.written output.new) (K.has_failed output.new) (F.written faults.old) (F.written faults.new) (F.has_failed faults.new)) }
     ensures answers { result ≤ 1 → IsTwoFramesRun older.now newer.now (option_map (λ s. s.now) site.entry) result
-        (outputs (K.written output.old) (K.written output.new) (F.written faults.old) (F.written faults.new) (F.has_failed faults.new)) }
+        (outputs (K.written output.old) (K.written output.new) (K.has_failed output.new) (F.written faults.old) (F.written faults.new) (F.has_failed faults.new)) }
 {
     let older = match read_squitter(older.as_bytes()) {
         Ok(squitter) => squitter,

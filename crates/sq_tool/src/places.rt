@@ -2,7 +2,7 @@
 ghost use Rattle.std.specs.Prelude.{◌≡◌, ◌≢◌, ◌≤◌, ◌++◌, codes, false};
 ghost use Rattle.std.specs.Io.KnownBytes.{Appends};
 ghost use Rattle.sq_text.specs.PlaceFaults.{place_fault_text};
-ghost use Rattle.sq_tool.specs.Misuses.{IsBroken};
+ghost use Rattle.sq_tool.specs.Misuses.{IsUnwritable};
 ghost use Rattle.sq_tool.specs.Outputs.{outputs};
 ghost use Rattle.sq_tool.specs.Places.{IsPlaceRun};
 
@@ -20,9 +20,9 @@ pub(crate) fn write_place<K: Sink, F: Sink>(
 ) -> u8
     ensures status { result ≤ 3 }
     ensures read { result ≢ 2 }
-    ensures broken { result ≡ 3 → IsBroken (outputs (K.written output.old) (K.written output.new) (F.written faults.old) (F.written faults.new) (F.has_failed faults.new)) }
+    ensures broken { result ≡ 3 → IsUnwritable (outputs (K.written output.old) (K.written output.new) (K.has_failed output.new) (F.written faults.old) (F.written faults.new) (F.has_failed faults.new)) }
     ensures answers { result ≤ 1 → IsPlaceRun answer result
-        (outputs (K.written output.old) (K.written output.new) (F.written faults.old) (F.written faults.new) (F.has_failed faults.new)) }
+        (outputs (K.written output.old) (K.written output.new) (K.has_failed output.new) (F.written faults.old) (F.written faults.new) (F.has_failed faults.new)) }
 {
     match answer {
         Ok(place) => write_text(place_text(&place.position()).as_str(), output, faults),

@@ -3,7 +3,7 @@ ghost use Rattle.std.specs.Prelude.{◌≡◌, ◌≢◌, ◌≤◌, ◌⊎◌, 
 ghost use Rattle.std.specs.Io.KnownBytes.{Appends};
 ghost use Rattle.sq_words.specs.Requests.{Asked, Asks, asked_by};
 ghost use Rattle.sq_lines.specs.declared.faults.RunFault.TheVariants as run_faults;
-ghost use Rattle.sq_tool.specs.Misuses.{IsBroken, IsMisused, broken_text};
+ghost use Rattle.sq_tool.specs.Misuses.{IsBroken, IsMisused, LacksMemory, broken_text};
 ghost use Rattle.sq_tool.specs.Outputs.{outputs};
 ghost use Rattle.sq_tool.specs.Runs.{Answers, HasUsageFault, streams};
 
@@ -32,13 +32,15 @@ pub fn run<S: Source, K: Sink, F: Sink>(
 ) -> u8
     ensures status { result ≤ 3 }
     ensures answers { result ≤ 1 → (asked : Asked) × Asks (map (λ word. word.now) words.entry.now) asked
-        × Answers asked result (streams (S.to_come input.old) (S.to_come input.new)
-        (outputs (K.written output.old) (K.written output.new) (F.written faults.old) (F.written faults.new) (F.has_failed faults.new))) }
+        × Answers asked result (streams (S.to_come input.old) (S.to_come input.new) (S.has_failed input.new)
+        (outputs (K.written output.old) (K.written output.new) (K.has_failed output.new) (F.written faults.old) (F.written faults.new) (F.has_failed faults.new))) }
     ensures usage { result ≡ 2 → (asked : Asked) → Asks (map (λ word. word.now) words.entry.now) asked → HasUsageFault asked }
     ensures misused { result ≡ 2 → (asked : Asked) → Asks (map (λ word. word.now) words.entry.now) asked → IsMisused asked
-        (outputs (K.written output.old) (K.written output.new) (F.written faults.old) (F.written faults.new) (F.has_failed faults.new)) }
+        (outputs (K.written output.old) (K.written output.new) (K.has_failed output.new) (F.written faults.old) (F.written faults.new) (F.has_failed faults.new)) }
     ensures unwritten { result ≡ 2 → Appends (K.written output.old) (K.written output.new) [] }
-    ensures broken { result ≡ 3 → IsBroken (outputs (K.written output.old) (K.written output.new) (F.written faults.old) (F.written faults.new) (F.has_failed faults.new)) }
+    ensures broken { result ≡ 3 → LacksMemory (outputs (K.written output.old) (K.written output.new) (K.has_failed output.new) (F.written faults.old) (F.written faults.new) (F.has_failed faults.new))
+        ⊎ ((asked : Asked) × Asks (map (λ word. word.now) words.entry.now) asked × IsBroken asked (streams (S.to_come input.old) (S.to_come input.new) (S.has_failed input.new)
+        (outputs (K.written output.old) (K.written output.new) (K.has_failed output.new) (F.written faults.old) (F.written faults.new) (F.has_failed faults.new)))) }
 {
     match read_request(alloc, words) {
         Ok(request) => {
@@ -57,12 +59,13 @@ fn answer<S: Source, K: Sink, F: Sink>(
     faults: &mut F,
 ) -> u8
     ensures status { result ≤ 3 }
-    ensures answers { result ≤ 1 → Answers (asked_by request.entry) result (streams (S.to_come input.old) (S.to_come input.new)
-        (outputs (K.written output.old) (K.written output.new) (F.written faults.old) (F.written faults.new) (F.has_failed faults.new))) }
+    ensures answers { result ≤ 1 → Answers (asked_by request.entry) result (streams (S.to_come input.old) (S.to_come input.new) (S.has_failed input.new)
+        (outputs (K.written output.old) (K.written output.new) (K.has_failed output.new) (F.written faults.old) (F.written faults.new) (F.has_failed faults.new))) }
     ensures usage { result ≡ 2 → HasUsageFault (asked_by request.entry) }
     ensures misused { result ≡ 2 → IsMisused (asked_by request.entry)
-        (outputs (K.written output.old) (K.written output.new) (F.written faults.old) (F.written faults.new) (F.has_failed faults.new)) }
-    ensures broken { result ≡ 3 → IsBroken (outputs (K.written output.old) (K.written output.new) (F.written faults.old) (F.written faults.new) (F.has_failed faults.new)) }
+        (outputs (K.written output.old) (K.written output.new) (K.has_failed output.new) (F.written faults.old) (F.written faults.new) (F.has_failed faults.new)) }
+    ensures broken { result ≡ 3 → IsBroken (asked_by request.entry) (streams (S.to_come input.old) (S.to_come input.new) (S.has_failed input.new)
+        (outputs (K.written output.old) (K.written output.new) (K.has_failed output.new) (F.written faults.old) (F.written faults.new) (F.has_failed faults.new))) }
 {
     match request {
         Request::Show { frame } => show(frame, output, faults),

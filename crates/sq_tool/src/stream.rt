@@ -2,7 +2,8 @@
 ghost use Rattle.std.specs.Prelude.{◌≡◌, ◌≢◌, ◌≤◌, ◌++◌, codes};
 ghost use Rattle.sq_tool.specs.Misuses.{IsBroken, broken_text};
 ghost use Rattle.sq_tool.specs.Outputs.{outputs};
-ghost use Rattle.sq_tool.specs.Runs.{IsCheckRun};
+ghost use Rattle.sq_tool.specs.Runs.{IsCheckRun, streams};
+ghost use Rattle.sq_words.specs.Requests.{Check};
 
 use crate::check::run_check;
 use crate::telling::{BROKEN, GOOD, REFUSED, tell};
@@ -17,7 +18,8 @@ pub(crate) fn check<S: Source, K: Sink, F: Sink>(
 ) -> u8
     ensures status { result ≤ 3 }
     ensures read { result ≢ 2 }
-    ensures broken { result ≡ 3 → IsBroken (outputs (K.written output.old) (K.written output.new) (F.written faults.old) (F.written faults.new) (F.has_failed faults.new)) }
+    ensures broken { result ≡ 3 → IsBroken Check (streams (S.to_come input.old) (S.to_come input.new) (S.has_failed input.new)
+        (outputs (K.written output.old) (K.written output.new) (K.has_failed output.new) (F.written faults.old) (F.written faults.new) (F.has_failed faults.new))) }
     ensures answers { result ≤ 1 → IsCheckRun result (S.to_come input.old) (S.to_come input.new) (K.written output.old) (K.written output.new) }
 {
     match run_check(input, output) {

@@ -1,5 +1,4 @@
-use Rattle.sq_lines.specs.declared.faults.RunFault.TheVariants.{Memory}
-use Rattle.std.proofs.Common.{◌∙◌, subst}
+use Rattle.std.proofs.Common.{◌∙◌, inr, subst}
 use Rattle.sq_tool.proofs.Statuses.{good_from}
 use Rattle.std.specs.Io.KnownBytes.{Appends}
 use Rattle.sq_tool.proofs.encode.encode.Goals as goal
@@ -18,4 +17,4 @@ returns-in-Some-clause-answers g c small =
     }
 
 pub returns-in-None-clause-broken : goal.returns-in-None-clause-broken
-returns-in-None-clause-broken g c e = (Memory, c.tell.ensures)
+returns-in-None-clause-broken g c e = inr c.tell.ensures

@@ -61,16 +61,26 @@ pub returns-in_err-address-clause-fault : goal.returns-in_err-address-clause-fau
 returns-in_err-address-clause-fault c =
     let p = err_from_is_err_and c.from_residual-in_err-address.result c.from_residual-in_err-address.ensures.1 in
     rw p.1
-    (inr ((c.in_ok-kind.kind, c.in_ok-kind.ensures.ok),
-    inr ((c.in_ok-parity.parity, c.in_ok-parity.ensures.ok),
-    inl (p.2 ∙ c.in_err-address.ensures.fault, λ good. c.in_err-address.ensures.err good.0 good.1))))
+    (inr (
+      (c.in_ok-kind.kind, c.in_ok-kind.ensures.ok),
+      inr (
+        (c.in_ok-parity.parity, c.in_ok-parity.ensures.ok),
+        inl (p.2 ∙ c.in_err-address.ensures.fault, λ good. c.in_err-address.ensures.err good.0 good.1),
+      ),
+    ))
 
 pub returns-in_err-position-clause-fault : goal.returns-in_err-position-clause-fault
 returns-in_err-position-clause-fault c =
     let p = err_from_is_err_and c.from_residual-in_err-position.result c.from_residual-in_err-position.ensures.1 in
     let why = subst (IsPositionFault c.args.words.now.lat.now c.args.words.now.lon.now) (sym p.2) c.in_err-position.ensures.fault in
     rw p.1
-    (inr ((c.in_ok-kind.kind, c.in_ok-kind.ensures.ok),
-    inr ((c.in_ok-parity.parity, c.in_ok-parity.ensures.ok),
-    inr ((c.in_ok-address.address, c.in_ok-address.ensures.ok),
-    inr ((c.in_ok-kind.kind, c.in_ok-kind.ensures.ok, (c.in_ok-altitude.altitude, c.in_ok-altitude.ensures.ok)), why)))))
+    (inr (
+      (c.in_ok-kind.kind, c.in_ok-kind.ensures.ok),
+      inr (
+        (c.in_ok-parity.parity, c.in_ok-parity.ensures.ok),
+        inr (
+          (c.in_ok-address.address, c.in_ok-address.ensures.ok),
+          inr ((c.in_ok-kind.kind, c.in_ok-kind.ensures.ok, (c.in_ok-altitude.altitude, c.in_ok-altitude.ensures.ok)), why),
+        ),
+      ),
+    ))

@@ -22,5 +22,5 @@ returns-in-Ok-clause-usage g c usage asked asks =
 
 pub returns-in-Ok-clause-misused : goal.returns-in-Ok-clause-misused
 returns-in-Ok-clause-misused g c usage asked asks =
-    let after = outputs (g.K.Sink.written c.args.output.now) (g.K.Sink.written c.answer.new.output) (g.F.Sink.written c.args.faults.now) (g.F.Sink.written c.answer.new.faults) (g.F.Sink.has_failed c.answer.new.faults) in
+    let after = outputs (g.K.Sink.written c.args.output.now) (g.K.Sink.written c.answer.new.output) (g.K.Sink.has_failed c.answer.new.output) (g.F.Sink.written c.args.faults.now) (g.F.Sink.written c.answer.new.faults) (g.F.Sink.has_failed c.answer.new.faults) in
     subst (λ a. IsMisused a after) (c.one_request.ensures _ (asked_by c.in-Ok.request) asked c.in-Ok.ensures.asks asks) (c.answer.ensures.misused usage)
