@@ -1,13 +1,16 @@
 -- What `local` and `pair` write.
-use Rattle.std.specs.Prelude.{ℕ, List, Option, Result, MatchResult}
+use Rattle.std.specs.Prelude.{◌⊎◌, ℕ, List, Option, Result, Ok, Err, MatchResult}
 use Rattle.sq_angle.specs.declared.position.Position.{Position}
 use Rattle.sq_message.specs.declared.place.Place.{Place}
 use Rattle.sq_message.specs.declared.place.PlaceFault.{PlaceFault}
 use Rattle.sq_message.specs.declared.squitter.Squitter.{Squitter}
 use Rattle.sq_message.specs.Parts.{squitter_parts}
 use Rattle.sq_message.specs.Places.{IsLocalPlace, IsPairPlace, IsPositionOf}
+use Rattle.sq_text.specs.declared.faults.LineFault.{LineFault}
+use Rattle.sq_text.specs.Faults.{fault_text}
 use Rattle.sq_text.specs.Place.{IsPlaceText}
 use Rattle.sq_text.specs.PlaceFaults.{place_fault_text}
+use Rattle.sq_text.specs.Reading.{IsSquitterReading}
 use Rattle.sq_tool.specs.Arguments.{IsPositionWords, IsSiteWords}
 use Rattle.sq_tool.specs.Outputs.{Outputs, IsFrameRun, IsRefused, IsWritten}
 
@@ -33,15 +36,21 @@ IsOneFrameRun frame reference status o = IsFrameRun frame (λ squitter. IsNearRu
 abbrev pub IsLocalRun : (frame lat lon : List ℕ) → ℕ → Outputs → Type 0
 IsLocalRun frame lat lon status o = (reference : Position) × IsPositionWords lat lon reference × IsOneFrameRun frame reference status o
 
+-- what two frame texts are read as: both squitters, or the first fault, the older's and then the newer's
+abbrev pub AreReadingsOf : (older newer : List ℕ) → Result (Squitter × Squitter) LineFault → Type 0
+AreReadingsOf older newer (Ok (first, second)) = IsSquitterReading older (Ok first) × IsSquitterReading newer (Ok second)
+AreReadingsOf older newer (Err fault) =
+    IsSquitterReading older (Err fault) ⊎ ((first : Squitter) × IsSquitterReading older (Ok first) × IsSquitterReading newer (Err fault))
+
 -- what the two squitters are decoded to is written or told
 abbrev pub IsPairedRun : Option Position → (older newer : Squitter) → ℕ → Outputs → Type 0
 IsPairedRun site older newer status o =
     (answer : Result Place PlaceFault) × IsPairPlace (squitter_parts older) (squitter_parts newer) site answer × IsPlaceRun answer status o
 
--- two frame texts and a site: the first fault is the older's, and the next the newer's
+-- two frame texts and a site: both are read and decoded, or the first fault is told
 abbrev pub IsTwoFramesRun : (older newer : List ℕ) → Option Position → ℕ → Outputs → Type 0
-IsTwoFramesRun older newer site status o =
-    IsFrameRun older (λ first. IsFrameRun newer (λ second. IsPairedRun site first second status o) status o) status o
+IsTwoFramesRun older newer site status o = (readings : Result (Squitter × Squitter) LineFault) × AreReadingsOf older newer readings
+    × MatchResult readings (λ both. IsPairedRun site both.0 both.1 status o) (λ fault. IsRefused status o (fault_text fault))
 
 -- `pair`: the words spell a site or none, and the squitters of the frames are decoded with it
 abbrev pub IsPairRun : (older newer : List ℕ) → (lat lon : Option (List ℕ)) → ℕ → Outputs → Type 0

@@ -3,15 +3,15 @@ ghost use Rattle.std.specs.Prelude.{◌≡◌, ◌≢◌, ◌≤◌, option_map}
 ghost use Rattle.sq_tool.specs.declared.arguments.ArgumentFault.{ArgumentFault};
 ghost use Rattle.sq_tool.specs.Misuses.{IsUnwritable, IsMisusedBy, IsSiteFault};
 ghost use Rattle.sq_tool.specs.Outputs.{outputs};
-ghost use Rattle.sq_tool.specs.Places.{HasNoSite, IsPairRun, IsTwoFramesRun};
+ghost use Rattle.sq_tool.specs.Places.{AreReadingsOf, HasNoSite, IsPairRun, IsTwoFramesRun};
 
 use crate::arguments::read_site;
 use crate::places::write_place;
 use crate::telling::{REFUSED, USAGE, tell, tell_fault};
 use sq_angle::Position;
 use sq_devices::Sink;
-use sq_message::place_pair;
-use sq_text::read_squitter;
+use sq_message::{Squitter, place_pair};
+use sq_text::{LineFault, read_squitter};
 
 /// Writes the place of the newer of the two squitters that the frame texts spell.
 pub(crate) fn pair<K: Sink, F: Sink>(
@@ -55,19 +55,20 @@ fn pair_at<K: Sink, F: Sink>(
     ensures answers { result ≤ 1 → IsTwoFramesRun older.now newer.now (option_map (λ s. s.now) site.entry) result
         (outputs (K.written output.old) (K.written output.new) (K.has_failed output.new) (F.written faults.old) (F.written faults.new) (F.has_failed faults.new)) }
 {
-    let older = match read_squitter(older.as_bytes()) {
-        Ok(squitter) => squitter,
+    match read_both(older, newer) {
+        Ok((older, newer)) => write_place(place_pair(&older, &newer, site), output, faults),
         Err(fault) => {
             tell_fault(fault, faults);
-            return REFUSED;
+            REFUSED
         }
-    };
-    let newer = match read_squitter(newer.as_bytes()) {
-        Ok(squitter) => squitter,
-        Err(fault) => {
-            tell_fault(fault, faults);
-            return REFUSED;
-        }
-    };
-    write_place(place_pair(&older, &newer, site), output, faults)
+    }
+}
+
+// The squitters of both frame texts, or the first fault.
+fn read_both(older: &str, newer: &str) -> Result<(Squitter, Squitter), LineFault>
+    ensures { AreReadingsOf older.now newer.now result }
+{
+    let first = read_squitter(older.as_bytes())?;
+    let second = read_squitter(newer.as_bytes())?;
+    Ok((first, second))
 }
