@@ -28,9 +28,13 @@ outputs written written' unwritable told told' untold = record {
   untold = untold;
 }
 
--- all is good: the text was written
+-- nothing was told
+abbrev pub IsSilent : Outputs → Type 0
+IsSilent o = Appends o.told_before o.told_after []
+
+-- all is good: the text was written, and nothing told
 abbrev pub IsWritten : ℕ → Outputs → List ℕ → Type 0
-IsWritten status o text = (status ≡ 0) × Appends o.written_before o.written_after text
+IsWritten status o text = (status ≡ 0) × Appends o.written_before o.written_after text × IsSilent o
 
 -- the line was told, unless the sink for faults has failed
 abbrev pub IsTold : Outputs → List ℕ → Type 0

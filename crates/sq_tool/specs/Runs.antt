@@ -7,7 +7,7 @@ use Rattle.sq_lines.specs.Lines.{lines_of}
 use Rattle.sq_bits.specs.declared.frame.Frame.{Frame}
 use Rattle.sq_tool.specs.Check.{check_output, check_tally}
 use Rattle.sq_tool.specs.Encode.{EncodeValues, IsEncodeValues, IsFrameOf, frame_line}
-use Rattle.sq_tool.specs.Outputs.{Outputs, IsFrameRun, IsWritten}
+use Rattle.sq_tool.specs.Outputs.{Outputs, IsFrameRun, IsSilent, IsWritten}
 use Rattle.sq_tool.specs.Places.{HasNoPosition, HasNoSite, IsLocalRun, IsPairRun}
 use Rattle.sq_words.specs.Requests.{Asked, AskedEncode, Show, Encode, Local, Pair, Check, Track}
 
@@ -39,11 +39,12 @@ pub record IsEncodeRun (words : AskedEncode) (status : ℕ) (o : Outputs) : Type
 abbrev pub HasNoEncodeValues : AskedEncode → Type 0
 HasNoEncodeValues words = (values : EncodeValues) → ¬ IsEncodeValues words values
 
--- `check`: the whole input was read and each of its lines answered; 1 says that one of them was refused
-abbrev pub IsCheckRun : ℕ → (to_come_before to_come_after written_before written_after : Option (List ℕ)) → Type 0
-IsCheckRun status to_come_before to_come_after written_before written_after =
-    IfSome to_come_before (λ input. (to_come_after ≡ Some [])
-    × ((reader : SquitterReader) → Appends written_before written_after (check_output reader (lines_of input))
+-- `check`: the whole input was read and each of its lines answered, and nothing told; 1 says that one of them was refused
+abbrev pub IsCheckRun : ℕ → Streams → Type 0
+IsCheckRun status s =
+    IsSilent s.outputs
+    × IfSome s.to_come_before (λ input. (s.to_come_after ≡ Some [])
+    × ((reader : SquitterReader) → Appends s.outputs.written_before s.outputs.written_after (check_output reader (lines_of input))
     × (status ≡ (if (check_tally reader (lines_of input)).refused == 0 then 0 else 1))))
 
 -- at exit status 0 or 1, what was written is what the command asks for
@@ -52,7 +53,7 @@ Answers (Show frame) status s = IsShowRun frame status s.outputs
 Answers (Encode words) status s = IsEncodeRun words status s.outputs
 Answers (Local frame lat lon) status s = IsLocalRun frame lat lon status s.outputs
 Answers (Pair older newer lat lon) status s = IsPairRun older newer lat lon status s.outputs
-Answers Check status s = IsCheckRun status s.to_come_before s.to_come_after s.outputs.written_before s.outputs.written_after
+Answers Check status s = IsCheckRun status s
 Answers (Track limit window lat lon) status s = ⊥
 
 -- a command that is not yet one of the program's, or an argument at fault

@@ -20,7 +20,8 @@ pub(crate) fn check<S: Source, K: Sink, F: Sink>(
     ensures read { result ≢ 2 }
     ensures broken { result ≡ 3 → IsBroken Check (streams (S.to_come input.old) (S.to_come input.new) (S.has_failed input.new)
         (outputs (K.written output.old) (K.written output.new) (K.has_failed output.new) (F.written faults.old) (F.written faults.new) (F.has_failed faults.new))) }
-    ensures answers { result ≤ 1 → IsCheckRun result (S.to_come input.old) (S.to_come input.new) (K.written output.old) (K.written output.new) }
+    ensures answers { result ≤ 1 → IsCheckRun result (streams (S.to_come input.old) (S.to_come input.new) (S.has_failed input.new)
+        (outputs (K.written output.old) (K.written output.new) (K.has_failed output.new) (F.written faults.old) (F.written faults.new) (F.has_failed faults.new))) }
 {
     match run_check(input, output) {
         Ok(tally) => { if tally.refused == 0 { GOOD } else { REFUSED } }

@@ -1,5 +1,5 @@
 //! Texts that are written whole, and faults that are told in a line.
-ghost use Rattle.std.specs.Prelude.{◌≡◌, ◌⊎◌, ◌++◌, codes, false};
+ghost use Rattle.std.specs.Prelude.{◌≡◌, ◌⊎◌, ◌++◌, [], codes, false};
 ghost use Rattle.std.specs.Io.KnownBytes.{Appends};
 ghost use Rattle.sq_text.specs.Faults.{fault_text};
 ghost use Rattle.sq_tool.specs.Misuses.{IsUnwritable};
@@ -22,6 +22,7 @@ pub(crate) const BROKEN: u8 = 3;
 pub(crate) fn write_text<K: Sink, F: Sink>(text: &str, output: &mut K, faults: &mut F) -> u8
     ensures status { (result ≡ 0) ⊎ (result ≡ 3) }
     ensures written { result ≡ 0 → Appends (K.written output.old) (K.written output.new) text.now }
+    ensures silent { result ≡ 0 → Appends (F.written faults.old) (F.written faults.new) [] }
     ensures broken { result ≡ 3 → IsUnwritable (outputs (K.written output.old) (K.written output.new) (K.has_failed output.new) (F.written faults.old) (F.written faults.new) (F.has_failed faults.new)) }
 {
     if put_last(output, text.as_bytes()).is_ok() {

@@ -13,7 +13,7 @@ returns-in-Some-clause-answers g c small =
       spelled = said.1;
       frame = c.in-Ok.frame;
       sent = said.2;
-      written = (ok, subst (λ t. Appends (g.K.Sink.written c.args.output.now) (g.K.Sink.written c.write_text.new.output) t) text (c.write_text.ensures.written ok));
+      written = (ok, subst (λ t. Appends (g.K.Sink.written c.args.output.now) (g.K.Sink.written c.write_text.new.output) t) text (c.write_text.ensures.written ok), c.write_text.ensures.silent ok);
     }
 
 pub returns-in-None-clause-broken : goal.returns-in-None-clause-broken

@@ -8,4 +8,4 @@ returns-in-Ok-clause-answers g c low =
     let good = good_from c.write_text.result c.write_text.ensures.status low in
     let written = subst (λ text. Appends (g.K.Sink.written c.args.output.now) (g.K.Sink.written c.write_text.new.output) text) c.as_str.ensures.value
     (c.write_text.ensures.written good) in
-    rw c.in-Ok.is (c.place_text.result.bytes, (c.position.result, c.position.ensures, c.place_text.ensures), (good, written))
+    rw c.in-Ok.is (c.place_text.result.bytes, (c.position.result, c.position.ensures, c.place_text.ensures), (good, written, c.write_text.ensures.silent good))

@@ -16,6 +16,7 @@ returns-in-Ok-clause-answers g c low =
           good,
           subst (λ text. Appends (g.K.Sink.written c.args.output.now) (g.K.Sink.written c.write_text.new.output) text) c.as_str.ensures.value
               (c.write_text.ensures.written good),
+          c.write_text.ensures.silent good,
         ),
       ),
     )
