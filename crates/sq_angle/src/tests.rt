@@ -98,50 +98,52 @@ fn reads(rt: HostRuntime) {
     }
 }
 
+// Texts that are no angle.
+const REFUSED: [(&str, AngleFault); 30] = [
+    ("", AngleFault::NotANumber),
+    ("-", AngleFault::NotANumber),
+    ("+1", AngleFault::NotANumber),
+    ("--1", AngleFault::NotANumber),
+    ("1-", AngleFault::NotANumber),
+    ("1.", AngleFault::NotANumber),
+    (".5", AngleFault::NotANumber),
+    ("-.5", AngleFault::NotANumber),
+    (".", AngleFault::NotANumber),
+    ("1.2.3", AngleFault::NotANumber),
+    ("1.2.", AngleFault::NotANumber),
+    ("1.-5", AngleFault::NotANumber),
+    ("1.+5", AngleFault::NotANumber),
+    ("1,5", AngleFault::NotANumber),
+    ("1e2", AngleFault::NotANumber),
+    (" 1", AngleFault::NotANumber),
+    ("1\n", AngleFault::NotANumber),
+    ("٣", AngleFault::NotANumber),
+    ("1234", AngleFault::NotANumber),
+    ("1234.1234567890", AngleFault::NotANumber),
+    (
+        "11111111111111111111111111111111111111111111111111111111111111111",
+        AngleFault::NotANumber,
+    ),
+    (
+        "1.1111111111111111111111111111111111111111111111111111111111111x",
+        AngleFault::NotANumber,
+    ),
+    (
+        "1.1111111111111111111111111111111111111111111111111111111111111",
+        AngleFault::TooManyDecimals,
+    ),
+    ("0.1234567890123", AngleFault::TooManyDecimals),
+    ("999.1234567890123", AngleFault::TooManyDecimals),
+    ("0.0000000000000", AngleFault::TooManyDecimals),
+    ("360.1", AngleFault::OutOfRange),
+    ("-360.000000000001", AngleFault::OutOfRange),
+    ("999", AngleFault::OutOfRange),
+    ("999.1234567890", AngleFault::OutOfRange),
+];
+
 #[test]
 fn refuses(rt: HostRuntime) {
-    let rows = [
-        ("", AngleFault::NotANumber),
-        ("-", AngleFault::NotANumber),
-        ("+1", AngleFault::NotANumber),
-        ("--1", AngleFault::NotANumber),
-        ("1-", AngleFault::NotANumber),
-        ("1.", AngleFault::NotANumber),
-        (".5", AngleFault::NotANumber),
-        ("-.5", AngleFault::NotANumber),
-        (".", AngleFault::NotANumber),
-        ("1.2.3", AngleFault::NotANumber),
-        ("1.2.", AngleFault::NotANumber),
-        ("1.-5", AngleFault::NotANumber),
-        ("1.+5", AngleFault::NotANumber),
-        ("1,5", AngleFault::NotANumber),
-        ("1e2", AngleFault::NotANumber),
-        (" 1", AngleFault::NotANumber),
-        ("1\n", AngleFault::NotANumber),
-        ("٣", AngleFault::NotANumber),
-        ("1234", AngleFault::NotANumber),
-        ("1234.1234567890", AngleFault::NotANumber),
-        (
-            "11111111111111111111111111111111111111111111111111111111111111111",
-            AngleFault::NotANumber,
-        ),
-        (
-            "1.1111111111111111111111111111111111111111111111111111111111111x",
-            AngleFault::NotANumber,
-        ),
-        (
-            "1.1111111111111111111111111111111111111111111111111111111111111",
-            AngleFault::TooManyDecimals,
-        ),
-        ("0.1234567890123", AngleFault::TooManyDecimals),
-        ("999.1234567890123", AngleFault::TooManyDecimals),
-        ("0.0000000000000", AngleFault::TooManyDecimals),
-        ("360.1", AngleFault::OutOfRange),
-        ("-360.000000000001", AngleFault::OutOfRange),
-        ("999", AngleFault::OutOfRange),
-        ("999.1234567890", AngleFault::OutOfRange),
-    ];
-    for (text, fault) in rows {
+    for (text, fault) in REFUSED {
         assert!(rt; Angle::read(text) == Err(fault), "{text}");
     }
 }

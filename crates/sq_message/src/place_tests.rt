@@ -99,50 +99,38 @@ fn decodes_pairs_at_a_site(rt: HostRuntime) {
     assert!(rt; place.position() == position(&rt, (13_716_171, 262_144), (1_240_065, 262_144)));
 }
 
-// Each row has each fault behind it too, as far as one squitter can have them.
+// Asserts the fault of a pair, without a site and, where a site is not what is missing, with one.
+fn assert_fault(rt: &impl Abort, older: Squitter, newer: Squitter, fault: PlaceFault) {
+    assert!(rt; place_pair(&older, &newer, None) == Err(fault), "{fault:?}");
+    if fault != PlaceFault::NoSite {
+        let site = position(rt, (0, 1), (0, 1));
+        assert!(rt;
+            place_pair(&older, &newer, Some(&site)) == Err(fault),
+            "{fault:?} at a site"
+        );
+    }
+}
+
+// Each pair has each fault behind the one that is told too, as far as two squitters can have them.
 #[test]
 fn tells_the_first_fault_of_a_pair(rt: HostRuntime) {
-    let site = position(&rt, (0, 1), (0, 1));
     let air = airborne(&rt, 1, Parity::Even, 0, 0);
     let ground = surface(&rt, 1, Parity::Even, 0, 0);
-    let rows = [
-        (air, other(&rt, 2), PlaceFault::NotPosition),
-        (other(&rt, 2), air, PlaceFault::NotPosition),
-        (other(&rt, 1), other(&rt, 1), PlaceFault::NotPosition),
-        (
-            air,
-            surface(&rt, 2, Parity::Even, 0, 0),
-            PlaceFault::OtherAddress,
-        ),
-        (
-            air,
-            airborne(&rt, 2, Parity::Odd, 0, 0),
-            PlaceFault::OtherAddress,
-        ),
-        (air, ground, PlaceFault::OtherKind),
-        (ground, air, PlaceFault::OtherKind),
-        (air, air, PlaceFault::SameParity),
-        (ground, ground, PlaceFault::SameParity),
-        (
-            ground,
-            surface(&rt, 1, Parity::Odd, 87_381, 0),
-            PlaceFault::NoSite,
-        ),
-        (
-            air,
-            airborne(&rt, 1, Parity::Odd, 87_381, 0),
-            PlaceFault::OutOfRange,
-        ),
-    ];
-    for (older, newer, fault) in rows {
-        assert!(rt; place_pair(&older, &newer, None) == Err(fault), "{fault:?}");
-        let with_site = if fault == PlaceFault::NoSite {
-            place_pair(&older, &newer, None)
-        } else {
-            place_pair(&older, &newer, Some(&site))
-        };
-        assert!(rt; with_site == Err(fault), "{fault:?} with a site");
-    }
+    assert_fault(&rt, air, other(&rt, 2), PlaceFault::NotPosition);
+    assert_fault(&rt, other(&rt, 2), air, PlaceFault::NotPosition);
+    assert_fault(&rt, other(&rt, 1), other(&rt, 1), PlaceFault::NotPosition);
+    let strange = surface(&rt, 2, Parity::Even, 0, 0);
+    assert_fault(&rt, air, strange, PlaceFault::OtherAddress);
+    let strange = airborne(&rt, 2, Parity::Odd, 0, 0);
+    assert_fault(&rt, air, strange, PlaceFault::OtherAddress);
+    assert_fault(&rt, air, ground, PlaceFault::OtherKind);
+    assert_fault(&rt, ground, air, PlaceFault::OtherKind);
+    assert_fault(&rt, air, air, PlaceFault::SameParity);
+    assert_fault(&rt, ground, ground, PlaceFault::SameParity);
+    let far = surface(&rt, 1, Parity::Odd, 87_381, 0);
+    assert_fault(&rt, ground, far, PlaceFault::NoSite);
+    let far = airborne(&rt, 1, Parity::Odd, 87_381, 0);
+    assert_fault(&rt, air, far, PlaceFault::OutOfRange);
 }
 
 #[test]

@@ -94,93 +94,94 @@ fn encodes_altitudes(rt: HostRuntime) {
     assert_altitude(&rt, rt.alloc(), "--feet=50175", b"8D40621D58FFF000010000");
 }
 
+// Kind, parity, address, feet, latitude and longitude, each row with each fault behind it too, and the line that is told.
+const ARGUMENT_FAULTS: [([&str; 6], &str); 15] = [
+    (
+        ["sea", "up", "40621", "38010", "--lat=x", "180.1"],
+        "bad kind\n",
+    ),
+    (
+        ["air", "up", "40621", "38010", "--lat=x", "180.1"],
+        "bad parity\n",
+    ),
+    (
+        ["air", "odd", "40621", "38010", "--lat=x", "180.1"],
+        "bad address\n",
+    ),
+    (
+        ["air", "odd", "40621G", "38010", "--lat=x", "180.1"],
+        "bad address\n",
+    ),
+    (
+        ["air", "odd", "40621D", "38010", "--lat=x", "180.1"],
+        "bad feet\n",
+    ),
+    (
+        ["air", "odd", "40621D", "+38000", "--lat=x", "180.1"],
+        "bad feet\n",
+    ),
+    (
+        ["air", "odd", "40621D", "038000", "--lat=x", "180.1"],
+        "bad feet\n",
+    ),
+    (
+        ["ground", "odd", "40621D", "38000", "--lat=x", "180.1"],
+        "bad feet\n",
+    ),
+    (
+        ["air", "odd", "40621D", "38000", "--lat=x", "180.1"],
+        "lat not a number\n",
+    ),
+    (
+        [
+            "air",
+            "odd",
+            "40621D",
+            "38000",
+            "--lat=1.0000000000001",
+            "180.1",
+        ],
+        "lat too many decimals\n",
+    ),
+    (
+        [
+            "air",
+            "odd",
+            "40621D",
+            "38000",
+            "--lat=90.000000000001",
+            "180.1",
+        ],
+        "lat out of range\n",
+    ),
+    (
+        ["air", "odd", "40621D", "38000", "--lat=-90.1", "180.1"],
+        "lat out of range\n",
+    ),
+    (
+        ["air", "odd", "40621D", "38000", "--lat=90", "1e2"],
+        "lon not a number\n",
+    ),
+    (
+        [
+            "air",
+            "odd",
+            "40621D",
+            "38000",
+            "--lat=90",
+            "0.1234567890123",
+        ],
+        "lon too many decimals\n",
+    ),
+    (
+        ["air", "odd", "40621D", "38000", "--lat=90", "180.1"],
+        "lon out of range\n",
+    ),
+];
+
 #[test]
 fn refuses_arguments_in_order(rt: HostRuntime) {
-    // kind, parity, address, feet, latitude, longitude
-    let rows = [
-        (
-            ["sea", "up", "40621", "38010", "--lat=x", "180.1"],
-            "bad kind\n",
-        ),
-        (
-            ["air", "up", "40621", "38010", "--lat=x", "180.1"],
-            "bad parity\n",
-        ),
-        (
-            ["air", "odd", "40621", "38010", "--lat=x", "180.1"],
-            "bad address\n",
-        ),
-        (
-            ["air", "odd", "40621G", "38010", "--lat=x", "180.1"],
-            "bad address\n",
-        ),
-        (
-            ["air", "odd", "40621D", "38010", "--lat=x", "180.1"],
-            "bad feet\n",
-        ),
-        (
-            ["air", "odd", "40621D", "+38000", "--lat=x", "180.1"],
-            "bad feet\n",
-        ),
-        (
-            ["air", "odd", "40621D", "038000", "--lat=x", "180.1"],
-            "bad feet\n",
-        ),
-        (
-            ["ground", "odd", "40621D", "38000", "--lat=x", "180.1"],
-            "bad feet\n",
-        ),
-        (
-            ["air", "odd", "40621D", "38000", "--lat=x", "180.1"],
-            "lat not a number\n",
-        ),
-        (
-            [
-                "air",
-                "odd",
-                "40621D",
-                "38000",
-                "--lat=1.0000000000001",
-                "180.1",
-            ],
-            "lat too many decimals\n",
-        ),
-        (
-            [
-                "air",
-                "odd",
-                "40621D",
-                "38000",
-                "--lat=90.000000000001",
-                "180.1",
-            ],
-            "lat out of range\n",
-        ),
-        (
-            ["air", "odd", "40621D", "38000", "--lat=-90.1", "180.1"],
-            "lat out of range\n",
-        ),
-        (
-            ["air", "odd", "40621D", "38000", "--lat=90", "1e2"],
-            "lon not a number\n",
-        ),
-        (
-            [
-                "air",
-                "odd",
-                "40621D",
-                "38000",
-                "--lat=90",
-                "0.1234567890123",
-            ],
-            "lon too many decimals\n",
-        ),
-        (
-            ["air", "odd", "40621D", "38000", "--lat=90", "180.1"],
-            "lon out of range\n",
-        ),
-    ];
-    for (values, text) in rows {
+    for (values, text) in ARGUMENT_FAULTS {
         assert_argument_fault(&rt, rt.alloc(), values, text);
     }
 }
