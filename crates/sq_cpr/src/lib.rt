@@ -28,6 +28,8 @@ pub use sq_angle::{Angle, Position};
 pub use sq_zones::Parity;
 
 #[cfg(test)]
+mod border_tests;
+#[cfg(test)]
 mod decode_tests;
 #[cfg(test)]
 mod pair_tests;

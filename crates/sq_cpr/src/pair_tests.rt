@@ -5,7 +5,7 @@ use crate::decode_tests::{Place, code, place, position};
 use crate::{PairFault, Parity, pair_air, pair_ground};
 
 // The even and the odd code, the newest parity, and what is decoded.
-type AirRow = ((u32, u32), (u32, u32), Parity, Result<Place, PairFault>);
+pub type AirRow = ((u32, u32), (u32, u32), Parity, Result<Place, PairFault>);
 
 // The same with the site's latitude and longitude before the answer.
 type GroundRow = (
@@ -18,7 +18,7 @@ type GroundRow = (
 );
 
 // The place that two codes in the air are decoded to.
-fn place_in_air(
+pub fn place_in_air(
     even: (u32, u32),
     odd: (u32, u32),
     newest: Parity,
