@@ -1,5 +1,5 @@
 -- Bytes as the digits of a number.
-use Rattle.std.proofs.Common.{◌≡◌, ℕ, ◌+◌, ◌-◌, ◌*◌, ◌/◌, ◌<◌, ◌≤◌, ◌^◌, List, length, take, set, refl, ◌∙◌, arith, bit_and, [], ◌∷◌, ◌++◌}
+use Rattle.std.proofs.Common.{◌≡◌, ℕ, ◌+◌, ◌-◌, ◌*◌, ◌/◌, ◌<◌, ◌≤◌, ◌^◌, List, length, take, set, get_or, refl, ap, ◌∙◌, arith, bit_and, [], ◌∷◌, ◌++◌}
 use Rattle.std.proofs.lemmas.Nat.{pow-add, shr-shr, shr_split, and_mask, and_le_r}
 use Rattle.std.proofs.lemmas.Int.Digits.{number_more}
 use Rattle.std.proofs.Math.ListN.{length-set}
@@ -45,3 +45,19 @@ AllBelowBase-push b x (y ∷ ys) all last = (all.0, AllBelowBase-push b x ys all
 pub AllBelowBase-written : (bs : List ℕ) (i n : ℕ) → i < length bs → AllBelowBase 256 (take i bs) → AllBelowBase 256 (take (i + 1) (set bs i (bit_and n 255)))
 AllBelowBase-written bs i n within all =
     rw (take_more_set bs i (bit_and n 255) within) (AllBelowBase-push 256 (bit_and n 255) (take i bs) all (omega (arith, and_le_r n 255)))
+
+-- two bytes of a number, and three more behind a number
+pub two_bytes : (bs : List ℕ) → 2 ≤ length bs → number_from_digits 256 (take 2 bs) ≡ (0 + get_or bs 0 0) * 256 + get_or bs 1 0
+two_bytes bs long = number_more 256 bs 1 (omega arith) ∙ ap (λ n. n * 256 + get_or bs 1 0) (number_more 256 bs 0 (omega arith))
+
+pub three_bytes : (bs : List ℕ) (i : ℕ) → i + 3 ≤ length bs
+    → number_from_digits 256 (take (i + 3) bs) ≡ number_from_digits 256 (take i bs) * 2 ^ 24 + ((get_or bs i 0 * 256 + get_or bs (i + 1) 0) * 256 + get_or bs (i + 2) 0)
+three_bytes bs i long =
+    let a : number_from_digits 256 (take (i + 1) bs) ≡ number_from_digits 256 (take i bs) * 256 + get_or bs i 0 = number_more 256 bs i (omega arith) in
+    let b : number_from_digits 256 (take (i + 1 + 1) bs) ≡ number_from_digits 256 (take (i + 1) bs) * 256 + get_or bs (i + 1) 0 = number_more 256 bs (i + 1) (omega arith) in
+    let c : number_from_digits 256 (take (i + 2 + 1) bs) ≡ number_from_digits 256 (take (i + 2) bs) * 256 + get_or bs (i + 2) 0 = number_more 256 bs (i + 2) (omega arith) in
+    let e : i + 1 + 1 ≡ i + 2 = omega arith in
+    let f : i + 2 + 1 ≡ i + 3 = omega arith in
+    let b' = rw e at b in
+    let c' = rw f at c in
+    omega (arith, a, b', c')

@@ -1,6 +1,7 @@
 -- The table of the values of digits.
-use Rattle.std.proofs.Common.{◌≡◌, ℕ, ◌+◌, ◌*◌, ◌<◌, Ok, Option, None, Some, map, get_or, refl, sym, ap, ◌∙◌, arith}
+use Rattle.std.proofs.Common.{◌≡◌, ℕ, ◌+◌, ◌*◌, ◌%◌, ◌<◌, ◌^◌, Ok, bit_or, Option, None, Some, map, get_or, refl, sym, ap, ◌∙◌, arith}
 use Rattle.std.proofs.lemmas.List.FromFn.{get_or-map-range_with_len}
+use Rattle.std.proofs.lemmas.Nat.{or_shifted}
 use Rattle.std.specs.List.{range_with_len}
 use Rattle.hex.specs.Hex.{hex_digit_value, pair_value, digit_or_error, value_at, ◌>>=◌}
 use Rattle.sq_text.specs.declared.digit_values.TheConstants.{VALUES}
@@ -32,3 +33,10 @@ pub pair_from : (a b i h l : ℕ) → hex_digit_value a ≡ Some h → hex_digit
 pair_from a b i h l x y =
     ap (λ o. digit_or_error a i o >>= (λ high. value_at b (i + 1) >>= (λ low. Ok (high * 16 + low)))) x
     ∙ ap (λ o. digit_or_error b (i + 1) o >>= (λ low. Ok (h * 16 + low))) y
+
+-- joined as the code does
+pub joined_digits : (a b i h l : ℕ) → h < 16 → l < 16 → pair_value a b i ≡ Ok (h * 16 + l) → pair_value a b i ≡ Ok (bit_or (h * 16 % 256) l)
+joined_digits a b i h l high low is =
+    let whole : h * 16 % 256 ≡ h * 2 ^ 4 = omega arith in
+    let sum : bit_or (h * 16 % 256) l ≡ h * 16 + l = ap (λ x. bit_or x l) whole ∙ or_shifted h 4 l low in
+    is ∙ ap Ok (sym sum)

@@ -49,19 +49,22 @@ fn read_digits(body: &[u8]) -> Result<Frame, usize>
     }
 }
 
-// The frame of 28 digits, where all of them are digits: the common case, by a table.
+// The frame of 28 digits, where all of them are digits: the common case, by a table. What no digit has is looked for once,
+// behind the loop.
 fn frame_of_digits(body: &[u8]) -> Option<Frame>
     requires { length body.now ≡ 28 }
     ensures { IfSome result (λ frame. decode_of body.now ≡ Ok frame.0) }
 {
     let mut bytes = [0; 14];
+    let mut seen = 0;
     for place in 0..14 {
         let high = digit_value(body[2 * place]);
         let low = digit_value(body[2 * place + 1]);
-        if high.max(low) > 15 {
-            return None;
-        }
-        bytes[place] = high * 16 + low;
+        seen |= high | low;
+        bytes[place] = high << 4 | low;
+    }
+    if seen > 15 {
+        return None;
     }
     Some(Frame(bytes))
 }

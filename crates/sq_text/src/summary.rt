@@ -6,7 +6,7 @@ ghost use Rattle.sq_text.specs.Digits.{hexadecimal};
 ghost use Rattle.sq_text.specs.Show.{parity_name};
 ghost use Rattle.sq_text.specs.Summary.{me_words, place_words, summary};
 
-use crate::digits::{push_decimal, push_hexadecimal};
+use crate::digits::{push_decimal, push_six_places};
 use arrayvec::ArrayString;
 use sq_cpr::{Code, Parity};
 use sq_message::{Me, Squitter};
@@ -19,7 +19,7 @@ pub fn push_summary<const N: usize>(text: &mut ArrayString<N>, squitter: &Squitt
     ensures len { array_string_len text.new ≤ array_string_len text.old + 72 }
 {
     text.push_str("ok ");
-    push_hexadecimal(text, u64::from(squitter.address()), 6);
+    push_six_places(text, squitter.address());
     push_me(text, &squitter.me());
 }
 
