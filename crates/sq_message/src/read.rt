@@ -1,4 +1,4 @@
-//! Reading a frame.
+//! Reading a frame. All of it is inlined, so that the bytes of a frame that was just made stay in registers.
 ghost use Rattle.std.specs.Prelude.{◌≡◌};
 ghost use Rattle.sq_message.specs.declared.squitter.Squitter.{Squitter};
 ghost use Rattle.sq_bits.specs.Frames.{field_of};
@@ -16,6 +16,7 @@ use sq_cpr::{Code, Parity};
 ///
 /// `NotDf17` exactly where bits 1 to 5 are not 17, else `Parity` exactly where the remainder is not 0. Every type code is
 /// read: one that is no position's gives kind other.
+#[inline(always)]
 pub fn read_frame(frame: &Frame) -> Result<Squitter, FrameFault>
     ensures read { IsReading frame.now result }
     ensures exact { (squitter : Squitter) → Spells frame.now squitter → result ≡ Ok squitter }
@@ -36,6 +37,7 @@ pub fn read_frame(frame: &Frame) -> Result<Squitter, FrameFault>
 }
 
 // The message of a frame.
+#[inline(always)]
 fn read_me(frame: &Frame) -> Me
     ensures { SpellsMe frame.now result }
 {
@@ -48,6 +50,7 @@ fn read_me(frame: &Frame) -> Me
     }
 }
 
+#[inline(always)]
 fn read_airborne(frame: &Frame) -> Airborne
     requires { IsAirCode (field_of frame.now 33 5) }
     ensures { SpellsAirborne frame.now result }
@@ -59,6 +62,7 @@ fn read_airborne(frame: &Frame) -> Airborne
     }
 }
 
+#[inline(always)]
 fn read_air_fields(frame: &Frame) -> AirFields
     requires { IsAirCode (field_of frame.now 33 5) }
     ensures { SpellsAirFields frame.now (air_parts result) }
@@ -72,6 +76,7 @@ fn read_air_fields(frame: &Frame) -> AirFields
     }
 }
 
+#[inline(always)]
 fn read_surface(frame: &Frame) -> Surface
     requires { IsGroundCode (field_of frame.now 33 5) }
     ensures { SpellsSurface frame.now result }
@@ -83,6 +88,7 @@ fn read_surface(frame: &Frame) -> Surface
     }
 }
 
+#[inline(always)]
 fn read_ground_fields(frame: &Frame) -> GroundFields
     requires { IsGroundCode (field_of frame.now 33 5) }
     ensures { SpellsGroundFields frame.now (ground_parts result) }
@@ -96,6 +102,7 @@ fn read_ground_fields(frame: &Frame) -> GroundFields
     }
 }
 
+#[inline(always)]
 fn read_parity(frame: &Frame) -> Parity
     ensures { field_of frame.now 54 1 ≡ parity_index result }
 {
@@ -106,6 +113,7 @@ fn read_parity(frame: &Frame) -> Parity
     }
 }
 
+#[inline(always)]
 fn read_code(frame: &Frame) -> Code
     ensures lat { field_of frame.now 55 17 ≡ (numbers_of result).lat }
     ensures lon { field_of frame.now 72 17 ≡ (numbers_of result).lon }
