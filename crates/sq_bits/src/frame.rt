@@ -13,6 +13,7 @@ impl Frame {
     ghost use Rattle.sq_bits.specs.Frames.{frame_number, field_of, IsApart, IsFrame};
 
     // The frame as one number of 112 bits.
+    #[inline(always)]
     pub(crate) fn number(&self) -> u128
         ensures value { result ≡ frame_number self.now }
         ensures small { result < 2 ^ 112 }
@@ -42,6 +43,7 @@ impl Frame {
     /// The bits `first` to `first + count - 1` as a number, the most significant first.
     ///
     /// `first` is at least 1, `count` is from 1 to 56, and the last of these bits is at most bit 112.
+    #[inline(always)]
     pub fn field(&self, first: u8, count: u8) -> u64
         requires begins { 1 ≤ first }
         requires some { 1 ≤ count }

@@ -8,6 +8,7 @@ use crate::table::{remainder_of_byte, remainder_of_byte_32, remainder_of_byte_40
 
 /// The remainder of the frame's polynomial by the generator 0x1FFF409, below 2^24, and 0 exactly for a correct frame
 /// (ICAO Annex 10 volume IV, section 3.1.2.3.3).
+#[inline(always)]
 pub fn remainder(frame: &Frame) -> u32
     ensures { IsRemainder (frame_number frame.now) result }
 {
@@ -21,6 +22,7 @@ pub fn remainder(frame: &Frame) -> u32
 }
 
 // The 24 coefficients of three bytes.
+#[inline(always)]
 fn word_of(high: u8, middle: u8, low: u8) -> u32
     ensures value { result ≡ (high * 256 + middle) * 256 + low }
     ensures below { result < 2 ^ 24 }
@@ -29,6 +31,7 @@ fn word_of(high: u8, middle: u8, low: u8) -> u32
 }
 
 // The remainder of a polynomial with 24 more coefficients behind the others.
+#[inline(always)]
 fn append_word(remainder: u32, word: u32) -> u32
     requires small { remainder < 2 ^ 24 }
     requires word { word < 2 ^ 24 }

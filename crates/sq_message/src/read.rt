@@ -4,9 +4,8 @@ ghost use Rattle.sq_message.specs.declared.squitter.Squitter.{Squitter};
 ghost use Rattle.sq_bits.specs.Frames.{field_of};
 ghost use Rattle.sq_cpr.specs.Code.{numbers_of};
 ghost use Rattle.sq_zones.specs.Zones.{parity_index};
-ghost use Rattle.sq_message.specs.Parts.{air_parts, ground_parts};
 ghost use Rattle.sq_message.specs.TypeCodes.{IsAirCode, IsGroundCode};
-ghost use Rattle.sq_message.specs.Spelling.{IsReading, Spells, SpellsAirborne, SpellsAirFields, SpellsGroundFields, SpellsMe, SpellsSurface};
+ghost use Rattle.sq_message.specs.Spelling.{IsReading, Spells, SpellsAirborne, SpellsMe, SpellsSurface};
 
 use crate::{AirFields, Airborne, FrameFault, GroundFields, Me, Other, Squitter, Surface};
 use sq_bits::{Frame, remainder};
@@ -56,23 +55,15 @@ fn read_airborne(frame: &Frame) -> Airborne
     ensures { SpellsAirborne frame.now result }
 {
     Airborne {
-        fields: read_air_fields(frame),
+        fields: AirFields {
+            type_code: frame.field(33, 5) as u8,
+            status: frame.field(38, 2) as u8,
+            flag: frame.field(40, 1) == 1,
+            altitude: frame.field(41, 12) as u16,
+            time: frame.field(53, 1) == 1,
+        },
         parity: read_parity(frame),
         code: read_code(frame),
-    }
-}
-
-#[inline(always)]
-fn read_air_fields(frame: &Frame) -> AirFields
-    requires { IsAirCode (field_of frame.now 33 5) }
-    ensures { SpellsAirFields frame.now (air_parts result) }
-{
-    AirFields {
-        type_code: frame.field(33, 5) as u8,
-        status: frame.field(38, 2) as u8,
-        flag: frame.field(40, 1) == 1,
-        altitude: frame.field(41, 12) as u16,
-        time: frame.field(53, 1) == 1,
     }
 }
 
@@ -82,23 +73,15 @@ fn read_surface(frame: &Frame) -> Surface
     ensures { SpellsSurface frame.now result }
 {
     Surface {
-        fields: read_ground_fields(frame),
+        fields: GroundFields {
+            type_code: frame.field(33, 5) as u8,
+            movement: frame.field(38, 7) as u8,
+            track_status: frame.field(45, 1) == 1,
+            track: frame.field(46, 7) as u8,
+            time: frame.field(53, 1) == 1,
+        },
         parity: read_parity(frame),
         code: read_code(frame),
-    }
-}
-
-#[inline(always)]
-fn read_ground_fields(frame: &Frame) -> GroundFields
-    requires { IsGroundCode (field_of frame.now 33 5) }
-    ensures { SpellsGroundFields frame.now (ground_parts result) }
-{
-    GroundFields {
-        type_code: frame.field(33, 5) as u8,
-        movement: frame.field(38, 7) as u8,
-        track_status: frame.field(45, 1) == 1,
-        track: frame.field(46, 7) as u8,
-        time: frame.field(53, 1) == 1,
     }
 }
 

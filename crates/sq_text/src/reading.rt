@@ -6,6 +6,7 @@ use crate::frame_text::{frame_of_text, read_text};
 use sq_message::{Squitter, read_frame};
 
 /// The squitter that a frame text spells, or the first fault: of the text, and then of its frame. It takes no memory.
+#[inline(always)]
 pub fn read_squitter(text: &[u8]) -> Result<Squitter, LineFault>
     ensures { IsSquitterReading text.now result }
 {
