@@ -11,7 +11,11 @@ pub fn read_squitter(text: &[u8]) -> Result<Squitter, LineFault>
     ensures { IsSquitterReading text.now result }
 {
     let Some(frame) = frame_of_text(text) else {
-        return read_any(text);
+        // Taken apart, so that the answer of the common case is no place in memory that the call writes.
+        return match read_any(text) {
+            Ok(squitter) => Ok(squitter),
+            Err(fault) => Err(fault),
+        };
     };
     let squitter = read_frame(&frame)?;
     Ok(squitter)
