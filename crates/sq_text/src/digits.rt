@@ -22,6 +22,7 @@ C0C1C2C3C4C5C6C7C8C9CACBCCCDCECFD0D1D2D3D4D5D6D7D8D9DADBDCDDDEDFE0E1E2E3E4E5E6E7
 F0F1F2F3F4F5F6F7F8F9FAFBFCFDFEFF";
 
 /// Appends a number in decimal digits, at most 20, with no leading zeros.
+#[inline(always)]
 pub fn push_decimal<const N: usize>(text: &mut ArrayString<N>, number: u64)
     requires { array_string_len text.old + 20 ≤ N }
     ensures bytes { text.new.bytes ≡ text.old.bytes ++ decimal number }
@@ -30,12 +31,24 @@ pub fn push_decimal<const N: usize>(text: &mut ArrayString<N>, number: u64)
     if number < 100_000_000 {
         push_eight(text, number);
     } else {
-        let mut buffer = Buffer::new();
-        text.push_str(buffer.format(number));
+        push_long(text, number);
     }
 }
 
+// Appends any number.
+#[cold]
+#[inline(never)]
+fn push_long<const N: usize>(text: &mut ArrayString<N>, number: u64)
+    requires { array_string_len text.old + 20 ≤ N }
+    ensures bytes { text.new.bytes ≡ text.old.bytes ++ decimal number }
+    ensures len { array_string_len text.new ≤ array_string_len text.old + 20 }
+{
+    let mut buffer = Buffer::new();
+    text.push_str(buffer.format(number));
+}
+
 // Appends a number of at most eight digits.
+#[inline(always)]
 fn push_eight<const N: usize>(text: &mut ArrayString<N>, number: u64)
     requires small { number < 100000000 }
     requires room { array_string_len text.old + length (decimal number) ≤ N }
@@ -50,6 +63,7 @@ fn push_eight<const N: usize>(text: &mut ArrayString<N>, number: u64)
 }
 
 // Appends a number of at most four digits.
+#[inline(always)]
 fn push_short<const N: usize>(text: &mut ArrayString<N>, number: u64)
     requires small { number < 10000 }
     requires room { array_string_len text.old + length (decimal number) ≤ N }
@@ -64,6 +78,7 @@ fn push_short<const N: usize>(text: &mut ArrayString<N>, number: u64)
 }
 
 // Appends a number of at most two digits.
+#[inline(always)]
 fn push_front<const N: usize>(text: &mut ArrayString<N>, number: u64)
     requires small { number < 100 }
     requires room { array_string_len text.old + length (decimal number) ≤ N }
@@ -86,6 +101,7 @@ fn push_one<const N: usize>(text: &mut ArrayString<N>, digit: u8)
 }
 
 // Appends four digits, zeros in front too.
+#[inline(always)]
 fn push_four<const N: usize>(text: &mut ArrayString<N>, number: u64)
     requires small { number < 10000 }
     requires room { array_string_len text.old + 4 ≤ N }
@@ -96,6 +112,7 @@ fn push_four<const N: usize>(text: &mut ArrayString<N>, number: u64)
 }
 
 // Appends two digits, a zero in front too.
+#[inline(always)]
 fn push_pair<const N: usize>(text: &mut ArrayString<N>, number: u64)
     requires small { number < 100 }
     requires room { array_string_len text.old + 2 ≤ N }
