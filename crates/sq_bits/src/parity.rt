@@ -3,7 +3,7 @@ ghost use Rattle.std.specs.Prelude.{◌≡◌, ℕ, ◌+◌, ◌*◌, ◌<◌, �
 ghost use Rattle.sq_bits.specs.Frames.{frame_number, field_of, IsFrame};
 ghost use Rattle.sq_bits.specs.Parity.{IsMultiple, IsRemainder};
 
-use crate::frame::Frame;
+use crate::frame::{Frame, word_of};
 use crate::table::{remainder_of_byte, remainder_of_byte_32, remainder_of_byte_40};
 
 /// The remainder of the frame's polynomial by the generator 0x1FFF409, below 2^24, and 0 exactly for a correct frame
@@ -19,15 +19,6 @@ pub fn remainder(frame: &Frame) -> u32
         remainder = append_word(remainder, word_of(bytes[at], bytes[at + 1], bytes[at + 2]));
     }
     remainder
-}
-
-// The 24 coefficients of three bytes.
-#[inline(always)]
-fn word_of(high: u8, middle: u8, low: u8) -> u32
-    ensures value { result ≡ (high * 256 + middle) * 256 + low }
-    ensures below { result < 2 ^ 24 }
-{
-    (u32::from(high) * 256 + u32::from(middle)) * 256 + u32::from(low)
 }
 
 // The remainder of a polynomial with 24 more coefficients behind the others.
