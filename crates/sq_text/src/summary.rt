@@ -61,6 +61,7 @@ fn ground_words(parity: Parity) -> &'static str
 }
 
 // Appends the kind and the parity, with spaces around them, and the code.
+#[inline(always)]
 fn push_place<const N: usize>(text: &mut ArrayString<N>, words: &str, code: &Code)
     requires short { length words.now ≤ 13 }
     requires room { array_string_len text.old + 63 ≤ N }

@@ -1,4 +1,4 @@
-use Rattle.std.proofs.Common.{◌≡◌, ℕ, ◌+◌, ◌-◌, ◌*◌, ◌/◌, ◌%◌, ◌^◌, ◌≤◌, ◌∙◌, ap, ap₂, sym, arith}
+use Rattle.std.proofs.Common.{◌≡◌, ℕ, ◌+◌, ◌-◌, ◌*◌, ◌/◌, ◌%◌, ◌^◌, ◌≤◌, ◌∙◌, ap, sym, arith}
 use Rattle.std.proofs.lemmas.Nat.{one_shl, shr-shr, field_of as field_as_mod}
 use Rattle.sq_bits.specs.Frames.{frame_number}
 use Rattle.sq_bits.proofs.Spelled.{quotient_is}

@@ -1,4 +1,3 @@
-use Rattle.std.proofs.Common.{arith}
 use Rattle.sq_text.proofs.DigitLemmas.{pair_joined, pair_below, pair_bound}
 use Rattle.sq_text.proofs.digit_values.byte_value.Goals as goal
 
