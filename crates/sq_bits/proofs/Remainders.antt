@@ -1,12 +1,12 @@
 -- Steps of the remainder.
-use Rattle.std.proofs.Common.{◌≡◌, ℕ, ◌+◌, ◌-◌, ◌*◌, ◌/◌, ◌%◌, ◌<◌, ◌≤◌, ◌^◌, bit_xor, bit_and, bit_or, refl, sym, ap, ◌∙◌, arith, zero, suc, subst, inl, inr}
+use Rattle.std.proofs.Common.{◌≡◌, ℕ, ◌+◌, ◌-◌, ◌*◌, ◌/◌, ◌%◌, ◌<◌, ◌≤◌, ◌^◌, bit_xor, refl, sym, ap, ◌∙◌, arith, zero, suc, subst, inl, inr}
 use Rattle.std.proofs.Math.Nat.{pow-suc}
 use Rattle.std.proofs.lemmas.Bool.{cases_lt}
-use Rattle.std.proofs.lemmas.Nat.{xor_comm, xor_lt, xor_shr, shr-shr, and_mask, or_shifted}
+use Rattle.std.proofs.lemmas.Nat.{xor_comm, xor_shr, shr-shr}
 use lib.Bits.{xor_assoc, xor_self, xor_zero_r, xor_block, xor_shifted}
 use Rattle.sq_bits.proofs.Quotient.{field_at}
 use Rattle.sq_bits.specs.Parity.{generator, IsMultiple, IsRemainder}
-use Rattle.sq_bits.proofs.Multiples.{xor_exchange, IsMultiple-zero, IsMultiple-xor, IsMultiple-twice, IsMultiple-twice_more}
+use Rattle.sq_bits.proofs.Multiples.{IsMultiple-zero, IsMultiple-xor, IsMultiple-twice, IsMultiple-twice_more, IsRemainder-sum}
 
 pub IsRemainder-zero : IsRemainder 0 0
 IsRemainder-zero = (omega arith, IsMultiple-zero)
@@ -63,28 +63,43 @@ IsMultiple-byte n is =
     let whole : 256 * n ≡ 2 * (2 * (2 * (2 * m))) = omega arith in
     rw whole eight
 
--- eight more coefficients b: the upper byte h of r goes out, and with it its remainder t comes in
-pub IsRemainder-byte : (n r b h l t : ℕ) → b < 256 → l < 2 ^ 16 → r ≡ h * 2 ^ 16 + l → IsRemainder n r → IsRemainder (h * 2 ^ 24) t
-    → IsRemainder (n * 256 + b) (bit_xor (l * 2 ^ 8 + b) t)
-IsRemainder-byte n r b h l t byte low is (small, first) (small', second) =
-    let behind : bit_xor (n * 2 ^ 8 + b) (r * 2 ^ 8 + b) ≡ bit_xor n r * 2 ^ 8 + bit_xor b b = xor_block 8 n r b b byte byte in
-    let shifted : bit_xor n r * 2 ^ 8 + bit_xor b b ≡ 256 * bit_xor n r = omega (arith, xor_self b) in
-    let down : IsMultiple (bit_xor (n * 2 ^ 8 + b) (r * 2 ^ 8 + b)) = rw (behind, shifted) (IsMultiple-byte (bit_xor n r) first) in
-    let parts : r * 2 ^ 8 + b ≡ h * 2 ^ 24 + (l * 2 ^ 8 + b) = omega arith in
-    let apart : bit_xor (h * 2 ^ 24) (l * 2 ^ 8 + b) ≡ h * 2 ^ 24 + (l * 2 ^ 8 + b) = xor_shifted h 24 (l * 2 ^ 8 + b) (omega arith) in
-    let both = IsMultiple-xor (bit_xor (n * 2 ^ 8 + b) (r * 2 ^ 8 + b)) (bit_xor (h * 2 ^ 24) t) down second in
-    let sum : bit_xor (bit_xor (n * 2 ^ 8 + b) (r * 2 ^ 8 + b)) (bit_xor (h * 2 ^ 24) t) ≡ bit_xor (n * 256 + b) (bit_xor (l * 2 ^ 8 + b) t)
-    = ap (λ x. bit_xor (bit_xor (n * 2 ^ 8 + b) x) (bit_xor (h * 2 ^ 24) t)) (parts ∙ sym apart)
-    ∙ xor_assoc (n * 2 ^ 8 + b) (bit_xor (h * 2 ^ 24) (l * 2 ^ 8 + b)) (bit_xor (h * 2 ^ 24) t)
-    ∙ ap (λ x. bit_xor (n * 2 ^ 8 + b) x) (xor_exchange (h * 2 ^ 24) (l * 2 ^ 8 + b) (h * 2 ^ 24) t ∙ ap (λ x. bit_xor x (bit_xor (l * 2 ^ 8 + b) t)) (xor_self (h * 2 ^ 24))) in
-    (xor_lt 24 (l * 2 ^ 8 + b) t (omega arith) small', rw sum at both)
+-- a number below 2^24 is its own remainder
+pub IsRemainder-small : (w : ℕ) → w < 2 ^ 24 → IsRemainder w w
+IsRemainder-small w small = (small, rw (xor_self w) IsMultiple-zero)
 
--- the code's lower part
-pub joined : (r b b' : ℕ) → b < 256 → b' ≡ b → bit_or (bit_and r 65535 * 256 % 4294967296) b' ≡ r % 2 ^ 16 * 2 ^ 8 + b
-joined r b b' small same =
-    let low : bit_and r 65535 ≡ r % 2 ^ 16 = and_mask r 16 in
-    let whole : r % 2 ^ 16 * 256 % 4294967296 ≡ r % 2 ^ 16 * 2 ^ 8 = omega arith in
-    rw (low, whole, same) (or_shifted (r % 2 ^ 16) 8 b small)
+-- numbers whose sum is a multiple have the same remainders
+IsRemainder-moved : (m n t : ℕ) → IsMultiple (bit_xor m n) → IsRemainder n t → IsRemainder m t
+IsRemainder-moved m n t is (small, rest) =
+    let both = IsMultiple-xor (bit_xor m n) (bit_xor n t) is rest in
+    let sum : bit_xor (bit_xor m n) (bit_xor n t) ≡ bit_xor m t
+    = xor_assoc m n (bit_xor n t) ∙ ap (λ x. bit_xor m x) (sym (xor_assoc n n t) ∙ ap (λ x. bit_xor x t) (xor_self n)) in
+    (small, rw sum at both)
+
+-- the three bytes of a remainder go out, and with them their remainders come in
+IsRemainder-bytes : (h m l w a b c : ℕ) → m < 256 → l < 256 → w < 2 ^ 24
+    → IsRemainder (h * 2 ^ 40) a → IsRemainder (m * 2 ^ 32) b → IsRemainder (l * 2 ^ 24) c
+    → IsRemainder (h * 2 ^ 40 + (m * 2 ^ 32 + (l * 2 ^ 24 + w))) (bit_xor a (bit_xor b (bit_xor c w)))
+IsRemainder-bytes h m l w a b c middle low word first second third =
+    let one : bit_xor (l * 2 ^ 24) w ≡ l * 2 ^ 24 + w = xor_shifted l 24 w word in
+    let two : bit_xor (m * 2 ^ 32) (l * 2 ^ 24 + w) ≡ m * 2 ^ 32 + (l * 2 ^ 24 + w) = xor_shifted m 32 (l * 2 ^ 24 + w) (omega arith) in
+    let all : bit_xor (h * 2 ^ 40) (m * 2 ^ 32 + (l * 2 ^ 24 + w)) ≡ h * 2 ^ 40 + (m * 2 ^ 32 + (l * 2 ^ 24 + w))
+    = xor_shifted h 40 (m * 2 ^ 32 + (l * 2 ^ 24 + w)) (omega arith) in
+    let x = subst (λ k. IsRemainder k (bit_xor c w)) one (IsRemainder-sum (l * 2 ^ 24) w c w third (IsRemainder-small w word)) in
+    let y = subst (λ k. IsRemainder k (bit_xor b (bit_xor c w))) two (IsRemainder-sum (m * 2 ^ 32) (l * 2 ^ 24 + w) b (bit_xor c w) second x) in
+    subst (λ k. IsRemainder k (bit_xor a (bit_xor b (bit_xor c w)))) all (IsRemainder-sum (h * 2 ^ 40) (m * 2 ^ 32 + (l * 2 ^ 24 + w)) a (bit_xor b (bit_xor c w)) first y)
+
+-- 24 more coefficients w
+pub IsRemainder-word : (n r w a b c : ℕ) → w < 2 ^ 24 → IsRemainder n r
+    → IsRemainder (r / 2 ^ 16 * 2 ^ 40) a → IsRemainder (r / 2 ^ 8 % 256 * 2 ^ 32) b → IsRemainder (r % 256 * 2 ^ 24) c
+    → IsRemainder (n * 2 ^ 24 + w) (bit_xor a (bit_xor b (bit_xor c w)))
+IsRemainder-word n r w a b c word is first second third =
+    let block : bit_xor (n * 2 ^ 24 + w) (r * 2 ^ 24 + w) ≡ bit_xor n r * 2 ^ 24 + bit_xor w w = xor_block 24 n r w w word word in
+    let shifted : bit_xor n r * 2 ^ 24 + bit_xor w w ≡ 256 * (256 * (256 * bit_xor n r)) = omega (arith, xor_self w) in
+    let moved : IsMultiple (bit_xor (n * 2 ^ 24 + w) (r * 2 ^ 24 + w))
+    = rw (block, shifted) (IsMultiple-byte _ (IsMultiple-byte _ (IsMultiple-byte (bit_xor n r) is.1))) in
+    let parts : r / 2 ^ 16 * 2 ^ 40 + (r / 2 ^ 8 % 256 * 2 ^ 32 + (r % 256 * 2 ^ 24 + w)) ≡ r * 2 ^ 24 + w = omega arith in
+    let bytes = IsRemainder-bytes (r / 2 ^ 16) (r / 2 ^ 8 % 256) (r % 256) w a b c (omega arith) (omega arith) word first second third in
+    IsRemainder-moved (n * 2 ^ 24 + w) (r * 2 ^ 24 + w) (bit_xor a (bit_xor b (bit_xor c w))) moved (rw parts at bytes)
 
 -- one more bit behind a number with a remainder
 remainder_more : (n r b : ℕ) → b < 2 → IsRemainder n r → (s : ℕ) × IsRemainder (2 * n + b) s

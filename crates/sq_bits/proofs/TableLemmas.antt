@@ -1,11 +1,12 @@
--- The table of remainders: each entry is what eight steps make of its byte.
+-- The tables of remainders: each entry is what eight steps make of its byte, or of the entry of the table before.
 use Rattle.std.proofs.Common.{◌≡◌, ℕ, ◌+◌, ◌*◌, ◌<◌, ◌^◌, cond, ltb, map, get_or, bit_xor, refl, sym, ap, ◌∙◌, subst, inl, inr, arith}
 use Rattle.std.proofs.lemmas.Bool.{cases_lt, le-ltb, lt-ltb}
 use Rattle.std.proofs.lemmas.List.FromFn.{get_or-map-range_with_len}
 use Rattle.std.specs.List.{range_with_len}
 use lib.Bits.{xor_self}
 use Rattle.sq_bits.specs.Parity.{generator, IsRemainder}
-use Rattle.sq_bits.specs.declared.table.TheConstants.{REMAINDERS}
+use Rattle.std.proofs.Math.ListN.{get_or-map}
+use Rattle.sq_bits.specs.declared.table.TheConstants.{REMAINDERS, REMAINDERS_32, REMAINDERS_40}
 use Rattle.sq_bits.proofs.Multiples.{IsMultiple-zero}
 use Rattle.sq_bits.proofs.Remainders.{IsRemainder-kept, IsRemainder-reduced}
 
@@ -50,3 +51,34 @@ IsRemainder-entry b small =
     let entry : get_or REMAINDERS b 0 ≡ of_byte b
     = ap (λ t. get_or t b 0) table_is ∙ get_or-map-range_with_len of_byte 0 256 b b 0 small (omega arith) in
     subst (λ x. IsRemainder (b * 2 ^ 24) x) (sym entry) (IsRemainder-of_byte b small)
+
+-- eight more coefficients 0
+abbrev eight : ℕ → ℕ
+eight r = step (step (step (step (step (step (step (step r)))))))
+
+IsRemainder-eight : (n r : ℕ) → IsRemainder n r → IsRemainder (n * 256) (eight r)
+IsRemainder-eight n r is =
+    let four = IsRemainder-step _ _ (IsRemainder-step _ _ (IsRemainder-step _ _ (IsRemainder-step n r is))) in
+    let all = IsRemainder-step _ _ (IsRemainder-step _ _ (IsRemainder-step _ _ (IsRemainder-step _ _ four))) in
+    let whole : 2 * (2 * (2 * (2 * (2 * (2 * (2 * (2 * n))))))) ≡ n * 256 = omega arith in
+    subst (λ x. IsRemainder x (eight r)) whole all
+
+table_32_is : REMAINDERS_32 ≡ map eight REMAINDERS
+table_32_is = refl
+
+pub IsRemainder-entry_32 : (b : ℕ) → b < 256 → IsRemainder (b * 2 ^ 32) (get_or REMAINDERS_32 b 0)
+IsRemainder-entry_32 b small =
+    let entry : get_or REMAINDERS_32 b 0 ≡ eight (get_or REMAINDERS b 0) = ap (λ t. get_or t b 0) table_32_is ∙ get_or-map eight REMAINDERS b 0 in
+    let more = IsRemainder-eight (b * 2 ^ 24) (get_or REMAINDERS b 0) (IsRemainder-entry b small) in
+    let whole : b * 2 ^ 24 * 256 ≡ b * 2 ^ 32 = omega arith in
+    rw whole at (subst (λ x. IsRemainder (b * 2 ^ 24 * 256) x) (sym entry) more)
+
+table_40_is : REMAINDERS_40 ≡ map eight REMAINDERS_32
+table_40_is = refl
+
+pub IsRemainder-entry_40 : (b : ℕ) → b < 256 → IsRemainder (b * 2 ^ 40) (get_or REMAINDERS_40 b 0)
+IsRemainder-entry_40 b small =
+    let entry : get_or REMAINDERS_40 b 0 ≡ eight (get_or REMAINDERS_32 b 0) = ap (λ t. get_or t b 0) table_40_is ∙ get_or-map eight REMAINDERS_32 b 0 in
+    let more = IsRemainder-eight (b * 2 ^ 32) (get_or REMAINDERS_32 b 0) (IsRemainder-entry_32 b small) in
+    let whole : b * 2 ^ 32 * 256 ≡ b * 2 ^ 40 = omega arith in
+    rw whole at (subst (λ x. IsRemainder (b * 2 ^ 32 * 256) x) (sym entry) more)

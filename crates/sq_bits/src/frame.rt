@@ -1,8 +1,11 @@
 //! A frame and its bit fields.
-ghost use Rattle.std.specs.Prelude.{◌≡◌, ℕ, ◌+◌, ◌<◌, ◌≤◌, ◌^◌};
+ghost use Rattle.std.specs.Prelude.{◌≡◌, ℕ, ◌+◌, ◌*◌, ◌<◌, ◌≤◌, ◌^◌};
 ghost use Rattle.std.specs.Int.Digits.{AllBelowBase};
 
 use crate::laws::each_frame;
+
+// The numbers of three bytes.
+const WORD: u128 = 1 << 24;
 
 /// The 112 bits of an extended squitter (ICAO Annex 10 volume IV, section 3.1.2.3), numbered from 1 to 112: bit 1 is the
 /// most significant bit of byte 0.
@@ -13,17 +16,20 @@ impl Frame {
     ghost use Rattle.sq_bits.specs.Frames.{frame_number, field_of, IsApart, IsFrame};
 
     // The frame as one number of 112 bits.
+    #[inline(always)]
     pub(crate) fn number(&self) -> u128
         ensures value { result ≡ frame_number self.now }
         ensures small { result < 2 ^ 112 }
         ensures frame { IsFrame self.now }
     {
         each_frame(self);
-        let mut number = 0;
-        for &byte in &self.0 {
-            number = number * 256 + u128::from(byte);
-        }
-        number
+        let bytes = &self.0;
+        let head = u128::from(word_of(0, bytes[0], bytes[1]));
+        let second = u128::from(word_of(bytes[2], bytes[3], bytes[4]));
+        let third = u128::from(word_of(bytes[5], bytes[6], bytes[7]));
+        let fourth = u128::from(word_of(bytes[8], bytes[9], bytes[10]));
+        let fifth = u128::from(word_of(bytes[11], bytes[12], bytes[13]));
+        (((head * WORD + second) * WORD + third) * WORD + fourth) * WORD + fifth
     }
 
     // The frame of a number of 112 bits.
@@ -42,6 +48,7 @@ impl Frame {
     /// The bits `first` to `first + count - 1` as a number, the most significant first.
     ///
     /// `first` is at least 1, `count` is from 1 to 56, and the last of these bits is at most bit 112.
+    #[inline(always)]
     pub fn field(&self, first: u8, count: u8) -> u64
         requires begins { 1 ≤ first }
         requires some { 1 ≤ count }
@@ -70,6 +77,15 @@ impl Frame {
         let held = u128::from(self.field(first, count)) << below;
         Frame::from_number(self.number() - held + (u128::from(value) << below))
     }
+}
+
+// Three bytes as one number: the same words as the parity takes, so that they are made once.
+#[inline(always)]
+pub(crate) fn word_of(high: u8, middle: u8, low: u8) -> u32
+    ensures value { result ≡ (high * 256 + middle) * 256 + low }
+    ensures below { result < 2 ^ 24 }
+{
+    (u32::from(high) * 256 + u32::from(middle)) * 256 + u32::from(low)
 }
 
 // What the type says of bytes.

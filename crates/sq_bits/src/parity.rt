@@ -1,31 +1,37 @@
-//! The parity of a frame, a byte at a time.
+//! The parity of a frame, three bytes at a time.
 ghost use Rattle.std.specs.Prelude.{◌≡◌, ℕ, ◌+◌, ◌*◌, ◌<◌, ◌≤◌, ◌^◌};
 ghost use Rattle.sq_bits.specs.Frames.{frame_number, field_of, IsFrame};
 ghost use Rattle.sq_bits.specs.Parity.{IsMultiple, IsRemainder};
 
-use crate::frame::Frame;
-use crate::table::remainder_of_byte;
+use crate::frame::{Frame, word_of};
+use crate::table::{remainder_of_byte, remainder_of_byte_32, remainder_of_byte_40};
 
 /// The remainder of the frame's polynomial by the generator 0x1FFF409, below 2^24, and 0 exactly for a correct frame
 /// (ICAO Annex 10 volume IV, section 3.1.2.3.3).
+#[inline(always)]
 pub fn remainder(frame: &Frame) -> u32
     ensures { IsRemainder (frame_number frame.now) result }
 {
-    let mut remainder = 0;
-    for &byte in &frame.0 {
-        remainder = append_byte(remainder, byte);
+    let bytes = &frame.0;
+    let mut remainder = word_of(0, bytes[0], bytes[1]);
+    for place in 0..4 {
+        let at = 3 * place + 2;
+        remainder = append_word(remainder, word_of(bytes[at], bytes[at + 1], bytes[at + 2]));
     }
     remainder
 }
 
-// The remainder of a polynomial with eight more coefficients behind the others.
-fn append_byte(remainder: u32, byte: u8) -> u32
-    requires { remainder < 2 ^ 24 }
-    ensures value { (n : ℕ) → IsRemainder n remainder → IsRemainder (n * 256 + byte) result }
-    ensures below { result < 2 ^ 24 }
+// The remainder of a polynomial with 24 more coefficients behind the others.
+#[inline(always)]
+fn append_word(remainder: u32, word: u32) -> u32
+    requires small { remainder < 2 ^ 24 }
+    requires word { word < 2 ^ 24 }
+    ensures { (n : ℕ) → IsRemainder n remainder → IsRemainder (n * 2 ^ 24 + word) result }
 {
-    let low = (remainder & 0xFFFF) << 8 | u32::from(byte);
-    low ^ remainder_of_byte((remainder >> 16) as u8)
+    let high = remainder_of_byte_40((remainder >> 16) as u8);
+    let middle = remainder_of_byte_32((remainder >> 8 & 0xFF) as u8);
+    let low = remainder_of_byte((remainder & 0xFF) as u8);
+    high ^ (middle ^ (low ^ word))
 }
 
 /// The frame with bits 89 to 112, the parity field, set so that the remainder is 0; no other bit changes.

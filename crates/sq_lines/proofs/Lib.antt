@@ -1,5 +1,6 @@
 pub mod HeldLemmas
 pub mod Feeds
+pub mod FeedMarks
 pub mod Cutting
 pub mod Pieces
 pub mod Tallying

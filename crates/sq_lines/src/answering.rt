@@ -1,5 +1,5 @@
 //! What answers lines, one after the other.
-ghost use Rattle.std.specs.Prelude.{◌≡◌, ◌+◌, ◌≤◌, ◌++◌, List, ℕ, IfOk, OnErr, Some};
+ghost use Rattle.std.specs.Prelude.{◌≡◌, ◌+◌, ◌≤◌, ◌++◌, [], List, ℕ, IfOk, OnErr, Some};
 ghost use Rattle.arrayvec.specs.ArrayString.{array_string_len};
 ghost use Rattle.sq_lines.specs.Held.{Holds};
 ghost use Rattle.sq_lines.specs.Answers.{Answerer, answer_text, verdict_text};
@@ -46,16 +46,19 @@ pub trait Answering {
         ensures len { array_string_len text.new ≤ array_string_len text.old + 72 };
 }
 
-/// The text for the line with this number.
-pub(crate) fn line_text<A: Answering>(number: u64, verdict: Result<A::Found, LineFault>) -> LineText
-    ensures { result.bytes ≡ answer_text A.way.text number (Some verdict) }
+// Makes the text for the line with this number, in an empty one.
+pub(crate) fn push_answer<A: Answering>(
+    text: &mut LineText,
+    number: u64,
+    verdict: Result<A::Found, LineFault>,
+)
+    requires { text.old.bytes ≡ [] }
+    ensures { text.new.bytes ≡ answer_text A.way.text number (Some verdict) }
 {
-    let mut text = LineText::new();
-    push_decimal(&mut text, number);
+    push_decimal(text, number);
     text.push(' ');
-    push_verdict::<A>(verdict, &mut text);
+    push_verdict::<A>(verdict, text);
     text.push('\n');
-    text
 }
 
 // Appends the text of what was found, or of the fault.

@@ -10,6 +10,7 @@ mod cutter;
 mod faults;
 pub mod laws;
 mod lines;
+mod marks;
 mod runs;
 mod streams;
 mod tallies;

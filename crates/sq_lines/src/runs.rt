@@ -3,9 +3,10 @@ ghost use Rattle.std.specs.Prelude.{◌≡◌, ◌+◌, ◌^◌, ◌<◌, ◌≤
 ghost use Rattle.std.specs.Io.KnownBytes.{Appends, Consumes, IsAtEnd};
 ghost use Rattle.sq_devices.specs.Device.{KeepsOrHides};
 
-use crate::answering::{Answering, line_text};
+use crate::answering::{Answering, LineText, push_answer};
 use crate::cutter::Cutter;
 use crate::faults::{OutOfMemory, RunFault, Unanswered};
+use crate::marks::feeds_of;
 use crate::tallies::Tally;
 use sq_devices::{Failed, Sink, Source, put_all};
 
@@ -19,7 +20,7 @@ pub(crate) struct LineRun {
 }
 
 impl LineRun {
-    ghost use Rattle.sq_lines.specs.Lines.{ended_lines, lines_of};
+    ghost use Rattle.sq_lines.specs.Lines.{MarksFeeds, ended_lines, lines_of};
     ghost use Rattle.sq_lines.specs.Held.{Holds, empty_line};
     ghost use Rattle.sq_lines.specs.Answers.{answers_to, Answerer, answer_text, noted, tally_of};
     ghost use Rattle.sq_lines.specs.Runs.{HasAnswered, HasTold, StoppedIn, WroteFront};
@@ -63,7 +64,8 @@ impl LineRun {
             Ok(None) => Ok(()),
             Ok(Some(verdict)) => {
                 self.tally.note(&verdict);
-                let text = line_text::<A>(self.number, verdict);
+                let mut text = LineText::new();
+                push_answer::<A>(&mut text, self.number, verdict);
                 match put_all(sink, text.as_bytes()) {
                     Ok(()) => Ok(()),
                     Err(Failed) => Err(Unanswered::Write),
@@ -80,8 +82,11 @@ impl LineRun {
         state: &mut A,
         sink: &mut K,
         piece: &[u8],
+        feeds: u64,
     ) -> Result<usize, Unanswered>
         requires some { 0 < length piece.now }
+        requires short { length piece.now ≤ 64 }
+        requires marked { MarksFeeds feeds piece.now }
         requires room { self.old.number + 1 < 2 ^ 64 }
         ensures number { self.new.number ≤ self.old.number + 1 }
         ensures some { IfOk result (λ n. 0 < n) }
@@ -95,21 +100,24 @@ impl LineRun {
         ensures wanting { IfErr result (λ fault. fault ≡ Unanswered.Memory → A.MayWantMemory) }
         ensures failed { IfErr result (λ fault. fault ≡ Unanswered.Write → K.has_failed sink.new ≡ true) }
     {
-        let (count, is_complete) = self.cutter.take(piece);
+        let (count, is_complete) = self.cutter.take_marked(piece, feeds);
         if is_complete {
             self.answer_line(state, sink)?;
         }
         Ok(count)
     }
 
-    /// Takes the whole piece.
+    /// Takes the whole piece, whose line feeds are marked.
     fn answer_piece<A: Answering, K: Sink>(
         &mut self,
         state: &mut A,
         sink: &mut K,
         piece: &[u8],
+        feeds: u64,
     ) -> Result<(), Unanswered>
-        requires { self.old.number + length piece.now < 2 ^ 64 }
+        requires room { self.old.number + length piece.now < 2 ^ 64 }
+        requires short { length piece.now ≤ 64 }
+        requires marked { MarksFeeds feeds piece.now }
         ensures number { self.new.number ≤ self.old.number + length piece.now }
         ensures answered { (start : A) (before : Option (List ℕ)) (read : List ℕ)
             → HasAnswered A.stands_for A.way start before self.old state.old (K.written sink.old) read
@@ -122,7 +130,7 @@ impl LineRun {
     {
         let mut at = 0;
         while at < piece.len() {
-            at += self.answer_front(state, sink, &piece[at..])?;
+            at += self.answer_front(state, sink, &piece[at..], feeds >> at)?;
         }
         Ok(())
     }
@@ -160,7 +168,7 @@ impl LineRun {
         let Ok(count) = source.get(&mut buffer) else {
             return Err(RunFault::Read);
         };
-        match self.answer_piece(state, sink, &buffer[..count]) {
+        match self.answer_piece(state, sink, &buffer[..count], feeds_of(&buffer)) {
             Ok(()) => Ok(count > 0),
             Err(Unanswered::Write) => Err(RunFault::Write),
             Err(Unanswered::Memory) => Err(RunFault::Memory),

@@ -1,14 +1,14 @@
-//! Reading a frame.
-ghost use Rattle.std.specs.Prelude.{◌≡◌};
+//! Reading a frame. All of it is inlined, so that the bytes of a frame that was just made stay in registers.
+ghost use Rattle.std.specs.Prelude.{◌≡◌, ◌+◌, ◌<◌, ◌≤◌, ◌^◌};
 ghost use Rattle.sq_message.specs.declared.squitter.Squitter.{Squitter};
 ghost use Rattle.sq_bits.specs.Frames.{field_of};
 ghost use Rattle.sq_cpr.specs.Code.{numbers_of};
 ghost use Rattle.sq_zones.specs.Zones.{parity_index};
-ghost use Rattle.sq_message.specs.Parts.{air_parts, ground_parts};
 ghost use Rattle.sq_message.specs.TypeCodes.{IsAirCode, IsGroundCode};
-ghost use Rattle.sq_message.specs.Spelling.{IsReading, Spells, SpellsAirborne, SpellsAirFields, SpellsGroundFields, SpellsMe, SpellsSurface};
+ghost use Rattle.sq_message.specs.Spelling.{IsReading, Spells, SpellsAirborne, SpellsMe, SpellsSurface};
 
 use crate::{AirFields, Airborne, FrameFault, GroundFields, Me, Other, Squitter, Surface};
+use sq_bits::laws::each_frame;
 use sq_bits::{Frame, remainder};
 use sq_cpr::{Code, Parity};
 
@@ -16,6 +16,7 @@ use sq_cpr::{Code, Parity};
 ///
 /// `NotDf17` exactly where bits 1 to 5 are not 17, else `Parity` exactly where the remainder is not 0. Every type code is
 /// read: one that is no position's gives kind other.
+#[inline(always)]
 pub fn read_frame(frame: &Frame) -> Result<Squitter, FrameFault>
     ensures read { IsReading frame.now result }
     ensures exact { (squitter : Squitter) → Spells frame.now squitter → result ≡ Ok squitter }
@@ -36,79 +37,89 @@ pub fn read_frame(frame: &Frame) -> Result<Squitter, FrameFault>
 }
 
 // The message of a frame.
+#[inline(always)]
 fn read_me(frame: &Frame) -> Me
     ensures { SpellsMe frame.now result }
 {
-    match frame.field(33, 5) {
-        5..=8 => Me::Surface(read_surface(frame)),
-        9..=18 | 20..=22 => Me::Airborne(read_airborne(frame)),
-        _ => Me::Other(Other {
-            raw: frame.field(33, 56),
-        }),
+    let me = frame.field(33, 56);
+    match part(frame, me, 33, 5) {
+        5..=8 => Me::Surface(read_surface(frame, me)),
+        9..=18 | 20..=22 => Me::Airborne(read_airborne(frame, me)),
+        _ => Me::Other(Other { raw: me }),
     }
 }
 
-fn read_airborne(frame: &Frame) -> Airborne
-    requires { IsAirCode (field_of frame.now 33 5) }
+// A field of the message, which is taken from the frame once.
+#[inline(always)]
+fn part(frame: &Frame, me: u64, first: u8, count: u8) -> u64
+    requires me { me ≡ field_of frame.now 33 56 }
+    requires begins { 33 ≤ first }
+    requires some { 1 ≤ count }
+    requires within { first + count ≤ 89 }
+    ensures value { result ≡ field_of frame.now first count }
+    ensures small { result < 2 ^ count }
+{
+    each_frame(frame);
+    (me >> (89 - first - count)) % (1 << count)
+}
+
+#[inline(always)]
+fn read_airborne(frame: &Frame, me: u64) -> Airborne
+    requires me { me ≡ field_of frame.now 33 56 }
+    requires air { IsAirCode (field_of frame.now 33 5) }
     ensures { SpellsAirborne frame.now result }
 {
     Airborne {
-        fields: read_air_fields(frame),
-        parity: read_parity(frame),
-        code: read_code(frame),
+        fields: AirFields {
+            type_code: part(frame, me, 33, 5) as u8,
+            status: part(frame, me, 38, 2) as u8,
+            flag: part(frame, me, 40, 1) == 1,
+            altitude: part(frame, me, 41, 12) as u16,
+            time: part(frame, me, 53, 1) == 1,
+        },
+        parity: read_parity(frame, me),
+        code: read_code(frame, me),
     }
 }
 
-fn read_air_fields(frame: &Frame) -> AirFields
-    requires { IsAirCode (field_of frame.now 33 5) }
-    ensures { SpellsAirFields frame.now (air_parts result) }
-{
-    AirFields {
-        type_code: frame.field(33, 5) as u8,
-        status: frame.field(38, 2) as u8,
-        flag: frame.field(40, 1) == 1,
-        altitude: frame.field(41, 12) as u16,
-        time: frame.field(53, 1) == 1,
-    }
-}
-
-fn read_surface(frame: &Frame) -> Surface
-    requires { IsGroundCode (field_of frame.now 33 5) }
+#[inline(always)]
+fn read_surface(frame: &Frame, me: u64) -> Surface
+    requires me { me ≡ field_of frame.now 33 56 }
+    requires surface { IsGroundCode (field_of frame.now 33 5) }
     ensures { SpellsSurface frame.now result }
 {
     Surface {
-        fields: read_ground_fields(frame),
-        parity: read_parity(frame),
-        code: read_code(frame),
+        fields: GroundFields {
+            type_code: part(frame, me, 33, 5) as u8,
+            movement: part(frame, me, 38, 7) as u8,
+            track_status: part(frame, me, 45, 1) == 1,
+            track: part(frame, me, 46, 7) as u8,
+            time: part(frame, me, 53, 1) == 1,
+        },
+        parity: read_parity(frame, me),
+        code: read_code(frame, me),
     }
 }
 
-fn read_ground_fields(frame: &Frame) -> GroundFields
-    requires { IsGroundCode (field_of frame.now 33 5) }
-    ensures { SpellsGroundFields frame.now (ground_parts result) }
-{
-    GroundFields {
-        type_code: frame.field(33, 5) as u8,
-        movement: frame.field(38, 7) as u8,
-        track_status: frame.field(45, 1) == 1,
-        track: frame.field(46, 7) as u8,
-        time: frame.field(53, 1) == 1,
-    }
-}
-
-fn read_parity(frame: &Frame) -> Parity
+#[inline(always)]
+fn read_parity(frame: &Frame, me: u64) -> Parity
+    requires { me ≡ field_of frame.now 33 56 }
     ensures { field_of frame.now 54 1 ≡ parity_index result }
 {
-    if frame.field(54, 1) == 1 {
+    if part(frame, me, 54, 1) == 1 {
         Parity::Odd
     } else {
         Parity::Even
     }
 }
 
-fn read_code(frame: &Frame) -> Code
+#[inline(always)]
+fn read_code(frame: &Frame, me: u64) -> Code
+    requires { me ≡ field_of frame.now 33 56 }
     ensures lat { field_of frame.now 55 17 ≡ (numbers_of result).lat }
     ensures lon { field_of frame.now 72 17 ≡ (numbers_of result).lon }
 {
-    Code::new(frame.field(55, 17) as u32, frame.field(72, 17) as u32).unwrap()
+    let lat = part(frame, me, 55, 17) as u32;
+    let lon = part(frame, me, 72, 17) as u32;
+    Code::new(lat, lon).unwrap()
 }

@@ -4,3 +4,4 @@ pub mod OneReading
 pub mod SomeReading
 pub mod Places
 pub mod DigitLemmas
+pub mod DigitTexts

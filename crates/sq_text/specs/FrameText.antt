@@ -1,7 +1,7 @@
 -- Frame text: 28 hexadecimal digits of either case, bare or between `*` and `;`, and the first thing that is wrong with any other text.
-use Rattle.std.specs.Prelude.{◌≡◌, ◌≢◌, ℕ, ◌+◌, ◌<◌, ◌⊎◌, List, [], ◌∷◌, ◌++◌, length, take, slice_index, false, Result, Ok, MatchResult}
+use Rattle.std.specs.Prelude.{◌≡◌, ◌≢◌, ℕ, ◌+◌, ◌*◌, ◌<◌, ◌⊎◌, List, [], ◌∷◌, ◌++◌, length, take, slice_index, false, Result, Ok, MatchResult}
 use Rattle.std.specs.List.{AllPass}
-use Rattle.hex.specs.Hex.{decode_of, is_hex_digit}
+use Rattle.hex.specs.Hex.{decode_of, is_hex_digit, pair_value}
 use Rattle.sq_bits.specs.declared.frame.Frame.{Frame}
 use Rattle.sq_text.specs.declared.frame_text.TextFault.{TextFault}
 use Rattle.sq_text.specs.declared.frame_text.TextFault.TheVariants.{Wrap, Short, Length, Digit}
@@ -25,6 +25,10 @@ IsHalfWrapped text = (Begins text × ¬ (Ends text)) ⊎ (Ends text × ¬ (Begin
 -- the text's body is the 28 hexadecimal digits of the frame, of either case
 abbrev pub IsFrameText : List ℕ → Frame → Type 0
 IsFrameText text frame = (body : List ℕ) × IsBody text body × (length body ≡ 28) × (decode_of body ≡ Ok frame.0)
+
+-- the two digits from place 2 * k on spell this byte
+abbrev pub SpellsByte : List ℕ → ℕ → ℕ → Type 0
+SpellsByte body k value = pair_value (slice_index body (2 * k)) (slice_index body (2 * k + 1)) (2 * k) ≡ Ok value
 
 -- byte k is the first that is no hexadecimal digit
 abbrev pub IsFirstBadDigit : List ℕ → ℕ → Type 0

@@ -9,9 +9,13 @@ use Rattle.sq_message.specs.Parts.{raw_of, squitter_parts}
 use Rattle.sq_text.specs.Digits.{hexadecimal}
 use Rattle.sq_text.specs.Show.{parity_name}
 
+-- the two numbers of a code
+unfoldable pub code_words : CodeNumbers → List ℕ
+code_words code = decimal code.lat ++ codes " " ++ decimal code.lon
+
 -- a kind, the parity and the code of a position
-unfoldable pub place_words : List ℕ → Parity → CodeNumbers → List ℕ
-place_words kind parity code = kind ++ parity_name parity ++ codes " " ++ decimal code.lat ++ codes " " ++ decimal code.lon
+abbrev pub place_words : List ℕ → Parity → CodeNumbers → List ℕ
+place_words kind parity code = (kind ++ parity_name parity ++ codes " ") ++ code_words code
 
 -- the kind of a message, and what it says in short
 abbrev pub me_words : Me → List ℕ

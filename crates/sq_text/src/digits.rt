@@ -1,20 +1,145 @@
 //! Numbers as text.
-ghost use Rattle.std.specs.Prelude.{◌≡◌, ◌+◌, ◌*◌, ◌<◌, ◌≤◌, ◌^◌, ◌++◌, ◌∷◌, [], true, decimal};
+ghost use Rattle.std.specs.Prelude.{◌≡◌, ◌+◌, ◌*◌, ◌/◌, ◌%◌, ◌<◌, ◌≤◌, ◌^◌, ◌++◌, ◌∷◌, [], true, decimal, length};
 ghost use Rattle.std.specs.Fmt.{digit_glyph};
 ghost use Rattle.arrayvec.specs.ArrayString.{array_string_len};
-ghost use Rattle.sq_text.specs.Digits.{hexadecimal};
+ghost use Rattle.sq_text.specs.Digits.{hexadecimal, two_digits};
 
 use arrayvec::ArrayString;
 use itoa::Buffer;
 
+// The numbers from 0 to 99 in two decimal digits each.
+const PAIRS: &str = "\
+0001020304050607080910111213141516171819202122232425262728293031323334353637383940414243444546474849\
+5051525354555657585960616263646566676869707172737475767778798081828384858687888990919293949596979899";
+
+// The bytes in two hexadecimal digits each.
+const BYTES: &str = "\
+000102030405060708090A0B0C0D0E0F101112131415161718191A1B1C1D1E1F202122232425262728292A2B2C2D2E2F\
+303132333435363738393A3B3C3D3E3F404142434445464748494A4B4C4D4E4F505152535455565758595A5B5C5D5E5F\
+606162636465666768696A6B6C6D6E6F707172737475767778797A7B7C7D7E7F808182838485868788898A8B8C8D8E8F\
+909192939495969798999A9B9C9D9E9FA0A1A2A3A4A5A6A7A8A9AAABACADAEAFB0B1B2B3B4B5B6B7B8B9BABBBCBDBEBF\
+C0C1C2C3C4C5C6C7C8C9CACBCCCDCECFD0D1D2D3D4D5D6D7D8D9DADBDCDDDEDFE0E1E2E3E4E5E6E7E8E9EAEBECEDEEEF\
+F0F1F2F3F4F5F6F7F8F9FAFBFCFDFEFF";
+
 /// Appends a number in decimal digits, at most 20, with no leading zeros.
+#[inline(always)]
 pub fn push_decimal<const N: usize>(text: &mut ArrayString<N>, number: u64)
+    requires { array_string_len text.old + 20 ≤ N }
+    ensures bytes { text.new.bytes ≡ text.old.bytes ++ decimal number }
+    ensures len { array_string_len text.new ≤ array_string_len text.old + 20 }
+{
+    if number < 100_000_000 {
+        push_eight(text, number);
+    } else {
+        push_long(text, number);
+    }
+}
+
+// Appends any number.
+#[cold]
+#[inline(never)]
+fn push_long<const N: usize>(text: &mut ArrayString<N>, number: u64)
     requires { array_string_len text.old + 20 ≤ N }
     ensures bytes { text.new.bytes ≡ text.old.bytes ++ decimal number }
     ensures len { array_string_len text.new ≤ array_string_len text.old + 20 }
 {
     let mut buffer = Buffer::new();
     text.push_str(buffer.format(number));
+}
+
+// Appends a number of at most eight digits.
+#[inline(always)]
+fn push_eight<const N: usize>(text: &mut ArrayString<N>, number: u64)
+    requires small { number < 100000000 }
+    requires room { array_string_len text.old + length (decimal number) ≤ N }
+    ensures { text.new.bytes ≡ text.old.bytes ++ decimal number }
+{
+    if number < 10_000 {
+        push_short(text, number);
+    } else {
+        push_short(text, number / 10_000);
+        push_four(text, number % 10_000);
+    }
+}
+
+// Appends a number of at most four digits.
+#[inline(always)]
+fn push_short<const N: usize>(text: &mut ArrayString<N>, number: u64)
+    requires small { number < 10000 }
+    requires room { array_string_len text.old + length (decimal number) ≤ N }
+    ensures { text.new.bytes ≡ text.old.bytes ++ decimal number }
+{
+    if number < 100 {
+        push_front(text, number);
+    } else {
+        push_front(text, number / 100);
+        push_pair(text, number % 100);
+    }
+}
+
+// Appends a number of at most two digits.
+#[inline(always)]
+fn push_front<const N: usize>(text: &mut ArrayString<N>, number: u64)
+    requires small { number < 100 }
+    requires room { array_string_len text.old + length (decimal number) ≤ N }
+    ensures { text.new.bytes ≡ text.old.bytes ++ decimal number }
+{
+    if number < 10 {
+        push_one(text, number as u8);
+    } else {
+        push_pair(text, number);
+    }
+}
+
+// Appends one digit.
+fn push_one<const N: usize>(text: &mut ArrayString<N>, digit: u8)
+    requires small { digit < 10 }
+    requires room { array_string_len text.old + 1 ≤ N }
+    ensures { text.new.bytes ≡ text.old.bytes ++ (48 + digit) ∷ [] }
+{
+    text.push(char::from(b'0' + digit));
+}
+
+// Appends four digits, zeros in front too.
+#[inline(always)]
+fn push_four<const N: usize>(text: &mut ArrayString<N>, number: u64)
+    requires small { number < 10000 }
+    requires room { array_string_len text.old + 4 ≤ N }
+    ensures { text.new.bytes ≡ text.old.bytes ++ (two_digits (number / 100) ++ two_digits (number % 100)) }
+{
+    push_pair(text, number / 100);
+    push_pair(text, number % 100);
+}
+
+// Appends two digits, a zero in front too.
+#[inline(always)]
+fn push_pair<const N: usize>(text: &mut ArrayString<N>, number: u64)
+    requires small { number < 100 }
+    requires room { array_string_len text.old + 2 ≤ N }
+    ensures { text.new.bytes ≡ text.old.bytes ++ two_digits number }
+{
+    let at = 2 * number as usize;
+    text.push_str(&PAIRS[at..at + 2]);
+}
+
+// Appends the lowest six places of a number, in upper-case hexadecimal digits, two at a time.
+pub(crate) fn push_six_places<const N: usize>(text: &mut ArrayString<N>, number: u32)
+    requires { array_string_len text.old + 6 ≤ N }
+    ensures bytes { text.new.bytes ≡ text.old.bytes ++ hexadecimal 6 number }
+    ensures len { array_string_len text.new ≡ array_string_len text.old + 6 }
+{
+    push_byte(text, (number >> 16 & 0xFF) as u8);
+    push_byte(text, (number >> 8 & 0xFF) as u8);
+    push_byte(text, (number & 0xFF) as u8);
+}
+
+// Appends a byte in two hexadecimal digits.
+fn push_byte<const N: usize>(text: &mut ArrayString<N>, byte: u8)
+    requires { array_string_len text.old + 2 ≤ N }
+    ensures { text.new.bytes ≡ text.old.bytes ++ hexadecimal 2 byte }
+{
+    let at = 2 * usize::from(byte);
+    text.push_str(&BYTES[at..at + 2]);
 }
 
 /// Appends the lowest so many places of a number, at most 16, in upper-case hexadecimal digits.

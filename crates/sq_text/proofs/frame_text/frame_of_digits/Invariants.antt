@@ -1,10 +1,9 @@
-use Rattle.std.proofs.Common.{◌≡◌, ◌*◌, length, take, drop}
-use Rattle.hex.specs.Hex.{decode_pairs}
-use Rattle.hex.proofs.Pairs.{prepend}
+use Rattle.std.proofs.Common.{◌≡◌, ◌+◌, ◌*◌, ◌<◌, ◌^◌, length}
+use Rattle.sq_text.proofs.DigitLemmas.{HasDecoded}
 use Rattle.sq_text.proofs.frame_text.frame_of_digits.Given as goal
 
 abbrev pub invariant-loop-place : goal.invariant-loop-place
 invariant-loop-place l = record {
   long : length l.bytes ≡ 14;
-  decoded : decode_pairs 0 l.body ≡ prepend (take l.place l.bytes) (decode_pairs (2 * l.place) (drop (2 * l.place) l.body));
+  decoded : l.seen < 2 ^ 24 → HasDecoded l.body l.bytes (3 * l.place + 2);
 }

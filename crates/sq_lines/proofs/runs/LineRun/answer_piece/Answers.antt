@@ -4,7 +4,11 @@ use Rattle.std.proofs.lemmas.Result.{err_from_is_err_and}
 use Rattle.sq_devices.proofs.Puts.{take_front}
 use Rattle.sq_lines.specs.Lines.{ended_lines}
 use Rattle.sq_lines.specs.Runs.{HasAnswered, StoppedIn}
+use Rattle.sq_lines.proofs.FeedMarks.{marks_rest}
 use Rattle.sq_lines.proofs.runs.LineRun.answer_piece.Goals as goal
+
+pub answer_front-requires-clause-marked : goal.answer_front-requires-clause-marked
+answer_front-requires-clause-marked g c = marks_rest c.args.piece.now c.loop-at.at c.args.feeds c.requires.marked
 
 pub loop-at-preserved : goal.loop-at-preserved
 loop-at-preserved g c =

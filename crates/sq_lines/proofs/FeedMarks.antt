@@ -1,0 +1,56 @@
+-- Masks whose bits mark the line feeds of a piece.
+use Rattle.std.proofs.Common.{◌≡◌, ◌+◌, ◌-◌, ◌/◌, ◌%◌, ◌^◌, ◌<◌, ◌≤◌, ◌∙◌, inl, inr, ℕ, Bool, true, false, cond, eqb, List, length, take, drop, map, min, refl, sym, ap, subst, arith, w64, eq-zero-or-pos, shr-shr}
+use Rattle.std.specs.Int.{bit_at, trailing_zeros}
+use Rattle.std.specs.Int.Count.{count_trailing_zeros}
+use Rattle.std.specs.List.{position_or_len}
+use Rattle.std.proofs.Math.ListN.{get_or-map}
+use Rattle.std.proofs.lemmas.List.{length-drop, take_rest}
+use Rattle.std.proofs.lemmas.List.Sums.{position_or_len_is}
+use Rattle.std.proofs.lemmas.Nat.Bits.{bit_at-trailing_zeros, bit_at-zero}
+use Rattle.std.proofs.lemmas.Simd.{bit_mask_l, get_or-chunk}
+use Rattle.std.specs.Simd.Lanes.{mask_l}
+use Rattle.sq_lines.specs.Lines.{is_feed, MarksFeeds}
+
+-- the mask of a comparison of all bytes
+pub marks_lanes : (bytes : List ℕ) → MarksFeeds (mask_l (map (λ x. eqb x 10) bytes)) bytes
+marks_lanes bytes k within = bit_mask_l (map is_feed bytes) k ∙ ap (λ b. cond b 1 0) (get_or-map is_feed bytes k 0)
+
+-- the mask of what stands behind a place
+pub marks_rest : (piece : List ℕ) (at feeds : ℕ) → MarksFeeds feeds piece → MarksFeeds (feeds / 2 ^ at) (take (length piece - at) (drop at piece))
+marks_rest piece at feeds marked k within =
+    let short : k < length piece - at = omega (arith, ap length (take_rest piece at), length-drop at piece) in
+    ap (λ x. x % 2) (shr-shr feeds at k) ∙ marked (at + k) (omega arith)
+    ∙ ap (λ b. cond (is_feed b) 1 0) (sym (get_or-chunk at (length piece - at) piece k 0 short))
+
+unset : (b : Bool) → cond {A = ℕ} b 1 0 ≡ 0 → b ≡ false
+unset true e = absurd (omega arith)
+unset false e = refl
+
+set : (b : Bool) → cond {A = ℕ} b 1 0 ≡ 1 → b ≡ true
+set true e = refl
+set false e = absurd (omega arith)
+
+-- no bit is set below the lowest one
+below_lowest : (feeds k : ℕ) → feeds < 2 ^ 64 → k < trailing_zeros w64 feeds → bit_at feeds k ≡ 0
+below_lowest feeds k small below = elim (eq-zero-or-pos feeds) [
+  | inl none ↦ subst (λ m. bit_at m k ≡ 0) (sym none) (bit_at-zero k)
+  | inr some ↦ (bit_at-trailing_zeros w64 feeds some small).2 k below
+]
+
+-- the lowest one is set where it is one of 64
+at_lowest : (feeds : ℕ) → feeds < 2 ^ 64 → trailing_zeros w64 feeds < 64 → bit_at feeds (trailing_zeros w64 feeds) ≡ 1
+unfolding count_trailing_zeros
+at_lowest feeds small within = elim (eq-zero-or-pos feeds) [
+  | inl none ↦ let all : trailing_zeros w64 feeds ≡ 64 = ap (trailing_zeros w64) none in absurd (omega arith)
+  | inr some ↦ (bit_at-trailing_zeros w64 feeds some small).1
+]
+
+-- the lowest bit marks the first line feed
+pub first_marked : (piece : List ℕ) (feeds place : ℕ) → feeds < 2 ^ 64 → length piece ≤ 64 → MarksFeeds feeds piece
+    → place ≡ min (length piece) (trailing_zeros w64 feeds) → place ≡ position_or_len is_feed piece
+first_marked piece feeds place small short marked is =
+    sym (position_or_len_is is_feed piece place 0 (omega arith)
+    (λ k below. unset _ (sym (marked k (omega arith)) ∙ below_lowest feeds k small (omega arith)))
+    (λ there.
+    let lowest : place ≡ trailing_zeros w64 feeds = omega arith in
+    set _ (sym (marked place there) ∙ ap (bit_at feeds) lowest ∙ at_lowest feeds small (omega arith))))

@@ -1,0 +1,25 @@
+//! The line feeds of a piece as the bits of a mask.
+ghost use Rattle.std.specs.Prelude.{◌≡◌, ◌≤◌, length};
+ghost use Rattle.std.specs.List.{position_or_len};
+ghost use Rattle.sq_lines.specs.Lines.{MarksFeeds, is_feed};
+
+use std::simd::prelude::*;
+
+// The mask of all of these bytes.
+pub(crate) fn feeds_of(bytes: &[u8; 64]) -> u64
+    ensures { MarksFeeds result bytes.now }
+{
+    u8x64::from_array(*bytes)
+        .simd_eq(u8x64::splat(b'\n'))
+        .to_bitmask()
+}
+
+// Where the first line feed stands, or the length where there is none.
+pub(crate) fn marked_place(piece: &[u8], feeds: u64) -> usize
+    requires short { length piece.now ≤ 64 }
+    requires marked { MarksFeeds feeds piece.now }
+    ensures place { result ≡ position_or_len is_feed piece.now }
+    ensures fits { result ≤ length piece.now }
+{
+    piece.len().min(feeds.trailing_zeros() as usize)
+}
