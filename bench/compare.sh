@@ -1,6 +1,7 @@
 #!/bin/sh
-# compare.sh [LINES]: lines a second of `squitter check` beside an ordinary C program for the same job, in one run. Each is run
-# three times on the same log of good positions, its output to the null device, and the fastest counts. Needs a C compiler.
+# compare.sh [LINES]: lines a second of `squitter check` beside two C programs for the same job, in one run: an ordinary one, and
+# one by large blocks and one table. Each is run three times on the same log of good positions, its output to the null device,
+# and the fastest counts. Needs a C compiler.
 set -eu
 here=$(cd "$(dirname "$0")" && pwd)
 lines=${1:-1000000}
@@ -10,6 +11,7 @@ work=$(mktemp -d)
 trap 'rm -rf "$work"' EXIT
 cc -O3 -march=native -o "$work/gen" "$here/gen.c" -lm
 cc -O3 -march=native -o "$work/plain" "$here/plain.c"
+cc -O2 -mavx2 -fno-tree-vectorize -DSCALAR -o "$work/blocks" "$here/blocks.c"
 "$work/gen" avr "$lines" 1 200 > "$work/log"
 rate() {
     best=
@@ -21,7 +23,8 @@ rate() {
     done
     echo $((lines * 1000000 / (best / 1000)))
 }
+row() { printf '%-10s %12s lines a second, %s times plain C\n' "$1" "$2" "$(awk "BEGIN { printf \"%.2f\", $2 / $plain }")"; }
 plain=$(rate "$work/plain")
-ours=$(rate "$program" check)
-printf 'plain C   %12s lines a second\n' "$plain"
-printf 'squitter  %12s lines a second, %s times plain C\n' "$ours" "$(awk "BEGIN { printf \"%.2f\", $ours / $plain }")"
+row 'plain C' "$plain"
+row 'blocks' "$(rate "$work/blocks")"
+row 'squitter' "$(rate "$program" check)"
