@@ -124,7 +124,7 @@ pub fn one_pair_place()
     ensures { OnePairPlace }
 {}
 
-/// A squitter that is decoded near a reference and sent again: it is the same squitter.
+/// A squitter that is decoded near a reference and sent again: it is the same squitter. `Err` is the fault of [`place_local`].
 pub fn local_again(squitter: &Squitter, reference: &Position) -> Result<Squitter, PlaceFault>
     ensures again { IfOk result (λ again. again ≡ squitter.now) }
     ensures refused { IfErr result (λ fault. IsLocalPlace (squitter_parts squitter.now).me reference.now (Err fault)) }
@@ -133,7 +133,7 @@ pub fn local_again(squitter: &Squitter, reference: &Position) -> Result<Squitter
     Ok(send_point(squitter, &place))
 }
 
-/// The newer squitter of a pair that is decoded, sent again: it is the same squitter.
+/// The newer squitter of a pair that is decoded, sent again: it is the same squitter. `Err` is the fault of [`place_pair`].
 pub fn pair_again(
     older: &Squitter,
     newer: &Squitter,

@@ -91,7 +91,8 @@ impl Squitter {
     }
 }
 
-/// The squitter with the parity and the code of a place of its kind, and all else as it was.
+/// The squitter with the parity and the code of a place, and all else as it was (ICAO Doc 9871, registers 0,5 and 0,6). The
+/// place has to be of its kind, as [`Squitter::fits`] tells.
 pub fn send_point(squitter: &Squitter, place: &Place) -> Squitter
     requires { Fits (squitter_parts squitter.now).me place.now }
     ensures { IsSentAt (squitter_parts squitter.now) place.now (squitter_parts result) }

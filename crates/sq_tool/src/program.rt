@@ -18,8 +18,8 @@ use sq_words::laws::one_request;
 use sq_words::{Refusal, Request, read_request};
 use std::alloc::Global;
 
-/// Does what the words ask for, and answers the exit status: 0 all is good; 1 a line or a frame was refused; 2 a bad command
-/// line; 3 a read, write or memory fault. The first of the words is the program's name.
+/// Does what the words ask for, and answers the exit status: 0 all is good; 1 a line, a frame or a place was refused; 2 a bad
+/// command line; 3 a read, write or memory fault. The first of the words is the program's name.
 ///
 /// An answer goes to the output, a fault in one line to the sink for faults; what could not be written there changes no
 /// status.
