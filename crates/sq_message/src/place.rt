@@ -13,7 +13,9 @@ use sq_cpr::{
 /// Where a squitter is: a point of the air's grid or of the ground's.
 #[derive(Clone, Copy, Debug, PartialEq, Eq)]
 pub enum Place {
+    /// In the air: a point of the grid of 360 degrees.
     Air(GridPoint<Air>),
+    /// On the ground: a point of the grid of 90 degrees.
     Ground(GridPoint<Ground>),
 }
 

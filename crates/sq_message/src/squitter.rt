@@ -6,8 +6,11 @@ use crate::{Airborne, Other, Surface};
 /// The message of a squitter, by its kind.
 #[derive(Clone, Copy, Debug, PartialEq, Eq)]
 pub enum Me {
+    /// An airborne position, type codes 9 to 18 and 20 to 22.
     Airborne(Airborne),
+    /// A surface position, type codes 5 to 8.
     Surface(Surface),
+    /// Every other type code, its 56 bits raw.
     Other(Other),
 }
 

@@ -108,14 +108,14 @@ IsUnwritable o = (o.unwritable ≡ true) × IsTold o (broken_text Write)
 abbrev pub IsUnreadable : Streams → Type 0
 IsUnreadable s = (s.unreadable ≡ true) × IsTold s.outputs (broken_text Read)
 
--- a growth was refused, and that is told
-abbrev pub LacksMemory : Outputs → Type 0
-LacksMemory o = IsTold o (broken_text Memory)
+-- want of memory is told; that a growth was refused stands in no clause
+abbrev pub TellsWantOfMemory : Outputs → Type 0
+TellsWantOfMemory o = IsTold o (broken_text Memory)
 
 -- at exit status 3: what broke the command off was told
 abbrev pub IsBroken : Asked → Streams → Type 0
 IsBroken (Show frame) s = IsUnwritable s.outputs
-IsBroken (Encode words) s = IsUnwritable s.outputs ⊎ LacksMemory s.outputs
+IsBroken (Encode words) s = IsUnwritable s.outputs ⊎ TellsWantOfMemory s.outputs
 IsBroken (Local frame lat lon) s = IsUnwritable s.outputs
 IsBroken (Pair older newer lat lon) s = IsUnwritable s.outputs
 IsBroken Check s = IsUnreadable s ⊎ IsUnwritable s.outputs

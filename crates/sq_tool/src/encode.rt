@@ -4,7 +4,7 @@ ghost use Rattle.sq_message.specs.Heads.{air_head_parts, ground_head_parts};
 ghost use Rattle.sq_words.specs.Requests.{asked_encode};
 ghost use Rattle.sq_tool.specs.Encode.{EncodeValues, IsAirFrame, IsAirHead, IsEncodeValues, IsFrameOf, IsGroundFrame, IsGroundHead, frame_line as line_of};
 ghost use Rattle.sq_tool.specs.declared.arguments.ArgumentFault.{ArgumentFault};
-ghost use Rattle.sq_tool.specs.Misuses.{IsEncodeFault, IsMisusedBy, IsUnwritable, LacksMemory};
+ghost use Rattle.sq_tool.specs.Misuses.{IsEncodeFault, IsMisusedBy, IsUnwritable, TellsWantOfMemory};
 ghost use Rattle.sq_tool.specs.Outputs.{outputs};
 ghost use Rattle.sq_tool.specs.Runs.{HasNoEncodeValues, IsEncodeRun};
 
@@ -36,7 +36,7 @@ pub(crate) fn encode<K: Sink, F: Sink>(
     ensures misused { result ≡ 2 → (fault : ArgumentFault) × IsEncodeFault (asked_encode words.now) fault × IsMisusedBy fault
         (outputs (K.written output.old) (K.written output.new) (K.has_failed output.new) (F.written faults.old) (F.written faults.new) (F.has_failed faults.new)) }
     ensures broken { result ≡ 3 → IsUnwritable (outputs (K.written output.old) (K.written output.new) (K.has_failed output.new) (F.written faults.old) (F.written faults.new) (F.has_failed faults.new))
-        ⊎ LacksMemory (outputs (K.written output.old) (K.written output.new) (K.has_failed output.new) (F.written faults.old) (F.written faults.new) (F.has_failed faults.new)) }
+        ⊎ TellsWantOfMemory (outputs (K.written output.old) (K.written output.new) (K.has_failed output.new) (F.written faults.old) (F.written faults.new) (F.has_failed faults.new)) }
 {
     match frame_of(words) {
         Ok(frame) => match frame_line(alloc, &frame) {

@@ -3,7 +3,7 @@ ghost use Rattle.std.specs.Prelude.{◌≡◌, ◌≢◌, ◌≤◌, ◌⊎◌, 
 ghost use Rattle.std.specs.Io.KnownBytes.{Appends};
 ghost use Rattle.sq_words.specs.Requests.{Asked, Asks, asked_by};
 ghost use Rattle.sq_lines.specs.declared.faults.RunFault.TheVariants as run_faults;
-ghost use Rattle.sq_tool.specs.Misuses.{IsBroken, IsMisused, LacksMemory, broken_text};
+ghost use Rattle.sq_tool.specs.Misuses.{IsBroken, IsMisused, TellsWantOfMemory, broken_text};
 ghost use Rattle.sq_tool.specs.Outputs.{outputs};
 ghost use Rattle.sq_tool.specs.Runs.{Answers, HasUsageFault, streams};
 
@@ -38,7 +38,7 @@ pub fn run<S: Source, K: Sink, F: Sink>(
     ensures misused { result ≡ 2 → (asked : Asked) → Asks (map (λ word. word.now) words.entry.now) asked → IsMisused asked
         (outputs (K.written output.old) (K.written output.new) (K.has_failed output.new) (F.written faults.old) (F.written faults.new) (F.has_failed faults.new)) }
     ensures unwritten { result ≡ 2 → Appends (K.written output.old) (K.written output.new) [] }
-    ensures broken { result ≡ 3 → LacksMemory (outputs (K.written output.old) (K.written output.new) (K.has_failed output.new) (F.written faults.old) (F.written faults.new) (F.has_failed faults.new))
+    ensures broken { result ≡ 3 → TellsWantOfMemory (outputs (K.written output.old) (K.written output.new) (K.has_failed output.new) (F.written faults.old) (F.written faults.new) (F.has_failed faults.new))
         ⊎ ((asked : Asked) × Asks (map (λ word. word.now) words.entry.now) asked × IsBroken asked (streams (S.to_come input.old) (S.to_come input.new) (S.has_failed input.new)
         (outputs (K.written output.old) (K.written output.new) (K.has_failed output.new) (F.written faults.old) (F.written faults.new) (F.has_failed faults.new)))) }
 {
