@@ -13,12 +13,16 @@ AppendsOrHides None new bs = ⊤
 AppendsOrHides (Some xs) None bs = ⊤
 AppendsOrHides (Some xs) (Some ys) bs = ys ≡ xs ++ bs
 
--- the source's bytes began with bs and lost them, or it tells them no longer
-abbrev pub ConsumesOrHides : Option (List ℕ) → Option (List ℕ) → List ℕ → Type 0
-ConsumesOrHides None new bs = ⊤
-ConsumesOrHides (Some xs) None bs = ⊤
-ConsumesOrHides (Some xs) (Some ys) bs = xs ≡ bs ++ ys
-
 -- ys begins with xs
 abbrev pub IsPrefixOf : {X : Type 0} → List X → List X → Type 0
 IsPrefixOf {X} xs ys = (rest : List X) × (ys ≡ xs ++ rest)
+
+-- the source's bytes began with bs, and it lost these alone, or tells what is left no longer
+abbrev pub ConsumesOrHides : Option (List ℕ) → Option (List ℕ) → List ℕ → Type 0
+ConsumesOrHides None new bs = ⊤
+ConsumesOrHides (Some xs) None bs = IsPrefixOf bs xs
+ConsumesOrHides (Some xs) (Some ys) bs = xs ≡ bs ++ ys
+
+-- a front of the text was appended, and no more, or the sink tells its bytes no longer
+abbrev pub WroteFront : Option (List ℕ) → Option (List ℕ) → List ℕ → Type 0
+WroteFront before after text = (part : List ℕ) × IsPrefixOf part text × AppendsOrHides before after part

@@ -12,7 +12,7 @@ use Rattle.sq_lines.proofs.Cutting.{ended_lines-cut}
 pub consumes_hidden : (a b c : Option (List ℕ)) (bs : List ℕ) → Consumes a b bs → KeepsOrHides b c → ConsumesOrHides a c bs
 consumes_hidden None b c bs p q = tt
 consumes_hidden (Some x) None c bs p q = absurd p
-consumes_hidden (Some x) (Some y) None bs p q = tt
+consumes_hidden (Some x) (Some y) None bs p q = (y, p)
 consumes_hidden (Some x) (Some y) (Some z) bs p q = p ∙ ap (λ l. bs ++ l) (sym q)
 
 pub read_on : {State Past Found : Type 0} {stands_for : State → Past → Type 0} {way : Answerer Past Found} {start now next : State}

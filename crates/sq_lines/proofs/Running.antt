@@ -6,12 +6,12 @@ use Rattle.std.proofs.lemmas.List.{length_push}
 use Rattle.std.specs.List.{position_or_len, before_first}
 use Rattle.std.specs.Io.KnownBytes.{Appends}
 use Rattle.std.proofs.KnownBytes.{Appends-nil, Appends-trans}
-use Rattle.sq_devices.specs.Device.{AppendsOrHides, IsPrefixOf, KeepsOrHides}
+use Rattle.sq_devices.specs.Device.{AppendsOrHides, IsPrefixOf, KeepsOrHides, WroteFront}
 use Rattle.sq_devices.proofs.Puts.{Appends-hidden}
 use Rattle.sq_lines.specs.Lines.{is_feed, HasNoFeed, Cuts, ended_lines, lines_of, as_last_line}
 use Rattle.sq_lines.specs.Held.{Held, Holds, GoesOn, empty_line}
 use Rattle.sq_lines.specs.Answers.{answers_to, Answerer, past_after, answer_text, output_of, tally_of, noted}
-use Rattle.sq_lines.specs.Runs.{HasAnswered, HasTold, HasToldPart, StoppedIn, WroteFront}
+use Rattle.sq_lines.specs.Runs.{HasAnswered, HasTold, HasToldPart, StoppedIn}
 use Rattle.sq_lines.specs.declared.faults.Unanswered.{Unanswered}
 use Rattle.sq_lines.specs.declared.faults.Unanswered.TheVariants.{Write, Memory}
 use Rattle.sq_lines.specs.declared.runs.LineRun.{LineRun}

@@ -14,6 +14,9 @@ pub type LineText = ArrayString<96>;
 
 /// Answers lines: each by the line and by what came before it.
 pub trait Answering {
+    /// What is kept from line to line.
+    type State;
+
     /// What a good line says.
     type Found;
 
@@ -21,7 +24,7 @@ pub trait Answering {
     ghost Past: { Type 0 };
 
     /// That the state stands for this past.
-    ghost stands_for: { Self → Self.Past → Type 0 };
+    ghost stands_for: { Self.State → Self.Past → Type 0 };
 
     /// The answer to a line by the past, the past after it, and the text of what was found.
     ghost way: { Answerer Self.Past Self.Found };
@@ -31,12 +34,12 @@ pub trait Answering {
 
     /// The answer to the held line, `None` for an empty one. Where memory is wanting the line was not heard.
     fn answer(
-        &mut self,
+        state: &mut Self::State,
         cutter: &Cutter,
     ) -> Result<Option<Result<Self::Found, LineFault>>, OutOfMemory>
-        ensures answer { IfOk result (λ answer. (line : List ℕ) (past : Self.Past) → Holds cutter.now line → stands_for self.old past
-            → (answer ≡ way.answer past line) × stands_for self.new (way.after past line)) }
-        ensures unheard { OnErr result (self.new ≡ self.old) }
+        ensures answer { IfOk result (λ answer. (line : List ℕ) (past : Self.Past) → Holds cutter.now line → stands_for state.old past
+            → (answer ≡ way.answer past line) × stands_for state.new (way.after past line)) }
+        ensures unheard { OnErr result (state.new ≡ state.old) }
         ensures memory { OnErr result MayWantMemory };
 
     /// Appends the text of what was found, of at most 72 bytes.

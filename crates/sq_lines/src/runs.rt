@@ -23,7 +23,8 @@ impl LineRun {
     ghost use Rattle.sq_lines.specs.Lines.{MarksFeeds, ended_lines, lines_of};
     ghost use Rattle.sq_lines.specs.Held.{Holds, empty_line};
     ghost use Rattle.sq_lines.specs.Answers.{answers_to, Answerer, answer_text, noted, tally_of};
-    ghost use Rattle.sq_lines.specs.Runs.{HasAnswered, HasTold, StoppedIn, WroteFront};
+    ghost use Rattle.sq_devices.specs.Device.{WroteFront};
+    ghost use Rattle.sq_lines.specs.Runs.{HasAnswered, HasTold, StoppedIn};
 
     pub(crate) fn new() -> Self
         ensures number { result.number ≡ 0 }
@@ -43,7 +44,7 @@ impl LineRun {
     /// Answers the held line.
     fn answer_line<A: Answering, K: Sink>(
         &mut self,
-        state: &mut A,
+        state: &mut A::State,
         sink: &mut K,
     ) -> Result<(), Unanswered>
         requires { self.old.number + 1 < 2 ^ 64 }
@@ -60,7 +61,7 @@ impl LineRun {
         ensures failed { IfErr result (λ fault. fault ≡ Unanswered.Write → K.has_failed sink.new ≡ true) }
     {
         self.number += 1;
-        match state.answer(&self.cutter) {
+        match A::answer(state, &self.cutter) {
             Ok(None) => Ok(()),
             Ok(Some(verdict)) => {
                 self.tally.note(&verdict);
@@ -79,7 +80,7 @@ impl LineRun {
     /// that this completes.
     fn answer_front<A: Answering, K: Sink>(
         &mut self,
-        state: &mut A,
+        state: &mut A::State,
         sink: &mut K,
         piece: &[u8],
         feeds: u64,
@@ -91,10 +92,10 @@ impl LineRun {
         ensures number { self.new.number ≤ self.old.number + 1 }
         ensures some { IfOk result (λ n. 0 < n) }
         ensures within { IfOk result (λ n. n ≤ length piece.now) }
-        ensures answered { (start : A) (before : Option (List ℕ)) (read : List ℕ)
+        ensures answered { (start : A.State) (before : Option (List ℕ)) (read : List ℕ)
             → HasAnswered A.stands_for A.way start before self.old state.old (K.written sink.old) read
             → IfOk result (λ n. HasAnswered A.stands_for A.way start before self.new state.new (K.written sink.new) (read ++ take n piece.now)) }
-        ensures stopped { (start : A) (before : Option (List ℕ)) (read : List ℕ)
+        ensures stopped { (start : A.State) (before : Option (List ℕ)) (read : List ℕ)
             → HasAnswered A.stands_for A.way start before self.old state.old (K.written sink.old) read
             → IfErr result (λ fault. StoppedIn fault A.stands_for A.way start state.new before (K.written sink.new) (ended_lines (read ++ piece.now))) }
         ensures wanting { IfErr result (λ fault. fault ≡ Unanswered.Memory → A.MayWantMemory) }
@@ -102,7 +103,7 @@ impl LineRun {
     {
         let (count, is_complete) = self.cutter.take_marked(piece, feeds);
         if is_complete {
-            self.answer_line(state, sink)?;
+            self.answer_line::<A, K>(state, sink)?;
         }
         Ok(count)
     }
@@ -110,7 +111,7 @@ impl LineRun {
     /// Takes the whole piece, whose line feeds are marked.
     fn answer_piece<A: Answering, K: Sink>(
         &mut self,
-        state: &mut A,
+        state: &mut A::State,
         sink: &mut K,
         piece: &[u8],
         feeds: u64,
@@ -119,10 +120,10 @@ impl LineRun {
         requires short { length piece.now ≤ 64 }
         requires marked { MarksFeeds feeds piece.now }
         ensures number { self.new.number ≤ self.old.number + length piece.now }
-        ensures answered { (start : A) (before : Option (List ℕ)) (read : List ℕ)
+        ensures answered { (start : A.State) (before : Option (List ℕ)) (read : List ℕ)
             → HasAnswered A.stands_for A.way start before self.old state.old (K.written sink.old) read
             → OnOk result (HasAnswered A.stands_for A.way start before self.new state.new (K.written sink.new) (read ++ piece.now)) }
-        ensures stopped { (start : A) (before : Option (List ℕ)) (read : List ℕ)
+        ensures stopped { (start : A.State) (before : Option (List ℕ)) (read : List ℕ)
             → HasAnswered A.stands_for A.way start before self.old state.old (K.written sink.old) read
             → IfErr result (λ fault. StoppedIn fault A.stands_for A.way start state.new before (K.written sink.new) (ended_lines (read ++ piece.now))) }
         ensures wanting { IfErr result (λ fault. fault ≡ Unanswered.Memory → A.MayWantMemory) }
@@ -130,7 +131,7 @@ impl LineRun {
     {
         let mut at = 0;
         while at < piece.len() {
-            at += self.answer_front(state, sink, &piece[at..], feeds >> at)?;
+            at += self.answer_front::<A, K>(state, sink, &piece[at..], feeds >> at)?;
         }
         Ok(())
     }
@@ -138,7 +139,7 @@ impl LineRun {
     /// Takes the next bytes of the source, and says whether there were any.
     pub(crate) fn answer_next<S: Source, K: Sink, A: Answering>(
         &mut self,
-        state: &mut A,
+        state: &mut A::State,
         source: &mut S,
         sink: &mut K,
     ) -> Result<bool, RunFault>
@@ -146,18 +147,18 @@ impl LineRun {
         ensures number { self.new.number ≤ self.old.number + 64 }
         ensures used { OnOk result (S.gets_left source.new + 1 ≡ S.gets_left source.old) }
         ensures end { IfOk result (λ more. more ≡ false → IsAtEnd (S.to_come source.new)) }
-        ensures answered { (start : A) (before : Option (List ℕ)) (read : List ℕ)
+        ensures answered { (start : A.State) (before : Option (List ℕ)) (read : List ℕ)
             → HasAnswered A.stands_for A.way start before self.old state.old (K.written sink.old) read
             → OnOk result ((piece : List ℕ) × Consumes (S.to_come source.old) (S.to_come source.new) piece
             × HasAnswered A.stands_for A.way start before self.new state.new (K.written sink.new) (read ++ piece)) }
         ensures unread { IfErr result (λ fault. fault ≡ RunFault.Read → (S.has_failed source.new ≡ true)
             × KeepsOrHides (S.to_come source.old) (S.to_come source.new)
             × (self.new ≡ self.old) × (state.new ≡ state.old) × (K.written sink.new ≡ K.written sink.old)) }
-        ensures unanswered { IfErr result (λ fault. fault ≡ RunFault.Memory → (start : A) (before : Option (List ℕ)) (read : List ℕ)
+        ensures unanswered { IfErr result (λ fault. fault ≡ RunFault.Memory → (start : A.State) (before : Option (List ℕ)) (read : List ℕ)
             → HasAnswered A.stands_for A.way start before self.old state.old (K.written sink.old) read
             → (piece : List ℕ) × Consumes (S.to_come source.old) (S.to_come source.new) piece
             × StoppedIn Unanswered.Memory A.stands_for A.way start state.new before (K.written sink.new) (ended_lines (read ++ piece))) }
-        ensures unwritten { IfErr result (λ fault. fault ≡ RunFault.Write → (start : A) (before : Option (List ℕ)) (read : List ℕ)
+        ensures unwritten { IfErr result (λ fault. fault ≡ RunFault.Write → (start : A.State) (before : Option (List ℕ)) (read : List ℕ)
             → HasAnswered A.stands_for A.way start before self.old state.old (K.written sink.old) read
             → (piece : List ℕ) × Consumes (S.to_come source.old) (S.to_come source.new) piece
             × StoppedIn Unanswered.Write A.stands_for A.way start state.new before (K.written sink.new) (ended_lines (read ++ piece))) }
@@ -168,7 +169,7 @@ impl LineRun {
         let Ok(count) = source.get(&mut buffer) else {
             return Err(RunFault::Read);
         };
-        match self.answer_piece(state, sink, &buffer[..count], feeds_of(&buffer)) {
+        match self.answer_piece::<A, K>(state, sink, &buffer[..count], feeds_of(&buffer)) {
             Ok(()) => Ok(count > 0),
             Err(Unanswered::Write) => Err(RunFault::Write),
             Err(Unanswered::Memory) => Err(RunFault::Memory),
@@ -178,15 +179,15 @@ impl LineRun {
     /// Answers what stands behind the last line feed, unless it is empty.
     pub(crate) fn answer_last<A: Answering, K: Sink>(
         &mut self,
-        state: &mut A,
+        state: &mut A::State,
         sink: &mut K,
     ) -> Result<(), Unanswered>
         requires { self.old.number + 1 < 2 ^ 64 }
-        ensures answered { (start : A) (before : Option (List ℕ)) (read : List ℕ)
+        ensures answered { (start : A.State) (before : Option (List ℕ)) (read : List ℕ)
             → HasAnswered A.stands_for A.way start before self.old state.old (K.written sink.old) read
             → OnOk result (HasTold A.stands_for A.way start state.new before (K.written sink.new) (lines_of read)
             × ((past : A.Past) → A.stands_for start past → self.new.tally ≡ tally_of (answers_to A.way past (lines_of read)))) }
-        ensures stopped { (start : A) (before : Option (List ℕ)) (read : List ℕ)
+        ensures stopped { (start : A.State) (before : Option (List ℕ)) (read : List ℕ)
             → HasAnswered A.stands_for A.way start before self.old state.old (K.written sink.old) read
             → IfErr result (λ fault. StoppedIn fault A.stands_for A.way start state.new before (K.written sink.new) (lines_of read)) }
         ensures wanting { IfErr result (λ fault. fault ≡ Unanswered.Memory → A.MayWantMemory) }
@@ -196,7 +197,7 @@ impl LineRun {
         if self.cutter.line().is_empty() {
             return Ok(());
         }
-        self.answer_line(state, sink)
+        self.answer_line::<A, K>(state, sink)
     }
 
     pub(crate) fn tally(&self) -> Tally

@@ -16,7 +16,7 @@ use sq_devices::{Failed, Sink, Source};
 pub fn run_lines<S: Source, K: Sink, A: Answering>(
     source: &mut S,
     sink: &mut K,
-    state: &mut A,
+    state: &mut A::State,
 ) -> Result<Tally, RunFault>
     // At the end of the input, all of its lines have been answered.
     ensures whole { IfOk result (λ tally. IfSome (S.to_come source.old) (λ input. (S.to_come source.new ≡ Some [])
@@ -44,12 +44,12 @@ pub fn run_lines<S: Source, K: Sink, A: Answering>(
 {
     let mut run = LineRun::new();
     'pieces: loop {
-        let has_more = run.answer_next(state, source, sink)?;
+        let has_more = run.answer_next::<S, K, A>(state, source, sink)?;
         if !has_more {
             break;
         }
     }
-    match run.answer_last(state, sink) {
+    match run.answer_last::<A, K>(state, sink) {
         Ok(()) => {}
         Err(Unanswered::Write) => return Err(RunFault::Write),
         Err(Unanswered::Memory) => return Err(RunFault::Memory),

@@ -22,6 +22,7 @@ pub use place::{PlaceText, place_text};
 pub use place_faults::push_place_fault;
 pub use reading::read_squitter;
 pub use show::{ShowText, show_text};
+pub use sq_message::{Frame, PlaceFault, Position, Squitter};
 pub use summary::push_summary;
 
 #[cfg(test)]

@@ -15,8 +15,9 @@ use Rattle.clap.specs.Walk.{Text, Rule, Row, Held, Outcome, Waiting, Step, Walk,
 use Rattle.clap.specs.Walk.{done, waits, plain, refused, idle, option, positional, next, trailing, subcommand, value}
 use Rattle.clap.specs.Faults.{defaults_fault, settle_fault, fault_of, built_fault, entered_fault, level_fault, other_fault, word_fault, step_fault, walk_fault}
 use Rattle.sq_words.specs.CommandLine.{squitter}
-use Rattle.sq_words.specs.Requests.{Asked, Asks, HasValues, command_name}
-use Rattle.sq_words.specs.Requests.{Show, Encode, Local, Pair, Check, Track}
+use Rattle.sq_requests.specs.Requests.{Asked, command_name}
+use Rattle.sq_words.specs.Requests.{Asks, HasValues}
+use Rattle.sq_requests.specs.Requests.{Show, Encode, Local, Pair, Check, Track}
 use Rattle.sq_words.proofs.Full.{AllFull, Each, IsSingle, Full-walk, Full-settled, Full-defaults, find-each, given_value, or_else-nil}
 
 -- what was searched for passes the test

@@ -12,8 +12,9 @@ use Rattle.clap.specs.declared.parser.matches.Found.{Found}
 use Rattle.clap.proofs.WalkLemmas.{first_value-rows}
 use Rattle.clap.proofs.OnLiterals.{clap_on_literals}
 use Rattle.sq_words.specs.CommandLine.{squitter}
-use Rattle.sq_words.specs.Requests.{Asked, AskedEncode, Asks, HasValues, IsAsked, command_name}
-use Rattle.sq_words.specs.Requests.{Show, Encode, Local, Pair, Check, Track}
+use Rattle.sq_requests.specs.Requests.{Asked, AskedEncode, command_name}
+use Rattle.sq_words.specs.Requests.{Asks, HasValues, IsAsked}
+use Rattle.sq_requests.specs.Requests.{Show, Encode, Local, Pair, Check, Track}
 
 -- clap says of this command line what it makes of the words
 pub squitter-is_simple : is_simple squitter ≡ true

@@ -1,37 +1,8 @@
 -- What the words of a command line ask for.
-use Rattle.std.specs.Prelude.{◌≡◌, ◌≢◌, ⊤, List, [], Option, Some, codes, option_map}
+use Rattle.std.specs.Prelude.{◌≡◌, ◌≢◌, ⊤, List, [], Some, codes}
 use Rattle.clap.specs.Words.{Text, Row, fault_of, first_of, subcommand_of}
+use Rattle.sq_requests.specs.Requests.{Asked, Show, Encode, Local, Pair, Check, Track, command_name}
 use Rattle.sq_words.specs.CommandLine.{squitter}
-use Rattle.sq_words.specs.declared.request.EncodeWords.{EncodeWords}
-use Rattle.sq_words.specs.declared.request.Request.{Request}
-use Rattle.sq_words.specs.declared.request.Request.TheVariants as variants
-
--- the values of `encode`
-pub record AskedEncode : Type 0 where
-  pub kind : Text
-  pub parity : Text
-  pub address : Text
-  pub feet : Option Text
-  pub lat : Text
-  pub lon : Text
-
--- a command with its values, each as it was written; an option that was left out is `None`
-pub data Asked : Type 0 where
-  Show : (frame : Text) → Asked
-  Encode : AskedEncode → Asked
-  Local : (frame lat lon : Text) → Asked
-  Pair : (older newer : Text) (lat lon : Option Text) → Asked
-  Check : Asked
-  Track : (limit window lat lon : Option Text) → Asked
-
--- the word that names the command
-abbrev pub command_name : Asked → Text
-command_name (Show frame) = codes "show"
-command_name (Encode e) = codes "encode"
-command_name (Local frame lat lon) = codes "local"
-command_name (Pair older newer lat lon) = codes "pair"
-command_name Check = codes "check"
-command_name (Track limit window lat lon) = codes "track"
 
 -- clap has this value for each argument and option of the command
 abbrev pub HasValues : List Row → Asked → Type 0
@@ -62,27 +33,6 @@ pub record Asks (words : List Text) (asked : Asked) : Type 0 where
 -- clap finds a fault in the words, or they ask for its help
 abbrev pub IsFaulty : List Text → Type 0
 IsFaulty words = fault_of squitter words ≢ []
-
--- the values that a request of `encode` holds
-abbrev pub asked_encode : EncodeWords → AskedEncode
-asked_encode e = record {
-  kind = e.kind.now;
-  parity = e.parity.now;
-  address = e.address.now;
-  feet = option_map (λ s. s.now) e.feet;
-  lat = e.lat.now;
-  lon = e.lon.now;
-}
-
--- what a request stands for
-abbrev pub asked_by : Request → Asked
-asked_by (variants.Show frame) = Show frame.now
-asked_by (variants.Encode e) = Encode (asked_encode e)
-asked_by (variants.Local frame lat lon) = Local frame.now lat.now lon.now
-asked_by (variants.Pair older newer lat lon) = Pair older.now newer.now (option_map (λ s. s.now) lat) (option_map (λ s. s.now) lon)
-asked_by variants.Check = Check
-asked_by (variants.Track limit window lat lon) =
-    Track (option_map (λ s. s.now) limit) (option_map (λ s. s.now) window) (option_map (λ s. s.now) lat) (option_map (λ s. s.now) lon)
 
 -- words ask for one thing
 abbrev pub OneRequest : Type 0

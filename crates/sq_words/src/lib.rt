@@ -1,4 +1,4 @@
-//! The command lines of `squitter`: one [`Request`] of the words.
+//! The command lines of `squitter`: one request of the words.
 //!
 //! [`read_request`] has clap read the words. It answers a request exactly as clap reads the words,
 //! as one command with its values, and refuses words only where clap finds a fault in them. Words
@@ -11,4 +11,4 @@ mod request;
 #[cfg(test)]
 mod tests;
 
-pub use request::{EncodeWords, Refusal, Request, read_request};
+pub use request::{Refusal, read_request};

@@ -1,62 +1,14 @@
 //! What the words of a command line ask for.
 ghost use Rattle.std.specs.Prelude.{◌≡◌, ◌≢◌, IfErr, IfOk, IfSome, IfNone, codes, map};
 ghost use Rattle.clap.specs.Words.{found_of, kind_of, rows_of};
-ghost use Rattle.sq_words.specs.Requests.{Asked, Asks, IsAsked, IsFaulty, asked_by};
+ghost use Rattle.sq_requests.specs.Requests.{Asked, asked_by};
+ghost use Rattle.sq_words.specs.Requests.{Asks, IsAsked, IsFaulty};
 
 use crate::command_line::squitter_command;
 use clap::error::ErrorKind;
 use clap::{ArgMatches, Error};
+use sq_requests::{EncodeWords, Request};
 use std::alloc::{AllocError, Global};
-
-/// The values of the command `encode`, each as it was written.
-#[derive(Clone, Copy, Debug)]
-pub struct EncodeWords<'a> {
-    /// `--kind`
-    pub kind: &'a str,
-    /// `--parity`
-    pub parity: &'a str,
-    /// `--address`
-    pub address: &'a str,
-    /// `--feet`, where it is given
-    pub feet: Option<&'a str>,
-    /// `--lat`
-    pub lat: &'a str,
-    /// `--lon`
-    pub lon: &'a str,
-}
-
-/// A command with its values, each as it was written. An option that is left out is `None`.
-#[derive(Clone, Copy, Debug)]
-pub enum Request<'a> {
-    /// `show FRAME`
-    Show {
-        frame: &'a str,
-    },
-    /// `encode --kind K --parity P --address A [--feet N] --lat LAT --lon LON`
-    Encode(EncodeWords<'a>),
-    /// `local FRAME --lat LAT --lon LON`
-    Local {
-        frame: &'a str,
-        lat: &'a str,
-        lon: &'a str,
-    },
-    /// `pair OLDER NEWER [--lat LAT] [--lon LON]`
-    Pair {
-        older: &'a str,
-        newer: &'a str,
-        lat: Option<&'a str>,
-        lon: Option<&'a str>,
-    },
-    /// `check`
-    Check,
-    /// `track [--limit N] [--window MS] [--lat LAT] [--lon LON]`
-    Track {
-        limit: Option<&'a str>,
-        window: Option<&'a str>,
-        lat: Option<&'a str>,
-        lon: Option<&'a str>,
-    },
-}
 
 /// Why no request was read.
 #[derive(Debug, Drop)]

@@ -1,5 +1,6 @@
 //! Command lines read and refused.
-use crate::{Refusal, Request, read_request};
+use crate::{Refusal, read_request};
+use sq_requests::Request;
 use std::alloc::Global;
 
 const FRAME: &str = "8D40621D58C382D690C8AC2863A7";

@@ -1,0 +1,13 @@
+use Rattle.std.proofs.Common.{◌∙◌, arith, ◌≤◌, ◌^◌, length}
+use Rattle.std.proofs.Math.Nat.{pow-le-pow_right}
+use Rattle.sq_angle.proofs.Texts.{parsed_digits, digits_small}
+use Rattle.sq_commands.proofs.arguments.number_of.Goals as goal
+
+pub returns-clause-value : goal.returns-clause-value
+returns-clause-value c = c.unwrap_or.ensures ∙ parsed_digits c.args.digits.now c.parse.result c.parse.ensures.value.0 c.requires.digits (omega (arith, c.requires.short))
+
+pub returns-clause-small : goal.returns-clause-small
+returns-clause-small c =
+    let value = c.unwrap_or.ensures ∙ parsed_digits c.args.digits.now c.parse.result c.parse.ensures.value.0 c.requires.digits (omega (arith, c.requires.short)) in
+    let wide : 10 ^ length c.args.digits.now ≤ 10 ^ 5 = pow-le-pow_right (omega arith) c.requires.short in
+    omega (arith, value, wide, digits_small c.args.digits.now c.requires.digits)

@@ -1,0 +1,10 @@
+use Rattle.std.proofs.Common.{Ok, subst}
+use Rattle.sq_text.specs.Reading.{IsSquitterReading}
+use Rattle.sq_commands.proofs.local.local_near.Goals as goal
+
+pub returns-in-Ok : goal.returns-in-Ok
+returns-in-Ok g c = (
+  Ok c.in-Ok.squitter,
+  subst (λ text. IsSquitterReading text (Ok c.in-Ok.squitter)) c.as_bytes.ensures.value c.in-Ok.ensures,
+  (c.place_local.result, c.place_local.ensures, c.write_place.ensures),
+)

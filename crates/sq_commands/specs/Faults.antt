@@ -1,0 +1,30 @@
+-- What is reported of arguments at fault.
+use Rattle.std.specs.Prelude.{◌++◌, ℕ, List, Result, MatchResult, codes}
+use Rattle.sq_angle.specs.declared.read.AngleFault.{AngleFault}
+use Rattle.sq_angle.specs.declared.read.AngleFault.TheVariants.{NotANumber, TooManyDecimals, OutOfRange}
+use Rattle.sq_commands.specs.declared.arguments.ArgumentFault.{ArgumentFault}
+use Rattle.sq_commands.specs.declared.arguments.ArgumentFault.TheVariants.{Kind, Parity, Address, Feet, Site, Lat, Lon}
+use Rattle.sq_commands.specs.declared.status.Status.{Status}
+use Rattle.sq_commands.specs.declared.status.Status.TheVariants.{Misused}
+use Rattle.sq_commands.specs.Outputs.{Outputs, IsReport}
+
+-- what is reported of an angle
+abbrev pub angle_text : AngleFault → List ℕ
+angle_text NotANumber = codes "not a number"
+angle_text TooManyDecimals = codes "too many decimals"
+angle_text OutOfRange = codes "out of range"
+
+-- what is reported of an argument
+abbrev pub argument_text : ArgumentFault → List ℕ
+argument_text Kind = codes "bad kind"
+argument_text Parity = codes "bad parity"
+argument_text Address = codes "bad address"
+argument_text Feet = codes "bad feet"
+argument_text Site = codes "site needs lat and lon"
+argument_text (Lat fault) = codes "lat " ++ angle_text fault
+argument_text (Lon fault) = codes "lon " ++ angle_text fault
+
+-- the arguments are read: of what they say the rest holds, or the first fault is reported
+abbrev pub IsArgumentsRun : {Values : Type 0} → (Result Values ArgumentFault → Type 0) → (Values → Type 0) → Status → Outputs → Type 0
+IsArgumentsRun {Values = Values} Reads Rest status o = (reading : Result Values ArgumentFault) × Reads reading
+    × MatchResult reading Rest (λ fault. IsReport Misused (argument_text fault) status o)

@@ -1,0 +1,11 @@
+pub mod Statuses
+pub mod Outputs
+pub mod Arguments
+pub mod Faults
+pub mod Frames
+pub mod Show
+pub mod Encode
+pub mod Local
+pub mod Pair
+pub mod Check
+pub mod Runs

@@ -1,0 +1,50 @@
+-- What a command does to its devices.
+use Rattle.std.specs.Prelude.{◌≡◌, ◌++◌, ℕ, List, codes}
+use Rattle.sq_devices.specs.declared.device.Sink.{Ghosts as SinkGhosts}
+use Rattle.sq_devices.specs.declared.device.Source.{Ghosts as SourceGhosts}
+use Rattle.sq_devices.specs.Changes.{FailedWithin, Taken, Wrote, WroteNothing, WroteOrFailed, Written, taken_from, written_on}
+use Rattle.sq_lines.specs.declared.faults.RunFault.{RunFault}
+use Rattle.sq_lines.specs.declared.faults.RunFault.TheVariants as faults
+use Rattle.sq_commands.specs.declared.status.Status.{Status}
+use Rattle.sq_commands.specs.declared.status.Status.TheVariants.{Good, Refused, Misused, Broken}
+
+-- what was written on the output, and what was reported on the sink for faults
+pub record Outputs : Type 0 where
+  pub output : Written
+  pub reports : Written
+
+abbrev pub outputs : {K F : Type 0} → SinkGhosts K → SinkGhosts F → (output output' : K) → (faults faults' : F) → Outputs
+outputs k f output output' faults faults' = record { output = written_on k output output'; reports = written_on f faults faults' }
+
+-- the same, and what was read of the input
+pub record Effects : Type 0 where
+  pub input : Taken
+  pub outputs : Outputs
+
+abbrev pub effects : {S : Type 0} → SourceGhosts S → (input input' : S) → Outputs → Effects
+effects s input input' o = record { input = taken_from s input input'; outputs = o }
+
+-- the line was reported, or the sink for faults has failed within it
+abbrev pub Reported : Outputs → List ℕ → Type 0
+Reported o line = WroteOrFailed o.reports (line ++ codes "\n")
+
+-- the command ends so, nothing was written, and the line was reported
+abbrev pub IsReport : Status → List ℕ → Status → Outputs → Type 0
+IsReport ending line status o = (status ≡ ending) × WroteNothing o.output × Reported o line
+
+-- what is reported of a run that broke off
+abbrev pub broken_text : RunFault → List ℕ
+broken_text faults.Read = codes "read failed"
+broken_text faults.Write = codes "write failed"
+broken_text faults.Memory = codes "out of memory"
+
+-- all is good: the text was written, and nothing reported; or the output has failed within it, and that is reported
+abbrev pub IsAnswer : List ℕ → Status → Outputs → Type 0
+IsAnswer text Good o = Wrote o.output text × WroteNothing o.reports
+IsAnswer text Refused o = ⊥
+IsAnswer text Misused o = ⊥
+IsAnswer text Broken o = FailedWithin o.output text × Reported o (broken_text faults.Write)
+
+-- out of memory: nothing was written, and that is reported
+abbrev pub IsOutOfMemory : Status → Outputs → Type 0
+IsOutOfMemory status o = IsReport Broken (broken_text faults.Memory) status o

@@ -1,0 +1,237 @@
+//! The arguments of the commands, read from their words.
+ghost use Rattle.std.specs.Prelude.{◌≡◌, ◌≢◌, ◌≤◌, ◌<◌, ◌^◌, ◌++◌, ◌∷◌, List, ℤ, ℕ, IfErr, IfOk, OnErr, IsTrue, ◌↔◌, codes, length, option_map, MatchOption};
+ghost use Rattle.std.specs.Bool.{OnFalse};
+ghost use Rattle.std.specs.Char.{IsAsciiDigit};
+ghost use Rattle.std.specs.Int.Digits.{number_from_digits};
+ghost use Rattle.sq_angle.specs.Spelling.{minus};
+ghost use Rattle.sq_angle.specs.Spelling.{signed as signed_number};
+ghost use Rattle.std.specs.List.{AllByRecursion};
+ghost use Rattle.std.specs.Str.Parse.{digits_value};
+ghost use Rattle.sq_angle.specs.Angle.{degrees};
+ghost use Rattle.sq_angle.specs.Fraction.{IsWithin};
+ghost use Rattle.sq_angle.specs.Reading.{IsReading};
+ghost use Rattle.sq_zones.specs.declared.parity.Parity.{Parity};
+ghost use Rattle.sq_text.specs.Show.{parity_name};
+ghost use Rattle.sq_commands.specs.declared.arguments.Kind.{Kind};
+ghost use Rattle.sq_commands.specs.Encode.{IsAltitudeOf};
+ghost use Rattle.sq_commands.specs.Faults.{argument_text};
+ghost use Rattle.sq_commands.specs.Arguments.{IsAddress, IsAngleFault, IsFeet, IsFeetText, IsPositionReading, IsSiteReading, kind_name};
+
+use sq_angle::{Angle, AngleFault, Position};
+use sq_message::{Parity, field_of_feet};
+
+/// The kinds of squitter that `encode` writes.
+#[derive(Clone, Copy, Debug, PartialEq, Eq)]
+pub(crate) enum Kind {
+    Air,
+    Ground,
+}
+
+/// What is wrong with the arguments of a command: the first of these that applies.
+#[derive(Clone, Copy, Debug, PartialEq, Eq)]
+pub(crate) enum ArgumentFault {
+    Kind,
+    Parity,
+    Address,
+    Feet,
+    Site,
+    Lat(AngleFault),
+    Lon(AngleFault),
+}
+
+impl ArgumentFault {
+    /// The line that is reported of it.
+    pub(crate) fn line(self) -> &'static str
+        ensures { result.now ≡ argument_text self ++ codes "\n" }
+    {
+        match self {
+            ArgumentFault::Kind => "bad kind\n",
+            ArgumentFault::Parity => "bad parity\n",
+            ArgumentFault::Address => "bad address\n",
+            ArgumentFault::Feet => "bad feet\n",
+            ArgumentFault::Site => "site needs lat and lon\n",
+            ArgumentFault::Lat(AngleFault::NotANumber) => "lat not a number\n",
+            ArgumentFault::Lat(AngleFault::TooManyDecimals) => "lat too many decimals\n",
+            ArgumentFault::Lat(AngleFault::OutOfRange) => "lat out of range\n",
+            ArgumentFault::Lon(AngleFault::NotANumber) => "lon not a number\n",
+            ArgumentFault::Lon(AngleFault::TooManyDecimals) => "lon too many decimals\n",
+            ArgumentFault::Lon(AngleFault::OutOfRange) => "lon out of range\n",
+        }
+    }
+}
+
+/// `air` or `ground`.
+pub(crate) fn read_kind(word: &str) -> Result<Kind, ArgumentFault>
+    ensures ok { IfOk result (λ kind. word.now ≡ kind_name kind) }
+    ensures err { OnErr result ((kind : Kind) → word.now ≢ kind_name kind) }
+    ensures fault { IfErr result (λ fault. fault ≡ ArgumentFault.Kind) }
+{
+    match word {
+        "air" => Ok(Kind::Air),
+        "ground" => Ok(Kind::Ground),
+        _ => Err(ArgumentFault::Kind),
+    }
+}
+
+/// `even` or `odd`.
+pub(crate) fn read_parity(word: &str) -> Result<Parity, ArgumentFault>
+    ensures ok { IfOk result (λ parity. word.now ≡ parity_name parity) }
+    ensures err { OnErr result ((parity : Parity) → word.now ≢ parity_name parity) }
+    ensures fault { IfErr result (λ fault. fault ≡ ArgumentFault.Parity) }
+{
+    match word {
+        "even" => Ok(Parity::Even),
+        "odd" => Ok(Parity::Odd),
+        _ => Err(ArgumentFault::Parity),
+    }
+}
+
+/// Six hexadecimal digits of either case.
+pub(crate) fn read_address(word: &str) -> Result<u32, ArgumentFault>
+    ensures ok { IfOk result (IsAddress word.now) }
+    ensures small { IfOk result (λ address. address < 2 ^ 24) }
+    ensures err { OnErr result ((address : ℕ) → ¬ IsAddress word.now address) }
+    ensures fault { IfErr result (λ fault. fault ≡ ArgumentFault.Address) }
+{
+    let mut bytes = [0; 3];
+    match hex::decode_to_slice(word, &mut bytes) {
+        Ok(()) => Ok(address_of(&bytes)),
+        Err(_) => Err(ArgumentFault::Address),
+    }
+}
+
+// The number of three bytes, the most significant first.
+fn address_of(bytes: &[u8]) -> u32
+    requires { length bytes.now ≡ 3 }
+    ensures value { result ≡ number_from_digits 256 bytes.now }
+    ensures small { result < 2 ^ 24 }
+{
+    let mut address = 0;
+    for &byte in bytes {
+        address = address * 256 + u32::from(byte);
+    }
+    address
+}
+
+// An optional `-` and one to five digits, with a field: the field.
+fn read_feet(word: &str) -> Result<u16, ArgumentFault>
+    ensures ok { IfOk result (IsFeet word.now) }
+    ensures small { IfOk result (λ field. field < 4096) }
+    ensures err { OnErr result ((field : ℕ) → ¬ IsFeet word.now field) }
+    ensures fault { IfErr result (λ fault. fault ≡ ArgumentFault.Feet) }
+{
+    match feet_of(word) {
+        Some(feet) => match field_of_feet(feet) {
+            Some(field) => Ok(field),
+            None => Err(ArgumentFault::Feet),
+        },
+        None => Err(ArgumentFault::Feet),
+    }
+}
+
+/// The altitude field of these feet, in the air alone; 0 where none are given.
+pub(crate) fn read_altitude(kind: Kind, feet: Option<&str>) -> Result<u16, ArgumentFault>
+    ensures ok { IfOk result (IsAltitudeOf kind (option_map (λ word. word.now) feet.entry)) }
+    ensures small { IfOk result (λ altitude. altitude < 4096) }
+    ensures err { OnErr result ((altitude : ℕ) → ¬ IsAltitudeOf kind (option_map (λ word. word.now) feet.entry) altitude) }
+    ensures fault { IfErr result (λ fault. fault ≡ ArgumentFault.Feet) }
+{
+    match (kind, feet) {
+        (_, None) => Ok(0),
+        (Kind::Air, Some(word)) => read_feet(word),
+        (Kind::Ground, Some(_)) => Err(ArgumentFault::Feet),
+    }
+}
+
+// The number of feet that the word spells.
+fn feet_of(word: &str) -> Option<i32>
+    ensures { MatchOption result ((feet : ℤ) → ¬ IsFeetText word.now feet) (IsFeetText word.now) }
+{
+    let (negative, digits) = without_minus(word);
+    if digits.is_empty() || digits.len() > 5 || !are_digits(digits) {
+        return None;
+    }
+    Some(signed(negative, number_of(digits)))
+}
+
+// Whether the word begins with `-`, and what is left of it.
+fn without_minus(word: &str) -> (bool, &str)
+    ensures parts { word.now ≡ minus result.0 ++ result.1.now }
+    ensures other { OnFalse result.0 ((rest : List ℕ) → ¬ (word.now ≡ 45 ∷ rest)) }
+{
+    match word.strip_prefix('-') {
+        Some(rest) => (true, rest),
+        None => (false, word),
+    }
+}
+
+// Whether each character is an ASCII digit.
+fn are_digits(text: &str) -> bool
+    ensures { IsTrue result ↔ AllByRecursion IsAsciiDigit text.now }
+{
+    text.bytes().all(|byte| byte.is_ascii_digit())
+}
+
+// The number that at most five digits write.
+fn number_of(digits: &str) -> u64
+    requires digits { AllByRecursion IsAsciiDigit digits.now }
+    requires short { length digits.now ≤ 5 }
+    ensures value { result ≡ digits_value 10 digits.now }
+    ensures small { result < 10 ^ 5 }
+{
+    digits.parse().unwrap_or(0)
+}
+
+// The number with its sign.
+fn signed(negative: bool, magnitude: u64) -> i32
+    requires { magnitude < 10 ^ 5 }
+    ensures { result ≡ signed_number negative magnitude }
+{
+    let number = magnitude as i32;
+    if negative { -number } else { number }
+}
+
+/// A latitude and a longitude in degrees.
+pub(crate) fn read_position(lat: &str, lon: &str) -> Result<Position, ArgumentFault>
+    ensures { IsPositionReading lat.now lon.now result }
+{
+    let latitude = match read_angle(lat, 90) {
+        Ok(angle) => angle,
+        Err(fault) => return Err(ArgumentFault::Lat(fault)),
+    };
+    let longitude = match read_angle(lon, 180) {
+        Ok(angle) => angle,
+        Err(fault) => return Err(ArgumentFault::Lon(fault)),
+    };
+    Ok(Position::new(latitude, longitude).unwrap())
+}
+
+// An angle of at most so many degrees.
+fn read_angle(word: &str, limit: u16) -> Result<Angle, AngleFault>
+    ensures ok { IfOk result (λ angle. IsReading word.now (Ok angle)) }
+    ensures within { IfOk result (λ angle. IsWithin limit (degrees angle)) }
+    ensures fault { IfErr result (IsAngleFault limit word.now) }
+{
+    let angle = Angle::read(word)?;
+    if !angle.is_within(limit) {
+        return Err(AngleFault::OutOfRange);
+    }
+    Ok(angle)
+}
+
+/// A site: both words or neither.
+pub(crate) fn read_site(
+    lat: Option<&str>,
+    lon: Option<&str>,
+) -> Result<Option<Position>, ArgumentFault>
+    ensures { IsSiteReading (option_map (λ word. word.now) lat.entry) (option_map (λ word. word.now) lon.entry) result }
+{
+    match (lat, lon) {
+        (Some(lat), Some(lon)) => match read_position(lat, lon) {
+            Ok(position) => Ok(Some(position)),
+            Err(fault) => Err(fault),
+        },
+        (None, None) => Ok(None),
+        _ => Err(ArgumentFault::Site),
+    }
+}

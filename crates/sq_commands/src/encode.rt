@@ -1,0 +1,129 @@
+//! The command `encode`.
+ghost use Rattle.std.specs.Prelude.{◌≡◌, ◌≤◌, ◌<◌, ◌^◌, ◌++◌, ◌⊎◌, codes, length, IfSome};
+ghost use Rattle.sq_message.specs.Heads.{air_head_parts, ground_head_parts};
+ghost use Rattle.sq_requests.specs.Requests.{asked_encode};
+ghost use Rattle.sq_commands.specs.Encode.{IsAirFrame, IsAirHead, IsEncodeReading, IsEncodeRun, IsGroundFrame, IsGroundHead};
+ghost use Rattle.sq_commands.specs.Encode.{frame_line as line_of};
+ghost use Rattle.sq_commands.specs.Outputs.{IsAnswer, IsOutOfMemory, outputs};
+
+use crate::arguments::{
+    ArgumentFault, Kind, read_address, read_altitude, read_kind, read_parity, read_position,
+};
+use crate::reports::{break_off, report_argument, write_text};
+use crate::status::Status;
+use arrayvec::ArrayString;
+use sq_angle::Position;
+use sq_bits::laws::each_frame;
+use sq_devices::Sink;
+use sq_lines::RunFault;
+use sq_message::{
+    AirFields, AirHead, Frame, GroundFields, GroundHead, Parity, send_air, send_ground, write_frame,
+};
+use sq_requests::EncodeWords;
+use std::alloc::Global;
+
+// Writes the frame that is sent of a position.
+pub(crate) fn encode<K: Sink, F: Sink>(
+    alloc: Global,
+    words: &EncodeWords<'_>,
+    output: &mut K,
+    faults: &mut F,
+) -> Status
+    ensures { IsEncodeRun (asked_encode words.now) result (outputs K.Sink F.Sink output.old output.new faults.old faults.new) }
+{
+    match frame_of(words) {
+        Ok(frame) => write_frame_line(alloc, &frame, output, faults),
+        Err(fault) => report_argument(fault, faults),
+    }
+}
+
+// Writes the line of the frame.
+fn write_frame_line<K: Sink, F: Sink>(
+    alloc: Global,
+    frame: &Frame,
+    output: &mut K,
+    faults: &mut F,
+) -> Status
+    ensures {
+        let o = outputs K.Sink F.Sink output.old output.new faults.old faults.new in
+        IsAnswer (line_of frame.now) result o ⊎ IsOutOfMemory result o }
+{
+    match frame_line(alloc, frame) {
+        Some(line) => write_text(line.as_str(), output, faults),
+        None => break_off(RunFault::Memory, faults),
+    }
+}
+
+// The frame of the values that the words spell, else the first fault of the words.
+fn frame_of(words: &EncodeWords<'_>) -> Result<Frame, ArgumentFault>
+    ensures { IsEncodeReading (asked_encode words.now) result }
+{
+    let kind = read_kind(words.kind)?;
+    let parity = read_parity(words.parity)?;
+    let address = read_address(words.address)?;
+    let altitude = read_altitude(kind, words.feet)?;
+    let position = read_position(words.lat, words.lon)?;
+    Ok(match kind {
+        Kind::Air => air_frame(address, altitude, parity, &position),
+        Kind::Ground => ground_frame(address, parity, &position),
+    })
+}
+
+// The frame of an airborne position.
+fn air_frame(address: u32, altitude: u16, parity: Parity, position: &Position) -> Frame
+    requires address { address < 2 ^ 24 }
+    requires altitude { altitude < 4096 }
+    ensures { IsAirFrame address altitude parity position.now result }
+{
+    let frame = write_frame(&send_air(air_head(address, altitude), position, parity));
+    each_frame(&frame);
+    frame
+}
+
+fn air_head(address: u32, altitude: u16) -> AirHead
+    requires address { address < 2 ^ 24 }
+    requires altitude { altitude < 4096 }
+    ensures { IsAirHead address altitude (air_head_parts result) }
+{
+    let fields = AirFields::new(11, 0, false, altitude, false).unwrap();
+    AirHead::new(5, address, fields).unwrap()
+}
+
+// The frame of a surface position.
+fn ground_frame(address: u32, parity: Parity, position: &Position) -> Frame
+    requires address { address < 2 ^ 24 }
+    ensures { IsGroundFrame address parity position.now result }
+{
+    let frame = write_frame(&send_ground(ground_head(address), position, parity));
+    each_frame(&frame);
+    frame
+}
+
+fn ground_head(address: u32) -> GroundHead
+    requires address { address < 2 ^ 24 }
+    ensures { IsGroundHead address (ground_head_parts result) }
+{
+    let fields = GroundFields::new(7, 0, false, 0, false).unwrap();
+    GroundHead::new(4, address, fields).unwrap()
+}
+
+// The frame's digits and a line feed; `None` where allocation fails.
+fn frame_line(alloc: Global, frame: &Frame) -> Option<ArrayString<29>>
+    ensures { IfSome result (λ line. line.bytes ≡ line_of frame.now) }
+{
+    each_frame(frame);
+    match hex::encode_upper(alloc, frame.0) {
+        Ok(digits) => Some(as_line(digits.as_str())),
+        Err(_) => None,
+    }
+}
+
+fn as_line(text: &str) -> ArrayString<29>
+    requires { length text.now ≤ 28 }
+    ensures { result.bytes ≡ text.now ++ codes "\n" }
+{
+    let mut line = ArrayString::new();
+    line.push_str(text);
+    line.push('\n');
+    line
+}

@@ -1,0 +1,31 @@
+//! The commands of `squitter` over its devices: what is written is a stated function of what is asked and read.
+//!
+//! [`answer`] does what is asked for, and answers how it ended. It knows no command line: what the words of one ask for
+//! is found in crates above.
+#![tactic(auto)]
+
+mod arguments;
+mod check;
+mod encode;
+mod local;
+mod pair;
+mod program;
+mod reports;
+mod show;
+mod status;
+
+pub use check::run_check;
+pub use program::answer;
+pub use reports::{break_off, report};
+pub use status::Status;
+
+#[cfg(test)]
+mod encode_tests;
+#[cfg(test)]
+mod local_tests;
+#[cfg(test)]
+mod pair_tests;
+#[cfg(test)]
+mod check_tests;
+#[cfg(test)]
+mod tests;

@@ -1,0 +1,47 @@
+//! The commands over the devices.
+ghost use Rattle.sq_requests.specs.Requests.{asked_by};
+ghost use Rattle.sq_commands.specs.Outputs.{effects, outputs};
+ghost use Rattle.sq_commands.specs.Runs.{IsRun};
+
+use crate::check::check;
+use crate::encode::encode;
+use crate::local::local;
+use crate::pair::pair;
+use crate::reports::report;
+use crate::show::show;
+use crate::status::Status;
+use sq_devices::{Sink, Source};
+use sq_requests::Request;
+use std::alloc::Global;
+
+/// Does what is asked for, and answers how it ended.
+///
+/// An answer goes to the output, a fault in one line to the sink for faults; what could not be written there changes no
+/// status. `show`, `encode`, `local` and `pair` leave the input alone.
+pub fn answer<S: Source, K: Sink, F: Sink>(
+    alloc: Global,
+    request: Request<'_>,
+    input: &mut S,
+    output: &mut K,
+    faults: &mut F,
+) -> Status
+    ensures { IsRun (asked_by request.entry) result
+        (effects S.Source input.old input.new (outputs K.Sink F.Sink output.old output.new faults.old faults.new)) }
+{
+    match request {
+        Request::Show { frame } => show(frame, output, faults),
+        Request::Encode(words) => encode(alloc, &words, output, faults),
+        Request::Local { frame, lat, lon } => local(frame, lat, lon, output, faults),
+        Request::Pair {
+            older,
+            newer,
+            lat,
+            lon,
+        } => pair(older, newer, lat, lon, output, faults),
+        Request::Check => check(input, output, faults),
+        Request::Track { .. } => {
+            report("not yet a command\n", faults);
+            Status::Misused
+        }
+    }
+}

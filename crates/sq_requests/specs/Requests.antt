@@ -1,0 +1,56 @@
+-- What is asked for: one of the commands, with the texts of its values.
+use Rattle.std.specs.Prelude.{ℕ, List, Option, codes, option_map}
+use Rattle.sq_requests.specs.declared.EncodeWords.{EncodeWords}
+use Rattle.sq_requests.specs.declared.Request.{Request}
+use Rattle.sq_requests.specs.declared.Request.TheVariants as variants
+
+abbrev pub Text : Type 0
+Text = List ℕ
+
+-- the values of `encode`
+pub record AskedEncode : Type 0 where
+  pub kind : Text
+  pub parity : Text
+  pub address : Text
+  pub feet : Option Text
+  pub lat : Text
+  pub lon : Text
+
+-- a command with its values, each as it was written; an option that was left out is `None`
+pub data Asked : Type 0 where
+  Show : (frame : Text) → Asked
+  Encode : AskedEncode → Asked
+  Local : (frame lat lon : Text) → Asked
+  Pair : (older newer : Text) (lat lon : Option Text) → Asked
+  Check : Asked
+  Track : (limit window lat lon : Option Text) → Asked
+
+-- the word that names the command
+abbrev pub command_name : Asked → Text
+command_name (Show frame) = codes "show"
+command_name (Encode e) = codes "encode"
+command_name (Local frame lat lon) = codes "local"
+command_name (Pair older newer lat lon) = codes "pair"
+command_name Check = codes "check"
+command_name (Track limit window lat lon) = codes "track"
+
+-- the values that a request of `encode` holds
+abbrev pub asked_encode : EncodeWords → AskedEncode
+asked_encode e = record {
+  kind = e.kind.now;
+  parity = e.parity.now;
+  address = e.address.now;
+  feet = option_map (λ s. s.now) e.feet;
+  lat = e.lat.now;
+  lon = e.lon.now;
+}
+
+-- what a request stands for
+abbrev pub asked_by : Request → Asked
+asked_by (variants.Show frame) = Show frame.now
+asked_by (variants.Encode e) = Encode (asked_encode e)
+asked_by (variants.Local frame lat lon) = Local frame.now lat.now lon.now
+asked_by (variants.Pair older newer lat lon) = Pair older.now newer.now (option_map (λ s. s.now) lat) (option_map (λ s. s.now) lon)
+asked_by variants.Check = Check
+asked_by (variants.Track limit window lat lon) =
+    Track (option_map (λ s. s.now) limit) (option_map (λ s. s.now) window) (option_map (λ s. s.now) lat) (option_map (λ s. s.now) lon)

@@ -1,0 +1,52 @@
+//! What a command line asks for: one of the commands with its values.
+#![tactic(auto)]
+
+/// The values of the command `encode`, each as it was written.
+#[derive(Clone, Copy, Debug)]
+pub struct EncodeWords<'a> {
+    /// `--kind`
+    pub kind: &'a str,
+    /// `--parity`
+    pub parity: &'a str,
+    /// `--address`
+    pub address: &'a str,
+    /// `--feet`, where it is given
+    pub feet: Option<&'a str>,
+    /// `--lat`
+    pub lat: &'a str,
+    /// `--lon`
+    pub lon: &'a str,
+}
+
+/// A command with its values, each as it was written. An option that is left out is `None`.
+#[derive(Clone, Copy, Debug)]
+pub enum Request<'a> {
+    /// `show FRAME`
+    Show {
+        frame: &'a str,
+    },
+    /// `encode --kind K --parity P --address A [--feet N] --lat LAT --lon LON`
+    Encode(EncodeWords<'a>),
+    /// `local FRAME --lat LAT --lon LON`
+    Local {
+        frame: &'a str,
+        lat: &'a str,
+        lon: &'a str,
+    },
+    /// `pair OLDER NEWER [--lat LAT] [--lon LON]`
+    Pair {
+        older: &'a str,
+        newer: &'a str,
+        lat: Option<&'a str>,
+        lon: Option<&'a str>,
+    },
+    /// `check`
+    Check,
+    /// `track [--limit N] [--window MS] [--lat LAT] [--lon LON]`
+    Track {
+        limit: Option<&'a str>,
+        window: Option<&'a str>,
+        lat: Option<&'a str>,
+        lon: Option<&'a str>,
+    },
+}
