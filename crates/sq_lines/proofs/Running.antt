@@ -55,27 +55,27 @@ starts stands_for way start sink run number cutter tally = record {
 
 -- from each past, the line was answered
 abbrev pub LineTold : {State Past Found : Type 0} → (State → Past → Type 0) → Answerer Past Found → (old new : LineRun) → (now next : State) → (a b : Option (List ℕ)) → List ℕ → Type 0
-LineTold {Past = Past} stands_for way old new now next a b line = (past : Past) → stands_for now past
+LineTold {Past = Past} stands_for way old new now next a b line = (past first : Past) → stands_for now past
     → stands_for next (way.after past line) × (new.tally ≡ noted old.tally (way.answer past line))
-    × Appends a b (answer_text way.text (old.number + 1) (way.answer past line))
+    × Appends a b (answer_text (way.text first) (old.number + 1) (way.answer past line))
 
 -- the same, with a front of the text
 abbrev pub LineToldPart : {State Past Found : Type 0} → (State → Past → Type 0) → Answerer Past Found → (old : LineRun) → (now next : State) → (a b : Option (List ℕ)) → List ℕ → Type 0
-LineToldPart {Past = Past} stands_for way old now next a b line = (past : Past) → stands_for now past
-    → stands_for next (way.after past line) × WroteFront a b (answer_text way.text (old.number + 1) (way.answer past line))
+LineToldPart {Past = Past} stands_for way old now next a b line = (past first : Past) → stands_for now past
+    → stands_for next (way.after past line) × WroteFront a b (answer_text (way.text first) (old.number + 1) (way.answer past line))
 
 module _ {State Past Found : Type 0} (stands_for : State → Past → Type 0) (way : Answerer Past Found) (start : State) (before a b : Option (List ℕ))
     (old new : LineRun) (now next : State) (read : List ℕ) (h : HasAnswered stands_for way start before old now a read) where
   output_through : (past : Past) (line : List ℕ)
-      → output_of way past h.lines ++ answer_text way.text (old.number + 1) (way.answer (past_after way past h.lines) line) ≡ output_of way past (h.lines ++ line ∷ [])
+      → output_of way past h.lines ++ answer_text (way.text past) (old.number + 1) (way.answer (past_after way past h.lines) line) ≡ output_of way past (h.lines ++ line ∷ [])
   output_through past line =
-      ap (λ (n : ℕ). output_of way past h.lines ++ answer_text way.text (n + 1) (way.answer (past_after way past h.lines) line)) h.number
+      ap (λ (n : ℕ). output_of way past h.lines ++ answer_text (way.text past) (n + 1) (way.answer (past_after way past h.lines) line)) h.number
       ∙ sym (output_push way past h.lines line)
 
   pub told_line : (line : List ℕ) → LineTold stands_for way old new now next a b line → HasTold stands_for way start next before b (h.lines ++ line ∷ [])
   told_line line more = λ past st.
       let told = h.told past st in
-      let one = more (past_after way past h.lines) told.0 in (
+      let one = more (past_after way past h.lines) past told.0 in (
         subst (stands_for next) (sym (past_push way past h.lines line)) one.0,
         subst (Appends before b) (output_through past line) (Appends-trans before a b _ _ told.1 one.2),
       )
@@ -83,13 +83,13 @@ module _ {State Past Found : Type 0} (stands_for : State → Past → Type 0) (w
   pub tally_line : (line : List ℕ) → LineTold stands_for way old new now next a b line
       → (past : Past) → stands_for start past → new.tally ≡ tally_of (answers_to way past (h.lines ++ line ∷ []))
   tally_line line more past st =
-      let one = more (past_after way past h.lines) (h.told past st).0 in
+      let one = more (past_after way past h.lines) past (h.told past st).0 in
       one.1 ∙ ap (λ t. noted t (way.answer (past_after way past h.lines) line)) (h.tally past st) ∙ sym (tally_push way past h.lines line)
 
   told_part : (line : List ℕ) → LineToldPart stands_for way old now next a b line → HasToldPart stands_for way start next before b (h.lines ++ line ∷ [])
   told_part line more = λ past st.
       let told = h.told past st in
-      let one = more (past_after way past h.lines) told.0 in
+      let one = more (past_after way past h.lines) past told.0 in
       let front = one.1 in
       let done = output_of way past h.lines in (
         subst (stands_for next) (sym (past_push way past h.lines line)) one.0,
@@ -103,8 +103,8 @@ module _ {State Past Found : Type 0} (stands_for : State → Past → Type 0) (w
 
   -- the line was not answered, or not all of its text was written
   pub stopped_line : (line : List ℕ) (complete : List (List ℕ)) (fault : Unanswered) → (fault ≡ Memory → (next ≡ now) × (b ≡ a))
-      → ((past : Past) → stands_for now past → fault ≡ Write
-      → stands_for next (way.after past line) × WroteFront a b (answer_text way.text (old.number + 1) (way.answer past line)))
+      → ((past first : Past) → stands_for now past → fault ≡ Write
+      → stands_for next (way.after past line) × WroteFront a b (answer_text (way.text first) (old.number + 1) (way.answer past line)))
       → IsPrefixOf (h.lines ++ line ∷ []) complete → StoppedIn fault stands_for way start next before b complete
   stopped_line line complete Memory memory part first =
       let same = memory refl in (
@@ -116,11 +116,11 @@ module _ {State Past Found : Type 0} (stands_for : State → Past → Type 0) (w
               subst (λ (w : Option (List ℕ)). Appends before w (output_of way past h.lines)) (sym same.1) told.1,
             ),
       )
-  stopped_line line complete Write memory part first = (h.lines ++ line ∷ [], first, told_part line (λ past st. part past st refl))
+  stopped_line line complete Write memory part first = (h.lines ++ line ∷ [], first, told_part line (λ past first st. part past first st refl))
 
   pub stopped_result : (line : List ℕ) (complete : List (List ℕ)) (result : Result (Unit {0}) Unanswered) → IfErr result (λ fault. fault ≡ Memory → (next ≡ now) × (b ≡ a))
-      → ((past : Past) → stands_for now past → IfErr result (λ fault. fault ≡ Write
-      → stands_for next (way.after past line) × WroteFront a b (answer_text way.text (old.number + 1) (way.answer past line))))
+      → ((past first : Past) → stands_for now past → IfErr result (λ fault. fault ≡ Write
+      → stands_for next (way.after past line) × WroteFront a b (answer_text (way.text first) (old.number + 1) (way.answer past line))))
       → IsPrefixOf (h.lines ++ line ∷ []) complete → IfErr result (λ fault. StoppedIn fault stands_for way start next before b complete)
   stopped_result line complete (Ok u) memory part first = tt
   stopped_result line complete (Err fault) memory part first = stopped_line line complete fault memory part first
@@ -208,9 +208,9 @@ module _ {State Past Found : Type 0} {stands_for : State → Past → Type 0} {w
       )
 
   pub finished_line : (new : LineRun) (next : State) (b : Option (List ℕ)) (result : Result (Unit {0}) Unanswered) → 0 < length h.rest
-      → ((past : Past) → stands_for now past → OnOk result (
+      → ((past first : Past) → stands_for now past → OnOk result (
       stands_for next (way.after past h.rest) × (new.tally ≡ noted old.tally (way.answer past h.rest))
-      × Appends a b (answer_text way.text (old.number + 1) (way.answer past h.rest))))
+      × Appends a b (answer_text (way.text first) (old.number + 1) (way.answer past h.rest))))
       → OnOk result (HasTold stands_for way start next before b (lines_of read)
       × ((past : Past) → stands_for start past → new.tally ≡ tally_of (answers_to way past (lines_of read))))
   finished_line new next b (Err fault) some more = tt

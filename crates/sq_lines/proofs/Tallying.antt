@@ -32,14 +32,14 @@ enumerate_from_append n (x ∷ xs) ys =
     ap (λ l. (n, x) ∷ l) (enumerate_from_append (n + 1) xs ys ∙ ap (λ (k : ℕ). enumerate_from (n + 1) xs ++ enumerate_from k ys) e)
 
 -- the texts of answers that are numbered from here
-abbrev texts_from : {Past Found : Type 0} → Answerer Past Found → ℕ → List (Answer Found) → List ℕ
-texts_from way n answers = flat_map (λ entry. answer_text way.text entry.0 entry.1) (enumerate_from n answers)
+abbrev texts_from : {Past Found : Type 0} → Answerer Past Found → Past → ℕ → List (Answer Found) → List ℕ
+texts_from way first n answers = flat_map (λ entry. answer_text (way.text first) entry.0 entry.1) (enumerate_from n answers)
 
 output_append : {Past Found : Type 0} (way : Answerer Past Found) (past : Past) (xs ys : List (List ℕ))
-    → output_of way past (xs ++ ys) ≡ output_of way past xs ++ texts_from way (length xs + 1) (answers_to way (past_after way past xs) ys)
+    → output_of way past (xs ++ ys) ≡ output_of way past xs ++ texts_from way past (length xs + 1) (answers_to way (past_after way past xs) ys)
 unfolding texts_of
 output_append {Found = Found} way past xs ys =
-    let text : ℕ × Answer Found → List ℕ = λ entry. answer_text way.text entry.0 entry.1 in
+    let text : ℕ × Answer Found → List ℕ = λ entry. answer_text (way.text past) entry.0 entry.1 in
     let first = answers_to way past xs in
     let more = answers_to way (past_after way past xs) ys in
     let e : 1 + length first ≡ length xs + 1 = omega (arith, length_answers way past xs) in
@@ -49,16 +49,16 @@ output_append {Found = Found} way past xs ys =
     ∙ ap (λ (n : ℕ). flat_map text (enumerate_from 1 first) ++ flat_map text (enumerate_from n more)) e
 
 pub output_push : {Past Found : Type 0} (way : Answerer Past Found) (past : Past) (lines : List (List ℕ)) (line : List ℕ)
-    → output_of way past (lines ++ line ∷ []) ≡ output_of way past lines ++ answer_text way.text (length lines + 1) (way.answer (past_after way past lines) line)
+    → output_of way past (lines ++ line ∷ []) ≡ output_of way past lines ++ answer_text (way.text past) (length lines + 1) (way.answer (past_after way past lines) line)
 output_push way past lines line =
     output_append way past lines (line ∷ [])
-    ∙ ap (λ l. output_of way past lines ++ l) (append-nil (answer_text way.text (length lines + 1) (way.answer (past_after way past lines) line)))
+    ∙ ap (λ l. output_of way past lines ++ l) (append-nil (answer_text (way.text past) (length lines + 1) (way.answer (past_after way past lines) line)))
 
 -- more lines leave the output for the first ones as it is
 pub output_prefix : {Past Found : Type 0} (way : Answerer Past Found) (past : Past) (lines more : List (List ℕ)) → IsPrefixOf lines more
     → IsPrefixOf (output_of way past lines) (output_of way past more)
 output_prefix way past lines more first = (
-  texts_from way (length lines + 1) (answers_to way (past_after way past lines) first.0),
+  texts_from way past (length lines + 1) (answers_to way (past_after way past lines) first.0),
   ap (output_of way past) first.1 ∙ output_append way past lines first.0,
 )
 

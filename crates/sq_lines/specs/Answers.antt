@@ -6,11 +6,12 @@ use Rattle.sq_text.specs.Faults.{fault_text}
 use Rattle.sq_lines.specs.Content.{Answer}
 use Rattle.sq_lines.specs.declared.tallies.Tally.{Tally}
 
--- how lines are answered: the answer to a line by the past, the past after it, and the text of what was found
+-- how lines are answered: the answer to a line by the past, the past after it, and the text of what was found; any past may
+-- say how that is spelled
 pub record Answerer (Past Found : Type 0) : Type 0 where
   pub answer : Past → List ℕ → Answer Found
   pub after : Past → List ℕ → Past
-  pub text : Found → List ℕ
+  pub text : Past → Found → List ℕ
 
 -- the past after these lines
 abbrev pub past_after : {Past Found : Type 0} → Answerer Past Found → Past → List (List ℕ) → Past
@@ -38,7 +39,7 @@ texts_of text answers = flat_map (λ entry. answer_text text entry.0 entry.1) (e
 
 -- the output for these lines
 abbrev pub output_of : {Past Found : Type 0} → Answerer Past Found → Past → List (List ℕ) → List ℕ
-output_of way past lines = texts_of way.text (answers_to way past lines)
+output_of way past lines = texts_of (way.text past) (answers_to way past lines)
 
 abbrev pub is_good : {Found : Type 0} → Answer Found → Bool
 is_good (Some (Ok found)) = true

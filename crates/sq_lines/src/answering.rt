@@ -42,10 +42,10 @@ pub trait Answering {
         ensures unheard { OnErr result (state.new ≡ state.old) }
         ensures memory { OnErr result MayWantMemory };
 
-    /// Appends the text of what was found, of at most 72 bytes.
+    /// Appends the text of what was found, of at most 72 bytes: the same by every past.
     fn push_text(found: Self::Found, text: &mut LineText)
         requires { array_string_len text.old ≤ 21 }
-        ensures bytes { text.new.bytes ≡ text.old.bytes ++ way.text found }
+        ensures bytes { (past : Self.Past) → text.new.bytes ≡ text.old.bytes ++ way.text past found }
         ensures len { array_string_len text.new ≤ array_string_len text.old + 72 };
 }
 
@@ -56,7 +56,7 @@ pub(crate) fn push_answer<A: Answering>(
     verdict: Result<A::Found, LineFault>,
 )
     requires { text.old.bytes ≡ [] }
-    ensures { text.new.bytes ≡ answer_text A.way.text number (Some verdict) }
+    ensures { (past : A.Past) → text.new.bytes ≡ answer_text (A.way.text past) number (Some verdict) }
 {
     push_decimal(text, number);
     text.push(' ');
@@ -67,7 +67,7 @@ pub(crate) fn push_answer<A: Answering>(
 // Appends the text of what was found, or of the fault.
 fn push_verdict<A: Answering>(verdict: Result<A::Found, LineFault>, text: &mut LineText)
     requires { array_string_len text.old ≤ 21 }
-    ensures bytes { text.new.bytes ≡ text.old.bytes ++ verdict_text A.way.text verdict }
+    ensures bytes { (past : A.Past) → text.new.bytes ≡ text.old.bytes ++ verdict_text (A.way.text past) verdict }
     ensures len { array_string_len text.new ≤ array_string_len text.old + 72 }
 {
     match verdict {

@@ -50,14 +50,14 @@ impl LineRun {
         requires { self.old.number + 1 < 2 ^ 64 }
         ensures number { self.new.number ≡ self.old.number + 1 }
         ensures cutter { self.new.cutter ≡ self.old.cutter }
-        ensures answered { (line : List ℕ) (past : A.Past) → Holds self.old.cutter line → A.stands_for state.old past → OnOk result (
+        ensures answered { (line : List ℕ) (past first : A.Past) → Holds self.old.cutter line → A.stands_for state.old past → OnOk result (
             A.stands_for state.new (A.way.after past line) × (self.new.tally ≡ noted self.old.tally (A.way.answer past line))
-            × Appends (K.written sink.old) (K.written sink.new) (answer_text A.way.text (self.old.number + 1) (A.way.answer past line))) }
+            × Appends (K.written sink.old) (K.written sink.new) (answer_text (A.way.text first) (self.old.number + 1) (A.way.answer past line))) }
         ensures memory { IfErr result (λ fault. fault ≡ Unanswered.Memory → (state.new ≡ state.old) × (K.written sink.new ≡ K.written sink.old)) }
         ensures wanting { IfErr result (λ fault. fault ≡ Unanswered.Memory → A.MayWantMemory) }
-        ensures part { (line : List ℕ) (past : A.Past) → Holds self.old.cutter line → A.stands_for state.old past → IfErr result (λ fault. fault ≡ Unanswered.Write →
+        ensures part { (line : List ℕ) (past first : A.Past) → Holds self.old.cutter line → A.stands_for state.old past → IfErr result (λ fault. fault ≡ Unanswered.Write →
             A.stands_for state.new (A.way.after past line)
-            × WroteFront (K.written sink.old) (K.written sink.new) (answer_text A.way.text (self.old.number + 1) (A.way.answer past line))) }
+            × WroteFront (K.written sink.old) (K.written sink.new) (answer_text (A.way.text first) (self.old.number + 1) (A.way.answer past line))) }
         ensures failed { IfErr result (λ fault. fault ≡ Unanswered.Write → K.has_failed sink.new ≡ true) }
     {
         self.number += 1;

@@ -5,3 +5,5 @@ pub mod SomeReading
 pub mod Places
 pub mod DigitLemmas
 pub mod DigitTexts
+pub mod Moments
+pub mod TimedReadings

@@ -7,6 +7,8 @@ ghost use Rattle.sq_text.specs.declared.frame_text.TextFault.{TextFault};
 ghost use Rattle.sq_text.specs.FrameText.{IsAnswer};
 ghost use Rattle.sq_text.specs.Reading.{IsSquitterReading, SquitterReader};
 ghost use Rattle.sq_text.specs.Show.{IsShown};
+ghost use Rattle.sq_text.specs.Timed.{IsTimedReading, TimedReader};
+ghost use Rattle.sq_text.specs.declared.timed.TimedSquitter.{TimedSquitter};
 
 /// A text has one answer of `read_text`.
 pub fn one_answer()
@@ -21,6 +23,16 @@ pub fn one_squitter_reading()
 /// There is a function that reads every text as a squitter.
 pub fn some_reader()
     ensures { SquitterReader }
+{}
+
+/// A text has one reading as a squitter with its moment.
+pub fn one_timed_reading()
+    ensures { (text : List ℕ) (r s : Result TimedSquitter LineFault) → IsTimedReading text r → IsTimedReading text s → r ≡ s }
+{}
+
+/// There is a function that reads every text as a squitter with its moment.
+pub fn some_timed_reader()
+    ensures { TimedReader }
 {}
 
 /// A squitter is shown as one text.

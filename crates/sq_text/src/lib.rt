@@ -14,6 +14,7 @@ mod place_faults;
 mod reading;
 mod show;
 mod summary;
+mod timed;
 
 pub use digits::{push_decimal, push_hexadecimal};
 pub use faults::{LineFault, push_fault};
@@ -24,8 +25,11 @@ pub use reading::read_squitter;
 pub use show::{ShowText, show_text};
 pub use sq_message::{Frame, PlaceFault, Position, Squitter};
 pub use summary::push_summary;
+pub use timed::{TimedSquitter, read_timed};
 
 #[cfg(test)]
 mod place_fault_tests;
 #[cfg(test)]
 mod tests;
+#[cfg(test)]
+mod timed_tests;

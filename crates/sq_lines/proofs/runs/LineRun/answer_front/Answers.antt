@@ -16,7 +16,7 @@ returns-in_err-answer_line-clause-stopped g c = λ start before read h.
     let p = err_from_is_err_and c.from_residual.result c.from_residual.ensures.1 in
     rw (p.1, p.2) (stopped_line g.A.Answering.stands_for g.A.Answering.way start before _ _ c.args.self.now c.answer_line.new.self c.args.state.now c.answer_line.new.state read h
     (line_in h piece) _ _ c.in_err-answer_line.ensures.memory
-    (λ past st. c.in_err-answer_line.ensures.part (line_in h piece) past holds st)
+    (λ past first st. c.in_err-answer_line.ensures.part (line_in h piece) past first holds st)
     (prefix_through h piece there))
 
 pub returns-in_ok-answer_line-clause-answered : goal.returns-in_ok-answer_line-clause-answered
@@ -29,7 +29,7 @@ returns-in_ok-answer_line-clause-answered g c = λ start before read h.
     c.take_marked-count.ensures.count ∙ ap (λ b. cond b (position_or_len is_feed piece + 1) (length piece)) feed in
     rw count (answered_feed h _ _ _ piece there c.in_ok-answer_line.ensures.number
     (ap (λ held. held.is_complete) c.answer_line.ensures.cutter ∙ c.take_marked-count.ensures.noted ∙ feed)
-    (λ past st. c.in_ok-answer_line.ensures.answered (line_in h piece) past holds st))
+    (λ past first st. c.in_ok-answer_line.ensures.answered (line_in h piece) past first holds st))
 
 pub returns-else-is_complete-clause-answered : goal.returns-else-is_complete-clause-answered
 returns-else-is_complete-clause-answered g c = λ start before read h.

@@ -1,0 +1,123 @@
+-- Each text has one reading as a squitter with its moment.
+use Rattle.std.proofs.Common.{◌≡◌, ◌+◌, ◌<◌, ◌≤◌, ◌^◌, ◌++◌, ◌∙◌, ◌⊎◌, ℕ, List, [], ◌∷◌, Result, Ok, Err, length, refl, sym, ap, ap₂, subst, inl, inr, arith}
+use Rattle.std.proofs.lemmas.Bool.{cases_eq, cases_lt}
+use Rattle.std.specs.Char.{IsAsciiDigit}
+use Rattle.std.specs.List.{AllByRecursion}
+use Rattle.std.specs.Str.Parse.{digits_value}
+use Rattle.sq_message.specs.declared.squitter.Squitter.{Squitter}
+use Rattle.sq_text.specs.declared.faults.LineFault.{LineFault}
+use Rattle.sq_text.specs.declared.faults.LineFault.TheVariants.{Moment}
+use Rattle.sq_text.specs.declared.timed.TimedSquitter.{TimedSquitter}
+use Rattle.sq_text.specs.Reading.{IsSquitterReading}
+use Rattle.sq_text.specs.Timed.{HasNoMoment, IsMomentLine, IsMomentText, IsTimedReading}
+use Rattle.sq_text.proofs.Moments.{HasNoSpace, digits_without_space, no_front, one_front}
+use Rattle.sq_text.proofs.OneReading.{one_squitter_reading}
+use Rattle.sq_text.proofs.SomeReading.{some_squitter_reading}
+
+-- a text has one moment, and one rest after it
+one_line : (text rest more : List ℕ) (m n : ℕ) → IsMomentLine text rest m → IsMomentLine text more n → (m ≡ n) × (rest ≡ more)
+one_line text rest more m n x y =
+    let same = one_front x.digits y.digits rest more (digits_without_space x.digits x.of_moment.each) (digits_without_space y.digits y.of_moment.each)
+    (sym x.whole ∙ y.whole) in
+    (x.of_moment.value ∙ ap (λ ds. digits_value 10 ds) same.0 ∙ sym y.of_moment.value, same.1)
+
+-- what is read of the rest, with the moment
+abbrev with_moment : ℕ → Result Squitter LineFault → Result TimedSquitter LineFault
+with_moment moment (Ok squitter) = Ok (record { moment = moment; squitter = squitter })
+with_moment moment (Err fault) = Err fault
+
+-- a text with a moment is read as its rest is
+of_rest : (text rest : List ℕ) (m : ℕ) → IsMomentLine text rest m → (answer : Result TimedSquitter LineFault) → IsTimedReading text answer
+    → (reading : Result Squitter LineFault) × IsSquitterReading rest reading × (answer ≡ with_moment m reading)
+of_rest text rest m line (Ok timed) (more, here, spelled) =
+    let same = one_line text rest more m timed.moment line here in
+    let moment : ℕ → TimedSquitter = λ n. record { moment = n; squitter = timed.squitter } in (
+      Ok timed.squitter,
+      subst (λ (r : List ℕ). IsSquitterReading r (Ok timed.squitter)) (sym same.1) spelled,
+      ap (λ n. Ok (moment n)) (sym same.0),
+    )
+of_rest text rest m line (Err fault) (inl (is, none)) = absurd (none rest m line)
+of_rest text rest m line (Err fault) (inr (more, n, here, why)) =
+    let same = one_line text rest more m n line here in
+    (Err fault, subst (λ (r : List ℕ). IsSquitterReading r (Err fault)) (sym same.1) why, refl)
+
+-- a text without a moment has that fault
+of_none : (text : List ℕ) → HasNoMoment text → (answer : Result TimedSquitter LineFault) → IsTimedReading text answer → answer ≡ Err Moment
+of_none text none (Ok timed) (rest, line, spelled) = absurd (none rest timed.moment line)
+of_none text none (Err fault) (inl (is, why)) = ap Err is
+of_none text none (Err fault) (inr (rest, m, line, why)) = absurd (none rest m line)
+
+-- ---- there is one
+
+-- a text has a first space or none
+first_space : (text : List ℕ) → ((front : List ℕ) × (rest : List ℕ) × HasNoSpace front × (text ≡ front ++ 32 ∷ rest)) ⊎ HasNoSpace text
+first_space [] = inr tt
+first_space (c ∷ text) = elim (cases_eq c 32) [
+  | inl space ↦ inl ([], text, tt, ap (λ x. x ∷ text) space)
+  | inr other ↦ elim (first_space text) [
+    | inl (front, rest, none, is) ↦ inl (c ∷ front, rest, (other, none), ap (λ l. c ∷ l) is)
+    | inr none ↦ inr (other, none)
+  ]
+]
+
+-- all bytes are digits or not
+are_digits : (bytes : List ℕ) → AllByRecursion IsAsciiDigit bytes ⊎ (¬ AllByRecursion IsAsciiDigit bytes)
+are_digits [] = inl tt
+are_digits (c ∷ bytes) = elim (cases_lt c 48) [
+  | inl low ↦ inr (λ all. absurd (omega (arith, low, all.0)))
+  | inr enough ↦ elim (cases_lt 57 c) [
+    | inl high ↦ inr (λ all. absurd (omega (arith, high, all.0)))
+    | inr small ↦ elim (are_digits bytes) [
+      | inl all ↦ inl ((omega (arith, enough), omega (arith, small)), all)
+      | inr other ↦ inr (λ all. other all.1)
+    ]
+  ]
+]
+
+-- digits are a moment or none
+is_moment : (digits : List ℕ) → ((moment : ℕ) × IsMomentText digits moment) ⊎ ((moment : ℕ) → ¬ IsMomentText digits moment)
+is_moment digits = elim (cases_lt 0 (length digits)) [
+  | inr none ↦ inr (λ m is. absurd (omega (arith, none, is.some)))
+  | inl some ↦ elim (cases_lt 20 (length digits)) [
+    | inl long ↦ inr (λ m is. absurd (omega (arith, long, is.twenty)))
+    | inr short ↦ elim (are_digits digits) [
+      | inr other ↦ inr (λ m is. other is.each)
+      | inl each ↦ elim (cases_lt (digits_value 10 digits) (2 ^ 64)) [
+        | inr large ↦ inr (λ m is. absurd (omega (arith, large, is.small, is.value)))
+        | inl small ↦ inl (digits_value 10 digits, record { some = omega (arith, some); twenty = omega (arith, short); each = each; value = refl; small = small })
+      ]
+    ]
+  ]
+]
+
+-- a text has a moment or none
+has_moment : (text : List ℕ) → ((rest : List ℕ) × (moment : ℕ) × IsMomentLine text rest moment) ⊎ HasNoMoment text
+has_moment text = elim (first_space text) [
+  | inr none ↦ inr (λ rest m line. no_front text line.digits rest none line.whole)
+  | inl (front, rest, free, is) ↦ elim (is_moment front) [
+    | inl (m, moment) ↦ inl (rest, m, record { digits = front; of_moment = moment; whole = is })
+    | inr other ↦ inr (λ more m line.
+        let same = one_front line.digits front more rest (digits_without_space line.digits line.of_moment.each) free (sym line.whole ∙ is) in
+        other m (subst (λ ds. IsMomentText ds m) same.0 line.of_moment))
+  ]
+]
+
+read_rest : (text rest : List ℕ) (m : ℕ) → IsMomentLine text rest m → (reading : Result Squitter LineFault) → IsSquitterReading rest reading
+    → (answer : Result TimedSquitter LineFault) × IsTimedReading text answer
+read_rest text rest m line (Ok squitter) is = (Ok (record { moment = m; squitter = squitter }), (rest, line, is))
+read_rest text rest m line (Err fault) is = (Err fault, inr (rest, m, line, is))
+
+pub some_timed_reading : (text : List ℕ) → (answer : Result TimedSquitter LineFault) × IsTimedReading text answer
+some_timed_reading text = elim (has_moment text) [
+  | inl (rest, m, line) ↦ let reading = some_squitter_reading rest in read_rest text rest m line reading.0 reading.1
+  | inr none ↦ (Err Moment, inl (refl, none))
+]
+
+pub one_timed_reading : (text : List ℕ) (a b : Result TimedSquitter LineFault) → IsTimedReading text a → IsTimedReading text b → a ≡ b
+one_timed_reading text a b x y = elim (has_moment text) [
+  | inl (rest, m, line) ↦
+      let first = of_rest text rest m line a x in
+      let second = of_rest text rest m line b y in
+      first.2 ∙ ap (with_moment m) (one_squitter_reading rest first.0 second.0 first.1 second.1) ∙ sym second.2
+  | inr none ↦ of_none text none a x ∙ sym (of_none text none b y)
+]

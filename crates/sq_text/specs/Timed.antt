@@ -1,0 +1,45 @@
+-- A squitter with its moment, as a line of a log has it.
+use Rattle.std.specs.Prelude.{◌≡◌, ◌≤◌, ◌<◌, ◌^◌, ◌++◌, ◌∷◌, ◌⊎◌, ℕ, List, Result, MatchResult, length}
+use Rattle.std.specs.Char.{IsAsciiDigit}
+use Rattle.std.specs.List.{AllByRecursion}
+use Rattle.std.specs.Str.Parse.{digits_value}
+use Rattle.sq_text.specs.declared.faults.LineFault.{LineFault}
+use Rattle.sq_text.specs.declared.faults.LineFault.TheVariants.{Moment}
+use Rattle.sq_text.specs.declared.timed.TimedSquitter.{TimedSquitter}
+use Rattle.sq_text.specs.Reading.{IsSquitterText, IsSquitterFault}
+
+-- a moment: 1 to 20 decimal digits, of a number below 2^64
+pub record IsMomentText (digits : List ℕ) (moment : ℕ) : Type 0 where
+  pub some : 1 ≤ length digits
+  pub twenty : length digits ≤ 20
+  pub each : AllByRecursion IsAsciiDigit digits
+  pub value : moment ≡ digits_value 10 digits
+  pub small : moment < 2 ^ 64
+
+-- a moment, one space, and a rest
+pub record IsMomentLine (text rest : List ℕ) (moment : ℕ) : Type 0 where
+  pub digits : List ℕ
+  pub of_moment : IsMomentText digits moment
+  pub whole : text ≡ digits ++ 32 ∷ rest
+
+-- a moment, one space, and the text of a frame that spells the squitter
+abbrev pub IsTimedText : List ℕ → TimedSquitter → Type 0
+IsTimedText text timed = (rest : List ℕ) × IsMomentLine text rest timed.moment × IsSquitterText rest timed.squitter
+
+-- no space, or no moment before the first one
+abbrev pub HasNoMoment : List ℕ → Type 0
+HasNoMoment text = (rest : List ℕ) (moment : ℕ) → ¬ IsMomentLine text rest moment
+
+-- why a text is none of a squitter with its moment: there is no moment, or what follows it spells no squitter
+abbrev pub IsTimedFault : List ℕ → LineFault → Type 0
+IsTimedFault text fault = ((fault ≡ Moment) × HasNoMoment text)
+    ⊎ ((rest : List ℕ) × (moment : ℕ) × IsMomentLine text rest moment × IsSquitterFault rest fault)
+
+-- what is read of a text
+abbrev pub IsTimedReading : List ℕ → Result TimedSquitter LineFault → Type 0
+IsTimedReading text answer = MatchResult answer (IsTimedText text) (IsTimedFault text)
+
+-- a function that reads every text: there is one, and no two differ at a text
+pub record TimedReader : Type 0 where
+  pub read : List ℕ → Result TimedSquitter LineFault
+  pub reads : (text : List ℕ) → IsTimedReading text (read text)

@@ -1,0 +1,95 @@
+//! Squitters with their moments.
+ghost use Rattle.std.specs.Prelude.{◌≡◌, ◌≤◌, ◌∷◌, ◌++◌, ◌↔◌, ◌^◌, ◌<◌, ℕ, List, IsTrue, IfSome, IfNone, length};
+ghost use Rattle.std.specs.Char.{IsAsciiDigit};
+ghost use Rattle.std.specs.List.{AllByRecursion};
+ghost use Rattle.std.specs.Str.Parse.{digits_value};
+ghost use Rattle.sq_text.specs.Timed.{HasNoMoment, IsMomentLine, IsMomentText, IsTimedReading};
+
+use crate::faults::LineFault;
+use crate::reading::read_squitter;
+use sq_message::Squitter;
+
+/// A squitter, and the moment in milliseconds at which it was heard.
+#[derive(Clone, Copy, Debug, PartialEq, Eq)]
+pub struct TimedSquitter {
+    pub moment: u64,
+    pub squitter: Squitter,
+}
+
+// The most digits of a moment.
+const DIGITS: usize = 20;
+
+/// Reads a moment of 1 to 20 decimal digits, below 2^64, one space, and a frame text.
+///
+/// `Moment` comes where there is no space, or what stands before the first one is no moment; then the faults of the frame
+/// text and of its frame, as in `read_squitter`.
+pub fn read_timed(text: &[u8]) -> Result<TimedSquitter, LineFault>
+    ensures { IsTimedReading text.now result }
+{
+    match split_moment(text) {
+        Some((moment, rest)) => {
+            let squitter = read_squitter(rest)?;
+            Ok(TimedSquitter { moment, squitter })
+        }
+        None => Err(LineFault::Moment),
+    }
+}
+
+// The moment at the front of the text, and what follows the space after it.
+fn split_moment(text: &[u8]) -> Option<(u64, &[u8])>
+    ensures some { IfSome result (λ parts. IsMomentLine text.now parts.1.now parts.0) }
+    ensures none { IfNone result (HasNoMoment text.now) }
+{
+    match split_at_space(text) {
+        Some((digits, rest)) => match moment_of(digits) {
+            Some(moment) => Some((moment, rest)),
+            None => None,
+        },
+        None => None,
+    }
+}
+
+// What stands before the first space, and after it.
+fn split_at_space(text: &[u8]) -> Option<(&[u8], &[u8])>
+    ensures some { IfSome result (λ parts. text.now ≡ parts.0.now ++ 32 ∷ parts.1.now) }
+    ensures first { IfSome result (λ parts. AllByRecursion (λ byte. ¬ (byte ≡ 32)) parts.0.now) }
+    ensures none { IfNone result (AllByRecursion (λ byte. ¬ (byte ≡ 32)) text.now) }
+{
+    let at = text.iter().position(|&byte| byte == b' ')?;
+    Some((&text[..at], &text[at + 1..]))
+}
+
+// The number that the digits write.
+fn moment_of(digits: &[u8]) -> Option<u64>
+    ensures some { IfSome result (IsMomentText digits.now) }
+    ensures none { IfNone result ((moment : ℕ) → ¬ IsMomentText digits.now moment) }
+{
+    if digits.is_empty() || digits.len() > DIGITS || !are_digits(digits) {
+        return None;
+    }
+    let value = value_of(digits);
+    if value > u128::from(u64::MAX) {
+        return None;
+    }
+    Some(value as u64)
+}
+
+// Whether each byte is an ASCII digit.
+fn are_digits(bytes: &[u8]) -> bool
+    ensures { IsTrue result ↔ AllByRecursion IsAsciiDigit bytes.now }
+{
+    bytes.iter().all(|byte| byte.is_ascii_digit())
+}
+
+// The number that at most twenty digits write.
+fn value_of(digits: &[u8]) -> u128
+    requires digits { AllByRecursion IsAsciiDigit digits.now }
+    requires short { length digits.now ≤ 20 }
+    ensures { result ≡ digits_value 10 digits.now }
+{
+    let mut value: u128 = 0;
+    for &digit in digits {
+        value = value * 10 + u128::from(digit - b'0');
+    }
+    value
+}
