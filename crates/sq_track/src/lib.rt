@@ -21,4 +21,10 @@ pub use sq_message::{Place, Position, Squitter};
 pub use tracker::Tracker;
 
 #[cfg(test)]
+mod memory_tests;
+#[cfg(test)]
+mod random_tests;
+#[cfg(test)]
+mod table_tests;
+#[cfg(test)]
 mod tests;
