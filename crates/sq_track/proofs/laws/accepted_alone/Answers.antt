@@ -1,0 +1,5 @@
+use Rattle.sq_track.proofs.OneAddress.{accepted_alone as the_law}
+use Rattle.sq_track.proofs.laws.accepted_alone.Goals as goal
+
+pub returns : goal.returns
+returns c = the_law

@@ -1,0 +1,149 @@
+use Rattle.std.proofs.Common.{◌≡◌, ◌∙◌, leb, eqb, ◌∷◌, ◌++◌, [], length, filter, find, Option, None, Ok, Err, Some, unwrap_or, sym, ap, subst}
+use Rattle.std.proofs.lemmas.Bool.{false≢true}
+use Rattle.std.specs.Map.{lookup}
+use Rattle.sq_angle.specs.declared.position.Position.{Position}
+use Rattle.sq_message.specs.Parts.{squitter_parts}
+use Rattle.sq_track.specs.declared.contact.Contact.{Contact}
+use Rattle.sq_track.specs.declared.heard.Heard.TheVariants.{NotPosition}
+use Rattle.sq_track.specs.declared.heard.TrackFault.TheVariants.{Memory, Full}
+use Rattle.sq_track.specs.History.{History}
+use Rattle.sq_track.specs.Answers.{IsHeard}
+use Rattle.sq_track.specs.Replies.{IsReply}
+use Rattle.sq_track.specs.Kept.{Remembers}
+use Rattle.sq_track.specs.Entries.{fresh_entry, IsOrdered, IsSound}
+use Rattle.sq_track.specs.Ordered.{others_in, blank_contact}
+use Rattle.sq_track.specs.Held.{Held, StandsFor, settings, present_of}
+use Rattle.sq_track.specs.contracts.tracker.Tracker.{the_view}
+use Rattle.sq_track.proofs.EntryLemmas.{Entries, is_shown, find-entries}
+use Rattle.sq_track.proofs.StandsForLemmas.{in_time_of, full_is, not_full, silent_is, heard_silent, stands_silent, stands_position, put_is, ordered_put, sound_put, sound_silent, position_of, silent_of, moment_after, within_after}
+use Rattle.sq_track.proofs.tracker.Tracker.hear.Goals as goal
+
+pub invariant_of-self : goal.invariant_of-self
+invariant_of-self c =
+    let t : Held = the_view c.self.inside in
+    subst (IsSound t.limit (Some c.args.moment)) (sym c.drop_stale.ensures) (sound_silent t c.args.moment c.args.squitter.now NotPosition c.in_ok-check_moment.ensures.ok c.self.invariant)
+
+pub returns-then-not-is_position-clause-reply : goal.returns-then-not-is_position-clause-reply
+returns-then-not-is_position-clause-reply c =
+    let t : Held = the_view c.self.inside in
+    let m = c.args.moment in
+    let q = c.args.squitter.now in
+    let silent = silent_of (squitter_parts q).me (λ p. false≢true (sym c.if-not-is_position.true ∙ c.is_position.ensures.1 p)) in
+    subst (λ (v : Held). (h : History) → StandsFor v h → IsReply (settings v) h m q (Ok NotPosition)) c.self.view_is
+    (λ h st. let in_time = in_time_of t h m st c.in_ok-check_moment.ensures.ok in (silent_is t h m q in_time silent, heard_silent t h m q st in_time silent))
+
+pub returns-then-not-is_position-clause-ok : goal.returns-then-not-is_position-clause-ok
+returns-then-not-is_position-clause-ok c =
+    let t : Held = the_view c.self.inside in
+    let m = c.args.moment in
+    let q = c.args.squitter.now in
+    let le = c.in_ok-check_moment.ensures.ok in
+    let silent = silent_of (squitter_parts q).me (λ p. false≢true (sym c.if-not-is_position.true ∙ c.is_position.ensures.1 p)) in
+    subst (λ (v : Held). (h : History) → StandsFor v h
+    → StandsFor (record { limit = t.limit; window = t.window; site = t.site; last = Some m; contacts = c.drop_stale.new.contacts }) (record { moment = m; squitter = q; heard = NotPosition } ∷ h)) c.self.view_is
+    (λ h st.
+    let in_time = in_time_of t h m st le in
+    subst (λ (es : Entries). StandsFor (record { limit = t.limit; window = t.window; site = t.site; last = Some m; contacts = es }) (record { moment = m; squitter = q; heard = NotPosition } ∷ h)) (sym c.drop_stale.ensures)
+    (stands_silent t m q NotPosition h st le silent c.len-len.ensures.unique c.self.invariant.within (silent_is t h m q in_time silent, heard_silent t h m q st in_time silent)))
+
+pub returns-then-is_full-clause-reply : goal.returns-then-is_full-clause-reply
+returns-then-is_full-clause-reply c =
+    let t : Held = the_view c.self.inside in
+    let m = c.args.moment in
+    let q = c.args.squitter.now in
+    let here = position_of (squitter_parts q).me (c.is_position.ensures.0 c.if-not-is_position.false) in
+    let full = subst (λ a. c.is_full.result ≡ leb t.limit (length (others_in a (filter (fresh_entry t.window m) t.contacts)))) c.address-address.ensures.value c.is_full.ensures in
+    subst (λ (v : Held). (h : History) → StandsFor v h → IsReply (settings v) h m q (Err Full)) c.self.view_is
+    (λ h st. let in_time = in_time_of t h m st c.in_ok-check_moment.ensures.ok in (in_time, full_is t h m q st in_time here (sym full ∙ c.if-is_full.true)))
+
+pub drop_stale-requires-in-Ok : goal.drop_stale-requires-in-Ok
+drop_stale-requires-in-Ok c =
+    let t : Held = the_view c.self.inside in
+    let m = c.args.moment in
+    let q = c.args.squitter.now in
+    let a = (squitter_parts q).address in
+    let here = position_of (squitter_parts q).me (c.is_position.ensures.0 c.if-not-is_position.false) in
+    let new : Contact = c.hear-heard.new.self in
+    let moment = moment_after m q c.hear-heard.result c.unwrap_or-contact.result new here c.hear-heard.ensures.contact in
+    let put = subst (λ x. c.put_last.new.self ≡ others_in x t.contacts ++ (x, new) ∷ []) c.address-address.ensures.value c.in-Ok.ensures.ok in
+    (0, m, subst (IsOrdered 0 m) (sym put) (ordered_put t m q c.hear-heard.result here new moment c.in_ok-check_moment.ensures.ok c.self.invariant.ordered))
+
+pub invariant_of-self-in-Ok : goal.invariant_of-self-in-Ok
+invariant_of-self-in-Ok c =
+    let t : Held = the_view c.self.inside in
+    let m = c.args.moment in
+    let q = c.args.squitter.now in
+    let heard = c.hear-heard.result in
+    let le = c.in_ok-check_moment.ensures.ok in
+    let here = position_of (squitter_parts q).me (c.is_position.ensures.0 c.if-not-is_position.false) in
+    let full = subst (λ a. c.is_full.result ≡ leb t.limit (length (others_in a (filter (fresh_entry t.window m) t.contacts)))) c.address-address.ensures.value c.is_full.ensures in
+    let old : Contact = c.unwrap_or-contact.result in
+    let new : Contact = c.hear-heard.new.self in
+    let known_at : c.unwrap_or-contact.result ≡ unwrap_or (lookup (eqb c.address-address.result) c.self.inside.contacts) blank_contact = cc in
+    let known = subst (λ x. c.unwrap_or-contact.result ≡ unwrap_or (lookup (eqb x) c.self.inside.contacts) blank_contact) c.address-address.ensures.value known_at in
+    let moment = moment_after m q heard old new here c.hear-heard.ensures.contact in
+    let put = subst (λ x. c.put_last.new.self ≡ others_in x t.contacts ++ (x, new) ∷ []) c.address-address.ensures.value c.in-Ok.ensures.ok in
+    let all = c.drop_stale-in-Ok.ensures ∙ ap (filter (fresh_entry t.window m)) put ∙ put_is t m q heard here new moment in
+    subst (IsSound t.limit (Some m)) (sym all)
+    (sound_put t m q heard here new moment le (sym full ∙ c.if-is_full.false) c.self.invariant (within_after t m q heard old new le c.self.invariant here known c.hear-heard.ensures.contact))
+
+pub returns-in-Ok-clause-reply : goal.returns-in-Ok-clause-reply
+returns-in-Ok-clause-reply c =
+    let t : Held = the_view c.self.inside in
+    let m = c.args.moment in
+    let q = c.args.squitter.now in
+    let heard = c.hear-heard.result in
+    let full = subst (λ a. c.is_full.result ≡ leb t.limit (length (others_in a (filter (fresh_entry t.window m) t.contacts)))) c.address-address.ensures.value c.is_full.ensures in
+    let known_at : c.unwrap_or-contact.result ≡ unwrap_or (lookup (eqb c.address-address.result) c.self.inside.contacts) blank_contact = cc in
+    let known = subst (λ x. c.unwrap_or-contact.result ≡ unwrap_or (lookup (eqb x) c.self.inside.contacts) blank_contact) c.address-address.ensures.value known_at in
+    subst (λ (v : Held). (h : History) → StandsFor v h → IsReply (settings v) h m q (Ok heard)) c.self.view_is
+    (λ h st.
+    let in_time = in_time_of t h m st c.in_ok-check_moment.ensures.ok in
+    let old = subst (λ (x : Contact). Remembers t.window (squitter_parts q).address h x) (sym known) (st.kept (squitter_parts q).address) in (
+      not_full t h m q st in_time (sym full ∙ c.if-is_full.false),
+      subst (λ (site : Option Position). IsHeard t.window site h m q heard) c.as_ref.ensures.value (c.hear-heard.ensures.heard h old in_time),
+    ))
+
+pub returns-in-Ok-clause-ok : goal.returns-in-Ok-clause-ok
+returns-in-Ok-clause-ok c =
+    let t : Held = the_view c.self.inside in
+    let m = c.args.moment in
+    let q = c.args.squitter.now in
+    let heard = c.hear-heard.result in
+    let le = c.in_ok-check_moment.ensures.ok in
+    let here = position_of (squitter_parts q).me (c.is_position.ensures.0 c.if-not-is_position.false) in
+    let full = subst (λ a. c.is_full.result ≡ leb t.limit (length (others_in a (filter (fresh_entry t.window m) t.contacts)))) c.address-address.ensures.value c.is_full.ensures in
+    let old : Contact = c.unwrap_or-contact.result in
+    let new : Contact = c.hear-heard.new.self in
+    let known_at : c.unwrap_or-contact.result ≡ unwrap_or (lookup (eqb c.address-address.result) c.self.inside.contacts) blank_contact = cc in
+    let known = subst (λ x. c.unwrap_or-contact.result ≡ unwrap_or (lookup (eqb x) c.self.inside.contacts) blank_contact) c.address-address.ensures.value known_at in
+    let moment = moment_after m q heard old new here c.hear-heard.ensures.contact in
+    let put = subst (λ x. c.put_last.new.self ≡ others_in x t.contacts ++ (x, new) ∷ []) c.address-address.ensures.value c.in-Ok.ensures.ok in
+    let all = c.drop_stale-in-Ok.ensures ∙ ap (filter (fresh_entry t.window m)) put ∙ put_is t m q heard here new moment in
+    subst (λ (v : Held). (h : History) → StandsFor v h
+    → StandsFor (record { limit = t.limit; window = t.window; site = t.site; last = Some m; contacts = c.drop_stale-in-Ok.new.contacts }) (record { moment = m; squitter = q; heard = heard } ∷ h)) c.self.view_is
+    (λ h st.
+    let in_time = in_time_of t h m st le in
+    let remembered = subst (λ (x : Contact). Remembers t.window (squitter_parts q).address h x) (sym known) (st.kept (squitter_parts q).address) in
+    let reply : IsReply (settings t) h m q (Ok heard) = (
+      not_full t h m q st in_time (sym full ∙ c.if-is_full.false),
+      subst (λ (site : Option Position). IsHeard t.window site h m q heard) c.as_ref.ensures.value (c.hear-heard.ensures.heard h remembered in_time),
+    ) in
+    subst (λ (es : Entries). StandsFor (record { limit = t.limit; window = t.window; site = t.site; last = Some m; contacts = es }) (record { moment = m; squitter = q; heard = heard } ∷ h)) (sym all)
+    (stands_position t m q heard here new moment h st le c.len-len.ensures.unique c.self.invariant.within reply (c.hear-heard.ensures.after h remembered in_time)))
+
+pub returns-in-Err-clause-reply : goal.returns-in-Err-clause-reply
+returns-in-Err-clause-reply c =
+    let t : Held = the_view c.self.inside in
+    let m = c.args.moment in
+    let q = c.args.squitter.now in
+    let full = subst (λ a. c.is_full.result ≡ leb t.limit (length (others_in a (filter (fresh_entry t.window m) t.contacts)))) c.address-address.ensures.value c.is_full.ensures in
+    subst (λ (v : Held). (h : History) → StandsFor v h → IsReply (settings v) h m q (Err Memory)) c.self.view_is
+    (λ h st. let in_time = in_time_of t h m st c.in_ok-check_moment.ensures.ok in not_full t h m q st in_time (sym full ∙ c.if-is_full.false))
+
+pub returns-in-Err-clause-known : goal.returns-in-Err-clause-known
+returns-in-Err-clause-known c = λ _.
+    let t : Held = the_view c.self.inside in
+    let a = (squitter_parts c.args.squitter.now).address in
+    let absent = subst (λ x. lookup (eqb x) c.self.inside.contacts ≡ None) c.address-address.ensures.value c.in-Err.ensures.absent in
+    sym (ap (λ (v : Held). find (is_shown a) (present_of v)) c.self.view_is) ∙ find-entries a c.self.inside.contacts absent
