@@ -14,3 +14,4 @@ pub mod OneText
 pub mod OneSpelling
 pub mod Texts
 pub mod OneReading
+pub mod SomeText

@@ -1,7 +1,7 @@
 //! Laws of fractions and of the texts of angles, over the same definitions as the calls' contracts.
 //!
 //! Each function does nothing: its contract is the law.
-ghost use Rattle.sq_angle.specs.Laws.{OneLowestForm, OneLowestFormOfAngles, OrderedByValue, WithinAsFractions, OneDecimal7, OneSpelling, OneReading};
+ghost use Rattle.sq_angle.specs.Laws.{OneLowestForm, OneLowestFormOfAngles, OrderedByValue, WithinAsFractions, OneDecimal7, SomeDecimal7, OneSpelling, OneReading};
 
 /// Two fractions have one value exactly if they have one form in lowest terms.
 pub fn one_lowest_form()
@@ -22,6 +22,11 @@ pub fn within_as_fractions()
 /// A fraction has one text with seven decimals.
 pub fn one_decimal7()
     ensures { OneDecimal7 }
+{}
+
+/// A fraction has a text with seven decimals.
+pub fn some_decimal7()
+    ensures { SomeDecimal7 }
 {}
 
 /// A text of an angle has one spelling.

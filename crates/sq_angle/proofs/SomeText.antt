@@ -1,0 +1,25 @@
+-- A fraction has a text with seven decimals.
+use Rattle.std.proofs.Common.{◌≡◌, ◌+◌, ◌*◌, ◌<◌, ◌≤◌, ℕ, ℤ, List, pos, neg_ℤ, ◌*ℤ◌, ◌<ℤ◌, ◌+ℤ◌, refl, subst, int_lt, arith, unsigned_abs}
+use Rattle.std.proofs.Math.IntN.{negsuc}
+use Rattle.std.proofs.lemmas.Int.{ints}
+use Rattle.sq_angle.specs.Fraction.{Fraction, magnitude}
+use Rattle.sq_angle.specs.Decimal.{IsDecimal7, seven_places, ten_millionth}
+use Rattle.sq_angle.specs.Nearest.{IsNearest}
+use Rattle.sq_angle.specs.Scale.{scale-neg}
+use Rattle.sq_angle.proofs.Rounding.{one_nearest}
+
+-- a magnitude has no negative number of steps nearest to it
+not_below : (x : Fraction) (v : ℕ) → 1 ≤ x.den → IsNearest (magnitude x) ten_millionth (negsuc v) → ⊥
+not_below x v some r =
+    let k = 2 * v + 1 in
+    let steps : pos 1 *ℤ ((pos 2 *ℤ negsuc v) +ℤ pos 1) ≡ neg_ℤ (pos k) = omega (arith, ints) in
+    let below : (pos 20000000 *ℤ pos (unsigned_abs x.num)) <ℤ (pos x.den *ℤ neg_ℤ (pos k)) =
+    subst (λ (z : ℤ). (pos 20000000 *ℤ pos (unsigned_abs x.num)) <ℤ (pos x.den *ℤ z)) steps r.below in
+    absurd (omega (arith, ints, below, scale-neg x.den (pos k)))
+
+pub some_decimal7 : (x : Fraction) → 1 ≤ x.den → (text : List ℕ) × IsDecimal7 x text
+some_decimal7 x some = let one = one_nearest (magnitude x) 1 10000000 some (omega arith) in by one.0 one.1
+  where
+    by : (a : ℤ) → IsNearest (magnitude x) ten_millionth a → (text : List ℕ) × IsDecimal7 x text
+    by (pos v) is = (seven_places (int_lt x.num (pos 0)) v, (v, is, refl))
+    by (negsuc v) is = absurd (not_below x v some is)
