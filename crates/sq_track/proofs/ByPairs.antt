@@ -26,15 +26,15 @@ is_one_of a b c there = each_of_pair (λ x. (x ≡ a) ⊎ (x ≡ b)) a b c (inl 
 
 pub slow_by_pairs : SlowByPairs
 slow_by_pairs window site world = (
-      λ slow a b a_in b_in c d c_in d_in. slow c d (each_of_pair (Contains world) a b c a_in b_in c_in) (each_of_pair (Contains world) a b d a_in b_in d_in),
-      λ each a b a_in b_in. each a b a_in b_in a b (in_pair a b).0 (in_pair a b).1.0,
-    )
+  λ slow a b a_in b_in c d c_in d_in. slow c d (each_of_pair (Contains world) a b c a_in b_in c_in) (each_of_pair (Contains world) a b d a_in b_in d_in),
+  λ each a b a_in b_in. each a b a_in b_in a b (in_pair a b).0 (in_pair a b).1.0,
+)
 
 pub slow_for_following_by_pairs : SlowForFollowingByPairs
 slow_for_following_by_pairs window world = (
-      λ slow a b a_in b_in c d c_in d_in. slow c d (each_of_pair (Contains world) a b c a_in b_in c_in) (each_of_pair (Contains world) a b d a_in b_in d_in),
-      λ each a b a_in b_in. each a b a_in b_in a b (in_pair a b).0 (in_pair a b).1.0,
-    )
+  λ slow a b a_in b_in c d c_in d_in. slow c d (each_of_pair (Contains world) a b c a_in b_in c_in) (each_of_pair (Contains world) a b d a_in b_in d_in),
+  λ each a b a_in b_in. each a b a_in b_in a b (in_pair a b).0 (in_pair a b).1.0,
+)
 
 odd_is_even : {A : Type 0} (o : Option Parity) → o ≡ Some Even → o ≡ Some Odd → A
 odd_is_even o even odd = let bad : ◌≡◌ {A = Parity} Even Odd = same_some Even Odd (sym even ∙ odd) in absurd (cc bad)
@@ -44,9 +44,9 @@ parity_at same e = sym (ap (λ (x : Arrival). parity_of (squitter_parts x.squitt
 
 pub slow_pair_exactly : SlowPairExactly
 slow_pair_exactly window site a b p q pair h k = (
-      λ slow. slow a b (in_pair a b).0 (in_pair a b).1.0 pair p q h k,
-      λ slow c d c_in d_in other p' q' h' k'. by slow c d other p' q' h' k' (is_one_of a b c c_in) (is_one_of a b d d_in),
-    )
+  λ slow. slow a b (in_pair a b).0 (in_pair a b).1.0 pair p q h k,
+  λ slow c d c_in d_in other p' q' h' k'. by slow c d other p' q' h' k' (is_one_of a b c c_in) (is_one_of a b d d_in),
+)
   where
     by : AreSlowPlaces site p q a.position b.position → (c d : Arrival) → ArePairTogether window c d → (p' q' : Place) → IsTruePlace c p' → IsTruePlace d q'
         → (c ≡ a) ⊎ (c ≡ b) → (d ≡ a) ⊎ (d ≡ b) → AreSlowPlaces site p' q' c.position d.position

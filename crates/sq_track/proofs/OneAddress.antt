@@ -84,12 +84,12 @@ no_others window m a h = none_passes (is_of_address a) (present window m (of_add
 
 pub accepted_alone : AcceptedAlone
 accepted_alone s h m q heard limit accepted reply = (
-      record {
-        in_time = in_time_alone s (is_of_address (squitter_parts q).address) h m accepted reply.0.in_time;
-        room = λ full. absurd (omega (arith, limit, full.others, ap length (no_others s.window m (squitter_parts q).address h)));
-      },
-      heard_alone s.window h m q s.site heard reply.1,
-    )
+  record {
+    in_time = in_time_alone s (is_of_address (squitter_parts q).address) h m accepted reply.0.in_time;
+    room = λ full. absurd (omega (arith, limit, full.others, ap length (no_others s.window m (squitter_parts q).address h)));
+  },
+  heard_alone s.window h m q s.site heard reply.1,
+)
 
 pub alone_is_history : AloneIsHistory
 alone_is_history s [] a limit accepted = tt
@@ -99,6 +99,6 @@ alone_is_history s (entry ∷ earlier) a limit accepted = by (is_of_address a en
     by true e rest =
         let same : (squitter_parts entry.squitter).address ≡ a = eqb-true (squitter_parts entry.squitter).address a e in
         let reply = subst (λ b. IsReply s (of_address b earlier) entry.moment entry.squitter (Ok entry.heard)) same
-            (accepted_alone s earlier entry.moment entry.squitter entry.heard limit accepted.1 accepted.0) in
+        (accepted_alone s earlier entry.moment entry.squitter entry.heard limit accepted.1 accepted.0) in
         subst (IsHistory s) (sym (filter-cons_yes (is_of_address a) entry earlier e)) (reply, rest)
     by false e rest = subst (IsHistory s) (sym (filter-cons_no (is_of_address a) entry earlier e)) rest

@@ -64,7 +64,7 @@ drop_stale-requires-in-Ok c =
     let a = (squitter_parts q).address in
     let here = position_of (squitter_parts q).me (c.is_position.ensures.0 c.if-not-is_position.false) in
     let new : Contact = c.hear-heard.new.self in
-    let moment = moment_after m q c.hear-heard.result c.unwrap_or-contact.result new here c.hear-heard.ensures.contact in
+    let moment = moment_after m q c.hear-heard.result c.kept_of-contact.result new here c.hear-heard.ensures.contact in
     let put = subst (λ x. c.put_last.new.self ≡ others_in x t.contacts ++ (x, new) ∷ []) c.address-address.ensures.value c.in-Ok.ensures.ok in
     (0, m, subst (IsOrdered 0 m) (sym put) (ordered_put t m q c.hear-heard.result here new moment c.in_ok-check_moment.ensures.ok c.self.invariant.ordered))
 
@@ -77,10 +77,9 @@ invariant_of-self-in-Ok c =
     let le = c.in_ok-check_moment.ensures.ok in
     let here = position_of (squitter_parts q).me (c.is_position.ensures.0 c.if-not-is_position.false) in
     let full = subst (λ a. c.is_full.result ≡ leb t.limit (length (others_in a (filter (fresh_entry t.window m) t.contacts)))) c.address-address.ensures.value c.is_full.ensures in
-    let old : Contact = c.unwrap_or-contact.result in
+    let old : Contact = c.kept_of-contact.result in
     let new : Contact = c.hear-heard.new.self in
-    let known_at : c.unwrap_or-contact.result ≡ unwrap_or (lookup (eqb c.address-address.result) c.self.inside.contacts) blank_contact = cc in
-    let known = subst (λ x. c.unwrap_or-contact.result ≡ unwrap_or (lookup (eqb x) c.self.inside.contacts) blank_contact) c.address-address.ensures.value known_at in
+    let known = subst (λ x. c.kept_of-contact.result ≡ unwrap_or (lookup (eqb x) c.self.inside.contacts) blank_contact) c.address-address.ensures.value c.kept_of-contact.ensures in
     let moment = moment_after m q heard old new here c.hear-heard.ensures.contact in
     let put = subst (λ x. c.put_last.new.self ≡ others_in x t.contacts ++ (x, new) ∷ []) c.address-address.ensures.value c.in-Ok.ensures.ok in
     let all = c.drop_stale-in-Ok.ensures ∙ ap (filter (fresh_entry t.window m)) put ∙ put_is t m q heard here new moment in
@@ -94,8 +93,7 @@ returns-in-Ok-clause-reply c =
     let q = c.args.squitter.now in
     let heard = c.hear-heard.result in
     let full = subst (λ a. c.is_full.result ≡ leb t.limit (length (others_in a (filter (fresh_entry t.window m) t.contacts)))) c.address-address.ensures.value c.is_full.ensures in
-    let known_at : c.unwrap_or-contact.result ≡ unwrap_or (lookup (eqb c.address-address.result) c.self.inside.contacts) blank_contact = cc in
-    let known = subst (λ x. c.unwrap_or-contact.result ≡ unwrap_or (lookup (eqb x) c.self.inside.contacts) blank_contact) c.address-address.ensures.value known_at in
+    let known = subst (λ x. c.kept_of-contact.result ≡ unwrap_or (lookup (eqb x) c.self.inside.contacts) blank_contact) c.address-address.ensures.value c.kept_of-contact.ensures in
     subst (λ (v : Held). (h : History) → StandsFor v h → IsReply (settings v) h m q (Ok heard)) c.self.view_is
     (λ h st.
     let in_time = in_time_of t h m st c.in_ok-check_moment.ensures.ok in
@@ -113,10 +111,9 @@ returns-in-Ok-clause-ok c =
     let le = c.in_ok-check_moment.ensures.ok in
     let here = position_of (squitter_parts q).me (c.is_position.ensures.0 c.if-not-is_position.false) in
     let full = subst (λ a. c.is_full.result ≡ leb t.limit (length (others_in a (filter (fresh_entry t.window m) t.contacts)))) c.address-address.ensures.value c.is_full.ensures in
-    let old : Contact = c.unwrap_or-contact.result in
+    let old : Contact = c.kept_of-contact.result in
     let new : Contact = c.hear-heard.new.self in
-    let known_at : c.unwrap_or-contact.result ≡ unwrap_or (lookup (eqb c.address-address.result) c.self.inside.contacts) blank_contact = cc in
-    let known = subst (λ x. c.unwrap_or-contact.result ≡ unwrap_or (lookup (eqb x) c.self.inside.contacts) blank_contact) c.address-address.ensures.value known_at in
+    let known = subst (λ x. c.kept_of-contact.result ≡ unwrap_or (lookup (eqb x) c.self.inside.contacts) blank_contact) c.address-address.ensures.value c.kept_of-contact.ensures in
     let moment = moment_after m q heard old new here c.hear-heard.ensures.contact in
     let put = subst (λ x. c.put_last.new.self ≡ others_in x t.contacts ++ (x, new) ∷ []) c.address-address.ensures.value c.in-Ok.ensures.ok in
     let all = c.drop_stale-in-Ok.ensures ∙ ap (filter (fresh_entry t.window m)) put ∙ put_is t m q heard here new moment in
