@@ -1,12 +1,14 @@
 //! Laws of grids, codes, zones and decoding, over the definitions that the calls' contracts name.
 //!
-//! Each function but the last does nothing: its contract is the law.
+//! A function with an empty body does nothing: its contract is the law. The others make the call that they speak of.
 ghost use Rattle.std.specs.Prelude.{◌≡◌, ◌↔◌, IsTrue};
+ghost use Rattle.sq_cpr.specs.Code.{numbers_of};
 ghost use Rattle.sq_cpr.specs.Laws.{RoundsToOne, RoundsToItself, OnePairOfZones, SameZones, SamePoints, OneCode};
 ghost use Rattle.sq_cpr.specs.DecodeLaws.{FractionsAgree, OneNearLatitude, OneNearLongitude, OneLocalAnswer, StrictlyNearIsNear, NearPointIsLocal, StrictlyNearPointIsLocal, LocalKeepsCode};
 ghost use Rattle.sq_cpr.specs.DecodeLaws.{OneCloseLatitudes, OneCloseLongitudes, OneZoneIsClose, OnePairAnswer, OneAirPairAnswer, PairKeepsCode, AirPairKeepsCode, CloseAirPointsAreAnswered, CloseGroundPointsAreAnswered};
-ghost use Rattle.sq_cpr.specs.DecodeLaws.{TameAirPointsAreAnswered, TameGroundPointsAreAnswered, SlowIsTame, RoundsNearSite, FollowingIsNear};
+ghost use Rattle.sq_cpr.specs.DecodeLaws.{TameAirPointsAreAnswered, TameGroundPointsAreAnswered, SlowIsTame, RoundsNearSite, FollowingIsNear, LimitsInAir, SlowExactly};
 
+use crate::code::Code;
 use crate::grid::GridPoint;
 use crate::span::Span;
 
@@ -152,6 +154,16 @@ pub fn following_is_near<S: Span>()
     ensures { FollowingIsNear S.DEGREES S.REPEATS }
 {}
 
+/// The limits of the latitudes in the air.
+pub fn limits_in_air()
+    ensures { LimitsInAir }
+{}
+
+/// Slow is this and no more.
+pub fn slow_exactly<S: Span>()
+    ensures { SlowExactly S.DEGREES }
+{}
+
 /// Whether two points are equal, which they are exactly if their parity and both indices are.
 pub fn equal_points<S: Span>(a: &GridPoint<S>, b: &GridPoint<S>) -> bool
     ensures equal { IsTrue result ↔ (a.now ≡ b.now) }
@@ -160,4 +172,11 @@ pub fn equal_points<S: Span>(a: &GridPoint<S>, b: &GridPoint<S>) -> bool
     // each call says that its point is one of the grid
     let _ = (a.parity(), b.parity());
     a == b
+}
+
+/// Whether two codes are equal, as `==` tells: exactly if both numbers are.
+pub fn equal_codes(code: &Code, other: &Code) -> bool
+    ensures { IsTrue result ↔ (numbers_of code.now ≡ numbers_of other.now) }
+{
+    code == other
 }
