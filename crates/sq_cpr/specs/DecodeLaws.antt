@@ -1,7 +1,7 @@
 -- Laws of decoding, as statements. A span covers `degrees` degrees and fits `repeats` times into the circle.
 use Rattle.std.specs.Prelude.{◌≡◌, ◌↔◌, ℕ, ◌*◌, ◌<◌, ◌≤◌, ℤ, pos, Result, Ok, Err}
 use Rattle.sq_angle.specs.Angle.{degrees as degrees_of}
-use Rattle.sq_angle.specs.Fraction.{Fraction, ◌≃◌}
+use Rattle.sq_angle.specs.Fraction.{Fraction}
 use Rattle.sq_angle.specs.Position.{lat_of, lon_of}
 use Rattle.sq_angle.specs.Whole.{ExactlyOne, IsCongruent}
 use Rattle.sq_angle.specs.declared.position.Position.{Position}
@@ -17,8 +17,7 @@ use Rattle.sq_cpr.specs.Close.{IsClose, IsClosePair, zones_of, AreClosePoints, A
 use Rattle.sq_cpr.specs.Multiplied.{LiesWithin, LiesStrictlyWithin, LiesClose}
 use Rattle.sq_cpr.specs.Local.{IsNearLatitude, LocalAnswer}
 use Rattle.sq_cpr.specs.Pair.{of_parity, HaveTwoCounts, AirPairAnswer, PairAnswer}
-use Rattle.sq_cpr.specs.Slow.{PositionRoundsTo, AreSlow, AreSlowForFollowing, AreWithin, IsPointWithin, slow_limit, following_limit, DifferByLess, DifferByLessAround}
-use Rattle.sq_cpr.specs.Close.{count_at, HaveOneCount}
+use Rattle.sq_cpr.specs.Slow.{PositionRoundsTo, AreSlow, AreSlowForFollowing, AreWithin, IsPointWithin}
 
 -- the windows with fractions mean what their multiplied-out forms mean
 pub record FractionsAgree (degrees : ℕ) : Type 0 where
@@ -161,14 +160,18 @@ FollowingIsNear degrees repeats =
     (x y : Position) (a b : Point) → PositionRoundsTo degrees repeats x a → PositionRoundsTo degrees repeats y b → AreSlowForFollowing degrees a b x y
     → IsStrictlyNearPoint degrees repeats (latitude degrees b) (longitude degrees b) a × IsStrictlyNearPoint degrees repeats (latitude degrees a) (longitude degrees a) b
 
--- the limits of the latitudes in the air, as numbers
-abbrev pub LimitsInAir : Type 0
-LimitsInAir =
-    (slow_limit 360 60 59 ≃ record { num = pos 49107; den = 966656 }) × (following_limit 360 60 59 ≃ record { num = pos 2899923; den = 966656 })
+-- decoding near a reference has an answer
+abbrev pub SomeLocalAnswer : ℕ → ℕ → Type 0
+SomeLocalAnswer degrees repeats =
+    (code : CodeNumbers) (parity : Parity) (lat lon : Fraction) → 0 < lat.den → 0 < lon.den
+    → (answer : Result Point LocalFault) × LocalAnswer degrees repeats code parity lat lon answer
 
--- slow is this and no more
-abbrev pub SlowExactly : ℕ → Type 0
-SlowExactly degrees =
-    (a b : Point) (x y : Position) → DifferByLess (slow_limit degrees 60 59) (degrees_of (lat_of x)) (degrees_of (lat_of y))
-    → (HaveOneCount degrees a.lat_index b.lat_index → 2 ≤ count_at degrees Even a.lat_index → DifferByLessAround (slow_limit degrees a.zones b.zones) (degrees_of (lon_of x)) (degrees_of (lon_of y)))
-    → AreSlow degrees a b x y
+-- decoding a pair at a place has an answer
+abbrev pub SomePairAnswer : ℕ → ℕ → Type 0
+SomePairAnswer degrees repeats =
+    (even odd : CodeNumbers) (newest : Parity) (lat lon : Fraction) → 0 < lat.den → 0 < lon.den
+    → (answer : Result Point PairFault) × PairAnswer degrees repeats even odd newest lat lon answer
+
+-- decoding a pair in the air has an answer
+abbrev pub SomeAirPairAnswer : Type 0
+SomeAirPairAnswer = (even odd : CodeNumbers) (newest : Parity) → (answer : Result Point PairFault) × AirPairAnswer even odd newest answer
