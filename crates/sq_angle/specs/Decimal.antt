@@ -1,5 +1,5 @@
 -- An angle as text with seven decimals.
-use Rattle.std.specs.Prelude.{◌≡◌, ℕ, zero, suc, ◌+◌, ◌/◌, ◌%◌, ◌^◌, Bool, ◌&&◌, List, [], ◌∷◌, ◌++◌, pos, int_lt, nat_lt, decimal, if◌then◌else◌}
+use Rattle.std.specs.Prelude.{◌≡◌, ◌≤◌, ℕ, zero, suc, ◌+◌, ◌/◌, ◌%◌, ◌^◌, Bool, ◌&&◌, List, [], ◌∷◌, ◌++◌, pos, int_lt, nat_lt, decimal, if◌then◌else◌}
 use Rattle.sq_angle.specs.Fraction.{Fraction, magnitude}
 use Rattle.sq_angle.specs.Nearest.{IsNearest}
 
@@ -20,3 +20,8 @@ seven_places negative v =
 -- the text of x: the whole number of ten-millionths nearest to its magnitude, and x's sign
 abbrev pub IsDecimal7 : Fraction → List ℕ → Type 0
 IsDecimal7 x text = (v : ℕ) × IsNearest (magnitude x) ten_millionth (pos v) × (text ≡ seven_places (int_lt x.num (pos 0)) v)
+
+-- a function that writes fractions with seven decimals: there is one, and no two differ at a fraction
+pub record DecimalWriter : Type 0 where
+  pub write : Fraction → List ℕ
+  pub writes : (x : Fraction) → 1 ≤ x.den → IsDecimal7 x (write x)

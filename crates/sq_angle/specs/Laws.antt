@@ -33,10 +33,6 @@ WithinAsFractions = (limit : ℕ) (x : Fraction) → IsWithin limit x ↔ ((oppo
 abbrev pub OneDecimal7 : Type 0
 OneDecimal7 = (x : Fraction) (s t : List ℕ) → 1 ≤ x.den → IsDecimal7 x s → IsDecimal7 x t → s ≡ t
 
--- a fraction has a text with seven decimals
-abbrev pub SomeDecimal7 : Type 0
-SomeDecimal7 = (x : Fraction) → 1 ≤ x.den → (text : List ℕ) × IsDecimal7 x text
-
 -- a text has one spelling
 abbrev pub OneSpelling : Type 0
 OneSpelling = (text : List ℕ) (p q : Parts) → Spells text p → Spells text q → p ≡ q

@@ -3,9 +3,10 @@
 //! A function with an empty body does nothing: its contract is the law. The others make the call that they speak of.
 ghost use Rattle.std.specs.Prelude.{◌↔◌, IsTrue};
 ghost use Rattle.sq_angle.specs.Angle.{degrees};
+ghost use Rattle.sq_angle.specs.Decimal.{DecimalWriter};
 ghost use Rattle.sq_angle.specs.Fraction.{◌≃◌, ◌≺◌};
 ghost use Rattle.sq_angle.specs.Position.{HaveEqualAngles};
-ghost use Rattle.sq_angle.specs.Laws.{OneLowestForm, OneLowestFormOfAngles, OrderedByValue, WithinAsFractions, OneDecimal7, SomeDecimal7, OneSpelling, OneReading};
+ghost use Rattle.sq_angle.specs.Laws.{OneLowestForm, OneLowestFormOfAngles, OrderedByValue, WithinAsFractions, OneDecimal7, OneSpelling, OneReading};
 
 use crate::angle::Angle;
 use crate::position::Position;
@@ -31,9 +32,9 @@ pub fn one_decimal7()
     ensures { OneDecimal7 }
 {}
 
-/// A fraction has a text with seven decimals.
-pub fn some_decimal7()
-    ensures { SomeDecimal7 }
+/// There is a function that writes fractions with seven decimals.
+pub fn some_decimal_writer()
+    ensures { DecimalWriter }
 {}
 
 /// A text of an angle has one spelling.

@@ -1,2 +1,4 @@
 pub mod ArgumentLemmas
 pub mod CheckLemmas
+pub mod HeardLemmas
+pub mod TrackLemmas

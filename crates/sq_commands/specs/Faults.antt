@@ -3,7 +3,7 @@ use Rattle.std.specs.Prelude.{◌++◌, ℕ, List, Result, MatchResult, codes}
 use Rattle.sq_angle.specs.declared.read.AngleFault.{AngleFault}
 use Rattle.sq_angle.specs.declared.read.AngleFault.TheVariants.{NotANumber, TooManyDecimals, OutOfRange}
 use Rattle.sq_commands.specs.declared.arguments.ArgumentFault.{ArgumentFault}
-use Rattle.sq_commands.specs.declared.arguments.ArgumentFault.TheVariants.{Kind, Parity, Address, Feet, Site, Lat, Lon}
+use Rattle.sq_commands.specs.declared.arguments.ArgumentFault.TheVariants.{Kind, Parity, Address, Feet, Limit, NoLimit, Window, Site, Lat, Lon}
 use Rattle.sq_commands.specs.declared.status.Status.{Status}
 use Rattle.sq_commands.specs.declared.status.Status.TheVariants.{Misused}
 use Rattle.sq_commands.specs.Outputs.{Outputs, IsReport}
@@ -20,11 +20,18 @@ argument_text Kind = codes "bad kind"
 argument_text Parity = codes "bad parity"
 argument_text Address = codes "bad address"
 argument_text Feet = codes "bad feet"
+argument_text Limit = codes "bad limit"
+argument_text NoLimit = codes "limit is 0"
+argument_text Window = codes "bad window"
 argument_text Site = codes "site needs lat and lon"
 argument_text (Lat fault) = codes "lat " ++ angle_text fault
 argument_text (Lon fault) = codes "lon " ++ angle_text fault
 
+-- the fault is reported, and nothing was written
+abbrev pub IsMisuse : ArgumentFault → Status → Outputs → Type 0
+IsMisuse fault status o = IsReport Misused (argument_text fault) status o
+
 -- the arguments are read: of what they say the rest holds, or the first fault is reported
 abbrev pub IsArgumentsRun : {Values : Type 0} → (Result Values ArgumentFault → Type 0) → (Values → Type 0) → Status → Outputs → Type 0
 IsArgumentsRun {Values = Values} Reads Rest status o = (reading : Result Values ArgumentFault) × Reads reading
-    × MatchResult reading Rest (λ fault. IsReport Misused (argument_text fault) status o)
+    × MatchResult reading Rest (λ fault. IsMisuse fault status o)

@@ -8,4 +8,7 @@ pub mod Encode
 pub mod Local
 pub mod Pair
 pub mod Check
+pub mod Heard
+pub mod Tracking
+pub mod Track
 pub mod Runs

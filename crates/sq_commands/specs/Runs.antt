@@ -1,15 +1,14 @@
 -- What the program does for each command.
-use Rattle.std.specs.Prelude.{codes}
 use Rattle.sq_devices.specs.Changes.{TookNothing}
 use Rattle.sq_requests.specs.Requests.{Asked, Show, Encode, Local, Pair, Check, Track}
 use Rattle.sq_commands.specs.declared.status.Status.{Status}
-use Rattle.sq_commands.specs.declared.status.Status.TheVariants.{Misused}
 use Rattle.sq_commands.specs.Check.{IsCheckRun}
 use Rattle.sq_commands.specs.Encode.{IsEncodeRun}
 use Rattle.sq_commands.specs.Local.{IsLocalRun}
-use Rattle.sq_commands.specs.Outputs.{Effects, Outputs, IsReport}
+use Rattle.sq_commands.specs.Outputs.{Effects, Outputs}
 use Rattle.sq_commands.specs.Pair.{IsPairRun}
 use Rattle.sq_commands.specs.Show.{IsShowRun}
+use Rattle.sq_commands.specs.Track.{IsTrackRun}
 
 -- the input is left as it was, and on the outputs this was done
 abbrev pub WithNoInput : Effects → (Outputs → Type 0) → Type 0
@@ -22,4 +21,4 @@ IsRun (Encode words) status e = WithNoInput e (IsEncodeRun words status)
 IsRun (Local frame lat lon) status e = WithNoInput e (IsLocalRun frame lat lon status)
 IsRun (Pair older newer lat lon) status e = WithNoInput e (IsPairRun older newer lat lon status)
 IsRun Check status e = IsCheckRun status e
-IsRun (Track limit window lat lon) status e = WithNoInput e (IsReport Misused (codes "not yet a command") status)
+IsRun (Track limit window lat lon) status e = IsTrackRun limit window lat lon status e

@@ -1,5 +1,5 @@
 //! The arguments of the commands, read from their words.
-ghost use Rattle.std.specs.Prelude.{◌≡◌, ◌≢◌, ◌≤◌, ◌<◌, ◌^◌, ◌++◌, ◌∷◌, List, ℤ, ℕ, IfErr, IfOk, OnErr, IsTrue, ◌↔◌, codes, length, option_map, MatchOption};
+ghost use Rattle.std.specs.Prelude.{◌≡◌, ◌≢◌, ◌≤◌, ◌<◌, ◌^◌, ◌++◌, ◌∷◌, List, ℤ, ℕ, IfErr, IfOk, OnErr, IsTrue, ◌↔◌, codes, length, option_map, MatchOption, Some};
 ghost use Rattle.std.specs.Bool.{OnFalse};
 ghost use Rattle.std.specs.Char.{IsAsciiDigit};
 ghost use Rattle.std.specs.Int.Digits.{number_from_digits};
@@ -16,15 +16,25 @@ ghost use Rattle.sq_commands.specs.declared.arguments.Kind.{Kind};
 ghost use Rattle.sq_commands.specs.Encode.{IsAltitudeOf};
 ghost use Rattle.sq_commands.specs.Faults.{argument_text};
 ghost use Rattle.sq_commands.specs.Arguments.{IsAddress, IsAngleFault, IsFeet, IsFeetText, IsPositionReading, IsSiteReading, kind_name};
+ghost use Rattle.sq_commands.specs.Track.{IsLimit, IsTrackReading, IsWindow};
 
 use sq_angle::{Angle, AngleFault, Position};
 use sq_message::{Parity, field_of_feet};
+use sq_text::read_moment;
 
 /// The kinds of squitter that `encode` writes.
 #[derive(Clone, Copy, Debug, PartialEq, Eq)]
 pub(crate) enum Kind {
     Air,
     Ground,
+}
+
+/// What the arguments of `track` say.
+#[derive(Clone, Copy, Debug)]
+pub(crate) struct TrackOptions {
+    pub(crate) limit: u32,
+    pub(crate) window: u64,
+    pub(crate) site: Option<Position>,
 }
 
 /// What is wrong with the arguments of a command: the first of these that applies.
@@ -34,6 +44,9 @@ pub(crate) enum ArgumentFault {
     Parity,
     Address,
     Feet,
+    Limit,
+    NoLimit,
+    Window,
     Site,
     Lat(AngleFault),
     Lon(AngleFault),
@@ -49,6 +62,9 @@ impl ArgumentFault {
             ArgumentFault::Parity => "bad parity\n",
             ArgumentFault::Address => "bad address\n",
             ArgumentFault::Feet => "bad feet\n",
+            ArgumentFault::Limit => "bad limit\n",
+            ArgumentFault::NoLimit => "limit is 0\n",
+            ArgumentFault::Window => "bad window\n",
             ArgumentFault::Site => "site needs lat and lon\n",
             ArgumentFault::Lat(AngleFault::NotANumber) => "lat not a number\n",
             ArgumentFault::Lat(AngleFault::TooManyDecimals) => "lat too many decimals\n",
@@ -233,5 +249,67 @@ pub(crate) fn read_site(
         },
         (None, None) => Ok(None),
         _ => Err(ArgumentFault::Site),
+    }
+}
+
+/// The options of `track`: of those that are left out, the limit is 1000 addresses and the window 10000 milliseconds.
+pub(crate) fn read_options(
+    limit: Option<&str>,
+    window: Option<&str>,
+    lat: Option<&str>,
+    lon: Option<&str>,
+) -> Result<TrackOptions, ArgumentFault>
+    ensures { IsTrackReading (option_map (λ word. word.now) limit.entry) (option_map (λ word. word.now) window.entry)
+        (option_map (λ word. word.now) lat.entry) (option_map (λ word. word.now) lon.entry) result }
+{
+    let limit = read_limit(limit)?;
+    if limit == 0 {
+        return Err(ArgumentFault::NoLimit);
+    }
+    let window = read_window(window)?;
+    let site = read_site(lat, lon)?;
+    Ok(TrackOptions {
+        limit,
+        window,
+        site,
+    })
+}
+
+// One to ten digits of a number below 2^32.
+fn read_limit(word: Option<&str>) -> Result<u32, ArgumentFault>
+    ensures ok { IfOk result (IsLimit (option_map (λ word. word.now) word.entry)) }
+    ensures err { OnErr result ((n : ℕ) → ¬ IsLimit (option_map (λ word. word.now) word.entry) n) }
+    ensures fault { IfErr result (λ fault. fault ≡ ArgumentFault.Limit) }
+{
+    match word {
+        None => Ok(1000),
+        Some(word) => match limit_of(word) {
+            Some(limit) => Ok(limit),
+            None => Err(ArgumentFault::Limit),
+        },
+    }
+}
+
+fn limit_of(word: &str) -> Option<u32>
+    ensures { MatchOption result ((n : ℕ) → ¬ IsLimit (Some word.now) n) (IsLimit (Some word.now)) }
+{
+    match read_moment(word.as_bytes()) {
+        Some(number) if number <= 0xFFFF_FFFF && word.len() <= 10 => Some(number as u32),
+        _ => None,
+    }
+}
+
+// One to twenty digits of a number below 2^64.
+fn read_window(word: Option<&str>) -> Result<u64, ArgumentFault>
+    ensures ok { IfOk result (IsWindow (option_map (λ word. word.now) word.entry)) }
+    ensures err { OnErr result ((n : ℕ) → ¬ IsWindow (option_map (λ word. word.now) word.entry) n) }
+    ensures fault { IfErr result (λ fault. fault ≡ ArgumentFault.Window) }
+{
+    match word {
+        None => Ok(10_000),
+        Some(word) => match read_moment(word.as_bytes()) {
+            Some(window) => Ok(window),
+            None => Err(ArgumentFault::Window),
+        },
     }
 }

@@ -83,7 +83,7 @@ pub(crate) fn check<S: Source, K: Sink, F: Sink>(
 }
 
 // Whether no line was refused.
-fn end_of(tally: Tally) -> Status
+pub(crate) fn end_of(tally: Tally) -> Status
     ensures { result ≡ status_of tally }
 {
     if tally.refused == 0 {

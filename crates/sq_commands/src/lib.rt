@@ -7,17 +7,21 @@
 mod arguments;
 mod check;
 mod encode;
+mod heard;
 mod local;
 mod pair;
 mod program;
 mod reports;
 mod show;
 mod status;
+mod track;
+mod tracking;
 
 pub use check::run_check;
 pub use program::answer;
 pub use reports::{break_off, report};
 pub use status::Status;
+pub use track::run_track;
 
 #[cfg(test)]
 mod encode_tests;

@@ -7,9 +7,9 @@ use crate::check::check;
 use crate::encode::encode;
 use crate::local::local;
 use crate::pair::pair;
-use crate::reports::report;
 use crate::show::show;
 use crate::status::Status;
+use crate::track::track;
 use sq_devices::{Sink, Source};
 use sq_requests::Request;
 use std::alloc::Global;
@@ -39,9 +39,11 @@ pub fn answer<S: Source, K: Sink, F: Sink>(
             lon,
         } => pair(older, newer, lat, lon, output, faults),
         Request::Check => check(input, output, faults),
-        Request::Track { .. } => {
-            report("not yet a command\n", faults);
-            Status::Misused
-        }
+        Request::Track {
+            limit,
+            window,
+            lat,
+            lon,
+        } => track(alloc, limit, window, lat, lon, input, output, faults),
     }
 }

@@ -122,8 +122,8 @@ fn push_pair<const N: usize>(text: &mut ArrayString<N>, number: u64)
     text.push_str(&PAIRS[at..at + 2]);
 }
 
-// Appends the lowest six places of a number, in upper-case hexadecimal digits, two at a time.
-pub(crate) fn push_six_places<const N: usize>(text: &mut ArrayString<N>, number: u32)
+/// Appends the lowest six places of a number, in upper-case hexadecimal digits, two at a time.
+pub fn push_six_places<const N: usize>(text: &mut ArrayString<N>, number: u32)
     requires { array_string_len text.old + 6 ≤ N }
     ensures bytes { text.new.bytes ≡ text.old.bytes ++ hexadecimal 6 number }
     ensures len { array_string_len text.new ≡ array_string_len text.old + 6 }

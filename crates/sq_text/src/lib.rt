@@ -16,16 +16,16 @@ mod show;
 mod summary;
 mod timed;
 
-pub use digits::{push_decimal, push_hexadecimal};
+pub use digits::{push_decimal, push_hexadecimal, push_six_places};
 pub use faults::{LineFault, push_fault};
 pub use frame_text::{TextFault, read_text};
-pub use place::{PlaceText, place_text};
+pub use place::{PlaceText, place_text, push_decimals};
 pub use place_faults::push_place_fault;
 pub use reading::read_squitter;
 pub use show::{ShowText, show_text};
 pub use sq_message::{Frame, PlaceFault, Position, Squitter};
 pub use summary::push_summary;
-pub use timed::{TimedSquitter, read_timed};
+pub use timed::{TimedSquitter, read_moment, read_timed};
 
 #[cfg(test)]
 mod place_fault_tests;

@@ -30,8 +30,9 @@ pub fn place_text(position: &Position) -> PlaceText
     text
 }
 
-fn push_decimals(text: &mut PlaceText, angle: &Angle)
-    requires { array_string_len text.old ≤ 100 }
+/// Appends an angle with seven decimals, at most 12 bytes.
+pub fn push_decimals<const N: usize>(text: &mut ArrayString<N>, angle: &Angle)
+    requires { array_string_len text.old + 12 ≤ N }
     ensures bytes { (part : List ℕ) × IsDecimal7 (degrees angle.now) part × (text.new.bytes ≡ text.old.bytes ++ part) }
     ensures len { array_string_len text.new ≤ array_string_len text.old + 12 }
 {

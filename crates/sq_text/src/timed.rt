@@ -41,7 +41,7 @@ fn split_moment(text: &[u8]) -> Option<(u64, &[u8])>
     ensures none { IfNone result (HasNoMoment text.now) }
 {
     match split_at_space(text) {
-        Some((digits, rest)) => match moment_of(digits) {
+        Some((digits, rest)) => match read_moment(digits) {
             Some(moment) => Some((moment, rest)),
             None => None,
         },
@@ -59,8 +59,8 @@ fn split_at_space(text: &[u8]) -> Option<(&[u8], &[u8])>
     Some((&text[..at], &text[at + 1..]))
 }
 
-// The number that the digits write.
-fn moment_of(digits: &[u8]) -> Option<u64>
+/// A moment: 1 to 20 decimal digits, of a number below 2^64. `None` for all else.
+pub fn read_moment(digits: &[u8]) -> Option<u64>
     ensures some { IfSome result (IsMomentText digits.now) }
     ensures none { IfNone result ((moment : ℕ) → ¬ IsMomentText digits.now moment) }
 {

@@ -1,0 +1,106 @@
+-- What is answered to the lines of a log, each by the squitters that were heard before it.
+use Rattle.std.specs.Prelude.{◌≡◌, ◌≢◌, ◌++◌, ℕ, List, [], ◌∷◌, length, take, ◌-◌, None, Some, Result, Ok, Err}
+use Rattle.sq_angle.specs.Decimal.{DecimalWriter}
+use Rattle.sq_devices.specs.Changes.{Written}
+use Rattle.sq_devices.specs.Device.{AppendsOrHides, IsPrefixOf}
+use Rattle.sq_message.specs.declared.squitter.Squitter.{Squitter}
+use Rattle.sq_message.specs.Parts.{squitter_parts}
+use Rattle.sq_text.specs.declared.faults.LineFault.{LineFault}
+use Rattle.sq_text.specs.declared.faults.LineFault.TheVariants as line_faults
+use Rattle.sq_text.specs.declared.timed.TimedSquitter.{TimedSquitter}
+use Rattle.sq_text.specs.Timed.{TimedReader}
+use Rattle.sq_lines.specs.Content.{Answer, answer_by}
+use Rattle.sq_lines.specs.Answers.{Answerer, texts_of}
+use Rattle.sq_track.specs.declared.heard.Heard.{Heard}
+use Rattle.sq_track.specs.declared.heard.TrackFault.{TrackFault}
+use Rattle.sq_track.specs.declared.heard.TrackFault.TheVariants.{Memory, MomentBack}
+use Rattle.sq_track.specs.Held.{Held, StandsFor, settings}
+use Rattle.sq_track.specs.History.{History}
+use Rattle.sq_track.specs.Replies.{Settings, IsHistory, IsReply, history_after}
+use Rattle.sq_commands.specs.declared.heard.HeardFrom.{HeardFrom}
+use Rattle.sq_commands.specs.Heard.{heard_text}
+
+-- ---- by the history
+
+-- what is found of a squitter by the tracker's reply: what was heard of its address, or why it is refused
+abbrev pub found_of : TimedSquitter → Result Heard TrackFault → Result HeardFrom LineFault
+found_of timed (Ok heard) = Ok (record { address = (squitter_parts timed.squitter).address; heard = heard })
+found_of timed (Err (MomentBack last)) = Err (line_faults.MomentBack last)
+found_of timed (Err fault) = Err line_faults.Full
+
+-- the answer to what was read of a line, and the history after it: a line that is empty or at fault changes nothing
+abbrev pub IsHeardLine : Settings → History → Answer TimedSquitter → Answer HeardFrom → History → Type 0
+IsHeardLine s h None answer next = (answer ≡ None) × (next ≡ h)
+IsHeardLine s h (Some (Err fault)) answer next = (answer ≡ Some (Err fault)) × (next ≡ h)
+IsHeardLine s h (Some (Ok timed)) answer next = (reply : Result Heard TrackFault)
+    × IsReply s h timed.moment timed.squitter reply × (reply ≢ Err Memory)
+    × (answer ≡ Some (found_of timed reply)) × (next ≡ history_after h timed.moment timed.squitter reply)
+
+-- the answers to these lines, each by the history before it, and the history after all of them
+abbrev pub AreHeardLines : TimedReader → Settings → History → List (List ℕ) → List (Answer HeardFrom) → History → Type 0
+AreHeardLines reader s h [] answers next = (answers ≡ []) × (next ≡ h)
+AreHeardLines reader s h (line ∷ lines) answers next =
+    (first : Answer HeardFrom) × (then_on : History) × (rest : List (Answer HeardFrom)) × IsHeardLine s h (answer_by reader.read line) first then_on
+    × AreHeardLines reader s then_on lines rest next × (answers ≡ first ∷ rest)
+
+-- what a tracker has heard of these lines: from each history that it stood for it stands for the one after them, and of the
+-- answers, spelled in this way, this holds
+abbrev pub HasHeard : (old new : Held) → List (List ℕ) → ((List (Answer HeardFrom) → List ℕ) → List (Answer HeardFrom) → Type 0) → Type 0
+HasHeard old new lines Holding = (reader : TimedReader) (decimals : DecimalWriter) (h : History) → StandsFor old h
+    → (answers : List (Answer HeardFrom)) × (next : History) × AreHeardLines reader (settings old) h lines answers next
+    × StandsFor new next × Holding (texts_of (heard_text decimals)) answers
+
+-- the text was written up to some place in the last answer's, or the sink tells its bytes no longer
+abbrev pub WroteIntoLast : Written → (List (Answer HeardFrom) → List ℕ) → List (Answer HeardFrom) → Type 0
+WroteIntoLast output text answers = (part : List ℕ) × IsPrefixOf (text (take (length answers - 1) answers)) part
+    × IsPrefixOf part (text answers) × AppendsOrHides output.before output.after part
+
+-- ---- as a function of what came before
+
+-- what replies to calls, but for want of memory
+pub record Replier : Type 0 where
+  pub reply : (s : Settings) (h : History) → IsHistory s h → ℕ → Squitter → Result Heard TrackFault
+  pub replies : (s : Settings) (h : History) (accepted : IsHistory s h) (m : ℕ) (q : Squitter) → IsReply s h m q (reply s h accepted m q)
+  pub remembers : (s : Settings) (h : History) (accepted : IsHistory s h) (m : ℕ) (q : Squitter) → reply s h accepted m q ≢ Err Memory
+
+-- what came before a line: a history, and how lines are read, calls replied to and fractions written
+pub record Tracking : Type 0 where
+  pub reader : TimedReader
+  pub replier : Replier
+  pub decimals : DecimalWriter
+  pub settings : Settings
+  pub history : History
+  pub accepted : IsHistory settings history
+
+abbrev pub reply_by : Tracking → TimedSquitter → Result Heard TrackFault
+reply_by past timed = past.replier.reply past.settings past.history past.accepted timed.moment timed.squitter
+
+abbrev pub answer_heard : Tracking → Answer TimedSquitter → Answer HeardFrom
+answer_heard past None = None
+answer_heard past (Some (Err fault)) = Some (Err fault)
+answer_heard past (Some (Ok timed)) = Some (found_of timed (reply_by past timed))
+
+-- an accepted call goes in front
+abbrev pub past_with : (past : Tracking) (timed : TimedSquitter) (reply : Result Heard TrackFault)
+    → IsReply past.settings past.history timed.moment timed.squitter reply → Tracking
+past_with past timed (Ok heard) is =
+    record past { history = record { moment = timed.moment; squitter = timed.squitter; heard = heard } ∷ past.history; accepted = (is, past.accepted) }
+past_with past timed (Err fault) is = past
+
+abbrev pub past_heard : Tracking → Answer TimedSquitter → Tracking
+past_heard past None = past
+past_heard past (Some (Err fault)) = past
+past_heard past (Some (Ok timed)) =
+    past_with past timed (reply_by past timed) (past.replier.replies past.settings past.history past.accepted timed.moment timed.squitter)
+
+-- how `track` answers lines
+abbrev pub track_way : Answerer Tracking HeardFrom
+track_way = record {
+  answer = λ past line. answer_heard past (answer_by past.reader.read line);
+  after = λ past line. past_heard past (answer_by past.reader.read line);
+  text = λ past. heard_text past.decimals;
+}
+
+-- the tracker stands for the history, under the settings
+abbrev pub IsTracking : Held → Tracking → Type 0
+IsTracking t past = StandsFor t past.history × (settings t ≡ past.settings)

@@ -1,0 +1,74 @@
+//! What was heard of an address, and its text.
+ghost use Rattle.std.specs.Prelude.{◌≡◌, ◌+◌, ◌≤◌, ◌++◌, codes, decimal, length};
+ghost use Rattle.arrayvec.specs.ArrayString.{array_string_len};
+ghost use Rattle.sq_angle.specs.Decimal.{DecimalWriter};
+ghost use Rattle.sq_text.specs.Digits.{hexadecimal};
+ghost use Rattle.sq_commands.specs.Heard.{heard_text, place_words};
+
+use sq_lines::LineText;
+use sq_text::{push_decimal, push_decimals, push_six_places};
+use sq_track::{Heard, Place};
+
+/// What was heard of an address.
+#[derive(Clone, Copy, Debug)]
+pub(crate) struct HeardFrom {
+    pub(crate) address: u32,
+    pub(crate) heard: Heard,
+}
+
+// Appends what `track` says of it, at most 72 bytes.
+pub(crate) fn push_heard(text: &mut LineText, from: &HeardFrom)
+    requires { array_string_len text.old ≤ 21 }
+    ensures bytes { (decimals : DecimalWriter) → text.new.bytes ≡ text.old.bytes ++ heard_text decimals from.now }
+    ensures len { array_string_len text.new ≤ array_string_len text.old + 72 }
+{
+    match &from.heard {
+        Heard::Fix(place) => push_place(text, "fix ", from.address, place),
+        Heard::Followed(place) => push_place(text, "followed ", from.address, place),
+        Heard::Waiting => push_address(text, "waiting ", from.address),
+        Heard::Split(even, odd) => push_split(text, from.address, *even, *odd),
+        Heard::Far => push_address(text, "far ", from.address),
+        Heard::NoSite => push_address(text, "no site ", from.address),
+        Heard::NotPosition => push_address(text, "no position ", from.address),
+    }
+}
+
+// Appends a word and the address.
+fn push_address(text: &mut LineText, word: &str, address: u32)
+    requires word { length word.now ≤ 12 }
+    requires room { array_string_len text.old ≤ 21 }
+    ensures bytes { text.new.bytes ≡ text.old.bytes ++ (word.now ++ hexadecimal 6 address) }
+    ensures len { array_string_len text.new ≤ array_string_len text.old + 18 }
+{
+    text.push_str(word);
+    push_six_places(text, address);
+}
+
+// Appends a word, the address, and the place with seven decimals.
+fn push_place(text: &mut LineText, word: &str, address: u32, place: &Place)
+    requires word { length word.now ≤ 12 }
+    requires room { array_string_len text.old ≤ 21 }
+    ensures bytes { (decimals : DecimalWriter)
+        → text.new.bytes ≡ text.old.bytes ++ (word.now ++ hexadecimal 6 address ++ codes " " ++ place_words decimals place.now) }
+    ensures len { array_string_len text.new ≤ array_string_len text.old + 72 }
+{
+    push_address(text, word, address);
+    let position = place.position();
+    text.push_str(" ");
+    push_decimals(text, &position.lat());
+    text.push_str(" ");
+    push_decimals(text, &position.lon());
+}
+
+// Appends the address and both zone counts.
+fn push_split(text: &mut LineText, address: u32, even: u8, odd: u8)
+    requires { array_string_len text.old ≤ 21 }
+    ensures bytes { text.new.bytes ≡ text.old.bytes ++ (codes "split " ++ hexadecimal 6 address ++ codes " " ++ (decimal even ++ codes " " ++ decimal odd)) }
+    ensures len { array_string_len text.new ≤ array_string_len text.old + 72 }
+{
+    push_address(text, "split ", address);
+    text.push_str(" ");
+    push_decimal(text, u64::from(even));
+    text.push_str(" ");
+    push_decimal(text, u64::from(odd));
+}
