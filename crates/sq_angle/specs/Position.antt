@@ -1,5 +1,7 @@
 -- A position's parts.
 use Rattle.sq_angle.specs.declared.angle.Angle.{Angle}
+use Rattle.sq_angle.specs.Angle.{degrees}
+use Rattle.sq_angle.specs.Fraction.{◌≃◌}
 use Rattle.sq_angle.specs.declared.position.Position.{Position}
 
 -- the latitude, north of the equator
@@ -9,3 +11,7 @@ lat_of p = p.lat
 -- the longitude, east of the prime meridian
 abbrev pub lon_of : Position → Angle
 lon_of p = p.lon
+
+-- both angles of the two positions have one value
+abbrev pub HaveEqualAngles : Position → Position → Type 0
+HaveEqualAngles x y = (degrees (lat_of x) ≃ degrees (lat_of y)) × (degrees (lon_of x) ≃ degrees (lon_of y))

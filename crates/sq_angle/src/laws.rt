@@ -1,7 +1,14 @@
 //! Laws of fractions and of the texts of angles, over the same definitions as the calls' contracts.
 //!
-//! Each function does nothing: its contract is the law.
+//! A function with an empty body does nothing: its contract is the law. The others make the call that they speak of.
+ghost use Rattle.std.specs.Prelude.{◌↔◌, IsTrue};
+ghost use Rattle.sq_angle.specs.Angle.{degrees};
+ghost use Rattle.sq_angle.specs.Fraction.{◌≃◌, ◌≺◌};
+ghost use Rattle.sq_angle.specs.Position.{HaveEqualAngles};
 ghost use Rattle.sq_angle.specs.Laws.{OneLowestForm, OneLowestFormOfAngles, OrderedByValue, WithinAsFractions, OneDecimal7, OneSpelling, OneReading};
+
+use crate::angle::Angle;
+use crate::position::Position;
 
 /// Two fractions have one value exactly if they have one form in lowest terms.
 pub fn one_lowest_form()
@@ -33,3 +40,24 @@ pub fn one_spelling()
 pub fn one_reading()
     ensures { OneReading }
 {}
+
+/// Whether two angles are equal, as `==` tells: exactly if they have one value.
+pub fn equal_angles(a: &Angle, b: &Angle) -> bool
+    ensures { IsTrue result ↔ (degrees a.now ≃ degrees b.now) }
+{
+    a == b
+}
+
+/// Whether the first angle is below the second, as `<` tells: exactly if its value is.
+pub fn is_below(a: &Angle, b: &Angle) -> bool
+    ensures { IsTrue result ↔ (degrees a.now ≺ degrees b.now) }
+{
+    a < b
+}
+
+/// Whether two positions are equal, as `==` tells: exactly if both angles have one value.
+pub fn equal_positions(a: &Position, b: &Position) -> bool
+    ensures { IsTrue result ↔ HaveEqualAngles a.now b.now }
+{
+    a == b
+}

@@ -1,4 +1,5 @@
 //! Worked angles: limits, values, texts read and written, positions.
+use crate::laws::{equal_angles, equal_positions, is_below};
 use crate::{Angle, AngleFault, Position};
 
 #[test]
@@ -186,4 +187,19 @@ fn positions(rt: HostRuntime) {
     assert_eq!(rt; position.lon().num(), -180);
     assert!(rt; Position::new(pole, west_in_halves) == Some(position));
     assert!(rt; Position::new(pole, pole) != Some(position));
+}
+
+#[test]
+fn calls_of_equality_and_order(rt: HostRuntime) {
+    let zero = Angle::new(0, 1).expect(&rt, "an angle");
+    let half = Angle::new(1, 2).expect(&rt, "an angle");
+    let quarters = Angle::new(2, 4).expect(&rt, "an angle");
+    assert!(rt; equal_angles(&half, &quarters) && !equal_angles(&half, &zero));
+    assert!(rt; is_below(&zero, &half) && !is_below(&half, &zero) && !is_below(&half, &quarters));
+    let here = Position::new(zero, half).expect(&rt, "a position");
+    let same = Position::new(zero, quarters).expect(&rt, "a position");
+    let north = Position::new(half, half).expect(&rt, "a position");
+    let west = Position::new(zero, zero).expect(&rt, "a position");
+    assert!(rt; equal_positions(&here, &same));
+    assert!(rt; !equal_positions(&here, &north) && !equal_positions(&here, &west));
 }

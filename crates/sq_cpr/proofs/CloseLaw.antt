@@ -17,7 +17,7 @@ use Rattle.sq_cpr.proofs.Spans.{span_bounds}
 use Rattle.sq_cpr.proofs.ZonePairs.{Paired, zone_exists}
 
 -- the one index of a circle
-residue : (m : ℕ) (z : ℤ) → 0 < m → (r : ℕ) × (r < m) × IsCongruent m (pos r) z
+pub residue : (m : ℕ) (z : ℤ) → 0 < m → (r : ℕ) × (r < m) × IsCongruent m (pos r) z
 residue m z h =
     let b = rem_is_pos z m h in
     let back : IsCongruent m z (pos b.0) = rw b.1 at (congruent_rem z m h) in

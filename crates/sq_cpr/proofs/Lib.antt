@@ -20,3 +20,5 @@ pub mod NearestPoints
 pub mod SlowLaw
 pub mod SiteLaw
 pub mod FollowLaw
+pub mod Exact
+pub mod SomeAnswers

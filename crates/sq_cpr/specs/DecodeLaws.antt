@@ -159,3 +159,19 @@ abbrev pub FollowingIsNear : ℕ → ℕ → Type 0
 FollowingIsNear degrees repeats =
     (x y : Position) (a b : Point) → PositionRoundsTo degrees repeats x a → PositionRoundsTo degrees repeats y b → AreSlowForFollowing degrees a b x y
     → IsStrictlyNearPoint degrees repeats (latitude degrees b) (longitude degrees b) a × IsStrictlyNearPoint degrees repeats (latitude degrees a) (longitude degrees a) b
+
+-- decoding near a reference has an answer
+abbrev pub SomeLocalAnswer : ℕ → ℕ → Type 0
+SomeLocalAnswer degrees repeats =
+    (code : CodeNumbers) (parity : Parity) (lat lon : Fraction) → 0 < lat.den → 0 < lon.den
+    → (answer : Result Point LocalFault) × LocalAnswer degrees repeats code parity lat lon answer
+
+-- decoding a pair at a place has an answer
+abbrev pub SomePairAnswer : ℕ → ℕ → Type 0
+SomePairAnswer degrees repeats =
+    (even odd : CodeNumbers) (newest : Parity) (lat lon : Fraction) → 0 < lat.den → 0 < lon.den
+    → (answer : Result Point PairFault) × PairAnswer degrees repeats even odd newest lat lon answer
+
+-- decoding a pair in the air has an answer
+abbrev pub SomeAirPairAnswer : Type 0
+SomeAirPairAnswer = (even odd : CodeNumbers) (newest : Parity) → (answer : Result Point PairFault) × AirPairAnswer even odd newest answer

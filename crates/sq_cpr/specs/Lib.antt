@@ -10,3 +10,4 @@ pub mod Local
 pub mod Pair
 pub mod Slow
 pub mod DecodeLaws
+pub mod Exactly

@@ -1,12 +1,15 @@
 //! Laws of grids, codes, zones and decoding, over the definitions that the calls' contracts name.
 //!
-//! Each function but the last does nothing: its contract is the law.
+//! A function with an empty body does nothing: its contract is the law. The others make the call that they speak of.
 ghost use Rattle.std.specs.Prelude.{◌≡◌, ◌↔◌, IsTrue};
+ghost use Rattle.sq_cpr.specs.Code.{numbers_of};
 ghost use Rattle.sq_cpr.specs.Laws.{RoundsToOne, RoundsToItself, OnePairOfZones, SameZones, SamePoints, OneCode};
 ghost use Rattle.sq_cpr.specs.DecodeLaws.{FractionsAgree, OneNearLatitude, OneNearLongitude, OneLocalAnswer, StrictlyNearIsNear, NearPointIsLocal, StrictlyNearPointIsLocal, LocalKeepsCode};
 ghost use Rattle.sq_cpr.specs.DecodeLaws.{OneCloseLatitudes, OneCloseLongitudes, OneZoneIsClose, OnePairAnswer, OneAirPairAnswer, PairKeepsCode, AirPairKeepsCode, CloseAirPointsAreAnswered, CloseGroundPointsAreAnswered};
-ghost use Rattle.sq_cpr.specs.DecodeLaws.{TameAirPointsAreAnswered, TameGroundPointsAreAnswered, SlowIsTame, RoundsNearSite, FollowingIsNear};
+ghost use Rattle.sq_cpr.specs.DecodeLaws.{TameAirPointsAreAnswered, TameGroundPointsAreAnswered, SlowIsTame, RoundsNearSite, FollowingIsNear, SomeLocalAnswer, SomePairAnswer, SomeAirPairAnswer};
+ghost use Rattle.sq_cpr.specs.Exactly.{Across180Degrees, AtTheLimits, CloseExactly, DifferAroundExactly, DifferExactly, FollowingExactly, LimitsAsNumbers, LimitsInWords, PointWithinExactly, SlowExactly, TurnsChangeNothing, WithinExactly};
 
+use crate::code::Code;
 use crate::grid::GridPoint;
 use crate::span::Span;
 
@@ -152,6 +155,66 @@ pub fn following_is_near<S: Span>()
     ensures { FollowingIsNear S.DEGREES S.REPEATS }
 {}
 
+/// Two angles differ by less than a limit exactly where each lies below the other and the limit together; modulo 360
+/// degrees, exactly where some turns on they do.
+pub fn differ_exactly()
+    ensures straight { DifferExactly }
+    ensures around { DifferAroundExactly }
+{}
+
+/// Whole turns of either change nothing of a difference modulo 360 degrees.
+pub fn turns_change_nothing()
+    ensures { TurnsChangeNothing }
+{}
+
+/// Longitudes either side of 180 degrees.
+pub fn across_180_degrees()
+    ensures { Across180Degrees }
+{}
+
+/// Differences next to the limits, where points have 59 and 58 zones.
+pub fn at_the_limits()
+    ensures { AtTheLimits }
+{}
+
+/// The limits of slow positions, as numbers and by the zones of a span.
+pub fn limits_of_slow()
+    ensures numbers { LimitsAsNumbers }
+    ensures words { LimitsInWords }
+{}
+
+/// Slow is this and no more.
+pub fn slow_exactly<S: Span>()
+    ensures { SlowExactly S.DEGREES }
+{}
+
+/// Slow for following is this and no more.
+pub fn following_exactly<S: Span>()
+    ensures { FollowingExactly S.DEGREES }
+{}
+
+/// Within so many degrees of a site is this and no more, for positions and for points.
+pub fn within_exactly<S: Span>()
+    ensures positions { WithinExactly }
+    ensures points { PointWithinExactly S.DEGREES S.REPEATS }
+{}
+
+/// Points are close exactly where they are tame and have one zone count.
+pub fn close_exactly<S: Span>()
+    ensures { CloseExactly S.DEGREES }
+{}
+
+/// Decoding near a reference has an answer.
+pub fn some_local_answer<S: Span>()
+    ensures { SomeLocalAnswer S.DEGREES S.REPEATS }
+{}
+
+/// Decoding a pair has an answer, at a place and in the air.
+pub fn some_pair_answer<S: Span>()
+    ensures at_a_place { SomePairAnswer S.DEGREES S.REPEATS }
+    ensures in_air { SomeAirPairAnswer }
+{}
+
 /// Whether two points are equal, which they are exactly if their parity and both indices are.
 pub fn equal_points<S: Span>(a: &GridPoint<S>, b: &GridPoint<S>) -> bool
     ensures equal { IsTrue result ↔ (a.now ≡ b.now) }
@@ -160,4 +223,11 @@ pub fn equal_points<S: Span>(a: &GridPoint<S>, b: &GridPoint<S>) -> bool
     // each call says that its point is one of the grid
     let _ = (a.parity(), b.parity());
     a == b
+}
+
+/// Whether two codes are equal, as `==` tells: exactly if both numbers are.
+pub fn equal_codes(code: &Code, other: &Code) -> bool
+    ensures { IsTrue result ↔ (numbers_of code.now ≡ numbers_of other.now) }
+{
+    code == other
 }

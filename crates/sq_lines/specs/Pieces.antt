@@ -1,27 +1,49 @@
--- The takes of a cutter over an input that comes in pieces.
-use Rattle.std.specs.Prelude.{◌≡◌, ◌++◌, ℕ, List, [], ◌∷◌}
-use Rattle.std.specs.List.{All, flat_map}
-use Rattle.sq_lines.specs.Lines.{HasNoFeed, with_feed, as_last_line, lines_of}
+-- The takes of a cutter over an input that comes in pieces, by what it holds after each.
+use Rattle.std.specs.Prelude.{◌≡◌, ◌==◌, ◌++◌, ⊤, ℕ, Bool, List, [], ◌∷◌, length, take, map, nat_lt, if◌then◌else◌}
+use Rattle.std.specs.List.{before_first, flat_map}
+use Rattle.sq_lines.specs.Held.{Held, GoesOn, Holds, count_through, empty_line, has_feed}
+use Rattle.sq_lines.specs.Lines.{is_feed, lines_of}
 
--- what one take took: bytes and a line feed, or bytes alone
-pub data Take : Type 0 where
-  Ended : (front : List ℕ) → Take
-  Unended : (front : List ℕ) → Take
+-- what `take` of this piece makes of what was held: whether a line is complete, and its bytes so far
+pub record IsTake (before : Held) (piece : List ℕ) (after : Held) : Type 0 where
+  pub noted : after.is_complete ≡ has_feed piece
+  pub held : (line : List ℕ) → GoesOn before line → Holds after (line ++ before_first is_feed piece)
 
-abbrev pub front_of : Take → List ℕ
-front_of (Ended front) = front
-front_of (Unended front) = front
+-- a take: the piece, and what is held after it
+pub record Step : Type 0 where
+  pub piece : List ℕ
+  pub after : Held
 
-abbrev pub bytes_of : Take → List ℕ
-bytes_of (Ended front) = with_feed front
-bytes_of (Unended front) = front
+-- takes, one after the other
+abbrev pub AreTakes : Held → List Step → Type 0
+AreTakes before [] = ⊤
+AreTakes before (step ∷ steps) = IsTake before step.piece step.after × AreTakes step.after steps
 
--- the lines that the takes complete, and what is held after them, unless it is empty
-abbrev pub lines_from : List ℕ → List Take → List (List ℕ)
-lines_from held [] = as_last_line held
-lines_from held (Ended front ∷ takes) = (held ++ front) ∷ lines_from [] takes
-lines_from held (Unended front ∷ takes) = lines_from (held ++ front) takes
+-- the bytes that were taken of the piece
+abbrev pub taken : Step → List ℕ
+taken step = take (count_through step.piece) step.piece
 
--- however the input is cut into pieces, the takes give its lines
+-- what a cutter tells of a line: its first 64 bytes, and whether there are more
+pub record Told : Type 0 where
+  pub front : List ℕ
+  pub is_long : Bool
+
+abbrev pub told_of : List ℕ → Told
+told_of line = record { front = take 64 line; is_long = nat_lt 64 (length line) }
+
+abbrev pub told_by : Held → Told
+told_by held = record { front = held.line; is_long = held.is_long }
+
+-- what is held in the end is a line unless it was complete, and told as such, or is empty
+abbrev pub told_last : Held → List Told
+told_last held = if held.is_complete then [] else (if length held.line == 0 then [] else told_by held ∷ [])
+
+-- what is told of the lines, each when it is complete, and of the last one
+abbrev pub lines_told : Held → List Step → List Told
+lines_told held [] = told_last held
+lines_told held (step ∷ steps) = if step.after.is_complete then told_by step.after ∷ lines_told step.after steps else lines_told step.after steps
+
+-- However an input is cut into pieces: what a cutter tells of its lines, from an empty one on, is in order what there is to
+-- tell of the lines of the whole.
 abbrev pub GivesTheLines : Type 0
-GivesTheLines = (takes : List Take) → All (λ t. HasNoFeed (front_of t)) takes → lines_from [] takes ≡ lines_of (flat_map bytes_of takes)
+GivesTheLines = (steps : List Step) → AreTakes empty_line steps → lines_told empty_line steps ≡ map told_of (lines_of (flat_map taken steps))

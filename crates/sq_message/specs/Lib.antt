@@ -6,3 +6,4 @@ pub mod Heads
 pub mod Sending
 pub mod Places
 pub mod Headline
+pub mod Calls

@@ -74,6 +74,16 @@ pub record IsSentOnGround (head : GroundHeadParts) (parity : Parity) (position :
   pub is_frame : IsFrame frame
   pub spelled : Spells frame squitter
 
+-- The frame is the one that is sent in the air with this head of the position: by the point to which it rounds.
+abbrev pub IsFrameInAir : AirHeadParts → Parity → Position → Frame → Type 0
+IsFrameInAir head parity position frame =
+    (point : Point) → point.parity ≡ parity → RoundsInAir position point → IsSentInAir head parity position point frame
+
+-- the same on the ground
+abbrev pub IsFrameOnGround : GroundHeadParts → Parity → Position → Frame → Type 0
+IsFrameOnGround head parity position frame =
+    (point : Point) → point.parity ≡ parity → RoundsOnGround position point → IsSentOnGround head parity position point frame
+
 -- Two positions in the same zones of a parity's grid of the air, with one head, have one frame exactly if they round to one
 -- point.
 abbrev pub SameZonesInAir : Type 0

@@ -1,23 +1,30 @@
 //! Laws of frames, squitters and altitudes. The contracts of the calls name the same definitions.
-ghost use Rattle.std.specs.Prelude.{◌≡◌, ◌≤◌, ◌↔◌, ℕ, ℤ, Result, IfErr, IfOk, option_map};
+//!
+//! A function with an empty body does nothing: its contract is the law. The others make the calls that they speak of, and
+//! answer what each of them answered.
+ghost use Rattle.std.specs.Prelude.{◌≡◌, ◌≤◌, ◌↔◌, ℕ, ℤ, None, Some, Result, Ok, Err, IfErr, IfOk, IfSome, option_map};
 ghost use Rattle.sq_bits.specs.declared.frame.Frame.{Frame};
 ghost use Rattle.sq_bits.specs.Frames.{IsFrame};
 ghost use Rattle.sq_message.specs.declared.air.Altitude.{Altitude};
 ghost use Rattle.sq_message.specs.declared.air.Altitude.TheVariants.{Feet};
 ghost use Rattle.sq_message.specs.declared.squitter.FrameFault.{FrameFault};
 ghost use Rattle.sq_message.specs.declared.squitter.Squitter.{Squitter};
+ghost use Rattle.sq_message.specs.declared.place.Place.TheVariants.{Air, Ground};
+ghost use Rattle.sq_zones.specs.declared.parity.Parity.TheVariants.{Even, Odd};
 ghost use Rattle.sq_cpr.specs.Grid.{Point};
+ghost use Rattle.sq_cpr.specs.Pair.{of_parity};
 ghost use Rattle.sq_cpr.specs.Zones.{ZonePair};
 ghost use Rattle.sq_message.specs.Altitudes.{IsAltitude, IsFieldOfFeet};
+ghost use Rattle.sq_message.specs.Calls.{DecodedIsSentAgain, HasNoPlaceNear, HaveNoPlace, IsAirPlaceOfClose, IsGroundPlaceOfClose, IsPlaceOfPair, IsReadingNear, IsReadingOfNewer, IsReadingOfPair, IsSentAgain, IsStrictlyNearInAir, IsStrictlyNearOnGround};
+ghost use Rattle.sq_message.specs.Heads.{air_head_parts, ground_head_parts};
 ghost use Rattle.sq_message.specs.Headline.{ClosePairInAir, ClosePairOnGround, NearReferenceInAir, NearReferenceOnGround, OneLocalPlace, OnePairPlace, SentAgainInAir, SentAgainOnGround, WrittenAgain};
 ghost use Rattle.sq_message.specs.Parts.{squitter_parts};
-ghost use Rattle.sq_message.specs.Places.{IsLocalPlace, IsPairPlace};
-ghost use Rattle.sq_message.specs.Sending.{IsInAirZones, IsInGroundZones, RoundsInAir, RoundsOnGround, SameZonesInAir, SameZonesOnGround};
+ghost use Rattle.sq_message.specs.Places.{IsLocalPlace, IsSentAt};
+ghost use Rattle.sq_message.specs.Sending.{IsFrameInAir, IsFrameOnGround, IsInAirZones, IsInGroundZones, RoundsInAir, RoundsOnGround, SameZonesInAir, SameZonesOnGround};
 ghost use Rattle.sq_message.specs.Spelling.{IsReading, Spells};
 
 use crate::{
-    AirHead, Frame, FrameFault, GroundHead, Parity, PlaceFault, Position, Squitter, place_local,
-    place_pair, read_frame, send_air, send_ground, send_point, write_frame,
+    AirHead, Frame, FrameFault, GroundHead, Parity, Place, PlaceFault, Position, Squitter, place_local, place_pair, read_frame, send_air, send_ground, send_point, write_frame,
 };
 use sq_bits::laws::each_frame;
 
@@ -36,21 +43,35 @@ pub fn one_frame()
     ensures { (f g : Frame) (q : Squitter) → IsFrame f → IsFrame g → Spells f q → Spells g q → f ≡ g }
 {}
 
-/// What is written is read as what it was.
-pub fn read_of_written(squitter: &Squitter) -> Result<Squitter, FrameFault>
-    ensures { result ≡ Ok squitter.now }
+/// Whatever is read of a frame that spells a squitter is that squitter.
+pub fn spelled_is_read()
+    ensures { (f : Frame) (q : Squitter) (r : Result Squitter FrameFault) → Spells f q → IsReading f r → r ≡ Ok q }
+{}
+
+/// What is written is read as what it was: the frame of a squitter, and what is read of that frame.
+pub fn read_of_written(squitter: &Squitter) -> (Frame, Result<Squitter, FrameFault>)
+    ensures written { Spells result.0 squitter.now }
+    ensures read { IsReading result.0 result.1 }
+    ensures same { result.1 ≡ Ok squitter.now }
 {
-    read_frame(&write_frame(squitter))
+    let frame = write_frame(squitter);
+    let read = read_frame(&frame);
+    (frame, read)
 }
 
-/// What was read is written as the frame that it was.
-pub fn written_of_read(frame: &Frame) -> Result<Frame, FrameFault>
-    ensures written { (q : Squitter) → IsReading frame.now (Ok q) → result ≡ Ok frame.now }
-    ensures refused { (fault : FrameFault) → IsReading frame.now (Err fault) → result ≡ Err fault }
+/// What was read is written as the frame that it was: the squitter that a frame spells, and the frame that is written of it.
+/// `Err` is the fault of [`read_frame`].
+pub fn written_of_read(frame: &Frame) -> Result<(Squitter, Frame), FrameFault>
+    ensures read { IfOk result (λ both. IsReading frame.now (Ok both.0)) }
+    ensures written { IfOk result (λ both. Spells both.1 both.0) }
+    ensures same { IfOk result (λ both. both.1 ≡ frame.now) }
+    ensures refused { IfErr result (λ fault. IsReading frame.now (Err fault)) }
 {
     each_frame(frame);
     let squitter = read_frame(frame)?;
-    Ok(write_frame(&squitter))
+    let written = write_frame(&squitter);
+    each_frame(&written);
+    Ok((squitter, written))
 }
 
 /// A field has one meaning under a type code.
@@ -76,15 +97,17 @@ pub fn same_zones_on_ground()
     ensures { SameZonesOnGround }
 {}
 
-/// The frames that are sent of two positions in the air with one head. Where the positions lie in the same zones, they are
-/// equal exactly if the positions round to one point.
+/// The frames that are sent of two positions in the air with one head, in the order of the positions. Where the positions
+/// lie in the same zones, the frames are equal exactly if the positions round to one point.
 pub fn frames_in_air(
     head: AirHead,
     parity: Parity,
     here: &Position,
     there: &Position,
 ) -> (Frame, Frame)
-    ensures { (zones : ZonePair) (p q : Point) → IsInAirZones parity here.now zones → IsInAirZones parity there.now zones
+    ensures here { IsFrameInAir (air_head_parts head) parity here.now result.0 }
+    ensures there { IsFrameInAir (air_head_parts head) parity there.now result.1 }
+    ensures same { (zones : ZonePair) (p q : Point) → IsInAirZones parity here.now zones → IsInAirZones parity there.now zones
         → p.parity ≡ parity → q.parity ≡ parity → RoundsInAir here.now p → RoundsInAir there.now q
         → (result.0 ≡ result.1) ↔ (p ≡ q) }
 {
@@ -95,15 +118,17 @@ pub fn frames_in_air(
     (from_here, from_there)
 }
 
-/// The frames that are sent of two positions on the ground with one head. Where the positions lie in the same zones, they are
-/// equal exactly if the positions round to one point.
+/// The frames that are sent of two positions on the ground with one head, in the order of the positions. Where the positions
+/// lie in the same zones, the frames are equal exactly if the positions round to one point.
 pub fn frames_on_ground(
     head: GroundHead,
     parity: Parity,
     here: &Position,
     there: &Position,
 ) -> (Frame, Frame)
-    ensures { (zones : ZonePair) (p q : Point) → IsInGroundZones parity here.now zones → IsInGroundZones parity there.now zones
+    ensures here { IsFrameOnGround (ground_head_parts head) parity here.now result.0 }
+    ensures there { IsFrameOnGround (ground_head_parts head) parity there.now result.1 }
+    ensures same { (zones : ZonePair) (p q : Point) → IsInGroundZones parity here.now zones → IsInGroundZones parity there.now zones
         → p.parity ≡ parity → q.parity ≡ parity → RoundsOnGround here.now p → RoundsOnGround there.now q
         → (result.0 ≡ result.1) ↔ (p ≡ q) }
 {
@@ -124,26 +149,42 @@ pub fn one_pair_place()
     ensures { OnePairPlace }
 {}
 
-/// A squitter that is decoded near a reference and sent again: it is the same squitter. `Err` is the fault of [`place_local`].
-pub fn local_again(squitter: &Squitter, reference: &Position) -> Result<Squitter, PlaceFault>
-    ensures again { IfOk result (λ again. again ≡ squitter.now) }
+/// What is sent of a place that a squitter is decoded to is that squitter.
+pub fn decoded_is_sent_again()
+    ensures { DecodedIsSentAgain }
+{}
+
+/// A squitter that is decoded near a reference, and sent again: its place, and what is sent of that, which is the same
+/// squitter. `Err` is the fault of [`place_local`].
+pub fn local_again(
+    squitter: &Squitter,
+    reference: &Position,
+) -> Result<(Place, Squitter), PlaceFault>
+    ensures decoded { IfOk result (λ both. IsLocalPlace (squitter_parts squitter.now).me reference.now (Ok both.0)) }
+    ensures sent { IfOk result (λ both. IsSentAt (squitter_parts squitter.now) both.0 (squitter_parts both.1)) }
+    ensures same { IfOk result (λ both. both.1 ≡ squitter.now) }
     ensures refused { IfErr result (λ fault. IsLocalPlace (squitter_parts squitter.now).me reference.now (Err fault)) }
 {
     let place = place_local(squitter, reference)?;
-    Ok(send_point(squitter, &place))
+    let again = send_point(squitter, &place);
+    Ok((place, again))
 }
 
-/// The newer squitter of a pair that is decoded, sent again: it is the same squitter. `Err` is the fault of [`place_pair`].
+/// The newer squitter of a pair that is decoded, and sent again: its place, and what is sent of that, which is the same
+/// squitter. `Err` is the fault of [`place_pair`].
 pub fn pair_again(
     older: &Squitter,
     newer: &Squitter,
     site: Option<&Position>,
-) -> Result<Squitter, PlaceFault>
-    ensures again { IfOk result (λ again. again ≡ newer.now) }
-    ensures refused { IfErr result (λ fault. IsPairPlace (squitter_parts older.now) (squitter_parts newer.now) (option_map (λ s. s.now) site.entry) (Err fault)) }
+) -> Result<(Place, Squitter), PlaceFault>
+    ensures decoded { IfOk result (λ both. IsPlaceOfPair older.now newer.now (option_map (λ s. s.now) site.entry) (Ok both.0)) }
+    ensures sent { IfOk result (λ both. IsSentAt (squitter_parts newer.now) both.0 (squitter_parts both.1)) }
+    ensures same { IfOk result (λ both. both.1 ≡ newer.now) }
+    ensures refused { IfErr result (λ fault. IsPlaceOfPair older.now newer.now (option_map (λ s. s.now) site.entry) (Err fault)) }
 {
     let place = place_pair(older, newer, site)?;
-    Ok(send_point(newer, &place))
+    let again = send_point(newer, &place);
+    Ok((place, again))
 }
 
 /// What frames of positions say, whole.
@@ -169,3 +210,176 @@ pub fn headline()
     ensures sent_again_in_air { SentAgainInAir }
     ensures sent_again_on_ground { SentAgainOnGround }
 {}
+
+// The squitter that a frame spells, where it spells one.
+fn read_spelled(frame: &Frame) -> Squitter
+    requires { (q : Squitter) × Spells frame.now q }
+    ensures { IsReading frame.now (Ok result) }
+{
+    read_frame(frame).unwrap()
+}
+
+/// A position that is sent in the air and read near a reference: the frame, and what it is decoded to.
+///
+/// Where the reference lies strictly within half a zone, in both coordinates, of the point to which the position rounds, that
+/// is this point.
+pub fn read_near_of_sent_in_air(
+    head: AirHead,
+    parity: Parity,
+    position: &Position,
+    reference: &Position,
+) -> (Frame, Result<Place, PlaceFault>)
+    ensures sent { IsFrameInAir (air_head_parts head) parity position.now result.0 }
+    ensures read { IsReadingNear result.0 reference.now result.1 }
+    ensures point { (point : Point) → point.parity ≡ parity → RoundsInAir position.now point → IsStrictlyNearInAir reference.now point
+        → result.1 ≡ Ok (Air point) }
+{
+    let frame = write_frame(&send_air(head, position, parity));
+    each_frame(&frame);
+    let squitter = read_spelled(&frame);
+    let place = place_local(&squitter, reference);
+    (frame, place)
+}
+
+/// The same on the ground.
+pub fn read_near_of_sent_on_ground(
+    head: GroundHead,
+    parity: Parity,
+    position: &Position,
+    reference: &Position,
+) -> (Frame, Result<Place, PlaceFault>)
+    ensures sent { IsFrameOnGround (ground_head_parts head) parity position.now result.0 }
+    ensures read { IsReadingNear result.0 reference.now result.1 }
+    ensures point { (point : Point) → point.parity ≡ parity → RoundsOnGround position.now point → IsStrictlyNearOnGround reference.now point
+        → result.1 ≡ Ok (Ground point) }
+{
+    let frame = write_frame(&send_ground(head, position, parity));
+    each_frame(&frame);
+    let squitter = read_spelled(&frame);
+    let place = place_local(&squitter, reference);
+    (frame, place)
+}
+
+// The place of the newest of two squitters, of which one is even and one odd.
+fn place_of_newest(
+    newest: Parity,
+    even: &Squitter,
+    odd: &Squitter,
+    site: Option<&Position>,
+) -> Result<Place, PlaceFault>
+    ensures { IsPlaceOfPair (of_parity newest odd.now even.now) (of_parity newest even.now odd.now) (option_map (λ s. s.now) site.entry) result }
+{
+    match newest {
+        Parity::Even => place_pair(odd, even, site),
+        Parity::Odd => place_pair(even, odd, site),
+    }
+}
+
+/// An even and an odd position that are sent in the air and read as a pair: the even frame, the odd one, and what they are
+/// decoded to, where the newest is the one of this parity. The site plays no part.
+///
+/// Where the heads have one address and the points to which the positions round are close, with one zone count, that is the
+/// newest one's point.
+pub fn read_pair_of_sent_in_air(
+    even_head: AirHead,
+    even_position: &Position,
+    odd_head: AirHead,
+    odd_position: &Position,
+    newest: Parity,
+    site: Option<&Position>,
+) -> (Frame, Frame, Result<Place, PlaceFault>)
+    ensures even { IsFrameInAir (air_head_parts even_head) Even even_position.now result.0 }
+    ensures odd { IsFrameInAir (air_head_parts odd_head) Odd odd_position.now result.1 }
+    ensures read { IsReadingOfPair newest result.0 result.1 (option_map (λ s. s.now) site.entry) result.2 }
+    ensures point { (air_head_parts even_head).address ≡ (air_head_parts odd_head).address
+        → IsAirPlaceOfClose newest even_position.now odd_position.now result.2 }
+{
+    let even = write_frame(&send_air(even_head, even_position, Parity::Even));
+    let odd = write_frame(&send_air(odd_head, odd_position, Parity::Odd));
+    each_frame(&even);
+    each_frame(&odd);
+    let even_squitter = read_spelled(&even);
+    let odd_squitter = read_spelled(&odd);
+    let place = place_of_newest(newest, &even_squitter, &odd_squitter, site);
+    (even, odd, place)
+}
+
+/// The same on the ground, with a site: where both points lie less than 45 degrees from it in both coordinates as well.
+pub fn read_pair_of_sent_on_ground(
+    even_head: GroundHead,
+    even_position: &Position,
+    odd_head: GroundHead,
+    odd_position: &Position,
+    newest: Parity,
+    site: &Position,
+) -> (Frame, Frame, Result<Place, PlaceFault>)
+    ensures even { IsFrameOnGround (ground_head_parts even_head) Even even_position.now result.0 }
+    ensures odd { IsFrameOnGround (ground_head_parts odd_head) Odd odd_position.now result.1 }
+    ensures read { IsReadingOfPair newest result.0 result.1 (Some site.now) result.2 }
+    ensures point { (ground_head_parts even_head).address ≡ (ground_head_parts odd_head).address
+        → IsGroundPlaceOfClose newest even_position.now odd_position.now site.now result.2 }
+{
+    let even = write_frame(&send_ground(even_head, even_position, Parity::Even));
+    let odd = write_frame(&send_ground(odd_head, odd_position, Parity::Odd));
+    each_frame(&even);
+    each_frame(&odd);
+    let even_squitter = read_spelled(&even);
+    let odd_squitter = read_spelled(&odd);
+    let place = place_of_newest(newest, &even_squitter, &odd_squitter, Some(site));
+    (even, odd, place)
+}
+
+/// A frame that is read, decoded near a reference and sent again: its squitter, the place, and the frame that is written of
+/// that place, which is the same frame.
+///
+/// `None` exactly where the frame spells no squitter, or this is decoded to no place.
+pub fn sent_again_near(frame: &Frame, reference: &Position) -> Option<(Squitter, Place, Frame)>
+    ensures decoded { IfSome result (λ all. IsLocalPlace (squitter_parts all.0).me reference.now (Ok all.1)) }
+    ensures again { IfSome result (λ all. IsSentAgain frame.now all.0 all.1 all.2) }
+    ensures none { result ≡ None → HasNoPlaceNear frame.now reference.now }
+{
+    let Ok(squitter) = read_frame(frame) else {
+        return None;
+    };
+    match local_again(&squitter, reference) {
+        Ok((place, again)) => Some((squitter, place, written_as(frame, &again))),
+        Err(_) => None,
+    }
+}
+
+/// Two frames that are read and decoded as a pair, and the newer sent again: its squitter, the place, and the frame that is
+/// written of that place, which is the newer frame.
+///
+/// `None` exactly where one of the frames spells no squitter, or both are decoded to no place.
+pub fn sent_again_of_pair(
+    older: &Frame,
+    newer: &Frame,
+    site: Option<&Position>,
+) -> Option<(Squitter, Place, Frame)>
+    ensures decoded { IfSome result (λ all. IsReadingOfNewer older.now all.0 (option_map (λ s. s.now) site.entry) all.1) }
+    ensures again { IfSome result (λ all. IsSentAgain newer.now all.0 all.1 all.2) }
+    ensures none { result ≡ None → HaveNoPlace older.now newer.now (option_map (λ s. s.now) site.entry) }
+{
+    let Ok(earlier) = read_frame(older) else {
+        return None;
+    };
+    let Ok(squitter) = read_frame(newer) else {
+        return None;
+    };
+    match pair_again(&earlier, &squitter, site) {
+        Ok((place, again)) => Some((squitter, place, written_as(newer, &again))),
+        Err(_) => None,
+    }
+}
+
+// The frame of a squitter that a frame spells, which is that frame.
+fn written_as(frame: &Frame, squitter: &Squitter) -> Frame
+    requires { Spells frame.now squitter.now }
+    ensures written { Spells result squitter.now }
+    ensures same { result ≡ frame.now }
+{
+    let written = write_frame(squitter);
+    each_frame(frame);
+    each_frame(&written);
+    written
+}

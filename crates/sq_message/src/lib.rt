@@ -35,6 +35,8 @@ pub use squitter::{FrameFault, Me, Squitter};
 pub use write::write_frame;
 
 #[cfg(test)]
+mod headline_tests;
+#[cfg(test)]
 mod place_tests;
 #[cfg(test)]
 mod send_tests;

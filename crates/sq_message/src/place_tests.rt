@@ -159,11 +159,13 @@ fn sends_a_place_again(rt: HostRuntime) {
         let again = sent(&rt, &squitter, &place);
         assert!(rt; again == squitter);
         assert!(rt; write_frame(&again) == frame);
-        assert!(rt; laws::local_again(&squitter, &reference) == Ok(squitter));
+        assert!(rt; laws::local_again(&squitter, &reference) == Ok((place, squitter)));
     }
     let (older, newer) = (read(&rt, &GROUND_EVEN), read(&rt, &GROUND_ODD));
-    assert!(rt; laws::pair_again(&older, &newer, Some(&reference)) == Ok(newer));
-    assert!(rt; laws::pair_again(&newer, &older, Some(&reference)) == Ok(older));
+    let place = place_pair(&older, &newer, Some(&reference)).expect(&rt, "a place");
+    assert!(rt; laws::pair_again(&older, &newer, Some(&reference)) == Ok((place, newer)));
+    let place = place_pair(&newer, &older, Some(&reference)).expect(&rt, "a place");
+    assert!(rt; laws::pair_again(&newer, &older, Some(&reference)) == Ok((place, older)));
     let identity = read(&rt, &IDENTITY);
     assert!(rt; laws::local_again(&identity, &reference) == Err(PlaceFault::NotPosition));
     assert!(rt; laws::pair_again(&older, &newer, None) == Err(PlaceFault::NoSite));

@@ -10,14 +10,14 @@ pub fn position(rt: &impl Abort, lat: (i64, u64), lon: (i64, u64)) -> Position {
 }
 
 // The head of an aircraft at 38,000 feet.
-fn air_head(rt: &impl Abort) -> AirHead {
+pub fn air_head(rt: &impl Abort) -> AirHead {
     let altitude = field_of_feet(38_000).expect(rt, "a field");
     let fields = AirFields::new(11, 0, false, altitude, false).expect(rt, "fields");
     AirHead::new(5, 0x40621D, fields).expect(rt, "a head")
 }
 
 // The head of an aircraft on the ground.
-fn ground_head(rt: &impl Abort) -> GroundHead {
+pub fn ground_head(rt: &impl Abort) -> GroundHead {
     let fields = GroundFields::new(7, 0, false, 0, false).expect(rt, "fields");
     GroundHead::new(4, 0x484175, fields).expect(rt, "a head")
 }

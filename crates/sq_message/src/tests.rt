@@ -116,8 +116,8 @@ fn writes_what_it_reads(rt: HostRuntime) {
     for frame in [AIR_EVEN, AIR_ODD, IDENTITY, GROUND_EVEN, GROUND_ODD] {
         let squitter = read_frame(&frame).expect(&rt, "a squitter");
         assert!(rt; write_frame(&squitter) == frame);
-        assert!(rt; laws::written_of_read(&frame) == Ok(frame));
-        assert!(rt; laws::read_of_written(&squitter) == Ok(squitter));
+        assert!(rt; laws::written_of_read(&frame) == Ok((squitter, frame)));
+        assert!(rt; laws::read_of_written(&squitter) == (frame, Ok(squitter)));
     }
 }
 

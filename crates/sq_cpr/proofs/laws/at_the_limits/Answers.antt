@@ -1,0 +1,5 @@
+use Rattle.sq_cpr.proofs.Exact.{at_the_limits}
+use Rattle.sq_cpr.proofs.laws.at_the_limits.Goals as goal
+
+pub returns : goal.returns
+returns c = at_the_limits

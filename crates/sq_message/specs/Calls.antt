@@ -1,0 +1,80 @@
+-- What calls that are made one after the other answer, and what follows for the last of them.
+use Rattle.std.specs.Prelude.{◌≡◌, Option, Result, Ok}
+use Rattle.sq_bits.specs.declared.frame.Frame.{Frame}
+use Rattle.sq_angle.specs.declared.position.Position.{Position}
+use Rattle.sq_angle.specs.Angle.{degrees}
+use Rattle.sq_angle.specs.Position.{lat_of, lon_of}
+use Rattle.sq_zones.specs.declared.parity.Parity.{Parity}
+use Rattle.sq_cpr.specs.Grid.{Point}
+use Rattle.sq_cpr.specs.Near.{IsStrictlyNearPoint}
+use Rattle.sq_cpr.specs.Close.{AreClosePoints}
+use Rattle.sq_cpr.specs.Pair.{of_parity}
+use Rattle.sq_cpr.specs.Slow.{IsPointWithin}
+use Rattle.sq_message.specs.declared.squitter.Squitter.{Squitter}
+use Rattle.sq_message.specs.declared.place.Place.{Place}
+use Rattle.sq_message.specs.declared.place.Place.TheVariants.{Air, Ground}
+use Rattle.sq_message.specs.declared.place.PlaceFault.{PlaceFault}
+use Rattle.sq_message.specs.Parts.{squitter_parts}
+use Rattle.sq_message.specs.Places.{IsDecoded, IsLocalPlace, IsPairPlace, IsSentAt}
+use Rattle.sq_message.specs.Sending.{RoundsInAir, RoundsOnGround}
+use Rattle.sq_message.specs.Spelling.{IsReading, Spells}
+
+-- what two squitters are decoded to
+abbrev pub IsPlaceOfPair : (older newer : Squitter) → Option Position → Result Place PlaceFault → Type 0
+IsPlaceOfPair older newer site answer = IsPairPlace (squitter_parts older) (squitter_parts newer) site answer
+
+-- the frame is read as a squitter, and this is what that is decoded to near the reference
+abbrev pub IsReadingNear : Frame → Position → Result Place PlaceFault → Type 0
+IsReadingNear frame reference answer = (squitter : Squitter) × IsReading frame (Ok squitter) × IsLocalPlace (squitter_parts squitter).me reference answer
+
+-- both frames are read as squitters, and this is what these are decoded to, the newest being the one of this parity
+abbrev pub IsReadingOfPair : Parity → (even odd : Frame) → Option Position → Result Place PlaceFault → Type 0
+IsReadingOfPair newest even odd site answer =
+    (p q : Squitter) × IsReading even (Ok p) × IsReading odd (Ok q) × IsPlaceOfPair (of_parity newest q p) (of_parity newest p q) site answer
+
+-- the squitter of the newer of two frames, with what is read of the older, is decoded to this place
+abbrev pub IsReadingOfNewer : Frame → Squitter → Option Position → Place → Type 0
+IsReadingOfNewer older newer site place = (earlier : Squitter) × IsReading older (Ok earlier) × IsPlaceOfPair earlier newer site (Ok place)
+
+-- no squitter that is read of the frame is decoded to a place near the reference
+abbrev pub HasNoPlaceNear : Frame → Position → Type 0
+HasNoPlaceNear frame reference =
+    (squitter : Squitter) (place : Place) → IsReading frame (Ok squitter) → ¬ IsLocalPlace (squitter_parts squitter).me reference (Ok place)
+
+-- no squitters that are read of the frames are decoded to a place
+abbrev pub HaveNoPlace : (older newer : Frame) → Option Position → Type 0
+HaveNoPlace older newer site =
+    (p q : Squitter) (place : Place) → IsReading older (Ok p) → IsReading newer (Ok q) → ¬ IsPlaceOfPair p q site (Ok place)
+
+-- the frame is read as this squitter, and what is sent of the place is written as this frame, which is the same
+pub record IsSentAgain (frame : Frame) (squitter : Squitter) (place : Place) (again : Frame) : Type 0 where
+  pub read : IsReading frame (Ok squitter)
+  pub sent : Squitter
+  pub of_place : IsSentAt (squitter_parts squitter) place (squitter_parts sent)
+  pub written : Spells again sent
+  pub same : again ≡ frame
+
+-- the point of the air's grid lies strictly within half a zone of the reference in both coordinates
+abbrev pub IsStrictlyNearInAir : Position → Point → Type 0
+IsStrictlyNearInAir reference point = IsStrictlyNearPoint 360 1 (degrees (lat_of reference)) (degrees (lon_of reference)) point
+
+-- the same on the ground
+abbrev pub IsStrictlyNearOnGround : Position → Point → Type 0
+IsStrictlyNearOnGround reference point = IsStrictlyNearPoint 90 4 (degrees (lat_of reference)) (degrees (lon_of reference)) point
+
+-- where the points to which the positions round in the air are close, the answer is the newest one's
+abbrev pub IsAirPlaceOfClose : Parity → (even odd : Position) → Result Place PlaceFault → Type 0
+IsAirPlaceOfClose newest even odd answer =
+    (a b : Point) → RoundsInAir even a → RoundsInAir odd b → AreClosePoints 360 a b → answer ≡ Ok (Air (of_parity newest a b))
+
+-- the same on the ground, where both points lie less than 45 degrees from the site in both coordinates
+abbrev pub IsGroundPlaceOfClose : Parity → (even odd site : Position) → Result Place PlaceFault → Type 0
+IsGroundPlaceOfClose newest even odd site answer =
+    (a b : Point) → RoundsOnGround even a → RoundsOnGround odd b → AreClosePoints 90 a b
+    → IsPointWithin 45 90 4 a site → IsPointWithin 45 90 4 b site → answer ≡ Ok (Ground (of_parity newest a b))
+
+-- what is sent of a place that a squitter is decoded to is that squitter
+abbrev pub DecodedIsSentAgain : Type 0
+DecodedIsSentAgain =
+    (squitter sent : Squitter) (place : Place) → IsDecoded (squitter_parts squitter) place
+    → IsSentAt (squitter_parts squitter) place (squitter_parts sent) → sent ≡ squitter
