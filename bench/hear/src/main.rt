@@ -1,4 +1,5 @@
-//! Calls of `hear`, for the script hear.sh: words ADDRESSES CALLS ORDER, order 0 in turn and 1 at random. Prints how many fixes came.
+//! Calls of `hear`, for the script hear.sh: words ADDRESSES CALLS ORDER, order 0 in turn and 1 at random, 2 and 3 the same without the
+//! calls, for what the loop alone takes. Prints how many fixes came.
 #![tactic(auto)]
 
 use sq_message::{AirFields, AirHead, Angle, Parity, Position, Squitter, send_air};
@@ -13,7 +14,10 @@ struct Dice(u64);
 
 impl Dice {
     fn roll(&mut self) -> u64 {
-        self.0 = self.0.wrapping_mul(6_364_136_223_846_793_005).wrapping_add(1_442_695_040_888_963_407);
+        self.0 = self
+            .0
+            .wrapping_mul(6_364_136_223_846_793_005)
+            .wrapping_add(1_442_695_040_888_963_407);
         self.0 >> 33
     }
 }
@@ -46,18 +50,37 @@ fn number(rt: &impl Abort, words: &[String], at: usize) -> u64 {
 }
 
 // Calls of this many addresses, in turn or at random; how many fixes came.
-fn run(rt: &impl Abort, alloc: Global, addresses: u64, calls: u64, random: bool) -> u64 {
+fn run(rt: &impl Abort, alloc: Global, addresses: u64, calls: u64, order: u64) -> u64 {
+    let random = order & 1 == 1;
+    let dry = order & 2 == 2;
     let even = squitter(rt, 1, Parity::Even);
     let odd = squitter(rt, 1, Parity::Odd);
     let mut dice = Dice(1);
-    let mut tracker = Tracker::new(alloc, 4_000_000, 1_000_000_000_000, None).expect(rt, "a tracker");
+    let mut tracker = Tracker::new(alloc, 4_000_000, 1_000_000_000_000, None).expect(
+        rt,
+        "a tracker",
+    );
     let mut fixes = 0u64;
     for call in 0..calls {
         let roll = dice.roll();
-        let turn = if addresses == 0 { 0 } else { if random { roll % addresses } else { call % addresses } };
+        let turn = if addresses == 0 {
+            0
+        } else {
+            if random {
+                roll % addresses
+            } else {
+                call % addresses
+            }
+        };
         let address = (turn & 0xFFFFFF) as u32;
         let base = if dice.roll() & 1 == 0 { &even } else { &odd };
-        if is_fix(&mut tracker, call, &from_address(rt, base, address)) {
+        let squitter = from_address(rt, base, address);
+        let fixed = if dry {
+            squitter.address() & 1 == 1
+        } else {
+            is_fix(&mut tracker, call, &squitter)
+        };
+        if fixed {
             fixes = fixes.saturating_add(1);
         }
     }
@@ -65,10 +88,13 @@ fn run(rt: &impl Abort, alloc: Global, addresses: u64, calls: u64, random: bool)
 }
 
 fn main(rt: HostRuntime) {
-    let words: Vec<String> = env::args(&rt).expect(&rt, "arguments").collect(rt.alloc()).expect(&rt, "memory");
+    let words: Vec<String> = env::args(&rt)
+        .expect(&rt, "arguments")
+        .collect(rt.alloc())
+        .expect(&rt, "memory");
     let addresses = number(&rt, &words, 1);
     let calls = number(&rt, &words, 2);
-    let random = number(&rt, &words, 3) == 1;
-    let fixes = run(&rt, rt.alloc(), addresses, calls, random);
+    let order = number(&rt, &words, 3);
+    let fixes = run(&rt, rt.alloc(), addresses, calls, order);
     let _ = println!(rt; "{fixes}");
 }

@@ -1,38 +1,35 @@
--- By one history there is one reply to a call, but for want of memory.
-use Rattle.std.proofs.Common.{◌≡◌, ◌≢◌, ◌<◌, ◌≤◌, ◌∙◌, ℕ, Option, None, Some, Result, Ok, Err, IfSome, ap, sym, subst, refl, arith}
+-- To a call there is one reply, where no memory is wanting.
+use Rattle.std.proofs.Common.{◌≡◌, ◌≢◌, ◌∙◌, ℕ, ◌≤◌, ◌<◌, Option, Some, IfSome, Result, Ok, Err, refl, sym, ap, subst, arith}
 use Rattle.sq_message.specs.declared.squitter.Squitter.{Squitter}
 use Rattle.sq_track.specs.declared.heard.Heard.{Heard}
 use Rattle.sq_track.specs.declared.heard.TrackFault.{TrackFault}
 use Rattle.sq_track.specs.declared.heard.TrackFault.TheVariants.{NoLimit, Memory, MomentBack, Full}
 use Rattle.sq_track.specs.History.{History}
 use Rattle.sq_track.specs.Replies.{Settings, IsInTime, IsReply, last_moment}
+use Rattle.sq_track.specs.Laws.{OneReply}
+use Rattle.sq_track.proofs.Lists.{same_some}
 use Rattle.sq_track.proofs.OneAnswer.{one_answer}
 
--- a moment is not both in time and before the last one
-not_both : (h : History) (m last : ℕ) → IsInTime h m → last_moment h ≡ Some last → m < last → ⊥
-not_both h m last in_time is before =
-    let at_most = subst (λ o. IfSome o (λ n. n ≤ m)) is in_time in
-    absurd (omega (arith, at_most, before))
+in_time_is_back : {A : Type 0} (history : History) (moment last : ℕ) → IsInTime history moment → last_moment history ≡ Some last → moment < last → A
+in_time_is_back history moment last in_time e back =
+    let le : last ≤ moment = subst (λ (o : Option ℕ). IfSome o (λ l. l ≤ moment)) e in_time in
+    absurd (omega (arith, le, back))
 
-same_last : (h : History) (a b : ℕ) → last_moment h ≡ Some a → last_moment h ≡ Some b → a ≡ b
-same_last h a b x y = let same : Some a ≡ Some b = sym x ∙ y in cc same
-
-pub one_reply : (s : Settings) (h : History) (m : ℕ) (q : Squitter) (a b : Result Heard TrackFault) → a ≢ Err Memory → b ≢ Err Memory
-    → IsReply s h m q a → IsReply s h m q b → a ≡ b
-one_reply s h m q (Ok x) (Ok y) p r a b = ap Ok (one_answer s.window s.site h m q x y a.1 b.1)
-one_reply s h m q (Ok x) (Err (MomentBack last)) p r a b = absurd (not_both h m last a.0.in_time b.0 b.1)
-one_reply s h m q (Ok x) (Err Full) p r a b = absurd (a.0.room b.1)
-one_reply s h m q (Ok x) (Err Memory) p r a b = absurd (r refl)
-one_reply s h m q (Ok x) (Err NoLimit) p r a b = absurd b
-one_reply s h m q (Err (MomentBack last)) (Ok y) p r a b = absurd (not_both h m last b.0.in_time a.0 a.1)
-one_reply s h m q (Err (MomentBack last)) (Err (MomentBack other)) p r a b = ap (λ n. Err (MomentBack n)) (same_last h last other a.0 b.0)
-one_reply s h m q (Err (MomentBack last)) (Err Full) p r a b = absurd (not_both h m last b.0 a.0 a.1)
-one_reply s h m q (Err (MomentBack last)) (Err Memory) p r a b = absurd (r refl)
-one_reply s h m q (Err (MomentBack last)) (Err NoLimit) p r a b = absurd b
-one_reply s h m q (Err Full) (Ok y) p r a b = absurd (b.0.room a.1)
-one_reply s h m q (Err Full) (Err (MomentBack other)) p r a b = absurd (not_both h m other a.0 b.0 b.1)
-one_reply s h m q (Err Full) (Err Full) p r a b = refl
-one_reply s h m q (Err Full) (Err Memory) p r a b = absurd (r refl)
-one_reply s h m q (Err Full) (Err NoLimit) p r a b = absurd b
-one_reply s h m q (Err Memory) b p r x y = absurd (p refl)
-one_reply s h m q (Err NoLimit) b p r x y = absurd x
+pub one_reply : OneReply
+one_reply s history m q (Ok x) (Ok y) a b h k = ap Ok (one_answer s.window s.site history m q x y h.1 k.1)
+one_reply s history m q (Ok x) (Err (MomentBack l)) a b h k = in_time_is_back history m l h.0.in_time k.0 k.1
+one_reply s history m q (Ok x) (Err Full) a b h k = absurd (h.0.room k.1)
+one_reply s history m q (Ok x) (Err Memory) a b h k = absurd (b refl)
+one_reply s history m q (Ok x) (Err NoLimit) a b h k = absurd k
+one_reply s history m q (Err (MomentBack l)) (Ok y) a b h k = in_time_is_back history m l k.0.in_time h.0 h.1
+one_reply s history m q (Err (MomentBack l)) (Err (MomentBack n)) a b h k = ap (λ (last : ℕ). Err (MomentBack last)) (same_some l n (sym h.0 ∙ k.0))
+one_reply s history m q (Err (MomentBack l)) (Err Full) a b h k = in_time_is_back history m l k.0 h.0 h.1
+one_reply s history m q (Err (MomentBack l)) (Err Memory) a b h k = absurd (b refl)
+one_reply s history m q (Err (MomentBack l)) (Err NoLimit) a b h k = absurd k
+one_reply s history m q (Err Full) (Ok y) a b h k = absurd (k.0.room h.1)
+one_reply s history m q (Err Full) (Err (MomentBack n)) a b h k = in_time_is_back history m n h.0 k.0 k.1
+one_reply s history m q (Err Full) (Err Full) a b h k = refl
+one_reply s history m q (Err Full) (Err Memory) a b h k = absurd (b refl)
+one_reply s history m q (Err Full) (Err NoLimit) a b h k = absurd k
+one_reply s history m q (Err Memory) y a b h k = absurd (a refl)
+one_reply s history m q (Err NoLimit) y a b h k = absurd h

@@ -1,20 +1,22 @@
 -- In tame worlds what is heard of the arrivals, one after another, is true.
-use Rattle.std.proofs.Common.{List, [], ◌∷◌, Result, Ok, Err, Contains, refl}
+use Rattle.std.proofs.Common.{List, map, [], ◌∷◌, Result, Ok, Err, Contains, refl}
 use Rattle.std.specs.List.{AllByRecursion, AllZip}
 use Rattle.std.proofs.lemmas.List.Elements.{All-contains_itself, recursion_from_All}
 use Rattle.sq_track.specs.declared.heard.Heard.{Heard}
 use Rattle.sq_track.specs.declared.heard.TrackFault.{TrackFault}
 use Rattle.sq_track.specs.History.{Entry, History}
-use Rattle.sq_track.specs.Replies.{Settings}
-use Rattle.sq_track.specs.Worlds.{World, IsTrueFix, IsTruePlaceHeard, IfHeard, AreReplies}
-use Rattle.sq_track.specs.Tame.{IsTame, IsTameForFollowing}
-use Rattle.sq_track.specs.Laws.{TameWorldsAreTrue, FollowedWorldsAreTrue}
-use Rattle.sq_track.proofs.Entries.{Arrived, IsChain}
-use Rattle.sq_track.proofs.TrueHistories.{fix_is_true, IsPlacedEntry, place_heard_is_true, entry_is_placed}
+use Rattle.sq_track.specs.Replies.{Settings, IsHistory, AreReplies}
+use Rattle.sq_track.specs.Worlds.{Arrival, World, ArisesFrom, IsTrueFix, IsTruePlaceHeard, IfHeard, received_of}
+use Rattle.sq_track.specs.Tame.{IsTame, IsTameForFollowing, IsSlow, IsSlowForFollowing}
+use Rattle.sq_track.specs.Laws.{TameWorldsAreTrue, FollowedWorldsAreTrue, AreTrueInSlowWorlds}
+use Rattle.sq_track.proofs.Lists.{each_weaker}
+use Rattle.sq_track.proofs.SlowWorlds.{slow_worlds_are_tame, slow_for_following_is_tame}
+use Rattle.sq_track.proofs.Entries.{Arrived, IsChain, chain_of, each_arrived}
+use Rattle.sq_track.proofs.TrueHistories.{fix_is_true, IsPlacedEntry, place_heard_is_true, entry_is_placed, entries_are_placed}
 
 module _ (s : Settings) (world : World) (tame : IsTame s.window s.site world) where
   replies_are_true : (later : World) (history : History) (replies : List (Result Heard TrackFault)) → AllByRecursion (Contains world) later
-      → IsChain s.window s.site history → AllByRecursion (Arrived world) history → AreReplies s history later replies → AllZip (IfHeard IsTrueFix) later replies
+      → IsChain s.window s.site history → AllByRecursion (Arrived world) history → AreReplies s history (map received_of later) replies → AllZip (IfHeard IsTrueFix) later replies
   replies_are_true [] history [] there accepted arrived h = tt
   replies_are_true [] history (reply ∷ replies) there accepted arrived h = absurd h
   replies_are_true (b ∷ later) history [] there accepted arrived h = absurd h
@@ -29,7 +31,7 @@ module _ (s : Settings) (world : World) (tame : IsTame s.window s.site world) wh
   module _ (following : IsTameForFollowing s.window world) where
     replies_are_placed : (later : World) (history : History) (replies : List (Result Heard TrackFault)) → AllByRecursion (Contains world) later
         → IsChain s.window s.site history → AllByRecursion (Arrived world) history → AllByRecursion (IsPlacedEntry s.window s.site world tame following) history
-        → AreReplies s history later replies → AllZip (IfHeard IsTruePlaceHeard) later replies
+        → AreReplies s history (map received_of later) replies → AllZip (IfHeard IsTruePlaceHeard) later replies
     replies_are_placed [] history [] there accepted arrived placed h = tt
     replies_are_placed [] history (reply ∷ replies) there accepted arrived placed h = absurd h
     replies_are_placed (b ∷ later) history [] there accepted arrived placed h = absurd h
@@ -51,3 +53,17 @@ tame_worlds_are_true s world replies tame h = replies_are_true s world tame worl
 
 pub followed_worlds_are_true : FollowedWorldsAreTrue
 followed_worlds_are_true s world replies tame following h = replies_are_placed s world tame following world [] replies (each_there world) tt tt tt h
+
+-- replies from a history on that arose from a slow world are true
+pub slow_replies_are_true : (s : Settings) (world arrivals : World) (history : History) (replies : List (Result Heard TrackFault))
+    → IsHistory s history → ArisesFrom world history → IsSlow s.window s.site world → IsSlowForFollowing s.window world
+    → ((arrival : Arrival) → Contains arrivals arrival → Contains world arrival) → AreReplies s history (map received_of arrivals) replies
+    → AllZip (IfHeard IsTruePlaceHeard) arrivals replies
+slow_replies_are_true s world arrivals history replies accepted arises slow follows among h =
+    let tame = slow_worlds_are_tame s.window s.site world slow in
+    let following = slow_for_following_is_tame s.window world follows in
+    let chain = chain_of s history accepted in
+    let arrived = each_arrived world history arises in
+    replies_are_placed s world tame following arrivals history replies
+    (each_weaker (Contains arrivals) (Contains world) arrivals among (each_there arrivals)) chain arrived
+    (entries_are_placed s.window s.site world tame following history chain arrived) h

@@ -13,10 +13,12 @@ mod contact;
 mod contacts;
 mod heard;
 pub mod laws;
+mod listening;
 mod tracker;
 
-pub use contact::{Accepted, Contact, LastFix, Side};
+pub use contact::{Contact, LastFix, Received, Side};
 pub use heard::{Heard, TrackFault};
+pub use listening::hear_each;
 pub use sq_message::{Place, Position, Squitter};
 pub use tracker::Tracker;
 

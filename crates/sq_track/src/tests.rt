@@ -328,3 +328,42 @@ fn names_faults(rt: HostRuntime) -> Result<(), Fail> {
     }
     Ok(())
 }
+
+// What was heard of each of three squitters.
+fn told_each(tracker: &mut Tracker, received: &[Received], told: &mut [Told]) {
+    let mut heard = [Err(TrackFault::Memory); 3];
+    if received.len() == 3 {
+        hear_each(tracker, received, &mut heard);
+    }
+    for (slot, reply) in told.iter_mut().zip(heard.iter()) {
+        *slot = match reply {
+            Ok(heard) => Told::of(heard),
+            Err(fault) => Told::Refused(*fault),
+        };
+    }
+}
+
+#[test]
+fn hears_one_after_another(rt: HostRuntime) -> Result<(), Fail> {
+    let mut tracker = Tracker::new(rt.alloc(), 1000, 10_000, None)?;
+    let received = [
+        Received {
+            moment: 5,
+            squitter: read(&rt, &AIR_EVEN),
+        },
+        Received {
+            moment: 4,
+            squitter: read(&rt, &AIR_ODD),
+        },
+        Received {
+            moment: 6,
+            squitter: read(&rt, &AIR_ODD),
+        },
+    ];
+    let mut told = [Told::Waiting; 3];
+    told_each(&mut tracker, &received, &mut told);
+    let back = Told::Refused(TrackFault::MomentBack(5));
+    assert!(rt; told == [Told::Waiting, back, Told::Fix(odd_place(&rt))]);
+    assert_eq!(rt; tracker.get(0), Some((AIR, 6)));
+    Ok(())
+}

@@ -1,0 +1,5 @@
+use Rattle.sq_track.proofs.OneReply.{one_reply as the_law}
+use Rattle.sq_track.proofs.laws.one_reply.Goals as goal
+
+pub returns : goal.returns
+returns c = the_law

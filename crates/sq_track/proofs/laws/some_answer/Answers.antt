@@ -1,0 +1,5 @@
+use Rattle.sq_track.proofs.SomeAnswer.{some_answer as the_law}
+use Rattle.sq_track.proofs.laws.some_answer.Goals as goal
+
+pub returns : goal.returns
+returns c = the_law
