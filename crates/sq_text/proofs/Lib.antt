@@ -5,3 +5,4 @@ pub mod SomeReading
 pub mod Places
 pub mod DigitLemmas
 pub mod DigitTexts
+pub mod PlaceTexts

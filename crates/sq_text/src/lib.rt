@@ -15,6 +15,7 @@ mod reading;
 mod show;
 mod summary;
 
+pub use arrayvec::ArrayString;
 pub use digits::{push_decimal, push_hexadecimal};
 pub use faults::{LineFault, push_fault};
 pub use frame_text::{TextFault, read_text};
@@ -22,6 +23,7 @@ pub use place::{PlaceText, place_text};
 pub use place_faults::push_place_fault;
 pub use reading::read_squitter;
 pub use show::{ShowText, show_text};
+pub use sq_message::{Frame, FrameFault, PlaceFault, Position, Squitter};
 pub use summary::push_summary;
 
 #[cfg(test)]
