@@ -3,6 +3,7 @@ use crate::PairFault::{OutOfRange, ZoneCounts};
 use crate::Parity::{Even, Odd};
 use crate::decode_tests::{Place, code, place, position};
 use crate::{PairFault, Parity, pair_air, pair_ground};
+use sq_zones::zone_count;
 
 // The even and the odd code, the newest parity, and what is decoded.
 pub type AirRow = ((u32, u32), (u32, u32), Parity, Result<Place, PairFault>);
@@ -43,8 +44,10 @@ fn place_on_ground(
     }
 }
 
-const WORKED_PAIRS_IN_AIR: [AirRow; 9] = [
+const WORKED_PAIRS_IN_AIR: [AirRow; 10] = [
+    // latitudes that differ by exactly 3/59 of a degree
     ((1124, 0), (13, 0), Even, Ok(((99_147, 16_384), (0, 1)))),
+    ((1124, 0), (13, 0), Odd, Ok(((5_898_825, 966_656), (0, 1)))),
     ((0, 65_536), (98_304, 0), Even, Ok(((90, 1), (-180, 1)))),
     ((0, 65_536), (98_304, 0), Odd, Ok(((90, 1), (0, 1)))),
     ((0, 0), (87_381, 0), Even, Err(OutOfRange)),
@@ -684,5 +687,20 @@ fn ground_pairs_at_sites(rt: HostRuntime) {
             even.0,
             even.1
         );
+    }
+}
+
+// The worked pair near 38 degrees south: both latitudes have the zone count 47.
+#[test]
+fn zone_counts_of_a_southern_pair(rt: HostRuntime) {
+    let site = position((-3801, 100), (4375, 1000)).expect(&rt, "a site");
+    let even = code((115_609, 116_941)).expect(&rt, "a code");
+    let odd = code((39_199, 110_269)).expect(&rt, "a code");
+    for (newest, zones) in [(Even, 47), (Odd, 46)] {
+        let point = pair_ground(even, odd, newest, &site).expect(&rt, "a point");
+        assert_eq!(rt; point.zones(), zones);
+        let lat = point.position().lat();
+        assert!(rt; lat.is_within(90));
+        assert_eq!(rt; zone_count(&lat), 47);
     }
 }

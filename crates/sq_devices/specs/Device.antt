@@ -1,13 +1,13 @@
--- What a call does to the bytes of a device that may tell them no longer once it has failed. `None` stands for untold bytes.
+-- What a call that failed does to the bytes of a device, which may not tell them. `None` stands for untold bytes.
 use Rattle.std.specs.Prelude.{◌≡◌, ◌++◌, ℕ, List, ⊤, Option, None, Some}
 
--- the device's bytes are as before, or it tells them no longer
+-- the device's bytes are as before, or it does not tell them
 abbrev pub KeepsOrHides : Option (List ℕ) → Option (List ℕ) → Type 0
 KeepsOrHides None new = ⊤
 KeepsOrHides (Some xs) None = ⊤
 KeepsOrHides (Some xs) (Some ys) = ys ≡ xs
 
--- the sink's bytes grew by bs, or it tells them no longer
+-- the sink's bytes grew by bs, or it does not tell them
 abbrev pub AppendsOrHides : Option (List ℕ) → Option (List ℕ) → List ℕ → Type 0
 AppendsOrHides None new bs = ⊤
 AppendsOrHides (Some xs) None bs = ⊤

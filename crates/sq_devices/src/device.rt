@@ -24,8 +24,8 @@ pub trait Source {
     /// Moves the first bytes to come to the front of `into`, and answers how many: 0 into a buffer
     /// that has room only where no more bytes come. An answer uses up one get.
     ///
-    /// `Err` marks the source as failed. Its bytes stay as they were, or are untold from then on,
-    /// and no get is used up.
+    /// `Err` marks the source as failed. Its bytes stay as they were, or the source does not tell
+    /// them, and no get is used up.
     fn get(&mut self, into: &mut [u8]) -> Result<usize, Failed>
         ensures fits { IfOk result (λ n. n ≤ length into.new) }
         ensures moved { IfOk result (λ n. Consumes (to_come self.old) (to_come self.new) (take n into.new)) }
@@ -49,7 +49,7 @@ pub trait Sink {
 
     /// Appends the first bytes of `from`, at least one if there is one, and answers how many.
     ///
-    /// `Err` marks the sink as failed. Its bytes stay as they were, or are untold from then on.
+    /// `Err` marks the sink as failed. Its bytes stay as they were, or the sink does not tell them.
     fn put(&mut self, from: &[u8]) -> Result<usize, Failed>
         ensures fits { IfOk result (λ n. n ≤ length from.now) }
         ensures some { IfOk result (λ n. 0 < length from.now → 0 < n) }
@@ -60,7 +60,7 @@ pub trait Sink {
 
     /// Sends what was put on its way, since no more comes. It changes no bytes.
     ///
-    /// `Err` marks the sink as failed. Its bytes stay as they were, or are untold from then on.
+    /// `Err` marks the sink as failed. Its bytes stay as they were, or the sink does not tell them.
     fn finish(&mut self) -> Result<(), Failed>
         ensures bytes { OnOk result (Keeps (written self.old) (written self.new)) }
         ensures unmarked { OnOk result (has_failed self.new ≡ has_failed self.old) }

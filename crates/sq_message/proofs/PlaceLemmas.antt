@@ -65,7 +65,7 @@ positions (kinds.Surface s) = inl tt
 positions (kinds.Other o) = inr (λ x. x)
 
 -- squitters of a pair are both positions, or they are not
-both_positions : (older newer : Me) → (IsPosition older × IsPosition newer) ⊎ (¬ (IsPosition older × IsPosition newer))
+pub both_positions : (older newer : Me) → (IsPosition older × IsPosition newer) ⊎ (¬ (IsPosition older × IsPosition newer))
 both_positions older newer = elim (positions older) [
   | inl a ↦ elim (positions newer) [
     | inl b ↦ inl (a, b)

@@ -111,3 +111,12 @@ abbrev pub OnePairPlace : Type 0
 OnePairPlace =
     (older newer : Squitter) (site : Option Position) (answer other : Result Place PlaceFault)
     → IsPairPlace (squitter_parts older) (squitter_parts newer) site answer → IsPairPlace (squitter_parts older) (squitter_parts newer) site other → answer ≡ other
+
+-- near a reference there is an answer
+abbrev pub SomeLocalPlace : Type 0
+SomeLocalPlace = (squitter : Squitter) (reference : Position) → (answer : Result Place PlaceFault) × IsLocalPlace (squitter_parts squitter).me reference answer
+
+-- of a pair there is an answer
+abbrev pub SomePairPlace : Type 0
+SomePairPlace =
+    (older newer : Squitter) (site : Option Position) → (answer : Result Place PlaceFault) × IsPairPlace (squitter_parts older) (squitter_parts newer) site answer

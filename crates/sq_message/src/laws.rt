@@ -17,7 +17,7 @@ ghost use Rattle.sq_cpr.specs.Zones.{ZonePair};
 ghost use Rattle.sq_message.specs.Altitudes.{IsAltitude, IsFieldOfFeet};
 ghost use Rattle.sq_message.specs.Calls.{DecodedIsSentAgain, HasNoPlaceNear, HaveNoPlace, IsAirPlaceOfClose, IsGroundPlaceOfClose, IsPlaceOfPair, IsReadingNear, IsReadingOfNewer, IsReadingOfPair, IsSentAgain, IsStrictlyNearInAir, IsStrictlyNearOnGround};
 ghost use Rattle.sq_message.specs.Heads.{air_head_parts, ground_head_parts};
-ghost use Rattle.sq_message.specs.Headline.{ClosePairInAir, ClosePairOnGround, NearReferenceInAir, NearReferenceOnGround, OneLocalPlace, OnePairPlace, SentAgainInAir, SentAgainOnGround, WrittenAgain};
+ghost use Rattle.sq_message.specs.Headline.{ClosePairInAir, ClosePairOnGround, NearReferenceInAir, NearReferenceOnGround, OneLocalPlace, OnePairPlace, SentAgainInAir, SentAgainOnGround, SomeLocalPlace, SomePairPlace, WrittenAgain};
 ghost use Rattle.sq_message.specs.Parts.{squitter_parts};
 ghost use Rattle.sq_message.specs.Places.{IsLocalPlace, IsSentAt};
 ghost use Rattle.sq_message.specs.Sending.{IsFrameInAir, IsFrameOnGround, IsInAirZones, IsInGroundZones, RoundsInAir, RoundsOnGround, SameZonesInAir, SameZonesOnGround};
@@ -147,6 +147,16 @@ pub fn one_local_place()
 /// Decoding a pair of squitters has one answer.
 pub fn one_pair_place()
     ensures { OnePairPlace }
+{}
+
+/// Decoding a squitter near a reference has an answer.
+pub fn some_local_place()
+    ensures { SomeLocalPlace }
+{}
+
+/// Decoding a pair of squitters has an answer.
+pub fn some_pair_place()
+    ensures { SomePairPlace }
 {}
 
 /// What is sent of a place that a squitter is decoded to is that squitter.

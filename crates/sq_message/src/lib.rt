@@ -37,6 +37,8 @@ pub use write::write_frame;
 #[cfg(test)]
 mod headline_tests;
 #[cfg(test)]
+mod layout_tests;
+#[cfg(test)]
 mod place_tests;
 #[cfg(test)]
 mod send_tests;

@@ -53,6 +53,8 @@ fn decodes_near_a_reference(rt: HostRuntime) {
     let reference = position(&rt, (52_258, 1000), (3918, 1000));
     let place = place_local(&read(&rt, &AIR_EVEN), &reference).expect(&rt, "a place");
     assert!(rt; place.position() == position(&rt, (428_091, 8192), (64_215, 16_384)));
+    let identity = read(&rt, &IDENTITY);
+    assert!(rt; place_local(&identity, &reference) == Err(PlaceFault::NotPosition));
     let site = position(&rt, (5199, 100), (4375, 1000));
     let place = place_local(&read(&rt, &GROUND_ODD), &site).expect(&rt, "a place");
     assert!(rt; place.position() == position(&rt, (202_304_115, 3_866_624), (2_172_069, 458_752)));
@@ -140,6 +142,12 @@ fn tells_the_faults_of_worked_pairs(rt: HostRuntime) {
     assert!(rt; place_pair(&even, &read(&rt, &GROUND_ODD), None) == Err(PlaceFault::OtherAddress));
     let ground = surface(&rt, 0x40621D, Parity::Odd, 0, 0);
     assert!(rt; place_pair(&even, &ground, None) == Err(PlaceFault::OtherKind));
+    let fields = GroundFields::new(7, 0, false, 0, false).expect(&rt, "fields");
+    let head = GroundHead::new(4, 0x40621D, fields).expect(&rt, "a head");
+    let here = position(&rt, (523_230_400, 10_000_000), (47_304_726, 10_000_000));
+    let sent = send_ground(head, &here, Parity::Odd);
+    assert!(rt; place_pair(&even, &sent, None) == Err(PlaceFault::OtherKind));
+    assert!(rt; place_pair(&sent, &even, None) == Err(PlaceFault::OtherKind));
     assert!(rt; place_pair(&even, &even, None) == Err(PlaceFault::SameParity));
     let (older, newer) = (read(&rt, &GROUND_EVEN), read(&rt, &GROUND_ODD));
     assert!(rt; place_pair(&older, &newer, None) == Err(PlaceFault::NoSite));

@@ -211,6 +211,8 @@ fn means_altitudes(rt: HostRuntime) {
         (11, 0x010, Altitude::Feet(-1000)),
         (11, 0x0FF, Altitude::Feet(2175)),
         (11, 0xC38, Altitude::Feet(38_000)),
+        (11, 0xFFF, Altitude::Feet(50_175)),
+        (11, 0x00F, Altitude::Raw(15)),
         (18, 0xFFF, Altitude::Feet(50_175)),
         (9, 0x00F, Altitude::Raw(15)),
         (20, 0x0FF, Altitude::Raw(255)),

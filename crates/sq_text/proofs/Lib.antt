@@ -7,3 +7,4 @@ pub mod DigitLemmas
 pub mod DigitTexts
 pub mod Moments
 pub mod TimedReadings
+pub mod PlaceTexts

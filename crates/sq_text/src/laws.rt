@@ -5,6 +5,8 @@ ghost use Rattle.sq_message.specs.declared.squitter.Squitter.{Squitter};
 ghost use Rattle.sq_text.specs.declared.faults.LineFault.{LineFault};
 ghost use Rattle.sq_text.specs.declared.frame_text.TextFault.{TextFault};
 ghost use Rattle.sq_text.specs.FrameText.{IsAnswer};
+ghost use Rattle.sq_angle.specs.declared.position.Position.{Position};
+ghost use Rattle.sq_text.specs.Place.{IsPlaceText};
 ghost use Rattle.sq_text.specs.Reading.{IsSquitterReading, SquitterReader};
 ghost use Rattle.sq_text.specs.Show.{IsShown};
 ghost use Rattle.sq_text.specs.Timed.{IsTimedReading, TimedReader};
@@ -38,4 +40,9 @@ pub fn some_timed_reader()
 /// A squitter is shown as one text.
 pub fn one_text()
     ensures { (squitter : Squitter) (a b : List ℕ) → IsShown squitter a → IsShown squitter b → a ≡ b }
+{}
+
+/// A position has one text of two lines.
+pub fn one_place_text()
+    ensures { (position : Position) (a b : List ℕ) → IsPlaceText position a → IsPlaceText position b → a ≡ b }
 {}

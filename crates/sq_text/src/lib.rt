@@ -16,6 +16,7 @@ mod show;
 mod summary;
 mod timed;
 
+pub use arrayvec::ArrayString;
 pub use digits::{push_decimal, push_hexadecimal, push_six_places};
 pub use faults::{LineFault, push_fault};
 pub use frame_text::{TextFault, read_text};
@@ -23,7 +24,7 @@ pub use place::{PlaceText, place_text, push_decimals};
 pub use place_faults::push_place_fault;
 pub use reading::read_squitter;
 pub use show::{ShowText, show_text};
-pub use sq_message::{Frame, PlaceFault, Position, Squitter};
+pub use sq_message::{Frame, FrameFault, PlaceFault, Position, Squitter};
 pub use summary::push_summary;
 pub use timed::{TimedSquitter, read_moment, read_timed};
 

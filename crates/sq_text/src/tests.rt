@@ -229,3 +229,33 @@ fn assert_place(rt: &impl Abort, lat: (i64, u64), lon: (i64, u64), text: &str) {
     let position = Position::new(lat, lon).expect(rt, "a position");
     assert!(rt; place_text(&position).as_str() == text, "{text}");
 }
+
+// Frames whose fields all differ, written out by hand from the register tables, and what is shown of them.
+#[test]
+fn shows_each_field_by_its_name(rt: HostRuntime) {
+    let rows = [
+        (
+            "8BABCDEF6312360003800091B9A6",
+            "address ABCDEF\nca 3\ntype 12\nkind air\nstatus 1\nflag 1\naltitude raw 123\ntime 0\nparity odd\nlat 65537\nlon 98304\n",
+        ),
+        (
+            "8E012345AC9A080003FFFE13ADDC",
+            "address 012345\nca 6\ntype 21\nkind air\nstatus 2\nflag 0\naltitude raw 9A0\ntime 1\nparity even\nlat 1\nlon 131070\n",
+        ),
+        (
+            "89FEDCBA2FF01D00020010BAB6C8",
+            "address FEDCBA\nca 1\ntype 5\nkind ground\nmovement 127\ntrack status 0\ntrack 1\ntime 1\nparity odd\nlat 32769\nlon 16\n",
+        ),
+        (
+            "8A100001401FF3FFFF0000F71BBB",
+            "address 100001\nca 2\ntype 8\nkind ground\nmovement 1\ntrack status 1\ntrack 127\ntime 0\nparity even\nlat 131071\nlon 65536\n",
+        ),
+        (
+            "8F000001FFFFFFFFFFFFFF276C6C",
+            "address 000001\nca 7\ntype 31\nkind other\nme FFFFFFFFFFFFFF\n",
+        ),
+    ];
+    for (frame, text) in rows {
+        assert!(rt; shown(&rt, frame).as_str() == text, "{frame}");
+    }
+}

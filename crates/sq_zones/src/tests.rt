@@ -1,7 +1,67 @@
 //! Worked zone counts, at and beside each limit, and the lanes against a plain loop.
-use crate::zones::ZONE_LIMITS;
-use crate::{Parity, lon_zones, zone_count};
-use sq_angle::Angle;
+use crate::{Angle, Parity, lon_zones, zone_count};
+
+// The 58 limits in units of 10^-8 degree, each with the zone count up to and including it, apart from the table of the code.
+const LIMITS: [(i64, u8); 58] = [
+    (1_047_047_130, 59),
+    (1_482_817_437, 58),
+    (1_818_626_357, 57),
+    (2_102_939_493, 56),
+    (2_354_504_487, 55),
+    (2_582_924_707, 54),
+    (2_793_898_710, 53),
+    (2_991_135_686, 52),
+    (3_177_209_708, 51),
+    (3_353_993_436, 50),
+    (3_522_899_598, 49),
+    (3_685_025_108, 48),
+    (3_841_241_892, 47),
+    (3_992_256_684, 46),
+    (4_138_651_832, 45),
+    (4_280_914_012, 44),
+    (4_419_454_951, 43),
+    (4_554_626_723, 42),
+    (4_686_733_252, 41),
+    (4_816_039_128, 40),
+    (4_942_776_439, 39),
+    (5_067_150_166, 38),
+    (5_189_342_469, 37),
+    (5_309_516_153, 36),
+    (5_427_817_472, 35),
+    (5_544_378_444, 34),
+    (5_659_318_756, 33),
+    (5_772_747_354, 32),
+    (5_884_763_776, 31),
+    (5_995_459_277, 30),
+    (6_104_917_774, 29),
+    (6_213_216_659, 28),
+    (6_320_427_479, 27),
+    (6_426_616_523, 26),
+    (6_531_845_310, 25),
+    (6_636_171_008, 24),
+    (6_739_646_774, 23),
+    (6_842_322_022, 22),
+    (6_944_242_631, 21),
+    (7_045_451_075, 20),
+    (7_145_986_473, 19),
+    (7_245_884_545, 18),
+    (7_345_177_442, 17),
+    (7_443_893_416, 16),
+    (7_542_056_257, 15),
+    (7_639_684_391, 14),
+    (7_736_789_461, 13),
+    (7_833_374_083, 12),
+    (7_929_428_225, 11),
+    (8_024_923_213, 10),
+    (8_119_801_349, 9),
+    (8_213_956_981, 8),
+    (8_307_199_445, 7),
+    (8_399_173_563, 6),
+    (8_489_166_191, 5),
+    (8_575_541_621, 4),
+    (8_653_536_998, 3),
+    (8_700_000_000, 2),
+];
 
 // The zone count of `num / den` degrees. None where that is no latitude.
 fn count_at(num: i64, den: u64) -> Option<u8> {
@@ -15,10 +75,9 @@ fn count_at(num: i64, den: u64) -> Option<u8> {
 // The same by a plain loop: 1, and one more for each of the 58 limits that the latitude does not pass.
 fn count_by_loop(num: i64, den: u64) -> usize {
     let scaled = u128::from(num.unsigned_abs()) * 100_000_000;
-    let limits = &ZONE_LIMITS[..58];
-    limits
+    LIMITS
         .iter()
-        .filter(|limit| is_at_most(scaled, **limit, den))
+        .filter(|(limit, _)| is_at_most(scaled, *limit, den))
         .count()
         .saturating_add(1)
 }
@@ -72,8 +131,7 @@ fn parity_indices(rt: HostRuntime) {
 // Both latitudes beside a limit, which is a whole number of `1 / den` degrees, north and south.
 #[test]
 fn at_and_past_each_limit(rt: HostRuntime) {
-    for (index, limit) in ZONE_LIMITS[..58].iter().enumerate() {
-        let zones = 59 - index.min(57) as u8;
+    for (limit, zones) in LIMITS {
         for (den, scale) in [
             (100_000_000, 1),
             (1_000_000_000, 10),
@@ -87,12 +145,9 @@ fn at_and_past_each_limit(rt: HostRuntime) {
             assert_eq!(rt; count_at(before, den), Some(zones), "{before} / {den}");
             assert_eq!(rt; count_at(at, den), Some(zones), "{at} / {den}");
             assert_eq!(rt; count_at(south, den), Some(zones), "{south} / {den}");
-            assert_eq!(rt; count_at(past, den), Some(zones - 1), "{past} / {den}");
-            assert_eq!(rt;
-                count_at(past_south, den),
-                Some(zones - 1),
-                "{past_south} / {den}"
-            );
+            assert_eq!(rt; count_at(past, den), zones.checked_sub(1), "{past} / {den}");
+            let fewer = zones.checked_sub(1);
+            assert_eq!(rt; count_at(past_south, den), fewer, "{past_south} / {den}");
         }
     }
 }
