@@ -7,10 +7,11 @@
 mod program;
 
 pub use program::run;
-pub use sq_commands::run_check;
+pub use sq_commands::{run_check, run_track};
 pub use sq_devices::{Failed, Reading, Sink, Source, Writing};
 pub use sq_lines::{Cutter, RunFault, Tally, laws};
 pub use sq_text::{Frame, LineFault, TextFault, read_text};
+pub use sq_track::{Heard, Place, Position, Squitter, TrackFault, Tracker};
 
 #[cfg(test)]
 mod tests;
