@@ -1,4 +1,5 @@
 //! The command `check` over inputs in pieces, and over devices that fail.
+use super::faulty_devices::{End, pieces_of, room_of};
 use super::tests::outcome_on;
 use super::{Status, answer, run_check};
 use sq_devices::{Reading, Writing};
@@ -6,7 +7,7 @@ use sq_lines::{RunFault, Tally};
 use sq_requests::Request;
 use std::alloc::Global;
 use std::io;
-use std::io::{ErrorKind, Read, Write};
+use std::io::Read;
 use std::process::Abort;
 use std::test::Fail;
 
@@ -79,42 +80,10 @@ fn checks_odd_lines(rt: HostRuntime) {
     );
 }
 
-// Gives its text so many bytes a read, fails once so many were given, and ends where there is no more.
-#[derive(Drop)]
-struct Pieces {
-    text: &'static [u8],
-    at: usize,
-    size: usize,
-    fails_at: usize,
-}
-
-impl Read for Pieces {
-    fn read(&mut self, into: &mut [u8]) -> io::Result<usize> {
-        if self.at >= self.fails_at {
-            return Err(io::Error::from(ErrorKind::Other));
-        }
-        let rest = self.text.get(self.at..).unwrap_or(b"");
-        let count = rest
-            .len()
-            .min(self.size)
-            .min(into.len())
-            .min(self.fails_at - self.at);
-        into[..count].copy_from_slice(&rest[..count]);
-        self.at += count;
-        Ok(count)
-    }
-}
-
 #[test]
 fn checks_lines_in_pieces(rt: HostRuntime) {
     for size in [1, 2, 3, 63, 64, 65] {
-        let pieces = Pieces {
-            text: LINES,
-            at: 0,
-            size,
-            fails_at: usize::MAX,
-        };
-        let mut source = Reading::new(pieces, 1_000_000);
+        let mut source = Reading::new(pieces_of(LINES, size, usize::MAX), 1_000_000);
         let mut sink = Writing::new(Vec::new(rt.alloc()));
         let tally = run_check(&mut source, &mut sink);
         assert!(rt;
@@ -135,72 +104,19 @@ const ANSWERED: [usize; 11] = [0, 33, 65, 65, 79, 95, 109, 129, 144, 159, 198];
 #[test]
 fn answers_what_was_read_before_a_fault(rt: HostRuntime) {
     for fails_at in 0..LINES.len() {
-        let pieces = Pieces {
-            text: LINES,
-            at: 0,
-            size: 64,
-            fails_at,
-        };
         let lines = LINES
             .iter()
             .take(fails_at)
             .filter(|byte| **byte == b'\n')
             .count();
         let answered = ANSWERED[lines.min(10)].min(ANSWERS.len());
-        let mut source = Reading::new(pieces, 1_000_000);
+        let mut source = Reading::new(pieces_of(LINES, 64, fails_at), 1_000_000);
         let mut sink = Writing::new(Vec::new(rt.alloc()));
         assert!(rt; run_check(&mut source, &mut sink) == Err(RunFault::Read));
         assert!(rt;
             sink.into_inner().as_slice() == &ANSWERS[..answered],
             "{fails_at}"
         );
-    }
-}
-
-// What a full writer answers.
-#[derive(Clone, Copy, Debug, PartialEq, Eq)]
-enum End {
-    Error,
-    Nothing,
-}
-
-// Takes so many bytes in all, and at most so many a call; and it may refuse to be flushed.
-#[derive(Drop)]
-struct Room {
-    room: usize,
-    size: usize,
-    end: End,
-    flushes: bool,
-    taken: Vec<u8>,
-}
-
-impl Write for Room {
-    fn write(&mut self, bytes: &[u8]) -> io::Result<usize> {
-        let count = bytes.len().min(self.room).min(self.size);
-        if count == 0 && !bytes.is_empty() && self.end == End::Error {
-            return Err(io::Error::from(ErrorKind::Other));
-        }
-        self.taken.extend_from_slice(&bytes[..count])?;
-        self.room -= count;
-        Ok(count)
-    }
-
-    fn flush(&mut self) -> io::Result<()> {
-        if self.flushes {
-            Ok(())
-        } else {
-            Err(io::Error::from(ErrorKind::Other))
-        }
-    }
-}
-
-fn room_of(alloc: Global, room: usize, end: End) -> Room {
-    Room {
-        room,
-        size: usize::MAX,
-        end,
-        flushes: true,
-        taken: Vec::new(alloc),
     }
 }
 
@@ -236,7 +152,7 @@ fn writes_a_byte_a_call(rt: HostRuntime) {
 }
 
 #[test]
-fn tells_a_flush_that_fails(rt: HostRuntime) {
+fn reports_a_flush_that_fails(rt: HostRuntime) {
     let mut stuck = room_of(rt.alloc(), 1000, End::Error);
     stuck.flushes = false;
     let mut source = Reading::new(LINES, 1_000_000);
@@ -270,7 +186,7 @@ fn ends_where_the_gets_do(rt: HostRuntime) {
 }
 
 #[test]
-fn tells_what_ended_a_run(rt: HostRuntime) -> Result<(), Fail> {
+fn reports_what_ended_a_run(rt: HostRuntime) -> Result<(), Fail> {
     let mut faults = Writing::new(Vec::new(rt.alloc()));
     let mut source = Reading::new(Feeds, 5);
     let mut sink = Writing::new(Vec::new(rt.alloc()));

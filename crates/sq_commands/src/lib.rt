@@ -26,6 +26,8 @@ pub use track::run_track;
 #[cfg(test)]
 mod encode_tests;
 #[cfg(test)]
+mod faulty_devices;
+#[cfg(test)]
 mod local_tests;
 #[cfg(test)]
 mod pair_tests;
@@ -33,3 +35,5 @@ mod pair_tests;
 mod check_tests;
 #[cfg(test)]
 mod tests;
+#[cfg(test)]
+mod track_tests;

@@ -1,0 +1,86 @@
+//! Readers and writers for tests, which move few bytes at a time and fail at a known place.
+use std::alloc::Global;
+use std::io;
+use std::io::{ErrorKind, Read, Write};
+
+// Gives its text so many bytes a read, fails once so many were given, and ends where there is no more.
+#[derive(Drop)]
+pub(crate) struct Pieces {
+    text: &'static [u8],
+    at: usize,
+    size: usize,
+    fails_at: usize,
+}
+
+pub(crate) fn pieces_of(text: &'static [u8], size: usize, fails_at: usize) -> Pieces {
+    Pieces {
+        text,
+        at: 0,
+        size,
+        fails_at,
+    }
+}
+
+impl Read for Pieces {
+    fn read(&mut self, into: &mut [u8]) -> io::Result<usize> {
+        if self.at >= self.fails_at {
+            return Err(io::Error::from(ErrorKind::Other));
+        }
+        let rest = self.text.get(self.at..).unwrap_or(b"");
+        let count = rest
+            .len()
+            .min(self.size)
+            .min(into.len())
+            .min(self.fails_at - self.at);
+        into[..count].copy_from_slice(&rest[..count]);
+        self.at += count;
+        Ok(count)
+    }
+}
+
+// What a full writer answers.
+#[derive(Clone, Copy, Debug, PartialEq, Eq)]
+pub(crate) enum End {
+    Error,
+    Nothing,
+}
+
+// Takes so many bytes in all, and at most so many a call; and it may refuse to be flushed.
+#[derive(Drop)]
+pub(crate) struct Room {
+    room: usize,
+    pub(crate) size: usize,
+    end: End,
+    pub(crate) flushes: bool,
+    pub(crate) taken: Vec<u8>,
+}
+
+impl Write for Room {
+    fn write(&mut self, bytes: &[u8]) -> io::Result<usize> {
+        let count = bytes.len().min(self.room).min(self.size);
+        if count == 0 && !bytes.is_empty() && self.end == End::Error {
+            return Err(io::Error::from(ErrorKind::Other));
+        }
+        self.taken.extend_from_slice(&bytes[..count])?;
+        self.room -= count;
+        Ok(count)
+    }
+
+    fn flush(&mut self) -> io::Result<()> {
+        if self.flushes {
+            Ok(())
+        } else {
+            Err(io::Error::from(ErrorKind::Other))
+        }
+    }
+}
+
+pub(crate) fn room_of(alloc: Global, room: usize, end: End) -> Room {
+    Room {
+        room,
+        size: usize::MAX,
+        end,
+        flushes: true,
+        taken: Vec::new(alloc),
+    }
+}
