@@ -1,5 +1,7 @@
 //! What is kept of each address, in the order of last hearing.
-ghost use Rattle.std.specs.Prelude.{◌≢◌, IfNone, IfSome, Option, option_map, ◌≡◌, ℕ, ◌+◌, ◌-◌, ◌^◌, ◌<◌, ◌≤◌, ◌++◌, nat_eq, Some, None, length, map, slice_get, IsOk, IfOk, OnOk, OnErr, [], ◌∷◌, true, reverse};
+ghost use Rattle.std.specs.Prelude.{◌≢◌, IfNone, IfSome, Option, option_map, ◌≡◌, ℕ, ◌+◌, ◌-◌, ◌^◌, ◌<◌, ◌≤◌, ◌++◌};
+ghost use Rattle.std.specs.Prelude.{nat_eq, Some, None, length, map, slice_get, IsOk, IfOk, OnOk, OnErr, [], ◌∷◌, true};
+ghost use Rattle.std.specs.Prelude.{reverse};
 ghost use Rattle.std.specs.List.{IsDistinct};
 ghost use Rattle.std.specs.Map.{keys_of, lookup};
 ghost use Rattle.indexmap.specs.IndexMap.{get, spare, IsUnchanged};
@@ -102,6 +104,7 @@ fn touch(
 }
 
 /// Makes an address the most recently used.
+#[inline(always)]
 fn put_first(order: &mut LruCache<u32, ()>, address: u32) -> Result<(), AllocError>
     requires { order.old.cap ≡ 2 ^ 64 - 1 }
     ensures ok { OnOk result (keys_of order.new.entries ≡ address ∷ others_than address (keys_of order.old.entries)) }
@@ -143,6 +146,7 @@ fn make_room(table: &mut IndexMap<u32, Contact>, address: u32) -> Result<(), All
 }
 
 /// Hears a squitter of an address of the table, in its place there.
+#[inline(always)]
 fn hear_known(
     table: &mut IndexMap<u32, Contact>,
     window_ms: u64,
@@ -151,7 +155,8 @@ fn hear_known(
     address: u32,
     squitter: &Squitter,
 ) -> Option<Heard>
-    ensures some { IfSome result (λ heard. (before after : Contact) × (lookup (nat_eq address) table.old.entries ≡ Some before)
+    ensures some { IfSome result (λ heard. (before after : Contact)
+        × (lookup (nat_eq address) table.old.entries ≡ Some before)
         × IsStep window_ms (option_map (λ s. s.now) site.entry) moment squitter.now before heard after
         × (lookup (nat_eq address) table.new.entries ≡ Some after)) }
     ensures none { IfNone result ((lookup (nat_eq address) table.old.entries ≡ None) × (table.new ≡ table.old)) }
@@ -212,6 +217,7 @@ impl Contacts {
     }
 
     /// The contact that was not heard for the longest time.
+    #[inline(always)]
     pub fn oldest(&self) -> Option<(u32, Contact)>
         ensures { result ≡ slice_get self.now 0 }
     {
@@ -230,6 +236,7 @@ impl Contacts {
     }
 
     /// Hears a squitter of an address, and puts the address at the end. An address that is there takes no memory.
+    #[inline(always)]
     pub fn hear_last(
         &mut self,
         window_ms: u64,
