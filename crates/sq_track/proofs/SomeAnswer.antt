@@ -33,7 +33,7 @@ use Rattle.sq_track.specs.declared.heard.Heard.{Heard}
 use Rattle.sq_track.specs.declared.heard.Heard.TheVariants.{Fix, Followed, Waiting, Split, Far, NoSite, NotPosition}
 use Rattle.sq_track.specs.declared.heard.TrackFault.{TrackFault}
 use Rattle.sq_track.specs.declared.heard.TrackFault.TheVariants.{MomentBack, Full}
-use Rattle.sq_track.specs.History.{Entry, History, counterpart, last_fix, if_recent, is_fix_of, place_heard} 
+use Rattle.sq_track.specs.History.{Entry, History, counterpart, last_fix, if_recent, is_fix_of, place_heard}
 use Rattle.sq_track.specs.History as past
 use Rattle.sq_track.specs.Answers.{heard_alone, heard_of_pair, heard_near, IsHeardOfPair, IsPlaceNear, IsHeardNear, IsHeardAfter, IsHeardWith, IsHeard}
 use Rattle.sq_track.specs.Replies.{Settings, IsHistory, IsInTime, IsFull, IsReply, is_position, is_of_address, last_moment, present}
@@ -73,7 +73,7 @@ some_on_ground : (o n : Surface) (site : Option Position) → (answer : Result P
 some_on_ground o n None = (Err faults.NoSite, refl)
 some_on_ground o n (Some s) =
     let found = some_pair_answer 90 4 refl (even_of n.parity (numbers_of o.code) (numbers_of n.code)) (odd_of n.parity (numbers_of o.code) (numbers_of n.code)) n.parity
-        (degrees (lat_of s)) (degrees (lon_of s)) s.lat.in_range.positive s.lon.in_range.positive in
+    (degrees (lat_of s)) (degrees (lon_of s)) s.lat.in_range.positive s.lon.in_range.positive in
     (place_of Ground of_pair found.0, (found.0, found.1, refl))
 
 some_kindred : (m n : Me) (site : Option Position) → IsPosition m × IsPosition n → (answer : Result Place PlaceFault) × IsKindredPlace m n site answer
@@ -215,7 +215,7 @@ each_on_grid : (s : Settings) (history : History) → IsHistory s history → Al
 each_on_grid s [] h = tt
 each_on_grid s (entry ∷ earlier) h = (
   after_on_grid (last_fix s.window earlier entry.moment entry.squitter) entry.squitter h.0.1.of_pair entry.heard
-  (of_pair_on_grid s.site (counterpart s.window earlier entry.moment entry.squitter) entry.squitter h.0.1.of_pair h.0.1.pair) h.0.1.after,
+      (of_pair_on_grid s.site (counterpart s.window earlier entry.moment entry.squitter) entry.squitter h.0.1.of_pair h.0.1.pair) h.0.1.after,
   each_on_grid s earlier h.1,
 )
 
@@ -272,13 +272,13 @@ position_of_place (Air p) h =
     let z = zones_within 360 1 p h in
     let east = lon_within 360 p.zones p.lon_index (omega (arith, h.east_west)) in
     let x = made (latitude 360 p) (longitude 360 p) (lat_angle 360 p.parity p.lat_index h.north_south) (lon_angle 360 p.zones p.lon_index z.0 z.1 east)
-        (record { latitude = h.north_south; longitude = east }) in
+    (record { latitude = h.north_south; longitude = east }) in
     (x.0, record { lat = x.1; lon = x.2 })
 position_of_place (Ground p) h =
     let z = zones_within 90 4 p h in
     let east = lon_within 90 p.zones p.lon_index (omega (arith, h.east_west)) in
     let x = made (latitude 90 p) (longitude 90 p) (lat_angle 90 p.parity p.lat_index h.north_south) (lon_angle 90 p.zones p.lon_index z.0 z.1 east)
-        (record { latitude = h.north_south; longitude = east }) in
+    (record { latitude = h.north_south; longitude = east }) in
     (x.0, record { lat = x.1; lon = x.2 })
 
 -- ---- the answer

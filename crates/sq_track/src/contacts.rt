@@ -1,14 +1,22 @@
 //! What is kept of each address, in the order of last hearing.
-ghost use Rattle.std.specs.Prelude.{◌≡◌, ℕ, ◌+◌, ◌-◌, ◌^◌, ◌<◌, ◌≤◌, ◌++◌, nat_eq, Some, None, length, map, slice_get, IsOk, IfOk, OnOk, OnErr, [], ◌∷◌, true, reverse};
+ghost use Rattle.std.specs.Prelude.{◌≢◌, IfNone, IfSome, Option, option_map, ◌≡◌, ℕ, ◌+◌, ◌-◌, ◌^◌, ◌<◌, ◌≤◌, ◌++◌};
+ghost use Rattle.std.specs.Prelude.{nat_eq, Some, None, length, map, slice_get, IsOk, IfOk, OnOk, OnErr, [], ◌∷◌, true};
+ghost use Rattle.std.specs.Prelude.{reverse};
 ghost use Rattle.std.specs.List.{IsDistinct};
 ghost use Rattle.std.specs.Map.{keys_of, lookup};
 ghost use Rattle.indexmap.specs.IndexMap.{get, spare, IsUnchanged};
 ghost use Rattle.lru.specs.LruCache.{LruCache};
-ghost use Rattle.sq_track.specs.Ordered.{others_in, others_than, has_address, heard_order, IsUnbounded};
+ghost use Rattle.sq_message.specs.Parts.{squitter_parts};
+ghost use Rattle.sq_track.specs.Held.{contact_of};
+ghost use Rattle.sq_track.specs.Kept.{IsStep};
+ghost use Rattle.sq_track.specs.declared.contact.Contact.{Contact};
+ghost use Rattle.sq_track.specs.Ordered.{blank_contact, others_in, others_than, has_address, heard_order, IsUnbounded};
 
-use crate::contact::Contact;
+use crate::contact::{Contact, Side};
+use crate::heard::Heard;
 use indexmap::IndexMap;
 use lru::LruCache;
+use sq_message::{Position, Squitter};
 use std::alloc::{AllocError, Global};
 use std::marker::Model;
 
@@ -96,6 +104,7 @@ fn touch(
 }
 
 /// Makes an address the most recently used.
+#[inline(always)]
 fn put_first(order: &mut LruCache<u32, ()>, address: u32) -> Result<(), AllocError>
     requires { order.old.cap ≡ 2 ^ 64 - 1 }
     ensures ok { OnOk result (keys_of order.new.entries ≡ address ∷ others_than address (keys_of order.old.entries)) }
@@ -136,6 +145,49 @@ fn make_room(table: &mut IndexMap<u32, Contact>, address: u32) -> Result<(), All
     table.reserve(1)
 }
 
+/// Hears a squitter of an address of the table, in its place there.
+#[inline(always)]
+fn hear_known(
+    table: &mut IndexMap<u32, Contact>,
+    window_ms: u64,
+    site: Option<&Position>,
+    moment: u64,
+    address: u32,
+    squitter: &Squitter,
+) -> Option<Heard>
+    ensures some { IfSome result (λ heard. (before after : Contact)
+        × (lookup (nat_eq address) table.old.entries ≡ Some before)
+        × IsStep window_ms (option_map (λ s. s.now) site.entry) moment squitter.now before heard after
+        × (lookup (nat_eq address) table.new.entries ≡ Some after)) }
+    ensures none { IfNone result ((lookup (nat_eq address) table.old.entries ≡ None) × (table.new ≡ table.old)) }
+    ensures others { (k : ℕ) → k ≢ address → lookup (nat_eq k) table.new.entries ≡ lookup (nat_eq k) table.old.entries }
+    ensures long { length table.new.entries ≡ length table.old.entries }
+{
+    match table.get_mut(&address) {
+        Some(contact) => Some(contact.hear(window_ms, site, moment, squitter)),
+        None => None,
+    }
+}
+
+/// What is kept of an address before its first position.
+fn blank() -> Contact
+    ensures { result ≡ blank_contact }
+{
+    Contact {
+        moment: 0,
+        airborne: Side {
+            even: None,
+            odd: None,
+            fix: None,
+        },
+        surface: Side {
+            even: None,
+            odd: None,
+            fix: None,
+        },
+    }
+}
+
 impl Contacts {
     /// No contacts.
     pub fn new(alloc: Global) -> Contacts
@@ -165,6 +217,7 @@ impl Contacts {
     }
 
     /// The contact that was not heard for the longest time.
+    #[inline(always)]
     pub fn oldest(&self) -> Option<(u32, Contact)>
         ensures { result ≡ slice_get self.now 0 }
     {
@@ -182,17 +235,35 @@ impl Contacts {
         Some((address, *contact))
     }
 
-    /// Puts an address at the end, with a new value. An address that is there takes no memory.
-    pub fn put_last(&mut self, address: u32, contact: Contact) -> Result<(), AllocError>
-        ensures ok { OnOk result (self.new ≡ others_in address self.old ++ (address, contact) ∷ []) }
+    /// Hears a squitter of an address, and puts the address at the end. An address that is there takes no memory.
+    #[inline(always)]
+    pub fn hear_last(
+        &mut self,
+        window_ms: u64,
+        site: Option<&Position>,
+        moment: u64,
+        address: u32,
+        squitter: &Squitter,
+    ) -> Result<Heard, AllocError>
+        requires { (squitter_parts squitter.now).address ≡ address }
+        ensures ok { IfOk result (λ heard. (after : Contact)
+            × IsStep window_ms (option_map (λ s. s.now) site.entry) moment squitter.now (contact_of self.old address) heard after
+            × (self.new ≡ others_in address self.old ++ (address, after) ∷ [])) }
         ensures err { OnErr result (self.new ≡ self.old) }
         ensures absent { OnErr result (lookup (nat_eq address) self.old ≡ None) }
     {
         make_room(&mut self.table, address)?;
         touch(self.alloc, &mut self.order, address)?;
-        match self.table.insert(address, contact) {
-            Ok(_) => Ok(()),
-            Err(_) => Err(AllocError),
+        match hear_known(&mut self.table, window_ms, site, moment, address, squitter) {
+            Some(heard) => Ok(heard),
+            None => {
+                let mut contact = blank();
+                let heard = contact.hear(window_ms, site, moment, squitter);
+                match self.table.insert(address, contact) {
+                    Ok(_) => Ok(heard),
+                    Err(_) => Err(AllocError),
+                }
+            }
         }
     }
 

@@ -5,11 +5,11 @@ use thiserror::Error;
 /// What is heard of an accepted squitter: the first of these that applies.
 #[derive(Clone, Copy, Debug, PartialEq, Eq)]
 pub enum Heard {
-    /// The place of the squitter, decoded from it and its counterpart: the newest squitter of its address and kind and of the
-    /// other parity, if that is at most the window older.
+    /// The place of the squitter, decoded from it and its counterpart: the newest squitter of its address and kind and
+    /// of the other parity, if that is at most the window older.
     Fix(Place),
-    /// The place of the squitter, decoded near the last fix of its address and kind, if that is at most the window older. It
-    /// is looked for where `Waiting` or `Split` would be answered.
+    /// The place of the squitter, decoded near the last fix of its address and kind, if that is at most the window
+    /// older. It is looked for where `Waiting` or `Split` would be answered.
     Followed(Place),
     /// There is no counterpart.
     Waiting,

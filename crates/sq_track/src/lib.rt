@@ -1,9 +1,9 @@
 //! What a receiver hears, one squitter after another.
 //!
-//! A [`Tracker`] hears squitters with their moments, pairs an even and an odd one of one address within a window, follows an
-//! address from its last fix, and forgets what was not heard for longer than the window. What it answers is a function of the
-//! history: of the squitters that it accepted, and their moments. The time of a call does not grow with the number of
-//! addresses.
+//! A [`Tracker`] hears squitters with their moments, pairs an even and an odd one of one address within a window,
+//! follows an address from its last fix, and forgets what was not heard for longer than the window. What it answers is
+//! a function of the history: of the squitters that it accepted, and their moments. The time of a call does not grow
+//! with the number of addresses.
 //!
 //! [`laws`] says what this comes to: where senders are slow enough, each place that is heard is the true one.
 #![tactic(auto)]

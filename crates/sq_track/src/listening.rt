@@ -9,8 +9,9 @@ use crate::contact::Received;
 use crate::heard::{Heard, TrackFault};
 use crate::tracker::Tracker;
 
-/// Hears squitters one after another, each at its moment, and gives back in `heard` what was heard of each, or why it was
-/// refused. `heard` has one slot for each of them. A squitter that is refused changes nothing, and the next one is heard.
+/// Hears squitters one after another, each at its moment, and gives back in `heard` what was heard of each, or why it
+/// was refused. `heard` has one slot for each of them. A squitter that is refused changes nothing, and the next one is
+/// heard.
 pub fn hear_each(
     tracker: &mut Tracker,
     received: &[Received],
@@ -18,13 +19,15 @@ pub fn hear_each(
 )
     requires { length heard.old ≡ length received.now }
 
-    // In a world that is slow for the tracker's window and site, and for following, each fix and each followed place is the
-    // true one, and `Far` is not heard.
+    // In a world that is slow for the tracker's window and site, and for following, each fix and each followed place is
+    // the true one, and `Far` is not heard.
     ensures placed { AreTrueInSlowWorlds tracker.old received.now heard.new }
 
     // For each history that the tracker stood for these are the replies, and it stands for the history after them.
-    ensures replies { (h : History) → StandsFor tracker.old h → AreReplies (settings tracker.old) h received.now heard.new }
-    ensures after { (h : History) → StandsFor tracker.old h → StandsFor tracker.new (history_after_all h received.now heard.new) }
+    ensures replies { (h : History) → StandsFor tracker.old h
+        → AreReplies (settings tracker.old) h received.now heard.new }
+    ensures after { (h : History) → StandsFor tracker.old h
+        → StandsFor tracker.new (history_after_all h received.now heard.new) }
     ensures settings { settings tracker.new ≡ settings tracker.old }
 {
     let mut at = 0;
@@ -36,8 +39,10 @@ pub fn hear_each(
 
 // Hears a squitter into its slot.
 fn hear_into(tracker: &mut Tracker, one: &Received, slot: &mut Result<Heard, TrackFault>)
-    ensures reply { (h : History) → StandsFor tracker.old h → IsReply (settings tracker.old) h one.now.moment one.now.squitter slot.new }
-    ensures after { (h : History) → StandsFor tracker.old h → StandsFor tracker.new (history_after h one.now.moment one.now.squitter slot.new) }
+    ensures reply { (h : History) → StandsFor tracker.old h
+        → IsReply (settings tracker.old) h one.now.moment one.now.squitter slot.new }
+    ensures after { (h : History) → StandsFor tracker.old h
+        → StandsFor tracker.new (history_after h one.now.moment one.now.squitter slot.new) }
     ensures settings { settings tracker.new ≡ settings tracker.old }
 {
     *slot = tracker.hear(one.moment, &one.squitter);

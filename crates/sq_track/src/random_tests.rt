@@ -182,7 +182,8 @@ impl Dice {
     }
 }
 
-// A squitter of one of a few addresses: sent from near a border of zone counts, or with codes of no place, or of kind other.
+// A squitter of one of a few addresses: sent from near a border of zone counts, or with codes of no place, or of kind
+// other.
 fn some_squitter(rt: &impl Abort, dice: &mut Dice) -> Squitter {
     let address = dice.roll(4);
     let parity = if dice.roll(2) == 0 {

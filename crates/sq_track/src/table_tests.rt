@@ -1,4 +1,5 @@
-//! The table of addresses: who is present, in which order, and when it is full; moments, windows and limits at their ends.
+//! The table of addresses: who is present, in which order, and when it is full; moments, windows and limits at their
+//! ends.
 use super::tests::{
     AIR, AIR_EVEN, AIR_ODD, GROUND, IDENTITY, Told, airborne, assert_told, even, hear, odd_place,
     other, read,

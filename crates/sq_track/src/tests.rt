@@ -59,8 +59,8 @@ impl Told {
     }
 }
 
-// A function that owns a tracker and holds a place beside it meets a fault of the toolchain's borrow checker, so that what
-// was heard is looked at here.
+// A function that owns a tracker and holds a place beside it meets a fault of the toolchain's borrow checker, so that
+// what was heard is looked at here.
 pub fn hear(tracker: &mut Tracker, moment: u64, squitter: &Squitter) -> Told {
     match tracker.hear(moment, squitter) {
         Ok(heard) => Told::of(&heard),

@@ -1,4 +1,4 @@
-use Rattle.std.proofs.Common.{◌≡◌, ◌∙◌, leb, eqb, ◌∷◌, ◌++◌, [], length, filter, find, Option, None, Ok, Err, Some, unwrap_or, sym, ap, subst}
+use Rattle.std.proofs.Common.{◌≡◌, ◌∙◌, option_map, refl, leb, eqb, ◌∷◌, ◌++◌, [], length, filter, find, Option, None, Ok, Err, Some, unwrap_or, sym, ap, subst}
 use Rattle.std.proofs.lemmas.Bool.{false≢true}
 use Rattle.std.specs.Map.{lookup}
 use Rattle.sq_angle.specs.declared.position.Position.{Position}
@@ -9,10 +9,10 @@ use Rattle.sq_track.specs.declared.heard.TrackFault.TheVariants.{Memory, Full}
 use Rattle.sq_track.specs.History.{History}
 use Rattle.sq_track.specs.Answers.{IsHeard}
 use Rattle.sq_track.specs.Replies.{IsReply}
-use Rattle.sq_track.specs.Kept.{Remembers}
+use Rattle.sq_track.specs.Kept.{Remembers, IsStep}
 use Rattle.sq_track.specs.Entries.{fresh_entry, IsOrdered, IsSound}
 use Rattle.sq_track.specs.Ordered.{others_in, blank_contact}
-use Rattle.sq_track.specs.Held.{Held, StandsFor, settings, present_of}
+use Rattle.sq_track.specs.Held.{Held, StandsFor, contact_of, settings, present_of}
 use Rattle.sq_track.specs.contracts.tracker.Tracker.{the_view}
 use Rattle.sq_track.proofs.EntryLemmas.{Entries, is_shown, find-entries}
 use Rattle.sq_track.proofs.StandsForLemmas.{in_time_of, full_is, not_full, silent_is, heard_silent, stands_silent, stands_position, put_is, ordered_put, sound_put, sound_silent, position_of, silent_of, moment_after, within_after}
@@ -63,43 +63,45 @@ drop_stale-requires-in-Ok c =
     let q = c.args.squitter.now in
     let a = (squitter_parts q).address in
     let here = position_of (squitter_parts q).me (c.is_position.ensures.0 c.if-not-is_position.false) in
-    let new : Contact = c.hear-heard.new.self in
-    let moment = moment_after m q c.hear-heard.result c.kept_of-contact.result new here c.hear-heard.ensures.contact in
-    let put = subst (λ x. c.put_last.new.self ≡ others_in x t.contacts ++ (x, new) ∷ []) c.address-address.ensures.value c.in-Ok.ensures.ok in
-    (0, m, subst (IsOrdered 0 m) (sym put) (ordered_put t m q c.hear-heard.result here new moment c.in_ok-check_moment.ensures.ok c.self.invariant.ordered))
+    let (new, step_at, put_at) = c.in-Ok.ensures.ok in
+    let step = subst (λ a. IsStep t.window (option_map (λ s. s.now) c.as_ref-site.result) m q (contact_of t.contacts a) c.in-Ok.heard new) c.address-address.ensures.value step_at in
+    let moment = moment_after m q c.in-Ok.heard (contact_of t.contacts a) new here step.kept in
+    let put = subst (λ x. c.hear_last.new.self ≡ others_in x t.contacts ++ (x, new) ∷ []) c.address-address.ensures.value put_at in
+    (0, m, subst (IsOrdered 0 m) (sym put) (ordered_put t m q c.in-Ok.heard here new moment c.in_ok-check_moment.ensures.ok c.self.invariant.ordered))
 
 pub invariant_of-self-in-Ok : goal.invariant_of-self-in-Ok
 invariant_of-self-in-Ok c =
     let t : Held = the_view c.self.inside in
     let m = c.args.moment in
     let q = c.args.squitter.now in
-    let heard = c.hear-heard.result in
+    let heard = c.in-Ok.heard in
     let le = c.in_ok-check_moment.ensures.ok in
     let here = position_of (squitter_parts q).me (c.is_position.ensures.0 c.if-not-is_position.false) in
     let full = subst (λ a. c.is_full.result ≡ leb t.limit (length (others_in a (filter (fresh_entry t.window m) t.contacts)))) c.address-address.ensures.value c.is_full.ensures in
-    let old : Contact = c.kept_of-contact.result in
-    let new : Contact = c.hear-heard.new.self in
-    let known = subst (λ x. c.kept_of-contact.result ≡ unwrap_or (lookup (eqb x) c.self.inside.contacts) blank_contact) c.address-address.ensures.value c.kept_of-contact.ensures in
-    let moment = moment_after m q heard old new here c.hear-heard.ensures.contact in
-    let put = subst (λ x. c.put_last.new.self ≡ others_in x t.contacts ++ (x, new) ∷ []) c.address-address.ensures.value c.in-Ok.ensures.ok in
+    let old : Contact = contact_of t.contacts (squitter_parts q).address in
+    let (new, step_at, put_at) = c.in-Ok.ensures.ok in
+    let step = subst (λ a. IsStep t.window (option_map (λ s. s.now) c.as_ref-site.result) m q (contact_of t.contacts a) c.in-Ok.heard new) c.address-address.ensures.value step_at in
+    let moment = moment_after m q heard old new here step.kept in
+    let put = subst (λ x. c.hear_last.new.self ≡ others_in x t.contacts ++ (x, new) ∷ []) c.address-address.ensures.value put_at in
     let all = c.drop_stale-in-Ok.ensures ∙ ap (filter (fresh_entry t.window m)) put ∙ put_is t m q heard here new moment in
     subst (IsSound t.limit (Some m)) (sym all)
-    (sound_put t m q heard here new moment le (sym full ∙ c.if-is_full.false) c.self.invariant (within_after t m q heard old new le c.self.invariant here known c.hear-heard.ensures.contact))
+    (sound_put t m q heard here new moment le (sym full ∙ c.if-is_full.false) c.self.invariant (within_after t m q heard old new le c.self.invariant here refl step.kept))
 
 pub returns-in-Ok-clause-reply : goal.returns-in-Ok-clause-reply
 returns-in-Ok-clause-reply c =
     let t : Held = the_view c.self.inside in
     let m = c.args.moment in
     let q = c.args.squitter.now in
-    let heard = c.hear-heard.result in
+    let heard = c.in-Ok.heard in
+    let (new, step_at, put_at) = c.in-Ok.ensures.ok in
+    let step = subst (λ a. IsStep t.window (option_map (λ s. s.now) c.as_ref-site.result) m q (contact_of t.contacts a) c.in-Ok.heard new) c.address-address.ensures.value step_at in
     let full = subst (λ a. c.is_full.result ≡ leb t.limit (length (others_in a (filter (fresh_entry t.window m) t.contacts)))) c.address-address.ensures.value c.is_full.ensures in
-    let known = subst (λ x. c.kept_of-contact.result ≡ unwrap_or (lookup (eqb x) c.self.inside.contacts) blank_contact) c.address-address.ensures.value c.kept_of-contact.ensures in
     subst (λ (v : Held). (h : History) → StandsFor v h → IsReply (settings v) h m q (Ok heard)) c.self.view_is
     (λ h st.
     let in_time = in_time_of t h m st c.in_ok-check_moment.ensures.ok in
-    let old = subst (λ (x : Contact). Remembers t.window (squitter_parts q).address h x) (sym known) (st.kept (squitter_parts q).address) in (
+    let old = st.kept (squitter_parts q).address in (
       not_full t h m q st in_time (sym full ∙ c.if-is_full.false),
-      subst (λ (site : Option Position). IsHeard t.window site h m q heard) c.as_ref.ensures.value (c.hear-heard.ensures.heard h old in_time),
+      subst (λ (site : Option Position). IsHeard t.window site h m q heard) c.as_ref-site.ensures.value (step.answers h old in_time),
     ))
 
 pub returns-in-Ok-clause-ok : goal.returns-in-Ok-clause-ok
@@ -107,27 +109,27 @@ returns-in-Ok-clause-ok c =
     let t : Held = the_view c.self.inside in
     let m = c.args.moment in
     let q = c.args.squitter.now in
-    let heard = c.hear-heard.result in
+    let heard = c.in-Ok.heard in
     let le = c.in_ok-check_moment.ensures.ok in
     let here = position_of (squitter_parts q).me (c.is_position.ensures.0 c.if-not-is_position.false) in
     let full = subst (λ a. c.is_full.result ≡ leb t.limit (length (others_in a (filter (fresh_entry t.window m) t.contacts)))) c.address-address.ensures.value c.is_full.ensures in
-    let old : Contact = c.kept_of-contact.result in
-    let new : Contact = c.hear-heard.new.self in
-    let known = subst (λ x. c.kept_of-contact.result ≡ unwrap_or (lookup (eqb x) c.self.inside.contacts) blank_contact) c.address-address.ensures.value c.kept_of-contact.ensures in
-    let moment = moment_after m q heard old new here c.hear-heard.ensures.contact in
-    let put = subst (λ x. c.put_last.new.self ≡ others_in x t.contacts ++ (x, new) ∷ []) c.address-address.ensures.value c.in-Ok.ensures.ok in
+    let old : Contact = contact_of t.contacts (squitter_parts q).address in
+    let (new, step_at, put_at) = c.in-Ok.ensures.ok in
+    let step = subst (λ a. IsStep t.window (option_map (λ s. s.now) c.as_ref-site.result) m q (contact_of t.contacts a) c.in-Ok.heard new) c.address-address.ensures.value step_at in
+    let moment = moment_after m q heard old new here step.kept in
+    let put = subst (λ x. c.hear_last.new.self ≡ others_in x t.contacts ++ (x, new) ∷ []) c.address-address.ensures.value put_at in
     let all = c.drop_stale-in-Ok.ensures ∙ ap (filter (fresh_entry t.window m)) put ∙ put_is t m q heard here new moment in
     subst (λ (v : Held). (h : History) → StandsFor v h
     → StandsFor (record { limit = t.limit; window = t.window; site = t.site; last = Some m; contacts = c.drop_stale-in-Ok.new.contacts }) (record { moment = m; squitter = q; heard = heard } ∷ h)) c.self.view_is
     (λ h st.
     let in_time = in_time_of t h m st le in
-    let remembered = subst (λ (x : Contact). Remembers t.window (squitter_parts q).address h x) (sym known) (st.kept (squitter_parts q).address) in
+    let remembered = st.kept (squitter_parts q).address in
     let reply : IsReply (settings t) h m q (Ok heard) = (
       not_full t h m q st in_time (sym full ∙ c.if-is_full.false),
-      subst (λ (site : Option Position). IsHeard t.window site h m q heard) c.as_ref.ensures.value (c.hear-heard.ensures.heard h remembered in_time),
+      subst (λ (site : Option Position). IsHeard t.window site h m q heard) c.as_ref-site.ensures.value (step.answers h remembered in_time),
     ) in
     subst (λ (es : Entries). StandsFor (record { limit = t.limit; window = t.window; site = t.site; last = Some m; contacts = es }) (record { moment = m; squitter = q; heard = heard } ∷ h)) (sym all)
-    (stands_position t m q heard here new moment h st le c.len-len.ensures.unique c.self.invariant.within reply (c.hear-heard.ensures.after h remembered in_time)))
+    (stands_position t m q heard here new moment h st le c.len-len.ensures.unique c.self.invariant.within reply (step.remembers h remembered in_time)))
 
 pub returns-in-Err-clause-reply : goal.returns-in-Err-clause-reply
 returns-in-Err-clause-reply c =
