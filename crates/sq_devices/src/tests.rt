@@ -60,7 +60,7 @@ impl Write for Narrow {
     }
 }
 
-/// Fails at its first read, write or flush of each kind and works from then on. It counts the calls, and keeps what it takes.
+/// Fails at its first read, its first write and its first flush, and then works. It counts the calls, and keeps what it takes.
 #[derive(Drop)]
 struct Once {
     text: &'static [u8],
