@@ -276,6 +276,9 @@ fn leaves_each_prefix_where_a_put_fails(rt: HostRuntime) {
         let mut sink = Writing::new(Narrow { room, taken });
         let put = put_last(&mut sink, text);
         assert_eq!(rt; put.is_ok(), room == 10, "{room}");
-        assert!(rt; sink.into_inner().taken.as_slice() == &text[..room], "{room}");
+        assert!(rt;
+            sink.into_inner().taken.as_slice() == &text[..room],
+            "{room}"
+        );
     }
 }

@@ -26,7 +26,8 @@ ghost use Rattle.sq_message.specs.Sending.{IsFrameInAir, IsFrameOnGround, IsInAi
 ghost use Rattle.sq_message.specs.Spelling.{IsReading, Spells};
 
 use crate::{
-    AirHead, Frame, FrameFault, GroundHead, Parity, Place, PlaceFault, Position, Squitter, place_local, place_pair, read_frame, send_air, send_ground, send_point, write_frame,
+    AirHead, Frame, FrameFault, GroundHead, Parity, Place, PlaceFault, Position, Squitter,
+    place_local, place_pair, read_frame, send_air, send_ground, send_point, write_frame,
 };
 use sq_bits::laws::each_frame;
 
