@@ -162,6 +162,125 @@ fn reads_the_words(rt: HostRuntime) -> Result<(), Fail> {
     Ok(())
 }
 
+/// A command line of an empty name and `count` more words, each a letter longer than the one before.
+#[derive(Drop)]
+struct LongLine {
+    count: usize,
+}
+
+const LETTERS: &[u8] = b"abcdefghijklmnopqrstuvwxyzabcdefghijklmnopqrstuvwxyz";
+
+impl Env for LongLine {
+    fn arg(&self, i: usize, buf: &mut [u8]) -> Result<usize, FillError> {
+        if i > self.count {
+            return Err(FillError::NotPresent);
+        }
+        let word = &LETTERS[..i.min(LETTERS.len())];
+        if buf.len() < word.len() {
+            return Err(FillError::TooLong);
+        }
+        buf[..word.len()].copy_from_slice(word);
+        Ok(word.len())
+    }
+
+    fn var(&self, _name: &str, _buf: &mut [u8]) -> Result<usize, FillError> {
+        Err(FillError::NotPresent)
+    }
+
+    fn var_at(&self, _i: usize, _buf: &mut [u8]) -> Result<usize, FillError> {
+        Err(FillError::NotPresent)
+    }
+}
+
+// All words of a long command line, whole and in order, the last one too.
+#[test]
+fn reads_a_long_command_line(rt: HostRuntime) -> Result<(), Fail> {
+    for count in [0, 1, 2, 3, 4, 11, 40] {
+        let Ok(words) = arguments(&(LongLine { count }, rt.alloc())) else {
+            return Err(Fail::from("no words"));
+        };
+        assert_eq!(rt; words.len(), count.saturating_add(1));
+        for (i, word) in words.iter().enumerate() {
+            let want = &LETTERS[..i.min(LETTERS.len())];
+            assert!(rt; word.as_bytes() == want, "{i}");
+        }
+    }
+    Ok(())
+}
+
+/// Fails at its first read or write and then works, and notes each read as `<`, a failed write as `!` and a flush as `|`.
+#[derive(Drop)]
+struct Once<'a> {
+    log: &'a Log,
+    failed: bool,
+}
+
+impl Read for Once<'_> {
+    fn read(&mut self, buf: &mut [u8]) -> io::Result<usize> {
+        note(self.log, b"<")?;
+        if !self.failed {
+            self.failed = true;
+            return Err(io::Error::from(ErrorKind::Other));
+        }
+        let count = buf.len().min(2);
+        buf[..count].copy_from_slice(&b"ab"[..count]);
+        Ok(count)
+    }
+}
+
+impl Write for Once<'_> {
+    fn write(&mut self, buf: &[u8]) -> io::Result<usize> {
+        if !self.failed {
+            self.failed = true;
+            note(self.log, b"!")?;
+            return Err(io::Error::from(ErrorKind::Other));
+        }
+        note(self.log, buf)?;
+        Ok(buf.len())
+    }
+
+    fn flush(&mut self) -> io::Result<()> {
+        note(self.log, b"|")
+    }
+}
+
+// A failed read is told, and not tried again.
+#[test]
+fn tells_a_failed_read(rt: HostRuntime) -> Result<(), Fail> {
+    let log = RefCell::new(Vec::new(rt.alloc()));
+    let shared = SharedOutput::new(rt.alloc(), Vec::new(rt.alloc()))?;
+    let once = Once {
+        log: &log,
+        failed: false,
+    };
+    let mut input = PromptInput::new(rt.alloc(), once, &shared, 10)?;
+    let mut piece = [0; 2];
+    assert_eq!(rt; input.get(&mut piece), Err(Failed));
+    assert_eq!(rt; input.get(&mut piece), Ok(2));
+    assert_eq!(rt; &piece[..], b"ab".as_slice());
+    drop(input);
+    assert_eq!(rt; log.into_inner().as_slice(), b"<<".as_slice());
+    Ok(())
+}
+
+// A failed write at the finish is told, and the finish reaches the writer.
+#[test]
+fn tells_a_failed_write_and_finishes(rt: HostRuntime) -> Result<(), Fail> {
+    let log = RefCell::new(Vec::new(rt.alloc()));
+    let once = Once {
+        log: &log,
+        failed: false,
+    };
+    let shared = SharedOutput::new(rt.alloc(), once)?;
+    let mut output = PromptOutput::new(&shared);
+    assert_eq!(rt; output.put(b"end"), Ok(3));
+    assert_eq!(rt; output.finish(), Err(Failed));
+    assert_eq!(rt; output.finish(), Ok(()));
+    drop(shared);
+    assert_eq!(rt; log.into_inner().as_slice(), b"!end|".as_slice());
+    Ok(())
+}
+
 #[test]
 fn tells_its_troubles(rt: HostRuntime) {
     let mut faults = Writing::new(Vec::new(rt.alloc()));

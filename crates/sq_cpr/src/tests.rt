@@ -169,5 +169,32 @@ fn laws_are_of_both_spans(rt: HostRuntime) {
     laws::same_zones::<Ground>();
     laws::same_points::<Air>();
     laws::same_points::<Ground>();
+    laws::some_local_answer::<Air>();
+    laws::some_local_answer::<Ground>();
+    laws::some_pair_answer::<Air>();
+    laws::some_pair_answer::<Ground>();
+    laws::slow_exactly::<Air>();
+    laws::slow_exactly::<Ground>();
+    laws::following_exactly::<Air>();
+    laws::following_exactly::<Ground>();
+    laws::within_exactly::<Air>();
+    laws::within_exactly::<Ground>();
+    laws::close_exactly::<Air>();
+    laws::close_exactly::<Ground>();
+    laws::limits_of_slow();
+    laws::at_the_limits();
+    laws::across_180_degrees();
+    laws::differ_exactly();
+    laws::turns_change_nothing();
     laws::one_code();
+}
+
+#[test]
+fn codes_are_equal_by_both_numbers(rt: HostRuntime) {
+    let code = Code::new(5, 7).expect(&rt, "a code");
+    let same = Code::new(5, 7).expect(&rt, "a code");
+    let north = Code::new(6, 7).expect(&rt, "a code");
+    let east = Code::new(5, 8).expect(&rt, "a code");
+    assert!(rt; laws::equal_codes(&code, &same));
+    assert!(rt; !laws::equal_codes(&code, &north) && !laws::equal_codes(&code, &east));
 }

@@ -60,7 +60,7 @@ impl Write for Narrow {
     }
 }
 
-/// Fails at its first read, write or flush of each kind and works from then on. It counts the calls, and keeps what it takes.
+/// Fails at its first read, its first write and its first flush, and then works. It counts the calls, and keeps what it takes.
 #[derive(Drop)]
 struct Once {
     text: &'static [u8],
@@ -276,6 +276,9 @@ fn leaves_each_prefix_where_a_put_fails(rt: HostRuntime) {
         let mut sink = Writing::new(Narrow { room, taken });
         let put = put_last(&mut sink, text);
         assert_eq!(rt; put.is_ok(), room == 10, "{room}");
-        assert!(rt; sink.into_inner().taken.as_slice() == &text[..room], "{room}");
+        assert!(rt;
+            sink.into_inner().taken.as_slice() == &text[..room],
+            "{room}"
+        );
     }
 }

@@ -6,13 +6,15 @@ use Rattle.sq_angle.specs.declared.position.Position.{Position}
 use Rattle.sq_zones.specs.declared.parity.Parity.{Parity}
 use Rattle.sq_zones.specs.declared.parity.Parity.TheVariants.{Even, Odd}
 use Rattle.sq_cpr.specs.Grid.{Point}
+use Rattle.sq_cpr.specs.Close.{AreClosePoints}
 use Rattle.sq_cpr.specs.Pair.{of_parity}
+use Rattle.sq_cpr.specs.Slow.{IsPointWithin}
 use Rattle.sq_message.specs.declared.squitter.FrameFault.{FrameFault}
 use Rattle.sq_message.specs.declared.squitter.Squitter.{Squitter}
 use Rattle.sq_message.specs.declared.place.Place.{Place}
 use Rattle.sq_message.specs.declared.place.Place.TheVariants.{Air, Ground}
 use Rattle.sq_message.specs.declared.place.PlaceFault.{PlaceFault}
-use Rattle.sq_message.specs.Calls.{HasNoPlaceNear, HaveNoPlace, IsAirPlaceOfClose, IsGroundPlaceOfClose, IsPlaceOfPair, IsStrictlyNearInAir, IsStrictlyNearOnGround}
+use Rattle.sq_message.specs.Calls.{HasNoPlaceNear, HaveNoPlace, IsPlaceOfPair, IsStrictlyNearInAir, IsStrictlyNearOnGround}
 use Rattle.sq_message.specs.Heads.{AirHeadParts, GroundHeadParts}
 use Rattle.sq_message.specs.Parts.{squitter_parts}
 use Rattle.sq_message.specs.Places.{IsLocalPlace}
@@ -61,6 +63,17 @@ moved p q older newer site answer was is placed =
     let first : p ≡ older = cc was in
     let second : q ≡ newer = cc is in
     subst (λ (s : Squitter). IsPlaceOfPair older s site answer) second (subst (λ (s : Squitter). IsPlaceOfPair s q site answer) first placed)
+
+-- where the points to which the positions round in the air are close, the answer is the newest one's
+abbrev IsAirPlaceOfClose : Parity → (even odd : Position) → Result Place PlaceFault → Type 0
+IsAirPlaceOfClose newest even odd answer =
+    (a b : Point) → RoundsInAir even a → RoundsInAir odd b → AreClosePoints 360 a b → answer ≡ Ok (Air (of_parity newest a b))
+
+-- the same on the ground, where both points lie less than 45 degrees from the site in both coordinates
+abbrev IsGroundPlaceOfClose : Parity → (even odd site : Position) → Result Place PlaceFault → Type 0
+IsGroundPlaceOfClose newest even odd site answer =
+    (a b : Point) → RoundsOnGround even a → RoundsOnGround odd b → AreClosePoints 90 a b
+    → IsPointWithin 45 90 4 a site → IsPointWithin 45 90 4 b site → answer ≡ Ok (Ground (of_parity newest a b))
 
 -- what is read of the frames of close points is the newest one's point
 pub pair_in_air : (even_head odd_head : AirHeadParts) (x y : Position) (f g : Frame) (p q : Squitter) (newest : Parity) (site : Option Position) (answer : Result Place PlaceFault)

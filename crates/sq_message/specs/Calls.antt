@@ -7,16 +7,12 @@ use Rattle.sq_angle.specs.Position.{lat_of, lon_of}
 use Rattle.sq_zones.specs.declared.parity.Parity.{Parity}
 use Rattle.sq_cpr.specs.Grid.{Point}
 use Rattle.sq_cpr.specs.Near.{IsStrictlyNearPoint}
-use Rattle.sq_cpr.specs.Close.{AreClosePoints}
 use Rattle.sq_cpr.specs.Pair.{of_parity}
-use Rattle.sq_cpr.specs.Slow.{IsPointWithin}
 use Rattle.sq_message.specs.declared.squitter.Squitter.{Squitter}
 use Rattle.sq_message.specs.declared.place.Place.{Place}
-use Rattle.sq_message.specs.declared.place.Place.TheVariants.{Air, Ground}
 use Rattle.sq_message.specs.declared.place.PlaceFault.{PlaceFault}
 use Rattle.sq_message.specs.Parts.{squitter_parts}
 use Rattle.sq_message.specs.Places.{IsDecoded, IsLocalPlace, IsPairPlace, IsSentAt}
-use Rattle.sq_message.specs.Sending.{RoundsInAir, RoundsOnGround}
 use Rattle.sq_message.specs.Spelling.{IsReading, Spells}
 
 -- what two squitters are decoded to
@@ -61,17 +57,6 @@ IsStrictlyNearInAir reference point = IsStrictlyNearPoint 360 1 (degrees (lat_of
 -- the same on the ground
 abbrev pub IsStrictlyNearOnGround : Position → Point → Type 0
 IsStrictlyNearOnGround reference point = IsStrictlyNearPoint 90 4 (degrees (lat_of reference)) (degrees (lon_of reference)) point
-
--- where the points to which the positions round in the air are close, the answer is the newest one's
-abbrev pub IsAirPlaceOfClose : Parity → (even odd : Position) → Result Place PlaceFault → Type 0
-IsAirPlaceOfClose newest even odd answer =
-    (a b : Point) → RoundsInAir even a → RoundsInAir odd b → AreClosePoints 360 a b → answer ≡ Ok (Air (of_parity newest a b))
-
--- the same on the ground, where both points lie less than 45 degrees from the site in both coordinates
-abbrev pub IsGroundPlaceOfClose : Parity → (even odd site : Position) → Result Place PlaceFault → Type 0
-IsGroundPlaceOfClose newest even odd site answer =
-    (a b : Point) → RoundsOnGround even a → RoundsOnGround odd b → AreClosePoints 90 a b
-    → IsPointWithin 45 90 4 a site → IsPointWithin 45 90 4 b site → answer ≡ Ok (Ground (of_parity newest a b))
 
 -- what is sent of a place that a squitter is decoded to is that squitter
 abbrev pub DecodedIsSentAgain : Type 0

@@ -12,10 +12,12 @@ ghost use Rattle.sq_message.specs.declared.squitter.Squitter.{Squitter};
 ghost use Rattle.sq_message.specs.declared.place.Place.TheVariants.{Air, Ground};
 ghost use Rattle.sq_zones.specs.declared.parity.Parity.TheVariants.{Even, Odd};
 ghost use Rattle.sq_cpr.specs.Grid.{Point};
+ghost use Rattle.sq_cpr.specs.Close.{AreClosePoints};
 ghost use Rattle.sq_cpr.specs.Pair.{of_parity};
+ghost use Rattle.sq_cpr.specs.Slow.{IsPointWithin};
 ghost use Rattle.sq_cpr.specs.Zones.{ZonePair};
 ghost use Rattle.sq_message.specs.Altitudes.{IsAltitude, IsFieldOfFeet};
-ghost use Rattle.sq_message.specs.Calls.{DecodedIsSentAgain, HasNoPlaceNear, HaveNoPlace, IsAirPlaceOfClose, IsGroundPlaceOfClose, IsPlaceOfPair, IsReadingNear, IsReadingOfNewer, IsReadingOfPair, IsSentAgain, IsStrictlyNearInAir, IsStrictlyNearOnGround};
+ghost use Rattle.sq_message.specs.Calls.{DecodedIsSentAgain, HasNoPlaceNear, HaveNoPlace, IsPlaceOfPair, IsReadingNear, IsReadingOfNewer, IsReadingOfPair, IsSentAgain, IsStrictlyNearInAir, IsStrictlyNearOnGround};
 ghost use Rattle.sq_message.specs.Heads.{air_head_parts, ground_head_parts};
 ghost use Rattle.sq_message.specs.Headline.{ClosePairInAir, ClosePairOnGround, NearReferenceInAir, NearReferenceOnGround, OneLocalPlace, OnePairPlace, SentAgainInAir, SentAgainOnGround, SomeLocalPlace, SomePairPlace, WrittenAgain};
 ghost use Rattle.sq_message.specs.Parts.{squitter_parts};
@@ -24,7 +26,8 @@ ghost use Rattle.sq_message.specs.Sending.{IsFrameInAir, IsFrameOnGround, IsInAi
 ghost use Rattle.sq_message.specs.Spelling.{IsReading, Spells};
 
 use crate::{
-    AirHead, Frame, FrameFault, GroundHead, Parity, Place, PlaceFault, Position, Squitter, place_local, place_pair, read_frame, send_air, send_ground, send_point, write_frame,
+    AirHead, Frame, FrameFault, GroundHead, Parity, Place, PlaceFault, Position, Squitter,
+    place_local, place_pair, read_frame, send_air, send_ground, send_point, write_frame,
 };
 use sq_bits::laws::each_frame;
 
@@ -301,8 +304,9 @@ pub fn read_pair_of_sent_in_air(
     ensures even { IsFrameInAir (air_head_parts even_head) Even even_position.now result.0 }
     ensures odd { IsFrameInAir (air_head_parts odd_head) Odd odd_position.now result.1 }
     ensures read { IsReadingOfPair newest result.0 result.1 (option_map (λ s. s.now) site.entry) result.2 }
-    ensures point { (air_head_parts even_head).address ≡ (air_head_parts odd_head).address
-        → IsAirPlaceOfClose newest even_position.now odd_position.now result.2 }
+    ensures point { (a b : Point) → (air_head_parts even_head).address ≡ (air_head_parts odd_head).address
+        → RoundsInAir even_position.now a → RoundsInAir odd_position.now b → AreClosePoints 360 a b
+        → result.2 ≡ Ok (Air (of_parity newest a b)) }
 {
     let even = write_frame(&send_air(even_head, even_position, Parity::Even));
     let odd = write_frame(&send_air(odd_head, odd_position, Parity::Odd));
@@ -326,8 +330,10 @@ pub fn read_pair_of_sent_on_ground(
     ensures even { IsFrameOnGround (ground_head_parts even_head) Even even_position.now result.0 }
     ensures odd { IsFrameOnGround (ground_head_parts odd_head) Odd odd_position.now result.1 }
     ensures read { IsReadingOfPair newest result.0 result.1 (Some site.now) result.2 }
-    ensures point { (ground_head_parts even_head).address ≡ (ground_head_parts odd_head).address
-        → IsGroundPlaceOfClose newest even_position.now odd_position.now site.now result.2 }
+    ensures point { (a b : Point) → (ground_head_parts even_head).address ≡ (ground_head_parts odd_head).address
+        → RoundsOnGround even_position.now a → RoundsOnGround odd_position.now b → AreClosePoints 90 a b
+        → IsPointWithin 45 90 4 a site.now → IsPointWithin 45 90 4 b site.now
+        → result.2 ≡ Ok (Ground (of_parity newest a b)) }
 {
     let even = write_frame(&send_ground(even_head, even_position, Parity::Even));
     let odd = write_frame(&send_ground(odd_head, odd_position, Parity::Odd));

@@ -348,17 +348,38 @@ fn reads_each_bit_of_an_airborne_position(rt: HostRuntime) {
 #[test]
 fn reads_each_bit_of_a_surface_position(rt: HostRuntime) {
     for (digits, type_code) in GROUND_TYPE_CODES {
-        assert_ground(&rt, digits, Surfaced { type_code, ..GROUND });
+        assert_ground(
+            &rt,
+            digits,
+            Surfaced {
+                type_code,
+                ..GROUND
+            },
+        );
     }
     for (digits, movement) in MOVEMENTS {
         assert_ground(&rt, digits, Surfaced { movement, ..GROUND });
     }
     let track_status = true;
-    assert_ground(&rt, TRACK_STATUS, Surfaced { track_status, ..GROUND });
+    assert_ground(
+        &rt,
+        TRACK_STATUS,
+        Surfaced {
+            track_status,
+            ..GROUND
+        },
+    );
     for (digits, track) in TRACKS {
         assert_ground(&rt, digits, Surfaced { track, ..GROUND });
     }
-    assert_ground(&rt, GROUND_TIME, Surfaced { time: true, ..GROUND });
+    assert_ground(
+        &rt,
+        GROUND_TIME,
+        Surfaced {
+            time: true,
+            ..GROUND
+        },
+    );
     let parity = Parity::Odd;
     assert_ground(&rt, GROUND_ODD_BIT, Surfaced { parity, ..GROUND });
     for (digits, lat) in GROUND_LATITUDES {

@@ -14,7 +14,7 @@ returns-clause-read c =
     (c.read_spelled-even_squitter.result, c.read_spelled-odd_squitter.result, c.read_spelled-even_squitter.ensures, c.read_spelled-odd_squitter.ensures, c.place_of_newest-place.ensures)
 
 pub returns-clause-point : goal.returns-clause-point
-returns-clause-point c = λ address.
+returns-clause-point c = λ a b address.
     pair_on_ground (ground_head_parts c.args.even_head) (ground_head_parts c.args.odd_head) c.args.even_position.now c.args.odd_position.now _ _ c.read_spelled-even_squitter.result c.read_spelled-odd_squitter.result
     c.args.newest c.args.site.now c.place_of_newest-place.result
-    address (returns-clause-even c) (returns-clause-odd c) c.read_spelled-even_squitter.ensures c.read_spelled-odd_squitter.ensures c.place_of_newest-place.ensures
+    address (returns-clause-even c) (returns-clause-odd c) c.read_spelled-even_squitter.ensures c.read_spelled-odd_squitter.ensures c.place_of_newest-place.ensures a b
