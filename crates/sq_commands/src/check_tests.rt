@@ -1,5 +1,5 @@
 //! The command `check` over inputs in pieces, and over devices that fail.
-use super::faulty_devices::{End, pieces_of, room_of};
+use super::faulty_devices::{End, lines_in, pieces_of, room_of};
 use super::tests::outcome_on;
 use super::{Status, answer, run_check};
 use sq_devices::{Reading, Writing};
@@ -104,12 +104,7 @@ const ANSWERED: [usize; 11] = [0, 33, 65, 65, 79, 95, 109, 129, 144, 159, 198];
 #[test]
 fn answers_what_was_read_before_a_fault(rt: HostRuntime) {
     for fails_at in 0..LINES.len() {
-        let lines = LINES
-            .iter()
-            .take(fails_at)
-            .filter(|byte| **byte == b'\n')
-            .count();
-        let answered = ANSWERED[lines.min(10)].min(ANSWERS.len());
+        let answered = ANSWERED[lines_in(LINES, fails_at).min(10)].min(ANSWERS.len());
         let mut source = Reading::new(pieces_of(LINES, 64, fails_at), 1_000_000);
         let mut sink = Writing::new(Vec::new(rt.alloc()));
         assert!(rt; run_check(&mut source, &mut sink) == Err(RunFault::Read));

@@ -84,3 +84,11 @@ pub(crate) fn room_of(alloc: Global, room: usize, end: End) -> Room {
         taken: Vec::new(alloc),
     }
 }
+
+// How many lines the first so many bytes end.
+pub(crate) fn lines_in(text: &[u8], count: usize) -> usize {
+    text.iter()
+        .take(count)
+        .filter(|byte| **byte == b'\n')
+        .count()
+}

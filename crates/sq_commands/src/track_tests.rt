@@ -1,5 +1,5 @@
 //! The command `track`.
-use super::faulty_devices::{End, pieces_of, room_of};
+use super::faulty_devices::{End, lines_in, pieces_of, room_of};
 use super::tests::{assert_reported, outcome_on};
 use super::{Status, run_track};
 use sq_devices::{Reading, Writing};
@@ -205,12 +205,7 @@ fn hears_what_was_read_before_a_fault(rt: HostRuntime) {
         let mut sink = Writing::new(Vec::new(rt.alloc()));
         let ended = run_track(&mut source, &mut sink, &mut tracker);
         assert!(rt; ended == Err(RunFault::Read));
-        let lines = LOG
-            .iter()
-            .take(fails_at)
-            .filter(|byte| **byte == b'\n')
-            .count();
-        let (written, addresses, moment) = AFTER[lines.min(3)];
+        let (written, addresses, moment) = AFTER[lines_in(LOG, fails_at).min(3)];
         assert!(rt; sink.into_inner().as_slice() == &ANSWERS[..written]);
         assert_eq!(rt; tracker.len(), addresses);
         assert!(rt; newest(&tracker) == moment);
