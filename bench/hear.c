@@ -1,5 +1,5 @@
 // The table of a tracker at the machine's speed: one hash table, a list in the order of last hearing, pairs decoded in doubles.
-// hear ADDRESSES CALLS ORDER, with the same words and calls as hear/src/main.rt. Prints how many fixes came.
+// hear ADDRESSES CALLS ORDER, with the same words and calls as hear.rattle. Prints how many fixes came.
 #include <math.h>
 #include <stdint.h>
 #include <stdio.h>

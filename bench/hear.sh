@@ -1,8 +1,8 @@
 #!/bin/sh
 # hear.sh [CALLS]: nanoseconds a call of `hear` at 10 to 1,000,000 addresses, heard in turn and at random, beside a table in C
 # that does the same with doubles (hear.c). Each is run three times with the same calls, the fastest counts, and what the loop
-# takes without the calls is taken off. hear/ is a program over the proved crates; it is built in a copy of them, so that the
-# gate does not prove it. Needs rt and a C compiler.
+# takes without the calls is taken off. hear.rattle is the source of a program over the proved crates; it is built in a copy of them, so that
+# the gate does not prove it. Needs rt and a C compiler.
 set -eu
 here=$(cd "$(dirname "$0")" && pwd)
 calls=${1:-4000000}
@@ -13,7 +13,9 @@ for name in sq_bits sq_angle sq_zones sq_cpr sq_message sq_track; do
     cp -a "$here/../crates/$name" "$work/crates/"
     grep "^$name:" "$here/../crates.txt" >> "$work/crates.txt"
 done
-cp -a "$here/hear" "$work/crates/hear"
+mkdir -p "$work/crates/hear/src" "$work/crates/hear/specs"
+cp "$here/hear.rattle" "$work/crates/hear/src/main.rt"
+: > "$work/crates/hear/specs/Lib.antt"
 echo "hear: sq_bits sq_angle sq_zones sq_cpr sq_message sq_track" >> "$work/crates.txt"
 cp "$here/../HANDLES" "$work/"
 (cd "$work/crates/hear" && rt run -- 10 1000 0 > /dev/null)

@@ -1,33 +1,56 @@
 #!/bin/sh
-# live.sh: what no contract says of the built program's pipes and devices. A line of a pipe that stays open is answered within the
-# second; a million lines and a line of 100 MB pass in 8 MiB of address space; a full disk and a closed pipe are status 3.
+# live.sh: what no contract says of the built program's pipes and devices, for `check` and `track`. A line of a pipe that stays
+# open is answered within the second; a million lines pass in 8 and in 16 MiB of address space; a line of 100 MB takes no memory;
+# a full disk and a closed pipe are status 3.
 set -eu
 here=$(cd "$(dirname "$0")" && pwd)
 frame=8D40621D58C382D690C8AC2863A7
-answer='ok 40621D air even 93000 51372'
 "$here/../squitter" show "$frame" > /dev/null
 program="$here/../crates/squitter/out/squitter"
 work=$(mktemp -d)
 trap 'rm -rf "$work"' EXIT
+shown=0
 fail() { echo "failed: $1" >&2; exit 1; }
+seen() { shown=$((shown + 1)); }
 
-{ echo "$frame"; sleep 3; } | "$program" check > "$work/live" &
-sleep 1
-[ "$(cat "$work/live")" = "1 $answer" ] || fail 'a line of an open pipe is answered within the second'
-wait
+# is_live COMMAND LINE ANSWER: the line of a pipe that stays open
+is_live() {
+    { echo "$2"; sleep 3; } | "$program" "$1" > "$work/live" &
+    sleep 1
+    [ "$(cat "$work/live")" = "1 $3" ] || fail "$1: a line of an open pipe is answered within the second"
+    wait
+    seen
+}
 
+# is_small COMMAND KIB LAST: a million lines of $work/log in so much address space, and the last one's answer
+is_small() {
+    (ulimit -v "$2"; "$program" "$1" < "$work/log" > "$work/answers") || fail "$1: a million lines pass"
+    [ "$(tail -n 1 "$work/answers")" = "1000000 $3" ] || fail "$1: the last of a million lines is answered"
+    seen
+    status=0
+    head -c 100000000 /dev/zero | (ulimit -v "$2"; "$program" "$1") > "$work/answers" || status=$?
+    [ "$status" = 1 ] && [ "$(cat "$work/answers")" = '1 long line' ] || fail "$1: a line of 100 MB takes no memory"
+    seen
+}
+
+# is_stopped COMMAND: a full disk and a closed pipe
+is_stopped() {
+    status=0
+    "$program" "$1" < "$work/log" > /dev/full 2> "$work/reported" || status=$?
+    [ "$status" = 3 ] && [ "$(cat "$work/reported")" = 'write failed' ] || fail "$1: a full disk is status 3"
+    seen
+    { status=0; "$program" "$1" < "$work/log" 2> "$work/reported" || status=$?; echo "$status" > "$work/status"; } | head -n 1 > /dev/null
+    [ "$(cat "$work/status")" = 3 ] && [ "$(cat "$work/reported")" = 'write failed' ] || fail "$1: a closed pipe is status 3"
+    seen
+}
+
+is_live check "$frame" 'ok 40621D air even 93000 51372'
 yes "$frame" | head -n 1000000 > "$work/log"
-(ulimit -v 8192; "$program" check < "$work/log" > "$work/answers") || fail 'a million lines pass'
-[ "$(tail -n 1 "$work/answers")" = "1000000 $answer" ] || fail 'the last of a million lines is answered'
+is_small check 8192 'ok 40621D air even 93000 51372'
+is_stopped check
 
-status=0
-head -c 100000000 /dev/zero | (ulimit -v 8192; "$program" check) > "$work/answers" || status=$?
-[ "$status" = 1 ] && [ "$(cat "$work/answers")" = '1 long line' ] || fail 'a line of 100 MB takes no memory'
-
-status=0
-"$program" check < "$work/log" > /dev/full 2> "$work/told" || status=$?
-[ "$status" = 3 ] && [ "$(cat "$work/told")" = 'write failed' ] || fail 'a full disk is status 3'
-
-{ status=0; "$program" check < "$work/log" 2> "$work/told" || status=$?; echo "$status" > "$work/status"; } | head -n 1 > /dev/null
-[ "$(cat "$work/status")" = 3 ] && [ "$(cat "$work/told")" = 'write failed' ] || fail 'a closed pipe is status 3'
-echo 'live: 6 shown'
+is_live track "0 $frame" 'waiting 40621D'
+seq 0 999999 | sed "s/\$/ $frame/" > "$work/log"
+is_small track 16384 'waiting 40621D'
+is_stopped track
+echo "live: $shown shown"
