@@ -1,4 +1,4 @@
-use Rattle.sq_track.proofs.OneAddress.{alone_is_history as the_law}
+use Rattle.sq_track.proofs.Histories.OneAddress.{alone_is_history as the_law}
 use Rattle.sq_track.proofs.laws.alone_is_history.Goals as goal
 
 pub returns : goal.returns

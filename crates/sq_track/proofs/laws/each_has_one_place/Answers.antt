@@ -1,4 +1,4 @@
-use Rattle.sq_track.proofs.Places.{each_has_one_place as the_law}
+use Rattle.sq_track.proofs.Worlds.Places.{each_has_one_place as the_law}
 use Rattle.sq_track.proofs.laws.each_has_one_place.Goals as goal
 
 pub returns : goal.returns

@@ -1,4 +1,4 @@
-use Rattle.sq_track.proofs.Standing.{near_itself as the_law}
+use Rattle.sq_track.proofs.Worlds.Standing.{near_itself as the_law}
 use Rattle.sq_track.proofs.laws.near_itself.Goals as goal
 
 pub returns : goal.returns

@@ -1,4 +1,4 @@
-use Rattle.sq_track.proofs.OneAddress.{one_address_alone as the_law}
+use Rattle.sq_track.proofs.Histories.OneAddress.{one_address_alone as the_law}
 use Rattle.sq_track.proofs.laws.one_address_alone.Goals as goal
 
 pub returns : goal.returns

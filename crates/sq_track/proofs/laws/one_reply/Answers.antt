@@ -1,4 +1,4 @@
-use Rattle.sq_track.proofs.OneReply.{one_reply as the_law}
+use Rattle.sq_track.proofs.Histories.OneReply.{one_reply as the_law}
 use Rattle.sq_track.proofs.laws.one_reply.Goals as goal
 
 pub returns : goal.returns

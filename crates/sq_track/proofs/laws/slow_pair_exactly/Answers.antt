@@ -1,4 +1,4 @@
-use Rattle.sq_track.proofs.ByPairs.{slow_pair_exactly as the_law}
+use Rattle.sq_track.proofs.Worlds.ByPairs.{slow_pair_exactly as the_law}
 use Rattle.sq_track.proofs.laws.slow_pair_exactly.Goals as goal
 
 pub returns : goal.returns

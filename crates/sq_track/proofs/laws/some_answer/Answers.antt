@@ -1,4 +1,4 @@
-use Rattle.sq_track.proofs.SomeAnswer.{some_answer as the_law}
+use Rattle.sq_track.proofs.Histories.SomeAnswer.{some_answer as the_law}
 use Rattle.sq_track.proofs.laws.some_answer.Goals as goal
 
 pub returns : goal.returns

@@ -1,4 +1,4 @@
-use Rattle.sq_track.proofs.SomeAnswer.{some_reply as the_law}
+use Rattle.sq_track.proofs.Histories.SomeAnswer.{some_reply as the_law}
 use Rattle.sq_track.proofs.laws.some_reply.Goals as goal
 
 pub returns : goal.returns

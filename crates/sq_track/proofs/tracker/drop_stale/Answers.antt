@@ -1,6 +1,6 @@
 use Rattle.std.proofs.Common.{ℕ, filter, not, eqb, sym, ap, ◌∙◌, subst}
 use Rattle.sq_track.specs.Entries.{fresh_entry, IsOrdered}
-use Rattle.sq_track.proofs.EntryLemmas.{IsOrdered-filter}
+use Rattle.sq_track.proofs.Table.EntryLemmas.{IsOrdered-filter}
 use Rattle.sq_track.specs.declared.contact.Contact.{Contact}
 use Rattle.sq_track.proofs.tracker.drop_stale.Goals as goal
 

@@ -2,7 +2,7 @@ use Rattle.std.proofs.Common.{ℕ, List, sym, ap, ◌∙◌, subst, eqb, length}
 use Rattle.std.specs.Map.{lookup}
 use Rattle.sq_track.specs.Ordered.{heard_order, others_in, entries_in, IsTied}
 use Rattle.sq_track.specs.declared.contact.Contact.{Contact}
-use Rattle.sq_track.proofs.ContactLemmas.{removed_tied, removed_view, counted_out}
+use Rattle.sq_track.proofs.Table.ContactLemmas.{removed_tied, removed_view, counted_out}
 use Rattle.sq_track.proofs.contacts.Contacts.remove.Goals as goal
 
 pub invariant_of-self : goal.invariant_of-self

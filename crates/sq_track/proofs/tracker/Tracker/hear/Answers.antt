@@ -14,8 +14,8 @@ use Rattle.sq_track.specs.Entries.{fresh_entry, IsOrdered, IsSound}
 use Rattle.sq_track.specs.Ordered.{others_in, blank_contact}
 use Rattle.sq_track.specs.Held.{Held, StandsFor, contact_of, settings, present_of}
 use Rattle.sq_track.specs.contracts.tracker.Tracker.{the_view}
-use Rattle.sq_track.proofs.EntryLemmas.{Entries, is_shown, find-entries}
-use Rattle.sq_track.proofs.StandsForLemmas.{in_time_of, full_is, not_full, silent_is, heard_silent, stands_silent, stands_position, put_is, ordered_put, sound_put, sound_silent, position_of, silent_of, moment_after, within_after}
+use Rattle.sq_track.proofs.Table.EntryLemmas.{Entries, is_shown, find-entries}
+use Rattle.sq_track.proofs.Table.StandsForLemmas.{in_time_of, full_is, not_full, silent_is, heard_silent, stands_silent, stands_position, put_is, ordered_put, sound_put, sound_silent, position_of, silent_of, moment_after, within_after}
 use Rattle.sq_track.proofs.tracker.Tracker.hear.Goals as goal
 
 pub invariant_of-self : goal.invariant_of-self

@@ -7,8 +7,8 @@ use Rattle.sq_track.specs.declared.heard.TrackFault.TheVariants.{NoLimit, Memory
 use Rattle.sq_track.specs.History.{History}
 use Rattle.sq_track.specs.Replies.{Settings, IsInTime, IsReply, last_moment}
 use Rattle.sq_track.specs.Laws.{OneReply}
-use Rattle.sq_track.proofs.Lists.{same_some}
-use Rattle.sq_track.proofs.OneAnswer.{one_answer}
+use Rattle.sq_track.proofs.Listing.Found.{same_some}
+use Rattle.sq_track.proofs.Histories.OneAnswer.{one_answer}
 
 in_time_is_back : {A : Type 0} (history : History) (moment last : ℕ) → IsInTime history moment → last_moment history ≡ Some last → moment < last → A
 in_time_is_back history moment last in_time e back =

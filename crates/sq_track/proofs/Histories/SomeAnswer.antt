@@ -38,8 +38,8 @@ use Rattle.sq_track.specs.History as past
 use Rattle.sq_track.specs.Answers.{heard_alone, heard_of_pair, heard_near, IsHeardOfPair, IsPlaceNear, IsHeardNear, IsHeardAfter, IsHeardWith, IsHeard}
 use Rattle.sq_track.specs.Replies.{Settings, IsHistory, IsInTime, IsFull, IsReply, is_position, is_of_address, last_moment, present}
 use Rattle.sq_track.specs.Laws.{SomeAnswer, SomeReply}
-use Rattle.sq_track.proofs.Lists.{found, none_is_some}
-use Rattle.sq_track.proofs.Entries.{recent_is}
+use Rattle.sq_track.proofs.Listing.Found.{found, none_is_some}
+use Rattle.sq_track.proofs.Histories.Entries.{recent_is}
 
 -- a fault is no place
 fault_is_place : {A : Type 0} (place : Place) (fault : PlaceFault) → ◌≡◌ {A = Result Place PlaceFault} (Ok place) (Err fault) → A
@@ -99,7 +99,7 @@ both m n = elim (positions m) [
   | inr never ↦ inr (λ h. never h.0)
 ]
 
-some_pair : (older newer : SquitterParts) (site : Option Position) → (answer : Result Place PlaceFault) × IsPairPlace older newer site answer
+pub some_pair : (older newer : SquitterParts) (site : Option Position) → (answer : Result Place PlaceFault) × IsPairPlace older newer site answer
 some_pair older newer site = elim (both older.me newer.me) [
   | inr never ↦ (Err faults.NotPosition, record { other = λ h. refl; strangers = λ h differ. absurd (never h); kindred = λ h same. absurd (never h) })
   | inl two ↦ elim (cases_eq older.address newer.address) [

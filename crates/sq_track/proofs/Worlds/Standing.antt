@@ -21,8 +21,8 @@ use Rattle.sq_track.specs.Worlds.{Arrival, IsPlaceOf}
 use Rattle.sq_track.specs.Tame.{AreSlowPlaces, AreSlowToFollow, IsPositionNearSite}
 use Rattle.sq_track.specs.Standing.{AreOneAngle, AreOnePlace}
 use Rattle.sq_track.specs.Laws.{NearItself, StandingIsSlow, StandingIsSlowForFollowing}
-use Rattle.sq_track.proofs.Entries.{sender_parts}
-use Rattle.sq_track.proofs.SlowWorlds.{slow_to_follow}
+use Rattle.sq_track.proofs.Histories.Entries.{sender_parts}
+use Rattle.sq_track.proofs.Worlds.SlowWorlds.{slow_to_follow}
 
 -- nothing is smaller than a positive limit
 nothing_smaller : (limit d : Fraction) → pos 0 <ℤ limit.num → 0 < d.den → d.num ≡ pos 0 → IsSmallerThan limit d

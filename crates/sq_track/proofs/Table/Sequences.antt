@@ -8,7 +8,7 @@ use Rattle.sq_track.specs.History.{History}
 use Rattle.sq_track.specs.Held.{Held, StandsFor, settings}
 use Rattle.sq_track.specs.Replies.{Settings, IsReply, AreReplies, history_after, history_after_all}
 use Rattle.sq_track.specs.Laws.{AreTrueInSlowWorlds}
-use Rattle.sq_track.proofs.TrueWorlds.{slow_replies_are_true}
+use Rattle.sq_track.proofs.Worlds.TrueWorlds.{slow_replies_are_true}
 
 abbrev Reply : Type 0
 Reply = Result Heard TrackFault

@@ -10,9 +10,9 @@ use Rattle.sq_track.specs.History.{Entry, History, are_of_one_sender, are_even_a
 use Rattle.sq_track.specs.Answers.{IsHeard, IsHeardWith}
 use Rattle.sq_track.specs.Replies.{Settings, IsInTime, IsFull, IsAcceptable, IsReply, IsHistory, is_of_address, is_position, newest_of_each, present, of_address}
 use Rattle.sq_track.specs.Laws.{OneAddressAlone, AloneIsHistory, AcceptedAlone}
-use Rattle.sq_track.proofs.Entries.{sender_parts}
-use Rattle.sq_track.proofs.FilterLemmas.{filter-cons_yes, filter-cons_no, Each, Each-filter, Each-filter_pass}
-use Rattle.sq_track.proofs.Remembering.{still_in_time}
+use Rattle.sq_track.proofs.Histories.Entries.{sender_parts}
+use Rattle.sq_track.proofs.Listing.Filters.{filter-cons_yes, filter-cons_no, Each, Each-filter, Each-filter_pass}
+use Rattle.sq_track.proofs.Table.Remembering.{still_in_time}
 
 -- what is looked for is found in what a weaker test leaves
 find_within : {X : Type 0} (p q : X → Bool) → ((x : X) → p x ≡ true → q x ≡ true) → (xs : List X) → find p (filter q xs) ≡ find p xs

@@ -11,8 +11,8 @@ use Rattle.sq_track.specs.History.{parity_of}
 use Rattle.sq_track.specs.Worlds.{Arrival, World, IsTruePlace}
 use Rattle.sq_track.specs.Tame.{ArePairTogether, AreSlowPlaces}
 use Rattle.sq_track.specs.Laws.{SlowByPairs, SlowForFollowingByPairs, SlowPairExactly}
-use Rattle.sq_track.proofs.Lists.{same_some}
-use Rattle.sq_track.proofs.Places.{one_true_place}
+use Rattle.sq_track.proofs.Listing.Found.{same_some}
+use Rattle.sq_track.proofs.Worlds.Places.{one_true_place}
 
 -- the arrivals of a pair
 in_pair : (a b : Arrival) → AllByRecursion (Contains (a ∷ b ∷ [])) (a ∷ b ∷ [])

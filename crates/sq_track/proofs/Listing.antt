@@ -1,0 +1,3 @@
+-- What is found in lists, and what filters leave.
+pub mod Filters
+pub mod Found

@@ -1,0 +1,9 @@
+-- What a tracker holds, call by call, against its history.
+pub mod ContactLemmas
+pub mod EntryLemmas
+pub mod KeptLemmas
+pub mod PresentLemmas
+pub mod Remembering
+pub mod Sequences
+pub mod StandsForLemmas
+pub mod TableLemmas

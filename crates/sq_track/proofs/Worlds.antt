@@ -1,0 +1,10 @@
+-- Places, slow and tame worlds, and what is heard in them.
+pub mod ByPairs
+pub mod Encoded
+pub mod Nearby
+pub mod Pairs
+pub mod Places
+pub mod SlowWorlds
+pub mod SomeFix
+pub mod Standing
+pub mod TrueWorlds

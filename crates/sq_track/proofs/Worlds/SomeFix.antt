@@ -1,0 +1,94 @@
+-- Slow worlds have fixes: a pair in the air that is slow and has one zone count is heard as the fix of the newer's true place.
+use Rattle.std.proofs.Common.{◌≡◌, ◌≢◌, ◌∙◌, ℕ, ◌+◌, ◌≤◌, true, cond, ◌&&◌, leb, [], ◌∷◌, find, Option, Some, None, Result, Ok, Err, refl, sym, ap, subst, arith}
+use Rattle.std.proofs.lemmas.Bool.{le-leb, and_from, false≢true}
+use Rattle.sq_angle.specs.declared.position.Position.{Position}
+use Rattle.sq_zones.specs.declared.parity.Parity.{Parity}
+use Rattle.sq_zones.specs.declared.parity.Parity.TheVariants.{Even, Odd}
+use Rattle.sq_cpr.specs.declared.faults.PairFault.{PairFault}
+use Rattle.sq_cpr.specs.declared.faults.PairFault.TheVariants as pairs
+use Rattle.sq_cpr.specs.Close.{HaveOneCount}
+use Rattle.sq_cpr.specs.Code.{numbers_of}
+use Rattle.sq_cpr.specs.DecodeLaws.{TameAnswer}
+use Rattle.sq_cpr.specs.Grid.{Point}
+use Rattle.sq_cpr.specs.Pair.{AirPairAnswer}
+use Rattle.sq_cpr.specs.Slow.{AreSlow}
+use Rattle.sq_cpr.proofs.PairPoints.{tame_air_points_are_answered}
+use Rattle.sq_cpr.proofs.SlowLaw.{slow_is_tame}
+use Rattle.sq_message.specs.declared.squitter.Me.{Me}
+use Rattle.sq_message.specs.declared.squitter.Me.TheVariants as kinds
+use Rattle.sq_message.specs.declared.squitter.Squitter.{Squitter}
+use Rattle.sq_message.specs.declared.place.Place.{Place}
+use Rattle.sq_message.specs.declared.place.Place.TheVariants.{Air, Ground}
+use Rattle.sq_message.specs.declared.place.PlaceFault.{PlaceFault}
+use Rattle.sq_message.specs.Parts.{squitter_parts}
+use Rattle.sq_message.specs.Places.{IsPosition, IsKindredPlace, even_of, odd_of, of_pair, place_of}
+use Rattle.sq_message.proofs.PlaceLemmas.{has_code}
+use Rattle.sq_track.specs.declared.heard.Heard.{Heard}
+use Rattle.sq_track.specs.declared.heard.Heard.TheVariants.{Fix, Waiting}
+use Rattle.sq_track.specs.History.{Entry, History, are_of_one_kind, are_of_one_sender, are_even_and_odd, are_a_pair, parity_of, if_recent, counterpart, squitter_of}
+use Rattle.sq_track.specs.Answers.{heard_of_pair, IsHeardOfPair}
+use Rattle.sq_track.specs.Worlds.{Arrival, IsPlaceOf, HasCodeOf, IsEncodedFrom, IsTruePlace}
+use Rattle.sq_track.specs.Tame.{ArePairTogether}
+use Rattle.sq_track.specs.Laws.{SlowPairIsFixed}
+use Rattle.sq_track.proofs.Histories.Entries.{sender_parts}
+use Rattle.sq_track.proofs.Listing.Found.{same_some}
+use Rattle.sq_track.proofs.Worlds.Places.{one_place}
+use Rattle.sq_track.proofs.Histories.SomeAnswer.{some_pair}
+
+-- what was found of tame points with one zone count is the newer
+one_count : (a b : Point) (found : Result Point PairFault) → HaveOneCount 360 a.lat_index b.lat_index → TameAnswer 360 Odd a b found → place_of Air of_pair found ≡ Ok (Air b)
+one_count a b (Ok p) same h = ap (λ x. Ok (Air x)) h
+one_count a b (Err pairs.OutOfRange) same h = absurd h
+one_count a b (Err (pairs.ZoneCounts even odd)) same h = absurd (h.differ (h.even ∙ same ∙ sym h.odd))
+
+-- an even and an odd message that were encoded from slow positions
+slow_pair : (m n : Me) (x y : Position) (p q : Point) (site : Option Position) (answer : Result Place PlaceFault)
+    → IsEncodedFrom m x → IsEncodedFrom n y → parity_of m ≡ Some Even → parity_of n ≡ Some Odd → IsPlaceOf m x (Air p) → IsPlaceOf n y (Air q)
+    → AreSlow 360 p q x y → HaveOneCount 360 p.lat_index q.lat_index → IsKindredPlace m n site answer → answer ≡ Ok (Air q)
+slow_pair (kinds.Airborne o) (kinds.Airborne n) x y p q site answer (Air a, h, h_code) (Air b, k, k_code) even odd p_is q_is slow same here =
+    let o_even : o.parity ≡ Even = same_some o.parity Even even in
+    let n_odd : n.parity ≡ Odd = same_some n.parity Odd odd in
+    let differ : o.parity ≢ n.parity = λ e. let bad : ◌≡◌ {A = Parity} Even Odd = sym o_even ∙ e ∙ n_odd in absurd (cc bad) in
+    let (found, decoded, is) = here.1 differ in
+    let a_is : ◌≡◌ {A = Place} (Air a) (Air p) = one_place (kinds.Airborne o) x (Air a) (Air p) h p_is in
+    let b_is : ◌≡◌ {A = Place} (Air b) (Air q) = one_place (kinds.Airborne n) y (Air b) (Air q) k q_is in
+    let p_code : HasCodeOf (kinds.Airborne o) (Air p) = subst (HasCodeOf (kinds.Airborne o)) a_is h_code in
+    let q_code : HasCodeOf (kinds.Airborne n) (Air q) = subst (HasCodeOf (kinds.Airborne n)) b_is k_code in
+    let there = subst (λ r. AirPairAnswer (even_of r (numbers_of o.code) (numbers_of n.code)) (odd_of r (numbers_of o.code) (numbers_of n.code)) r found) n_odd decoded in
+    let tame = slow_is_tame 360 1 refl x y p q p_is.1 q_is.1 (p_is.0 ∙ o_even) (q_is.0 ∙ n_odd) slow in
+    let law = tame_air_points_are_answered (numbers_of o.code) (numbers_of n.code) Odd found p q there p_is.1.of_grid q_is.1.of_grid (has_code p o.code p_code) (has_code q n.code q_code) tame in
+    is ∙ one_count p q found same law
+slow_pair (kinds.Airborne o) (kinds.Airborne n) x y p q site answer (Air a, h, h_code) (Ground b, k, k_code) even odd p_is q_is slow same here = absurd k
+slow_pair (kinds.Airborne o) (kinds.Airborne n) x y p q site answer (Ground a, h, h_code) second even odd p_is q_is slow same here = absurd h
+slow_pair (kinds.Airborne o) (kinds.Surface n) x y p q site answer first second even odd p_is q_is slow same here = absurd q_is
+slow_pair (kinds.Airborne o) (kinds.Other n) x y p q site answer first second even odd p_is q_is slow same here = absurd q_is
+slow_pair (kinds.Surface o) n x y p q site answer first second even odd p_is q_is slow same here = absurd p_is
+slow_pair (kinds.Other o) n x y p q site answer first second even odd p_is q_is slow same here = absurd p_is
+
+positions_of : (m n : Me) (x y : Position) (p q : Place) → IsPlaceOf m x p → IsPlaceOf n y q → IsPosition m × IsPosition n
+positions_of (kinds.Airborne a) (kinds.Airborne b) x y p q h k = (tt, tt)
+positions_of (kinds.Airborne a) (kinds.Surface b) x y p q h k = (tt, tt)
+positions_of (kinds.Airborne a) (kinds.Other b) x y p q h k = absurd k
+positions_of (kinds.Surface a) (kinds.Airborne b) x y p q h k = (tt, tt)
+positions_of (kinds.Surface a) (kinds.Surface b) x y p q h k = (tt, tt)
+positions_of (kinds.Surface a) (kinds.Other b) x y p q h k = absurd k
+positions_of (kinds.Other a) n x y p q h k = absurd h
+
+pub slow_pair_is_fixed : SlowPairIsFixed
+slow_pair_is_fixed window site a b p q pair h k slow same =
+    let m = (squitter_parts a.squitter).me in
+    let n = (squitter_parts b.squitter).me in
+    let entry : Entry = record { moment = a.moment; squitter = a.squitter; heard = Waiting } in
+    let two : are_even_and_odd (parity_of m) (parity_of n) ≡ true = ap (λ o. are_even_and_odd o (parity_of n)) pair.even ∙ ap (are_even_and_odd (Some Even)) pair.odd in
+    let pairs_up : are_a_pair a.squitter b.squitter ≡ true = and_from (are_of_one_sender a.squitter b.squitter) (are_even_and_odd (parity_of m) (parity_of n)) pair.together.sender two in
+    let recent : leb b.moment (a.moment + window) ≡ true = le-leb b.moment (a.moment + window) pair.together.not_after in
+    let older : counterpart window (entry ∷ []) b.moment b.squitter ≡ Some a.squitter =
+        ap (λ t. squitter_of (if_recent window b.moment (cond t (Some entry) None))) pairs_up ∙ ap (λ t. squitter_of (cond t (Some entry) None)) recent in
+    let some = some_pair (squitter_parts a.squitter) (squitter_parts b.squitter) site in
+    let here = some.1.kindred (positions_of m n a.position b.position (Air p) (Air q) h k) (sender_parts a.squitter b.squitter pair.together.sender).0 in
+    let is : some.0 ≡ Ok (Air q) = slow_pair m n a.position b.position p q site some.0 a.encoded b.encoded pair.even pair.odd h k slow same here in
+    record {
+      of_pair = Fix (Air q);
+      pair = subst (λ o. IsHeardOfPair site o b.squitter (Fix (Air q))) (sym older) (some.0, some.1, sym (ap heard_of_pair is));
+      after = refl;
+    }
