@@ -11,4 +11,5 @@ mod start;
 mod tests;
 
 pub use prompt::{PromptInput, PromptOutput, SharedOutput};
+pub use sq_devices::{Failed, Sink, Source};
 pub use start::{Trouble, arguments};

@@ -7,8 +7,8 @@ ghost use Rattle.sq_lines.specs.Pieces.{GivesTheLines, IsTake};
 
 use crate::cutter::Cutter;
 
-/// However an input is cut into pieces: the lines that a cutter completes, and the last one where it is not empty, are in
-/// order the lines of the whole, a long one by its first 64 bytes.
+/// However an input is cut into pieces: the lines that a cutter completes, and the last one where it is not empty, are
+/// in order the lines of the whole, a long one by its first 64 bytes.
 pub fn lines_in_pieces()
     ensures { GivesTheLines }
 {}

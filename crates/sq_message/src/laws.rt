@@ -1,7 +1,7 @@
 //! Laws of frames, squitters and altitudes. The contracts of the calls name the same definitions.
 //!
-//! A function with an empty body does nothing: its contract is the law. The others make the calls that they speak of, and
-//! answer what each of them answered.
+//! A function with an empty body does nothing: its contract is the law. The others make the calls that they speak of,
+//! and answer what each of them answered.
 ghost use Rattle.std.specs.Prelude.{◌≡◌, ◌≤◌, ◌↔◌, ℕ, ℤ, None, Some, Result, Ok, Err, IfErr, IfOk, IfSome, option_map};
 ghost use Rattle.sq_bits.specs.declared.frame.Frame.{Frame};
 ghost use Rattle.sq_bits.specs.Frames.{IsFrame};
@@ -62,8 +62,8 @@ pub fn read_of_written(squitter: &Squitter) -> (Frame, Result<Squitter, FrameFau
     (frame, read)
 }
 
-/// What was read is written as the frame that it was: the squitter that a frame spells, and the frame that is written of it.
-/// `Err` is the fault of [`read_frame`].
+/// What was read is written as the frame that it was: the squitter that a frame spells, and the frame that is written
+/// of it. `Err` is the fault of [`read_frame`].
 pub fn written_of_read(frame: &Frame) -> Result<(Squitter, Frame), FrameFault>
     ensures read { IfOk result (λ both. IsReading frame.now (Ok both.0)) }
     ensures written { IfOk result (λ both. Spells both.1 both.0) }
@@ -88,20 +88,20 @@ pub fn feet_exactly()
         → (meaning ≡ Feet feet) ↔ IsFieldOfFeet field feet }
 {}
 
-/// Where two positions lie in the same zones of a parity's grid of the air, the frames that are sent of them with one head
-/// are equal exactly if the positions round to one point.
+/// Where two positions lie in the same zones of a parity's grid of the air, the frames that are sent of them with one
+/// head are equal exactly if the positions round to one point.
 pub fn same_zones_in_air()
     ensures { SameZonesInAir }
 {}
 
-/// Where two positions lie in the same zones of a parity's grid of the ground, the frames that are sent of them with one head
-/// are equal exactly if the positions round to one point.
+/// Where two positions lie in the same zones of a parity's grid of the ground, the frames that are sent of them with
+/// one head are equal exactly if the positions round to one point.
 pub fn same_zones_on_ground()
     ensures { SameZonesOnGround }
 {}
 
-/// The frames that are sent of two positions in the air with one head, in the order of the positions. Where the positions
-/// lie in the same zones, the frames are equal exactly if the positions round to one point.
+/// The frames that are sent of two positions in the air with one head, in the order of the positions. Where the
+/// positions lie in the same zones, the frames are equal exactly if the positions round to one point.
 pub fn frames_in_air(
     head: AirHead,
     parity: Parity,
@@ -110,7 +110,8 @@ pub fn frames_in_air(
 ) -> (Frame, Frame)
     ensures here { IsFrameInAir (air_head_parts head) parity here.now result.0 }
     ensures there { IsFrameInAir (air_head_parts head) parity there.now result.1 }
-    ensures same { (zones : ZonePair) (p q : Point) → IsInAirZones parity here.now zones → IsInAirZones parity there.now zones
+    ensures same { (zones : ZonePair) (p q : Point)
+        → IsInAirZones parity here.now zones → IsInAirZones parity there.now zones
         → p.parity ≡ parity → q.parity ≡ parity → RoundsInAir here.now p → RoundsInAir there.now q
         → (result.0 ≡ result.1) ↔ (p ≡ q) }
 {
@@ -121,8 +122,8 @@ pub fn frames_in_air(
     (from_here, from_there)
 }
 
-/// The frames that are sent of two positions on the ground with one head, in the order of the positions. Where the positions
-/// lie in the same zones, the frames are equal exactly if the positions round to one point.
+/// The frames that are sent of two positions on the ground with one head, in the order of the positions. Where the
+/// positions lie in the same zones, the frames are equal exactly if the positions round to one point.
 pub fn frames_on_ground(
     head: GroundHead,
     parity: Parity,
@@ -131,7 +132,8 @@ pub fn frames_on_ground(
 ) -> (Frame, Frame)
     ensures here { IsFrameOnGround (ground_head_parts head) parity here.now result.0 }
     ensures there { IsFrameOnGround (ground_head_parts head) parity there.now result.1 }
-    ensures same { (zones : ZonePair) (p q : Point) → IsInGroundZones parity here.now zones → IsInGroundZones parity there.now zones
+    ensures same { (zones : ZonePair) (p q : Point)
+        → IsInGroundZones parity here.now zones → IsInGroundZones parity there.now zones
         → p.parity ≡ parity → q.parity ≡ parity → RoundsOnGround here.now p → RoundsOnGround there.now q
         → (result.0 ≡ result.1) ↔ (p ≡ q) }
 {
@@ -190,10 +192,12 @@ pub fn pair_again(
     newer: &Squitter,
     site: Option<&Position>,
 ) -> Result<(Place, Squitter), PlaceFault>
-    ensures decoded { IfOk result (λ both. IsPlaceOfPair older.now newer.now (option_map (λ s. s.now) site.entry) (Ok both.0)) }
+    ensures decoded { IfOk result (λ both.
+        IsPlaceOfPair older.now newer.now (option_map (λ s. s.now) site.entry) (Ok both.0)) }
     ensures sent { IfOk result (λ both. IsSentAt (squitter_parts newer.now) both.0 (squitter_parts both.1)) }
     ensures same { IfOk result (λ both. both.1 ≡ newer.now) }
-    ensures refused { IfErr result (λ fault. IsPlaceOfPair older.now newer.now (option_map (λ s. s.now) site.entry) (Err fault)) }
+    ensures refused { IfErr result (λ fault.
+        IsPlaceOfPair older.now newer.now (option_map (λ s. s.now) site.entry) (Err fault)) }
 {
     let place = place_pair(older, newer, site)?;
     let again = send_point(newer, &place);
@@ -202,9 +206,9 @@ pub fn pair_again(
 
 /// What frames of positions say, whole.
 ///
-/// Two positions in the same zones of a parity's grid are written as the same frame exactly if they round to the same grid
-/// point. A frame read with a reference strictly within half a zone of that point gives that point, and so does a close even
-/// and odd pair with equal zone counts. Writing any decoded point again gives the same frame.
+/// Two positions in the same zones of a parity's grid are written as the same frame exactly if they round to the same
+/// grid point. A frame read with a reference strictly within half a zone of that point gives that point, and so does a
+/// close even and odd pair with equal zone counts. Writing any decoded point again gives the same frame.
 pub fn headline()
     // Two positions in the same zones have one frame exactly if they round to one point.
     ensures same_frame_in_air { SameZonesInAir }
@@ -234,8 +238,8 @@ fn read_spelled(frame: &Frame) -> Squitter
 
 /// A position that is sent in the air and read near a reference: the frame, and what it is decoded to.
 ///
-/// Where the reference lies strictly within half a zone, in both coordinates, of the point to which the position rounds, that
-/// is this point.
+/// Where the reference lies strictly within half a zone, in both coordinates, of the point to which the position
+/// rounds, that is this point.
 pub fn read_near_of_sent_in_air(
     head: AirHead,
     parity: Parity,
@@ -244,7 +248,8 @@ pub fn read_near_of_sent_in_air(
 ) -> (Frame, Result<Place, PlaceFault>)
     ensures sent { IsFrameInAir (air_head_parts head) parity position.now result.0 }
     ensures read { IsReadingNear result.0 reference.now result.1 }
-    ensures point { (point : Point) → point.parity ≡ parity → RoundsInAir position.now point → IsStrictlyNearInAir reference.now point
+    ensures point { (point : Point) → point.parity ≡ parity
+        → RoundsInAir position.now point → IsStrictlyNearInAir reference.now point
         → result.1 ≡ Ok (Air point) }
 {
     let frame = write_frame(&send_air(head, position, parity));
@@ -263,7 +268,8 @@ pub fn read_near_of_sent_on_ground(
 ) -> (Frame, Result<Place, PlaceFault>)
     ensures sent { IsFrameOnGround (ground_head_parts head) parity position.now result.0 }
     ensures read { IsReadingNear result.0 reference.now result.1 }
-    ensures point { (point : Point) → point.parity ≡ parity → RoundsOnGround position.now point → IsStrictlyNearOnGround reference.now point
+    ensures point { (point : Point) → point.parity ≡ parity
+        → RoundsOnGround position.now point → IsStrictlyNearOnGround reference.now point
         → result.1 ≡ Ok (Ground point) }
 {
     let frame = write_frame(&send_ground(head, position, parity));
@@ -280,7 +286,8 @@ fn place_of_newest(
     odd: &Squitter,
     site: Option<&Position>,
 ) -> Result<Place, PlaceFault>
-    ensures { IsPlaceOfPair (of_parity newest odd.now even.now) (of_parity newest even.now odd.now) (option_map (λ s. s.now) site.entry) result }
+    ensures { IsPlaceOfPair (of_parity newest odd.now even.now) (of_parity newest even.now odd.now)
+        (option_map (λ s. s.now) site.entry) result }
 {
     match newest {
         Parity::Even => place_pair(odd, even, site),
@@ -288,11 +295,11 @@ fn place_of_newest(
     }
 }
 
-/// An even and an odd position that are sent in the air and read as a pair: the even frame, the odd one, and what they are
-/// decoded to, where the newest is the one of this parity. The site plays no part.
+/// An even and an odd position that are sent in the air and read as a pair: the even frame, the odd one, and what they
+/// are decoded to, where the newest is the one of this parity. The site plays no part.
 ///
-/// Where the heads have one address and the points to which the positions round are close, with one zone count, that is the
-/// newest one's point.
+/// Where the heads have one address and the points to which the positions round are close, with one zone count, that is
+/// the newest one's point.
 pub fn read_pair_of_sent_in_air(
     even_head: AirHead,
     even_position: &Position,
@@ -345,8 +352,8 @@ pub fn read_pair_of_sent_on_ground(
     (even, odd, place)
 }
 
-/// A frame that is read, decoded near a reference and sent again: its squitter, the place, and the frame that is written of
-/// that place, which is the same frame.
+/// A frame that is read, decoded near a reference and sent again: its squitter, the place, and the frame that is
+/// written of that place, which is the same frame.
 ///
 /// `None` exactly where the frame spells no squitter, or this is decoded to no place.
 pub fn sent_again_near(frame: &Frame, reference: &Position) -> Option<(Squitter, Place, Frame)>
@@ -363,8 +370,8 @@ pub fn sent_again_near(frame: &Frame, reference: &Position) -> Option<(Squitter,
     }
 }
 
-/// Two frames that are read and decoded as a pair, and the newer sent again: its squitter, the place, and the frame that is
-/// written of that place, which is the newer frame.
+/// Two frames that are read and decoded as a pair, and the newer sent again: its squitter, the place, and the frame
+/// that is written of that place, which is the newer frame.
 ///
 /// `None` exactly where one of the frames spells no squitter, or both are decoded to no place.
 pub fn sent_again_of_pair(
@@ -372,7 +379,8 @@ pub fn sent_again_of_pair(
     newer: &Frame,
     site: Option<&Position>,
 ) -> Option<(Squitter, Place, Frame)>
-    ensures decoded { IfSome result (λ all. IsReadingOfNewer older.now all.0 (option_map (λ s. s.now) site.entry) all.1) }
+    ensures decoded { IfSome result (λ all.
+        IsReadingOfNewer older.now all.0 (option_map (λ s. s.now) site.entry) all.1) }
     ensures again { IfSome result (λ all. IsSentAgain newer.now all.0 all.1 all.2) }
     ensures none { result ≡ None → HaveNoPlace older.now newer.now (option_map (λ s. s.now) site.entry) }
 {
