@@ -1,5 +1,5 @@
 -- Moments and the spaces after them.
-use Rattle.std.proofs.Common.{◌≡◌, ◌+◌, ◌<◌, ◌++◌, ◌∙◌, ◌*◌, ◌^◌, ℕ, List, [], ◌∷◌, Option, None, Some, length, get_or, suc, zero, sym, ap, subst, arith, refl, ap₂}
+use Rattle.std.proofs.Common.{◌≡◌, ◌+◌, ◌<◌, ◌++◌, ◌*◌, ◌^◌, ℕ, List, [], ◌∷◌, length, get_or, suc, zero, sym, arith, refl, ap₂}
 use Rattle.std.proofs.lemmas.Nat.{pow-add}
 use Rattle.std.specs.Char.{IsAsciiDigit}
 use Rattle.std.specs.List.{AllByRecursion}
