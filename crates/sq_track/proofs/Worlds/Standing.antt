@@ -101,7 +101,7 @@ places_still (kinds.Surface a) (kinds.Airborne b) site x y p q kind h k one near
 places_still (kinds.Surface a) (kinds.Other b) site x y p q kind h k one near_x near_y = absurd (false≢true kind)
 places_still (kinds.Other a) n site x y p q kind h k one near_x near_y = absurd h
 
-followed_still : (m n : Me) (x y : Position) (p q : Place) → are_of_one_kind m n ≡ true → IsPlaceOf m x p → IsPlaceOf n y q → AreOnePlace x y → AreSlowToFollow p q x y
+pub followed_still : (m n : Me) (x y : Position) (p q : Place) → are_of_one_kind m n ≡ true → IsPlaceOf m x p → IsPlaceOf n y q → AreOnePlace x y → AreSlowToFollow p q x y
 followed_still (kinds.Airborne a) (kinds.Airborne b) x y (Air p) (Air q) kind h k one = follows_still 360 1 (omega arith) p q h.1.of_grid k.1.of_grid x y one
 followed_still (kinds.Airborne a) (kinds.Airborne b) x y (Air p) (Ground q) kind h k one = absurd k
 followed_still (kinds.Airborne a) (kinds.Airborne b) x y (Ground p) q kind h k one = absurd h
@@ -125,10 +125,10 @@ standing_is_slow_for_following window world standing a b a_in b_in together p q 
     (standing a b a_in b_in together.sender)
 
 -- a position is one place with itself
-one_with_itself : (x : Position) → AreOnePlace x x
+pub one_with_itself : (x : Position) → AreOnePlace x x
 one_with_itself x = record { latitudes = refl; turns = pos 0; longitudes = omega (arith, ints) }
 
-own_kind : (m : Me) (x : Position) (p : Place) → IsPlaceOf m x p → are_of_one_kind m m ≡ true
+pub own_kind : (m : Me) (x : Position) (p : Place) → IsPlaceOf m x p → are_of_one_kind m m ≡ true
 own_kind (kinds.Airborne a) x p h = refl
 own_kind (kinds.Surface a) x p h = refl
 own_kind (kinds.Other a) x p h = absurd h
