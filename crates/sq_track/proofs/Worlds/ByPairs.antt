@@ -1,5 +1,5 @@
 -- A world is slow by its pairs of arrivals.
-use Rattle.std.proofs.Common.{◌≡◌, ◌≢◌, ◌∙◌, ◌⊎◌, inl, inr, ⊎_elim, ℕ, ◌+◌, ◌<◌, arith, [], ◌∷◌, Option, Some, Contains, refl, sym, ap, subst}
+use Rattle.std.proofs.Common.{◌≡◌, ◌≢◌, ◌∙◌, ◌⊎◌, inl, inr, ℕ, ◌+◌, ◌<◌, arith, [], ◌∷◌, Option, Some, Contains, refl, sym, ap, subst}
 use Rattle.std.specs.List.{AllByRecursion}
 use Rattle.std.proofs.lemmas.List.Elements.{All-contains, All-contains_itself, All-from_recursion, recursion_from_All}
 use Rattle.sq_angle.specs.declared.position.Position.{Position}
@@ -8,7 +8,7 @@ use Rattle.sq_zones.specs.declared.parity.Parity.TheVariants.{Even, Odd}
 use Rattle.sq_message.specs.declared.place.Place.{Place}
 use Rattle.sq_message.specs.Parts.{squitter_parts}
 use Rattle.sq_track.specs.History.{Entry, parity_of}
-use Rattle.sq_track.specs.Worlds.{Arrival, World, IsTruePlace, IsEntryOf}
+use Rattle.sq_track.specs.Worlds.{Arrival, IsTruePlace, IsEntryOf}
 use Rattle.sq_track.specs.Tame.{AreTogether, ArePairTogether, AreSlowPlaces, AreSlowToFollow}
 use Rattle.sq_track.specs.Laws.{ApartIsSlow, ArisesByArrivals, SlowByPairs, SlowForFollowingByPairs, SlowForFollowingPairExactly, SlowPairExactly}
 use Rattle.sq_track.proofs.Histories.Entries.{each_arrived, sender_parts, together_sym}
@@ -90,18 +90,18 @@ pairs_itself window site a pair = odd_is_even (parity_of (squitter_parts a.squit
 
 pub slow_for_following_pair_exactly : SlowForFollowingPairExactly
 slow_for_following_pair_exactly window a b p q together h k = (
-      λ slow. (
-        slow a b (in_pair a b).0 (in_pair a b).1.0 together p q h k,
-        slow b a (in_pair a b).1.0 (in_pair a b).0 (together_sym window a b together) q p k h,
-      ),
-      λ slow c d c_in d_in.
-          each_two (Follows window) a b c d (follows_itself window a)
-          (λ t p' q' h' k'. subst (λ x. AreSlowToFollow p' x a.position b.position) (one_true_place b q q' k k')
-          (subst (λ x. AreSlowToFollow x q a.position b.position) (one_true_place a p p' h h') slow.0))
-          (λ t q' p' k' h'. subst (λ x. AreSlowToFollow q' x b.position a.position) (one_true_place a p p' h h')
-          (subst (λ x. AreSlowToFollow x p b.position a.position) (one_true_place b q q' k k') slow.1))
-          (follows_itself window b) (is_one_of a b c c_in) (is_one_of a b d d_in),
-    )
+  λ slow. (
+    slow a b (in_pair a b).0 (in_pair a b).1.0 together p q h k,
+    slow b a (in_pair a b).1.0 (in_pair a b).0 (together_sym window a b together) q p k h,
+  ),
+  λ slow c d c_in d_in.
+      each_two (Follows window) a b c d (follows_itself window a)
+      (λ t p' q' h' k'. subst (λ x. AreSlowToFollow p' x a.position b.position) (one_true_place b q q' k k')
+      (subst (λ x. AreSlowToFollow x q a.position b.position) (one_true_place a p p' h h') slow.0))
+      (λ t q' p' k' h'. subst (λ x. AreSlowToFollow q' x b.position a.position) (one_true_place a p p' h h')
+      (subst (λ x. AreSlowToFollow x p b.position a.position) (one_true_place b q q' k k') slow.1))
+      (follows_itself window b) (is_one_of a b c c_in) (is_one_of a b d d_in),
+)
 
 -- arrivals further apart than the window, or of two addresses, do not come together
 never_together : {A : Type 0} (window : ℕ) (a b : Arrival)
@@ -111,20 +111,20 @@ never_together window a b (inr differ) together = absurd (differ (sender_parts a
 
 pub apart_is_slow : ApartIsSlow
 apart_is_slow window site a b apart = (
-      λ c d c_in d_in.
-          each_two (Pairs window site) a b c d (pairs_itself window site a) (λ pair. never_together window a b apart pair.together)
-          (λ pair. never_together window a b apart (together_sym window b a pair.together)) (pairs_itself window site b) (is_one_of a b c c_in) (is_one_of a b d d_in),
-      λ c d c_in d_in.
-          each_two (Follows window) a b c d (follows_itself window a) (λ t. never_together window a b apart t)
-          (λ t. never_together window a b apart (together_sym window b a t)) (follows_itself window b) (is_one_of a b c c_in) (is_one_of a b d d_in),
-    )
+  λ c d c_in d_in.
+      each_two (Pairs window site) a b c d (pairs_itself window site a) (λ pair. never_together window a b apart pair.together)
+      (λ pair. never_together window a b apart (together_sym window b a pair.together)) (pairs_itself window site b) (is_one_of a b c c_in) (is_one_of a b d d_in),
+  λ c d c_in d_in.
+      each_two (Follows window) a b c d (follows_itself window a) (λ t. never_together window a b apart t)
+      (λ t. never_together window a b apart (together_sym window b a t)) (follows_itself window b) (is_one_of a b c c_in) (is_one_of a b d d_in),
+)
 
 pub arises_by_arrivals : ArisesByArrivals
 arises_by_arrivals world = (
-      λ entry there. All-contains (λ (e : Entry). (arrival : Arrival) × Contains world arrival × IsEntryOf arrival e) [] entry (All-from_recursion (λ (e : Entry). (arrival : Arrival) × Contains world arrival × IsEntryOf arrival e) [] tt) there,
-      λ history arrival heard a_in arises entry there.
-          let P = λ (e : Entry). (x : Arrival) × Contains world x × IsEntryOf x e in
-          let now : Entry = record { moment = arrival.moment; squitter = arrival.squitter; heard = heard } in
-          All-contains P (now ∷ history) entry
-          (All-from_recursion P (now ∷ history) ((arrival, a_in, record { moment = refl; squitter = refl }), each_arrived world history arises)) there,
-    )
+  λ entry there. All-contains (λ (e : Entry). (arrival : Arrival) × Contains world arrival × IsEntryOf arrival e) [] entry (All-from_recursion (λ (e : Entry). (arrival : Arrival) × Contains world arrival × IsEntryOf arrival e) [] tt) there,
+  λ history arrival heard a_in arises entry there.
+      let P = λ (e : Entry). (x : Arrival) × Contains world x × IsEntryOf x e in
+      let now : Entry = record { moment = arrival.moment; squitter = arrival.squitter; heard = heard } in
+      All-contains P (now ∷ history) entry
+      (All-from_recursion P (now ∷ history) ((arrival, a_in, record { moment = refl; squitter = refl }), each_arrived world history arises)) there,
+)

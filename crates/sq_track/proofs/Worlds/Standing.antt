@@ -1,10 +1,10 @@
 -- What stands still is slow, and a place is strictly near itself.
-use Rattle.std.proofs.Common.{◌≡◌, ◌∙◌, ℕ, ◌*◌, ◌<◌, ◌≤◌, max, min, ℤ, pos, ◌-ℤ◌, ◌*ℤ◌, ◌<ℤ◌, true, Option, Some, None, refl, sym, ap, subst, arith, mul-le-mul_left, mul-le-mul}
+use Rattle.std.proofs.Common.{◌≡◌, ℕ, ◌*◌, ◌<◌, ◌≤◌, max, min, ℤ, pos, ◌*ℤ◌, ◌<ℤ◌, true, Option, refl, ap, arith, mul-le-mul_left, mul-le-mul}
 use Rattle.std.proofs.lemmas.Bool.{false≢true}
 use Rattle.std.proofs.lemmas.Int.{ints}
 use Rattle.sq_angle.specs.declared.position.Position.{Position}
 use Rattle.sq_angle.specs.Angle.{degrees}
-use Rattle.sq_angle.specs.Fraction.{Fraction, minus, plus}
+use Rattle.sq_angle.specs.Fraction.{Fraction, minus}
 use Rattle.sq_angle.specs.Position.{lat_of, lon_of}
 use Rattle.sq_angle.specs.Scale.{scale-lt, scale-neg}
 use Rattle.sq_zones.proofs.ZoneBounds.{lon_zones_at-least, lon_zones_at-most}
@@ -17,9 +17,9 @@ use Rattle.sq_message.specs.declared.place.Place.{Place}
 use Rattle.sq_message.specs.declared.place.Place.TheVariants.{Air, Ground}
 use Rattle.sq_message.specs.Parts.{squitter_parts}
 use Rattle.sq_track.specs.History.{are_of_one_kind}
-use Rattle.sq_track.specs.Worlds.{Arrival, IsPlaceOf}
+use Rattle.sq_track.specs.Worlds.{IsPlaceOf}
 use Rattle.sq_track.specs.Tame.{AreSlowPlaces, AreSlowToFollow, IsPositionNearSite}
-use Rattle.sq_track.specs.Standing.{AreOneAngle, AreOnePlace}
+use Rattle.sq_track.specs.Standing.{AreOnePlace}
 use Rattle.sq_track.specs.Laws.{NearItself, StandingIsSlow, StandingIsSlowForFollowing}
 use Rattle.sq_track.proofs.Histories.Entries.{sender_parts}
 use Rattle.sq_track.proofs.Worlds.SlowWorlds.{slow_to_follow}
