@@ -1,11 +1,8 @@
 -- To a call there is one reply, where no memory is wanting.
-use Rattle.std.proofs.Common.{◌≡◌, ◌≢◌, ◌∙◌, ℕ, ◌≤◌, ◌<◌, Option, Some, IfSome, Result, Ok, Err, refl, sym, ap, subst, arith}
-use Rattle.sq_message.specs.declared.squitter.Squitter.{Squitter}
-use Rattle.sq_track.specs.declared.heard.Heard.{Heard}
-use Rattle.sq_track.specs.declared.heard.TrackFault.{TrackFault}
+use Rattle.std.proofs.Common.{◌≡◌, ◌∙◌, ℕ, ◌≤◌, ◌<◌, Option, Some, IfSome, Ok, Err, refl, sym, ap, subst, arith}
 use Rattle.sq_track.specs.declared.heard.TrackFault.TheVariants.{NoLimit, Memory, MomentBack, Full}
 use Rattle.sq_track.specs.History.{History}
-use Rattle.sq_track.specs.Replies.{Settings, IsInTime, IsReply, last_moment}
+use Rattle.sq_track.specs.Replies.{IsInTime, last_moment}
 use Rattle.sq_track.specs.Laws.{OneReply}
 use Rattle.sq_track.proofs.Listing.Found.{same_some}
 use Rattle.sq_track.proofs.Histories.OneAnswer.{one_answer}

@@ -1,7 +1,7 @@
 -- For every history and call there is an answer.
-use Rattle.std.proofs.Common.{◌≡◌, ◌∙◌, ◌⊎◌, inl, inr, ℕ, ◌+◌, ◌*◌, ◌≤◌, ◌<◌, ◌^◌, Bool, true, false, cond, leb, ltb, [], ◌∷◌, ℤ, pos, ◌-ℤ◌, ◌*ℤ◌, unsigned_abs, length, filter, find, not, Option, Some, None, is_some, IfSome, Result, Ok, Err, refl, sym, ap, subst, arith}
+use Rattle.std.proofs.Common.{◌≡◌, ◌∙◌, ◌⊎◌, inl, inr, ℕ, ◌*◌, ◌≤◌, ◌<◌, ◌^◌, Bool, true, false, cond, leb, ltb, [], ◌∷◌, ℤ, pos, ◌-ℤ◌, length, filter, find, not, Option, Some, None, IfSome, Result, Ok, Err, refl, sym, subst, arith}
 use Rattle.std.specs.List.{AllByRecursion}
-use Rattle.std.proofs.lemmas.Bool.{cases_eq, cases_lt, leb-true, leb-false, ltb-true, ltb-false, le-leb}
+use Rattle.std.proofs.lemmas.Bool.{cases_eq, cases_lt, leb-true, leb-false, ltb-true, ltb-false}
 use Rattle.std.proofs.lemmas.Int.{ints}
 use Rattle.sq_angle.specs.declared.position.Position.{Position}
 use Rattle.sq_angle.specs.declared.angle.Angle.{Angle}
@@ -12,9 +12,6 @@ use Rattle.sq_angle.specs.Position.{lat_of, lon_of}
 use Rattle.sq_zones.specs.declared.parity.Parity.{Parity}
 use Rattle.sq_zones.specs.declared.parity.Parity.TheVariants.{Even, Odd}
 use Rattle.sq_zones.proofs.ZoneBounds.{lon_zones_at-least, lon_zones_at-most}
-use Rattle.sq_cpr.specs.declared.faults.LocalFault.{LocalFault}
-use Rattle.sq_cpr.specs.declared.faults.LocalFault.TheVariants as locals
-use Rattle.sq_cpr.specs.declared.faults.PairFault.{PairFault}
 use Rattle.sq_cpr.specs.Code.{numbers_of}
 use Rattle.sq_cpr.specs.Grid.{Point, IsGridPoint, grid_longitude, latitude, longitude}
 use Rattle.sq_cpr.proofs.SomeAnswers.{some_local_answer, some_pair_answer, some_air_pair_answer}
@@ -31,12 +28,11 @@ use Rattle.sq_message.specs.Parts.{SquitterParts, squitter_parts}
 use Rattle.sq_message.specs.Places.{IsPosition, IsPositionOf, IsLocalPlace, IsPairPlace, IsKindredPlace, IsAirPairPlace, IsGroundPairPlace, NeedsTwoParities, even_of, odd_of, of_local, of_pair, place_of}
 use Rattle.sq_track.specs.declared.heard.Heard.{Heard}
 use Rattle.sq_track.specs.declared.heard.Heard.TheVariants.{Fix, Followed, Waiting, Split, Far, NoSite, NotPosition}
-use Rattle.sq_track.specs.declared.heard.TrackFault.{TrackFault}
 use Rattle.sq_track.specs.declared.heard.TrackFault.TheVariants.{MomentBack, Full}
 use Rattle.sq_track.specs.History.{Entry, History, counterpart, last_fix, if_recent, is_fix_of, place_heard}
 use Rattle.sq_track.specs.History as past
-use Rattle.sq_track.specs.Answers.{heard_alone, heard_of_pair, heard_near, IsHeardOfPair, IsPlaceNear, IsHeardNear, IsHeardAfter, IsHeardWith, IsHeard}
-use Rattle.sq_track.specs.Replies.{Settings, IsHistory, IsInTime, IsFull, IsReply, is_position, is_of_address, last_moment, present}
+use Rattle.sq_track.specs.Answers.{heard_alone, heard_of_pair, heard_near, IsHeardOfPair, IsHeardNear, IsHeardAfter}
+use Rattle.sq_track.specs.Replies.{Settings, IsHistory, IsFull, is_position, is_of_address, last_moment, present}
 use Rattle.sq_track.specs.Laws.{SomeAnswer, SomeReply}
 use Rattle.sq_track.proofs.Listing.Found.{found, none_is_some}
 use Rattle.sq_track.proofs.Histories.Entries.{recent_is}

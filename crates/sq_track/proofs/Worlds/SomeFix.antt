@@ -1,6 +1,6 @@
 -- Slow worlds have fixes: a pair in the air that is slow and has one zone count is heard as the fix of the newer's true place.
-use Rattle.std.proofs.Common.{◌≡◌, ◌≢◌, ◌∙◌, ℕ, ◌+◌, ◌≤◌, true, cond, ◌&&◌, leb, [], ◌∷◌, find, Option, Some, None, Result, Ok, Err, refl, sym, ap, subst, arith}
-use Rattle.std.proofs.lemmas.Bool.{le-leb, and_from, false≢true}
+use Rattle.std.proofs.Common.{◌≡◌, ◌≢◌, ◌∙◌, ◌+◌, true, cond, leb, [], ◌∷◌, Option, Some, None, Result, Ok, Err, refl, sym, ap, subst}
+use Rattle.std.proofs.lemmas.Bool.{le-leb, and_from}
 use Rattle.sq_angle.specs.declared.position.Position.{Position}
 use Rattle.sq_zones.specs.declared.parity.Parity.{Parity}
 use Rattle.sq_zones.specs.declared.parity.Parity.TheVariants.{Even, Odd}
@@ -16,19 +16,16 @@ use Rattle.sq_cpr.proofs.PairPoints.{tame_air_points_are_answered}
 use Rattle.sq_cpr.proofs.SlowLaw.{slow_is_tame}
 use Rattle.sq_message.specs.declared.squitter.Me.{Me}
 use Rattle.sq_message.specs.declared.squitter.Me.TheVariants as kinds
-use Rattle.sq_message.specs.declared.squitter.Squitter.{Squitter}
 use Rattle.sq_message.specs.declared.place.Place.{Place}
 use Rattle.sq_message.specs.declared.place.Place.TheVariants.{Air, Ground}
 use Rattle.sq_message.specs.declared.place.PlaceFault.{PlaceFault}
 use Rattle.sq_message.specs.Parts.{squitter_parts}
 use Rattle.sq_message.specs.Places.{IsPosition, IsKindredPlace, even_of, odd_of, of_pair, place_of}
 use Rattle.sq_message.proofs.PlaceLemmas.{has_code}
-use Rattle.sq_track.specs.declared.heard.Heard.{Heard}
 use Rattle.sq_track.specs.declared.heard.Heard.TheVariants.{Fix, Waiting}
-use Rattle.sq_track.specs.History.{Entry, History, are_of_one_kind, are_of_one_sender, are_even_and_odd, are_a_pair, parity_of, if_recent, counterpart, squitter_of}
+use Rattle.sq_track.specs.History.{Entry, are_of_one_sender, are_even_and_odd, are_a_pair, parity_of, if_recent, counterpart, squitter_of}
 use Rattle.sq_track.specs.Answers.{heard_of_pair, IsHeardOfPair}
-use Rattle.sq_track.specs.Worlds.{Arrival, IsPlaceOf, HasCodeOf, IsEncodedFrom, IsTruePlace}
-use Rattle.sq_track.specs.Tame.{ArePairTogether}
+use Rattle.sq_track.specs.Worlds.{IsPlaceOf, HasCodeOf, IsEncodedFrom}
 use Rattle.sq_track.specs.Laws.{SlowPairIsFixed}
 use Rattle.sq_track.proofs.Histories.Entries.{sender_parts}
 use Rattle.sq_track.proofs.Listing.Found.{same_some}
@@ -83,7 +80,7 @@ slow_pair_is_fixed window site a b p q pair h k slow same =
     let pairs_up : are_a_pair a.squitter b.squitter ≡ true = and_from (are_of_one_sender a.squitter b.squitter) (are_even_and_odd (parity_of m) (parity_of n)) pair.together.sender two in
     let recent : leb b.moment (a.moment + window) ≡ true = le-leb b.moment (a.moment + window) pair.together.not_after in
     let older : counterpart window (entry ∷ []) b.moment b.squitter ≡ Some a.squitter =
-        ap (λ t. squitter_of (if_recent window b.moment (cond t (Some entry) None))) pairs_up ∙ ap (λ t. squitter_of (cond t (Some entry) None)) recent in
+    ap (λ t. squitter_of (if_recent window b.moment (cond t (Some entry) None))) pairs_up ∙ ap (λ t. squitter_of (cond t (Some entry) None)) recent in
     let some = some_pair (squitter_parts a.squitter) (squitter_parts b.squitter) site in
     let here = some.1.kindred (positions_of m n a.position b.position (Air p) (Air q) h k) (sender_parts a.squitter b.squitter pair.together.sender).0 in
     let is : some.0 ≡ Ok (Air q) = slow_pair m n a.position b.position p q site some.0 a.encoded b.encoded pair.even pair.odd h k slow same here in

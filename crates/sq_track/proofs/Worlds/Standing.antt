@@ -1,10 +1,10 @@
 -- What stands still is slow, and a place is strictly near itself.
-use Rattle.std.proofs.Common.{◌≡◌, ◌∙◌, ℕ, ◌*◌, ◌<◌, ◌≤◌, max, min, ℤ, pos, ◌-ℤ◌, ◌*ℤ◌, ◌<ℤ◌, true, Option, Some, None, refl, sym, ap, subst, arith, mul-le-mul_left, mul-le-mul}
+use Rattle.std.proofs.Common.{◌≡◌, ℕ, ◌*◌, ◌<◌, ◌≤◌, max, min, ℤ, pos, ◌*ℤ◌, ◌<ℤ◌, true, Option, refl, ap, arith, mul-le-mul_left, mul-le-mul}
 use Rattle.std.proofs.lemmas.Bool.{false≢true}
 use Rattle.std.proofs.lemmas.Int.{ints}
 use Rattle.sq_angle.specs.declared.position.Position.{Position}
 use Rattle.sq_angle.specs.Angle.{degrees}
-use Rattle.sq_angle.specs.Fraction.{Fraction, minus, plus}
+use Rattle.sq_angle.specs.Fraction.{Fraction, minus}
 use Rattle.sq_angle.specs.Position.{lat_of, lon_of}
 use Rattle.sq_angle.specs.Scale.{scale-lt, scale-neg}
 use Rattle.sq_zones.proofs.ZoneBounds.{lon_zones_at-least, lon_zones_at-most}
@@ -17,9 +17,9 @@ use Rattle.sq_message.specs.declared.place.Place.{Place}
 use Rattle.sq_message.specs.declared.place.Place.TheVariants.{Air, Ground}
 use Rattle.sq_message.specs.Parts.{squitter_parts}
 use Rattle.sq_track.specs.History.{are_of_one_kind}
-use Rattle.sq_track.specs.Worlds.{Arrival, IsPlaceOf}
+use Rattle.sq_track.specs.Worlds.{IsPlaceOf}
 use Rattle.sq_track.specs.Tame.{AreSlowPlaces, AreSlowToFollow, IsPositionNearSite}
-use Rattle.sq_track.specs.Standing.{AreOneAngle, AreOnePlace}
+use Rattle.sq_track.specs.Standing.{AreOnePlace}
 use Rattle.sq_track.specs.Laws.{NearItself, StandingIsSlow, StandingIsSlowForFollowing}
 use Rattle.sq_track.proofs.Histories.Entries.{sender_parts}
 use Rattle.sq_track.proofs.Worlds.SlowWorlds.{slow_to_follow}
@@ -101,7 +101,7 @@ places_still (kinds.Surface a) (kinds.Airborne b) site x y p q kind h k one near
 places_still (kinds.Surface a) (kinds.Other b) site x y p q kind h k one near_x near_y = absurd (false≢true kind)
 places_still (kinds.Other a) n site x y p q kind h k one near_x near_y = absurd h
 
-followed_still : (m n : Me) (x y : Position) (p q : Place) → are_of_one_kind m n ≡ true → IsPlaceOf m x p → IsPlaceOf n y q → AreOnePlace x y → AreSlowToFollow p q x y
+pub followed_still : (m n : Me) (x y : Position) (p q : Place) → are_of_one_kind m n ≡ true → IsPlaceOf m x p → IsPlaceOf n y q → AreOnePlace x y → AreSlowToFollow p q x y
 followed_still (kinds.Airborne a) (kinds.Airborne b) x y (Air p) (Air q) kind h k one = follows_still 360 1 (omega arith) p q h.1.of_grid k.1.of_grid x y one
 followed_still (kinds.Airborne a) (kinds.Airborne b) x y (Air p) (Ground q) kind h k one = absurd k
 followed_still (kinds.Airborne a) (kinds.Airborne b) x y (Ground p) q kind h k one = absurd h
@@ -125,10 +125,10 @@ standing_is_slow_for_following window world standing a b a_in b_in together p q 
     (standing a b a_in b_in together.sender)
 
 -- a position is one place with itself
-one_with_itself : (x : Position) → AreOnePlace x x
+pub one_with_itself : (x : Position) → AreOnePlace x x
 one_with_itself x = record { latitudes = refl; turns = pos 0; longitudes = omega (arith, ints) }
 
-own_kind : (m : Me) (x : Position) (p : Place) → IsPlaceOf m x p → are_of_one_kind m m ≡ true
+pub own_kind : (m : Me) (x : Position) (p : Place) → IsPlaceOf m x p → are_of_one_kind m m ≡ true
 own_kind (kinds.Airborne a) x p h = refl
 own_kind (kinds.Surface a) x p h = refl
 own_kind (kinds.Other a) x p h = absurd h

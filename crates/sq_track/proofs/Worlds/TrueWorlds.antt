@@ -8,7 +8,7 @@ use Rattle.sq_track.specs.History.{Entry, History}
 use Rattle.sq_track.specs.Replies.{Settings, IsHistory, AreReplies}
 use Rattle.sq_track.specs.Worlds.{Arrival, World, ArisesFrom, IsTrueFix, IsTruePlaceHeard, IfHeard, received_of}
 use Rattle.sq_track.specs.Tame.{IsTame, IsTameForFollowing, IsSlow, IsSlowForFollowing}
-use Rattle.sq_track.specs.Laws.{TameWorldsAreTrue, FollowedWorldsAreTrue, AreTrueInSlowWorlds}
+use Rattle.sq_track.specs.Laws.{TameWorldsAreTrue, FollowedWorldsAreTrue}
 use Rattle.sq_track.proofs.Listing.Found.{each_weaker}
 use Rattle.sq_track.proofs.Worlds.SlowWorlds.{slow_worlds_are_tame, slow_for_following_is_tame}
 use Rattle.sq_track.proofs.Histories.Entries.{Arrived, IsChain, chain_of, each_arrived}

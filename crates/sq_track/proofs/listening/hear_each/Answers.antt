@@ -1,7 +1,6 @@
 use Rattle.std.proofs.Common.{◌≡◌, ◌∙◌, ◌+◌, ◌<◌, ◌≤◌, ◌++◌, ◌∷◌, [], length, take, ap, sym, subst, arith, rules}
 use Rattle.std.proofs.lemmas.List.{take_all, take_more, take_more_set}
-use Rattle.sq_track.specs.History.{History}
-use Rattle.sq_track.specs.Held.{StandsFor, settings}
+use Rattle.sq_track.specs.Held.{settings}
 use Rattle.sq_track.specs.Replies.{Settings, AreReplies, IsReply, history_after_all}
 use Rattle.sq_track.proofs.Table.Sequences.{replies_next, stands_next, true_in_slow_worlds}
 use Rattle.sq_track.proofs.listening.hear_each.Goals as goal

@@ -1,10 +1,9 @@
-use Rattle.std.proofs.Common.{◌≡◌, ◌≢◌, ℕ, List, Option, Some, None, IsOk, ◌++◌, ◌∷◌, [], cond, sym, ap, ◌∙◌, subst, eqb, length, ◌+◌, ◌<◌, is_some, unwrap_or, arith}
+use Rattle.std.proofs.Common.{◌≡◌, ◌≢◌, ℕ, List, Some, None, IsOk, ◌++◌, ◌∷◌, [], cond, sym, ap, ◌∙◌, subst, eqb, length, ◌+◌, ◌<◌, is_some, arith}
 use Rattle.std.specs.Map.{lookup}
 use Rattle.indexmap.specs.IndexMap.{spare}
-use Rattle.sq_track.specs.Ordered.{heard_order, others_in, entries_in, IsTied, blank_contact}
-use Rattle.sq_track.specs.Kept.{IsStep}
+use Rattle.sq_track.specs.Ordered.{heard_order, others_in, entries_in, IsTied}
 use Rattle.sq_track.specs.declared.contact.Contact.{Contact}
-use Rattle.sq_track.proofs.Table.ContactLemmas.{put_tied, put_view, view-lookup, not_there, on_err, on_ok, from_ok, inserts, counted, one_unless, updates_of, step_known, step_blank, if_ok_at, if_ok_fault}
+use Rattle.sq_track.proofs.Table.ContactLemmas.{put_tied, put_view, view-lookup, not_there, on_err, from_ok, inserts, counted, one_unless, updates_of, step_known, step_blank, if_ok_at, if_ok_fault}
 use Rattle.sq_track.proofs.contacts.Contacts.hear_last.Goals as goal
 use Rattle.sq_track.proofs.contacts.Contacts.hear_last.Goals.{in-Ok, in-Err}
 

@@ -1,4 +1,4 @@
-use Rattle.std.proofs.Common.{◌≡◌, ◌∙◌, option_map, refl, leb, eqb, ◌∷◌, ◌++◌, [], length, filter, find, Option, None, Ok, Err, Some, unwrap_or, sym, ap, subst}
+use Rattle.std.proofs.Common.{◌≡◌, ◌∙◌, option_map, refl, leb, eqb, ◌∷◌, ◌++◌, [], length, filter, find, Option, None, Ok, Err, Some, sym, ap, subst}
 use Rattle.std.proofs.lemmas.Bool.{false≢true}
 use Rattle.std.specs.Map.{lookup}
 use Rattle.sq_angle.specs.declared.position.Position.{Position}
@@ -9,9 +9,9 @@ use Rattle.sq_track.specs.declared.heard.TrackFault.TheVariants.{Memory, Full}
 use Rattle.sq_track.specs.History.{History}
 use Rattle.sq_track.specs.Answers.{IsHeard}
 use Rattle.sq_track.specs.Replies.{IsReply}
-use Rattle.sq_track.specs.Kept.{Remembers, IsStep}
+use Rattle.sq_track.specs.Kept.{IsStep}
 use Rattle.sq_track.specs.Entries.{fresh_entry, IsOrdered, IsSound}
-use Rattle.sq_track.specs.Ordered.{others_in, blank_contact}
+use Rattle.sq_track.specs.Ordered.{others_in}
 use Rattle.sq_track.specs.Held.{Held, StandsFor, contact_of, settings, present_of}
 use Rattle.sq_track.specs.contracts.tracker.Tracker.{the_view}
 use Rattle.sq_track.proofs.Table.EntryLemmas.{Entries, is_shown, find-entries}
