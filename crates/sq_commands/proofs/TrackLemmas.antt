@@ -23,8 +23,8 @@ use Rattle.sq_track.specs.declared.heard.TrackFault.TheVariants as track_faults
 use Rattle.sq_track.specs.Held.{Held, StandsFor, settings}
 use Rattle.sq_track.specs.History.{History}
 use Rattle.sq_track.specs.Replies.{Settings, IsHistory, IsReply, history_after}
-use Rattle.sq_track.proofs.OneReply.{one_reply}
-use Rattle.sq_track.proofs.SomeAnswer.{some_reply}
+use Rattle.sq_track.proofs.Histories.OneReply.{one_reply}
+use Rattle.sq_track.proofs.Histories.SomeAnswer.{some_reply}
 use Rattle.sq_commands.specs.declared.heard.HeardFrom.{HeardFrom}
 use Rattle.sq_commands.specs.Heard.{heard_text}
 use Rattle.sq_commands.specs.Track.{IsTracked}
@@ -194,8 +194,10 @@ tracked (Err run_faults.Memory) input output old new whole unread unanswered unw
       | inr last ↦ (u.0, last.1.0, u.1, inr (last.0, last.1.1), told-track old new output.before output.after last.1.0 last.1.2)
     ]
 tracked (Err run_faults.Write) input output old new whole unread unanswered unwritten =
-    let u = unwritten refl in
-    (u.0, elim u.1.2 [
-      | inl ended ↦ (u.1.0, ended.0, u.1.1, inl ended.1, told_part-track old new output ended.0 ended.2)
-      | inr last ↦ (u.1.0, last.1.0, u.1.1, inr (last.0, last.1.1), told_part-track old new output last.1.0 last.1.2)
-    ])
+    let u = unwritten refl in (
+      u.0,
+      elim u.1.2 [
+        | inl ended ↦ (u.1.0, ended.0, u.1.1, inl ended.1, told_part-track old new output ended.0 ended.2)
+        | inr last ↦ (u.1.0, last.1.0, u.1.1, inr (last.0, last.1.1), told_part-track old new output last.1.0 last.1.2)
+      ],
+    )

@@ -14,7 +14,7 @@ use Rattle.sq_lines.specs.declared.faults.RunFault.TheVariants.{Read, Write, Mem
 use Rattle.sq_lines.specs.declared.tallies.Tally.{Tally}
 use Rattle.sq_commands.specs.declared.status.Status.{Status}
 use Rattle.sq_commands.specs.declared.status.Status.TheVariants.{Good, Refused, Broken}
-use Rattle.sq_commands.specs.Outputs.{Effects, Outputs, Reported, broken_text}
+use Rattle.sq_commands.specs.Outputs.{Effects, Reported, broken_text}
 
 -- what `check` writes for these lines: each by itself, read as a squitter
 abbrev pub check_output : SquitterReader → List (List ℕ) → List ℕ

@@ -54,7 +54,6 @@ IsEncodeFault words fault =
     (IsFaultUnless (HasAltitude words.kind words.feet) fault faults.Feet
     (IsPositionFault words.lat words.lon fault))))
 
-
 -- capability 5, type code 11, and of the other fields the altitude alone
 pub record IsAirHead (address altitude : ℕ) (head : AirHeadParts) : Type 0 where
   pub ca : head.ca ≡ 5

@@ -1,7 +1,6 @@
 -- What `track` does.
 use Rattle.std.specs.Prelude.{◌≡◌, ◌≤◌, ◌<◌, ◌^◌, ◌⊎◌, ℕ, List, [], Option, None, Some, Result, Ok, Err, MatchResult, IfSome, length, true}
 use Rattle.std.specs.Io.KnownBytes.{Consumes, IsAtEnd}
-use Rattle.sq_angle.specs.declared.position.Position.{Position}
 use Rattle.sq_devices.specs.Changes.{Taken, TookNothing, Written, Wrote, WroteNothing}
 use Rattle.sq_devices.specs.Device.{ConsumesOrHides, IsPrefixOf}
 use Rattle.sq_text.specs.Timed.{IsMomentText}
@@ -19,7 +18,7 @@ use Rattle.sq_commands.specs.declared.status.Status.TheVariants.{Broken}
 use Rattle.sq_commands.specs.Arguments.{IsFaultUnless, IsSiteFault, IsSiteWords}
 use Rattle.sq_commands.specs.Check.{status_of}
 use Rattle.sq_commands.specs.Faults.{IsMisuse}
-use Rattle.sq_commands.specs.Outputs.{Effects, Outputs, Reported, broken_text}
+use Rattle.sq_commands.specs.Outputs.{Effects, Reported, broken_text}
 use Rattle.sq_commands.specs.Tracking.{HasHeard, WroteIntoLast}
 
 -- ---- a run over a log

@@ -1,5 +1,5 @@
 -- What is answered to the lines of a log, each by the squitters that were heard before it.
-use Rattle.std.specs.Prelude.{◌≡◌, ◌≢◌, ◌++◌, ℕ, List, [], ◌∷◌, length, take, ◌-◌, None, Some, Result, Ok, Err}
+use Rattle.std.specs.Prelude.{◌≡◌, ◌≢◌, ℕ, List, [], ◌∷◌, length, take, ◌-◌, None, Some, Result, Ok, Err}
 use Rattle.sq_angle.specs.Decimal.{DecimalWriter}
 use Rattle.sq_devices.specs.Changes.{Written}
 use Rattle.sq_devices.specs.Device.{AppendsOrHides, IsPrefixOf}

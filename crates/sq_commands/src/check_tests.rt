@@ -41,7 +41,13 @@ fn assert_checked(rt: &impl Abort, alloc: Global, input: &[u8], status: Status, 
 fn checks_odd_lines(rt: HostRuntime) {
     let alloc = rt.alloc();
     assert_checked(&rt, alloc, &[b'1'; 65], Status::Refused, "1 long line\n");
-    assert_checked(&rt, alloc, &[b'1'; 64], Status::Refused, "1 bad length 64\n");
+    assert_checked(
+        &rt,
+        alloc,
+        &[b'1'; 64],
+        Status::Refused,
+        "1 bad length 64\n",
+    );
     assert_checked(
         &rt,
         alloc,

@@ -44,8 +44,7 @@ fn write_frame_line<K: Sink, F: Sink>(
     output: &mut K,
     faults: &mut F,
 ) -> Status
-    ensures {
-        let o = outputs K.Sink F.Sink output.old output.new faults.old faults.new in
+    ensures { let o = outputs K.Sink F.Sink output.old output.new faults.old faults.new in
         IsAnswer (line_of frame.now) result o ⊎ IsOutOfMemory result o }
 {
     match frame_line(alloc, frame) {

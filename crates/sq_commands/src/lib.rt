@@ -24,6 +24,8 @@ pub use status::Status;
 pub use track::run_track;
 
 #[cfg(test)]
+mod check_tests;
+#[cfg(test)]
 mod encode_tests;
 #[cfg(test)]
 mod faulty_devices;
@@ -31,8 +33,6 @@ mod faulty_devices;
 mod local_tests;
 #[cfg(test)]
 mod pair_tests;
-#[cfg(test)]
-mod check_tests;
 #[cfg(test)]
 mod tests;
 #[cfg(test)]

@@ -34,8 +34,7 @@ fn local_near<K: Sink, F: Sink>(
     output: &mut K,
     faults: &mut F,
 ) -> Status
-    ensures {
-        let o = outputs K.Sink F.Sink output.old output.new faults.old faults.new in
+    ensures { let o = outputs K.Sink F.Sink output.old output.new faults.old faults.new in
         IsFrameRun frame.now (λ squitter. IsNearRun reference.now squitter result o) result o }
 {
     match read_squitter(frame.as_bytes()) {

@@ -38,8 +38,7 @@ fn pair_at<K: Sink, F: Sink>(
     output: &mut K,
     faults: &mut F,
 ) -> Status
-    ensures {
-        let o = outputs K.Sink F.Sink output.old output.new faults.old faults.new in
+    ensures { let o = outputs K.Sink F.Sink output.old output.new faults.old faults.new in
         IsFramesRun older.now newer.now (λ first second. IsPairedRun (option_map (λ s. s.now) site.entry) first second result o) result o }
 {
     match read_both(older, newer) {

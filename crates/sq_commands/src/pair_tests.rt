@@ -177,7 +177,13 @@ fn assert_half_a_site<'a>(
             lat,
             lon,
         };
-        assert_reported(rt, alloc, request, Status::Misused, "site needs lat and lon\n");
+        assert_reported(
+            rt,
+            alloc,
+            request,
+            Status::Misused,
+            "site needs lat and lon\n",
+        );
     }
 }
 

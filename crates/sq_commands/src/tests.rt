@@ -104,7 +104,13 @@ fn refuses_frames(rt: HostRuntime) {
         ("8D40621D58C382D690C8AC2863AG", "bad digit 28\n"),
     ];
     for (frame, text) in rows {
-        assert_reported(&rt, rt.alloc(), Request::Show { frame }, Status::Refused, text);
+        assert_reported(
+            &rt,
+            rt.alloc(),
+            Request::Show { frame },
+            Status::Refused,
+            text,
+        );
     }
 }
 
@@ -136,7 +142,12 @@ pub(crate) fn assert_unwritten(rt: &impl Abort, alloc: Global, request: Request<
 }
 
 // Asserts the status of a request whose fault cannot be reported.
-pub(crate) fn assert_unreported(rt: &impl Abort, alloc: Global, request: Request<'_>, status: Status) {
+pub(crate) fn assert_unreported(
+    rt: &impl Abort,
+    alloc: Global,
+    request: Request<'_>,
+    status: Status,
+) {
     let mut input = Reading::new(b"".as_slice(), 10);
     let mut output = Writing::new(Vec::new(alloc));
     let mut lost = Writing::new(Full);

@@ -76,8 +76,10 @@ fn pairs_within_the_window(rt: HostRuntime) {
 
 #[test]
 fn follows_from_the_last_fix(rt: HostRuntime) {
-    let log = "0 8D40621D58C382D690C8AC2863A7\n6000 8D40621D58C386435CC412692AD6\n12000 8D40621D58C386435CC412692AD6\n22000 8D40621D58C386435CC412692AD6\n32001 8D40621D58C386435CC412692AD6\n32001 8D40621D58C382D690C8AC2863A7\n";
-    let text = "1 waiting 40621D\n2 fix 40621D 52.2657802 3.9389125\n3 followed 40621D 52.2657802 3.9389125\n4 followed 40621D 52.2657802 3.9389125\n5 waiting 40621D\n6 fix 40621D 52.2572021 3.9193726\n";
+    let log =
+        "0 8D40621D58C382D690C8AC2863A7\n6000 8D40621D58C386435CC412692AD6\n12000 8D40621D58C386435CC412692AD6\n22000 8D40621D58C386435CC412692AD6\n32001 8D40621D58C386435CC412692AD6\n32001 8D40621D58C382D690C8AC2863A7\n";
+    let text =
+        "1 waiting 40621D\n2 fix 40621D 52.2657802 3.9389125\n3 followed 40621D 52.2657802 3.9389125\n4 followed 40621D 52.2657802 3.9389125\n5 waiting 40621D\n6 fix 40621D 52.2572021 3.9193726\n";
     assert_tracked(&rt, rt.alloc(), with(DEFAULT), log, Status::Good, text);
 }
 
@@ -97,8 +99,10 @@ fn decodes_on_the_ground_with_a_site(rt: HostRuntime) {
 
 #[test]
 fn refuses_lines(rt: HostRuntime) {
-    let back = "0 8D40621D58C382D690C8AC2863A7\n9000 8D40621D58C382D690C8AC2863A7\n15000 8D40621D58C386435CC412692AD6\n14999 8D40621D58C382D690C8AC2863A7\n";
-    let full = "0 8D40621D58C382D690C8AC2863A7\n10000 8C4841753AAB238733C8CD4020B1\n10001 8C4841753AAB238733C8CD4020B1\n10001 8C4841753A8A35323FAEBDAC702D\n";
+    let back =
+        "0 8D40621D58C382D690C8AC2863A7\n9000 8D40621D58C382D690C8AC2863A7\n15000 8D40621D58C386435CC412692AD6\n14999 8D40621D58C382D690C8AC2863A7\n";
+    let full =
+        "0 8D40621D58C382D690C8AC2863A7\n10000 8C4841753AAB238733C8CD4020B1\n10001 8C4841753AAB238733C8CD4020B1\n10001 8C4841753A8A35323FAEBDAC702D\n";
     let rows = [
         (
             DEFAULT,
@@ -143,7 +147,10 @@ fn refuses_arguments_in_order(rt: HostRuntime) {
         (["0", "x", "x", ""], "limit is 0\n"),
         (["4294967295", "x", "x", ""], "bad window\n"),
         (["1", "18446744073709551616", "x", ""], "bad window\n"),
-        (["1", "18446744073709551615", "x", ""], "site needs lat and lon\n"),
+        (
+            ["1", "18446744073709551615", "x", ""],
+            "site needs lat and lon\n",
+        ),
         (["", "0", "x", "x"], "lat not a number\n"),
         (["", "", "0", "180.1"], "lon out of range\n"),
     ];
@@ -152,10 +159,10 @@ fn refuses_arguments_in_order(rt: HostRuntime) {
     }
 }
 
-const LOG: &[u8] = b"0 8D40621D58C382D690C8AC2863A7\n1 8C4841753AAB238733C8CD4020B1\n2 8D40621D58C386435CC412692AD6\n";
+const LOG: &[u8] =
+    b"0 8D40621D58C382D690C8AC2863A7\n1 8C4841753AAB238733C8CD4020B1\n2 8D40621D58C386435CC412692AD6\n";
 
-const ANSWERS: &[u8] =
-    b"1 waiting 40621D\n2 waiting 484175\n3 fix 40621D 52.2657802 3.9389125\n";
+const ANSWERS: &[u8] = b"1 waiting 40621D\n2 waiting 484175\n3 fix 40621D 52.2657802 3.9389125\n";
 
 // How many bytes of the answers, how many addresses and which last moment there are after so many lines.
 const AFTER: [(usize, usize, Option<u64>); 4] = [

@@ -1,4 +1,4 @@
-use Rattle.std.proofs.Common.{◌≡◌, ◌∙◌, Some, Ok, Result, ap, sym, subst}
+use Rattle.std.proofs.Common.{◌≡◌, ◌∙◌, Some, Ok, ap, sym, subst}
 use Rattle.sq_lines.specs.Content.{Answer, answer_by}
 use Rattle.sq_text.specs.declared.timed.TimedSquitter.{TimedSquitter}
 use Rattle.sq_track.specs.Replies.{IsReply}
