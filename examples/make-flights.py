@@ -1,0 +1,62 @@
+#!/usr/bin/env python3
+"""make-flights.py PROGRAM: writes flights.log and flights.truth, a log of five flights and where they truly were.
+
+Each line of the log is a moment in milliseconds and a frame; the frame of each position is made by PROGRAM's `encode`. Each
+line of the truth is the number of a line of the log, its address, and the position that was encoded. Lines of the log that are
+damaged, or that come after later ones, are not in the truth."""
+import os
+import subprocess
+import sys
+
+STEP = 500  # milliseconds between the frames of one aircraft
+
+
+def track(address, start, count, lat, lon, north, east, kind="air", silent=range(0)):
+    """Positions of one aircraft in ten-millionths of a degree, so many to the north and to the east a step."""
+    for step in range(count):
+        if step not in silent:
+            place = (lat + north * step, (lon + east * step + 1_800_000_000) % 3_600_000_000 - 1_800_000_000)
+            yield start + step * STEP, address, kind, "odd" if step % 2 else "even", place
+
+
+def flights():
+    # over a border of zone counts, at 10.4704713 degrees
+    yield from track("4B1001", 0, 400, 104_000_000, 80_000_000, 4_001, 1_003)
+    # near the north pole, where degrees of longitude are short
+    yield from track("A00002", 120, 400, 885_000_000, -1_200_000_000, 1_501, 400_007)
+    # over 180 degrees
+    yield from track("7C0003", 240, 400, -170_000_000, 1_797_000_000, -2_003, 15_011)
+    # taxies, takes off and flies away
+    yield from track("484004", 310, 200, 523_080_000, 47_630_000, 211, 307, kind="ground")
+    yield from track("484004", 310 + 200 * STEP, 200, 523_122_200, 47_691_400, 5_003, 9_001)
+    # falls silent for longer than the window, twice
+    yield from track("3C0005", 430, 460, 480_000_000, 110_000_000, -3_001, 12_007, silent=[*range(120, 160), *range(300, 330)])
+
+
+def degrees(ten_millionths):
+    whole, part = divmod(abs(ten_millionths), 10_000_000)
+    return f"{'-' if ten_millionths < 0 else ''}{whole}.{part:07}"
+
+
+def main():
+    program = sys.argv[1]
+    here = os.path.dirname(os.path.abspath(__file__))
+    with open(f"{here}/flights.log", "w") as log, open(f"{here}/flights.truth", "w") as truth:
+        number = 0
+        for count, (moment, address, kind, parity, (lat, lon)) in enumerate(sorted(flights())):
+            words = [f"--kind={kind}", f"--parity={parity}", f"--address={address}"]
+            words += [f"--lat={degrees(lat)}", f"--lon={degrees(lon)}"]
+            frame = subprocess.run([program, "encode", *words], capture_output=True, text=True, check=True).stdout.strip()
+            number += 1
+            log.write(f"{moment} *{frame};\n")
+            truth.write(f"{number} {address} {degrees(lat)} {degrees(lon)}\n")
+            if count % 97 == 50:  # the same frame with a damaged digit
+                number += 1
+                log.write(f"{moment} *{frame[:20]}{'0' if frame[20] != '0' else '1'}{frame[21:]};\n")
+            if count % 151 == 100:  # and once more with a moment that has passed
+                number += 1
+                log.write(f"{moment - 3 * STEP} *{frame};\n")
+
+
+if __name__ == "__main__":
+    main()
