@@ -34,8 +34,9 @@ echo "track: $(wc -l < "$work/one") answers, none differs; $shards shards took $
 
 cut -d ' ' -f 2 "$work/log" > "$work/frames"
 start=$(now)
-"$program" check < "$work/frames" | cut -d ' ' -f 2- > "$work/one"
+"$program" check < "$work/frames" > "$work/whole"
 one=$(($(now) - start))
+cut -d ' ' -f 2- "$work/whole" > "$work/one"
 split -n "l/$shards" "$work/frames" "$work/part."
 start=$(now)
 ls "$work"/part.* | xargs -P "$shards" -I{} sh -c "$program check < {} > {}.answers"
