@@ -3,12 +3,12 @@ use super::*;
 use std::alloc::Global;
 use std::process::Abort;
 
-// The exit status of a command line, its output and what it told.
+// The exit status of a command line, its output and what it reported.
 #[derive(Drop)]
 struct Outcome {
     status: u8,
     written: Vec<u8>,
-    told: Vec<u8>,
+    reported: Vec<u8>,
 }
 
 fn outcome_of(alloc: Global, words: &[&str], text: &[u8]) -> Outcome {
@@ -19,7 +19,7 @@ fn outcome_of(alloc: Global, words: &[&str], text: &[u8]) -> Outcome {
     Outcome {
         status,
         written: output.into_inner(),
-        told: faults.into_inner(),
+        reported: faults.into_inner(),
     }
 }
 
@@ -27,24 +27,16 @@ fn outcome_of(alloc: Global, words: &[&str], text: &[u8]) -> Outcome {
 fn assert_written(rt: &impl Abort, alloc: Global, words: &[&str], text: &str) {
     let ran = outcome_of(alloc, words, b"");
     assert!(rt; ran.written.as_slice() == text.as_bytes(), "{text}");
-    assert!(rt; ran.told.is_empty());
+    assert!(rt; ran.reported.is_empty());
     assert_eq!(rt; ran.status, 0);
 }
 
 // Asserts the line that a command line is refused with, and the status.
-fn assert_told(rt: &impl Abort, alloc: Global, words: &[&str], status: u8, text: &str) {
+fn assert_reported(rt: &impl Abort, alloc: Global, words: &[&str], status: u8, text: &str) {
     let ran = outcome_of(alloc, words, b"");
-    assert!(rt; ran.told.as_slice() == text.as_bytes(), "{text}");
+    assert!(rt; ran.reported.as_slice() == text.as_bytes(), "{text}");
     assert!(rt; ran.written.is_empty());
     assert_eq!(rt; ran.status, status);
-}
-
-// Asserts that clap refuses a command line, with a text of its own.
-fn assert_refused(rt: &impl Abort, alloc: Global, words: &[&str]) {
-    let ran = outcome_of(alloc, words, b"");
-    assert_eq!(rt; ran.status, 2);
-    assert!(rt; !ran.told.is_empty());
-    assert!(rt; ran.written.is_empty());
 }
 
 #[test]
@@ -121,24 +113,57 @@ fn checks_lines(rt: HostRuntime) {
     assert!(rt;
         ran.written.as_slice() == b"1 ok 40621D air even 93000 51372\n2 parity 000001\n".as_slice()
     );
-    assert!(rt; ran.told.is_empty());
+    assert!(rt; ran.reported.is_empty());
     assert_eq!(rt; ran.status, 1);
 }
 
 #[test]
-fn tells_faults(rt: HostRuntime) {
-    let words = ["squitter", "show", "8D40621D58C382D690C8AC2863A6"];
-    assert_told(&rt, rt.alloc(), &words, 1, "parity 000001\n");
-    let words = ["squitter", "pair", "zz", "8D4", "--lat=51.990"];
-    assert_told(&rt, rt.alloc(), &words, 2, "site needs lat and lon\n");
+fn tracks_lines(rt: HostRuntime) {
+    let text = b"0 8D40621D58C382D690C8AC2863A7\n10000 8D40621D58C386435CC412692AD6\n";
+    let ran = outcome_of(rt.alloc(), &["squitter", "track", "--limit=1"], text);
+    assert!(rt;
+        ran.written.as_slice()
+            == b"1 waiting 40621D\n2 fix 40621D 52.2657802 3.9389125\n".as_slice()
+    );
+    assert!(rt; ran.reported.is_empty());
+    assert_eq!(rt; ran.status, 0);
 }
 
 #[test]
-fn refuses_command_lines(rt: HostRuntime) {
-    assert_refused(&rt, rt.alloc(), &["squitter", "show"]);
-    assert_refused(&rt, rt.alloc(), &["squitter"]);
-    assert_refused(&rt, rt.alloc(), &["squitter", "fly"]);
-    assert_refused(&rt, rt.alloc(), &["squitter", "--help"]);
+fn reports_faults(rt: HostRuntime) {
+    let words = ["squitter", "show", "8D40621D58C382D690C8AC2863A6"];
+    assert_reported(&rt, rt.alloc(), &words, 1, "parity 000001\n");
+    let words = ["squitter", "pair", "zz", "8D4", "--lat=51.990"];
+    assert_reported(&rt, rt.alloc(), &words, 2, "site needs lat and lon\n");
+}
+
+#[test]
+fn reports_the_text_of_clap(rt: HostRuntime) {
+    let rows = [
+        (
+            ["squitter"].as_slice(),
+            "error: 'squitter' requires a subcommand but one was not provided\n  [subcommands: show, encode, local, pair, check, track, help]\n\nUsage: squitter <COMMAND>\n\nFor more information, try '--help'.\n",
+        ),
+        (
+            ["squitter", "fly"].as_slice(),
+            "error: unrecognized subcommand 'fly'\n\nUsage: squitter <COMMAND>\n\nFor more information, try '--help'.\n",
+        ),
+        (
+            ["squitter", "local", "zz", "--lat", "0"].as_slice(),
+            "error: the following required arguments were not provided:\n  --lon <lon>\n\nUsage: squitter local --lat <lat> --lon <lon> <FRAME>\n\nFor more information, try '--help'.\n",
+        ),
+        (
+            ["squitter", "check", "--fast"].as_slice(),
+            "error: unexpected argument '--fast' found\n\nUsage: squitter check\n\nFor more information, try '--help'.\n",
+        ),
+        (
+            ["squitter", "show", "--help"].as_slice(),
+            "Usage: squitter show <FRAME>\n\nArguments:\n  <FRAME>  \n\nOptions:\n  -h, --help  Print help\n",
+        ),
+    ];
+    for (words, text) in rows {
+        assert_reported(&rt, rt.alloc(), words, 2, text);
+    }
 }
 
 #[test]
