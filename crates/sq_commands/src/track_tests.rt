@@ -165,12 +165,14 @@ const LOG: &[u8] =
 const ANSWERS: &[u8] = b"1 waiting 40621D\n2 waiting 484175\n3 fix 40621D 52.2657802 3.9389125\n";
 
 // How many bytes of the answers, how many addresses and which last moment there are after so many lines.
-const AFTER: [(usize, usize, Option<u64>); 4] = [
-    (0, 0, None),
-    (17, 1, Some(0)),
-    (34, 2, Some(1)),
-    (68, 2, Some(2)),
-];
+fn after(lines: usize) -> (usize, usize, Option<u64>) {
+    match lines {
+        0 => (0, 0, None),
+        1 => (17, 1, Some(0)),
+        2 => (34, 2, Some(1)),
+        _ => (68, 2, Some(2)),
+    }
+}
 
 // The moment of the address that was heard last.
 fn newest(tracker: &Tracker) -> Option<u64> {
@@ -212,8 +214,9 @@ fn hears_what_was_read_before_a_fault(rt: HostRuntime) {
         let mut sink = Writing::new(Vec::new(rt.alloc()));
         let ended = run_track(&mut source, &mut sink, &mut tracker);
         assert!(rt; ended == Err(RunFault::Read));
-        let (written, addresses, moment) = AFTER[lines_in(LOG, fails_at).min(3)];
-        assert!(rt; sink.into_inner().as_slice() == &ANSWERS[..written]);
+        let (written, addresses, moment) = after(lines_in(LOG, fails_at));
+        let front = ANSWERS.get(..written).unwrap_or(b"");
+        assert!(rt; sink.into_inner().as_slice() == front);
         assert_eq!(rt; tracker.len(), addresses);
         assert!(rt; newest(&tracker) == moment);
     }
