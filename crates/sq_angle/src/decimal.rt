@@ -1,5 +1,5 @@
 //! An angle as text with seven decimals.
-ghost use Rattle.std.specs.Prelude.{◌≡◌, ◌+◌, ◌*◌, ◌^◌, ◌<◌, ◌≤◌, [], ◌∷◌, ◌++◌, pos, decimal};
+ghost use Rattle.std.specs.Prelude.{◌≡◌, ◌+◌, ◌*◌, ◌^◌, ◌/◌, ◌<◌, ◌≤◌, [], ◌∷◌, ◌++◌, pos, decimal};
 ghost use Rattle.arrayvec.specs.ArrayString.{array_string_len};
 ghost use Rattle.sq_angle.specs.Angle.{degrees};
 ghost use Rattle.sq_angle.specs.Decimal.{IsDecimal7, fixed_digits, ten_millionth};
@@ -33,8 +33,19 @@ impl Angle {
         ensures small { result < 400 * 10 ^ 7 }
     {
         let scaled = 20_000_000 * u128::from(self.num().unsigned_abs());
-        let den = u128::from(self.den());
-        ((scaled + den) / (2 * den)) as u64
+        let den = self.den();
+        quotient(scaled + u128::from(den), 2 * den) as u64
+    }
+}
+
+// The quotient, rounded down. 64 bits divide faster, and hold what the points of a grid have.
+fn quotient(value: u128, divisor: u64) -> u128
+    requires { 0 < divisor }
+    ensures { result ≡ value / divisor }
+{
+    match u64::try_from(value) {
+        Ok(value) => u128::from(value / divisor),
+        Err(_) => value / u128::from(divisor),
     }
 }
 

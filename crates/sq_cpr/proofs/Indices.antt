@@ -1,10 +1,12 @@
 -- The index that a window leaves, over plain numbers.
-use Rattle.std.proofs.Common.{◌≡◌, ℕ, ◌*◌, ◌<◌, ◌≤◌, ℤ, pos, neg_ℤ, ◌+ℤ◌, ◌-ℤ◌, ◌*ℤ◌, ◌≤ℤ◌, unsigned_abs, arith, ◌^◌, mul-le-mul_right, le_of_mul-le-mul_right}
+use Rattle.std.proofs.Common.{◌≡◌, ℕ, ◌*◌, ◌<◌, ◌≤◌, ℤ, pos, neg_ℤ, ◌+ℤ◌, ◌-ℤ◌, ◌*ℤ◌, ◌≤ℤ◌, ◌<ℤ◌, unsigned_abs, arith, ◌^◌, subst, mul-le-mul_right, le_of_mul-le-mul_right}
 use Rattle.std.proofs.Math.IntN.{negsuc}
 use Rattle.std.proofs.lemmas.Int.{ints, unsigned_abs-mul}
+use Rattle.std.specs.Int.{int_div_euclid}
 use Rattle.sq_angle.specs.Fraction.{Fraction, IsWithin}
 use Rattle.sq_angle.specs.Scale.{scales}
 use Rattle.sq_angle.proofs.Sizes.{mul_pos, scaled_size}
+use Rattle.sq_angle.proofs.Windows.{quotient_down_parts}
 use Rattle.sq_cpr.specs.Grid.{codes_of_zone}
 use Rattle.sq_cpr.specs.Multiplied.{LiesWithin}
 
@@ -31,3 +33,11 @@ index_small count degrees zones index r c z d p w h =
     let product : unsigned_abs index * unit ≤ 1422000000 * unit = omega (arith, unsigned_abs-mul (pos unit) index) in
     let small : unsigned_abs index ≤ 1422000000 = le_of_mul-le-mul_right product positive in
     omega arith
+
+-- the quotient by a positive number, rounded down
+pub quotient_parts : (value q divisor : ℤ) → pos 0 <ℤ divisor → q ≡ int_div_euclid value divisor →
+    ((divisor *ℤ q) ≤ℤ value) × (value <ℤ (divisor *ℤ q +ℤ divisor)) × (unsigned_abs q ≤ unsigned_abs value)
+quotient_parts value q divisor some e =
+    let positive : pos (unsigned_abs divisor) ≡ divisor = omega (arith, ints) in
+    subst (λ d. q ≡ int_div_euclid value d → ((d *ℤ q) ≤ℤ value) × (value <ℤ (d *ℤ q +ℤ d)) × (unsigned_abs q ≤ unsigned_abs value)) positive
+    (quotient_down_parts value q (unsigned_abs divisor) (omega (arith, ints))) e
