@@ -81,7 +81,6 @@ fn hear(
         Err(TrackFault::Memory) => Err(OutOfMemory),
         Err(TrackFault::MomentBack(last)) => Ok(Err(LineFault::MomentBack(last))),
         Err(TrackFault::Full) => Ok(Err(LineFault::Full)),
-        // a tracker has a limit
-        Err(TrackFault::NoLimit) => Ok(Err(LineFault::Full)),
+        Err(TrackFault::NoLimit) => unreachable!(),
     }
 }
