@@ -1,5 +1,5 @@
 -- Words that are no argument.
-use Rattle.std.proofs.Common.{◌≡◌, ◌+◌, ◌*◌, ◌<◌, ◌≤◌, ◌^◌, ℕ, ℤ, Bool, true, false, List, ◌∷◌, ◌++◌, length, Option, Some, None, Result, Ok, Err, MatchResult, IsSome, refl, sym, ◌∙◌, subst, arith, ap₂}
+use Rattle.std.proofs.Common.{◌≡◌, ◌+◌, ◌*◌, ◌<◌, ◌≤◌, ◌^◌, ℕ, ℤ, Bool, true, false, List, ◌∷◌, ◌++◌, length, Option, Some, None, Result, Ok, Err, MatchResult, IsSome, refl, sym, ◌∙◌, subst, arith, ap, ap₂}
 use Rattle.std.specs.Prelude.{◌↔◌}
 use Rattle.std.proofs.Math.Nat.{pow-le-pow_right}
 use Rattle.sq_bits.proofs.Digits.{pow_byte}
@@ -50,7 +50,8 @@ same_sign word digits false false rest x y p q = (refl, sym x ∙ y)
 pub one_feet : (word : List ℕ) (feet other : ℤ) → IsFeetText word feet → IsFeetText word other → feet ≡ other
 one_feet word feet other x y =
     let same = same_sign word x.digits x.negative y.negative y.digits x.whole y.whole (unsigned word feet x) (unsigned word other y) in
-    x.value ∙ ap₂ (λ (s : Bool) (ds : List ℕ). signed s (digits_value 10 ds)) same.0 same.1 ∙ sym y.value
+    let number : x.number ≡ y.number = x.of_digits.value ∙ ap (digits_value 10) same.1 ∙ sym y.of_digits.value in
+    x.value ∙ ap₂ signed same.0 number ∙ sym y.value
   where
     by : (word : List ℕ) (negative : Bool) (digits : List ℕ) → word ≡ minus negative ++ digits → AllByRecursion IsAsciiDigit digits
         → OnFalse negative ((r : List ℕ) → ¬ (word ≡ 45 ∷ r))
@@ -60,7 +61,7 @@ one_feet word feet other x y =
         omega (arith, digit.0)
 
     unsigned : (word : List ℕ) (feet : ℤ) → (x : IsFeetText word feet) → OnFalse x.negative ((r : List ℕ) → ¬ (word ≡ 45 ∷ r))
-    unsigned word feet x = by word x.negative x.digits x.whole x.each
+    unsigned word feet x = by word x.negative x.digits x.whole x.of_digits.each
 
 pub no_feet : (word : List ℕ) (feet : ℤ) (result : Option ℕ) (field : ℕ) → (IsSome result ↔ HasField feet) → result ≡ None
     → IsFeetText word feet → IsFeet word field → ⊥

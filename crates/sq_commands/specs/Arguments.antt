@@ -28,15 +28,21 @@ kind_name Ground = codes "ground"
 abbrev pub IsAddress : List ℕ → ℕ → Type 0
 IsAddress word address = (bytes : List ℕ) × (length bytes ≡ 3) × (decode_of word ≡ Ok bytes) × (address ≡ number_from_digits 256 bytes)
 
+-- one to five digits of a number
+pub record IsFiveDigits (digits : List ℕ) (number : ℕ) : Type 0 where
+  pub some : 1 ≤ length digits
+  pub five : length digits ≤ 5
+  pub each : AllByRecursion IsAsciiDigit digits
+  pub value : number ≡ digits_value 10 digits
+
 -- an optional `-` and one to five digits
 pub record IsFeetText (word : List ℕ) (feet : ℤ) : Type 0 where
   pub negative : Bool
   pub digits : List ℕ
+  pub number : ℕ
   pub whole : word ≡ minus negative ++ digits
-  pub some : 1 ≤ length digits
-  pub five : length digits ≤ 5
-  pub each : AllByRecursion IsAsciiDigit digits
-  pub value : feet ≡ signed negative (digits_value 10 digits)
+  pub of_digits : IsFiveDigits digits number
+  pub value : feet ≡ signed negative number
 
 -- the field of so many feet
 abbrev pub IsFeet : List ℕ → ℕ → Type 0

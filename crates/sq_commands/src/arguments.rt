@@ -1,5 +1,5 @@
 //! The arguments of the commands, read from their words.
-ghost use Rattle.std.specs.Prelude.{◌≡◌, ◌≢◌, ◌≤◌, ◌<◌, ◌^◌, ◌++◌, ◌∷◌, List, ℤ, ℕ, IfErr, IfOk, OnErr, IsTrue, ◌↔◌, codes, length, option_map, MatchOption, Some};
+ghost use Rattle.std.specs.Prelude.{◌≡◌, ◌≢◌, ◌≤◌, ◌<◌, ◌^◌, ◌++◌, ◌∷◌, List, ℤ, ℕ, IfErr, IfOk, IfSome, OnErr, codes, length, option_map, MatchOption, Some};
 ghost use Rattle.std.specs.Bool.{OnFalse};
 ghost use Rattle.std.specs.Char.{IsAsciiDigit};
 ghost use Rattle.std.specs.Int.Digits.{number_from_digits};
@@ -15,7 +15,7 @@ ghost use Rattle.sq_text.specs.Show.{parity_name};
 ghost use Rattle.sq_commands.specs.declared.arguments.Kind.{Kind};
 ghost use Rattle.sq_commands.specs.Encode.{IsAltitudeOf};
 ghost use Rattle.sq_commands.specs.Faults.{argument_text};
-ghost use Rattle.sq_commands.specs.Arguments.{IsAddress, IsAngleFault, IsFeet, IsFeetText, IsPositionReading, IsSiteReading, kind_name};
+ghost use Rattle.sq_commands.specs.Arguments.{IsAddress, IsAngleFault, IsFeet, IsFeetText, IsFiveDigits, IsPositionReading, IsSiteReading, kind_name};
 ghost use Rattle.sq_commands.specs.Track.{IsLimit, IsTrackReading, IsWindow};
 
 use sq_angle::{Angle, AngleFault, Position};
@@ -164,10 +164,10 @@ fn feet_of(word: &str) -> Option<i32>
     ensures { MatchOption result ((feet : ℤ) → ¬ IsFeetText word.now feet) (IsFeetText word.now) }
 {
     let (negative, digits) = without_minus(word);
-    if digits.is_empty() || digits.len() > 5 || !are_digits(digits) {
-        return None;
+    match number_of(digits) {
+        Some(number) => Some(signed(negative, number)),
+        None => None,
     }
-    Some(signed(negative, number_of(digits)))
 }
 
 // Whether the word begins with `-`, and what is left of it.
@@ -181,21 +181,15 @@ fn without_minus(word: &str) -> (bool, &str)
     }
 }
 
-// Whether each character is an ASCII digit.
-fn are_digits(text: &str) -> bool
-    ensures { IsTrue result ↔ AllByRecursion IsAsciiDigit text.now }
+// The number of one to five digits.
+fn number_of(digits: &str) -> Option<u64>
+    ensures number { MatchOption result ((n : ℕ) → ¬ IsFiveDigits digits.now n) (IsFiveDigits digits.now) }
+    ensures small { IfSome result (λ n. n < 10 ^ 5) }
 {
-    text.bytes().all(|byte| byte.is_ascii_digit())
-}
-
-// The number that at most five digits write.
-fn number_of(digits: &str) -> u64
-    requires digits { AllByRecursion IsAsciiDigit digits.now }
-    requires short { length digits.now ≤ 5 }
-    ensures value { result ≡ digits_value 10 digits.now }
-    ensures small { result < 10 ^ 5 }
-{
-    digits.parse().unwrap_or(0)
+    match read_moment(digits.as_bytes()) {
+        Some(number) if digits.len() <= 5 => Some(number),
+        _ => None,
+    }
 }
 
 // The number with its sign.

@@ -16,7 +16,7 @@ use sq_lines::{
 use sq_message::Squitter;
 use sq_text::{LineFault, push_summary, read_squitter};
 
-/// Answers each line by itself.
+// Answers each line by itself.
 #[derive(Drop)]
 struct Checking;
 

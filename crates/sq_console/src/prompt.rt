@@ -6,14 +6,14 @@ use std::alloc::{AllocError, Global};
 use std::cell::RefCell;
 use std::io::{BufReader, BufWriter, Read, Write};
 
-/// How many bytes one read may bring.
+// How many bytes one read may bring.
 const INPUT_BYTES: usize = 65536;
 
-/// How many bytes of output wait for a flush at most: more than the input of one read asks for, so
-/// that a file goes through with one write for a read.
+// How many bytes of output wait for a flush at most: more than the input of one read asks for, so
+// that a file goes through with one write for a read.
 const OUTPUT_BYTES: usize = 2 * INPUT_BYTES;
 
-/// A writer with a buffer, and whether a flush of it has failed.
+// A writer with a buffer, and whether a flush of it has failed.
 #[derive(Drop)]
 struct Buffered<W: Write + Drop> {
     writer: BufWriter<W>,
@@ -43,7 +43,7 @@ impl<W: Write + Drop> SharedOutput<W> {
         })
     }
 
-    /// Writes what is in the buffer. A failure is marked, for the next put or finish to tell.
+    // Writes what is in the buffer. A failure is marked, for the next put or finish to tell.
     fn flush(&self) {
         if let Ok(mut buffered) = self.buffered.try_borrow_mut() {
             if buffered.writer.flush().is_err() {

@@ -113,7 +113,7 @@ impl Cutter {
     }
 }
 
-/// Where the first line feed stands, or the length where there is none.
+// Where the first line feed stands, or the length where there is none.
 fn feed_place(piece: &[u8]) -> usize
     ensures place { result ≡ position_or_len is_feed piece.now }
     ensures fits { result ≤ length piece.now }

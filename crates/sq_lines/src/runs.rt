@@ -41,7 +41,7 @@ impl LineRun {
         }
     }
 
-    /// Answers the held line.
+    // Answers the held line.
     fn answer_line<A: Answering, K: Sink>(
         &mut self,
         state: &mut A::State,
@@ -76,8 +76,8 @@ impl LineRun {
         }
     }
 
-    /// Takes the bytes up to and including the first line feed, or all of them, and answers the line
-    /// that this completes.
+    // Takes the bytes up to and including the first line feed, or all of them, and answers the line
+    // that this completes.
     fn answer_front<A: Answering, K: Sink>(
         &mut self,
         state: &mut A::State,
@@ -108,7 +108,7 @@ impl LineRun {
         Ok(count)
     }
 
-    /// Takes the whole piece, whose line feeds are marked.
+    // Takes the whole piece, whose line feeds are marked.
     fn answer_piece<A: Answering, K: Sink>(
         &mut self,
         state: &mut A::State,

@@ -21,7 +21,7 @@ impl GroundHead {
         ensures variant { IsSome result ↔ ((ca < 8) × (address < 2 ^ 24)) }
         ensures value { IfSome result (λ head. ground_head_parts head ≡ record { ca = ca; address = address; fields = fields }) }
     {
-        if ca < 8 && address < 1 << 24 {
+        if ca < 8 && address < ADDRESSES {
             Some(GroundHead {
                 ca,
                 address,

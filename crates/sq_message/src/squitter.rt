@@ -32,7 +32,7 @@ impl Squitter {
         ensures variant { IsSome result ↔ ((ca < 8) × (address < 2 ^ 24)) }
         ensures value { IfSome result (λ squitter. squitter_parts squitter ≡ record { ca = ca; address = address; me = me }) }
     {
-        if ca < 8 && address < 1 << 24 {
+        if ca < 8 && address < ADDRESSES {
             Some(Squitter { ca, address, me })
         } else {
             None

@@ -41,7 +41,7 @@ impl Model for Contacts {
     ghost invariant = { λ t. IsTied t.table.entries (heard_order t.order) × IsUnbounded t.order };
 }
 
-/// The longest unheard address.
+// The longest unheard address.
 fn first(order: &Option<LruCache<u32, ()>>) -> Option<u32>
     ensures { result ≡ slice_get (heard_order order.now) 0 }
 {
@@ -54,7 +54,7 @@ fn first(order: &Option<LruCache<u32, ()>>) -> Option<u32>
     }
 }
 
-/// The address at an index, the longest unheard first.
+// The address at an index, the longest unheard first.
 fn nth(order: &Option<LruCache<u32, ()>>, index: usize) -> Option<u32>
     ensures { result ≡ slice_get (heard_order order.now) index }
 {
@@ -64,7 +64,7 @@ fn nth(order: &Option<LruCache<u32, ()>>, index: usize) -> Option<u32>
     }
 }
 
-/// The key at an index from the least recently used.
+// The key at an index from the least recently used.
 fn nth_last(order: &LruCache<u32, ()>, index: usize) -> Option<u32>
     ensures { result ≡ slice_get (reverse (keys_of order.now.entries)) index }
 {
@@ -80,7 +80,7 @@ fn nth_last(order: &LruCache<u32, ()>, index: usize) -> Option<u32>
     }
 }
 
-/// Puts an address at the end. An address that is there takes no memory.
+// Puts an address at the end. An address that is there takes no memory.
 fn touch(
     alloc: Global,
     order: &mut Option<LruCache<u32, ()>>,
@@ -103,7 +103,7 @@ fn touch(
     }
 }
 
-/// Makes an address the most recently used.
+// Makes an address the most recently used.
 #[inline(always)]
 fn put_first(order: &mut LruCache<u32, ()>, address: u32) -> Result<(), AllocError>
     requires { order.old.cap ≡ 2 ^ 64 - 1 }
@@ -121,7 +121,7 @@ fn put_first(order: &mut LruCache<u32, ()>, address: u32) -> Result<(), AllocErr
     }
 }
 
-/// Takes an address out.
+// Takes an address out.
 fn forget(order: &mut Option<LruCache<u32, ()>>, address: u32)
     requires { IsUnbounded order.old }
     ensures order { heard_order order.new ≡ others_than address (heard_order order.old) }
@@ -133,7 +133,7 @@ fn forget(order: &mut Option<LruCache<u32, ()>>, address: u32)
     }
 }
 
-/// Makes room for an address. An address that is there takes no memory.
+// Makes room for an address. An address that is there takes no memory.
 fn make_room(table: &mut IndexMap<u32, Contact>, address: u32) -> Result<(), AllocError>
     ensures same { IsUnchanged table.old table.new }
     ensures ok { OnOk result (get nat_eq table.old address ≡ None → 0 < spare table.new) }
@@ -145,7 +145,7 @@ fn make_room(table: &mut IndexMap<u32, Contact>, address: u32) -> Result<(), All
     table.reserve(1)
 }
 
-/// Hears a squitter of an address of the table, in its place there.
+// Hears a squitter of an address of the table, in its place there.
 #[inline(always)]
 fn hear_known(
     table: &mut IndexMap<u32, Contact>,
@@ -169,7 +169,7 @@ fn hear_known(
     }
 }
 
-/// What is kept of an address before its first position.
+// What is kept of an address before its first position.
 fn blank() -> Contact
     ensures { result ≡ blank_contact }
 {

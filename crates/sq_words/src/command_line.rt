@@ -17,7 +17,7 @@ pub(crate) fn squitter_command<'a>(alloc: Global) -> Result<Command<'a>, AllocEr
         .subcommand(track_command(alloc)?)
 }
 
-/// The commands on one frame, and that a command is wanted.
+// The commands on one frame, and that a command is wanted.
 fn frame_commands<'a>(alloc: Global) -> Result<Command<'a>, AllocError>
     ensures { IfOk result (λ c. app_of c ≡ frame_program) }
 {
@@ -45,7 +45,7 @@ fn encode_command<'a>(alloc: Global) -> Result<Command<'a>, AllocError>
         .arg(required_option(alloc, "lon"))
 }
 
-/// The options of `encode` up to the address.
+// The options of `encode` up to the address.
 fn encode_head<'a>(alloc: Global) -> Result<Command<'a>, AllocError>
     ensures app { IfOk result (λ c. app_of c ≡ encode_first) }
     ensures own { IfOk result (λ c. (fields_of c).has_globals ≡ false) }
@@ -88,7 +88,7 @@ fn track_command<'a>(alloc: Global) -> Result<Command<'a>, AllocError>
         .arg(option(alloc, "lon"))
 }
 
-/// A word at its place.
+// A word at its place.
 fn argument<'a>(alloc: Global, name: &'a str) -> Arg<'a>
     ensures rule { rule_of result ≡ required (new_rule name.entry.now) }
     ensures here { result.global ≡ false }
@@ -96,7 +96,7 @@ fn argument<'a>(alloc: Global, name: &'a str) -> Arg<'a>
     Arg::new(alloc, name).required(true)
 }
 
-/// `--name VALUE` or `--name=VALUE`, where it is given.
+// `--name VALUE` or `--name=VALUE`, where it is given.
 fn option<'a>(alloc: Global, name: &'a str) -> Arg<'a>
     ensures rule { rule_of result ≡ option_rule name.entry.now }
     ensures here { result.global ≡ false }
@@ -104,7 +104,7 @@ fn option<'a>(alloc: Global, name: &'a str) -> Arg<'a>
     Arg::new(alloc, name).long(name)
 }
 
-/// `--name VALUE` or `--name=VALUE`, which has to be there.
+// `--name VALUE` or `--name=VALUE`, which has to be there.
 fn required_option<'a>(alloc: Global, name: &'a str) -> Arg<'a>
     ensures rule { rule_of result ≡ required (option_rule name.entry.now) }
     ensures here { result.global ≡ false }

@@ -53,7 +53,7 @@ pub fn read_request<'a>(alloc: Global, words: &'a [&'a str]) -> Result<Request<'
     }
 }
 
-/// Memory, or clap's text.
+// Memory, or clap's text.
 fn refusal_of(alloc: Global, error: &Error) -> Refusal
     ensures { (text : _) → result ≡ Refusal.Words text → kind_of error.now ≢ ErrorKind.OutOfMemory }
 {

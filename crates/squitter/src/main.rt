@@ -5,7 +5,7 @@ use sq_console::{PromptInput, PromptOutput, SharedOutput, Trouble, arguments};
 use sq_tool::{Sink, Writing, run};
 use std::process::ExitCode;
 
-/// How often the program reads from its input at most.
+// How often the program reads from its input at most.
 const GETS: u64 = 1_000_000_000_000;
 
 fn main(rt: HostRuntime) -> ExitCode {

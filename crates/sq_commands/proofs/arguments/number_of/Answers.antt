@@ -1,13 +1,30 @@
-use Rattle.std.proofs.Common.{◌∙◌, arith, ◌≤◌, ◌^◌, length}
+use Rattle.std.proofs.Common.{◌≡◌, ◌≤◌, ◌<◌, ◌^◌, ℕ, List, length, arith, subst, sym}
 use Rattle.std.proofs.Math.Nat.{pow-le-pow_right}
-use Rattle.sq_angle.proofs.Texts.{parsed_digits, digits_small}
+use Rattle.std.specs.Char.{IsAsciiDigit}
+use Rattle.std.specs.List.{AllByRecursion}
+use Rattle.std.specs.Str.Parse.{digits_value}
+use Rattle.sq_text.specs.Timed.{IsMomentText}
+use Rattle.sq_angle.proofs.Texts.{digits_small}
 use Rattle.sq_commands.proofs.arguments.number_of.Goals as goal
 
-pub returns-clause-value : goal.returns-clause-value
-returns-clause-value c = c.unwrap_or.ensures ∙ parsed_digits c.args.digits.now c.parse.result c.parse.ensures.value.0 c.requires.digits (omega (arith, c.requires.short))
+five_small : (digits : List ℕ) → AllByRecursion IsAsciiDigit digits → length digits ≤ 5 → digits_value 10 digits < 10 ^ 5
+five_small digits each five =
+    let wide : 10 ^ length digits ≤ 10 ^ 5 = pow-le-pow_right (omega arith) five in
+    omega (arith, wide, digits_small digits each)
 
-pub returns-clause-small : goal.returns-clause-small
-returns-clause-small c =
-    let value = c.unwrap_or.ensures ∙ parsed_digits c.args.digits.now c.parse.result c.parse.ensures.value.0 c.requires.digits (omega (arith, c.requires.short)) in
-    let wide : 10 ^ length c.args.digits.now ≤ 10 ^ 5 = pow-le-pow_right (omega arith) c.requires.short in
-    omega (arith, value, wide, digits_small c.args.digits.now c.requires.digits)
+pub returns-in-Some-clause-small : goal.returns-in-Some-clause-small
+returns-in-Some-clause-small c =
+    let moment : IsMomentText c.args.digits.now c.in-Some.number
+    = subst (λ digits. IsMomentText digits c.in-Some.number) c.as_bytes.ensures.value c.in-Some.ensures.some in
+    omega (arith, moment.value, five_small c.args.digits.now moment.each c.if-digits-le5.true)
+
+pub returns-in_default-2-clause-number : goal.returns-in_default-2-clause-number
+returns-in_default-2-clause-number c n is =
+    let moment : IsMomentText c.args.digits.now n = record {
+          some = is.some;
+          twenty = omega (arith, is.five);
+          each = is.each;
+          value = is.value;
+          small = omega (arith, is.value, five_small c.args.digits.now is.each is.five);
+        } in
+    c.in_default.ensures.none n (subst (λ digits. IsMomentText digits n) (sym c.as_bytes.ensures.value) moment)
