@@ -109,7 +109,10 @@ pub(crate) fn pair_zone(even_zones: u8, odd_zones: u8, even: u32, odd: u32) -> i
 {
     let above = odd_zones as u64 * even as u64;
     let below = even_zones as u64 * odd as u64;
-    quotient_down(above as i128 - below as i128 + 65536, CODES as u128)
+    quotient_down(
+        above as i128 - below as i128 + CODES as i128 / 2,
+        CODES as u128,
+    )
 }
 
 /// The index of a code, so many zones up.

@@ -2,6 +2,7 @@
 ghost use Rattle.std.specs.Prelude.{◌≡◌, ◌<◌, ◌^◌, ◌↔◌, IfSome, IsSome};
 
 use crate::AirFields;
+use crate::squitter::ADDRESSES;
 
 /// All of an airborne position squitter but its place: the capability (CA), the address and the fields.
 #[derive(Clone, Copy, Debug, PartialEq, Eq)]

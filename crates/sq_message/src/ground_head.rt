@@ -2,6 +2,7 @@
 ghost use Rattle.std.specs.Prelude.{◌≡◌, ◌<◌, ◌^◌, ◌↔◌, IfSome, IsSome};
 
 use crate::GroundFields;
+use crate::squitter::ADDRESSES;
 
 /// All of a surface position squitter but its place: the capability (CA), the address and the fields.
 #[derive(Clone, Copy, Debug, PartialEq, Eq)]

@@ -3,6 +3,9 @@ ghost use Rattle.std.specs.Prelude.{◌≡◌, ◌<◌, ◌^◌, ◌↔◌, IfSo
 
 use crate::{Airborne, Other, Surface};
 
+// An address has 24 bits.
+pub(crate) const ADDRESSES: u32 = 1 << 24;
+
 /// The message of a squitter, by its kind.
 #[derive(Clone, Copy, Debug, PartialEq, Eq)]
 pub enum Me {
