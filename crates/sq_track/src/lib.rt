@@ -30,3 +30,5 @@ mod random_tests;
 mod table_tests;
 #[cfg(test)]
 mod tests;
+#[cfg(test)]
+mod world_tests;
