@@ -20,6 +20,10 @@ mod tracking;
 pub use check::run_check;
 pub use program::answer;
 pub use reports::{break_off, report};
+pub use sq_devices::{Sink, Source};
+pub use sq_lines::{RunFault, Tally};
+pub use sq_requests::Request;
+pub use sq_track::Tracker;
 pub use status::Status;
 pub use track::run_track;
 

@@ -5,6 +5,7 @@ use Rattle.std.proofs.lemmas.Int.{ints, unsigned_abs-mul}
 use Rattle.std.specs.Int.{int_div_euclid}
 use Rattle.sq_angle.specs.Fraction.{Fraction, IsWithin}
 use Rattle.sq_angle.specs.Scale.{scales}
+use Rattle.sq_angle.proofs.Rounding.{IsRounded}
 use Rattle.sq_angle.proofs.Sizes.{mul_pos, scaled_size}
 use Rattle.sq_angle.proofs.Windows.{quotient_down_parts}
 use Rattle.sq_cpr.specs.Grid.{codes_of_zone}
@@ -41,3 +42,11 @@ quotient_parts value q divisor some e =
     let positive : pos (unsigned_abs divisor) ≡ divisor = omega (arith, ints) in
     subst (λ d. q ≡ int_div_euclid value d → ((d *ℤ q) ≤ℤ value) × (value <ℤ (d *ℤ q +ℤ d)) × (unsigned_abs q ≤ unsigned_abs value)) positive
     (quotient_down_parts value q (unsigned_abs divisor) (omega (arith, ints))) e
+
+-- The nearest whole number to v over 2 e is small where v is.
+pub rounded_small : (v q : ℤ) (e : ℕ) → 0 < e → unsigned_abs v ≤ 5662310400 * e → IsRounded v e q → unsigned_abs q < 2 ^ 40
+rounded_small v q e some size r =
+    let wide : unsigned_abs (pos (2 * e) *ℤ q) ≤ 5662310403 * e = abs_at_most (pos (2 * e) *ℤ q) (5662310403 * e) (omega (arith, ints, r.from, size)) (omega (arith, ints, r.below, size)) in
+    let product : unsigned_abs q * (2 * e) ≤ 2831155202 * (2 * e) = omega (arith, wide, unsigned_abs-mul (pos (2 * e)) q) in
+    let small : unsigned_abs q ≤ 2831155202 = le_of_mul-le-mul_right product (omega arith) in
+    omega arith

@@ -9,27 +9,9 @@ use crate::code::Code;
 use crate::faults::LocalFault;
 use crate::grid::{GridPoint, angle_at, lat_zones};
 use crate::index::{index_within, on_circle};
-use crate::span::Span;
+use crate::span::{Span, degrees_of, repeats_of};
 use sq_angle::Position;
 use sq_zones::{Parity, lon_zones};
-
-// The degrees of the span.
-pub(crate) fn degrees_of<S: Span>() -> u32
-    ensures value { result ≡ S.DEGREES }
-    ensures some { 0 < result }
-    ensures small { result ≤ 360 }
-{
-    S::DEGREES
-}
-
-// How often the span fits into the circle.
-pub(crate) fn repeats_of<S: Span>() -> u32
-    ensures value { result ≡ S.REPEATS }
-    ensures some { 0 < result }
-    ensures small { result ≤ 360 }
-{
-    S::REPEATS
-}
 
 /// The one point with this code that is near the reference: its latitude lies at most half a latitude zone from the
 /// reference's, its longitude, modulo 360 degrees, at most half a longitude zone, of the zones that the point's own latitude
@@ -57,6 +39,6 @@ pub fn local<S: Span>(
     };
     let zones = lon_zones(&lat, parity);
     let turned = index_within(code.lon() as i128, 1, zones, span, &reference.lon());
-    let lon_index = on_circle(turned, zones, repeats_of::<S>());
+    let lon_index = on_circle(i64::from(turned), zones, repeats_of::<S>());
     Ok(GridPoint::of_parts(parity, lat_index, zones, lon_index))
 }

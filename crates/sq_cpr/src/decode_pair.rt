@@ -11,11 +11,10 @@ ghost use Rattle.sq_cpr.specs.Close.{zones_of as zones_of_count};
 ghost use Rattle.sq_cpr.specs.Pair.{of_parity, AreLatitudes, AreAt, AirPairAnswer, PairAnswer};
 
 use crate::code::Code;
-use crate::decode_local::{degrees_of, repeats_of};
 use crate::faults::PairFault;
 use crate::grid::{GridPoint, angle_at};
 use crate::index::{index_of, index_within, on_circle, pair_zone};
-use crate::span::{Air, Ground, Span};
+use crate::span::{Air, Ground, Span, degrees_of, repeats_of};
 use sq_angle::{Angle, Position};
 use sq_zones::{Parity, zone_count};
 
@@ -133,7 +132,7 @@ fn pair<S: Span>(
     }
     let turned = close_longitude(span, count, newest, even, odd, &place.lon());
     let zones = zones_of(newest, count);
-    let lon_index = on_circle(turned, zones, repeats_of::<S>());
+    let lon_index = on_circle(i64::from(turned), zones, repeats_of::<S>());
     Ok(GridPoint::of_parts(newest, lats.of(newest), zones, lon_index))
 }
 

@@ -9,10 +9,10 @@ ghost use Rattle.sq_cpr.specs.Code.{numbers_of};
 ghost use Rattle.sq_cpr.specs.Grid.{Point, IsGridPoint, IsLatitude, step, circle, lat_zones as lat_zones_of, latitude, longitude, code_of};
 ghost use Rattle.sq_cpr.specs.Rounds.{RoundsTo};
 
-use crate::code::{CODES, Code};
+use crate::code::Code;
 use crate::grid::{GridPoint, angle_at, lat_zones};
-use crate::rounding::{nearest_index, wrapped};
-use crate::span::Span;
+use crate::index::{nearest_index, on_circle};
+use crate::span::{Span, degrees_of, repeats_of};
 use sq_angle::{Angle, Position};
 use sq_zones::{Parity, lon_zones};
 
@@ -63,7 +63,7 @@ fn nearest_latitude<S: Span>(lat: &Angle, parity: Parity) -> i32
     ensures nearest { IsNearest (degrees lat.now) (step S.DEGREES (lat_zones_of parity)) result }
     ensures within { IsLatitude S.DEGREES parity result }
 {
-    nearest_index(lat, S::DEGREES, lat_zones(parity)) as i32
+    nearest_index(lat, degrees_of::<S>(), lat_zones(parity)) as i32
 }
 
 // The index of the circle that stands for the nearest number of longitude steps.
@@ -73,6 +73,6 @@ fn nearest_longitude<S: Span>(lon: &Angle, zones: u8) -> u32
     ensures within { result < circle zones S.REPEATS }
     ensures nearest { (index : ℤ) × IsNearest (degrees lon.now) (step S.DEGREES zones) index × IsCongruent (circle zones S.REPEATS) index (pos result) }
 {
-    let index = nearest_index(lon, S::DEGREES, zones);
-    wrapped(index, u32::from(zones) * CODES as u32 * S::REPEATS)
+    let index = nearest_index(lon, degrees_of::<S>(), zones);
+    on_circle(index, zones, repeats_of::<S>())
 }

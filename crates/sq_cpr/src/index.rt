@@ -1,11 +1,13 @@
-//! Which of the indices of a code is meant: the one within half a window of a reference, or the one of a close pair.
+//! Indices of a grid: the nearest to an angle, and which of those of a code is meant, the one within half a window of a
+//! reference or the one of a close pair.
 //!
 //! All numbers are whole. One function multiplies, divides or subtracts once, so that each fits 128 bits visibly.
 ghost use Rattle.std.specs.Prelude.{◌≡◌, ℕ, ◌*◌, ◌^◌, ◌<◌, ◌≤◌, ℤ, pos, ◌+ℤ◌, ◌-ℤ◌, ◌*ℤ◌, ◌≤ℤ◌, ◌<ℤ◌, neg_ℤ, unsigned_abs};
 ghost use Rattle.sq_angle.specs.Angle.{degrees};
 ghost use Rattle.sq_angle.specs.Fraction.{IsWithin};
+ghost use Rattle.sq_angle.specs.Nearest.{IsNearest};
 ghost use Rattle.sq_angle.specs.Whole.{IsCongruent};
-ghost use Rattle.sq_cpr.specs.Grid.{codes_of_zone, circle};
+ghost use Rattle.sq_cpr.specs.Grid.{codes_of_zone, circle, step};
 ghost use Rattle.sq_cpr.specs.Multiplied.{apart, LiesWithin, IsZone};
 
 use crate::code::CODES;
@@ -125,8 +127,21 @@ pub(crate) fn index_of(code: u32, zone: i128) -> i128
     code as i128 + CODES as i128 * zone
 }
 
-/// The index on the circle of longitude.
-pub(crate) fn on_circle(index: i32, zones: u8, repeats: u32) -> u32
+// The nearest whole number of steps, of which `zones * 2^17` make the span.
+pub(crate) fn nearest_index(angle: &Angle, span: u32, zones: u8) -> i64
+    requires span_some { 0 < span }
+    requires span_small { span ≤ 360 }
+    requires zones_small { zones ≤ 60 }
+    ensures nearest { IsNearest (degrees angle.now) (step span zones) result }
+    ensures small { unsigned_abs result < 2 ^ 40 }
+{
+    let half = angle.den() * u64::from(span);
+    let steps = scaled(2 * (u64::from(zones) * CODES), i128::from(angle.num()));
+    quotient_down(steps + i128::from(half), 2 * u128::from(half)) as i64
+}
+
+// The index on the circle of longitude.
+pub(crate) fn on_circle(index: i64, zones: u8, repeats: u32) -> u32
     requires some_zones { 0 < zones }
     requires small_zones { zones ≤ 59 }
     requires some_repeats { 0 < repeats }
@@ -135,5 +150,5 @@ pub(crate) fn on_circle(index: i32, zones: u8, repeats: u32) -> u32
     ensures below { result < circle zones repeats }
 {
     let circle = zones as u64 * CODES * repeats as u64;
-    (index as i64).rem_euclid(circle as i64) as u32
+    index.rem_euclid(circle as i64) as u32
 }

@@ -14,7 +14,6 @@ mod faults;
 mod grid;
 mod index;
 pub mod laws;
-mod rounding;
 mod span;
 
 pub use code::Code;

@@ -1,5 +1,5 @@
 //! The spans of degrees that the zones of a grid share.
-ghost use Rattle.std.specs.Prelude.{◌≡◌, ◌*◌, ℕ, refl};
+ghost use Rattle.std.specs.Prelude.{◌≡◌, ◌*◌, ◌<◌, ◌≤◌, ℕ, refl};
 
 /// A span of degrees which fits a whole number of times into the circle (RTCA DO-260B, appendix on compact position
 /// reporting).
@@ -47,4 +47,22 @@ impl Span for Ground {
     ghost REPEATS = { 4 };
 
     ghost full_circle = { refl };
+}
+
+// The degrees of the span.
+pub(crate) fn degrees_of<S: Span>() -> u32
+    ensures value { result ≡ S.DEGREES }
+    ensures some { 0 < result }
+    ensures small { result ≤ 360 }
+{
+    S::DEGREES
+}
+
+// How often the span fits into the circle.
+pub(crate) fn repeats_of<S: Span>() -> u32
+    ensures value { result ≡ S.REPEATS }
+    ensures some { 0 < result }
+    ensures small { result ≤ 360 }
+{
+    S::REPEATS
 }

@@ -19,6 +19,8 @@ pub use answering::{Answering, LineText};
 pub use cutter::Cutter;
 pub use faults::{OutOfMemory, RunFault, Unanswered};
 pub use lines::{Line, content_of};
+pub use sq_devices::{Sink, Source};
+pub use sq_text::LineFault;
 pub use streams::run_lines;
 pub use tallies::Tally;
 

@@ -1,6 +1,6 @@
-use Rattle.std.proofs.Common.{◌≡◌, ◌∙◌, pos, to_z, ap, arith, true, false}
+use Rattle.std.proofs.Common.{◌≡◌, ◌∙◌, pos, to_z, of_z, ap, arith, true, false}
 use Rattle.std.proofs.lemmas.Int.{ints}
-use Rattle.std.specs.Int.{w128}
+use Rattle.std.specs.Int.{w128, w64}
 use Rattle.sq_angle.specs.Angle.{degrees}
 use Rattle.sq_angle.specs.Position.{lat_of, lon_of}
 use Rattle.sq_angle.specs.Whole.{IsCongruent}
@@ -47,7 +47,8 @@ module _ (g : Over) (c : goal.After-of_parts g) where
   around : IsCongruent (circle c.of_parts.result.zones g.S.Span.REPEATS) (pos c.of_parts.result.lon_index) c.index_within-turned.result
   around =
       let lon_is : c.of_parts.result.lon_index ≡ c.on_circle-lon_index.result = ap (λ (p : Point). p.lon_index) c.of_parts.ensures.value in
-      rw (zones_are, lon_is) (rw (back32 c.index_within-turned.result c.index_within-turned.type_inv, c.repeats_of.ensures.value) at c.on_circle-lon_index.ensures.congruent)
+      let widened : to_z w64 (of_z w64 c.from.result) ≡ c.index_within-turned.result = omega (arith, ints, c.from.ensures, c.index_within-turned.type_inv) in
+      rw (zones_are, lon_is) (rw (widened, c.repeats_of.ensures.value) at c.on_circle-lon_index.ensures.congruent)
 
 pub returns : goal.returns
 returns g c =

@@ -1,5 +1,6 @@
-use Rattle.std.proofs.Common.{◌∙◌, ℕ, ap, subst, refl, rules, FitsSigned}
-use Rattle.std.specs.Int.{w32}
+use Rattle.std.proofs.Common.{◌≡◌, ◌∙◌, ℕ, ap, arith, subst, refl, rules, to_z, of_z, FitsSigned}
+use Rattle.std.proofs.lemmas.Int.{ints}
+use Rattle.std.specs.Int.{w32, w64}
 use Rattle.sq_angle.specs.Angle.{degrees}
 use Rattle.sq_angle.specs.Position.{lon_of}
 use Rattle.sq_cpr.specs.Grid.{Point}
@@ -30,7 +31,7 @@ returns g c =
     let value = c.of_parts.ensures.value in
     let w = c.degrees_of-span.ensures.value in
     let lon = c.close_longitude-turned.ensures.longitudes in
-    let turned = back32 c.close_longitude-turned.result c.close_longitude-turned.type_inv in
+    let turned : to_z w64 (of_z w64 c.from.result) ≡ c.close_longitude-turned.result = omega (arith, ints, c.from.ensures, c.close_longitude-turned.type_inv) in
     let zones = ap (λ (p : Point). p.zones) value in
     let lon_at : IsRepresentative c.degrees_of-span.result (degrees (lon_of c.args.place.now)) (angle_at c.degrees_of-span.result (zones_of c.args.newest c.zone_count-count.result) (of_parity c.args.newest lon.0 lon.1)) =
     rw (c.lon.ensures, lon.3) at c.close_longitude-turned.ensures.at in

@@ -1,5 +1,5 @@
 use Rattle.std.proofs.Common.{◌≡◌, ℕ, ◌≤◌, ℤ, unsigned_abs, FitsSigned, to_z, of_z, w32, arith, sym, subst, subst₂}
-use Rattle.std.specs.Int.{w128}
+use Rattle.std.specs.Int.{w64}
 use Rattle.std.proofs.lemmas.Int.{ints}
 use Rattle.sq_angle.specs.Angle.{degrees}
 use Rattle.sq_angle.specs.Nearest.{IsNearest}
@@ -8,15 +8,15 @@ use Rattle.sq_cpr.proofs.SpanBounds.{nearest_within_90, index_small}
 use Rattle.sq_cpr.proofs.encoding.nearest_latitude.Goals as goal
 use Rattle.sq_cpr.proofs.encoding.nearest_latitude.Given.{Over}
 
-narrowed : (a : ℤ) → unsigned_abs a ≤ 707788800 → to_z w32 (of_z w32 (to_z w128 (of_z w128 a))) ≡ a
+narrowed : (a : ℤ) → unsigned_abs a ≤ 707788800 → to_z w32 (of_z w32 (to_z w64 (of_z w64 a))) ≡ a
 narrowed a h = omega (arith, ints)
 
-fits_narrow : (a : ℤ) → unsigned_abs a ≤ 707788800 → FitsSigned w32 (to_z w128 (of_z w128 a))
+fits_narrow : (a : ℤ) → unsigned_abs a ≤ 707788800 → FitsSigned w32 (to_z w64 (of_z w64 a))
 fits_narrow a h = omega (arith, ints)
 
 module _ (g : Over) (c : goal.After-nearest_index g) where
   nearest : IsNearest (degrees c.args.lat.now) (step g.S.Span.DEGREES (lat_zones c.args.parity)) c.nearest_index.result
-  nearest = subst₂ (λ (w z : ℕ). IsNearest (degrees c.args.lat.now) (step w z) c.nearest_index.result) c.DEGREES.ensures c.lat_zones.ensures c.nearest_index.ensures
+  nearest = subst₂ (λ (w z : ℕ). IsNearest (degrees c.args.lat.now) (step w z) c.nearest_index.result) c.degrees_of.ensures.value c.lat_zones.ensures c.nearest_index.ensures.nearest
 
   within : IsLatitude g.S.Span.DEGREES c.args.parity c.nearest_index.result
   within = nearest_within_90 (degrees c.args.lat.now) g.S.Span.DEGREES g.S.Span.REPEATS (lat_zones c.args.parity) c.nearest_index.result g.S.Span.full_circle c.args.lat.now.in_range.positive c.requires nearest

@@ -1,17 +1,16 @@
-use Rattle.std.proofs.Common.{ℕ, ◌*◌, ap₂, arith}
-use Rattle.sq_cpr.proofs.Spans.{circle_small, circle_positive}
+use Rattle.std.proofs.Common.{◌≡◌, ℕ, ℤ, pos, to_z, of_z, w64, arith, subst, subst₂}
+use Rattle.std.proofs.lemmas.Int.{ints}
+use Rattle.sq_angle.specs.Angle.{degrees}
+use Rattle.sq_angle.specs.Nearest.{IsNearest}
+use Rattle.sq_angle.specs.Whole.{IsCongruent}
+use Rattle.sq_angle.proofs.Congruence.{congruent_sym}
+use Rattle.sq_cpr.specs.Grid.{step, circle}
 use Rattle.sq_cpr.proofs.encoding.nearest_longitude.Goals as goal
 
-pub overflow_mul-from-2 : goal.overflow_mul-from-2
-overflow_mul-from-2 g c =
-    let s = g.S.Span in
-    let same = ap₂ (λ (m n : ℕ). m * 131072 * n) c.from.ensures c.REPEATS.ensures in
-    let small = circle_small s.DEGREES s.REPEATS c.args.zones s.full_circle c.requires.at_most in
-    omega arith
-
-pub wrapped-requires : goal.wrapped-requires
-wrapped-requires g c =
-    let s = g.S.Span in
-    let same = ap₂ (λ (m n : ℕ). m * 131072 * n) c.from.ensures c.REPEATS.ensures in
-    let some = circle_positive s.DEGREES s.REPEATS c.args.zones s.full_circle c.requires.at_least in
-    omega arith
+pub returns-clause-nearest : goal.returns-clause-nearest
+returns-clause-nearest g c =
+    let index = c.nearest_index-index.result in
+    let near = subst (λ degrees'. IsNearest (degrees c.args.lon.now) (step degrees' c.args.zones) index) c.degrees_of.ensures.value c.nearest_index-index.ensures.nearest in
+    let back : to_z w64 (of_z w64 index) ≡ index = omega (arith, ints, c.nearest_index-index.ensures.small) in
+    let same = subst₂ (λ (repeats : ℕ) (i : ℤ). IsCongruent (circle c.args.zones repeats) (pos c.on_circle.result) i) c.repeats_of.ensures.value back c.on_circle.ensures.congruent in
+    (index, near, congruent_sym same)

@@ -1,0 +1,71 @@
+use Rattle.std.proofs.Common.{◌≡◌, ℕ, ◌*◌, ◌<◌, ◌≤◌, ◌^◌, ℤ, pos, ◌+ℤ◌, ◌*ℤ◌, ◌≤ℤ◌, ◌<ℤ◌, unsigned_abs, to_z, of_z, arith, ap, ap₂, ◌∙◌, subst₂, w64, mul-le-mul_right}
+use Rattle.std.specs.Int.{w128}
+use Rattle.std.proofs.lemmas.Int.{ints}
+use Rattle.std.proofs.lemmas.Nat.{mul-le}
+use Rattle.sq_angle.specs.Angle.{degrees}
+use Rattle.sq_angle.proofs.Rounding.{IsRounded, nearest_from_rounded}
+use Rattle.sq_angle.proofs.Sizes.{mul_pos, scaled_size}
+use Rattle.sq_cpr.proofs.Indices.{rounded_small}
+use Rattle.sq_cpr.proofs.index.nearest_index.Goals as goal
+
+module _ (c : goal.After-quotient_down) where
+  num : ℤ
+  num = c.args.angle.now.num
+
+  half : ℕ
+  half = c.args.angle.now.den * c.args.span
+
+  scaled : ℤ
+  scaled = pos (2 * (c.args.zones * 131072)) *ℤ num
+
+  scaled_small : unsigned_abs scaled ≤ 2 * (60 * 131072) * (360 * c.args.angle.now.den)
+  unfolding scaled num
+  scaled_small = scaled_size (2 * (c.args.zones * 131072)) (2 * (60 * 131072)) (360 * c.args.angle.now.den) c.args.angle.now.num (omega (arith, c.requires.zones_small)) c.args.angle.now.in_range.within
+
+  half_small : half ≤ 1000000000000 * 360
+  unfolding half
+  half_small = mul-le c.args.angle.now.den c.args.span 1000000000000 360 c.args.angle.now.in_range.at_most c.requires.span_small
+
+  half_is : c.den.result * c.from.result ≡ half
+  unfolding half
+  half_is = ap₂ (λ (m n : ℕ). m * n) c.den.ensures c.from.ensures
+
+  steps_is : c.scaled-steps.result ≡ scaled
+  unfolding scaled num
+  steps_is =
+      let value : to_z w128 (of_z w128 c.from-3.result) ≡ c.args.angle.now.num = omega (arith, ints, c.args.angle.now.in_range.within, c.args.angle.now.in_range.at_most) in
+      c.scaled-steps.ensures ∙ ap₂ (λ (n : ℕ) (z : ℤ). pos n *ℤ z) (ap (λ n. 2 * (n * 131072)) c.from-2.ensures) value
+
+  sum_is : to_z w128 (of_z w128 (to_z w128 (of_z w128 c.scaled-steps.result) +ℤ to_z w128 (of_z w128 c.from-4.result))) ≡ scaled +ℤ pos half
+  sum_is = omega (arith, ints, steps_is, half_is, half_small, scaled_small, c.args.angle.now.in_range.at_most)
+
+  divisor_is : c.from-5.result ≡ half
+  divisor_is = c.from-5.ensures ∙ half_is
+
+  rounded : IsRounded scaled half c.quotient_down.result
+  rounded =
+      let q = c.quotient_down.result in record {
+        from = subst₂ (λ (e : ℕ) (v : ℤ). (pos (2 * e) *ℤ q) ≤ℤ v) divisor_is sum_is c.quotient_down.ensures.reached;
+        below = subst₂ (λ (e : ℕ) (v : ℤ). v <ℤ (pos (2 * e) *ℤ q +ℤ pos (2 * e))) divisor_is sum_is c.quotient_down.ensures.next;
+      }
+
+  small : unsigned_abs c.quotient_down.result < 2 ^ 40
+  unfolding half
+  small =
+      let some : 0 < c.args.angle.now.den * c.args.span = mul_pos c.args.angle.now.den c.args.span c.args.angle.now.in_range.positive c.requires.span_some in
+      let wide : 1 * c.args.angle.now.den ≤ c.args.span * c.args.angle.now.den = mul-le-mul_right c.args.angle.now.den c.requires.span_some in
+      rounded_small scaled c.quotient_down.result (c.args.angle.now.den * c.args.span) some (omega (arith, scaled_small, wide)) rounded
+
+pub overflow_cast-result : goal.overflow_cast-result
+overflow_cast-result c = omega (arith, ints, small c)
+
+narrowed : (c : goal.After-quotient_down) → to_z w64 (of_z w64 (to_z w128 (of_z w128 c.quotient_down.result))) ≡ c.quotient_down.result
+narrowed c = omega (arith, ints, small c)
+
+pub returns-clause-nearest : goal.returns-clause-nearest
+unfolding scaled half num
+returns-clause-nearest c =
+    rw (narrowed c) (nearest_from_rounded (degrees c.args.angle.now) c.args.span (c.args.zones * 131072) c.quotient_down.result (rounded c))
+
+pub returns-clause-small : goal.returns-clause-small
+returns-clause-small c = rw (narrowed c) (small c)
