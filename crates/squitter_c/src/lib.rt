@@ -1,0 +1,20 @@
+//! The exports of `libsquitter`: frames, squitters and places, as C calls them.
+//!
+//! A frame crosses as its 14 bytes, of which every value is one. Angles cross as exact fractions, and every other number
+//! as one field of a plain struct, each value of which is allowed: what is no position or no head is refused. So the only
+//! duties of a caller are those of its pointers. No call takes memory, keeps anything or ends otherwise than by its answer.
+#![tactic(auto)]
+
+mod altitudes;
+mod angles;
+mod decode;
+mod faults;
+mod fields;
+mod heads;
+pub mod laws;
+mod plain;
+mod read;
+mod send;
+#[cfg(test)]
+mod tests;
+mod texts;
