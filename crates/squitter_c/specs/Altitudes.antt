@@ -31,7 +31,8 @@ IsAltitudeItself answer written = written ≡ answer
 -- the feet of a field
 abbrev pub IsFeetOfField : (code field : ℕ) → (old new : PlainAltitude) → Fault → Type 0
 IsFeetOfField code field old new fault =
-    (answer : Result PlainAltitude Refusal) × IsMeaningAnswer code field answer × Tells IsAltitudeItself as_it_is answer old new fault
+    (answer : Result PlainAltitude Refusal) × IsMeaningAnswer code field answer
+    × Tells IsAltitudeItself as_it_is answer old new fault
 
 -- the field with Q = 1 that means these feet, or that there is none
 abbrev pub IsFieldAnswer : (feet : ℤ) → Result ℕ Refusal → Type 0

@@ -27,7 +27,8 @@ IsRead frame = (q : Squitter) × Spells frame q
 
 -- what a frame is decoded to near a reference; the first fault is the reference's, then the frame's, then the place's
 abbrev pub IsLocalAnswer : Frame → PlainPosition → Result Position Refusal → Type 0
-IsLocalAnswer frame plain (Ok position) = (reference : Position) × IsOfDegrees plain reference × ((q : Squitter) × Spells frame q
+IsLocalAnswer frame plain (Ok position) = (reference : Position) × IsOfDegrees plain reference
+    × ((q : Squitter) × Spells frame q
     × ((place : Place) × IsLocalPlace (squitter_parts q).me reference (Ok place) × IsPositionOf place position))
 IsLocalAnswer frame plain (Err refusals.NoPosition) = ¬ (PlainIsPosition plain)
 IsLocalAnswer frame plain (Err (refusals.Line fault)) = PlainIsPosition plain × IsFrameFault frame fault
@@ -38,8 +39,10 @@ IsLocalAnswer frame plain (Err other) = ⊥
 -- what a pair is decoded to; the first fault is the older frame's, then the newer's, then the place's
 abbrev pub IsPairAnswer : (older newer : Frame) → Option Position → Result Position Refusal → Type 0
 IsPairAnswer older newer site (Ok position) = (o : Squitter) × Spells older o × ((n : Squitter) × Spells newer n
-    × ((place : Place) × IsPairPlace (squitter_parts o) (squitter_parts n) site (Ok place) × IsPositionOf place position))
-IsPairAnswer older newer site (Err (refusals.Line fault)) = IsFrameFault older fault ⊎ (IsRead older × IsFrameFault newer fault)
+    × ((place : Place) × IsPairPlace (squitter_parts o) (squitter_parts n) site (Ok place)
+    × IsPositionOf place position))
+IsPairAnswer older newer site (Err (refusals.Line fault)) =
+    IsFrameFault older fault ⊎ (IsRead older × IsFrameFault newer fault)
 IsPairAnswer older newer site (Err (refusals.Place fault)) = (o : Squitter) × Spells older o
     × ((n : Squitter) × Spells newer n × IsPairPlace (squitter_parts o) (squitter_parts n) site (Err fault))
 IsPairAnswer older newer site (Err other) = ⊥

@@ -30,7 +30,8 @@ IsPlainAltitude (altitudes.Raw field) form feet = (form ≡ 2) × (feet ≡ pos 
 
 -- what the altitude field of a type code means
 abbrev pub HasMeaning : (code field form : ℕ) → (feet : ℤ) → Type 0
-HasMeaning code field form feet = (meaning : Altitude) × IsAltitude code field meaning × IsPlainAltitude meaning form feet
+HasMeaning code field form feet =
+    (meaning : Altitude) × IsAltitude code field meaning × IsPlainAltitude meaning form feet
 
 -- what an airborne position says besides where
 pub record IsPlainAirFields (fields : AirParts) (plain : PlainSquitter) : Type 0 where

@@ -24,17 +24,20 @@ AreBytesOf frame bytes = bytes ≡ frame.0
 
 -- the frame of a frame text
 abbrev pub IsFrameOfText : List ℕ → (old new : List ℕ) → Fault → Type 0
-IsFrameOfText text old new fault = (answer : Result Frame TextFault) × IsAnswer text answer × Tells AreBytesOf of_texts answer old new fault
+IsFrameOfText text old new fault =
+    (answer : Result Frame TextFault) × IsAnswer text answer × Tells AreBytesOf of_texts answer old new fault
 
 -- the squitter of a frame text
 abbrev pub IsTextRead : List ℕ → (old new : PlainSquitter) → Fault → Type 0
 IsTextRead text old new fault =
-    (answer : Result Squitter LineFault) × IsSquitterReading text answer × Tells IsPlainSquitter of_lines answer old new fault
+    (answer : Result Squitter LineFault) × IsSquitterReading text answer
+    × Tells IsPlainSquitter of_lines answer old new fault
 
 -- the squitter of a frame
 abbrev pub IsFrameRead : Frame → (old new : PlainSquitter) → Fault → Type 0
 IsFrameRead frame old new fault =
-    (answer : Result Squitter FrameFault) × IsReading frame answer × Tells IsPlainSquitter of_frames answer old new fault
+    (answer : Result Squitter FrameFault) × IsReading frame answer
+    × Tells IsPlainSquitter of_frames answer old new fault
 
 -- the frame text of 28 upper-case digits
 abbrev pub text_of : List ℕ → List ℕ

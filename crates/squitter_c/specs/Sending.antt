@@ -30,7 +30,8 @@ use Rattle.squitter_c.specs.Reading.{AreBytesOf}
 
 -- the frame that is sent in the air; the first fault is the head's or the parity's, then the position's
 abbrev pub IsAirAnswer : PlainAirHead → PlainPosition → Result Frame Refusal → Type 0
-IsAirAnswer plain place (Ok frame) = (head : AirHead) × IsAirHead plain head × ((parity : Parity) × IsParity plain.odd parity
+IsAirAnswer plain place (Ok frame) = (head : AirHead) × IsAirHead plain head
+    × ((parity : Parity) × IsParity plain.odd parity
     × ((position : Position) × IsOfDegrees place position
     × ((point : Point) × IsSentInAir (air_head_parts head) parity position point frame)))
 IsAirAnswer plain place (Err refusals.NoHead) = ¬ (PlainIsAirHead plain × IsFlag plain.odd)
@@ -39,11 +40,13 @@ IsAirAnswer plain place (Err other) = ⊥
 
 -- the same on the ground
 abbrev pub IsGroundAnswer : PlainGroundHead → PlainPosition → Result Frame Refusal → Type 0
-IsGroundAnswer plain place (Ok frame) = (head : GroundHead) × IsGroundHead plain head × ((parity : Parity) × IsParity plain.odd parity
+IsGroundAnswer plain place (Ok frame) = (head : GroundHead) × IsGroundHead plain head
+    × ((parity : Parity) × IsParity plain.odd parity
     × ((position : Position) × IsOfDegrees place position
     × ((point : Point) × IsSentOnGround (ground_head_parts head) parity position point frame)))
 IsGroundAnswer plain place (Err refusals.NoHead) = ¬ (PlainIsGroundHead plain × IsFlag plain.odd)
-IsGroundAnswer plain place (Err refusals.NoPosition) = PlainIsGroundHead plain × IsFlag plain.odd × ¬ (PlainIsPosition place)
+IsGroundAnswer plain place (Err refusals.NoPosition) =
+    PlainIsGroundHead plain × IsFlag plain.odd × ¬ (PlainIsPosition place)
 IsGroundAnswer plain place (Err other) = ⊥
 
 -- the place is the point of the parity to which the position rounds
@@ -53,16 +56,19 @@ IsRoundedTo parity position (Ground point) = (point.parity ≡ parity) × Rounds
 
 -- the frame of a squitter that is sent again from a place of its kind
 abbrev pub IsFrameFrom : Squitter → Place → Frame → Type 0
-IsFrameFrom q place frame = (sent : Squitter) × IsSentAt (squitter_parts q) place (squitter_parts sent) × IsFrame frame × Spells frame sent
+IsFrameFrom q place frame =
+    (sent : Squitter) × IsSentAt (squitter_parts q) place (squitter_parts sent) × IsFrame frame × Spells frame sent
 
--- The frame with the parity and the code of a position, and all else as it was. The first fault is the parity's, then the
--- position's, then the frame's, and last that it carries no position.
+-- The frame with the parity and the code of a position, and all else as it was. The first fault is the parity's, then
+-- the position's, then the frame's, and last that it carries no position.
 abbrev pub IsAgainAnswer : Frame → (odd : ℕ) → PlainPosition → Result Frame Refusal → Type 0
-IsAgainAnswer frame odd plain (Ok again) = (parity : Parity) × IsParity odd parity × ((position : Position) × IsOfDegrees plain position
+IsAgainAnswer frame odd plain (Ok again) = (parity : Parity) × IsParity odd parity
+    × ((position : Position) × IsOfDegrees plain position
     × ((q : Squitter) × Spells frame q × ((place : Place) × IsRoundedTo parity position place × IsFrameFrom q place again)))
 IsAgainAnswer frame odd plain (Err refusals.NoParity) = ¬ (IsFlag odd)
 IsAgainAnswer frame odd plain (Err refusals.NoPosition) = IsFlag odd × ¬ (PlainIsPosition plain)
-IsAgainAnswer frame odd plain (Err (refusals.Line fault)) = IsFlag odd × PlainIsPosition plain × IsFrameFault frame fault
+IsAgainAnswer frame odd plain (Err (refusals.Line fault)) =
+    IsFlag odd × PlainIsPosition plain × IsFrameFault frame fault
 IsAgainAnswer frame odd plain (Err (refusals.Place fault)) = IsFlag odd × PlainIsPosition plain
     × ((q : Squitter) × Spells frame q × (¬ (IsPosition (squitter_parts q).me)) × (fault ≡ NotPosition))
 IsAgainAnswer frame odd plain (Err other) = ⊥

@@ -69,10 +69,14 @@ own_text code rest =
     else if code == 32 then angle_fault_text angles.OutOfRange
     else rest
 
+-- the text of no fault, and of a code that is none
+abbrev pub other_text : (code : ℕ) → List ℕ
+other_text code = if code == 0 then codes "no fault" else codes "unknown fault"
+
 -- the text of each value of a fault
 unfoldable pub told_text : (code first second : ℕ) → List ℕ
 told_text code first second =
-    line_text code first (place_text code first second (own_text code (if code == 0 then codes "no fault" else codes "unknown fault")))
+    line_text code first (place_text code first second (own_text code (other_text code)))
 
 -- the text of a fault is that of its reason
 abbrev pub EachText : Type 0

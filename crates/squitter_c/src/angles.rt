@@ -1,8 +1,7 @@
 //! Angles: their texts, the angles of texts, and the zone count of a latitude.
-ghost use Rattle.std.specs.Prelude.{◌≡◌, ◌<◌, MatchOption, length, slice_index};
+ghost use Rattle.std.specs.Prelude.{◌<◌, length};
 ghost use Rattle.sq_angle.specs.Reading.{IsReading};
-ghost use Rattle.squitter_c.specs.Angles.{IsAngleAnswer, IsAngleRead, IsAngleWritten, IsLatitude, IsZoneAnswer, IsZoneCount, StandsIn};
-ghost use Rattle.squitter_c.specs.Plain.{fraction_of};
+ghost use Rattle.squitter_c.specs.Angles.{IsAngleRead, IsAngleWritten, IsZoneAnswer, IsZoneCount, StandsIn};
 
 use crate::faults::{Fault, NONE, Refusal};
 use crate::plain::{PlainAngle, angle_of, plain_angle};

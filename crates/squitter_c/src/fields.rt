@@ -1,6 +1,7 @@
 //! The fields of a squitter, as plain numbers.
 ghost use Rattle.std.specs.Prelude.{◌≡◌};
-ghost use Rattle.squitter_c.specs.Fields.{IsPlainAirborne, IsPlainAltitude, IsPlainOther, IsPlainSquitter, IsPlainSurface};
+ghost use Rattle.squitter_c.specs.Fields.{IsPlainAirborne, IsPlainAltitude, IsPlainOther, IsPlainSquitter};
+ghost use Rattle.squitter_c.specs.Fields.{IsPlainSurface};
 
 use sq_message::{Airborne, Altitude, Me, Other, Squitter, Surface, altitude};
 

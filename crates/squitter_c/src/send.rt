@@ -3,8 +3,8 @@ ghost use Rattle.std.specs.Prelude.{◌≡◌, MatchOption};
 ghost use Rattle.sq_message.specs.Parts.{squitter_parts};
 ghost use Rattle.sq_message.specs.Places.{Fits, IsPosition};
 ghost use Rattle.squitter_c.specs.Reading.{frame_of};
-ghost use Rattle.squitter_c.specs.Sending.{IsAgainAnswer, IsAirAnswer, IsAirSent, IsFrameFrom, IsGroundAnswer, IsGroundSent};
-ghost use Rattle.squitter_c.specs.Sending.{IsRoundedTo, IsSentAgain, TellsFrame};
+ghost use Rattle.squitter_c.specs.Sending.{IsAgainAnswer, IsAirAnswer, IsAirSent, IsFrameFrom, IsGroundAnswer};
+ghost use Rattle.squitter_c.specs.Sending.{IsGroundSent, IsRoundedTo, IsSentAgain, TellsFrame};
 
 use crate::faults::{Fault, NONE, Refusal};
 use crate::heads::{PlainAirHead, PlainGroundHead, air_head, ground_head};

@@ -12,4 +12,5 @@ loop-place-preserved c = (
 )
 
 pub returns : goal.returns
-returns c = encode_done _ _ _ c.loop-place.place (omega (arith, c.told-frame)) (omega (arith, c.told-frame)) c.loop-place.invariant.1
+returns c =
+    encode_done _ _ _ c.loop-place.place (omega (arith, c.told-frame)) (omega (arith, c.told-frame)) c.loop-place.invariant.1
