@@ -8,3 +8,4 @@ pub mod Sending
 pub mod Angles
 pub mod Altitudes
 pub mod Texts
+pub mod Tracking

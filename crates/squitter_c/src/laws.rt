@@ -1,6 +1,7 @@
-//! Laws of the codes of faults and of their texts, over the definitions alone.
+//! Laws of the codes of faults, of their texts and of entries, over the definitions alone.
 ghost use Rattle.squitter_c.specs.Faults.{NoCodeIsZero, OneCode};
 ghost use Rattle.squitter_c.specs.Texts.{EachText};
+ghost use Rattle.squitter_c.specs.Tracking.{BlankKeepsNothing};
 
 /// No two reasons have one code and the same numbers.
 pub fn one_code()
@@ -15,4 +16,9 @@ pub fn no_code_is_zero()
 /// The text of a fault is that of its reason.
 pub fn each_text()
     ensures { EachText }
+{}
+
+/// An entry that is all zero keeps the history of an address of which nothing was heard.
+pub fn blank_keeps_nothing()
+    ensures { BlankKeepsNothing }
 {}

@@ -10,9 +10,11 @@
 mod altitudes;
 mod angles;
 mod decode;
+mod entry;
 mod faults;
 mod fields;
 mod heads;
+mod hear;
 pub mod laws;
 mod plain;
 mod read;
