@@ -93,10 +93,11 @@ enum {
   SQUITTER_NOT_A_NUMBER = 30,    /* not an optional `-`, one to three digits, and optionally a point and digits */
   SQUITTER_TOO_MANY_DECIMALS = 31, /* more than twelve digits stand after the point */
   SQUITTER_ANGLE_RANGE = 32,     /* the magnitude is above 360 degrees */
+  /* of moments */
+  SQUITTER_MOMENT_BACK = 42,     /* the moment lies before the last one, which is `first` */
   /* of the program's logs; no call here answers one of these */
   SQUITTER_LONG_LINE = 40,       /* a line has more than 64 bytes */
   SQUITTER_BAD_MOMENT = 41,      /* a line does not begin with a moment */
-  SQUITTER_MOMENT_BACK = 42,     /* the moment lies before the last one, which is `first` */
   SQUITTER_TABLE_FULL = 43       /* the table of addresses is full */
 };
 
@@ -166,6 +167,47 @@ typedef struct squitter_altitude {
   uint8_t form;
 } squitter_altitude;
 
+/* What is kept of one address, for squitter_hear. The caller holds it, in an array, a map or a file: it is plain data, may be
+ * copied, and is empty where all its bytes are 0, as calloc and memset leave it. Each value of each field is allowed: a frame
+ * that spells no squitter, and a position that is none, count as nothing kept. */
+typedef struct squitter_received { /* a frame, and its moment */
+  uint64_t moment;
+  uint8_t frame[14];
+} squitter_received;
+
+typedef struct squitter_last_fix { /* the position of the newest fix or followed place, and its moment */
+  uint64_t moment;
+  squitter_position position;
+} squitter_last_fix;
+
+typedef struct squitter_side { /* what is kept in the air, or on the ground */
+  squitter_received even, odd;
+  squitter_last_fix fix;
+} squitter_side;
+
+typedef struct squitter_entry {
+  uint64_t last;   /* the moment of its newest frame */
+  uint64_t newest; /* the moment of its newest position */
+  squitter_side airborne, surface;
+} squitter_entry;
+
+/* What is heard of a frame: the first of these that applies. */
+enum {
+  SQUITTER_FIX = 1,          /* its place, of it and the newest frame of its kind and of the other parity */
+  SQUITTER_FOLLOWED = 2,     /* its place near the last fix of its kind, where WAITING or SPLIT would be answered */
+  SQUITTER_WAITING = 3,      /* there is no such frame within the window */
+  SQUITTER_SPLIT = 4,        /* the zone counts of the pair's latitudes, `even` and `odd`, differ */
+  SQUITTER_FAR = 5,          /* a latitude of the pair would lie outside -90 to 90 degrees */
+  SQUITTER_WITHOUT_SITE = 6, /* the pair is on the ground, and no site is given */
+  SQUITTER_NO_PLACE = 7      /* the frame carries no position */
+};
+
+typedef struct squitter_heard {
+  squitter_position position; /* of FIX and FOLLOWED, in lowest terms; else 0/0 and 0/0, which is no position */
+  uint8_t what;               /* one of the seven */
+  uint8_t even, odd;          /* of SPLIT; else 0 */
+} squitter_heard;
+
 /* ---- Texts and frames ---- */
 
 /* The frame of a frame text: 28 hexadecimal digits of either case, bare or between `*` and `;`.
@@ -200,6 +242,22 @@ squitter_fault squitter_pair(const uint8_t SQUITTER_CONST_BYTES(older, 14), cons
 squitter_fault squitter_pair_at(const uint8_t SQUITTER_CONST_BYTES(older, 14),
                                 const uint8_t SQUITTER_CONST_BYTES(newer, 14), const squitter_position *site,
                                 squitter_position *SQUITTER_RESTRICT out) SQUITTER_CALL;
+
+/* ---- Hearing ---- */
+
+/* Hears one frame more of an address: what is heard of it, by the frames that were heard before it, as the program `squitter
+ * track` answers. `entry` is what is kept of the frame's address, which the caller looks up (squitter_read_frame tells the
+ * address) and which no other frame was heard into; moments and the window are in milliseconds, or in any other unit. A fix
+ * wants the other frame, and following the last fix, at most the window before. At a fault *entry and *out are as they were.
+ * Faults: NOT_DF17, PARITY, MOMENT_BACK. */
+squitter_fault squitter_hear(squitter_entry *SQUITTER_RESTRICT entry, uint64_t window, uint64_t moment,
+                             const uint8_t SQUITTER_CONST_BYTES(frame, 14),
+                             squitter_heard *SQUITTER_RESTRICT out) SQUITTER_CALL;
+
+/* The same with a site, which pairs on the ground want. Faults: BAD_POSITION (the site), and then those of squitter_hear. */
+squitter_fault squitter_hear_at(squitter_entry *SQUITTER_RESTRICT entry, uint64_t window, const squitter_position *site,
+                                uint64_t moment, const uint8_t SQUITTER_CONST_BYTES(frame, 14),
+                                squitter_heard *SQUITTER_RESTRICT out) SQUITTER_CALL;
 
 /* ---- Sending ---- */
 
@@ -258,6 +316,11 @@ SQUITTER_SIZE(squitter_fields, 40);
 SQUITTER_SIZE(squitter_air_head, 12);
 SQUITTER_SIZE(squitter_ground_head, 12);
 SQUITTER_SIZE(squitter_altitude, 8);
+SQUITTER_SIZE(squitter_received, 24);
+SQUITTER_SIZE(squitter_last_fix, 40);
+SQUITTER_SIZE(squitter_side, 88);
+SQUITTER_SIZE(squitter_entry, 192);
+SQUITTER_SIZE(squitter_heard, 40);
 
 #ifdef __cplusplus
 }

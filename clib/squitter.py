@@ -23,9 +23,9 @@ from numbers import Rational
 from typing import NamedTuple, Optional, Union
 
 __all__ = [
-    "AirHead", "Altitude", "AltitudeForm", "Code", "Fault", "Fields", "Frame", "GroundHead", "Kind", "Position",
-    "angle", "angle_text", "encode", "fault_text", "feet_of_field", "field_of_feet", "frame", "frame_text", "local",
-    "pair", "read", "send_again", "version", "zone_count",
+    "AirHead", "Altitude", "AltitudeForm", "Code", "Contact", "Fault", "Fields", "Frame", "GroundHead", "Heard", "Kind",
+    "Position", "What", "angle", "angle_text", "encode", "fault_text", "feet_of_field", "field_of_feet", "frame",
+    "frame_text", "local", "pair", "read", "send_again", "version", "zone_count",
 ]
 
 Frame = Union[bytes, bytearray, str]
@@ -61,9 +61,9 @@ class Code(enum.IntEnum):
     NOT_A_NUMBER = 30
     TOO_MANY_DECIMALS = 31
     ANGLE_RANGE = 32
+    MOMENT_BACK = 42
     LONG_LINE = 40
     BAD_MOMENT = 41
-    MOMENT_BACK = 42
     TABLE_FULL = 43
 
 
@@ -81,6 +81,18 @@ class AltitudeForm(enum.IntEnum):
     NONE = 0
     FEET = 1
     OTHER = 2
+
+
+class What(enum.IntEnum):
+    """What is heard of a frame: the first of these that applies."""
+
+    FIX = 1
+    FOLLOWED = 2
+    WAITING = 3
+    SPLIT = 4
+    FAR = 5
+    WITHOUT_SITE = 6
+    NO_PLACE = 7
 
 
 class Fault(ValueError):
@@ -158,6 +170,15 @@ class Altitude(NamedTuple):
     feet: int
 
 
+class Heard(NamedTuple):
+    """What is heard of a frame: which of the seven, the place where there is one, and the zone counts of a split."""
+
+    what: What
+    position: Optional[Position]
+    even: int
+    odd: int
+
+
 # ---- the library ----
 
 
@@ -206,6 +227,30 @@ class _Altitude(ctypes.Structure):
 _FRAME = ctypes.c_uint8 * 14
 _P = ctypes.POINTER
 
+
+class _Received(ctypes.Structure):
+    _fields_ = [("moment", ctypes.c_uint64), ("frame", _FRAME)]
+
+
+class _LastFix(ctypes.Structure):
+    _fields_ = [("moment", ctypes.c_uint64), ("position", _Position)]
+
+
+class _Side(ctypes.Structure):
+    _fields_ = [("even", _Received), ("odd", _Received), ("fix", _LastFix)]
+
+
+class _Entry(ctypes.Structure):
+    _fields_ = [("last", ctypes.c_uint64), ("newest", ctypes.c_uint64), ("airborne", _Side), ("surface", _Side)]
+
+
+class _Heard(ctypes.Structure):
+    _fields_ = [
+        ("position", _Position), ("what", ctypes.c_uint8), ("even", ctypes.c_uint8), ("odd", ctypes.c_uint8),
+    ]
+
+
+
 # What each call takes.
 _CALLS = {
     "frame_of_text": [ctypes.c_char_p, ctypes.c_size_t, _P(_FRAME)],
@@ -214,6 +259,8 @@ _CALLS = {
     "local": [ctypes.c_char_p, _P(_Position), _P(_Position)],
     "pair": [ctypes.c_char_p, ctypes.c_char_p, _P(_Position)],
     "pair_at": [ctypes.c_char_p, ctypes.c_char_p, _P(_Position), _P(_Position)],
+    "hear": [_P(_Entry), ctypes.c_uint64, ctypes.c_uint64, ctypes.c_char_p, _P(_Heard)],
+    "hear_at": [_P(_Entry), ctypes.c_uint64, _P(_Position), ctypes.c_uint64, ctypes.c_char_p, _P(_Heard)],
     "encode_air": [_P(_AirHead), _P(_Position), _P(_FRAME)],
     "encode_ground": [_P(_GroundHead), _P(_Position), _P(_FRAME)],
     "send_again": [ctypes.c_char_p, ctypes.c_uint8, _P(_Position), _P(_FRAME)],
@@ -335,6 +382,51 @@ def pair(older: Frame, newer: Frame, site: Optional[Position] = None) -> Positio
         here = _position(site)
         _done(_lib.squitter_pair_at(frame(older), frame(newer), ctypes.byref(here), ctypes.byref(out)))
     return _read_position(out)
+
+
+# ---- hearing ----
+
+
+class Contact:
+    """What is kept of one address, and what is heard of one frame more of it.
+
+    The caller finds the contact of a frame's address; a frame of another address is not looked for. Moments and the window
+    are whole numbers below 2**64 of milliseconds, or of any other unit.
+    """
+
+    __slots__ = ("_entry", "_site", "_window")
+
+    def __init__(self, window: int, site: Optional[Position] = None) -> None:
+        """A contact of which nothing was heard. The site is for pairs on the ground."""
+        if not _fits(window, 64):
+            raise ValueError("a window is a whole number below 2**64")
+        self._entry, self._window = _Entry(), window
+        self._site = None if site is None else _position(site)
+
+    def hear(self, moment: int, source: Frame) -> Heard:
+        """What is heard of a frame, by those that were heard before. A Fault leaves the contact as it was."""
+        if not _fits(moment, 64):
+            raise ValueError("a moment is a whole number below 2**64")
+        out, entry = _Heard(), ctypes.byref(self._entry)
+        if self._site is None:
+            fault = _lib.squitter_hear(entry, self._window, moment, frame(source), ctypes.byref(out))
+        else:
+            here = ctypes.byref(self._site)
+            fault = _lib.squitter_hear_at(entry, self._window, here, moment, frame(source), ctypes.byref(out))
+        _done(fault)
+        what = What(out.what)
+        place = _read_position(out.position) if what in (What.FIX, What.FOLLOWED) else None
+        return Heard(what, place, out.even, out.odd)
+
+    @property
+    def last(self) -> int:
+        """The moment of the newest frame, 0 where none was heard."""
+        return int(self._entry.last)
+
+    @property
+    def newest(self) -> int:
+        """The moment of the newest position, 0 where none was heard."""
+        return int(self._entry.newest)
 
 
 # ---- sending ----

@@ -2,7 +2,6 @@
 use Rattle.std.proofs.Common.{◌≡◌, ◌≤◌, ℕ, ◌∷◌, [], Option, Some, None, nat_eq, true, refl, sym, ◌∙◌, ap, subst, arith}
 use Rattle.std.proofs.Props.{props}
 use mathlib.Core.HLevel.{is_prop→PathP}
-use Rattle.sq_angle.specs.declared.angle.Angle.{Angle}
 use Rattle.sq_angle.specs.declared.position.Position.{Position}
 use Rattle.sq_angle.specs.Angle.{degrees}
 use Rattle.sq_angle.specs.Bounds.{IsAngle, IsPosition}
@@ -32,7 +31,7 @@ use Rattle.squitter_c.specs.declared.entry.PlainSide.{PlainSide}
 use Rattle.squitter_c.specs.declared.plain.PlainPosition.{PlainPosition}
 use Rattle.squitter_c.specs.Plain.{IsOfDegrees, PlainIsPosition, fraction_of}
 use Rattle.squitter_c.specs.Reading.{frame_of}
-use Rattle.squitter_c.specs.Tracking.{BlankKeepsNothing, IsContactOf, IsFixOf, IsReceivedOf, IsSideOf, Keeps, blank, blank_side, last_of, no_bytes}
+use Rattle.squitter_c.specs.Tracking.{BlankKeepsNothing, IsContactOf, IsFixOf, IsReceivedOf, IsSideOf, blank_side, last_of, no_bytes}
 
 -- positions with one latitude and one longitude are one
 one_position : (a b : Position) → a.lat ≡ b.lat → a.lon ≡ b.lon → a ≡ b

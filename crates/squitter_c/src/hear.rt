@@ -33,37 +33,30 @@ pub struct PlainHeard {
 #[unsafe(no_mangle)]
 pub extern "C" fn squitter_hear(
     entry: &mut PlainEntry,
-    window_ms: u64,
+    window: u64,
     moment: u64,
     frame: &[u8; 14],
     out: &mut PlainHeard,
 ) -> Fault
-    ensures { IsHeardFrame window_ms None moment (frame_of frame.now) entry.old entry.new out.old out.new result }
+    ensures { IsHeardFrame window None moment (frame_of frame.now) entry.old entry.new out.old out.new result }
 {
-    hear(entry, window_ms, None, moment, &Frame(*frame), out)
+    hear(entry, window, None, moment, &Frame(*frame), out)
 }
 
 /// Hears a frame of the entry's address, with a site for pairs on the ground.
 #[unsafe(no_mangle)]
 pub extern "C" fn squitter_hear_at(
     entry: &mut PlainEntry,
-    window_ms: u64,
+    window: u64,
     site: &PlainPosition,
     moment: u64,
     frame: &[u8; 14],
     out: &mut PlainHeard,
 ) -> Fault
-    ensures { IsHeardFrameAt window_ms site.now moment (frame_of frame.now) entry.old entry.new out.old out.new result }
+    ensures { IsHeardFrameAt window site.now moment (frame_of frame.now) entry.old entry.new out.old out.new result }
 {
     match position_of(site) {
-        Some(site) => hear(
-            entry,
-            window_ms,
-            Some(&site),
-            moment,
-            &Frame(*frame),
-            out,
-        ),
+        Some(site) => hear(entry, window, Some(&site), moment, &Frame(*frame), out),
         None => Fault::of(Refusal::NoPosition),
     }
 }
@@ -71,16 +64,16 @@ pub extern "C" fn squitter_hear_at(
 // Hears a frame of the entry's address, and writes what was heard.
 fn hear(
     entry: &mut PlainEntry,
-    window_ms: u64,
+    window: u64,
     site: Option<&Position>,
     moment: u64,
     frame: &Frame,
     out: &mut PlainHeard,
 ) -> Fault
-    ensures { IsHeardFrame window_ms (option_map (λ s. s.now) site.entry) moment frame.now entry.old entry.new
+    ensures { IsHeardFrame window (option_map (λ s. s.now) site.entry) moment frame.now entry.old entry.new
         out.old out.new result }
 {
-    tell(hear_frame(entry, window_ms, site, moment, frame), out)
+    tell(hear_frame(entry, window, site, moment, frame), out)
 }
 
 // Writes what was heard, or tells why nothing was.
@@ -99,13 +92,13 @@ fn tell(answer: Result<PlainHeard, Refusal>, out: &mut PlainHeard) -> Fault
 // Hears a frame of the entry's address.
 fn hear_frame(
     entry: &mut PlainEntry,
-    window_ms: u64,
+    window: u64,
     site: Option<&Position>,
     moment: u64,
     frame: &Frame,
 ) -> Result<PlainHeard, Refusal>
     ensures { MatchResult result
-        (IsAccepted window_ms (option_map (λ s. s.now) site.entry) moment frame.now entry.old entry.new)
+        (IsAccepted window (option_map (λ s. s.now) site.entry) moment frame.now entry.old entry.new)
         (λ reason. IsRefused moment frame.now entry.old reason × (entry.new ≡ entry.old)) }
 {
     let squitter = match read_frame(frame) {
@@ -115,24 +108,24 @@ fn hear_frame(
     if moment < entry.last {
         return Err(Refusal::Line(LineFault::MomentBack(entry.last)));
     }
-    Ok(hear_squitter(entry, window_ms, site, moment, &squitter))
+    Ok(hear_squitter(entry, window, site, moment, &squitter))
 }
 
 // Hears a squitter of the entry's address.
 fn hear_squitter(
     entry: &mut PlainEntry,
-    window_ms: u64,
+    window: u64,
     site: Option<&Position>,
     moment: u64,
     squitter: &Squitter,
 ) -> PlainHeard
     requires { entry.old.last ≤ moment }
     ensures { (heard : Heard)
-        × IsHearing window_ms (option_map (λ s. s.now) site.entry) moment squitter.now entry.old entry.new heard
+        × IsHearing window (option_map (λ s. s.now) site.entry) moment squitter.now entry.old entry.new heard
         × IsPlainHeard heard result }
 {
     let mut contact = contact_of(entry);
-    let heard = step(&mut contact, window_ms, site, moment, squitter);
+    let heard = step(&mut contact, window, site, moment, squitter);
     let after = plain_entry(&contact, moment);
     *entry = after;
     heard
@@ -141,16 +134,16 @@ fn hear_squitter(
 // Hears a squitter of the contact's address.
 fn step(
     contact: &mut Contact,
-    window_ms: u64,
+    window: u64,
     site: Option<&Position>,
     moment: u64,
     squitter: &Squitter,
 ) -> PlainHeard
     ensures { (heard : Heard)
-        × IsStep window_ms (option_map (λ s. s.now) site.entry) moment squitter.now contact.old heard contact.new
+        × IsStep window (option_map (λ s. s.now) site.entry) moment squitter.now contact.old heard contact.new
         × IsPlainHeard heard result }
 {
-    let heard = contact.hear(window_ms, site, moment, squitter);
+    let heard = contact.hear(window, site, moment, squitter);
     plain_heard(&heard)
 }
 

@@ -2,9 +2,11 @@
 use crate::altitudes::{PlainAltitude, squitter_feet_of_field, squitter_field_of_feet};
 use crate::angles::{squitter_angle_of_text, squitter_text_of_angle, squitter_zone_count};
 use crate::decode::{squitter_local, squitter_pair, squitter_pair_at};
+use crate::entry::{PlainEntry, PlainFix, PlainReceived, PlainSide};
 use crate::faults::Fault;
 use crate::fields::PlainSquitter;
 use crate::heads::{PlainAirHead, PlainGroundHead};
+use crate::hear::{PlainHeard, squitter_hear, squitter_hear_at};
 use crate::plain::{PlainAngle, PlainPosition};
 use crate::read::{
     squitter_frame_of_text, squitter_read_frame, squitter_read_text, squitter_text_of_frame,
@@ -329,4 +331,88 @@ fn writes_faults(rt: HostRuntime) {
 #[test]
 fn tells_the_version(rt: HostRuntime) {
     assert!(rt; squitter_version() == 256);
+}
+
+const ZERO: PlainAngle = PlainAngle { num: 0, den: 0 };
+
+const BLANK_SIDE: PlainSide = PlainSide {
+    even: PlainReceived {
+        moment: 0,
+        frame: [0; 14],
+    },
+    odd: PlainReceived {
+        moment: 0,
+        frame: [0; 14],
+    },
+    fix: PlainFix {
+        moment: 0,
+        position: PlainPosition {
+            lat: ZERO,
+            lon: ZERO,
+        },
+    },
+};
+
+const BLANK: PlainEntry = PlainEntry {
+    last: 0,
+    newest: 0,
+    airborne: BLANK_SIDE,
+    surface: BLANK_SIDE,
+};
+
+const NOTHING: PlainHeard = PlainHeard {
+    position: PlainPosition {
+        lat: ZERO,
+        lon: ZERO,
+    },
+    what: 0,
+    even: 0,
+    odd: 0,
+};
+
+#[test]
+fn hears_a_pair(rt: HostRuntime) {
+    let mut entry = BLANK;
+    let mut heard = NOTHING;
+    let odd = frame_of(ODD);
+    assert!(rt; squitter_hear(&mut entry, 10_000, 5, &odd, &mut heard) == DONE);
+    assert!(rt; heard.what == 3 && heard.position == NOTHING.position);
+    assert!(rt; squitter_hear(&mut entry, 10_000, 10_005, &EVEN_BYTES, &mut heard) == DONE);
+    assert!(rt; heard.what == 1 && heard.position == PLACE);
+    let before = entry;
+    assert!(rt; squitter_hear(&mut entry, 10_000, 10_004, &odd, &mut heard) == coded(42, 10_005));
+    assert!(rt; squitter_hear(&mut entry, 10_000, 10_006, &[0; 14], &mut heard) == coded(5, 0));
+    assert!(rt; entry == before && heard.what == 1 && heard.position == PLACE);
+    assert!(rt; squitter_hear(&mut entry, 10_000, 20_006, &odd, &mut heard) == DONE);
+    assert!(rt; heard.what == 3);
+}
+
+#[test]
+fn follows_the_last_fix(rt: HostRuntime) {
+    let mut entry = BLANK;
+    let mut heard = NOTHING;
+    entry.airborne.fix.position = PLACE;
+    entry.airborne.fix.moment = 3;
+    assert!(rt; squitter_hear(&mut entry, 10, 13, &EVEN_BYTES, &mut heard) == DONE);
+    assert!(rt; heard.what == 2 && heard.position == PLACE);
+}
+
+#[test]
+fn hears_a_pair_near_a_site(rt: HostRuntime) {
+    let mut entry = BLANK;
+    let mut heard = NOTHING;
+    let older = frame_of(GROUND_OLDER);
+    let newer = frame_of(GROUND_NEWER);
+    let site = position(51_990, 4_375, 1000);
+    assert!(rt; squitter_hear(&mut entry, 10, 1, &older, &mut heard) == DONE);
+    let waiting = entry;
+    assert!(rt; squitter_hear(&mut entry, 10, 2, &newer, &mut heard) == DONE);
+    assert!(rt; heard.what == 6);
+    entry = waiting;
+    assert!(rt;
+        squitter_hear_at(&mut entry, 10, &NO_POSITION, 2, &newer, &mut heard) == coded(20, 0)
+    );
+    assert!(rt; entry == waiting && heard.what == 6);
+    assert!(rt; squitter_hear_at(&mut entry, 10, &site, 2, &newer, &mut heard) == DONE);
+    assert!(rt; heard.what == 1 && heard.position.lat.num == 202_304_115);
 }

@@ -9,16 +9,16 @@ pub returns : goal.returns
 returns c = (
   c.step-heard.ensures.0,
   λ history keeps.
-    let same = one_contact c.args.entry.now keeps.contact c.contact_of-contact.result keeps.stands c.contact_of-contact.ensures in
-    let remembers = subst (λ (x : Contact). Remembers c.args.window_ms (squitter_parts c.args.squitter.now).address history x) same keeps.remembers in
-    let later = in_time history c.args.entry.now.last c.args.moment keeps.last c.requires in (
-      c.step-heard.ensures.1.answers history remembers later,
-      record {
-        contact = c.step-heard.new.contact;
-        stands = c.plain_entry-after.ensures.contact;
-        remembers = c.step-heard.ensures.1.remembers history remembers later;
-        last = c.plain_entry-after.ensures.last;
-      },
-    ),
+      let same = one_contact c.args.entry.now keeps.contact c.contact_of-contact.result keeps.stands c.contact_of-contact.ensures in
+      let remembers = subst (λ (x : Contact). Remembers c.args.window (squitter_parts c.args.squitter.now).address history x) same keeps.remembers in
+      let later = in_time history c.args.entry.now.last c.args.moment keeps.last c.requires in (
+        c.step-heard.ensures.1.answers history remembers later,
+        record {
+          contact = c.step-heard.new.contact;
+          stands = c.plain_entry-after.ensures.contact;
+          remembers = c.step-heard.ensures.1.remembers history remembers later;
+          last = c.plain_entry-after.ensures.last;
+        },
+      ),
   c.step-heard.ensures.2,
 )
