@@ -20,7 +20,7 @@ from ctypes.util import find_library
 from dataclasses import dataclass
 from fractions import Fraction
 from numbers import Rational
-from typing import NamedTuple, Optional, Union
+from typing import NamedTuple, Optional, Tuple, Union
 
 __all__ = [
     "AirHead", "Altitude", "AltitudeForm", "Code", "Contact", "Fault", "Fields", "Frame", "GroundHead", "Heard", "Kind",
@@ -316,6 +316,34 @@ def _position(position: Position) -> _Position:
     return _Position(_angle(lat, Code.BAD_POSITION), _angle(lon, Code.BAD_POSITION))
 
 
+def _look(here: Optional[_Position]) -> None:
+    """Raises BAD_POSITION for a position that is none: near it nothing is decoded, whatever the frame."""
+    if here is not None:
+        fault = _lib.squitter_local(bytes(14), ctypes.byref(here), ctypes.byref(_Position()))
+        if fault.code == Code.BAD_POSITION:
+            _done(fault)
+
+
+def _frame_near(source: Frame, here: Optional[_Position]) -> bytes:
+    """The bytes of a frame. Where its text is at fault, the fault of the position comes first, as in the library's calls."""
+    try:
+        return frame(source)
+    except Fault:
+        _look(here)
+        raise
+
+
+def _two_frames(older: Frame, newer: Frame, here: Optional[_Position]) -> Tuple[bytes, bytes]:
+    """The bytes of two frames. What is wrong with the older one comes before what is wrong with the text of the newer."""
+    first = _frame_near(older, here)
+    try:
+        return first, frame(newer)
+    except Fault:
+        _look(here)
+        read(first)
+        raise
+
+
 def _read_angle(angle: _Angle) -> Fraction:
     return Fraction(angle.num, angle.den)
 
@@ -369,18 +397,18 @@ def read(source: Frame) -> Fields:
 def local(source: Frame, reference: Position) -> Position:
     """The place of a frame near a reference, exactly."""
     here, out = _position(reference), _Position()
-    _done(_lib.squitter_local(frame(source), ctypes.byref(here), ctypes.byref(out)))
+    _done(_lib.squitter_local(_frame_near(source, here), ctypes.byref(here), ctypes.byref(out)))
     return _read_position(out)
 
 
 def pair(older: Frame, newer: Frame, site: Optional[Position] = None) -> Position:
     """The place of the newer of an even and an odd frame of one address, exactly; on the ground near a site."""
-    out = _Position()
-    if site is None:
-        _done(_lib.squitter_pair(frame(older), frame(newer), ctypes.byref(out)))
+    here, out = None if site is None else _position(site), _Position()
+    first, second = _two_frames(older, newer, here)
+    if here is None:
+        _done(_lib.squitter_pair(first, second, ctypes.byref(out)))
     else:
-        here = _position(site)
-        _done(_lib.squitter_pair_at(frame(older), frame(newer), ctypes.byref(here), ctypes.byref(out)))
+        _done(_lib.squitter_pair_at(first, second, ctypes.byref(here), ctypes.byref(out)))
     return _read_position(out)
 
 
@@ -408,11 +436,12 @@ class Contact:
         if not _fits(moment, 64):
             raise ValueError("a moment is a whole number below 2**64")
         out, entry = _Heard(), ctypes.byref(self._entry)
+        heard = _frame_near(source, self._site)
         if self._site is None:
-            fault = _lib.squitter_hear(entry, self._window, moment, frame(source), ctypes.byref(out))
+            fault = _lib.squitter_hear(entry, self._window, moment, heard, ctypes.byref(out))
         else:
             here = ctypes.byref(self._site)
-            fault = _lib.squitter_hear_at(entry, self._window, here, moment, frame(source), ctypes.byref(out))
+            fault = _lib.squitter_hear_at(entry, self._window, here, moment, heard, ctypes.byref(out))
         _done(fault)
         what = What(out.what)
         place = _read_position(out.position) if what in (What.FIX, What.FOLLOWED) else None
@@ -449,10 +478,10 @@ def encode(head: Union[AirHead, GroundHead], position: Position) -> bytes:
 
 def send_again(source: Frame, odd: int, position: Position) -> bytes:
     """The frame with this parity (0 even, 1 odd) and the code of this position, and all else as it was."""
-    if not _fits(odd, 8):
+    if odd not in (0, 1):
         raise Fault(Code.BAD_PARITY)
     here, out = _position(position), _FRAME()
-    _done(_lib.squitter_send_again(frame(source), odd, ctypes.byref(here), ctypes.byref(out)))
+    _done(_lib.squitter_send_again(_frame_near(source, here), odd, ctypes.byref(here), ctypes.byref(out)))
     return bytes(out)
 
 

@@ -64,6 +64,15 @@ class Calls(unittest.TestCase):
         self.refused(Code.SAME_PARITY, squitter.pair, EVEN, EVEN)
         self.refused(Code.OTHER_ADDRESS, squitter.pair, GROUND_OLDER, EVEN)
 
+    def test_order_of_faults(self):
+        damaged = EVEN[:-1] + "6"
+        self.refused(Code.PARITY, squitter.pair, damaged, "", first=1)
+        self.refused(Code.LENGTH, squitter.pair, "", damaged)
+        self.refused(Code.BAD_POSITION, squitter.pair, "", damaged, Position(91, 0))
+        self.refused(Code.BAD_POSITION, squitter.pair, damaged, "", Position(91, 0))
+        self.refused(Code.BAD_POSITION, squitter.local, "", Position(91, 0))
+        self.refused(Code.BAD_POSITION, Contact(10, Position(91, 0)).hear, 1, "")
+
     def test_sending(self):
         frame = squitter.encode(AirHead(0x40621D, altitude=squitter.field_of_feet(38000)), PLACE)
         self.assertEqual(frame, bytes.fromhex(EVEN))
