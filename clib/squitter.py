@@ -112,8 +112,7 @@ class Position(NamedTuple):
     lon: Degrees
 
 
-@dataclass(frozen=True)
-class Fields:
+class Fields(NamedTuple):
     """A squitter, field by field. A field that its kind lacks is 0; ``squitter.h`` gives the ranges."""
 
     kind: Kind
@@ -386,9 +385,10 @@ def read(source: Frame) -> Fields:
         _done(_lib.squitter_read_text(text, len(text), ctypes.byref(out)))
     else:
         _done(_lib.squitter_read_frame(frame(source), ctypes.byref(out)))
-    values = {name: getattr(out, name) for name, _ in _Fields._fields_}
-    values["kind"], values["altitude_form"] = Kind(out.kind), AltitudeForm(out.altitude_form)
-    return Fields(**values)
+    return Fields(
+        Kind(out.kind), out.address, out.ca, out.type_code, out.odd, out.lat, out.lon, out.time, out.status, out.flag,
+        out.altitude, AltitudeForm(out.altitude_form), out.feet, out.movement, out.track_status, out.track, out.raw,
+    )
 
 
 # ---- places ----
@@ -465,9 +465,9 @@ def encode(head: Union[AirHead, GroundHead], position: Position) -> bytes:
     """The frame that is sent of a position, with this head."""
     kind = _AirHead if isinstance(head, AirHead) else _GroundHead
     plain = kind()
-    for name, number in kind._fields_:
-        value = getattr(head, name)
-        if not _fits(value, 8 * ctypes.sizeof(number)):
+    for field in kind._fields_:
+        name, value = field[0], getattr(head, field[0])
+        if not _fits(value, 8 * ctypes.sizeof(field[1])):
             raise Fault(Code.BAD_FIELDS)
         setattr(plain, name, value)
     call = _lib.squitter_encode_air if kind is _AirHead else _lib.squitter_encode_ground
