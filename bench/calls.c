@@ -1,0 +1,77 @@
+/* calls: nanoseconds and calls a second of each call of libsquitter, on frames of many aircraft: the fastest of five runs. */
+#define _POSIX_C_SOURCE 199309L
+#include "squitter.h"
+#include <stdio.h>
+#include <stdlib.h>
+#include <string.h>
+#include <time.h>
+
+enum { PLACES = 1024, CALLS = 200000, RUNS = 5 };
+static uint8_t frames[2 * PLACES][14];
+static char texts[2 * PLACES][28];
+static squitter_position places[PLACES];
+static squitter_entry entries[PLACES];
+static uint64_t sink;
+
+static double now(void) {
+  struct timespec t;
+  clock_gettime(CLOCK_MONOTONIC, &t);
+  return t.tv_sec * 1e9 + t.tv_nsec;
+}
+
+static void make(void) {
+  uint64_t state = 88172645463325252ull;
+  for (int i = 0; i < PLACES; i++) {
+    squitter_air_head head = {0x400000 + (uint32_t)i, 0xC38, 5, 11, 0, 0, 0, 0};
+    uint64_t bits[2];
+    for (int k = 0; k < 2; k++) {
+      state ^= state << 13;
+      state ^= state >> 7;
+      bits[k] = state ^= state << 17;
+    }
+    places[i].lat.num = (int64_t)(bits[0] % 1600000000) - 800000000;
+    places[i].lon.num = (int64_t)(bits[1] % 3600000000) - 1800000000;
+    places[i].lat.den = places[i].lon.den = 10000000;
+    for (int odd = 0; odd < 2; odd++) {
+      head.odd = odd;
+      if (squitter_encode_air(&head, &places[i], frames[2 * i + odd]).code) exit(2);
+      squitter_text_of_frame(frames[2 * i + odd], texts[2 * i + odd]);
+    }
+  }
+}
+
+#define RATE(name, ...) do { \
+    double best = 0; \
+    for (int run = 0; run < RUNS; run++) { \
+      double start = now(); \
+      for (long n = 0; n < CALLS; n++) { int i = n % PLACES; (void)i; __VA_ARGS__; } \
+      double took = (now() - start) / CALLS; \
+      if (!run || took < best) best = took; \
+    } \
+    printf("%-18s %9.1f ns %12.0f a second\n", name, best, 1e9 / best); \
+  } while (0)
+
+int main(void) {
+  squitter_fields fields;
+  squitter_position place;
+  squitter_heard heard;
+  uint8_t frame[14], count;
+  char text[28];
+  uint64_t moment = 0;
+  make();
+  RATE("frame_of_text", sink += squitter_frame_of_text(texts[i], 28, frame).code + frame[9]);
+  RATE("text_of_frame", (squitter_text_of_frame(frames[i], text), sink += text[9]));
+  RATE("read_text", sink += squitter_read_text(texts[i], 28, &fields).code + fields.lat);
+  RATE("read_frame", sink += squitter_read_frame(frames[i], &fields).code + fields.lat);
+  RATE("local", sink += squitter_local(frames[2 * i], &places[i], &place).code + place.lat.den);
+  RATE("pair", sink += squitter_pair(frames[2 * i], frames[2 * i + 1], &place).code + place.lat.den);
+  RATE("hear", sink += squitter_hear(&entries[i], 10000, moment++, frames[2 * i + (n / PLACES) % 2], &heard).code + heard.what);
+  RATE("encode_air",
+    squitter_air_head head = {(uint32_t)i, 0xC38, 5, 11, 0, 0, 0, (uint8_t)(i % 2)};
+    sink += squitter_encode_air(&head, &places[i], frame).code + frame[9];
+  );
+  RATE("send_again", sink += squitter_send_again(frames[2 * i], 1, &places[i], frame).code + frame[9]);
+  RATE("zone_count", sink += squitter_zone_count(&places[i].lat, &count).code + count);
+  RATE("text_of_angle", sink += squitter_text_of_angle(&places[i].lat, text).code + text[3]);
+  return sink == 42;
+}

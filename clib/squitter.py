@@ -1,0 +1,540 @@
+"""ADS-B position squitters (DF17), read, decoded and written exactly: libsquitter for Python.
+
+Angles are ``fractions.Fraction`` in degrees, in and out, so nothing is rounded. A frame is 14 bytes, or its text of 28
+hexadecimal digits, bare or between ``*`` and ``;``. What has no answer raises a :class:`Fault`, whose text is the
+library's; a value that does not fit a C number of its field is refused by the fault that the field has.
+
+>>> import squitter
+>>> squitter.read("8D40621D58C382D690C8AC2863A7").feet
+38000
+>>> squitter.local("8D40621D58C382D690C8AC2863A7", squitter.Position(52, 4))
+Position(lat=Fraction(428091, 8192), lon=Fraction(64215, 16384))
+"""
+
+from __future__ import annotations
+
+import ctypes
+import enum
+import os
+from ctypes.util import find_library
+from dataclasses import dataclass
+from fractions import Fraction
+from numbers import Rational
+from typing import NamedTuple, Optional, Tuple, Union
+
+__all__ = [
+    "AirHead", "Altitude", "AltitudeForm", "Code", "Contact", "Fault", "Fields", "Frame", "GroundHead", "Heard", "Kind",
+    "Position", "What", "angle", "angle_text", "encode", "fault_text", "feet_of_field", "field_of_feet", "frame",
+    "frame_text", "local", "pair", "read", "send_again", "version", "zone_count",
+]
+
+Frame = Union[bytes, bytearray, str]
+"""A frame: 14 bytes, or a frame text."""
+
+Degrees = Union[int, Rational]
+"""An exact number of degrees: an int or a Fraction. A float is refused."""
+
+
+class Code(enum.IntEnum):
+    """The codes of faults, as ``squitter.h`` names them."""
+
+    OK = 0
+    WRAP = 1
+    SHORT = 2
+    LENGTH = 3
+    DIGIT = 4
+    NOT_DF17 = 5
+    PARITY = 6
+    NOT_POSITION = 10
+    OTHER_ADDRESS = 11
+    OTHER_KIND = 12
+    SAME_PARITY = 13
+    NO_SITE = 14
+    OUT_OF_RANGE = 15
+    ZONE_COUNTS = 16
+    BAD_POSITION = 20
+    BAD_FIELDS = 21
+    BAD_ANGLE = 22
+    BAD_LATITUDE = 23
+    BAD_FEET = 24
+    BAD_PARITY = 25
+    NOT_A_NUMBER = 30
+    TOO_MANY_DECIMALS = 31
+    ANGLE_RANGE = 32
+    MOMENT_BACK = 42
+    LONG_LINE = 40
+    BAD_MOMENT = 41
+    TABLE_FULL = 43
+
+
+class Kind(enum.IntEnum):
+    """The kind of a squitter, by its type code."""
+
+    OTHER = 0
+    AIR = 1
+    GROUND = 2
+
+
+class AltitudeForm(enum.IntEnum):
+    """What an altitude field means: nothing sent, feet, or another form."""
+
+    NONE = 0
+    FEET = 1
+    OTHER = 2
+
+
+class What(enum.IntEnum):
+    """What is heard of a frame: the first of these that applies."""
+
+    FIX = 1
+    FOLLOWED = 2
+    WAITING = 3
+    SPLIT = 4
+    FAR = 5
+    WITHOUT_SITE = 6
+    NO_PLACE = 7
+
+
+class Fault(ValueError):
+    """Why a call has no answer: the first thing that is wrong. ``str`` of it is the library's text."""
+
+    def __init__(self, code: int, first: int = 0, second: int = 0) -> None:
+        self.code = Code(code)
+        self.first = first
+        self.second = second
+        super().__init__(fault_text(code, first, second))
+
+
+class Position(NamedTuple):
+    """A latitude, north positive, and a longitude, east positive, in degrees."""
+
+    lat: Degrees
+    lon: Degrees
+
+
+class Fields(NamedTuple):
+    """A squitter, field by field. A field that its kind lacks is 0; ``squitter.h`` gives the ranges."""
+
+    kind: Kind
+    address: int
+    ca: int
+    type_code: int
+    odd: int
+    lat: int
+    lon: int
+    time: int
+    status: int
+    flag: int
+    altitude: int
+    altitude_form: AltitudeForm
+    feet: int
+    movement: int
+    track_status: int
+    track: int
+    raw: int
+
+
+@dataclass(frozen=True)
+class AirHead:
+    """All of an airborne position squitter but its place."""
+
+    address: int
+    altitude: int = 0
+    ca: int = 5
+    type_code: int = 11
+    status: int = 0
+    flag: int = 0
+    time: int = 0
+    odd: int = 0
+
+
+@dataclass(frozen=True)
+class GroundHead:
+    """All of a surface position squitter but its place."""
+
+    address: int
+    ca: int = 4
+    type_code: int = 7
+    movement: int = 0
+    track_status: int = 0
+    track: int = 0
+    time: int = 0
+    odd: int = 0
+
+
+class Altitude(NamedTuple):
+    """What an altitude field means; ``feet`` is 0 in the other forms."""
+
+    form: AltitudeForm
+    feet: int
+
+
+class Heard(NamedTuple):
+    """What is heard of a frame: which of the seven, the place where there is one, and the zone counts of a split."""
+
+    what: What
+    position: Optional[Position]
+    even: int
+    odd: int
+
+
+# ---- the library ----
+
+
+class _Fault(ctypes.Structure):
+    _fields_ = [("code", ctypes.c_uint32), ("second", ctypes.c_uint32), ("first", ctypes.c_uint64)]
+
+
+class _Angle(ctypes.Structure):
+    _fields_ = [("num", ctypes.c_int64), ("den", ctypes.c_uint64)]
+
+
+class _Position(ctypes.Structure):
+    _fields_ = [("lat", _Angle), ("lon", _Angle)]
+
+
+class _Fields(ctypes.Structure):
+    _fields_ = [
+        ("raw", ctypes.c_uint64), ("address", ctypes.c_uint32), ("lat", ctypes.c_uint32), ("lon", ctypes.c_uint32),
+        ("feet", ctypes.c_int32), ("altitude", ctypes.c_uint16), ("altitude_form", ctypes.c_uint8),
+        ("kind", ctypes.c_uint8), ("ca", ctypes.c_uint8), ("type_code", ctypes.c_uint8), ("odd", ctypes.c_uint8),
+        ("time", ctypes.c_uint8), ("status", ctypes.c_uint8), ("flag", ctypes.c_uint8), ("movement", ctypes.c_uint8),
+        ("track_status", ctypes.c_uint8), ("track", ctypes.c_uint8),
+    ]
+
+
+class _AirHead(ctypes.Structure):
+    _fields_ = [
+        ("address", ctypes.c_uint32), ("altitude", ctypes.c_uint16), ("ca", ctypes.c_uint8),
+        ("type_code", ctypes.c_uint8), ("status", ctypes.c_uint8), ("flag", ctypes.c_uint8), ("time", ctypes.c_uint8),
+        ("odd", ctypes.c_uint8),
+    ]
+
+
+class _GroundHead(ctypes.Structure):
+    _fields_ = [
+        ("address", ctypes.c_uint32), ("ca", ctypes.c_uint8), ("type_code", ctypes.c_uint8),
+        ("movement", ctypes.c_uint8), ("track_status", ctypes.c_uint8), ("track", ctypes.c_uint8),
+        ("time", ctypes.c_uint8), ("odd", ctypes.c_uint8),
+    ]
+
+
+class _Altitude(ctypes.Structure):
+    _fields_ = [("feet", ctypes.c_int32), ("form", ctypes.c_uint8)]
+
+
+_FRAME = ctypes.c_uint8 * 14
+_P = ctypes.POINTER
+
+
+class _Received(ctypes.Structure):
+    _fields_ = [("moment", ctypes.c_uint64), ("frame", _FRAME)]
+
+
+class _LastFix(ctypes.Structure):
+    _fields_ = [("moment", ctypes.c_uint64), ("position", _Position)]
+
+
+class _Side(ctypes.Structure):
+    _fields_ = [("even", _Received), ("odd", _Received), ("fix", _LastFix)]
+
+
+class _Entry(ctypes.Structure):
+    _fields_ = [("last", ctypes.c_uint64), ("newest", ctypes.c_uint64), ("airborne", _Side), ("surface", _Side)]
+
+
+class _Heard(ctypes.Structure):
+    _fields_ = [
+        ("position", _Position), ("what", ctypes.c_uint8), ("even", ctypes.c_uint8), ("odd", ctypes.c_uint8),
+    ]
+
+
+
+# What each call takes.
+_CALLS = {
+    "frame_of_text": [ctypes.c_char_p, ctypes.c_size_t, _P(_FRAME)],
+    "read_text": [ctypes.c_char_p, ctypes.c_size_t, _P(_Fields)],
+    "read_frame": [ctypes.c_char_p, _P(_Fields)],
+    "local": [ctypes.c_char_p, _P(_Position), _P(_Position)],
+    "pair": [ctypes.c_char_p, ctypes.c_char_p, _P(_Position)],
+    "pair_at": [ctypes.c_char_p, ctypes.c_char_p, _P(_Position), _P(_Position)],
+    "hear": [_P(_Entry), ctypes.c_uint64, ctypes.c_uint64, ctypes.c_char_p, _P(_Heard)],
+    "hear_at": [_P(_Entry), ctypes.c_uint64, _P(_Position), ctypes.c_uint64, ctypes.c_char_p, _P(_Heard)],
+    "encode_air": [_P(_AirHead), _P(_Position), _P(_FRAME)],
+    "encode_ground": [_P(_GroundHead), _P(_Position), _P(_FRAME)],
+    "send_again": [ctypes.c_char_p, ctypes.c_uint8, _P(_Position), _P(_FRAME)],
+    "zone_count": [_P(_Angle), _P(ctypes.c_uint8)],
+    "text_of_angle": [_P(_Angle), ctypes.c_char_p],
+    "angle_of_text": [ctypes.c_char_p, ctypes.c_size_t, _P(_Angle)],
+    "feet_of_field": [ctypes.c_uint8, ctypes.c_uint16, _P(_Altitude)],
+    "field_of_feet": [ctypes.c_int32, _P(ctypes.c_uint16)],
+}
+
+
+def _load() -> ctypes.CDLL:
+    """The library: that of LIBSQUITTER, that beside this file, or the system's."""
+    beside = os.path.join(os.path.dirname(os.path.abspath(__file__)), "libsquitter.so.0")
+    path = os.environ.get("LIBSQUITTER") or (beside if os.path.exists(beside) else None) or find_library("squitter")
+    library = ctypes.CDLL(path or "libsquitter.so.0")
+    for name, arguments in _CALLS.items():
+        call = getattr(library, f"squitter_{name}")
+        call.argtypes, call.restype = arguments, _Fault
+    library.squitter_text_of_frame.argtypes = [ctypes.c_char_p, ctypes.c_char_p]
+    library.squitter_text_of_frame.restype = None
+    library.squitter_text_of_fault.argtypes = [_P(_Fault), ctypes.c_char_p]
+    library.squitter_text_of_fault.restype = None
+    library.squitter_version.argtypes, library.squitter_version.restype = [], ctypes.c_uint32
+    return library
+
+
+_lib = _load()
+
+
+def _done(fault: _Fault) -> None:
+    """Raises the fault, unless it is none."""
+    if fault.code:
+        raise Fault(fault.code, fault.first, fault.second)
+
+
+def _fits(value: int, bits: int) -> bool:
+    return 0 <= value < 1 << bits
+
+
+def _angle(degrees: Degrees, code: Code) -> _Angle:
+    """The fraction of an exact number; a numerator or denominator that is too large is refused with this code."""
+    if not isinstance(degrees, Rational):
+        raise TypeError("degrees are an int or a Fraction, not " + type(degrees).__name__)
+    num, den = int(degrees.numerator), int(degrees.denominator)
+    if not -1 << 63 <= num < 1 << 63 or not _fits(den, 64):
+        raise Fault(code)
+    return _Angle(num, den)
+
+
+def _position(position: Position) -> _Position:
+    lat, lon = position
+    return _Position(_angle(lat, Code.BAD_POSITION), _angle(lon, Code.BAD_POSITION))
+
+
+def _look(here: Optional[_Position]) -> None:
+    """Raises BAD_POSITION for a position that is none: near it nothing is decoded, whatever the frame."""
+    if here is not None:
+        fault = _lib.squitter_local(bytes(14), ctypes.byref(here), ctypes.byref(_Position()))
+        if fault.code == Code.BAD_POSITION:
+            _done(fault)
+
+
+def _frame_near(source: Frame, here: Optional[_Position]) -> bytes:
+    """The bytes of a frame. Where its text is at fault, the fault of the position comes first, as in the library's calls."""
+    try:
+        return frame(source)
+    except Fault:
+        _look(here)
+        raise
+
+
+def _two_frames(older: Frame, newer: Frame, here: Optional[_Position]) -> Tuple[bytes, bytes]:
+    """The bytes of two frames. What is wrong with the older one comes before what is wrong with the text of the newer."""
+    first = _frame_near(older, here)
+    try:
+        return first, frame(newer)
+    except Fault:
+        _look(here)
+        read(first)
+        raise
+
+
+def _read_angle(angle: _Angle) -> Fraction:
+    return Fraction(angle.num, angle.den)
+
+
+def _read_position(position: _Position) -> Position:
+    return Position(_read_angle(position.lat), _read_angle(position.lon))
+
+
+def _text(text: str) -> bytes:
+    """The bytes of a text, as the operating system hands them over: what is no UTF-8 comes as it was."""
+    return text.encode("utf-8", "surrogateescape")
+
+
+# ---- texts and frames ----
+
+
+def frame(source: Frame) -> bytes:
+    """The 14 bytes of a frame, or of a frame text. Other bytes raise ValueError."""
+    if isinstance(source, str):
+        out, text = _FRAME(), _text(source)
+        _done(_lib.squitter_frame_of_text(text, len(text), ctypes.byref(out)))
+        return bytes(out)
+    if len(source) != 14:
+        raise ValueError("a frame has 14 bytes")
+    return bytes(source)
+
+
+def frame_text(source: Frame) -> str:
+    """The frame as 28 upper-case hexadecimal digits."""
+    out = ctypes.create_string_buffer(28)
+    _lib.squitter_text_of_frame(frame(source), out)
+    return out.raw.decode("ascii")
+
+
+def read(source: Frame) -> Fields:
+    """The fields of the squitter that a frame, or a frame text, spells."""
+    out = _Fields()
+    if isinstance(source, str):
+        text = _text(source)
+        _done(_lib.squitter_read_text(text, len(text), ctypes.byref(out)))
+    else:
+        _done(_lib.squitter_read_frame(frame(source), ctypes.byref(out)))
+    return Fields(
+        Kind(out.kind), out.address, out.ca, out.type_code, out.odd, out.lat, out.lon, out.time, out.status, out.flag,
+        out.altitude, AltitudeForm(out.altitude_form), out.feet, out.movement, out.track_status, out.track, out.raw,
+    )
+
+
+# ---- places ----
+
+
+def local(source: Frame, reference: Position) -> Position:
+    """The place of a frame near a reference, exactly."""
+    here, out = _position(reference), _Position()
+    _done(_lib.squitter_local(_frame_near(source, here), ctypes.byref(here), ctypes.byref(out)))
+    return _read_position(out)
+
+
+def pair(older: Frame, newer: Frame, site: Optional[Position] = None) -> Position:
+    """The place of the newer of an even and an odd frame of one address, exactly; on the ground near a site."""
+    here, out = None if site is None else _position(site), _Position()
+    first, second = _two_frames(older, newer, here)
+    if here is None:
+        _done(_lib.squitter_pair(first, second, ctypes.byref(out)))
+    else:
+        _done(_lib.squitter_pair_at(first, second, ctypes.byref(here), ctypes.byref(out)))
+    return _read_position(out)
+
+
+# ---- hearing ----
+
+
+class Contact:
+    """What is kept of one address, and what is heard of one frame more of it.
+
+    The caller finds the contact of a frame's address; a frame of another address is not looked for. Moments and the window
+    are whole numbers below 2**64 of milliseconds, or of any other unit.
+    """
+
+    __slots__ = ("_entry", "_site", "_window")
+
+    def __init__(self, window: int, site: Optional[Position] = None) -> None:
+        """A contact of which nothing was heard. The site is for pairs on the ground."""
+        if not _fits(window, 64):
+            raise ValueError("a window is a whole number below 2**64")
+        self._entry, self._window = _Entry(), window
+        self._site = None if site is None else _position(site)
+
+    def hear(self, moment: int, source: Frame) -> Heard:
+        """What is heard of a frame, by those that were heard before. A Fault leaves the contact as it was."""
+        if not _fits(moment, 64):
+            raise ValueError("a moment is a whole number below 2**64")
+        out, entry = _Heard(), ctypes.byref(self._entry)
+        heard = _frame_near(source, self._site)
+        if self._site is None:
+            fault = _lib.squitter_hear(entry, self._window, moment, heard, ctypes.byref(out))
+        else:
+            here = ctypes.byref(self._site)
+            fault = _lib.squitter_hear_at(entry, self._window, here, moment, heard, ctypes.byref(out))
+        _done(fault)
+        what = What(out.what)
+        place = _read_position(out.position) if what in (What.FIX, What.FOLLOWED) else None
+        return Heard(what, place, out.even, out.odd)
+
+    @property
+    def last(self) -> int:
+        """The moment of the newest frame, 0 where none was heard."""
+        return int(self._entry.last)
+
+    @property
+    def newest(self) -> int:
+        """The moment of the newest position, 0 where none was heard."""
+        return int(self._entry.newest)
+
+
+# ---- sending ----
+
+
+def encode(head: Union[AirHead, GroundHead], position: Position) -> bytes:
+    """The frame that is sent of a position, with this head."""
+    kind = _AirHead if isinstance(head, AirHead) else _GroundHead
+    plain = kind()
+    for field in kind._fields_:
+        name, value = field[0], getattr(head, field[0])
+        if not _fits(value, 8 * ctypes.sizeof(field[1])):
+            raise Fault(Code.BAD_FIELDS)
+        setattr(plain, name, value)
+    call = _lib.squitter_encode_air if kind is _AirHead else _lib.squitter_encode_ground
+    here, out = _position(position), _FRAME()
+    _done(call(ctypes.byref(plain), ctypes.byref(here), ctypes.byref(out)))
+    return bytes(out)
+
+
+def send_again(source: Frame, odd: int, position: Position) -> bytes:
+    """The frame with this parity (0 even, 1 odd) and the code of this position, and all else as it was."""
+    if odd not in (0, 1):
+        raise Fault(Code.BAD_PARITY)
+    here, out = _position(position), _FRAME()
+    _done(_lib.squitter_send_again(_frame_near(source, here), odd, ctypes.byref(here), ctypes.byref(out)))
+    return bytes(out)
+
+
+# ---- parts ----
+
+
+def zone_count(lat: Degrees) -> int:
+    """The number of longitude zones at a latitude (NL), from 1 to 59."""
+    plain, out = _angle(lat, Code.BAD_LATITUDE), ctypes.c_uint8()
+    _done(_lib.squitter_zone_count(ctypes.byref(plain), ctypes.byref(out)))
+    return out.value
+
+
+def angle_text(degrees: Degrees) -> str:
+    """An angle with seven decimals, rounded, ties away from zero."""
+    plain, out = _angle(degrees, Code.BAD_ANGLE), ctypes.create_string_buffer(16)
+    _done(_lib.squitter_text_of_angle(ctypes.byref(plain), out))
+    return out.value.decode("ascii")
+
+
+def angle(text: str) -> Fraction:
+    """The angle that a text spells: an optional ``-``, one to three digits, and optionally a point and decimals."""
+    out, spelled = _Angle(), _text(text)
+    _done(_lib.squitter_angle_of_text(spelled, len(spelled), ctypes.byref(out)))
+    return _read_angle(out)
+
+
+def feet_of_field(type_code: int, field: int) -> Altitude:
+    """What an altitude field of 12 bits means in an airborne position of this type code."""
+    if not _fits(type_code, 8) or not _fits(field, 16):
+        raise Fault(Code.BAD_FIELDS)
+    out = _Altitude()
+    _done(_lib.squitter_feet_of_field(type_code, field, ctypes.byref(out)))
+    return Altitude(AltitudeForm(out.form), out.feet)
+
+
+def field_of_feet(feet: int) -> int:
+    """The altitude field that means so many feet: a multiple of 25 from -1000 to 50175."""
+    if not -1 << 31 <= feet < 1 << 31:
+        raise Fault(Code.BAD_FEET)
+    out = ctypes.c_uint16()
+    _done(_lib.squitter_field_of_feet(feet, ctypes.byref(out)))
+    return out.value
+
+
+def fault_text(code: int, first: int = 0, second: int = 0) -> str:
+    """The words of a fault, those of the program ``squitter`` where it has some."""
+    plain, out = _Fault(code, second, first), ctypes.create_string_buffer(64)
+    _lib.squitter_text_of_fault(ctypes.byref(plain), out)
+    return out.value.decode("ascii")
+
+
+def version() -> str:
+    """The version of the library."""
+    number = _lib.squitter_version()
+    return f"{number >> 16}.{number >> 8 & 255}.{number & 255}"

@@ -1,0 +1,178 @@
+#!/usr/bin/env python3
+"""against_program.py [COUNT]: the module squitter beside the program, on so many random frames, positions and pairs (10000).
+
+The frames are nearly good: made of random positions, some damaged. The program reads them as one input of `check` and of
+`track`; `encode`, `local` and `pair`, with a site and without, are called so many times each. PROGRAM is the program (the
+launcher at the top of the repository where it is not set). Says what differs, and ends with status 1."""
+import os
+import random
+import subprocess
+import sys
+from concurrent.futures import ThreadPoolExecutor
+from fractions import Fraction
+
+HERE = os.path.dirname(os.path.abspath(__file__))
+sys.path.insert(0, os.path.join(HERE, ".."))
+import squitter  # noqa: E402
+from squitter import AirHead, Code, Contact, Fault, GroundHead, Kind, Position, What  # noqa: E402
+
+PROGRAM = os.environ.get("PROGRAM") or os.path.join(HERE, "..", "..", "squitter")
+WORDS = {What.FIX: "fix", What.FOLLOWED: "followed", What.WAITING: "waiting", What.SPLIT: "split", What.FAR: "far",
+         What.WITHOUT_SITE: "no site", What.NO_PLACE: "no position"}
+PARITIES = ("even", "odd")
+differences = 0
+
+
+def same(what, ours, theirs):
+    global differences
+    if ours != theirs:
+        differences += 1
+        if differences < 10:
+            print(f"{what} differs:\n  module  {ours}\n  program {theirs}")
+
+
+def run(*words, text=""):
+    done = subprocess.run([PROGRAM, *words], input=text, capture_output=True, text=True)
+    return done.stdout, done.stderr, done.returncode
+
+
+def decimals(number):
+    """A random angle as text, with seven decimals."""
+    sign = "-" if number < 0 else ""
+    return f"{sign}{abs(number) // 10**7}.{abs(number) % 10**7:07}"
+
+
+def random_position(rng):
+    border = rng.random() < 0.2
+    lat = rng.choice([-90, -87, 0, 87, 90]) * 10**7 + rng.randint(-5, 5) if border else rng.randint(-90 * 10**7, 90 * 10**7)
+    lon = rng.choice([-180, -90, 0, 90, 180]) * 10**7 + rng.randint(-5, 5) if border else rng.randint(-180 * 10**7, 180 * 10**7)
+    return max(-90 * 10**7, min(90 * 10**7, lat)), max(-180 * 10**7, min(180 * 10**7, lon))
+
+
+def degrees(place):
+    return Position(*(Fraction(part, 10**7) for part in place))
+
+
+def random_frames(rng, count):
+    """Frames of a few aircraft that move a little, now and then damaged or of another kind."""
+    places = {}
+    for _ in range(count):
+        address = rng.randint(1, 40)
+        lat, lon = places.get(address) or random_position(rng)
+        if rng.random() < 0.01:
+            lat, lon = random_position(rng)
+        lat = max(-90 * 10**7, min(90 * 10**7, lat + rng.randint(-20000, 20000)))
+        lon = max(-180 * 10**7, min(180 * 10**7, lon + rng.randint(-20000, 20000)))
+        places[address] = lat, lon
+        if address % 4:
+            head = AirHead(address, rng.randint(0, 4095), rng.randint(0, 7), rng.choice([9, 11, 18, 20, 22]), rng.randint(0, 3),
+                           rng.randint(0, 1), rng.randint(0, 1), rng.randint(0, 1))
+        else:
+            head = GroundHead(address, rng.randint(0, 7), rng.randint(5, 8), rng.randint(0, 127), rng.randint(0, 1),
+                              rng.randint(0, 127), rng.randint(0, 1), rng.randint(0, 1))
+        frame = bytearray(squitter.encode(head, degrees((lat, lon))))
+        if rng.random() < 0.1:
+            frame[rng.randrange(14)] ^= 1 << rng.randrange(8)
+        text = squitter.frame_text(frame)
+        if rng.random() < 0.1:
+            at = rng.randrange(1, len(text))
+            text = rng.choice([text[:at] + "g" + text[at + 1:], text[:at], f"*{text}", f"*{text};", text.lower()])
+        yield text
+
+
+def summary(text):
+    """The line of `check`, without its number."""
+    try:
+        fields = squitter.read(text)
+    except Fault as fault:
+        return str(fault)
+    if fields.kind == Kind.OTHER:
+        return f"ok {fields.address:06X} other {fields.type_code}"
+    kind = "air" if fields.kind == Kind.AIR else "ground"
+    return f"ok {fields.address:06X} {kind} {PARITIES[fields.odd]} {fields.lat} {fields.lon}"
+
+
+def heard_line(contacts, moment, text, site):
+    """The line of `track`, without its number."""
+    try:
+        address = squitter.read(text).address
+        contact = contacts.setdefault(address, Contact(10_000, site))
+        heard = contact.hear(moment, text)
+    except Fault as fault:
+        return str(fault)
+    line = f"{WORDS[heard.what]} {address:06X}"
+    if heard.position:
+        line += " " + " ".join(map(squitter.angle_text, heard.position))
+    return line + (f" {heard.even} {heard.odd}" if heard.what == What.SPLIT else "")
+
+
+def place_lines(call, *arguments):
+    """What `local` and `pair` write, or the fault that they report."""
+    try:
+        place = call(*arguments)
+    except Fault as fault:
+        return str(fault)
+    fractions = " ".join(f"{part.numerator}/{part.denominator}" for part in place)
+    return " ".join(map(squitter.angle_text, place)) + "\n" + fractions + "\n"
+
+
+def shown(answer):
+    """What the program wrote, or the fault that it reported."""
+    out, report, status = answer
+    return out if status == 0 else report.strip()
+
+
+def compare_logs(rng, texts):
+    out, _, _ = run("check", text="".join(f"{text}\n" for text in texts))
+    *lines, tally = out.splitlines()
+    for number, (text, line) in enumerate(zip(texts, lines), 1):
+        same(f"check of {text!r}", f"{number} {summary(text)}", line)
+    moment, log, contacts, ours = 0, [], {}, []
+    site = Position(Fraction(521, 10), 4)
+    for number, text in enumerate(texts, 1):
+        moment += rng.randint(0, 900)
+        log.append(f"{moment} {text}\n")
+        ours.append(f"{number} {heard_line(contacts, moment, text, site)}")
+    out, _, _ = run("track", "--lat", "52.1", "--lon", "4", text="".join(log))
+    theirs = out.splitlines()
+    same("lines of track", len(ours), len(theirs))
+    for one, other in zip(ours, theirs):
+        same("track", one, other)
+    return len(lines)
+
+
+def compare_calls(rng, texts, count):
+    good = [text for text in texts if not summary(text).startswith("bad")]
+    asked = []
+    for _ in range(count):
+        place = random_position(rng)
+        lat, lon = map(decimals, place)
+        text, other = rng.choice(good), rng.choice(good)
+        near = f"--lat={lat}", f"--lon={lon}"
+        asked.append((place_lines(squitter.local, text, degrees(place)), ("local", *near, text)))
+        asked.append((place_lines(squitter.pair, text, other), ("pair", text, other)))
+        asked.append((place_lines(squitter.pair, text, other, degrees(place)), ("pair", *near, text, other)))
+        odd, address, feet = rng.randint(0, 1), rng.randint(0, (1 << 24) - 1), rng.randrange(-1000, 50176, 25)
+        head = AirHead(address, squitter.field_of_feet(feet), odd=odd)
+        words = "--kind=air", f"--parity={PARITIES[odd]}", f"--address={address:06X}", f"--feet={feet}"
+        sent = squitter.frame_text(squitter.encode(head, degrees(place))) + "\n"
+        asked.append((sent, ("encode", *words, *near)))
+    with ThreadPoolExecutor(os.cpu_count()) as workers:
+        for (ours, words), answer in zip(asked, workers.map(lambda one: run(*one[1]), asked)):
+            same(" ".join(words), ours, shown(answer))
+    return len(asked)
+
+
+def main():
+    count = int(sys.argv[1]) if len(sys.argv) > 1 else 10_000
+    rng = random.Random(20261122)
+    texts = list(random_frames(rng, count))
+    lines = compare_logs(rng, texts)
+    calls = compare_calls(rng, texts, count)
+    print(f"against the program: {lines} frames by check and by track, {calls} calls of local, pair and encode; "
+          f"{differences} differ")
+    sys.exit(differences != 0)
+
+
+if __name__ == "__main__":
+    main()

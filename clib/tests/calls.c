@@ -1,0 +1,126 @@
+/* Each call once or more, through the shared object, with buffers of their exact size from malloc, so that a run under
+ * valgrind sees each byte that is read or written outside them. */
+#include "squitter.h"
+#include <stdio.h>
+#include <stdlib.h>
+#include <string.h>
+
+static int failed;
+#define CHECK(what) do { if (!(what)) { printf("line %d: %s\n", __LINE__, #what); failed = 1; } } while (0)
+
+static const char even[] = "8D40621D58C382D690C8AC2863A7", odd[] = "*8D40621D58C386435CC412692AD6;";
+static const char ground_older[] = "8C4841753AAB238733C8CD4020B1", ground_newer[] = "8C4841753A8A35323FAEBDAC702D";
+
+/* A copy of exactly so many bytes. */
+static void *copy(const void *bytes, size_t length) {
+  void *at = malloc(length ? length : 1);
+  if (!at) exit(2);
+  memcpy(at, bytes, length);
+  return at;
+}
+
+static uint8_t *frame_of(const char *text) {
+  size_t length = strlen(text);
+  char *exact = copy(text, length);
+  uint8_t *out = malloc(14);
+  if (!out) exit(2);
+  CHECK(squitter_frame_of_text(exact, length, out).code == SQUITTER_OK);
+  free(exact);
+  return out;
+}
+
+static void check_texts(const uint8_t *frame) {
+  char *text = malloc(28);
+  squitter_fields *fields = malloc(sizeof *fields), before;
+  char *short_text = copy("5D40621D000000", 14);
+  if (!text || !fields) exit(2);
+  squitter_text_of_frame(frame, text);
+  CHECK(!memcmp(text, even, 28));
+  CHECK(squitter_read_text(text, 28, fields).code == SQUITTER_OK && fields->lat == 93000 && fields->lon == 51372);
+  CHECK(squitter_read_frame(frame, fields).code == SQUITTER_OK && fields->feet == 38000 && fields->kind == SQUITTER_AIR);
+  before = *fields;
+  CHECK(squitter_read_text(short_text, 14, fields).code == SQUITTER_SHORT && !memcmp(&before, fields, sizeof before));
+  CHECK(squitter_read_text(short_text, 0, fields).code == SQUITTER_LENGTH);
+  free(text);
+  free(fields);
+  free(short_text);
+}
+
+static void check_places(const uint8_t *older, const uint8_t *newer) {
+  squitter_position near_it = {{52, 1}, {4, 1}}, bad = {{1, 0}, {0, 1}}, site = {{51990, 1000}, {4375, 1000}};
+  squitter_position *here = copy(&near_it, sizeof near_it), *out = malloc(sizeof *out);
+  uint8_t *a = frame_of(ground_older), *b = frame_of(ground_newer);
+  if (!out) exit(2);
+  CHECK(squitter_local(newer, here, out).code == SQUITTER_OK && out->lat.num == 428091 && out->lat.den == 8192);
+  CHECK(squitter_local(newer, &bad, out).code == SQUITTER_BAD_POSITION && out->lon.num == 64215);
+  CHECK(squitter_pair(older, newer, out).code == SQUITTER_OK && out->lon.num == 64215 && out->lon.den == 16384);
+  CHECK(squitter_pair(a, b, out).code == SQUITTER_NO_SITE);
+  CHECK(squitter_pair_at(a, b, &site, out).code == SQUITTER_OK && out->lat.num == 202304115 && out->lat.den == 3866624);
+  free(here);
+  free(out);
+  free(a);
+  free(b);
+}
+
+static void check_sending(const uint8_t *older, const uint8_t *newer) {
+  squitter_position place = {{428091, 8192}, {64215, 16384}};
+  squitter_air_head head = {0x40621D, 0xC38, 5, 11, 0, 0, 0, 0};
+  squitter_ground_head taxi = {0x484175, 4, 9, 0, 0, 0, 0, 0};
+  uint8_t *out = malloc(14);
+  if (!out) exit(2);
+  CHECK(squitter_encode_air(&head, &place, out).code == SQUITTER_OK && !memcmp(out, newer, 14));
+  memset(out, 7, 14);
+  CHECK(squitter_encode_ground(&taxi, &place, out).code == SQUITTER_BAD_FIELDS && out[0] == 7 && out[13] == 7);
+  taxi.type_code = 7;
+  CHECK(squitter_encode_ground(&taxi, &place, out).code == SQUITTER_OK);
+  CHECK(squitter_send_again(older, 0, &place, out).code == SQUITTER_OK && !memcmp(out, newer, 14));
+  CHECK(squitter_send_again(older, 9, &place, out).code == SQUITTER_BAD_PARITY);
+  free(out);
+}
+
+static void check_parts(void) {
+  squitter_angle half = {-1, 2}, read;
+  squitter_altitude altitude;
+  squitter_fault zones = {SQUITTER_ZONE_COUNTS, 44, 45};
+  uint8_t count = 0;
+  uint16_t field = 0;
+  char *text = malloc(16), *words = malloc(64), *spelled = copy("-0.50", 5);
+  if (!text || !words) exit(2);
+  CHECK(squitter_zone_count(&half, &count).code == SQUITTER_OK && count == 59);
+  CHECK(squitter_text_of_angle(&half, text).code == SQUITTER_OK && !strcmp(text, "-0.5000000"));
+  CHECK(squitter_angle_of_text(spelled, 5, &read).code == SQUITTER_OK && read.num == -1 && read.den == 2);
+  CHECK(squitter_feet_of_field(11, 0xC38, &altitude).code == SQUITTER_OK && altitude.feet == 38000);
+  CHECK(squitter_field_of_feet(38000, &field).code == SQUITTER_OK && field == 0xC38);
+  squitter_text_of_fault(&zones, words);
+  CHECK(!strcmp(words, "zone counts 45 44"));
+  CHECK(squitter_version() == SQUITTER_VERSION);
+  free(text);
+  free(words);
+  free(spelled);
+}
+
+static void check_hearing(const uint8_t *older, const uint8_t *newer) {
+  squitter_entry *entry = calloc(1, sizeof *entry);
+  squitter_heard heard;
+  squitter_position site = {{52, 1}, {4, 1}};
+  if (!entry) exit(2);
+  CHECK(squitter_hear(entry, 10000, 5, older, &heard).code == SQUITTER_OK && heard.what == SQUITTER_WAITING);
+  CHECK(squitter_hear(entry, 10000, 9, newer, &heard).code == SQUITTER_OK && heard.what == SQUITTER_FIX);
+  CHECK(heard.position.lat.num == 428091 && heard.position.lat.den == 8192);
+  CHECK(squitter_hear_at(entry, 10000, &site, 8, older, &heard).code == SQUITTER_MOMENT_BACK);
+  memset(entry, 0xFF, sizeof *entry);
+  CHECK(squitter_hear(entry, 10000, 5, older, &heard).code == SQUITTER_MOMENT_BACK);
+  free(entry);
+}
+
+int main(void) {
+  uint8_t *older = frame_of(odd), *newer = frame_of(even);
+  check_texts(newer);
+  check_places(older, newer);
+  check_sending(older, newer);
+  check_parts();
+  check_hearing(older, newer);
+  free(older);
+  free(newer);
+  return failed;
+}

@@ -1,0 +1,132 @@
+#!/usr/bin/env python3
+"""The module squitter: each call on a worked row, each fault as it is raised, and what Python alone adds."""
+import doctest
+import os
+import sys
+import unittest
+from fractions import Fraction
+
+sys.path.insert(0, os.path.join(os.path.dirname(os.path.abspath(__file__)), ".."))
+import squitter  # noqa: E402
+from squitter import AirHead, AltitudeForm, Code, Contact, Fault, GroundHead, Kind, Position, What  # noqa: E402
+
+EVEN = "8D40621D58C382D690C8AC2863A7"
+ODD = "8D40621D58C386435CC412692AD6"
+GROUND_OLDER = "8C4841753AAB238733C8CD4020B1"
+GROUND_NEWER = "8C4841753A8A35323FAEBDAC702D"
+PLACE = Position(Fraction(428091, 8192), Fraction(64215, 16384))
+GROUND_PLACE = Position(Fraction(202304115, 3866624), Fraction(2172069, 458752))
+SITE = Position(Fraction(51990, 1000), Fraction(4375, 1000))
+
+
+class Calls(unittest.TestCase):
+    def refused(self, code, call, *arguments, first=0, second=0):
+        with self.assertRaises(Fault) as raised:
+            call(*arguments)
+        fault = raised.exception
+        self.assertEqual((fault.code, fault.first, fault.second), (code, first, second))
+        self.assertEqual(str(fault), squitter.fault_text(code, first, second))
+
+    def test_frames(self):
+        frame = squitter.frame(f"*{EVEN.lower()};")
+        self.assertEqual(frame, bytes.fromhex(EVEN))
+        self.assertEqual(squitter.frame_text(frame), EVEN)
+        self.assertEqual(squitter.frame(bytearray(frame)), frame)
+        self.refused(Code.WRAP, squitter.frame, "*")
+        self.refused(Code.SHORT, squitter.frame, "5D40621D000000")
+        self.refused(Code.LENGTH, squitter.frame, "", first=0)
+        self.refused(Code.DIGIT, squitter.frame, EVEN[:-1] + "G", first=28)
+        self.refused(Code.LENGTH, squitter.frame, EVEN[:-1] + "\u00e9", first=29)
+        with self.assertRaises(ValueError):
+            squitter.frame(b"\0" * 13)
+
+    def test_fields(self):
+        fields = squitter.read(EVEN)
+        self.assertEqual(fields, squitter.read(bytes.fromhex(EVEN)))
+        self.assertEqual((fields.kind, fields.address, fields.ca, fields.type_code), (Kind.AIR, 0x40621D, 5, 11))
+        self.assertEqual((fields.odd, fields.lat, fields.lon), (0, 93000, 51372))
+        self.assertEqual((fields.altitude_form, fields.feet, fields.altitude), (AltitudeForm.FEET, 38000, 0xC38))
+        self.assertEqual(squitter.read(GROUND_NEWER).kind, Kind.GROUND)
+        self.refused(Code.PARITY, squitter.read, EVEN[:-1] + "6", first=1)
+        self.refused(Code.NOT_DF17, squitter.read, bytes(14))
+
+    def test_local(self):
+        self.assertEqual(squitter.local(EVEN, Position(52, 4)), PLACE)
+        self.refused(Code.BAD_POSITION, squitter.local, EVEN, Position(91, 0))
+        self.refused(Code.BAD_POSITION, squitter.local, EVEN, Position(Fraction(1, 1 << 64), 0))
+        with self.assertRaises(TypeError):
+            squitter.local(EVEN, Position(52.0, 4.0))
+
+    def test_pairs(self):
+        self.assertEqual(squitter.pair(ODD, EVEN), PLACE)
+        self.assertEqual(squitter.pair(GROUND_OLDER, GROUND_NEWER, SITE), GROUND_PLACE)
+        self.refused(Code.NO_SITE, squitter.pair, GROUND_OLDER, GROUND_NEWER)
+        self.refused(Code.SAME_PARITY, squitter.pair, EVEN, EVEN)
+        self.refused(Code.OTHER_ADDRESS, squitter.pair, GROUND_OLDER, EVEN)
+
+    def test_order_of_faults(self):
+        damaged = EVEN[:-1] + "6"
+        self.refused(Code.PARITY, squitter.pair, damaged, "", first=1)
+        self.refused(Code.LENGTH, squitter.pair, "", damaged)
+        self.refused(Code.BAD_POSITION, squitter.pair, "", damaged, Position(91, 0))
+        self.refused(Code.BAD_POSITION, squitter.pair, damaged, "", Position(91, 0))
+        self.refused(Code.BAD_POSITION, squitter.local, "", Position(91, 0))
+        self.refused(Code.BAD_POSITION, Contact(10, Position(91, 0)).hear, 1, "")
+
+    def test_sending(self):
+        frame = squitter.encode(AirHead(0x40621D, altitude=squitter.field_of_feet(38000)), PLACE)
+        self.assertEqual(frame, bytes.fromhex(EVEN))
+        fields = squitter.read(GROUND_NEWER)
+        head = GroundHead(fields.address, fields.ca, fields.type_code, fields.movement, fields.track_status, fields.track,
+                          fields.time, fields.odd)
+        self.assertEqual(squitter.encode(head, GROUND_PLACE), bytes.fromhex(GROUND_NEWER))
+        self.assertEqual(squitter.send_again(ODD, 0, PLACE), bytes.fromhex(EVEN))
+        self.refused(Code.BAD_FIELDS, squitter.encode, AirHead(1 << 24), PLACE)
+        self.refused(Code.BAD_FIELDS, squitter.encode, AirHead(1 << 32), PLACE)
+        self.refused(Code.BAD_PARITY, squitter.send_again, ODD, 2, PLACE)
+        self.refused(Code.BAD_PARITY, squitter.send_again, ODD, -1, PLACE)
+
+    def test_parts(self):
+        self.assertEqual(squitter.zone_count(Fraction(-523, 10)), 36)
+        self.assertEqual(squitter.angle_text(Fraction(-1, 8)), "-0.1250000")
+        self.assertEqual(squitter.angle("-0.50"), Fraction(-1, 2))
+        self.assertEqual(squitter.feet_of_field(11, 0xC38), (AltitudeForm.FEET, 38000))
+        self.assertEqual(squitter.feet_of_field(20, 5), (AltitudeForm.OTHER, 0))
+        self.assertEqual(squitter.version(), "0.1.0")
+        self.refused(Code.BAD_LATITUDE, squitter.zone_count, 91)
+        self.refused(Code.BAD_ANGLE, squitter.angle_text, 361)
+        self.refused(Code.NOT_A_NUMBER, squitter.angle, "1e3")
+        self.refused(Code.TOO_MANY_DECIMALS, squitter.angle, "1.0000000000000")
+        self.refused(Code.ANGLE_RANGE, squitter.angle, "360.1")
+        self.refused(Code.BAD_FEET, squitter.field_of_feet, 38001)
+        self.refused(Code.BAD_FEET, squitter.field_of_feet, 1 << 40)
+        self.refused(Code.BAD_FIELDS, squitter.feet_of_field, 19, 0)
+
+    def test_hearing(self):
+        contact = Contact(10_000)
+        self.assertEqual(contact.hear(5, ODD), (What.WAITING, None, 0, 0))
+        self.assertEqual(contact.hear(10_005, EVEN), (What.FIX, PLACE, 0, 0))
+        self.refused(Code.MOMENT_BACK, contact.hear, 10_004, EVEN, first=10_005)
+        self.assertEqual((contact.last, contact.newest), (10_005, 10_005))
+        self.assertEqual(contact.hear(10_006, EVEN).what, What.FOLLOWED)
+        self.assertEqual(contact.hear(30_000, EVEN).what, What.WAITING)
+        ground = Contact(10, SITE)
+        ground.hear(1, GROUND_OLDER)
+        self.assertEqual(ground.hear(2, GROUND_NEWER), (What.FIX, GROUND_PLACE, 0, 0))
+        self.refused(Code.BAD_POSITION, Contact(10, Position(91, 0)).hear, 1, EVEN)
+
+    def test_faults(self):
+        self.assertEqual(squitter.fault_text(Code.ZONE_COUNTS, 45, 44), "zone counts 45 44")
+        self.assertEqual(squitter.fault_text(Code.PARITY, 10), "parity 00000A")
+        self.assertEqual(squitter.fault_text(77), "unknown fault")
+        texts = [squitter.fault_text(code) for code in Code]
+        self.assertNotIn("unknown fault", texts)
+
+
+def load_tests(loader, tests, pattern):
+    tests.addTests(doctest.DocTestSuite(squitter))
+    return tests
+
+
+if __name__ == "__main__":
+    unittest.main()

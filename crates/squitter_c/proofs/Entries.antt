@@ -1,0 +1,135 @@
+-- What entries stand for.
+use Rattle.std.proofs.Common.{◌≡◌, ◌≤◌, ℕ, ◌∷◌, [], Option, Some, None, nat_eq, true, refl, sym, ◌∙◌, ap, subst, arith}
+use Rattle.std.proofs.Props.{props}
+use mathlib.Core.HLevel.{is_prop→PathP}
+use Rattle.sq_angle.specs.declared.position.Position.{Position}
+use Rattle.sq_angle.specs.Angle.{degrees}
+use Rattle.sq_angle.specs.Bounds.{IsAngle, IsPosition}
+use Rattle.sq_angle.specs.Fraction.{Fraction}
+use Rattle.sq_angle.proofs.OneReading.{one_angle}
+use Rattle.sq_bits.specs.Frames.{field_of}
+use Rattle.sq_message.specs.declared.squitter.Me.{Me}
+use Rattle.sq_message.specs.declared.squitter.Me.TheVariants as kinds
+use Rattle.sq_message.specs.declared.squitter.Squitter.{Squitter}
+use Rattle.sq_message.specs.Parts.{squitter_parts}
+use Rattle.sq_message.specs.Spelling.{Spells}
+use Rattle.sq_message.proofs.One.{one_squitter}
+use Rattle.sq_track.specs.declared.contact.Contact.{Contact}
+use Rattle.sq_track.specs.declared.contact.LastFix.{LastFix}
+use Rattle.sq_track.specs.declared.contact.Received.{Received}
+use Rattle.sq_track.specs.declared.contact.Side.{Side}
+use Rattle.sq_track.specs.History.{History}
+use Rattle.sq_track.specs.Kept.{fix_in, frame_opposite, pair_in, recent_position, recent_squitter}
+use Rattle.sq_track.specs.Ordered.{blank_contact}
+use Rattle.sq_track.specs.Replies.{IsInTime}
+use Rattle.sq_zones.specs.declared.parity.Parity.{Parity}
+use Rattle.sq_zones.specs.declared.parity.Parity.TheVariants.{Even, Odd}
+use Rattle.squitter_c.specs.declared.entry.PlainEntry.{PlainEntry}
+use Rattle.squitter_c.specs.declared.entry.PlainFix.{PlainFix}
+use Rattle.squitter_c.specs.declared.entry.PlainReceived.{PlainReceived}
+use Rattle.squitter_c.specs.declared.entry.PlainSide.{PlainSide}
+use Rattle.squitter_c.specs.declared.plain.PlainPosition.{PlainPosition}
+use Rattle.squitter_c.specs.Plain.{IsOfDegrees, PlainIsPosition, fraction_of}
+use Rattle.squitter_c.specs.Reading.{frame_of}
+use Rattle.squitter_c.specs.Tracking.{BlankKeepsNothing, IsContactOf, IsFixOf, IsReceivedOf, IsSideOf, blank_side, last_of, no_bytes}
+
+-- positions with one latitude and one longitude are one
+one_position : (a b : Position) → a.lat ≡ b.lat → a.lon ≡ b.lon → a ≡ b
+one_position a b lat lon =
+    λ i. record {
+      lat = lat i;
+      lon = lon i;
+      in_range = is_prop→PathP (λ j. IsPosition (degrees (lat j)) (degrees (lon j))) (λ j. hlevel props) a.in_range b.in_range i;
+    }
+
+-- fractions are those of one position
+one_of_degrees : (plain : PlainPosition) (a b : Position) → IsOfDegrees plain a → IsOfDegrees plain b → a ≡ b
+one_of_degrees plain a b x y =
+    one_position a b (one_angle a.lat b.lat (x.lat ∙ sym y.lat)) (one_angle a.lon b.lon (x.lon ∙ sym y.lon))
+
+-- a position's fractions are a position
+is_position : (plain : PlainPosition) (p : Position) → IsOfDegrees plain p → PlainIsPosition plain
+is_position plain p x = record {
+  lat = subst (λ (f : Fraction). IsAngle f.num f.den) x.lat p.lat.in_range;
+  lon = subst (λ (f : Fraction). IsAngle f.num f.den) x.lon p.lon.in_range;
+  both = subst (λ (f : Fraction). IsPosition f (fraction_of plain.lon)) x.lat
+      (subst (λ (f : Fraction). IsPosition (degrees p.lat) f) x.lon p.in_range);
+}
+
+-- a kept frame stands for one squitter, or for none
+one_received : (plain : PlainReceived) (a b : Option Received) → IsReceivedOf plain a → IsReceivedOf plain b → a ≡ b
+one_received plain (Some a) (Some b) x y =
+    let squitter = one_squitter (frame_of plain.frame) a.squitter b.squitter x.0 y.0 in
+    let moment = x.1 ∙ sym y.1 in
+    ap Some (λ i. record { moment = moment i; squitter = squitter i })
+one_received plain (Some a) None x y = absurd (y a.squitter x.0)
+one_received plain None (Some b) x y = absurd (x b.squitter y.0)
+one_received plain None None x y = refl
+
+-- a kept fix stands for one, or for none
+one_fix : (plain : PlainFix) (a b : Option LastFix) → IsFixOf plain a → IsFixOf plain b → a ≡ b
+one_fix plain (Some a) (Some b) x y =
+    let position = one_of_degrees plain.position a.position b.position x.0 y.0 in
+    let moment = x.1 ∙ sym y.1 in
+    ap Some (λ i. record { moment = moment i; position = position i })
+one_fix plain (Some a) None x y = absurd (y (is_position plain.position a.position x.0))
+one_fix plain None (Some b) x y = absurd (x (is_position plain.position b.position y.0))
+one_fix plain None None x y = refl
+
+one_side : (plain : PlainSide) (a b : Side) → IsSideOf plain a → IsSideOf plain b → a ≡ b
+one_side plain a b x y =
+    let even = one_received plain.even a.even b.even x.even y.even in
+    let odd = one_received plain.odd a.odd b.odd x.odd y.odd in
+    let fix = one_fix plain.fix a.fix b.fix x.fix y.fix in
+    λ i. record { even = even i; odd = odd i; fix = fix i }
+
+-- an entry stands for one contact
+pub one_contact : (plain : PlainEntry) (a b : Contact) → IsContactOf plain a → IsContactOf plain b → a ≡ b
+one_contact plain a b x y =
+    let moment = x.moment ∙ sym y.moment in
+    let airborne = one_side plain.airborne a.airborne b.airborne x.airborne y.airborne in
+    let surface = one_side plain.surface a.surface b.surface x.surface y.surface in
+    λ i. record { moment = moment i; airborne = airborne i; surface = surface i }
+
+-- a moment that is not below the last is in time
+pub in_time : (history : History) (last moment : ℕ) → last ≡ last_of history → last ≤ moment → IsInTime history moment
+in_time [] last moment is le = tt
+in_time (entry ∷ earlier) last moment is le = omega (arith, is, le)
+
+-- a frame of zeros spells nothing
+pub nothing_spelled : (q : Squitter) → ¬ (Spells (frame_of no_bytes) q)
+unfolding field_of
+nothing_spelled q spells = let format : nat_eq 0 17 ≡ true = ap (λ n. nat_eq n 17) spells.format in absurd (cc)
+
+-- an all-zero fix is none
+no_fix_kept : ¬ (PlainIsPosition blank_side.fix.position)
+no_fix_kept is = absurd (omega (arith, is.lat.positive))
+
+blank_is_side : IsSideOf blank_side blank_contact.airborne
+blank_is_side = record { even = nothing_spelled; odd = nothing_spelled; fix = no_fix_kept }
+
+-- nothing is kept in a blank contact
+no_frame : (parity : Parity) → frame_opposite parity blank_contact.airborne ≡ None
+no_frame Even = refl
+no_frame Odd = refl
+
+no_pair : (window moment : ℕ) (me : Me) → recent_squitter window moment (pair_in blank_contact me) ≡ None
+no_pair window moment (kinds.Airborne a) = ap (recent_squitter window moment) (no_frame a.parity)
+no_pair window moment (kinds.Surface a) = ap (recent_squitter window moment) (no_frame a.parity)
+no_pair window moment (kinds.Other a) = refl
+
+no_fix : (window moment : ℕ) (me : Me) → recent_position window moment (fix_in blank_contact me) ≡ None
+no_fix window moment (kinds.Airborne a) = refl
+no_fix window moment (kinds.Surface a) = refl
+no_fix window moment (kinds.Other a) = refl
+
+pub blank_keeps_nothing : BlankKeepsNothing
+blank_keeps_nothing window address = record {
+  contact = blank_contact;
+  stands = record { moment = refl; airborne = blank_is_side; surface = blank_is_side };
+  remembers = record {
+    pair = λ moment q later same. no_pair window moment (squitter_parts q).me;
+    fix = λ moment q later same. rw (no_fix window moment (squitter_parts q).me) tt;
+  };
+  last = refl;
+}

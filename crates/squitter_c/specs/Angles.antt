@@ -1,0 +1,62 @@
+-- What is told of an angle: its text, the angle of a text, and the zone count of a latitude.
+use Rattle.std.specs.Prelude.{◌≡◌, ◌<◌, ℕ, List, length, slice_index, Result, Ok, Err}
+use Rattle.sq_angle.specs.declared.angle.Angle.{Angle}
+use Rattle.sq_angle.specs.declared.read.AngleFault.{AngleFault}
+use Rattle.sq_angle.specs.Angle.{degrees}
+use Rattle.sq_angle.specs.Decimal.{IsDecimal7}
+use Rattle.sq_angle.specs.Fraction.{IsWithin}
+use Rattle.sq_angle.specs.Reading.{IsReading}
+use Rattle.sq_zones.specs.Zones.{zones_at}
+use Rattle.squitter_c.specs.declared.faults.Fault.{Fault}
+use Rattle.squitter_c.specs.declared.faults.Refusal.{Refusal}
+use Rattle.squitter_c.specs.declared.faults.Refusal.TheVariants as refusals
+use Rattle.squitter_c.specs.declared.plain.PlainAngle.{PlainAngle}
+use Rattle.squitter_c.specs.Faults.{Tells, as_it_is, of_angles}
+use Rattle.squitter_c.specs.Plain.{IsLowestOf, PlainIsAngle, fraction_of}
+
+-- the text stands in front in these bytes, and all that follows is 0, at least one byte
+pub record StandsIn (text bytes : List ℕ) : Type 0 where
+  pub ended : length text < length bytes
+  pub each : (k : ℕ) → slice_index bytes k ≡ slice_index text k
+
+-- the bytes hold the text with seven decimals, and then zeros
+abbrev pub HoldsDecimal7 : Angle → List ℕ → Type 0
+HoldsDecimal7 angle bytes = (text : List ℕ) × IsDecimal7 (degrees angle) text × StandsIn text bytes
+
+-- the angle of a fraction, or that it is none
+abbrev pub IsAngleAnswer : PlainAngle → Result Angle Refusal → Type 0
+IsAngleAnswer plain (Ok angle) = degrees angle ≡ fraction_of plain
+IsAngleAnswer plain (Err reason) = (¬ (PlainIsAngle plain)) × (reason ≡ refusals.NoAngle)
+
+-- the text with seven decimals
+abbrev pub IsAngleWritten : PlainAngle → (old new : List ℕ) → Fault → Type 0
+IsAngleWritten plain old new fault =
+    (answer : Result Angle Refusal) × IsAngleAnswer plain answer × Tells HoldsDecimal7 as_it_is answer old new fault
+
+-- the angle in lowest terms
+abbrev pub IsLowestAngle : Angle → PlainAngle → Type 0
+IsLowestAngle angle plain = IsLowestOf (degrees angle) plain
+
+-- the angle that a text spells
+abbrev pub IsAngleRead : List ℕ → (old new : PlainAngle) → Fault → Type 0
+IsAngleRead text old new fault =
+    (answer : Result Angle AngleFault) × IsReading text answer × Tells IsLowestAngle of_angles answer old new fault
+
+-- the fraction is an angle of at most 90 degrees on both sides
+pub record IsLatitude (plain : PlainAngle) : Type 0 where
+  pub angle : PlainIsAngle plain
+  pub within : IsWithin 90 (fraction_of plain)
+
+-- the zone count of a latitude, or that it is none
+abbrev pub IsZoneAnswer : PlainAngle → Result ℕ Refusal → Type 0
+IsZoneAnswer plain (Ok count) = IsLatitude plain × (count ≡ zones_at (fraction_of plain))
+IsZoneAnswer plain (Err reason) = (¬ (IsLatitude plain)) × (reason ≡ refusals.NoLatitude)
+
+-- the number itself
+abbrev pub IsItself : ℕ → ℕ → Type 0
+IsItself answer written = written ≡ answer
+
+-- the zone count
+abbrev pub IsZoneCount : PlainAngle → (old new : ℕ) → Fault → Type 0
+IsZoneCount plain old new fault =
+    (answer : Result ℕ Refusal) × IsZoneAnswer plain answer × Tells IsItself as_it_is answer old new fault

@@ -1,0 +1,72 @@
+-- What is told of a place.
+use Rattle.std.specs.Prelude.{◌≡◌, ◌⊎◌, Option, None, Some, Result, Ok, Err}
+use Rattle.sq_bits.specs.declared.frame.Frame.{Frame}
+use Rattle.sq_angle.specs.declared.position.Position.{Position}
+use Rattle.sq_message.specs.declared.place.Place.{Place}
+use Rattle.sq_message.specs.declared.squitter.FrameFault.{FrameFault}
+use Rattle.sq_message.specs.declared.squitter.Squitter.{Squitter}
+use Rattle.sq_message.specs.Parts.{squitter_parts}
+use Rattle.sq_message.specs.Places.{IsLocalPlace, IsPairPlace, IsPositionOf}
+use Rattle.sq_message.specs.Spelling.{IsFault, Spells}
+use Rattle.sq_text.specs.declared.faults.LineFault.{LineFault}
+use Rattle.sq_text.specs.Faults.{of_frame}
+use Rattle.squitter_c.specs.declared.faults.Fault.{Fault}
+use Rattle.squitter_c.specs.declared.faults.Refusal.{Refusal}
+use Rattle.squitter_c.specs.declared.faults.Refusal.TheVariants as refusals
+use Rattle.squitter_c.specs.declared.plain.PlainPosition.{PlainPosition}
+use Rattle.squitter_c.specs.Faults.{Tells, as_it_is}
+use Rattle.squitter_c.specs.Plain.{IsLowestPosition, IsOfDegrees, PlainIsPosition}
+
+-- the fault is that of the frame
+abbrev pub IsFrameFault : Frame → LineFault → Type 0
+IsFrameFault frame fault = (of : FrameFault) × IsFault frame of × (fault ≡ of_frame of)
+
+-- the frame spells a squitter
+abbrev pub IsRead : Frame → Type 0
+IsRead frame = (q : Squitter) × Spells frame q
+
+-- what a frame is decoded to near a reference; the first fault is the reference's, then the frame's, then the place's
+abbrev pub IsLocalAnswer : Frame → PlainPosition → Result Position Refusal → Type 0
+IsLocalAnswer frame plain (Ok position) = (reference : Position) × IsOfDegrees plain reference
+    × ((q : Squitter) × Spells frame q
+    × ((place : Place) × IsLocalPlace (squitter_parts q).me reference (Ok place) × IsPositionOf place position))
+IsLocalAnswer frame plain (Err refusals.NoPosition) = ¬ (PlainIsPosition plain)
+IsLocalAnswer frame plain (Err (refusals.Line fault)) = PlainIsPosition plain × IsFrameFault frame fault
+IsLocalAnswer frame plain (Err (refusals.Place fault)) = (reference : Position) × IsOfDegrees plain reference
+    × ((q : Squitter) × Spells frame q × IsLocalPlace (squitter_parts q).me reference (Err fault))
+IsLocalAnswer frame plain (Err other) = ⊥
+
+-- what a pair is decoded to; the first fault is the older frame's, then the newer's, then the place's
+abbrev pub IsPairAnswer : (older newer : Frame) → Option Position → Result Position Refusal → Type 0
+IsPairAnswer older newer site (Ok position) = (o : Squitter) × Spells older o × ((n : Squitter) × Spells newer n
+    × ((place : Place) × IsPairPlace (squitter_parts o) (squitter_parts n) site (Ok place)
+    × IsPositionOf place position))
+IsPairAnswer older newer site (Err (refusals.Line fault)) =
+    IsFrameFault older fault ⊎ (IsRead older × IsFrameFault newer fault)
+IsPairAnswer older newer site (Err (refusals.Place fault)) = (o : Squitter) × Spells older o
+    × ((n : Squitter) × Spells newer n × IsPairPlace (squitter_parts o) (squitter_parts n) site (Err fault))
+IsPairAnswer older newer site (Err other) = ⊥
+
+-- the same with a site, whose fault comes first
+abbrev pub IsSiteAnswer : (older newer : Frame) → PlainPosition → Result Position Refusal → Type 0
+IsSiteAnswer older newer plain answer = ((¬ (PlainIsPosition plain)) × (answer ≡ Err refusals.NoPosition))
+    ⊎ ((site : Position) × IsOfDegrees plain site × IsPairAnswer older newer (Some site) answer)
+
+-- what is told of an answer for a position
+abbrev pub TellsPosition : Result Position Refusal → (old new : PlainPosition) → Fault → Type 0
+TellsPosition answer old new fault = Tells IsLowestPosition as_it_is answer old new fault
+
+-- of a frame near a reference
+abbrev pub IsLocal : Frame → PlainPosition → (old new : PlainPosition) → Fault → Type 0
+IsLocal frame reference old new fault =
+    (answer : Result Position Refusal) × IsLocalAnswer frame reference answer × TellsPosition answer old new fault
+
+-- of a pair without a site
+abbrev pub IsPair : (older newer : Frame) → (old new : PlainPosition) → Fault → Type 0
+IsPair older newer old new fault =
+    (answer : Result Position Refusal) × IsPairAnswer older newer None answer × TellsPosition answer old new fault
+
+-- of a pair with a site
+abbrev pub IsPairAt : (older newer : Frame) → PlainPosition → (old new : PlainPosition) → Fault → Type 0
+IsPairAt older newer site old new fault =
+    (answer : Result Position Refusal) × IsSiteAnswer older newer site answer × TellsPosition answer old new fault

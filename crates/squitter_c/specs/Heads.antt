@@ -1,0 +1,49 @@
+-- What a plain head stands for: all of a position squitter but its place.
+use Rattle.std.specs.Prelude.{◌≡◌, ◌<◌, ◌^◌}
+use Rattle.sq_message.specs.declared.air_head.AirHead.{AirHead}
+use Rattle.sq_message.specs.declared.ground_head.GroundHead.{GroundHead}
+use Rattle.sq_message.specs.Heads.{air_head_parts, ground_head_parts}
+use Rattle.sq_message.specs.Parts.{air_parts, ground_parts}
+use Rattle.sq_message.specs.Spelling.{bit}
+use Rattle.sq_message.specs.TypeCodes.{IsAirCode, IsGroundCode}
+use Rattle.squitter_c.specs.declared.heads.PlainAirHead.{PlainAirHead}
+use Rattle.squitter_c.specs.declared.heads.PlainGroundHead.{PlainGroundHead}
+use Rattle.squitter_c.specs.Plain.{IsFlag}
+
+-- each field is in its range
+pub record PlainIsAirHead (plain : PlainAirHead) : Type 0 where
+  pub address : plain.address < 2 ^ 24
+  pub ca : plain.ca < 8
+  pub type_code : IsAirCode plain.type_code
+  pub status : plain.status < 4
+  pub altitude : plain.altitude < 4096
+  pub flag : IsFlag plain.flag
+  pub time : IsFlag plain.time
+
+pub record PlainIsGroundHead (plain : PlainGroundHead) : Type 0 where
+  pub address : plain.address < 2 ^ 24
+  pub ca : plain.ca < 8
+  pub type_code : IsGroundCode plain.type_code
+  pub movement : plain.movement < 128
+  pub track : plain.track < 128
+  pub track_status : IsFlag plain.track_status
+  pub time : IsFlag plain.time
+
+-- the head has these fields
+pub record IsAirHead (plain : PlainAirHead) (head : AirHead) : Type 0 where
+  pub ca : (air_head_parts head).ca ≡ plain.ca
+  pub address : (air_head_parts head).address ≡ plain.address
+  pub type_code : (air_parts (air_head_parts head).fields).type_code ≡ plain.type_code
+  pub status : (air_parts (air_head_parts head).fields).status ≡ plain.status
+  pub altitude : (air_parts (air_head_parts head).fields).altitude ≡ plain.altitude
+  pub flag : bit (air_parts (air_head_parts head).fields).flag ≡ plain.flag
+  pub time : bit (air_parts (air_head_parts head).fields).time ≡ plain.time
+
+pub record IsGroundHead (plain : PlainGroundHead) (head : GroundHead) : Type 0 where
+  pub ca : (ground_head_parts head).ca ≡ plain.ca
+  pub address : (ground_head_parts head).address ≡ plain.address
+  pub type_code : (ground_parts (ground_head_parts head).fields).type_code ≡ plain.type_code
+  pub movement : (ground_parts (ground_head_parts head).fields).movement ≡ plain.movement
+  pub track : (ground_parts (ground_head_parts head).fields).track ≡ plain.track
+  pub track_status : bit (ground_parts (ground_head_parts head).fields).track_status ≡ plain.track_status
+  pub time : bit (ground_parts (ground_head_parts head).fields).time ≡ plain.time

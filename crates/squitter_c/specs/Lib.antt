@@ -1,0 +1,11 @@
+pub mod Plain
+pub mod Faults
+pub mod Fields
+pub mod Reading
+pub mod Decoding
+pub mod Heads
+pub mod Sending
+pub mod Angles
+pub mod Altitudes
+pub mod Texts
+pub mod Tracking

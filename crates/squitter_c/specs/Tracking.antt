@@ -1,0 +1,150 @@
+-- What is kept of an address in plain numbers, and what hearing one more frame of it makes of that.
+use Rattle.std.specs.Prelude.{◌≡◌, ◌≤◌, ◌<◌, ◌⊎◌, ◌∷◌, [], ℕ, pos, List, Option, Some, None}
+use Rattle.sq_angle.specs.declared.position.Position.{Position}
+use Rattle.sq_bits.specs.declared.frame.Frame.{Frame}
+use Rattle.sq_message.specs.declared.place.Place.{Place}
+use Rattle.sq_message.specs.declared.squitter.Squitter.{Squitter}
+use Rattle.sq_message.specs.Parts.{squitter_parts}
+use Rattle.sq_message.specs.Places.{IsPositionOf}
+use Rattle.sq_message.specs.Spelling.{Spells}
+use Rattle.sq_text.specs.declared.faults.LineFault.TheVariants.{MomentBack}
+use Rattle.sq_track.specs.declared.contact.Contact.{Contact}
+use Rattle.sq_track.specs.declared.contact.LastFix.{LastFix}
+use Rattle.sq_track.specs.declared.contact.Received.{Received}
+use Rattle.sq_track.specs.declared.contact.Side.{Side}
+use Rattle.sq_track.specs.declared.heard.Heard.{Heard}
+use Rattle.sq_track.specs.declared.heard.Heard.TheVariants.{Fix, Followed, Waiting, Split, Far, NoSite, NotPosition}
+use Rattle.sq_track.specs.Answers.{IsHeard}
+use Rattle.sq_track.specs.History.{History}
+use Rattle.sq_track.specs.Kept.{Remembers}
+use Rattle.squitter_c.specs.declared.entry.PlainEntry.{PlainEntry}
+use Rattle.squitter_c.specs.declared.entry.PlainFix.{PlainFix}
+use Rattle.squitter_c.specs.declared.entry.PlainReceived.{PlainReceived}
+use Rattle.squitter_c.specs.declared.entry.PlainSide.{PlainSide}
+use Rattle.squitter_c.specs.declared.faults.Fault.{Fault}
+use Rattle.squitter_c.specs.declared.faults.Refusal.{Refusal}
+use Rattle.squitter_c.specs.declared.faults.Refusal.TheVariants as refusals
+use Rattle.squitter_c.specs.declared.hear.PlainHeard.{PlainHeard}
+use Rattle.squitter_c.specs.declared.plain.PlainPosition.{PlainPosition}
+use Rattle.squitter_c.specs.Decoding.{IsFrameFault}
+use Rattle.squitter_c.specs.Faults.{fault_of, none}
+use Rattle.squitter_c.specs.Plain.{IsLowestPosition, IsOfDegrees, PlainIsPosition}
+use Rattle.squitter_c.specs.Reading.{frame_of}
+
+-- the squitter of a kept frame with its moment; a frame that spells none counts as none
+abbrev pub IsReceivedOf : PlainReceived → Option Received → Type 0
+IsReceivedOf plain (Some received) = Spells (frame_of plain.frame) received.squitter × (received.moment ≡ plain.moment)
+IsReceivedOf plain None = (q : Squitter) → ¬ (Spells (frame_of plain.frame) q)
+
+-- the position of a kept fix with its moment; fractions that are no position count as none
+abbrev pub IsFixOf : PlainFix → Option LastFix → Type 0
+IsFixOf plain (Some fix) = IsOfDegrees plain.position fix.position × (fix.moment ≡ plain.moment)
+IsFixOf plain None = ¬ (PlainIsPosition plain.position)
+
+-- what is kept in the air, or on the ground
+pub record IsSideOf (plain : PlainSide) (side : Side) : Type 0 where
+  pub even : IsReceivedOf plain.even side.even
+  pub odd : IsReceivedOf plain.odd side.odd
+  pub fix : IsFixOf plain.fix side.fix
+
+-- the contact that an entry stands for
+pub record IsContactOf (plain : PlainEntry) (contact : Contact) : Type 0 where
+  pub moment : contact.moment ≡ plain.newest
+  pub airborne : IsSideOf plain.airborne contact.airborne
+  pub surface : IsSideOf plain.surface contact.surface
+
+-- the moment of the newest accepted frame, 0 where there is none
+abbrev pub last_of : History → ℕ
+last_of [] = 0
+last_of (entry ∷ earlier) = entry.moment
+
+-- What is kept of an address is the history's: it is that of a contact which remembers the history, and of its last moment.
+pub record Keeps (window address : ℕ) (history : History) (plain : PlainEntry) : Type 0 where
+  pub contact : Contact
+  pub stands : IsContactOf plain contact
+  pub remembers : Remembers window address history contact
+  pub last : plain.last ≡ last_of history
+
+-- the place that was heard, in lowest terms
+abbrev pub HasPlace : Place → PlainHeard → Type 0
+HasPlace place plain = (position : Position) × IsPositionOf place position × IsLowestPosition position plain.position
+
+-- no place
+pub record HasNoPlace (plain : PlainHeard) : Type 0 where
+  pub lat : (plain.position.lat.num ≡ pos 0) × (plain.position.lat.den ≡ 0)
+  pub lon : (plain.position.lon.num ≡ pos 0) × (plain.position.lon.den ≡ 0)
+
+-- what was heard, as plain numbers: which of the seven, and the zone counts or 0
+pub record IsHeardAs (which first second : ℕ) (plain : PlainHeard) : Type 0 where
+  pub what : plain.what ≡ which
+  pub even : plain.even ≡ first
+  pub odd : plain.odd ≡ second
+
+-- each of the seven, with the place where it has one
+abbrev pub IsPlainHeard : Heard → PlainHeard → Type 0
+IsPlainHeard (Fix place) plain = IsHeardAs 1 0 0 plain × HasPlace place plain
+IsPlainHeard (Followed place) plain = IsHeardAs 2 0 0 plain × HasPlace place plain
+IsPlainHeard Waiting plain = IsHeardAs 3 0 0 plain × HasNoPlace plain
+IsPlainHeard (Split even odd) plain = IsHeardAs 4 even odd plain × HasNoPlace plain
+IsPlainHeard Far plain = IsHeardAs 5 0 0 plain × HasNoPlace plain
+IsPlainHeard NoSite plain = IsHeardAs 6 0 0 plain × HasNoPlace plain
+IsPlainHeard NotPosition plain = IsHeardAs 7 0 0 plain × HasNoPlace plain
+
+-- What hearing a squitter makes of an entry: for each history of its address that the entry keeps, what is heard is the
+-- answer by that history, and afterwards the entry keeps the history with the squitter in front.
+abbrev pub IsHearing : (window : ℕ) → Option Position → (moment : ℕ) → Squitter → (old new : PlainEntry) → Heard → Type 0
+IsHearing window site moment q old new heard = (history : History) → Keeps window (squitter_parts q).address history old
+    → IsHeard window site history moment q heard
+    × Keeps window (squitter_parts q).address (record { moment = moment; squitter = q; heard = heard } ∷ history) new
+
+-- a frame that is heard: its squitter is, and what is heard is written
+pub record IsAccepted (window : ℕ) (site : Option Position) (moment : ℕ) (frame : Frame) (old new : PlainEntry) (plain : PlainHeard) : Type 0 where
+  pub squitter : Squitter
+  pub spelled : Spells frame squitter
+  pub in_time : old.last ≤ moment
+  pub heard : Heard
+  pub hearing : IsHearing window site moment squitter old new heard
+  pub written : IsPlainHeard heard plain
+
+-- why a frame is not heard: its own fault, and then a moment before the last
+abbrev pub IsRefused : (moment : ℕ) → Frame → PlainEntry → Refusal → Type 0
+IsRefused moment frame old (refusals.Line (MomentBack last)) =
+    ((q : Squitter) × Spells frame q) × (moment < old.last) × (last ≡ old.last)
+IsRefused moment frame old (refusals.Line fault) = IsFrameFault frame fault
+IsRefused moment frame old refusal = ⊥
+
+-- the two are one
+abbrev pub AreOne : PlainHeard → PlainHeard → Type 0
+AreOne answer written = written ≡ answer
+
+-- what is told of a frame: it is heard, or refused, and the entry and `out` are as they were
+abbrev pub IsHeardFrame : (window : ℕ) → Option Position → (moment : ℕ) → Frame → (old new : PlainEntry) → (was is : PlainHeard) → Fault → Type 0
+IsHeardFrame window site moment frame old new was is fault =
+    (IsAccepted window site moment frame old new is × (fault ≡ none))
+    ⊎ ((reason : Refusal) × IsRefused moment frame old reason × (new ≡ old) × (is ≡ was) × (fault ≡ fault_of reason))
+
+-- the same with a site, which is looked at first
+abbrev pub IsHeardFrameAt : (window : ℕ) → PlainPosition → (moment : ℕ) → Frame → (old new : PlainEntry) → (was is : PlainHeard) → Fault → Type 0
+IsHeardFrameAt window plain moment frame old new was is fault =
+    ((¬ (PlainIsPosition plain)) × (new ≡ old) × (is ≡ was) × (fault ≡ fault_of refusals.NoPosition))
+    ⊎ ((site : Position) × IsOfDegrees plain site × IsHeardFrame window (Some site) moment frame old new was is fault)
+
+-- 14 bytes of 0
+abbrev pub no_bytes : List ℕ
+no_bytes = 0 ∷ 0 ∷ 0 ∷ 0 ∷ 0 ∷ 0 ∷ 0 ∷ 0 ∷ 0 ∷ 0 ∷ 0 ∷ 0 ∷ 0 ∷ 0 ∷ []
+
+-- all zero, of one kind
+abbrev pub blank_side : PlainSide
+blank_side = record {
+  even = record { moment = 0; frame = no_bytes };
+  odd = record { moment = 0; frame = no_bytes };
+  fix = record { moment = 0; position = record { lat = record { num = pos 0; den = 0 }; lon = record { num = pos 0; den = 0 } } };
+}
+
+-- all zero
+abbrev pub blank : PlainEntry
+blank = record { last = 0; newest = 0; airborne = blank_side; surface = blank_side }
+
+-- an entry that is all zero keeps the history of which nothing was heard, for every window and address
+abbrev pub BlankKeepsNothing : Type 0
+BlankKeepsNothing = (window address : ℕ) → Keeps window address [] blank

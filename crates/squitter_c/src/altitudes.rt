@@ -1,0 +1,74 @@
+//! Altitudes: the feet of a field, and the field of feet.
+ghost use Rattle.std.specs.Prelude.{◌≡◌};
+ghost use Rattle.squitter_c.specs.Altitudes.{IsFeetOfField, IsFieldAnswer, IsFieldWritten, IsMeaningAnswer};
+
+use crate::faults::{Fault, NONE, Refusal};
+use crate::fields::plain_altitude;
+use sq_message::{AirFields, Airborne, Code, Parity, altitude, field_of_feet};
+
+/// What an altitude field means.
+#[repr(C)]
+#[derive(Clone, Copy, Debug, PartialEq, Eq)]
+pub struct PlainAltitude {
+    pub feet: i32,
+    /// 0 for none, 1 for feet, 2 for a field in another form.
+    pub form: u8,
+}
+
+/// What the altitude field of an airborne position means, by its type code.
+#[unsafe(no_mangle)]
+pub extern "C" fn squitter_feet_of_field(
+    type_code: u8,
+    field: u16,
+    out: &mut PlainAltitude,
+) -> Fault
+    ensures { IsFeetOfField type_code field out.old out.new result }
+{
+    match meaning(type_code, field) {
+        Ok(altitude) => {
+            *out = altitude;
+            NONE
+        }
+        Err(refusal) => Fault::of(refusal),
+    }
+}
+
+// The meaning of a field.
+fn meaning(type_code: u8, field: u16) -> Result<PlainAltitude, Refusal>
+    ensures { IsMeaningAnswer type_code field result }
+{
+    let Some(fields) = AirFields::new(type_code, 0, false, field, false) else {
+        return Err(Refusal::NoHead);
+    };
+    let airborne = Airborne {
+        fields,
+        parity: Parity::Even,
+        code: Code::new(0, 0).unwrap(),
+    };
+    let (form, feet) = plain_altitude(altitude(&airborne));
+    Ok(PlainAltitude { feet, form })
+}
+
+/// The altitude field, with Q = 1, that means so many feet.
+#[unsafe(no_mangle)]
+pub extern "C" fn squitter_field_of_feet(feet: i32, out: &mut u16) -> Fault
+    ensures { IsFieldWritten feet out.old out.new result }
+{
+    match field_of(feet) {
+        Ok(field) => {
+            *out = field;
+            NONE
+        }
+        Err(refusal) => Fault::of(refusal),
+    }
+}
+
+// The field of feet.
+fn field_of(feet: i32) -> Result<u16, Refusal>
+    ensures { IsFieldAnswer feet result }
+{
+    match field_of_feet(feet) {
+        Some(field) => Ok(field),
+        None => Err(Refusal::NoFeet),
+    }
+}

@@ -1,0 +1,89 @@
+//! Angles: their texts, the angles of texts, and the zone count of a latitude.
+ghost use Rattle.std.specs.Prelude.{◌<◌, length};
+ghost use Rattle.sq_angle.specs.Reading.{IsReading};
+ghost use Rattle.squitter_c.specs.Angles.{IsAngleRead, IsAngleWritten, IsZoneAnswer, IsZoneCount, StandsIn};
+
+use crate::faults::{Fault, NONE, Refusal};
+use crate::plain::{PlainAngle, angle_of, plain_angle};
+use sq_angle::{Angle, AngleFault};
+use sq_zones::zone_count;
+
+/// The number of longitude zones at a latitude (NL), from 1 to 59.
+#[unsafe(no_mangle)]
+pub extern "C" fn squitter_zone_count(lat: &PlainAngle, out: &mut u8) -> Fault
+    ensures { IsZoneCount lat.now out.old out.new result }
+{
+    match zones(lat) {
+        Ok(count) => {
+            *out = count;
+            NONE
+        }
+        Err(refusal) => Fault::of(refusal),
+    }
+}
+
+// The zone count of a latitude.
+fn zones(lat: &PlainAngle) -> Result<u8, Refusal>
+    ensures { IsZoneAnswer lat.now result }
+{
+    let Some(lat) = angle_of(lat) else {
+        return Err(Refusal::NoLatitude);
+    };
+    if !lat.is_within(90) {
+        return Err(Refusal::NoLatitude);
+    }
+    Ok(zone_count(&lat))
+}
+
+/// The text of an angle with seven decimals, at most 12 bytes, and zeros behind it.
+#[unsafe(no_mangle)]
+pub extern "C" fn squitter_text_of_angle(angle: &PlainAngle, out: &mut [u8; 16]) -> Fault
+    ensures { IsAngleWritten angle.now out.old out.new result }
+{
+    match angle_of(angle) {
+        Some(angle) => {
+            let text = angle.decimal7();
+            fill(out, text.as_str());
+            NONE
+        }
+        None => Fault::of(Refusal::NoAngle),
+    }
+}
+
+/// The angle that a text spells, in lowest terms.
+#[unsafe(no_mangle)]
+pub extern "C" fn squitter_angle_of_text(text: &[u8], out: &mut PlainAngle) -> Fault
+    ensures { IsAngleRead text.now out.old out.new result }
+{
+    match read_angle(text) {
+        Ok(angle) => {
+            *out = plain_angle(&angle);
+            NONE
+        }
+        Err(fault) => Fault::of(Refusal::Angle(fault)),
+    }
+}
+
+// The angle that the bytes spell.
+fn read_angle(text: &[u8]) -> Result<Angle, AngleFault>
+    ensures { IsReading text.now result }
+{
+    match std::str::from_utf8(text) {
+        Ok(text) => Angle::read(text),
+        Err(_) => Err(AngleFault::NotANumber),
+    }
+}
+
+// Writes the text in front, and zeros behind it.
+pub(crate) fn fill(out: &mut [u8], text: &str)
+    requires { length text.now < length out.old }
+    ensures { StandsIn text.now out.new }
+{
+    let bytes = text.as_bytes();
+    for place in 0..out.len() {
+        out[place] = match bytes.get(place) {
+            Some(byte) => *byte,
+            None => 0,
+        };
+    }
+}

@@ -1,0 +1,106 @@
+//! Decoding: a frame near a reference, and a pair of frames.
+ghost use Rattle.std.specs.Prelude.{option_map};
+ghost use Rattle.squitter_c.specs.Decoding.{IsLocal, IsLocalAnswer, IsPair, IsPairAnswer, IsPairAt, IsSiteAnswer};
+ghost use Rattle.squitter_c.specs.Decoding.{TellsPosition};
+ghost use Rattle.squitter_c.specs.Reading.{frame_of};
+
+use crate::faults::{Fault, NONE, Refusal};
+use crate::plain::{PlainPosition, plain_position, position_of};
+use sq_angle::Position;
+use sq_bits::Frame;
+use sq_message::{place_local, place_pair, read_frame};
+
+/// The place of a frame near a reference, in lowest terms.
+#[unsafe(no_mangle)]
+pub extern "C" fn squitter_local(
+    frame: &[u8; 14],
+    reference: &PlainPosition,
+    out: &mut PlainPosition,
+) -> Fault
+    ensures { IsLocal (frame_of frame.now) reference.now out.old out.new result }
+{
+    give(near(&Frame(*frame), reference), out)
+}
+
+/// The place of the newer of two frames that were sent in the air, in lowest terms.
+#[unsafe(no_mangle)]
+pub extern "C" fn squitter_pair(
+    older: &[u8; 14],
+    newer: &[u8; 14],
+    out: &mut PlainPosition,
+) -> Fault
+    ensures { IsPair (frame_of older.now) (frame_of newer.now) out.old out.new result }
+{
+    give(of_two(&Frame(*older), &Frame(*newer), None), out)
+}
+
+/// The place of the newer of two frames, on the ground the one that is nearest to a site, in lowest terms.
+#[unsafe(no_mangle)]
+pub extern "C" fn squitter_pair_at(
+    older: &[u8; 14],
+    newer: &[u8; 14],
+    site: &PlainPosition,
+    out: &mut PlainPosition,
+) -> Fault
+    ensures { IsPairAt (frame_of older.now) (frame_of newer.now) site.now out.old out.new result }
+{
+    give(of_two_at(&Frame(*older), &Frame(*newer), site), out)
+}
+
+// Writes the position, or tells why there is none.
+fn give(answer: Result<Position, Refusal>, out: &mut PlainPosition) -> Fault
+    ensures { TellsPosition answer out.old out.new result }
+{
+    match answer {
+        Ok(position) => {
+            *out = plain_position(&position);
+            NONE
+        }
+        Err(refusal) => Fault::of(refusal),
+    }
+}
+
+// The place of a frame near a reference.
+fn near(frame: &Frame, reference: &PlainPosition) -> Result<Position, Refusal>
+    ensures { IsLocalAnswer frame.now reference.now result }
+{
+    let Some(reference) = position_of(reference) else {
+        return Err(Refusal::NoPosition);
+    };
+    let squitter = match read_frame(frame) {
+        Ok(squitter) => squitter,
+        Err(fault) => return Err(Refusal::Line(fault.into())),
+    };
+    match place_local(&squitter, &reference) {
+        Ok(place) => Ok(place.position()),
+        Err(fault) => Err(Refusal::Place(fault)),
+    }
+}
+
+// The place of the newer of two frames near a site, if that is a position.
+fn of_two_at(older: &Frame, newer: &Frame, site: &PlainPosition) -> Result<Position, Refusal>
+    ensures { IsSiteAnswer older.now newer.now site.now result }
+{
+    let Some(site) = position_of(site) else {
+        return Err(Refusal::NoPosition);
+    };
+    of_two(older, newer, Some(&site))
+}
+
+// The place of the newer of two frames.
+fn of_two(older: &Frame, newer: &Frame, site: Option<&Position>) -> Result<Position, Refusal>
+    ensures { IsPairAnswer older.now newer.now (option_map (λ s. s.now) site.entry) result }
+{
+    let older = match read_frame(older) {
+        Ok(squitter) => squitter,
+        Err(fault) => return Err(Refusal::Line(fault.into())),
+    };
+    let newer = match read_frame(newer) {
+        Ok(squitter) => squitter,
+        Err(fault) => return Err(Refusal::Line(fault.into())),
+    };
+    match place_pair(&older, &newer, site) {
+        Ok(place) => Ok(place.position()),
+        Err(fault) => Err(Refusal::Place(fault)),
+    }
+}

@@ -1,0 +1,172 @@
+//! What is kept of an address, in plain numbers, and the contact that it stands for.
+ghost use Rattle.std.specs.Prelude.{◌≡◌};
+ghost use Rattle.sq_angle.specs.Angle.{degrees};
+ghost use Rattle.squitter_c.specs.Plain.{IsOfDegrees, fraction_of};
+ghost use Rattle.squitter_c.specs.Tracking.{IsContactOf, IsFixOf, IsReceivedOf, IsSideOf};
+
+use crate::plain::{PlainAngle, PlainPosition, position_of};
+use sq_angle::{Angle, Position};
+use sq_bits::Frame;
+use sq_message::{read_frame, write_frame};
+use sq_track::{Contact, LastFix, Received, Side};
+
+/// A frame and the moment at which it was heard. One that spells no squitter counts as none.
+#[repr(C)]
+#[derive(Clone, Copy, Debug, PartialEq, Eq)]
+pub struct PlainReceived {
+    pub moment: u64,
+    pub frame: [u8; 14],
+}
+
+/// The position of a fix, and the moment. One that is no position counts as none.
+#[repr(C)]
+#[derive(Clone, Copy, Debug, PartialEq, Eq)]
+pub struct PlainFix {
+    pub moment: u64,
+    pub position: PlainPosition,
+}
+
+/// What is kept of an address in the air, or on the ground.
+#[repr(C)]
+#[derive(Clone, Copy, Debug, PartialEq, Eq)]
+pub struct PlainSide {
+    pub even: PlainReceived,
+    pub odd: PlainReceived,
+    pub fix: PlainFix,
+}
+
+/// What is kept of an address. All zero is that of an address of which nothing was heard.
+#[repr(C)]
+#[derive(Clone, Copy, Debug, PartialEq, Eq)]
+pub struct PlainEntry {
+    /// The moment of its newest frame.
+    pub last: u64,
+    /// The moment of its newest position.
+    pub newest: u64,
+    pub airborne: PlainSide,
+    pub surface: PlainSide,
+}
+
+// The contact that an entry stands for.
+pub(crate) fn contact_of(plain: &PlainEntry) -> Contact
+    ensures { IsContactOf plain.now result }
+{
+    Contact {
+        moment: plain.newest,
+        airborne: side_of(&plain.airborne),
+        surface: side_of(&plain.surface),
+    }
+}
+
+fn side_of(plain: &PlainSide) -> Side
+    ensures { IsSideOf plain.now result }
+{
+    Side {
+        even: received_of(&plain.even),
+        odd: received_of(&plain.odd),
+        fix: fix_of(&plain.fix),
+    }
+}
+
+fn received_of(plain: &PlainReceived) -> Option<Received>
+    ensures { IsReceivedOf plain.now result }
+{
+    match read_frame(&Frame(plain.frame)) {
+        Ok(squitter) => Some(Received {
+            moment: plain.moment,
+            squitter,
+        }),
+        Err(_) => None,
+    }
+}
+
+fn fix_of(plain: &PlainFix) -> Option<LastFix>
+    ensures { IsFixOf plain.now result }
+{
+    match position_of(&plain.position) {
+        Some(position) => Some(LastFix {
+            moment: plain.moment,
+            position,
+        }),
+        None => None,
+    }
+}
+
+// The entry that stands for a contact, with the moment of its newest frame.
+pub(crate) fn plain_entry(contact: &Contact, last: u64) -> PlainEntry
+    ensures contact { IsContactOf result contact.now }
+    ensures last { result.last ≡ last }
+{
+    PlainEntry {
+        last,
+        newest: contact.moment,
+        airborne: plain_side(&contact.airborne),
+        surface: plain_side(&contact.surface),
+    }
+}
+
+fn plain_side(side: &Side) -> PlainSide
+    ensures { IsSideOf result side.now }
+{
+    PlainSide {
+        even: plain_received(side.even),
+        odd: plain_received(side.odd),
+        fix: plain_fix(side.fix),
+    }
+}
+
+fn plain_received(received: Option<Received>) -> PlainReceived
+    ensures { IsReceivedOf result received }
+{
+    match received {
+        Some(received) => {
+            let written = write_frame(&received.squitter);
+            let frame = written.0;
+            PlainReceived {
+                moment: received.moment,
+                frame,
+            }
+        }
+        None => {
+            let frame = [0; 14];
+            PlainReceived { moment: 0, frame }
+        }
+    }
+}
+
+fn plain_fix(fix: Option<LastFix>) -> PlainFix
+    ensures { IsFixOf result fix }
+{
+    match fix {
+        Some(fix) => PlainFix {
+            moment: fix.moment,
+            position: as_given(&fix.position),
+        },
+        None => PlainFix {
+            moment: 0,
+            position: PlainPosition {
+                lat: PlainAngle { num: 0, den: 0 },
+                lon: PlainAngle { num: 0, den: 0 },
+            },
+        },
+    }
+}
+
+// The fractions of a position, as they are.
+fn as_given(position: &Position) -> PlainPosition
+    ensures { IsOfDegrees result position.now }
+{
+    PlainPosition {
+        lat: fraction_as_given(&position.lat()),
+        lon: fraction_as_given(&position.lon()),
+    }
+}
+
+fn fraction_as_given(angle: &Angle) -> PlainAngle
+    ensures { fraction_of result ≡ degrees angle.now }
+{
+    PlainAngle {
+        num: angle.num(),
+        den: angle.den(),
+    }
+}

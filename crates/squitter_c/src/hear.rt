@@ -1,0 +1,188 @@
+//! Hearing: one frame more of an address.
+ghost use Rattle.std.specs.Prelude.{◌≡◌, ◌≤◌, MatchResult, None, option_map};
+ghost use Rattle.sq_track.specs.declared.heard.Heard.{Heard};
+ghost use Rattle.sq_track.specs.Kept.{IsStep};
+ghost use Rattle.squitter_c.specs.Faults.{Tells, as_it_is};
+ghost use Rattle.squitter_c.specs.Reading.{frame_of};
+ghost use Rattle.squitter_c.specs.Tracking.{AreOne, HasNoPlace, HasPlace, IsAccepted, IsHeardAs, IsHeardFrame};
+ghost use Rattle.squitter_c.specs.Tracking.{IsHeardFrameAt, IsHearing, IsPlainHeard, IsRefused};
+
+use crate::entry::{PlainEntry, contact_of, plain_entry};
+use crate::faults::{Fault, NONE, Refusal};
+use crate::plain::{PlainAngle, PlainPosition, plain_position, position_of};
+use sq_angle::Position;
+use sq_bits::Frame;
+use sq_message::{Place, Squitter, read_frame};
+use sq_text::LineFault;
+use sq_track::{Contact, Heard};
+
+/// What is heard of a frame.
+#[repr(C)]
+#[derive(Clone, Copy, Debug, PartialEq, Eq)]
+pub struct PlainHeard {
+    /// The place, or 0/0 where there is none.
+    pub position: PlainPosition,
+    /// 1 for a fix, 2 for a followed place, 3 for waiting, 4 for a split, 5 for far, 6 for no site, 7 for no position.
+    pub what: u8,
+    /// Of a split the zone counts of the even and the odd latitude.
+    pub even: u8,
+    pub odd: u8,
+}
+
+/// Hears a frame of the entry's address, without a site.
+#[unsafe(no_mangle)]
+pub extern "C" fn squitter_hear(
+    entry: &mut PlainEntry,
+    window: u64,
+    moment: u64,
+    frame: &[u8; 14],
+    out: &mut PlainHeard,
+) -> Fault
+    ensures { IsHeardFrame window None moment (frame_of frame.now) entry.old entry.new out.old out.new result }
+{
+    hear(entry, window, None, moment, &Frame(*frame), out)
+}
+
+/// Hears a frame of the entry's address, with a site for pairs on the ground.
+#[unsafe(no_mangle)]
+pub extern "C" fn squitter_hear_at(
+    entry: &mut PlainEntry,
+    window: u64,
+    site: &PlainPosition,
+    moment: u64,
+    frame: &[u8; 14],
+    out: &mut PlainHeard,
+) -> Fault
+    ensures { IsHeardFrameAt window site.now moment (frame_of frame.now) entry.old entry.new out.old out.new result }
+{
+    match position_of(site) {
+        Some(site) => hear(entry, window, Some(&site), moment, &Frame(*frame), out),
+        None => Fault::of(Refusal::NoPosition),
+    }
+}
+
+// Hears a frame of the entry's address, and writes what was heard.
+fn hear(
+    entry: &mut PlainEntry,
+    window: u64,
+    site: Option<&Position>,
+    moment: u64,
+    frame: &Frame,
+    out: &mut PlainHeard,
+) -> Fault
+    ensures { IsHeardFrame window (option_map (λ s. s.now) site.entry) moment frame.now entry.old entry.new
+        out.old out.new result }
+{
+    tell(hear_frame(entry, window, site, moment, frame), out)
+}
+
+// Writes what was heard, or tells why nothing was.
+fn tell(answer: Result<PlainHeard, Refusal>, out: &mut PlainHeard) -> Fault
+    ensures { Tells AreOne as_it_is answer out.old out.new result }
+{
+    match answer {
+        Ok(heard) => {
+            *out = heard;
+            NONE
+        }
+        Err(refusal) => Fault::of(refusal),
+    }
+}
+
+// Hears a frame of the entry's address.
+fn hear_frame(
+    entry: &mut PlainEntry,
+    window: u64,
+    site: Option<&Position>,
+    moment: u64,
+    frame: &Frame,
+) -> Result<PlainHeard, Refusal>
+    ensures { MatchResult result
+        (IsAccepted window (option_map (λ s. s.now) site.entry) moment frame.now entry.old entry.new)
+        (λ reason. IsRefused moment frame.now entry.old reason × (entry.new ≡ entry.old)) }
+{
+    let squitter = match read_frame(frame) {
+        Ok(squitter) => squitter,
+        Err(fault) => return Err(Refusal::Line(fault.into())),
+    };
+    if moment < entry.last {
+        return Err(Refusal::Line(LineFault::MomentBack(entry.last)));
+    }
+    Ok(hear_squitter(entry, window, site, moment, &squitter))
+}
+
+// Hears a squitter of the entry's address.
+fn hear_squitter(
+    entry: &mut PlainEntry,
+    window: u64,
+    site: Option<&Position>,
+    moment: u64,
+    squitter: &Squitter,
+) -> PlainHeard
+    requires { entry.old.last ≤ moment }
+    ensures { (heard : Heard)
+        × IsHearing window (option_map (λ s. s.now) site.entry) moment squitter.now entry.old entry.new heard
+        × IsPlainHeard heard result }
+{
+    let mut contact = contact_of(entry);
+    let heard = step(&mut contact, window, site, moment, squitter);
+    let after = plain_entry(&contact, moment);
+    *entry = after;
+    heard
+}
+
+// Hears a squitter of the contact's address.
+fn step(
+    contact: &mut Contact,
+    window: u64,
+    site: Option<&Position>,
+    moment: u64,
+    squitter: &Squitter,
+) -> PlainHeard
+    ensures { (heard : Heard)
+        × IsStep window (option_map (λ s. s.now) site.entry) moment squitter.now contact.old heard contact.new
+        × IsPlainHeard heard result }
+{
+    let heard = contact.hear(window, site, moment, squitter);
+    plain_heard(&heard)
+}
+
+// What was heard, as plain numbers.
+fn plain_heard(heard: &Heard) -> PlainHeard
+    ensures { IsPlainHeard heard.now result }
+{
+    match heard {
+        Heard::Fix(place) => at_place(1, place),
+        Heard::Followed(place) => at_place(2, place),
+        Heard::Waiting => nowhere(3, 0, 0),
+        Heard::Split(even, odd) => nowhere(4, *even, *odd),
+        Heard::Far => nowhere(5, 0, 0),
+        Heard::NoSite => nowhere(6, 0, 0),
+        Heard::NotPosition => nowhere(7, 0, 0),
+    }
+}
+
+fn at_place(what: u8, place: &Place) -> PlainHeard
+    ensures { IsHeardAs what 0 0 result × HasPlace place.now result }
+{
+    PlainHeard {
+        position: plain_position(&place.position()),
+        what,
+        even: 0,
+        odd: 0,
+    }
+}
+
+fn nowhere(what: u8, even: u8, odd: u8) -> PlainHeard
+    ensures { IsHeardAs what even odd result × HasNoPlace result }
+{
+    PlainHeard {
+        position: PlainPosition {
+            lat: PlainAngle { num: 0, den: 0 },
+            lon: PlainAngle { num: 0, den: 0 },
+        },
+        what,
+        even,
+        odd,
+    }
+}

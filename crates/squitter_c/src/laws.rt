@@ -1,0 +1,24 @@
+//! Laws of the codes of faults, of their texts and of entries, over the definitions alone.
+ghost use Rattle.squitter_c.specs.Faults.{NoCodeIsZero, OneCode};
+ghost use Rattle.squitter_c.specs.Texts.{EachText};
+ghost use Rattle.squitter_c.specs.Tracking.{BlankKeepsNothing};
+
+/// No two reasons have one code and the same numbers.
+pub fn one_code()
+    ensures { OneCode }
+{}
+
+/// The code of an answer, 0, is that of no reason.
+pub fn no_code_is_zero()
+    ensures { NoCodeIsZero }
+{}
+
+/// The text of a fault is that of its reason.
+pub fn each_text()
+    ensures { EachText }
+{}
+
+/// An entry that is all zero keeps the history of an address of which nothing was heard.
+pub fn blank_keeps_nothing()
+    ensures { BlankKeepsNothing }
+{}

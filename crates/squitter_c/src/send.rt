@@ -1,0 +1,146 @@
+//! Encoding: the frame that is sent of a position.
+ghost use Rattle.std.specs.Prelude.{◌≡◌, MatchOption};
+ghost use Rattle.sq_message.specs.Parts.{squitter_parts};
+ghost use Rattle.sq_message.specs.Places.{Fits, IsPosition};
+ghost use Rattle.squitter_c.specs.Reading.{frame_of};
+ghost use Rattle.squitter_c.specs.Sending.{IsAgainAnswer, IsAirAnswer, IsAirSent, IsFrameFrom, IsGroundAnswer};
+ghost use Rattle.squitter_c.specs.Sending.{IsGroundSent, IsRoundedTo, IsSentAgain, TellsFrame};
+
+use crate::faults::{Fault, NONE, Refusal};
+use crate::heads::{PlainAirHead, PlainGroundHead, air_head, ground_head};
+use crate::plain::{PlainPosition, parity_of, position_of};
+use sq_bits::Frame;
+use sq_bits::laws::each_frame;
+use sq_cpr::{Air, Ground, Parity, Position, nearest};
+use sq_message::{
+    Me, Place, PlaceFault, Squitter, read_frame, send_air, send_ground, send_point, write_frame,
+};
+
+/// The frame that is sent of a position in the air.
+#[unsafe(no_mangle)]
+pub extern "C" fn squitter_encode_air(
+    head: &PlainAirHead,
+    position: &PlainPosition,
+    out: &mut [u8; 14],
+) -> Fault
+    ensures { IsAirSent head.now position.now out.old out.new result }
+{
+    give(air_frame(head, position), out)
+}
+
+/// The frame that is sent of a position on the ground.
+#[unsafe(no_mangle)]
+pub extern "C" fn squitter_encode_ground(
+    head: &PlainGroundHead,
+    position: &PlainPosition,
+    out: &mut [u8; 14],
+) -> Fault
+    ensures { IsGroundSent head.now position.now out.old out.new result }
+{
+    give(ground_frame(head, position), out)
+}
+
+/// The frame with the parity and the code of a position, and all else as it was: the squitter, sent from there.
+#[unsafe(no_mangle)]
+pub extern "C" fn squitter_send_again(
+    frame: &[u8; 14],
+    odd: u8,
+    position: &PlainPosition,
+    out: &mut [u8; 14],
+) -> Fault
+    ensures { IsSentAgain (frame_of frame.now) odd position.now out.old out.new result }
+{
+    give(again(&Frame(*frame), odd, position), out)
+}
+
+// Writes the frame, or tells why there is none.
+fn give(answer: Result<Frame, Refusal>, out: &mut [u8; 14]) -> Fault
+    ensures { TellsFrame answer out.old out.new result }
+{
+    match answer {
+        Ok(frame) => {
+            let bytes = frame.0;
+            *out = bytes;
+            NONE
+        }
+        Err(refusal) => Fault::of(refusal),
+    }
+}
+
+// The frame that is sent in the air.
+fn air_frame(plain: &PlainAirHead, position: &PlainPosition) -> Result<Frame, Refusal>
+    ensures { IsAirAnswer plain.now position.now result }
+{
+    let Some(head) = air_head(plain) else {
+        return Err(Refusal::NoHead);
+    };
+    let Some(parity) = parity_of(plain.odd) else {
+        return Err(Refusal::NoHead);
+    };
+    let Some(position) = position_of(position) else {
+        return Err(Refusal::NoPosition);
+    };
+    let frame = write_frame(&send_air(head, &position, parity));
+    each_frame(&frame);
+    Ok(frame)
+}
+
+// The frame that is sent on the ground.
+fn ground_frame(plain: &PlainGroundHead, position: &PlainPosition) -> Result<Frame, Refusal>
+    ensures { IsGroundAnswer plain.now position.now result }
+{
+    let Some(head) = ground_head(plain) else {
+        return Err(Refusal::NoHead);
+    };
+    let Some(parity) = parity_of(plain.odd) else {
+        return Err(Refusal::NoHead);
+    };
+    let Some(position) = position_of(position) else {
+        return Err(Refusal::NoPosition);
+    };
+    let frame = write_frame(&send_ground(head, &position, parity));
+    each_frame(&frame);
+    Ok(frame)
+}
+
+// The frame that is sent again.
+fn again(frame: &Frame, odd: u8, position: &PlainPosition) -> Result<Frame, Refusal>
+    ensures { IsAgainAnswer frame.now odd position.now result }
+{
+    let Some(parity) = parity_of(odd) else {
+        return Err(Refusal::NoParity);
+    };
+    let Some(position) = position_of(position) else {
+        return Err(Refusal::NoPosition);
+    };
+    let squitter = match read_frame(frame) {
+        Ok(squitter) => squitter,
+        Err(fault) => return Err(Refusal::Line(fault.into())),
+    };
+    match rounded(&squitter, &position, parity) {
+        Some(place) => Ok(frame_from(&squitter, &place)),
+        None => Err(Refusal::Place(PlaceFault::NotPosition)),
+    }
+}
+
+// The place of the squitter's kind to which a position rounds; None exactly where it carries no position.
+fn rounded(squitter: &Squitter, position: &Position, parity: Parity) -> Option<Place>
+    ensures { MatchOption result (¬ (IsPosition (squitter_parts squitter.now).me))
+        (λ place. Fits (squitter_parts squitter.now).me place × IsRoundedTo parity position.now place) }
+{
+    match squitter.me() {
+        Me::Airborne(_) => Some(Place::Air(nearest::<Air>(position, parity))),
+        Me::Surface(_) => Some(Place::Ground(nearest::<Ground>(position, parity))),
+        Me::Other(_) => None,
+    }
+}
+
+// The frame of the squitter at a place of its kind.
+fn frame_from(squitter: &Squitter, place: &Place) -> Frame
+    requires { Fits (squitter_parts squitter.now).me place.now }
+    ensures { IsFrameFrom squitter.now place.now result }
+{
+    let frame = write_frame(&send_point(squitter, place));
+    each_frame(&frame);
+    frame
+}
