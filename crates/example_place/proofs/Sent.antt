@@ -1,5 +1,5 @@
 -- What was sent of a position is decoded to the point to which that rounds, by the headline.
-use Rattle.std.proofs.Common.{◌≡◌, ◌∙◌, ◌⊎◌, ℕ, List, subst, ap, inl, inr}
+use Rattle.std.proofs.Common.{◌≡◌, ◌∙◌, ℕ, List, subst, ap, inl, inr}
 use Rattle.std.specs.Prelude.{Result, Ok, Err}
 use Rattle.sq_bits.specs.declared.frame.Frame.{Frame}
 use Rattle.sq_angle.specs.declared.position.Position.{Position}
