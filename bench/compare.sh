@@ -1,10 +1,11 @@
 #!/bin/sh
-# compare.sh [LINES]: lines a second of `squitter check` beside two C programs for the same job, in one run: an ordinary one, and
-# one by large blocks and one table. Each is run three times on the same log of good positions, its output to the null device,
-# and the fastest counts. Needs a C compiler.
+# compare.sh [LINES [ROUNDS]]: lines a second of `squitter check` beside two C programs for the same job, in one run: an ordinary one, and
+# one by large blocks and one table, built without vectors and with them. Each is run three times, or so many ROUNDS,
+# on the same log of good positions, its output to the null device, and the fastest counts. Needs a C compiler.
 set -eu
 here=$(cd "$(dirname "$0")" && pwd)
 lines=${1:-1000000}
+rounds=${2:-3}
 "$here/../squitter" show 8D40621D58C382D690C8AC2863A7 > /dev/null
 program="$here/../crates/squitter/out/squitter"
 work=$(mktemp -d)
@@ -12,10 +13,11 @@ trap 'rm -rf "$work"' EXIT
 cc -O3 -march=native -o "$work/gen" "$here/gen.c" -lm
 cc -O3 -march=native -o "$work/plain" "$here/plain.c"
 cc -O2 -mavx2 -fno-tree-vectorize -DSCALAR -o "$work/blocks" "$here/blocks.c"
+cc -O3 -march=native -o "$work/vectors" "$here/blocks.c"
 "$work/gen" avr "$lines" 1 200 > "$work/log"
 rate() {
     best=
-    for _ in 1 2 3; do
+    for _ in $(seq "$rounds"); do
         start=$(date +%s%N)
         "$@" < "$work/log" > /dev/null
         took=$(($(date +%s%N) - start))
@@ -27,4 +29,5 @@ row() { printf '%-10s %12s lines a second, %s times plain C\n' "$1" "$2" "$(awk 
 plain=$(rate "$work/plain")
 row 'plain C' "$plain"
 row 'blocks' "$(rate "$work/blocks")"
+row 'vectors' "$(rate "$work/vectors")"
 row 'squitter' "$(rate "$program" check)"

@@ -10,6 +10,8 @@ ghost use Rattle.sq_angle.specs.Spelling.{Parts, IsSpelling, Spells, minus};
 ghost use Rattle.sq_angle.specs.Spelling.{signed as signed_number};
 
 use crate::angle::Angle;
+use std::error::Error;
+use std::fmt;
 
 // The most digits that are read behind the point.
 const MAX_DECIMALS: usize = 12;
@@ -24,6 +26,18 @@ pub enum AngleFault {
     /// The magnitude is above 360 degrees.
     OutOfRange,
 }
+
+impl fmt::Display for AngleFault {
+    fn fmt<W: fmt::Write>(&self, f: &mut fmt::Formatter<W>) -> fmt::Result {
+        match self {
+            AngleFault::NotANumber => write!(f, "not a number"),
+            AngleFault::TooManyDecimals => write!(f, "too many decimals"),
+            AngleFault::OutOfRange => write!(f, "out of range"),
+        }
+    }
+}
+
+impl Error for AngleFault {}
 
 impl Angle {
     /// The angle that a text spells, in degrees: an optional `-`, one to three ASCII digits, and optionally a point and

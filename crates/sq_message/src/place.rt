@@ -9,6 +9,8 @@ use sq_cpr::{
     Air, Code, GridPoint, Ground, LocalFault, PairFault, Parity, Position, local, pair_air,
     pair_ground,
 };
+use std::error::Error;
+use std::fmt;
 
 /// Where a squitter is: a point of the air's grid or of the ground's.
 #[derive(Clone, Copy, Debug, PartialEq, Eq)]
@@ -49,6 +51,22 @@ pub enum PlaceFault {
     /// The zone counts of a pair's even and of its odd latitude, which differ.
     ZoneCounts(u8, u8),
 }
+
+impl fmt::Display for PlaceFault {
+    fn fmt<W: fmt::Write>(&self, f: &mut fmt::Formatter<W>) -> fmt::Result {
+        match self {
+            PlaceFault::NotPosition => write!(f, "not a position"),
+            PlaceFault::OtherAddress => write!(f, "other address"),
+            PlaceFault::OtherKind => write!(f, "other kind"),
+            PlaceFault::SameParity => write!(f, "same parity"),
+            PlaceFault::NoSite => write!(f, "no site"),
+            PlaceFault::OutOfRange => write!(f, "latitude out of range"),
+            PlaceFault::ZoneCounts(even, odd) => write!(f, "zone counts {even} {odd}"),
+        }
+    }
+}
+
+impl Error for PlaceFault {}
 
 impl From<LocalFault> for PlaceFault {
     ghost from_gives = { λ fault result. result ≡ of_local fault };

@@ -2,6 +2,8 @@
 ghost use Rattle.std.specs.Prelude.{◌≡◌, ◌<◌, ◌^◌, ◌↔◌, IfSome, IsSome};
 
 use crate::{Airborne, Other, Surface};
+use std::error::Error;
+use std::fmt;
 
 // An address has 24 bits.
 pub(crate) const ADDRESSES: u32 = 1 << 24;
@@ -74,3 +76,14 @@ pub enum FrameFault {
     /// The remainder is not 0 but this.
     Parity(u32),
 }
+
+impl fmt::Display for FrameFault {
+    fn fmt<W: fmt::Write>(&self, f: &mut fmt::Formatter<W>) -> fmt::Result {
+        match self {
+            FrameFault::NotDf17(format) => write!(f, "not DF17 {format}"),
+            FrameFault::Parity(remainder) => write!(f, "parity {remainder:06X}"),
+        }
+    }
+}
+
+impl Error for FrameFault {}

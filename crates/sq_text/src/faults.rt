@@ -7,6 +7,8 @@ use crate::digits::{push_decimal, push_hexadecimal};
 use crate::frame_text::TextFault;
 use arrayvec::ArrayString;
 use sq_message::FrameFault;
+use std::error::Error;
+use std::fmt;
 
 /// The first fault of a line, or of a frame argument.
 #[derive(Clone, Copy, Debug, PartialEq, Eq)]
@@ -57,7 +59,25 @@ impl From<FrameFault> for LineFault {
     }
 }
 
-/// Appends the text of a fault, of at most 32 bytes.
+impl fmt::Display for LineFault {
+    fn fmt<W: fmt::Write>(&self, f: &mut fmt::Formatter<W>) -> fmt::Result {
+        let mut text = ArrayString::<32>::new();
+        push_fault(&mut text, *self);
+        f.write_str(text.as_str())
+    }
+}
+
+impl Error for LineFault {}
+
+impl fmt::Display for TextFault {
+    fn fmt<W: fmt::Write>(&self, f: &mut fmt::Formatter<W>) -> fmt::Result {
+        fmt::Display::fmt(&LineFault::from(*self), f)
+    }
+}
+
+impl Error for TextFault {}
+
+/// Appends the text of a fault, of at most 32 bytes; it is also what the fault's `Display` writes.
 pub fn push_fault<const N: usize>(text: &mut ArrayString<N>, fault: LineFault)
     requires { array_string_len text.old + 32 ≤ N }
     ensures bytes { text.new.bytes ≡ text.old.bytes ++ fault_text fault }

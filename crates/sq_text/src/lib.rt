@@ -29,6 +29,8 @@ pub use summary::push_summary;
 pub use timed::{TimedSquitter, read_moment, read_timed};
 
 #[cfg(test)]
+mod display_tests;
+#[cfg(test)]
 mod place_fault_tests;
 #[cfg(test)]
 mod tests;

@@ -150,15 +150,15 @@ fn reports_the_text_of_clap(rt: HostRuntime) {
         ),
         (
             ["squitter", "local", "zz", "--lat", "0"].as_slice(),
-            "error: the following required arguments were not provided:\n  --lon <lon>\n\nUsage: squitter local --lat <lat> --lon <lon> <FRAME>\n\nFor more information, try '--help'.\n",
+            "error: the following required arguments were not provided:\n  --lon <DEGREES>\n\nUsage: squitter local <FRAME> --lat=<DEGREES> --lon=<DEGREES>\n       south and west need the equals sign: --lat=-33.9 --lon=-0.45\n\nFor more information, try '--help'.\n",
         ),
         (
-            ["squitter", "check", "--fast"].as_slice(),
-            "error: unexpected argument '--fast' found\n\nUsage: squitter check\n\nFor more information, try '--help'.\n",
+            ["squitter", "check", "frames.txt"].as_slice(),
+            "error: unexpected argument 'frames.txt' found\n\nUsage: squitter check < FRAMES\n\nFor more information, try '--help'.\n",
         ),
         (
-            ["squitter", "show", "--help"].as_slice(),
-            "Usage: squitter show <FRAME>\n\nArguments:\n  <FRAME>  \n\nOptions:\n  -h, --help  Print help\n",
+            ["squitter", "--version"].as_slice(),
+            "squitter 0.1.0\n",
         ),
     ];
     for (words, text) in rows {

@@ -10,9 +10,9 @@ required r = record r { required = true }
 abbrev pub argument : Text → Rule
 argument name = required (new_rule name)
 
--- an option with a value, `--name VALUE` or `--name=VALUE`, which may be left out
+-- an option with one value, `--name VALUE` or `--name=VALUE`, which help calls by one name; it may be left out
 abbrev pub option : Text → Rule
-option name = record (new_rule name) { long = Some name }
+option name = record (new_rule name) { long = Some name; value_names = 1 }
 
 -- an option with a value, which has to be there
 abbrev pub required_option : Text → Rule
@@ -51,9 +51,10 @@ abbrev pub track : App
 track = with_rule (with_rule (with_rule (with_rule (new_app (codes "track")) (option (codes "limit"))) (option (codes "window")))
     (option (codes "lat"))) (option (codes "lon"))
 
--- the program with no command yet, one being required
+-- the program with no command yet, one being required; it has a version, for which `--version` asks
 abbrev pub program : App
-program = let named = new_app (codes "squitter") in record named { top = record named.top { subcommand_required = true } }
+program = let named = new_app (codes "squitter") in
+    record named { top = record named.top { has_version = true; subcommand_required = true } }
 
 -- the program with its commands on one frame
 abbrev pub frame_commands : App

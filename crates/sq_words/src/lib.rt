@@ -6,6 +6,7 @@
 #![tactic(auto)]
 
 mod command_line;
+mod help;
 pub mod laws;
 mod request;
 #[cfg(test)]

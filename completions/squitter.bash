@@ -1,0 +1,32 @@
+# Completion of squitter for bash.
+
+_squitter() {
+    local word=${COMP_WORDS[COMP_CWORD]} before=${COMP_WORDS[COMP_CWORD-1]} names
+    # bash takes the equals sign of --name=VALUE for a word of its own
+    if [ "$word" = = ]; then
+        word=
+    elif [ "$before" = = ]; then
+        before=${COMP_WORDS[COMP_CWORD-2]}
+    fi
+    case $before in
+        --kind) names="air ground" ;;
+        --parity) names="even odd" ;;
+        --address | --feet | --lat | --lon | --limit | --window) names= ;;
+        *)
+            case ${COMP_WORDS[1]} in
+                show) names="--help" ;;
+                encode) names="--kind --parity --address --feet --lat --lon --help" ;;
+                local) names="--lat --lon --help" ;;
+                pair) names="--lat --lon --help" ;;
+                check) names="--help" ;;
+                track) names="--limit --window --lat --lon --help" ;;
+            esac
+            if [ "$COMP_CWORD" = 1 ]; then
+                names="show encode local pair check track help --help --version"
+            fi
+            ;;
+    esac
+    COMPREPLY=($(compgen -W "$names" -- "$word"))
+}
+
+complete -F _squitter squitter

@@ -1,0 +1,71 @@
+-- What texts are decoded to, in the words of the crates below.
+use Rattle.std.specs.Prelude.{◌≡◌, ◌⊎◌, ℕ, List, Option, Result, Ok, Err, MatchResult}
+use Rattle.sq_bits.specs.declared.frame.Frame.{Frame}
+use Rattle.sq_angle.specs.declared.position.Position.{Position}
+use Rattle.sq_angle.specs.Angle.{degrees}
+use Rattle.sq_angle.specs.Position.{lat_of, lon_of}
+use Rattle.sq_zones.specs.declared.parity.Parity.{Parity}
+use Rattle.sq_cpr.specs.Grid.{Point}
+use Rattle.sq_cpr.specs.Near.{IsStrictlyNearPoint}
+use Rattle.sq_message.specs.declared.place.Place.{Place}
+use Rattle.sq_message.specs.declared.place.Place.TheVariants.{Air, Ground}
+use Rattle.sq_message.specs.declared.place.PlaceFault.{PlaceFault}
+use Rattle.sq_message.specs.declared.squitter.Squitter.{Squitter}
+use Rattle.sq_message.specs.Heads.{AirHeadParts, GroundHeadParts}
+use Rattle.sq_message.specs.Parts.{squitter_parts}
+use Rattle.sq_message.specs.Places.{IsLocalPlace, IsPairPlace}
+use Rattle.sq_message.specs.Sending.{IsSentInAir, IsSentOnGround}
+use Rattle.sq_text.specs.declared.faults.LineFault.{LineFault}
+use Rattle.sq_text.specs.FrameText.{IsFrameText}
+use Rattle.sq_text.specs.Reading.{IsSquitterReading}
+use Rattle.example_place.specs.declared.fault.Fault.{Fault}
+use Rattle.example_place.specs.declared.fault.Fault.TheVariants.{OfPlace, OfText}
+
+-- the text spells a squitter, and this is its place near the reference
+abbrev pub IsPlaceNear : List ℕ → Position → Place → Type 0
+IsPlaceNear text reference place =
+    (squitter : Squitter) × IsSquitterReading text (Ok squitter) × IsLocalPlace (squitter_parts squitter).me reference (Ok place)
+
+-- the text spells no squitter, or that has no place near the reference
+abbrev pub IsFaultNear : List ℕ → Position → Fault → Type 0
+IsFaultNear text reference fault =
+    ((e : LineFault) × IsSquitterReading text (Err e) × (fault ≡ OfText e))
+    ⊎ ((squitter : Squitter) × (e : PlaceFault) × IsSquitterReading text (Ok squitter)
+    × IsLocalPlace (squitter_parts squitter).me reference (Err e) × (fault ≡ OfPlace e))
+
+-- what a text is decoded to near a reference
+abbrev pub IsPlaceOfText : List ℕ → Position → Result Place Fault → Type 0
+IsPlaceOfText text reference answer = MatchResult answer (IsPlaceNear text reference) (IsFaultNear text reference)
+
+-- both texts spell squitters, and this is the place of the pair
+abbrev pub IsPlaceOfPair : (older newer : List ℕ) → Option Position → Place → Type 0
+IsPlaceOfPair older newer site place = (first second : Squitter) × IsSquitterReading older (Ok first) × IsSquitterReading newer (Ok second)
+    × IsPairPlace (squitter_parts first) (squitter_parts second) site (Ok place)
+
+-- the first fault: of the older text, of the newer one, or of the pair
+abbrev pub IsFaultOfPair : (older newer : List ℕ) → Option Position → Fault → Type 0
+IsFaultOfPair older newer site fault =
+    ((e : LineFault) × IsSquitterReading older (Err e) × (fault ≡ OfText e))
+    ⊎ ((first : Squitter) × (e : LineFault) × IsSquitterReading older (Ok first) × IsSquitterReading newer (Err e) × (fault ≡ OfText e))
+    ⊎ ((first second : Squitter) × (e : PlaceFault) × IsSquitterReading older (Ok first) × IsSquitterReading newer (Ok second)
+    × IsPairPlace (squitter_parts first) (squitter_parts second) site (Err e) × (fault ≡ OfPlace e))
+
+-- what two texts are decoded to
+abbrev pub IsPairOfTexts : (older newer : List ℕ) → Option Position → Result Place Fault → Type 0
+IsPairOfTexts older newer site answer = MatchResult answer (IsPlaceOfPair older newer site) (IsFaultOfPair older newer site)
+
+-- the text of a frame that was sent in the air of a position gives the point to which that rounds, if the reference is near it
+abbrev pub IsTrueInAir : List ℕ → Position → Result Place Fault → Type 0
+IsTrueInAir text reference answer =
+    (head : AirHeadParts) (parity : Parity) (position : Position) (point : Point) (frame : Frame)
+    → IsFrameText text frame → IsSentInAir head parity position point frame
+    → IsStrictlyNearPoint 360 1 (degrees (lat_of reference)) (degrees (lon_of reference)) point
+    → answer ≡ Ok (Air point)
+
+-- the same on the ground
+abbrev pub IsTrueOnGround : List ℕ → Position → Result Place Fault → Type 0
+IsTrueOnGround text reference answer =
+    (head : GroundHeadParts) (parity : Parity) (position : Position) (point : Point) (frame : Frame)
+    → IsFrameText text frame → IsSentOnGround head parity position point frame
+    → IsStrictlyNearPoint 90 4 (degrees (lat_of reference)) (degrees (lon_of reference)) point
+    → answer ≡ Ok (Ground point)

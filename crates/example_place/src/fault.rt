@@ -1,0 +1,44 @@
+//! Why texts give no place.
+ghost use Rattle.std.specs.Prelude.{◌≡◌};
+ghost use Rattle.example_place.specs.declared.fault.Fault.TheVariants.{OfPlace, OfText};
+
+use sq_message::PlaceFault;
+use sq_text::LineFault;
+use std::error::Error;
+use std::fmt;
+
+/// Why texts give no place. Its `Display` is what the program prints.
+#[derive(Clone, Copy, Debug, PartialEq, Eq)]
+pub enum Fault {
+    /// A text spells no squitter.
+    OfText(LineFault),
+    /// The squitters have no place.
+    OfPlace(PlaceFault),
+}
+
+impl From<LineFault> for Fault {
+    ghost from_gives = { λ fault result. result ≡ OfText fault };
+
+    fn from(fault: LineFault) -> Fault {
+        Fault::OfText(fault)
+    }
+}
+
+impl From<PlaceFault> for Fault {
+    ghost from_gives = { λ fault result. result ≡ OfPlace fault };
+
+    fn from(fault: PlaceFault) -> Fault {
+        Fault::OfPlace(fault)
+    }
+}
+
+impl fmt::Display for Fault {
+    fn fmt<W: fmt::Write>(&self, f: &mut fmt::Formatter<W>) -> fmt::Result {
+        match self {
+            Fault::OfText(fault) => write!(f, "{fault}"),
+            Fault::OfPlace(fault) => write!(f, "{fault}"),
+        }
+    }
+}
+
+impl Error for Fault {}

@@ -1,0 +1,64 @@
+#!/usr/bin/env python3
+"""laws.py > LAWS.md: the lemma files that each law rests on, read from the imports of the proofs."""
+import glob
+import os
+import re
+
+TOP = os.path.dirname(os.path.dirname(os.path.abspath(__file__)))
+HEAD = """# The laws and their lemmas
+
+A law is a public function of `src/laws.rt` whose contract is the statement. For each crate: the laws by the lemma file that their
+proof cites, and then each lemma file, `proofs/FILE.antt`, with what it says of itself and, after the arrow, the files that it
+cites; one of another crate has that crate's name. A law with no file is found by the prover from the definitions alone.
+`docs/laws.py > docs/LAWS.md` writes this page."""
+
+
+def imports(path, crate):
+    """The lemma files that a proof cites."""
+    with open(path, encoding="utf-8") as file:
+        found = re.findall(r"Rattle\.(sq_\w+|example_place)\.proofs\.([A-Z]\w*)\b", file.read())
+    own = [(name, lemma) for name, lemma in found if os.path.exists(f"{TOP}/crates/{name}/proofs/{lemma}.antt")]
+    return list(dict.fromkeys(own))
+
+
+def shown(files, crate):
+    return ", ".join(f"`{lemma}`" if name == crate else f"`{name}/{lemma}`" for name, lemma in files)
+
+
+def laws_of(crate):
+    """The laws of a crate, by the files that their proofs cite."""
+    groups = {}
+    with open(f"{TOP}/crates/{crate}/src/laws.rt", encoding="utf-8") as file:
+        laws = re.findall(r"^pub fn (\w+)", file.read(), re.M)
+    for law in laws:
+        proofs = sorted(glob.glob(f"{TOP}/crates/{crate}/proofs/laws/{law}/*.antt"))
+        cited = list(dict.fromkeys(one for proof in proofs for one in imports(proof, crate)))
+        groups.setdefault(shown(cited, crate) or "no file", []).append(f"`{law}`")
+    return [f"- {files}: {', '.join(laws)}" for files, laws in groups.items()]
+
+
+def files_of(crate):
+    """The lemma files of a crate, with their first line and what they cite."""
+    for path in sorted(glob.glob(f"{TOP}/crates/{crate}/proofs/[A-Z]*.antt")):
+        name = os.path.basename(path)[:-5]
+        if name == "Lib":
+            continue
+        with open(path, encoding="utf-8") as file:
+            comment = re.match(r"((?:-- .*\n)*)", file.read())[1].replace("-- ", "").replace("\n", " ").strip()
+        cited = shown([one for one in imports(path, crate) if one != (crate, name)], crate)
+        yield f"- `{name}`: {comment}" + (f" → {cited}" if cited else "")
+
+
+def main():
+    lines = [HEAD]
+    for path in sorted(glob.glob(f"{TOP}/crates/*/proofs")):
+        crate = path.split("/")[-2]
+        files = list(files_of(crate))
+        laws = laws_of(crate) if os.path.exists(f"{TOP}/crates/{crate}/src/laws.rt") else []
+        if files or laws:
+            lines += ["", f"## `{crate}`"] + (["", "Laws:", "", *laws] if laws else []) + (["", "Files:", "", *files] if files else [])
+    print("\n".join(lines))
+
+
+if __name__ == "__main__":
+    main()
