@@ -21,10 +21,10 @@ returns-in-Some-clause-small c =
 pub returns-in_default-2-clause-number : goal.returns-in_default-2-clause-number
 returns-in_default-2-clause-number c n is =
     let moment : IsMomentText c.args.digits.now n = record {
-          some = is.some;
-          twenty = omega (arith, is.five);
-          each = is.each;
-          value = is.value;
-          small = omega (arith, is.value, five_small c.args.digits.now is.each is.five);
-        } in
+      some = is.some;
+      twenty = omega (arith, is.five);
+      each = is.each;
+      value = is.value;
+      small = omega (arith, is.value, five_small c.args.digits.now is.each is.five);
+    } in
     c.in_default.ensures.none n (subst (λ digits. IsMomentText digits n) (sym c.as_bytes.ensures.value) moment)
