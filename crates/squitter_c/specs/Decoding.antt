@@ -26,7 +26,7 @@ abbrev pub IsRead : Frame → Type 0
 IsRead frame = (q : Squitter) × Spells frame q
 
 -- what a frame is decoded to near a reference; the first fault is the reference's, then the frame's, then the place's
-abbrev pub IsLocalAnswer : Frame → PlainPosition → Result Position Refusal → Type 0
+unfoldable pub IsLocalAnswer : Frame → PlainPosition → Result Position Refusal → Type 0
 IsLocalAnswer frame plain (Ok position) = (reference : Position) × IsOfDegrees plain reference
     × ((q : Squitter) × Spells frame q
     × ((place : Place) × IsLocalPlace (squitter_parts q).me reference (Ok place) × IsPositionOf place position))
@@ -37,7 +37,7 @@ IsLocalAnswer frame plain (Err (refusals.Place fault)) = (reference : Position) 
 IsLocalAnswer frame plain (Err other) = ⊥
 
 -- what a pair is decoded to; the first fault is the older frame's, then the newer's, then the place's
-abbrev pub IsPairAnswer : (older newer : Frame) → Option Position → Result Position Refusal → Type 0
+unfoldable pub IsPairAnswer : (older newer : Frame) → Option Position → Result Position Refusal → Type 0
 IsPairAnswer older newer site (Ok position) = (o : Squitter) × Spells older o × ((n : Squitter) × Spells newer n
     × ((place : Place) × IsPairPlace (squitter_parts o) (squitter_parts n) site (Ok place)
     × IsPositionOf place position))

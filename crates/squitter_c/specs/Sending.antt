@@ -29,7 +29,7 @@ use Rattle.squitter_c.specs.Plain.{IsFlag, IsOfDegrees, IsParity, PlainIsPositio
 use Rattle.squitter_c.specs.Reading.{AreBytesOf}
 
 -- the frame that is sent in the air; the first fault is the head's or the parity's, then the position's
-abbrev pub IsAirAnswer : PlainAirHead → PlainPosition → Result Frame Refusal → Type 0
+unfoldable pub IsAirAnswer : PlainAirHead → PlainPosition → Result Frame Refusal → Type 0
 IsAirAnswer plain place (Ok frame) = (head : AirHead) × IsAirHead plain head
     × ((parity : Parity) × IsParity plain.odd parity
     × ((position : Position) × IsOfDegrees place position
@@ -39,7 +39,7 @@ IsAirAnswer plain place (Err refusals.NoPosition) = PlainIsAirHead plain × IsFl
 IsAirAnswer plain place (Err other) = ⊥
 
 -- the same on the ground
-abbrev pub IsGroundAnswer : PlainGroundHead → PlainPosition → Result Frame Refusal → Type 0
+unfoldable pub IsGroundAnswer : PlainGroundHead → PlainPosition → Result Frame Refusal → Type 0
 IsGroundAnswer plain place (Ok frame) = (head : GroundHead) × IsGroundHead plain head
     × ((parity : Parity) × IsParity plain.odd parity
     × ((position : Position) × IsOfDegrees place position
@@ -61,7 +61,7 @@ IsFrameFrom q place frame =
 
 -- The frame with the parity and the code of a position, and all else as it was. The first fault is the parity's, then
 -- the position's, then the frame's, and last that it carries no position.
-abbrev pub IsAgainAnswer : Frame → (odd : ℕ) → PlainPosition → Result Frame Refusal → Type 0
+unfoldable pub IsAgainAnswer : Frame → (odd : ℕ) → PlainPosition → Result Frame Refusal → Type 0
 IsAgainAnswer frame odd plain (Ok again) = (parity : Parity) × IsParity odd parity
     × ((position : Position) × IsOfDegrees plain position
     × ((q : Squitter) × Spells frame q × ((place : Place) × IsRoundedTo parity position place × IsFrameFrom q place again)))

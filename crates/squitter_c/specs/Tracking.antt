@@ -25,6 +25,7 @@ use Rattle.squitter_c.specs.declared.faults.Fault.{Fault}
 use Rattle.squitter_c.specs.declared.faults.Refusal.{Refusal}
 use Rattle.squitter_c.specs.declared.faults.Refusal.TheVariants as refusals
 use Rattle.squitter_c.specs.declared.hear.PlainHeard.{PlainHeard}
+use Rattle.squitter_c.specs.declared.plain.PlainAngle.{PlainAngle}
 use Rattle.squitter_c.specs.declared.plain.PlainPosition.{PlainPosition}
 use Rattle.squitter_c.specs.Decoding.{IsFrameFault}
 use Rattle.squitter_c.specs.Faults.{fault_of, none}
@@ -58,7 +59,8 @@ abbrev pub last_of : History → ℕ
 last_of [] = 0
 last_of (entry ∷ earlier) = entry.moment
 
--- What is kept of an address is the history's: it is that of a contact which remembers the history, and of its last moment.
+-- What is kept of an address is the history's: it is that of a contact which remembers the history, and of its last
+-- moment.
 pub record Keeps (window address : ℕ) (history : History) (plain : PlainEntry) : Type 0 where
   pub contact : Contact
   pub stands : IsContactOf plain contact
@@ -69,7 +71,7 @@ pub record Keeps (window address : ℕ) (history : History) (plain : PlainEntry)
 abbrev pub HasPlace : Place → PlainHeard → Type 0
 HasPlace place plain = (position : Position) × IsPositionOf place position × IsLowestPosition position plain.position
 
--- no place
+-- no place: 0/0 and 0/0
 pub record HasNoPlace (plain : PlainHeard) : Type 0 where
   pub lat : (plain.position.lat.num ≡ pos 0) × (plain.position.lat.den ≡ 0)
   pub lon : (plain.position.lon.num ≡ pos 0) × (plain.position.lon.den ≡ 0)
@@ -92,13 +94,15 @@ IsPlainHeard NotPosition plain = IsHeardAs 7 0 0 plain × HasNoPlace plain
 
 -- What hearing a squitter makes of an entry: for each history of its address that the entry keeps, what is heard is the
 -- answer by that history, and afterwards the entry keeps the history with the squitter in front.
-abbrev pub IsHearing : (window : ℕ) → Option Position → (moment : ℕ) → Squitter → (old new : PlainEntry) → Heard → Type 0
+abbrev pub IsHearing :
+    (window : ℕ) → Option Position → (moment : ℕ) → Squitter → (old new : PlainEntry) → Heard → Type 0
 IsHearing window site moment q old new heard = (history : History) → Keeps window (squitter_parts q).address history old
     → IsHeard window site history moment q heard
     × Keeps window (squitter_parts q).address (record { moment = moment; squitter = q; heard = heard } ∷ history) new
 
 -- a frame that is heard: its squitter is, and what is heard is written
-pub record IsAccepted (window : ℕ) (site : Option Position) (moment : ℕ) (frame : Frame) (old new : PlainEntry) (plain : PlainHeard) : Type 0 where
+pub record IsAccepted (window : ℕ) (site : Option Position) (moment : ℕ) (frame : Frame) (old new : PlainEntry)
+    (plain : PlainHeard) : Type 0 where
   pub squitter : Squitter
   pub spelled : Spells frame squitter
   pub in_time : old.last ≤ moment
@@ -118,13 +122,15 @@ abbrev pub AreOne : PlainHeard → PlainHeard → Type 0
 AreOne answer written = written ≡ answer
 
 -- what is told of a frame: it is heard, or refused, and the entry and `out` are as they were
-abbrev pub IsHeardFrame : (window : ℕ) → Option Position → (moment : ℕ) → Frame → (old new : PlainEntry) → (was is : PlainHeard) → Fault → Type 0
+abbrev pub IsHeardFrame :
+    (window : ℕ) → Option Position → (moment : ℕ) → Frame → (old new : PlainEntry) → (was is : PlainHeard) → Fault → Type 0
 IsHeardFrame window site moment frame old new was is fault =
     (IsAccepted window site moment frame old new is × (fault ≡ none))
     ⊎ ((reason : Refusal) × IsRefused moment frame old reason × (new ≡ old) × (is ≡ was) × (fault ≡ fault_of reason))
 
 -- the same with a site, which is looked at first
-abbrev pub IsHeardFrameAt : (window : ℕ) → PlainPosition → (moment : ℕ) → Frame → (old new : PlainEntry) → (was is : PlainHeard) → Fault → Type 0
+abbrev pub IsHeardFrameAt :
+    (window : ℕ) → PlainPosition → (moment : ℕ) → Frame → (old new : PlainEntry) → (was is : PlainHeard) → Fault → Type 0
 IsHeardFrameAt window plain moment frame old new was is fault =
     ((¬ (PlainIsPosition plain)) × (new ≡ old) × (is ≡ was) × (fault ≡ fault_of refusals.NoPosition))
     ⊎ ((site : Position) × IsOfDegrees plain site × IsHeardFrame window (Some site) moment frame old new was is fault)
@@ -133,12 +139,16 @@ IsHeardFrameAt window plain moment frame old new was is fault =
 abbrev pub no_bytes : List ℕ
 no_bytes = 0 ∷ 0 ∷ 0 ∷ 0 ∷ 0 ∷ 0 ∷ 0 ∷ 0 ∷ 0 ∷ 0 ∷ 0 ∷ 0 ∷ 0 ∷ 0 ∷ []
 
+-- 0/0, which is no angle
+abbrev pub no_angle : PlainAngle
+no_angle = record { num = pos 0; den = 0 }
+
 -- all zero, of one kind
 abbrev pub blank_side : PlainSide
 blank_side = record {
   even = record { moment = 0; frame = no_bytes };
   odd = record { moment = 0; frame = no_bytes };
-  fix = record { moment = 0; position = record { lat = record { num = pos 0; den = 0 }; lon = record { num = pos 0; den = 0 } } };
+  fix = record { moment = 0; position = record { lat = no_angle; lon = no_angle } };
 }
 
 -- all zero

@@ -61,6 +61,7 @@ fn give(answer: Result<Position, Refusal>, out: &mut PlainPosition) -> Fault
 }
 
 // The place of a frame near a reference.
+#[tactic(auto, unfolding(crate::specs::Decoding::IsLocalAnswer))]
 fn near(frame: &Frame, reference: &PlainPosition) -> Result<Position, Refusal>
     ensures { IsLocalAnswer frame.now reference.now result }
 {
@@ -88,6 +89,7 @@ fn of_two_at(older: &Frame, newer: &Frame, site: &PlainPosition) -> Result<Posit
 }
 
 // The place of the newer of two frames.
+#[tactic(auto, unfolding(crate::specs::Decoding::IsPairAnswer))]
 fn of_two(older: &Frame, newer: &Frame, site: Option<&Position>) -> Result<Position, Refusal>
     ensures { IsPairAnswer older.now newer.now (option_map (λ s. s.now) site.entry) result }
 {

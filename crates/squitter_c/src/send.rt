@@ -68,6 +68,7 @@ fn give(answer: Result<Frame, Refusal>, out: &mut [u8; 14]) -> Fault
 }
 
 // The frame that is sent in the air.
+#[tactic(auto, unfolding(crate::specs::Sending::IsAirAnswer))]
 fn air_frame(plain: &PlainAirHead, position: &PlainPosition) -> Result<Frame, Refusal>
     ensures { IsAirAnswer plain.now position.now result }
 {
@@ -86,6 +87,7 @@ fn air_frame(plain: &PlainAirHead, position: &PlainPosition) -> Result<Frame, Re
 }
 
 // The frame that is sent on the ground.
+#[tactic(auto, unfolding(crate::specs::Sending::IsGroundAnswer))]
 fn ground_frame(plain: &PlainGroundHead, position: &PlainPosition) -> Result<Frame, Refusal>
     ensures { IsGroundAnswer plain.now position.now result }
 {
@@ -104,6 +106,7 @@ fn ground_frame(plain: &PlainGroundHead, position: &PlainPosition) -> Result<Fra
 }
 
 // The frame that is sent again.
+#[tactic(auto, unfolding(crate::specs::Sending::IsAgainAnswer))]
 fn again(frame: &Frame, odd: u8, position: &PlainPosition) -> Result<Frame, Refusal>
     ensures { IsAgainAnswer frame.now odd position.now result }
 {

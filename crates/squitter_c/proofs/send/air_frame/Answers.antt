@@ -1,6 +1,8 @@
+use Rattle.squitter_c.specs.Sending.{IsAirAnswer}
 use Rattle.squitter_c.proofs.send.air_frame.Goals as goal
 
 pub returns : goal.returns
+unfolding IsAirAnswer
 returns c =
     let sent = c.send_air.ensures.sent in (
       c.in-Some.head,
