@@ -127,7 +127,7 @@ pub(crate) const NEAR_LON: &str =
 
 pub(crate) const SITE_LAT: &str =
     "The site's latitude in degrees, from -90 to 90; south as --lat=-33.9.
-A pair on the ground needs a site within 45 degrees; in the air it is not looked at";
+Needed for aircraft on the ground alone, within 45 degrees of them";
 
 pub(crate) const SITE_LON: &str =
     "The site's longitude in degrees, from -180 to 180; west as --lon=-0.45.
