@@ -21,7 +21,7 @@ pub no_point_at : (xs : List ℕ) → ((i : ℕ) → i < length xs → get_or xs
 no_point_at [] h = tt
 no_point_at (x ∷ xs) h = (h 0 (omega arith), no_point_at xs (λ i l. h (suc i) (omega arith)))
 
--- decimals stand behind a point
+-- decimals stand after a point
 pub fraction_some : (ds : List ℕ) → 0 < length ds → fraction ds ≡ 46 ∷ ds
 fraction_some [] h = absurd (omega arith)
 fraction_some (d ∷ ds) h = refl

@@ -5,13 +5,13 @@ use Rattle.std.specs.List.{AllByRecursion}
 use Rattle.std.specs.Str.Parse.{digits_value}
 use Rattle.sq_angle.specs.Fraction.{Fraction}
 
--- what a text is made of: its sign, the digits before the point and those behind it
+-- what a text is made of: its sign, the digits before the point and those after it
 pub record Parts : Type 0 where
   pub negative : Bool
   pub whole : List ℕ
   pub decimals : List ℕ
 
--- one to three digits stand before the point, and digits alone behind it
+-- one to three digits stand before the point, and digits alone after it
 pub record IsSpelling (p : Parts) : Type 0 where
   pub one : 1 ≤ length p.whole
   pub three : length p.whole ≤ 3

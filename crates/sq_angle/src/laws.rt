@@ -47,21 +47,21 @@ pub fn one_reading()
     ensures { OneReading }
 {}
 
-/// Whether two angles are equal, as `==` tells: exactly if they have one value.
+/// Whether two angles are equal by `==`: exactly if they have one value.
 pub fn equal_angles(a: &Angle, b: &Angle) -> bool
     ensures { IsTrue result ↔ (degrees a.now ≃ degrees b.now) }
 {
     a == b
 }
 
-/// Whether the first angle is below the second, as `<` tells: exactly if its value is.
+/// Whether the first angle is below the second by `<`: exactly if its value is.
 pub fn is_below(a: &Angle, b: &Angle) -> bool
     ensures { IsTrue result ↔ (degrees a.now ≺ degrees b.now) }
 {
     a < b
 }
 
-/// Whether two positions are equal, as `==` tells: exactly if both angles have one value.
+/// Whether two positions are equal by `==`: exactly if both angles have one value.
 pub fn equal_positions(a: &Position, b: &Position) -> bool
     ensures { IsTrue result ↔ HaveEqualAngles a.now b.now }
 {

@@ -13,7 +13,7 @@ use crate::angle::Angle;
 use std::error::Error;
 use std::fmt;
 
-// The most digits that are read behind the point.
+// The most digits that are read after the point.
 const MAX_DECIMALS: usize = 12;
 
 /// Why a text is no angle: the first of these that it is.
@@ -21,7 +21,7 @@ const MAX_DECIMALS: usize = 12;
 pub enum AngleFault {
     /// The text is not an optional `-`, one to three digits, and optionally a point and one or more digits.
     NotANumber,
-    /// More than twelve digits stand behind the point.
+    /// More than twelve digits stand after the point.
     TooManyDecimals,
     /// The magnitude is above 360 degrees.
     OutOfRange,
@@ -63,7 +63,7 @@ impl Angle {
     }
 }
 
-// The parts of a text that spells an angle: its sign, the digits before the point and those behind it.
+// The parts of a text that spells an angle: its sign, the digits before the point and those after it.
 #[derive(Clone, Copy)]
 struct Spelling<'a> {
     negative: bool,
@@ -101,7 +101,7 @@ fn without_minus(text: &str) -> (bool, &str)
     }
 }
 
-// What stands before the first point and what stands behind it. None where nothing stands behind it.
+// What stands before the first point and what stands after it. None where nothing stands after it.
 fn around_point(text: &str) -> Option<(&str, &str)>
     ensures { MatchOption result (EndsInPoint text.now) (λ parts. StandsAroundPoint text.now parts.0.now parts.1.now) }
 {
@@ -114,7 +114,7 @@ fn around_point(text: &str) -> Option<(&str, &str)>
     Some((whole, decimals))
 }
 
-// Whether one to three digits stand before the point, and digits alone behind it.
+// Whether one to three digits stand before the point, and digits alone after it.
 fn are_parts(whole: &str, decimals: &str) -> bool
     ensures { IsTrue result ↔ IsSpelling (record { negative = false; whole = whole.now; decimals = decimals.now }) }
 {

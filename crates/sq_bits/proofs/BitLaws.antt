@@ -32,7 +32,7 @@ field_bit f first count k within =
 pow_byte_suc : (i : ℕ) → 2 ^ (8 * suc i) ≡ 2 ^ (8 * i) * 256
 pow_byte_suc i = subst (λ x. 2 ^ (8 * x) ≡ 2 ^ (8 * i) * 256) (add-one i) (pow_byte i)
 
--- the digits behind a number stand for the lower part
+-- the digits after a number stand for the lower part
 after_parts : (n : ℕ) (ys : List ℕ) → number_from_digits_after 256 n ys ≡ n * 2 ^ (8 * length ys) + number_from_digits_after 256 0 ys
 after_parts n [] = omega arith
 after_parts n (y ∷ ys) =

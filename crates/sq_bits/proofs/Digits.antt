@@ -17,7 +17,7 @@ pow_byte-le i small =
     let bound : 2 ^ (8 * (i + 1)) ≤ 2 ^ 112 = pow-le-pow_right (omega arith) fits in
     rw (pow_byte i) at bound
 
--- a byte written behind those before it
+-- a byte written after those before it
 pub digit_written : (bs : List ℕ) (i v : ℕ) → i < length bs
     → number_from_digits 256 (take (i + 1) (set bs i v)) ≡ number_from_digits 256 (take i bs) * 256 + v
 digit_written bs i v within =
@@ -32,7 +32,7 @@ byte_below n i small =
     let low : 112 - 8 * (i + 1) ≡ k = omega arith in
     rw (high, low, ← shr-shr n k 8, and_mask (n / 2 ^ k) 8) (shr_split (n / 2 ^ k) 8)
 
--- one more byte behind a number of i bytes
+-- one more byte after a number of i bytes
 pub byte_more : (n b i : ℕ) → n < 2 ^ (8 * i) → b < 256 → i < 14 → (n * 256 + b < 2 ^ (8 * (i + 1))) × (n * 256 + b < 2 ^ 112)
 byte_more n b i small byte within =
     let less : n * 256 + b < 2 ^ (8 * i) * 256 = omega arith in
@@ -46,7 +46,7 @@ pub AllBelowBase-written : (bs : List ℕ) (i n : ℕ) → i < length bs → All
 AllBelowBase-written bs i n within all =
     rw (take_more_set bs i (bit_and n 255) within) (AllBelowBase-push 256 (bit_and n 255) (take i bs) all (omega (arith, and_le_r n 255)))
 
--- two bytes of a number, and three more behind a number
+-- two bytes of a number, and three more after a number
 pub two_bytes : (bs : List ℕ) → 2 ≤ length bs → number_from_digits 256 (take 2 bs) ≡ (0 + get_or bs 0 0) * 256 + get_or bs 1 0
 two_bytes bs long = number_more 256 bs 1 (omega arith) ∙ ap (λ n. n * 256 + get_or bs 1 0) (number_more 256 bs 0 (omega arith))
 

@@ -93,7 +93,7 @@ written n b c v short within small =
     let whole = parts n b c in
     (omega arith, omega arith, replaced-lt 112 n b c v short within small)
 
--- a field is its leading bits and the ones behind them
+-- a field is its leading bits and the ones after them
 pub field_parts : (f : Frame) (first a b : ℕ) → 1 ≤ first → first + (a + b) ≤ 113
     → quotient_of f first (a + b) ≡ quotient_of f first a * 2 ^ b + quotient_of f (first + a) b
 unfolding quotient_of

@@ -11,7 +11,7 @@ use Rattle.sq_bits.proofs.Multiples.{IsMultiple-zero, IsMultiple-xor, IsMultiple
 pub IsRemainder-zero : IsRemainder 0 0
 IsRemainder-zero = (omega arith, IsMultiple-zero)
 
--- both numbers with the same bit behind
+-- both numbers with the same bit appended
 appended : (n r b : ℕ) → b < 2 → bit_xor (2 * n + b) (2 * r + b) ≡ 2 * bit_xor n r
 appended n r b small =
     let block : bit_xor (n * 2 ^ 1 + b) (r * 2 ^ 1 + b) ≡ bit_xor n r * 2 ^ 1 + bit_xor b b = xor_block 1 n r b b (omega arith) (omega arith) in
@@ -101,7 +101,7 @@ IsRemainder-word n r w a b c word is first second third =
     let bytes = IsRemainder-bytes (r / 2 ^ 16) (r / 2 ^ 8 % 256) (r % 256) w a b c (omega arith) (omega arith) word first second third in
     IsRemainder-moved (n * 2 ^ 24 + w) (r * 2 ^ 24 + w) (bit_xor a (bit_xor b (bit_xor c w))) moved (rw parts at bytes)
 
--- one more bit behind a number with a remainder
+-- one more bit after a number with a remainder
 remainder_more : (n r b : ℕ) → b < 2 → IsRemainder n r → (s : ℕ) × IsRemainder (2 * n + b) s
 remainder_more n r b bit is = elim (cases_lt (r * 2 + b) 16777216) [
   | inl low ↦ (r * 2 + b, IsRemainder-kept n r b bit (omega arith) is)

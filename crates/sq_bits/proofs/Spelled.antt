@@ -18,7 +18,7 @@ pub quotient_is : (f : Frame) (first count : ℕ) → IsFrame f → 1 ≤ first 
 unfolding field_of
 quotient_is f first count is begins within = field_spelled f first count is begins within
 
--- one more bit behind a field
+-- one more bit after a field
 field_more : (f : Frame) (first count : ℕ) → field_of f first (suc count) ≡ field_of f first count * 2 + bit_of f (first + count)
 unfolding field_of
 field_more f first count =
@@ -30,7 +30,7 @@ field_none : (f : Frame) (first : ℕ) → field_of f first 0 ≡ 0
 unfolding field_of
 field_none f first = refl
 
--- a field is its leading bits and the ones behind them
+-- a field is its leading bits and the ones after them
 pub field_parts : (f : Frame) (first a b : ℕ) → field_of f first (a + b) ≡ field_of f first a * 2 ^ b + field_of f (first + a) b
 field_parts f first a zero =
     let same : a + 0 ≡ a = omega arith in

@@ -29,7 +29,7 @@ IsRemainder-step n r is =
           subst (λ t. IsRemainder (2 * n) (cond t (r * 2) (bit_xor (r * 2) generator))) (sym (le-ltb (r * 2) 16777216 high)) reduced'
     ]
 
--- the remainder of a byte with 24 coefficients 0 behind it
+-- the remainder of a byte with 24 coefficients 0 after it
 abbrev of_byte : ℕ → ℕ
 of_byte b = step (step (step (step (step (step (step (step (b * 65536))))))))
 

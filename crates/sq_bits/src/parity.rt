@@ -21,7 +21,7 @@ pub fn remainder(frame: &Frame) -> u32
     remainder
 }
 
-// The remainder of a polynomial with 24 more coefficients behind the others.
+// The remainder of a polynomial with 24 more coefficients after the others.
 #[inline(always)]
 fn append_word(remainder: u32, word: u32) -> u32
     requires small { remainder < 2 ^ 24 }

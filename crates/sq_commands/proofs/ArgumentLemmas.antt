@@ -75,7 +75,7 @@ no_feet word feet result field variant none text (other, is, means) =
 
 -- ---- addresses
 
--- one more byte behind a number of at most two
+-- one more byte after a number of at most two
 pub byte_behind : (n b i : ℕ) → n < 2 ^ (8 * i) → b < 256 → i < 3 → (n * 256 + b < 2 ^ (8 * (i + 1))) × (n * 256 + b < 2 ^ 24)
 byte_behind n b i small byte within =
     let less : n * 256 + b < 2 ^ (8 * i) * 256 = omega arith in

@@ -50,14 +50,14 @@ HasHeard old new lines Holding = (reader : TimedReader) (decimals : DecimalWrite
     → (answers : List (Answer HeardFrom)) × (next : History) × AreHeardLines reader (settings old) h lines answers next
     × StandsFor new next × Holding (texts_of (heard_text decimals)) answers
 
--- the text was written up to some place in the last answer's, or the sink tells its bytes no longer
+-- the text was written up to some place in the last answer's, or the sink no longer reports its bytes
 abbrev pub WroteIntoLast : Written → (List (Answer HeardFrom) → List ℕ) → List (Answer HeardFrom) → Type 0
 WroteIntoLast output text answers = (part : List ℕ) × IsPrefixOf (text (take (length answers - 1) answers)) part
     × IsPrefixOf part (text answers) × AppendsOrHides output.before output.after part
 
 -- ---- as a function of what came before
 
--- what replies to calls, but for want of memory
+-- what replies to calls, unless memory runs out
 pub record Replier : Type 0 where
   pub reply : (s : Settings) (h : History) → IsHistory s h → ℕ → Squitter → Result Heard TrackFault
   pub replies : (s : Settings) (h : History) (accepted : IsHistory s h) (m : ℕ) (q : Squitter) → IsReply s h m q (reply s h accepted m q)

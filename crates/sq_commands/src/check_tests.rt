@@ -104,7 +104,7 @@ fn checks_lines_in_pieces(rt: HostRuntime) {
     }
 }
 
-// How many bytes of the answers tell of the first so many lines.
+// How many bytes of the answers are for the first so many lines.
 const ANSWERED: [usize; 11] = [0, 33, 65, 65, 79, 95, 109, 129, 144, 159, 198];
 
 #[test]

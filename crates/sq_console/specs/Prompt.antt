@@ -5,7 +5,7 @@ use Rattle.std.specs.declared.io.traits.Write.{Ghosts}
 use Rattle.sq_console.specs.declared.prompt.PromptInput.{PromptInput}
 use Rattle.sq_console.specs.declared.prompt.PromptOutput.{PromptOutput}
 
--- the bytes in the input's buffer and then those of its reader, where the reader tells them
+-- the bytes in the input's buffer and then those of its reader, where the reader reports them
 abbrev pub to_come_of : {R W : Type 0} {g : Ghosts W} → (R → Option (List ℕ)) → PromptInput R W g → Option (List ℕ)
 to_come_of remaining s = reader_remaining remaining s.reader
 

@@ -29,7 +29,7 @@ pub struct SharedOutput<W: Write + Drop> {
 }
 
 impl<W: Write + Drop> SharedOutput<W> {
-    /// An empty buffer over the writer. `Err` comes where a growth was refused.
+    /// An empty buffer over the writer. `Err` comes where an allocation fails.
     pub fn new(alloc: Global, writer: W) -> Result<Self, AllocError> {
         let Ok(writer) = BufWriter::with_capacity(alloc, OUTPUT_BYTES, writer) else {
             return Err(AllocError);
@@ -43,7 +43,7 @@ impl<W: Write + Drop> SharedOutput<W> {
         })
     }
 
-    // Writes what is in the buffer. A failure is marked, for the next put or finish to tell.
+    // Writes what is in the buffer. A failure is marked, for the next put or finish to report.
     fn flush(&self) {
         if let Ok(mut buffered) = self.buffered.try_borrow_mut() {
             if buffered.writer.flush().is_err() {
@@ -122,7 +122,7 @@ impl<R: Read, W: Write + Drop> Source for PromptInput<'_, R, W> {
     }
 }
 
-/// A sink over the shared output. It does not tell what was written.
+/// A sink over the shared output. It does not report what was written.
 #[derive(Drop)]
 pub struct PromptOutput<'a, W: Write + Drop> {
     output: &'a SharedOutput<W>,

@@ -13,7 +13,7 @@ use std::io::ErrorKind;
 pub enum Trouble {
     /// A word of the command line is not UTF-8.
     Words,
-    /// A growth was refused.
+    /// An allocation failed.
     Memory,
 }
 

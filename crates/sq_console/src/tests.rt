@@ -244,7 +244,7 @@ impl Write for Once<'_> {
     }
 }
 
-// A failed read is told, and not tried again.
+// A failed read is reported, and not tried again.
 #[test]
 fn tells_a_failed_read(rt: HostRuntime) -> Result<(), Fail> {
     let log = RefCell::new(Vec::new(rt.alloc()));
@@ -263,7 +263,7 @@ fn tells_a_failed_read(rt: HostRuntime) -> Result<(), Fail> {
     Ok(())
 }
 
-// A failed write at the finish is told, and the finish reaches the writer.
+// A failed write at the finish is reported, and the finish reaches the writer.
 #[test]
 fn tells_a_failed_write_and_finishes(rt: HostRuntime) -> Result<(), Fail> {
     let log = RefCell::new(Vec::new(rt.alloc()));

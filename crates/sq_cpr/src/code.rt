@@ -17,7 +17,7 @@ pub struct Code {
 impl Code {
     ghost use Rattle.sq_cpr.specs.Code.{numbers_of};
 
-    /// The code of these two numbers; `None` exactly unless both are below 131072.
+    /// The code of these two numbers; `None` unless both are below 131072.
     pub fn new(lat: u32, lon: u32) -> Option<Code>
         ensures variant { IsSome result ↔ ((lat < 131072) × (lon < 131072)) }
         ensures value { IfSome result (λ code. numbers_of code ≡ record { lat = lat; lon = lon }) }

@@ -225,7 +225,7 @@ pub fn equal_points<S: Span>(a: &GridPoint<S>, b: &GridPoint<S>) -> bool
     a == b
 }
 
-/// Whether two codes are equal, as `==` tells: exactly if both numbers are.
+/// Whether two codes are equal by `==`: exactly if both numbers are.
 pub fn equal_codes(code: &Code, other: &Code) -> bool
     ensures { IsTrue result ↔ (numbers_of code.now ≡ numbers_of other.now) }
 {

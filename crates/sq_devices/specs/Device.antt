@@ -1,13 +1,14 @@
--- What a call that failed does to the bytes of a device, which may not tell them. `None` stands for untold bytes.
+-- What a call that failed does to the bytes of a device, which may not report them. `None` stands for bytes that are not
+-- reported.
 use Rattle.std.specs.Prelude.{◌≡◌, ◌++◌, ℕ, List, ⊤, Option, None, Some}
 
--- the device's bytes are as before, or it does not tell them
+-- the device's bytes are as before, or it does not report them
 abbrev pub KeepsOrHides : Option (List ℕ) → Option (List ℕ) → Type 0
 KeepsOrHides None new = ⊤
 KeepsOrHides (Some xs) None = ⊤
 KeepsOrHides (Some xs) (Some ys) = ys ≡ xs
 
--- the sink's bytes grew by bs, or it does not tell them
+-- the sink's bytes grew by bs, or it does not report them
 abbrev pub AppendsOrHides : Option (List ℕ) → Option (List ℕ) → List ℕ → Type 0
 AppendsOrHides None new bs = ⊤
 AppendsOrHides (Some xs) None bs = ⊤
@@ -17,12 +18,12 @@ AppendsOrHides (Some xs) (Some ys) bs = ys ≡ xs ++ bs
 abbrev pub IsPrefixOf : {X : Type 0} → List X → List X → Type 0
 IsPrefixOf {X} xs ys = (rest : List X) × (ys ≡ xs ++ rest)
 
--- the source's bytes began with bs, and it lost these alone, or tells what is left no longer
+-- the source's bytes began with bs, and it lost these alone, or it no longer reports what is left
 abbrev pub ConsumesOrHides : Option (List ℕ) → Option (List ℕ) → List ℕ → Type 0
 ConsumesOrHides None new bs = ⊤
 ConsumesOrHides (Some xs) None bs = IsPrefixOf bs xs
 ConsumesOrHides (Some xs) (Some ys) bs = xs ≡ bs ++ ys
 
--- a front of the text was appended, and no more, or the sink tells its bytes no longer
+-- a prefix of the text was appended, and no more, or the sink no longer reports its bytes
 abbrev pub WroteFront : Option (List ℕ) → Option (List ℕ) → List ℕ → Type 0
 WroteFront before after text = (part : List ℕ) × IsPrefixOf part text × AppendsOrHides before after part

@@ -12,7 +12,7 @@ pub struct Failed;
 ///
 /// No source answers more than 10^12 gets.
 pub trait Source {
-    /// The bytes that are still to come, where the source tells them.
+    /// The bytes that are still to come, where the source reports them.
     ghost to_come: { Self → Option (List ℕ) };
 
     /// Whether a get has failed.
@@ -24,7 +24,7 @@ pub trait Source {
     /// Moves the first bytes to come to the front of `into`, and answers how many: 0 into a buffer
     /// that has room only where no more bytes come. An answer uses up one get.
     ///
-    /// `Err` marks the source as failed. Its bytes stay as they were, or the source does not tell
+    /// `Err` marks the source as failed. Its bytes stay as they were, or the source does not report
     /// them, and no get is used up.
     fn get(&mut self, into: &mut [u8]) -> Result<usize, Failed>
         ensures fits { IfOk result (λ n. n ≤ length into.new) }
@@ -41,7 +41,7 @@ pub trait Source {
 
 /// Where bytes go to.
 pub trait Sink {
-    /// The bytes that were written, where the sink tells them.
+    /// The bytes that were written, where the sink reports them.
     ghost written: { Self → Option (List ℕ) };
 
     /// Whether a put or a finish has failed.
@@ -49,7 +49,7 @@ pub trait Sink {
 
     /// Appends the first bytes of `from`, at least one if there is one, and answers how many.
     ///
-    /// `Err` marks the sink as failed. Its bytes stay as they were, or the sink does not tell them.
+    /// `Err` marks the sink as failed. Its bytes stay as they were, or the sink does not report them.
     fn put(&mut self, from: &[u8]) -> Result<usize, Failed>
         ensures fits { IfOk result (λ n. n ≤ length from.now) }
         ensures some { IfOk result (λ n. 0 < length from.now → 0 < n) }
@@ -60,7 +60,7 @@ pub trait Sink {
 
     /// Sends what was put on its way, since no more comes. It changes no bytes.
     ///
-    /// `Err` marks the sink as failed. Its bytes stay as they were, or the sink does not tell them.
+    /// `Err` marks the sink as failed. Its bytes stay as they were, or the sink does not report them.
     fn finish(&mut self) -> Result<(), Failed>
         ensures bytes { OnOk result (Keeps (written self.old) (written self.new)) }
         ensures unmarked { OnOk result (has_failed self.new ≡ has_failed self.old) }

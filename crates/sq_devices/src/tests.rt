@@ -191,7 +191,7 @@ fn leaves_a_prefix_where_a_put_fails(rt: HostRuntime) {
     assert_eq!(rt; sink.into_inner().taken.as_slice(), b"8D406".as_slice());
 }
 
-// A failed call is told, and not tried again.
+// A failed call is reported, and not tried again.
 #[test]
 fn tries_nothing_again(rt: HostRuntime) {
     let once = Once {

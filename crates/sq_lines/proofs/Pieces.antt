@@ -79,7 +79,7 @@ unfolding take_of
 bytes_taken [] = refl
 bytes_taken (step ∷ steps) = ap₂ (λ xs ys. xs ++ ys) (bytes_by step.piece (has_feed step.piece) refl) (bytes_taken steps)
 
--- ---- what a cutter tells
+-- ---- what a cutter reports
 
 told_is : (held : Held) (line : List ℕ) → Holds held line → told_by held ≡ told_of line
 told_is held line h = λ i. record { front = h.front i; is_long = h.more i }
@@ -87,7 +87,7 @@ told_is held line h = λ i. record { front = h.front i; is_long = h.more i }
 not_empty : (n : ℕ) → (suc n == 0) ≡ false
 not_empty n = ne_eqb (suc n) 0 (λ e. absurd (omega (arith, e)))
 
--- what is told of a line that is held
+-- what is reported of a line that is held
 told_rest : (held : Held) (line : List ℕ) → Holds held line → (if length held.line == 0 then [] else told_by held ∷ []) ≡ map told_of (as_last_line line)
 told_rest held [] h = ap (λ (l : List ℕ). if length l == 0 then [] else told_by held ∷ []) h.front
 told_rest held (b ∷ bs) h =

@@ -23,7 +23,7 @@ AreTakes before (step ∷ steps) = IsTake before step.piece step.after × AreTak
 abbrev pub taken : Step → List ℕ
 taken step = take (count_through step.piece) step.piece
 
--- what a cutter tells of a line: its first 64 bytes, and whether there are more
+-- what a cutter reports of a line: its first 64 bytes, and whether there are more
 pub record Told : Type 0 where
   pub front : List ℕ
   pub is_long : Bool
@@ -34,16 +34,16 @@ told_of line = record { front = take 64 line; is_long = nat_lt 64 (length line) 
 abbrev pub told_by : Held → Told
 told_by held = record { front = held.line; is_long = held.is_long }
 
--- what is held in the end is a line unless it was complete, and told as such, or is empty
+-- what is held in the end is a line unless it was complete, and reported as such, or is empty
 abbrev pub told_last : Held → List Told
 told_last held = if held.is_complete then [] else (if length held.line == 0 then [] else told_by held ∷ [])
 
--- what is told of the lines, each when it is complete, and of the last one
+-- what is reported of the lines, each when it is complete, and of the last one
 abbrev pub lines_told : Held → List Step → List Told
 lines_told held [] = told_last held
 lines_told held (step ∷ steps) = if step.after.is_complete then told_by step.after ∷ lines_told step.after steps else lines_told step.after steps
 
--- However an input is cut into pieces: what a cutter tells of its lines, from an empty one on, is in order what there is to
--- tell of the lines of the whole.
+-- However an input is cut into pieces: what a cutter reports of its lines, from an empty one on, is in order what there is to
+-- report of the lines of the whole.
 abbrev pub GivesTheLines : Type 0
 GivesTheLines = (steps : List Step) → AreTakes empty_line steps → lines_told empty_line steps ≡ map told_of (lines_of (flat_map taken steps))

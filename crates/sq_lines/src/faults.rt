@@ -10,7 +10,7 @@ pub enum RunFault {
     /// A put of this run failed, or the finish at its end.
     #[error("write failed")]
     Write,
-    /// A growth was refused.
+    /// An allocation failed.
     #[error("out of memory")]
     Memory,
 }

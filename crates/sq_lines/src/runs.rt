@@ -176,7 +176,7 @@ impl LineRun {
         }
     }
 
-    /// Answers what stands behind the last line feed, unless it is empty.
+    /// Answers what stands after the last line feed, unless it is empty.
     pub(crate) fn answer_last<A: Answering, K: Sink>(
         &mut self,
         state: &mut A::State,

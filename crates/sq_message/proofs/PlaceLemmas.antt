@@ -1,4 +1,4 @@
--- What places and their faults tell of the decoders' answers.
+-- What places and their faults say of the decoders' answers.
 use Rattle.std.proofs.Common.{◌≡◌, ◌⊎◌, ℕ, Option, Some, None, Result, Ok, Err, inl, inr, refl, sym, ap, subst}
 use Rattle.std.proofs.lemmas.Bool.Decides.{eqb_tells}
 use Rattle.sq_angle.specs.declared.position.Position.{Position}

@@ -21,7 +21,7 @@ pub struct AirFields {
 impl AirFields {
     ghost use Rattle.sq_message.specs.Parts.{air_parts};
 
-    /// These fields; `None` exactly unless the type code is 9 to 18 or 20 to 22, the status is below 4 and the altitude
+    /// These fields; `None` unless the type code is 9 to 18 or 20 to 22, the status is below 4 and the altitude
     /// field is below 4096.
     pub fn new(
         type_code: u8,

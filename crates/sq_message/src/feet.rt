@@ -29,7 +29,7 @@ fn feet_of(steps: u16) -> i32
     i32::from(steps) * 25 - 1000
 }
 
-/// The 12-bit field with Q = 1 that means an altitude in feet; `None` exactly unless it is a multiple of 25 from -1000 to
+/// The 12-bit field with Q = 1 that means an altitude in feet; `None` unless it is a multiple of 25 from -1000 to
 /// 50175.
 pub fn field_of_feet(feet: i32) -> Option<u16>
     ensures variant { IsSome result ↔ HasField feet }

@@ -21,7 +21,7 @@ pub struct GroundFields {
 impl GroundFields {
     ghost use Rattle.sq_message.specs.Parts.{ground_parts};
 
-    /// These fields; `None` exactly unless the type code is 5 to 8, and movement and track are below 128.
+    /// These fields; `None` unless the type code is 5 to 8, and movement and track are below 128.
     pub fn new(
         type_code: u8,
         movement: u8,

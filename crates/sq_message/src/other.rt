@@ -13,7 +13,7 @@ pub struct Other {
 impl Other {
     ghost use Rattle.sq_message.specs.Parts.{raw_of};
 
-    /// The message of these bits; `None` exactly unless `raw` is below 2^56 and its top five bits are no type code of an
+    /// The message of these bits; `None` unless `raw` is below 2^56 and its top five bits are no type code of an
     /// airborne or a surface position.
     pub fn new(raw: u64) -> Option<Other>
         ensures variant { IsSome result ↔ ((raw < 2 ^ 56) × IsOtherCode (raw / 2 ^ 51)) }

@@ -112,7 +112,7 @@ impl Squitter {
 }
 
 /// The squitter with the parity and the code of a place, and all else as it was (ICAO Doc 9871, registers 0,5 and 0,6). The
-/// place has to be of its kind, as [`Squitter::fits`] tells.
+/// place has to be of its kind: see [`Squitter::fits`].
 pub fn send_point(squitter: &Squitter, place: &Place) -> Squitter
     requires { Fits (squitter_parts squitter.now).me place.now }
     ensures { IsSentAt (squitter_parts squitter.now) place.now (squitter_parts result) }
@@ -161,7 +161,7 @@ pub fn place_local(squitter: &Squitter, reference: &Position) -> Result<Place, P
 /// The place of the newer of two squitters that were sent from nearly one place: its point of the one pair whose latitudes are
 /// close, and whose longitudes are; on the ground within 45 degrees of the site. A pair in the air does not look at the site.
 ///
-/// `Err` tells the first fault of [`PlaceFault`] that applies, and comes exactly where one does. RTCA DO-260B, appendix on
+/// `Err` has the first fault of [`PlaceFault`] that applies, and comes exactly where one does. RTCA DO-260B, appendix on
 /// compact position reporting, globally unambiguous decoding.
 pub fn place_pair(
     older: &Squitter,

@@ -113,7 +113,7 @@ fn assert_fault(rt: &impl Abort, older: Squitter, newer: Squitter, fault: PlaceF
     }
 }
 
-// Each pair has each fault behind the one that is told too, as far as two squitters can have them.
+// Each pair has each fault after the one that is reported too, as far as two squitters can have them.
 #[test]
 fn tells_the_first_fault_of_a_pair(rt: HostRuntime) {
     let air = airborne(&rt, 1, Parity::Even, 0, 0);

@@ -32,7 +32,7 @@ pub struct Squitter {
 impl Squitter {
     ghost use Rattle.sq_message.specs.Parts.{squitter_parts};
 
-    /// The squitter of these parts; `None` exactly unless `ca` is below 8 and `address` is below 2^24.
+    /// The squitter of these parts; `None` unless `ca` is below 8 and `address` is below 2^24.
     pub fn new(ca: u8, address: u32, me: Me) -> Option<Squitter>
         ensures variant { IsSome result ↔ ((ca < 8) × (address < 2 ^ 24)) }
         ensures value { IfSome result (λ squitter. squitter_parts squitter ≡ record { ca = ca; address = address; me = me }) }

@@ -20,7 +20,7 @@ abbrev pub of_frame : FrameFault → LineFault
 of_frame (of_frames.NotDf17 format) = NotDf17 format
 of_frame (of_frames.Parity remainder) = Parity remainder
 
--- what is told of a fault
+-- the text of a fault
 abbrev pub fault_text : LineFault → List ℕ
 fault_text LongLine = codes "long line"
 fault_text Moment = codes "bad moment"

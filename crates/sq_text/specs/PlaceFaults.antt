@@ -3,7 +3,7 @@ use Rattle.std.specs.Prelude.{ℕ, List, ◌++◌, codes, decimal}
 use Rattle.sq_message.specs.declared.place.PlaceFault.{PlaceFault}
 use Rattle.sq_message.specs.declared.place.PlaceFault.TheVariants.{NotPosition, OtherAddress, OtherKind, SameParity, NoSite, OutOfRange, ZoneCounts}
 
--- what is told of a fault
+-- the text of a fault
 abbrev pub place_fault_text : PlaceFault → List ℕ
 place_fault_text NotPosition = codes "not a position"
 place_fault_text OtherAddress = codes "other address"

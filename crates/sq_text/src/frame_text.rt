@@ -62,7 +62,7 @@ fn read_digits(body: &[u8]) -> Result<Frame, usize>
 }
 
 // The frame of 28 digits, where all of them are digits: the common case, by a table. A byte that is none shows in the
-// words, which are looked at once, behind the loop.
+// words, which are looked at once, after the loop.
 #[inline(always)]
 fn frame_of_digits(body: &[u8]) -> Option<Frame>
     requires { length body.now ≡ 28 }
@@ -116,7 +116,7 @@ fn joined(first: u32, second: u32, third: u32) -> u64
     u64::from(first) << 16 | u64::from(second) << 8 | u64::from(third)
 }
 
-// The same by the crate for such digits, which tells the first bad one.
+// The same by the crate for such digits, which finds the first bad one.
 fn decode(body: &[u8]) -> Result<Frame, usize>
     requires { length body.now ≡ 28 }
     ensures { MatchResult result (λ frame. decode_of body.now ≡ Ok frame.0) (IsFirstBadDigit body.now) }

@@ -1,7 +1,7 @@
 //! The texts of the program: frames read from text, squitters and places shown, and the faults of lines and of places.
 //!
 //! A frame text is 28 hexadecimal digits of either case, bare or between `*` and `;`. What is wrong with any other text
-//! is told by its first fault. Texts are made in buffers of fixed size: no call takes memory.
+//! is reported by its first fault. Texts are made in buffers of fixed size: no call takes memory.
 #![tactic(auto)]
 
 mod digit_values;

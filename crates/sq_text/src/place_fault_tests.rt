@@ -1,4 +1,4 @@
-//! What is told of squitters that are decoded to no place.
+//! What is reported of squitters that are decoded to no place.
 use super::push_place_fault;
 use arrayvec::ArrayString;
 use sq_message::PlaceFault;

@@ -22,7 +22,7 @@ fn assert_shown(rt: &impl Abort, tracker: &mut Tracker, last: u64, table: &[(u32
     }
 }
 
-// What a call answers, when it is made again after each want of memory.
+// What a call answers, when it is made again after each allocation that fails.
 fn hear_with_memory(
     rt: &impl Abort,
     tracker: &mut Tracker,

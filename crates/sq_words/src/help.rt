@@ -31,8 +31,8 @@ Examples:
 pub(crate) const SHOW: CommandHelp = CommandHelp {
     about: "Shows the fields of one frame, each on a line",
     usage: "squitter show <FRAME>",
-    after: "'lat' and 'lon' are the code of the position, two numbers from 0 to 131071, and no degrees: 'local'
-and 'pair' make degrees of them. A field with no unit is kept raw, as the frame has it.
+    after: "'lat' and 'lon' are the code of the position, two numbers from 0 to 131071, and not degrees: 'local'
+and 'pair' decode it. A field with no unit is as the frame has it.
 
 Example:
   squitter show 8D40621D58C382D690C8AC2863A7",
@@ -113,7 +113,7 @@ pub(crate) const PARITY: &str =
 pub(crate) const ADDRESS: &str = "The address, six hexadecimal digits, as 40621D";
 
 pub(crate) const FEET: &str = "The altitude in feet, in the air alone: a multiple of 25 from -1000
-to 50175, as --feet=-25. Without it the frame has none";
+to 50175, as --feet=-25. Left out, the frame has no altitude";
 
 pub(crate) const LAT: &str = "The latitude in degrees, from -90 to 90; south as --lat=-33.9";
 
@@ -127,11 +127,11 @@ pub(crate) const NEAR_LON: &str =
 
 pub(crate) const SITE_LAT: &str =
     "The site's latitude in degrees, from -90 to 90; south as --lat=-33.9.
-A pair on the ground needs a site within 45 degrees; in the air none";
+Needed for aircraft on the ground alone, within 45 degrees of them";
 
 pub(crate) const SITE_LON: &str =
     "The site's longitude in degrees, from -180 to 180; west as --lon=-0.45.
-With --lat, or neither";
+Give both or neither";
 
 pub(crate) const LIMIT: &str =
     "How many addresses are kept at most, from 1 to 4294967295 [default: 1000]";

@@ -13,7 +13,7 @@ use std::alloc::{AllocError, Global};
 /// Why no request was read.
 #[derive(Debug, Drop)]
 pub enum Refusal {
-    /// A growth was refused.
+    /// An allocation failed.
     Memory,
     /// The words are no command line of the program, or ask for help: what clap has to say, in
     /// whole lines.
@@ -33,7 +33,7 @@ impl From<AllocError> for Refusal {
 /// The command that the words name, with its values. The first of the words is the program's name.
 ///
 /// `Words` comes only for words in which clap finds a fault, a request for help among them, and
-/// `Memory` where a growth was refused.
+/// `Memory` where an allocation fails.
 pub fn read_request<'a>(alloc: Global, words: &'a [&'a str]) -> Result<Request<'a>, Refusal>
     ensures asks { IfOk result (λ request. Asks (map (λ word. word.now) words.entry.now) (asked_by request)) }
     ensures refused { IfErr result (λ refusal. (text : _) → refusal ≡ Refusal.Words text

@@ -23,7 +23,7 @@ Arrived world entry = (arrival : Arrival) × Contains world arrival × IsEntryOf
 abbrev pub IsKnown : World → ℕ → Entry → Type 0
 IsKnown world moment entry = (arrival : Arrival) × Contains world arrival × IsEntryOf arrival entry × (entry.moment ≤ moment)
 
--- each entry is in time, and was heard, by those behind it
+-- each entry is in time, and was heard, by the earlier ones
 abbrev pub IsChain : (window : ℕ) → Option Position → History → Type 0
 IsChain window site [] = Unit {0}
 IsChain window site (entry ∷ earlier) =
