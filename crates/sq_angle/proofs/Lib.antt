@@ -8,6 +8,7 @@ pub mod Sizes
 pub mod Orders
 -- of angles and their texts
 pub mod LowestTerms
+pub mod Twos
 pub mod Coprime
 pub mod Decimals
 pub mod OneText

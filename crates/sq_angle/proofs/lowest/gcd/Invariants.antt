@@ -1,9 +1,8 @@
-use Rattle.std.proofs.Common.{ℕ}
-use Rattle.std.specs.Int.{IsGcd}
+use Rattle.sq_angle.proofs.Twos.{AreLeft}
 use Rattle.sq_angle.proofs.lowest.gcd.Given as goal
 
 abbrev pub invariant-loop-y : goal.invariant-loop-y
-invariant-loop-y l = (g : ℕ) → IsGcd l.x l.y g → IsGcd l.fn.a l.fn.b g
+invariant-loop-y l = AreLeft l.fn.a l.fn.b l.x l.y l.twos
 
 abbrev pub decreases-loop-y : goal.decreases-loop-y
 decreases-loop-y l = l.y
