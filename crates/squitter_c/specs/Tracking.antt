@@ -122,7 +122,7 @@ IsRefused moment frame old refusal = ⊥
 abbrev pub AreOne : PlainHeard → PlainHeard → Type 0
 AreOne answer written = written ≡ answer
 
--- what is told of a frame: it is heard, or refused, and the entry and `out` are as they were
+-- what is answered for a frame: it is heard, or refused, and the entry and `out` are as they were
 abbrev pub IsHeardFrame :
     (window : ℕ) → Option Position → (moment : ℕ) → Frame → (old new : PlainEntry) → (was is : PlainHeard) → Fault → Type 0
 IsHeardFrame window site moment frame old new was is fault =
