@@ -245,11 +245,11 @@ squitter_fault squitter_pair_at(const uint8_t SQUITTER_CONST_BYTES(older, 14),
 
 /* ---- Hearing ---- */
 
-/* Hears one frame more of an address: what is heard of it, by the frames that were heard before it, as the program `squitter
- * track` answers. `entry` is what is kept of the frame's address, which the caller looks up (squitter_read_frame tells the
- * address) and which no other frame was heard into; moments and the window are in milliseconds, or in any other unit. A fix
- * wants the other frame, and following the last fix, at most the window before. At a fault *entry and *out are as they were.
- * Faults: NOT_DF17, PARITY, MOMENT_BACK. */
+/* Hears one frame more of an address: what is heard of it, by the frames that were heard before it, as the program
+ * `squitter track` answers. `entry` is what is kept of the frame's address: the caller looks it up by the address that
+ * squitter_read_frame answers, and lets it hear no frame of another address. Moments and the window are in milliseconds, or
+ * in any other unit. The other frame of a fix, and the last fix that is followed, are at most the window older. At a fault
+ * *entry and *out are as they were. Faults: NOT_DF17, PARITY, MOMENT_BACK. */
 squitter_fault squitter_hear(squitter_entry *SQUITTER_RESTRICT entry, uint64_t window, uint64_t moment,
                              const uint8_t SQUITTER_CONST_BYTES(frame, 14),
                              squitter_heard *SQUITTER_RESTRICT out) SQUITTER_CALL;

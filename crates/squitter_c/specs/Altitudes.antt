@@ -1,4 +1,4 @@
--- What is told of an altitude: the feet of a field, and the field of feet.
+-- What is answered for an altitude: the feet of a field, and the field of feet.
 use Rattle.std.specs.Prelude.{◌≡◌, ◌<◌, ℕ, ℤ, Result, Ok, Err}
 use Rattle.sq_message.specs.Altitudes.{HasField, IsFieldOfFeet}
 use Rattle.sq_message.specs.TypeCodes.{IsAirCode}

@@ -1,4 +1,4 @@
--- What is told of an angle: its text, the angle of a text, and the zone count of a latitude.
+-- What is answered for an angle: its text, the angle of a text, and the zone count of a latitude.
 use Rattle.std.specs.Prelude.{◌≡◌, ◌<◌, ℕ, List, length, slice_index, Result, Ok, Err}
 use Rattle.sq_angle.specs.declared.angle.Angle.{Angle}
 use Rattle.sq_angle.specs.declared.read.AngleFault.{AngleFault}

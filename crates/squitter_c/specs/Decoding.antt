@@ -1,4 +1,4 @@
--- What is told of a place.
+-- What is answered for a place.
 use Rattle.std.specs.Prelude.{◌≡◌, ◌⊎◌, Option, None, Some, Result, Ok, Err}
 use Rattle.sq_bits.specs.declared.frame.Frame.{Frame}
 use Rattle.sq_angle.specs.declared.position.Position.{Position}
@@ -52,7 +52,7 @@ abbrev pub IsSiteAnswer : (older newer : Frame) → PlainPosition → Result Pos
 IsSiteAnswer older newer plain answer = ((¬ (PlainIsPosition plain)) × (answer ≡ Err refusals.NoPosition))
     ⊎ ((site : Position) × IsOfDegrees plain site × IsPairAnswer older newer (Some site) answer)
 
--- what is told of an answer for a position
+-- what is answered for an answer for a position
 abbrev pub TellsPosition : Result Position Refusal → (old new : PlainPosition) → Fault → Type 0
 TellsPosition answer old new fault = Tells IsLowestPosition as_it_is answer old new fault
 

@@ -66,7 +66,7 @@ fault_of NoParity = told 25 0 0
 abbrev pub OneCode : Type 0
 OneCode = (a b : Refusal) → fault_of a ≡ fault_of b → a ≡ b
 
--- and none is told as an answer
+-- and none has the code of an answer
 abbrev pub NoCodeIsZero : Type 0
 NoCodeIsZero = (a : Refusal) → ¬ (fault_of a ≡ none)
 
@@ -86,7 +86,7 @@ of_angles fault = Angle fault
 abbrev pub as_it_is : Refusal → Refusal
 as_it_is refusal = refusal
 
--- What is told of an answer: what is written stands for it, and the code is 0; else the fault, and `out` is as it was.
+-- What is answered for an answer: what is written stands for it, and the code is 0; else the fault, and `out` is as it was.
 abbrev pub Tells : {A B E : Type 0} → (A → B → Type 0) → (E → Refusal) → Result A E → (old new : B) → Fault → Type 0
 Tells Stands named (Ok answer) old new fault = Stands answer new × (fault ≡ none)
 Tells Stands named (Err reason) old new fault = (new ≡ old) × (fault ≡ fault_of (named reason))

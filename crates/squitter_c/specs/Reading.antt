@@ -1,4 +1,4 @@
--- What is told of a text and of a frame.
+-- What is answered for a text and of a frame.
 use Rattle.std.specs.Prelude.{◌≡◌, List, ℕ, Result}
 use Rattle.hex.specs.Hex.{encode_upper}
 use Rattle.sq_bits.specs.declared.frame.Frame.{Frame}

@@ -1,4 +1,4 @@
--- What is told of a frame that is sent.
+-- What is answered for a frame that is sent.
 use Rattle.std.specs.Prelude.{◌≡◌, List, ℕ, Result, Ok, Err}
 use Rattle.sq_bits.specs.declared.frame.Frame.{Frame}
 use Rattle.sq_bits.specs.Frames.{IsFrame}
@@ -73,7 +73,7 @@ IsAgainAnswer frame odd plain (Err (refusals.Place fault)) = IsFlag odd × Plain
     × ((q : Squitter) × Spells frame q × (¬ (IsPosition (squitter_parts q).me)) × (fault ≡ NotPosition))
 IsAgainAnswer frame odd plain (Err other) = ⊥
 
--- what is told of an answer for a frame
+-- what is answered for an answer for a frame
 abbrev pub TellsFrame : Result Frame Refusal → (old new : List ℕ) → Fault → Type 0
 TellsFrame answer old new fault = Tells AreBytesOf as_it_is answer old new fault
 

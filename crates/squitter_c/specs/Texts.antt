@@ -10,7 +10,7 @@ use Rattle.squitter_c.specs.declared.faults.Refusal.{Refusal}
 use Rattle.squitter_c.specs.declared.faults.Refusal.TheVariants.{Line, Place, Angle, NoPosition, NoHead, NoAngle, NoLatitude, NoFeet, NoParity}
 use Rattle.squitter_c.specs.Faults.{fault_of}
 
--- what is told of the text of an angle
+-- the words for the text of an angle
 abbrev pub angle_fault_text : AngleFault → List ℕ
 angle_fault_text angles.NotANumber = codes "not a number"
 angle_fault_text angles.TooManyDecimals = codes "too many decimals"

@@ -1,5 +1,5 @@
 -- What is kept of an address in plain numbers, and what hearing one more frame of it makes of that.
-use Rattle.std.specs.Prelude.{◌≡◌, ◌≤◌, ◌<◌, ◌⊎◌, ◌∷◌, [], ℕ, pos, List, Option, Some, None}
+use Rattle.std.specs.Prelude.{◌≡◌, ◌≤◌, ◌<◌, ◌⊎◌, ◌∷◌, [], ℕ, pos, List, Option, Some, None, Ok}
 use Rattle.sq_angle.specs.declared.position.Position.{Position}
 use Rattle.sq_bits.specs.declared.frame.Frame.{Frame}
 use Rattle.sq_message.specs.declared.place.Place.{Place}
@@ -17,6 +17,7 @@ use Rattle.sq_track.specs.declared.heard.Heard.TheVariants.{Fix, Followed, Waiti
 use Rattle.sq_track.specs.Answers.{IsHeard}
 use Rattle.sq_track.specs.History.{History}
 use Rattle.sq_track.specs.Kept.{Remembers}
+use Rattle.sq_track.specs.Replies.{Settings, IsReply, of_address}
 use Rattle.squitter_c.specs.declared.entry.PlainEntry.{PlainEntry}
 use Rattle.squitter_c.specs.declared.entry.PlainFix.{PlainFix}
 use Rattle.squitter_c.specs.declared.entry.PlainReceived.{PlainReceived}
@@ -121,7 +122,7 @@ IsRefused moment frame old refusal = ⊥
 abbrev pub AreOne : PlainHeard → PlainHeard → Type 0
 AreOne answer written = written ≡ answer
 
--- what is told of a frame: it is heard, or refused, and the entry and `out` are as they were
+-- what is answered for a frame: it is heard, or refused, and the entry and `out` are as they were
 abbrev pub IsHeardFrame :
     (window : ℕ) → Option Position → (moment : ℕ) → Frame → (old new : PlainEntry) → (was is : PlainHeard) → Fault → Type 0
 IsHeardFrame window site moment frame old new was is fault =
@@ -158,3 +159,15 @@ blank = record { last = 0; newest = 0; airborne = blank_side; surface = blank_si
 -- an entry that is all zero keeps the history of which nothing was heard, for every window and address
 abbrev pub BlankKeepsNothing : Type 0
 BlankKeepsNothing = (window address : ℕ) → Keeps window address [] blank
+
+-- An entry that keeps the frames of an address which a tracker accepted hears of the next what the tracker hears, and
+-- afterwards keeps those that the tracker accepted.
+abbrev pub AsTheTracker : Type 0
+AsTheTracker =
+    (settings : Settings) (history : History) (moment : ℕ) (q : Squitter) (old new : PlainEntry) (heard reply : Heard)
+    → Keeps settings.window (squitter_parts q).address (of_address (squitter_parts q).address history) old
+    → IsHearing settings.window settings.site moment q old new heard
+    → IsReply settings history moment q (Ok reply)
+    → (heard ≡ reply)
+    × Keeps settings.window (squitter_parts q).address
+    (of_address (squitter_parts q).address (record { moment = moment; squitter = q; heard = reply } ∷ history)) new

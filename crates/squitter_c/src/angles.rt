@@ -35,7 +35,7 @@ fn zones(lat: &PlainAngle) -> Result<u8, Refusal>
     Ok(zone_count(&lat))
 }
 
-/// The text of an angle with seven decimals, at most 12 bytes, and zeros behind it.
+/// The text of an angle with seven decimals, at most 12 bytes, and zeros after it.
 #[unsafe(no_mangle)]
 pub extern "C" fn squitter_text_of_angle(angle: &PlainAngle, out: &mut [u8; 16]) -> Fault
     ensures { IsAngleWritten angle.now out.old out.new result }
@@ -74,7 +74,7 @@ fn read_angle(text: &[u8]) -> Result<Angle, AngleFault>
     }
 }
 
-// Writes the text in front, and zeros behind it.
+// Writes the text in front, and zeros after it.
 pub(crate) fn fill(out: &mut [u8], text: &str)
     requires { length text.now < length out.old }
     ensures { StandsIn text.now out.new }

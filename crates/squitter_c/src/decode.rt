@@ -47,7 +47,7 @@ pub extern "C" fn squitter_pair_at(
     give(of_two_at(&Frame(*older), &Frame(*newer), site), out)
 }
 
-// Writes the position, or tells why there is none.
+// Writes the position, or reports why there is none.
 fn give(answer: Result<Position, Refusal>, out: &mut PlainPosition) -> Fault
     ensures { TellsPosition answer out.old out.new result }
 {

@@ -1,4 +1,4 @@
-//! What a call tells: 0 for an answer, else what is at fault.
+//! What a call answers: 0 for an answer, else what is at fault.
 ghost use Rattle.std.specs.Prelude.{◌≡◌};
 ghost use Rattle.squitter_c.specs.Faults.{fault_of, fault_of_angle, fault_of_line, fault_of_place, told};
 
@@ -6,7 +6,7 @@ use sq_angle::AngleFault;
 use sq_message::PlaceFault;
 use sq_text::LineFault;
 
-/// What a call tells. `squitter.h` names the codes and says what `first` and `second` hold.
+/// What a call answers. `squitter.h` names the codes and says what `first` and `second` hold.
 #[repr(C)]
 #[derive(Clone, Copy, Debug, PartialEq, Eq)]
 pub struct Fault {

@@ -76,7 +76,7 @@ fn hear(
     tell(hear_frame(entry, window, site, moment, frame), out)
 }
 
-// Writes what was heard, or tells why nothing was.
+// Writes what was heard, or reports why nothing was.
 fn tell(answer: Result<PlainHeard, Refusal>, out: &mut PlainHeard) -> Fault
     ensures { Tells AreOne as_it_is answer out.old out.new result }
 {

@@ -1,7 +1,9 @@
 //! Laws of the codes of faults, of their texts and of entries, over the definitions alone.
 ghost use Rattle.squitter_c.specs.Faults.{NoCodeIsZero, OneCode};
 ghost use Rattle.squitter_c.specs.Texts.{EachText};
-ghost use Rattle.squitter_c.specs.Tracking.{BlankKeepsNothing};
+ghost use Rattle.squitter_c.specs.Tracking.{AsTheTracker, BlankKeepsNothing};
+
+use sq_track::laws::{one_address_alone, one_answer};
 
 /// No two reasons have one code and the same numbers.
 pub fn one_code()
@@ -22,3 +24,12 @@ pub fn each_text()
 pub fn blank_keeps_nothing()
     ensures { BlankKeepsNothing }
 {}
+
+/// An entry that keeps what a tracker accepted of an address hears of its next frame what the tracker hears, and goes on
+/// keeping what the tracker accepted.
+pub fn as_the_tracker()
+    ensures { AsTheTracker }
+{
+    one_answer();
+    one_address_alone();
+}

@@ -52,7 +52,7 @@ pub extern "C" fn squitter_read_frame(frame: &[u8; 14], out: &mut PlainSquitter)
     }
 }
 
-/// The text of a frame: 28 upper-case hexadecimal digits, and no zero behind them.
+/// The text of a frame: 28 upper-case hexadecimal digits, and no zero after them.
 #[unsafe(no_mangle)]
 pub extern "C" fn squitter_text_of_frame(frame: &[u8; 14], out: &mut [u8; 28])
     ensures { out.new ≡ text_of frame.now }

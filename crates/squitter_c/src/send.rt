@@ -53,7 +53,7 @@ pub extern "C" fn squitter_send_again(
     give(again(&Frame(*frame), odd, position), out)
 }
 
-// Writes the frame, or tells why there is none.
+// Writes the frame, or reports why there is none.
 fn give(answer: Result<Frame, Refusal>, out: &mut [u8; 14]) -> Fault
     ensures { TellsFrame answer out.old out.new result }
 {

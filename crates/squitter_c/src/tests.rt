@@ -329,7 +329,7 @@ fn writes_faults(rt: HostRuntime) {
 }
 
 #[test]
-fn tells_the_version(rt: HostRuntime) {
+fn answers_the_version(rt: HostRuntime) {
     assert!(rt; squitter_version() == 256);
 }
 

@@ -10,7 +10,7 @@ use crate::faults::Fault;
 use arrayvec::ArrayString;
 use sq_text::{push_decimal, push_hexadecimal};
 
-/// The text of a fault, as the program writes it, at most 63 bytes, and zeros behind it.
+/// The text of a fault, as the program writes it, at most 63 bytes, and zeros after it.
 #[unsafe(no_mangle)]
 pub extern "C" fn squitter_text_of_fault(fault: &Fault, out: &mut [u8; 64])
     ensures { StandsIn (told_text fault.now.code fault.now.first fault.now.second) out.new }
@@ -76,7 +76,7 @@ fn push_named(text: &mut ArrayString<63>, name: &str, number: u64)
     push_decimal(text, number);
 }
 
-// Appends a remainder, of which the lowest 24 bits are told.
+// Appends a remainder, of which the lowest 24 bits are written.
 fn push_remainder(text: &mut ArrayString<63>, remainder: u64)
     requires { array_string_len text.old ≤ 0 }
     ensures { text.new.bytes ≡ text.old.bytes ++ (codes "parity " ++ hexadecimal 6 remainder) }
