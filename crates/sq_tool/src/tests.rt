@@ -156,10 +156,7 @@ fn reports_the_text_of_clap(rt: HostRuntime) {
             ["squitter", "check", "frames.txt"].as_slice(),
             "error: unexpected argument 'frames.txt' found\n\nUsage: squitter check < FRAMES\n\nFor more information, try '--help'.\n",
         ),
-        (
-            ["squitter", "--version"].as_slice(),
-            "squitter 0.1.0\n",
-        ),
+        (["squitter", "--version"].as_slice(), "squitter 0.1.0\n"),
     ];
     for (words, text) in rows {
         assert_reported(&rt, rt.alloc(), words, 2, text);
