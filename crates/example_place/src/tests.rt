@@ -2,6 +2,7 @@
 use super::*;
 use sq_message::{Angle, PlaceFault};
 use sq_text::LineFault;
+use std::alloc::Global;
 use std::process::Abort;
 
 fn position(rt: &impl Abort, lat: (i64, u64), lon: (i64, u64)) -> Position {
@@ -43,4 +44,17 @@ fn refuses_texts_and_places(rt: HostRuntime) {
     assert!(rt; damaged == Err(Fault::OfText(LineFault::Parity(1))));
     let other = place_near("8D406B902015A678D4D220AA4BDA", &reference);
     assert!(rt; other == Err(Fault::OfPlace(PlaceFault::NotPosition)));
+}
+
+// What a fault's Display writes.
+fn shown(alloc: Global, fault: Fault) -> String {
+    format!(in alloc; "{fault}").unwrap_or(String::new(alloc))
+}
+
+#[test]
+fn shows_faults_as_the_program_does(rt: HostRuntime) {
+    let of_text = shown(rt.alloc(), Fault::OfText(LineFault::Parity(1)));
+    assert!(rt; of_text.as_str() == "parity 000001");
+    let of_place = shown(rt.alloc(), Fault::OfPlace(PlaceFault::NotPosition));
+    assert!(rt; of_place.as_str() == "not a position");
 }

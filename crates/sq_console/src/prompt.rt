@@ -1,4 +1,4 @@
-//! An input that lets the output go before it waits for more.
+//! An input that flushes the output before it waits for more.
 ghost use Rattle.std.specs.Prelude.{◌≡◌, ◌≤◌, IfOk, None, false};
 
 use sq_devices::{Failed, Sink, Source};

@@ -6,7 +6,7 @@ use Rattle.std.specs.Io.KnownBytes.{Appends}
 use Rattle.std.proofs.KnownBytes.{Appends-trans}
 use Rattle.sq_devices.specs.Device.{AppendsOrHides, KeepsOrHides, IsPrefixOf}
 
--- the front of the text, and then the first n bytes of the rest
+-- a prefix of the text, and then the first n bytes of the rest
 pub take_front : (text : List ℕ) (at n : ℕ) → n ≤ length text - at
     → take at text ++ take n (take (length text - at) (drop at text)) ≡ take (at + n) text
 take_front text at n fits =
@@ -25,7 +25,7 @@ Appends-hidden (Some x) None c bs p q = absurd p
 Appends-hidden (Some x) (Some y) None bs p q = tt
 Appends-hidden (Some x) (Some y) (Some z) bs p q = q ∙ p
 
--- the put that fails leaves the front of the text
+-- the put that fails leaves a prefix of the text
 pub puts_part : (a b c : Option (List ℕ)) (text : List ℕ) (at : ℕ) → Appends a b (take at text) → KeepsOrHides b c
     → (part : List ℕ) × IsPrefixOf part text × AppendsOrHides a c part
 puts_part a b c text at front kept =

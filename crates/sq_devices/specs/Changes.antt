@@ -23,7 +23,7 @@ Wrote w text = Appends w.before w.after text
 abbrev pub WroteNothing : Written → Type 0
 WroteNothing w = Wrote w []
 
--- the sink has failed, after a front of the text was written
+-- the sink has failed, after a prefix of the text was written
 abbrev pub FailedWithin : Written → List ℕ → Type 0
 FailedWithin w text = (w.failed ≡ true) × WroteFront w.before w.after text
 

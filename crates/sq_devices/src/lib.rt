@@ -1,7 +1,7 @@
 //! Devices: what bytes are read from and written to.
 //!
 //! A [`Source`] gives bytes and a [`Sink`] takes them. Contracts over them see the bytes of a device
-//! (those still to come, those written), which it may leave untold, whether it has failed, and how
+//! (those still to come, those written), which it may not report, whether it has failed, and how
 //! many more gets a source answers. [`Reading`] is a source over any reader, [`Writing`] a sink over
 //! any writer, [`put_all`] puts a whole text, and [`put_last`] the last one.
 #![tactic(auto)]

@@ -5,7 +5,7 @@ use Rattle.std.proofs.Math.Seq.{take-append-add}
 use Rattle.std.proofs.lemmas.Bool.{cases_lt, lt-ltb, le-ltb}
 use Rattle.sq_lines.specs.Held.{Held, Holds}
 
--- the front of a line that is longer than 64 bytes is full
+-- the first part of a line that is longer than 64 bytes is full
 full : (old : Held) (line : List ℕ) → Holds old line → 64 < length line → length old.line ≡ 64
 full old line h over = ap length h.front ∙ length-take-le 64 line (omega arith)
 

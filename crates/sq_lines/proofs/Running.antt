@@ -59,7 +59,7 @@ LineTold {Past = Past} stands_for way old new now next a b line = (past first : 
     → stands_for next (way.after past line) × (new.tally ≡ noted old.tally (way.answer past line))
     × Appends a b (answer_text (way.text first) (old.number + 1) (way.answer past line))
 
--- the same, with a front of the text
+-- the same, with a prefix of the text
 abbrev pub LineToldPart : {State Past Found : Type 0} → (State → Past → Type 0) → Answerer Past Found → (old : LineRun) → (now next : State) → (a b : Option (List ℕ)) → List ℕ → Type 0
 LineToldPart {Past = Past} stands_for way old now next a b line = (past first : Past) → stands_for now past
     → stands_for next (way.after past line) × WroteFront a b (answer_text (way.text first) (old.number + 1) (way.answer past line))

@@ -22,7 +22,7 @@ abbrev pub HasTold : {State Past Found : Type 0} → (State → Past → Type 0)
 HasTold {Past = Past} stands_for way start now before after lines = (past : Past) → stands_for start past
     → stands_for now (past_after way past lines) × Appends before after (output_of way past lines)
 
--- the same, but that of the last line's text only a front was written
+-- the same, but that of the last line's text only a prefix was written
 abbrev pub HasToldPart : {State Past Found : Type 0} → (State → Past → Type 0) → Answerer Past Found → (start now : State) → (before after : Option (List ℕ)) → List (List ℕ) → Type 0
 HasToldPart {Past = Past} stands_for way start now before after lines = (past : Past) → stands_for start past
     → stands_for now (past_after way past lines) × WroteIntoLast way past lines before after

@@ -10,7 +10,7 @@ use std::marker::Model;
 
 const LINE_LIMIT: usize = 64;
 
-/// Holds one line of at most 64 bytes, or the front of a longer one.
+/// Holds one line of at most 64 bytes, or the first part of a longer one.
 #[derive(Drop)]
 pub struct Cutter {
     held: ArrayVec<u8, 64>,
