@@ -1,4 +1,5 @@
-//! The command `check` over inputs in pieces, and over devices that fail.
+//! The command `check` over inputs in pieces, and over devices that fail: the clauses `whole`, `unread` and `unwritten` of
+//! `run_lines`, and `IsCheckRun` at status 3.
 use super::faulty_devices::{End, lines_in, pieces_of, room_of};
 use super::tests::outcome_on;
 use super::{Status, answer, run_check};

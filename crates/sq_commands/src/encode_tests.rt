@@ -1,4 +1,4 @@
-//! The command `encode`.
+//! The command `encode`: `IsEncodeRun`.
 use super::Status;
 use super::tests::{assert_reported, assert_written, outcome_on};
 use sq_requests::{EncodeWords, Request};

@@ -1,4 +1,4 @@
-//! The command `local`.
+//! The command `local`: `IsLocalRun`.
 use super::Status;
 use super::tests::{assert_reported, assert_unreported, assert_unwritten, assert_written};
 use sq_requests::Request;

@@ -1,4 +1,4 @@
-//! The command `pair`.
+//! The command `pair`: `IsPairRun`.
 use super::Status;
 use super::tests::{assert_reported, assert_unreported, assert_unwritten, assert_written};
 use sq_requests::Request;

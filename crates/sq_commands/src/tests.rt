@@ -1,4 +1,4 @@
-//! The commands on whole requests.
+//! The commands on whole requests: `IsRun`, and `WroteOrFailed` of what is reported where the sink for faults fails.
 use super::{Status, answer};
 use sq_devices::{Reading, Writing};
 use sq_requests::Request;

@@ -1,4 +1,4 @@
-//! The command `track`.
+//! The command `track`: `IsTrackRun`, and with devices that fail the clauses `whole`, `unread` and `unwritten` of `run_lines`.
 use super::faulty_devices::{End, lines_in, pieces_of, room_of};
 use super::tests::{assert_reported, outcome_on};
 use super::{Status, run_track};

@@ -1,4 +1,5 @@
-//! The devices over readers and writers that keep a log, and the words over a made-up command line.
+//! The devices over readers and writers that keep a log: the clauses of `Source` and `Sink`, and what none says, that the
+//! output is flushed before input is awaited. The words over a made-up command line.
 use crate::{PromptInput, PromptOutput, SharedOutput, Trouble, arguments};
 use sq_devices::{Failed, Sink, Source, Writing};
 use std::cell::RefCell;

@@ -1,4 +1,5 @@
-//! Devices over memory, and over readers and writers that fail.
+//! Devices over memory, and over readers and writers that fail: the clauses of `Source` and `Sink`, `part` of `put_all` and
+//! `put_last`, and what none says, that a sink is finished once and nothing is tried again.
 use crate::{Failed, Reading, Sink, Source, Writing, put_all, put_last};
 use std::io;
 use std::io::{ErrorKind, Read, Write};
