@@ -10,7 +10,8 @@ use sq_angle::Position;
 use sq_bits::Frame;
 use sq_message::{place_local, place_pair, read_frame};
 
-/// The place of a frame near a reference, in lowest terms.
+/// The place of a frame near a reference, in degrees and in lowest terms. The first fault is the reference's, then the
+/// frame's, then the place's. RTCA DO-260B, appendix on compact position reporting, local decoding.
 #[unsafe(no_mangle)]
 pub extern "C" fn squitter_local(
     frame: &[u8; 14],
@@ -22,7 +23,9 @@ pub extern "C" fn squitter_local(
     give(near(&Frame(*frame), reference), out)
 }
 
-/// The place of the newer of two frames that were sent in the air, in lowest terms.
+/// The place of the newer of two frames that were sent in the air, in degrees and in lowest terms. The first fault is the
+/// older frame's, then the newer's, then the pair's. RTCA DO-260B, appendix on compact position reporting, globally
+/// unambiguous decoding.
 #[unsafe(no_mangle)]
 pub extern "C" fn squitter_pair(
     older: &[u8; 14],
@@ -34,7 +37,8 @@ pub extern "C" fn squitter_pair(
     give(of_two(&Frame(*older), &Frame(*newer), None), out)
 }
 
-/// The place of the newer of two frames, on the ground the one that is nearest to a site, in lowest terms.
+/// The place of the newer of two frames, in degrees and in lowest terms; on the ground the one within 45 degrees of the site
+/// in both coordinates. The first fault is the site's, then as in [`squitter_pair`].
 #[unsafe(no_mangle)]
 pub extern "C" fn squitter_pair_at(
     older: &[u8; 14],
