@@ -1,7 +1,9 @@
--- Slow worlds have fixes: a pair in the air that is slow and has one zone count is heard as the fix of the newer's true place.
-use Rattle.std.proofs.Common.{◌≡◌, ◌≢◌, ◌∙◌, ◌+◌, true, cond, leb, [], ◌∷◌, Option, Some, None, Result, Ok, Err, refl, sym, ap, subst}
+-- Slow worlds have fixes: a pair that is slow and has one zone count is heard as the fix of the newer's true place.
+use Rattle.std.proofs.Common.{◌≡◌, ◌≢◌, ◌∙◌, ◌+◌, ℕ, true, cond, leb, [], ◌∷◌, Option, Some, None, Result, Ok, Err, refl, sym, ap, subst}
 use Rattle.std.proofs.lemmas.Bool.{le-leb, and_from}
 use Rattle.sq_angle.specs.declared.position.Position.{Position}
+use Rattle.sq_angle.specs.Angle.{degrees as degrees_of}
+use Rattle.sq_angle.specs.Position.{lat_of, lon_of}
 use Rattle.sq_zones.specs.declared.parity.Parity.{Parity}
 use Rattle.sq_zones.specs.declared.parity.Parity.TheVariants.{Even, Odd}
 use Rattle.sq_cpr.specs.declared.faults.PairFault.{PairFault}
@@ -10,9 +12,10 @@ use Rattle.sq_cpr.specs.Close.{HaveOneCount}
 use Rattle.sq_cpr.specs.Code.{numbers_of}
 use Rattle.sq_cpr.specs.DecodeLaws.{TameAnswer}
 use Rattle.sq_cpr.specs.Grid.{Point}
-use Rattle.sq_cpr.specs.Pair.{AirPairAnswer}
+use Rattle.sq_cpr.specs.Pair.{AirPairAnswer, PairAnswer}
 use Rattle.sq_cpr.specs.Slow.{AreSlow}
-use Rattle.sq_cpr.proofs.PairPoints.{tame_air_points_are_answered}
+use Rattle.sq_cpr.proofs.PairPoints.{tame_air_points_are_answered, tame_ground_points_are_answered}
+use Rattle.sq_cpr.proofs.SiteLaw.{rounds_near_site}
 use Rattle.sq_cpr.proofs.SlowLaw.{slow_is_tame}
 use Rattle.sq_message.specs.declared.squitter.Me.{Me}
 use Rattle.sq_message.specs.declared.squitter.Me.TheVariants as kinds
@@ -24,11 +27,13 @@ use Rattle.sq_message.specs.Places.{IsPosition, IsKindredPlace, even_of, odd_of,
 use Rattle.sq_message.proofs.PlaceLemmas.{has_code}
 use Rattle.sq_track.specs.declared.heard.Heard.TheVariants.{Fix, Waiting}
 use Rattle.sq_track.specs.History.{Entry, are_of_one_sender, are_even_and_odd, are_a_pair, parity_of, if_recent, counterpart, squitter_of}
-use Rattle.sq_track.specs.Answers.{heard_of_pair, IsHeardOfPair}
-use Rattle.sq_track.specs.Worlds.{IsPlaceOf, HasCodeOf, IsEncodedFrom}
-use Rattle.sq_track.specs.Laws.{SlowPairIsFixed}
+use Rattle.sq_track.specs.Worlds.{Arrival, IsPlaceOf, HasCodeOf, IsEncodedFrom, IsTruePlace}
+use Rattle.sq_track.specs.Answers.{heard_of_pair, IsHeard, IsHeardOfPair}
+use Rattle.sq_track.specs.Tame.{ArePairTogether, AreSlowPlaces}
+use Rattle.sq_track.specs.Laws.{SlowPairIsFixed, SlowPairIsFixedOnGround}
 use Rattle.sq_track.proofs.Histories.Entries.{sender_parts}
 use Rattle.sq_track.proofs.Listing.Found.{same_some}
+use Rattle.sq_track.proofs.Worlds.ByPairs.{slow_pair_exactly}
 use Rattle.sq_track.proofs.Worlds.Places.{one_place}
 use Rattle.sq_track.proofs.Histories.SomeAnswer.{some_pair}
 
@@ -62,6 +67,39 @@ slow_pair (kinds.Airborne o) (kinds.Other n) x y p q site answer first second ev
 slow_pair (kinds.Surface o) n x y p q site answer first second even odd p_is q_is slow same here = absurd p_is
 slow_pair (kinds.Other o) n x y p q site answer first second even odd p_is q_is slow same here = absurd p_is
 
+-- what was found of tame points on the ground with one zone count is the newer
+one_count_on_ground : (a b : Point) (found : Result Point PairFault) → HaveOneCount 90 a.lat_index b.lat_index → TameAnswer 90 Odd a b found → place_of Ground of_pair found ≡ Ok (Ground b)
+one_count_on_ground a b (Ok p) same h = ap (λ x. Ok (Ground x)) h
+one_count_on_ground a b (Err pairs.OutOfRange) same h = absurd h
+one_count_on_ground a b (Err (pairs.ZoneCounts even odd)) same h = absurd (h.differ (h.even ∙ same ∙ sym h.odd))
+
+-- an even and an odd message that were encoded on the ground from slow positions near the site
+slow_ground_pair : (m n : Me) (x y : Position) (p q : Point) (site : Position) (answer : Result Place PlaceFault)
+    → IsEncodedFrom m x → IsEncodedFrom n y → parity_of m ≡ Some Even → parity_of n ≡ Some Odd → IsPlaceOf m x (Ground p) → IsPlaceOf n y (Ground q)
+    → AreSlowPlaces (Some site) (Ground p) (Ground q) x y → HaveOneCount 90 p.lat_index q.lat_index → IsKindredPlace m n (Some site) answer → answer ≡ Ok (Ground q)
+slow_ground_pair (kinds.Surface o) (kinds.Surface n) x y p q site answer (Ground a, h, h_code) (Ground b, k, k_code) even odd p_is q_is slow same here =
+    let o_even : o.parity ≡ Even = same_some o.parity Even even in
+    let n_odd : n.parity ≡ Odd = same_some n.parity Odd odd in
+    let differ : o.parity ≢ n.parity = λ e. let bad : ◌≡◌ {A = Parity} Even Odd = sym o_even ∙ e ∙ n_odd in absurd (cc bad) in
+    let (found, decoded, is) = here.1 differ in
+    let a_is : ◌≡◌ {A = Place} (Ground a) (Ground p) = one_place (kinds.Surface o) x (Ground a) (Ground p) h p_is in
+    let b_is : ◌≡◌ {A = Place} (Ground b) (Ground q) = one_place (kinds.Surface n) y (Ground b) (Ground q) k q_is in
+    let p_code : HasCodeOf (kinds.Surface o) (Ground p) = subst (HasCodeOf (kinds.Surface o)) a_is h_code in
+    let q_code : HasCodeOf (kinds.Surface n) (Ground q) = subst (HasCodeOf (kinds.Surface n)) b_is k_code in
+    let there = subst (λ r. PairAnswer 90 4 (even_of r (numbers_of o.code) (numbers_of n.code)) (odd_of r (numbers_of o.code) (numbers_of n.code)) r (degrees_of (lat_of site)) (degrees_of (lon_of site)) found) n_odd decoded in
+    let tame = slow_is_tame 90 4 refl x y p q p_is.1 q_is.1 (p_is.0 ∙ o_even) (q_is.0 ∙ n_odd) slow.0 in
+    let p_near = rounds_near_site 90 4 refl x site p p_is.1 slow.1 in
+    let q_near = rounds_near_site 90 4 refl y site q q_is.1 slow.2 in
+    let law = tame_ground_points_are_answered (numbers_of o.code) (numbers_of n.code) Odd site found p q there p_is.1.of_grid q_is.1.of_grid (has_code p o.code p_code) (has_code q n.code q_code) tame p_near q_near in
+    is ∙ one_count_on_ground p q found same law
+slow_ground_pair (kinds.Surface o) (kinds.Surface n) x y p q site answer (Ground a, h, h_code) (Air b, k, k_code) even odd p_is q_is slow same here = absurd k
+slow_ground_pair (kinds.Surface o) (kinds.Surface n) x y p q site answer (Air a, h, h_code) second even odd p_is q_is slow same here = absurd h
+slow_ground_pair (kinds.Surface o) (kinds.Airborne n) x y p q site answer first second even odd p_is q_is slow same here = absurd q_is
+slow_ground_pair (kinds.Surface o) (kinds.Other n) x y p q site answer first second even odd p_is q_is slow same here = absurd q_is
+slow_ground_pair (kinds.Airborne o) n x y p q site answer first second even odd p_is q_is slow same here = absurd p_is
+slow_ground_pair (kinds.Other o) n x y p q site answer first second even odd p_is q_is slow same here = absurd p_is
+
+-- two messages with places are positions
 positions_of : (m n : Me) (x y : Position) (p q : Place) → IsPlaceOf m x p → IsPlaceOf n y q → IsPosition m × IsPosition n
 positions_of (kinds.Airborne a) (kinds.Airborne b) x y p q h k = (tt, tt)
 positions_of (kinds.Airborne a) (kinds.Surface b) x y p q h k = (tt, tt)
@@ -71,8 +109,11 @@ positions_of (kinds.Surface a) (kinds.Surface b) x y p q h k = (tt, tt)
 positions_of (kinds.Surface a) (kinds.Other b) x y p q h k = absurd k
 positions_of (kinds.Other a) n x y p q h k = absurd h
 
-pub slow_pair_is_fixed : SlowPairIsFixed
-slow_pair_is_fixed window site a b p q pair h k slow same =
+-- the odd arrival of a pair is heard as the fix of a place where the two are decoded to nothing else
+fixed : (window : ℕ) (site : Option Position) (a b : Arrival) (p q : Place) → ArePairTogether window a b → IsTruePlace a p → IsTruePlace b q
+    → ((answer : Result Place PlaceFault) → IsKindredPlace (squitter_parts a.squitter).me (squitter_parts b.squitter).me site answer → answer ≡ Ok q)
+    → IsHeard window site (record { moment = a.moment; squitter = a.squitter; heard = Waiting } ∷ []) b.moment b.squitter (Fix q)
+fixed window site a b p q pair h k decoded =
     let m = (squitter_parts a.squitter).me in
     let n = (squitter_parts b.squitter).me in
     let entry : Entry = record { moment = a.moment; squitter = a.squitter; heard = Waiting } in
@@ -82,10 +123,20 @@ slow_pair_is_fixed window site a b p q pair h k slow same =
     let older : counterpart window (entry ∷ []) b.moment b.squitter ≡ Some a.squitter =
     ap (λ t. squitter_of (if_recent window b.moment (cond t (Some entry) None))) pairs_up ∙ ap (λ t. squitter_of (cond t (Some entry) None)) recent in
     let some = some_pair (squitter_parts a.squitter) (squitter_parts b.squitter) site in
-    let here = some.1.kindred (positions_of m n a.position b.position (Air p) (Air q) h k) (sender_parts a.squitter b.squitter pair.together.sender).0 in
-    let is : some.0 ≡ Ok (Air q) = slow_pair m n a.position b.position p q site some.0 a.encoded b.encoded pair.even pair.odd h k slow same here in
+    let here = some.1.kindred (positions_of m n a.position b.position p q h k) (sender_parts a.squitter b.squitter pair.together.sender).0 in
     record {
-      of_pair = Fix (Air q);
-      pair = subst (λ o. IsHeardOfPair site o b.squitter (Fix (Air q))) (sym older) (some.0, some.1, sym (ap heard_of_pair is));
+      of_pair = Fix q;
+      pair = subst (λ o. IsHeardOfPair site o b.squitter (Fix q)) (sym older) (some.0, some.1, sym (ap heard_of_pair (decoded some.0 here)));
       after = refl;
     }
+
+pub slow_pair_is_fixed : SlowPairIsFixed
+slow_pair_is_fixed window site a b p q pair h k slow same =
+    fixed window site a b (Air p) (Air q) pair h k
+    (λ answer. slow_pair (squitter_parts a.squitter).me (squitter_parts b.squitter).me a.position b.position p q site answer a.encoded b.encoded pair.even pair.odd h k slow same)
+
+pub slow_pair_is_fixed_on_ground : SlowPairIsFixedOnGround
+slow_pair_is_fixed_on_ground window site a b p q pair h k slow same =
+    let places : AreSlowPlaces (Some site) (Ground p) (Ground q) a.position b.position = (slow_pair_exactly window (Some site) a b (Ground p) (Ground q) pair h k).0 slow in
+    fixed window (Some site) a b (Ground p) (Ground q) pair h k
+    (λ answer. slow_ground_pair (squitter_parts a.squitter).me (squitter_parts b.squitter).me a.position b.position p q site answer a.encoded b.encoded pair.even pair.odd h k places same)
