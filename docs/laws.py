@@ -8,15 +8,16 @@ TOP = os.path.dirname(os.path.dirname(os.path.abspath(__file__)))
 HEAD = """# The laws and their lemmas
 
 A law is a public function of `src/laws.rt` whose contract is the statement. For each crate: the laws by the lemma file that their
-proof cites, and then each lemma file, `proofs/FILE.antt`, with what it says of itself and, after the arrow, the files that it
-cites; one of another crate has that crate's name. A law with no file is found by the prover from the definitions alone.
+proof cites, and then each folder and each lemma file of `proofs/`, with what it says of itself and, after the arrow, the files
+that it cites; one of another crate has that crate's name. A law with no file is found by the prover from the definitions alone.
 `docs/laws.py > docs/LAWS.md` writes this page."""
 
 
 def imports(path, crate):
     """The lemma files that a proof cites."""
     with open(path, encoding="utf-8") as file:
-        found = re.findall(r"Rattle\.(sq_\w+|example_place)\.proofs\.([A-Z]\w*)\b", file.read())
+        found = re.findall(r"Rattle\.(sq_\w+|example_place)\.proofs\.([A-Z]\w*(?:\.[A-Z]\w*)?)\.\{", file.read())
+    found = [(name, lemma.replace(".", "/")) for name, lemma in found]
     own = [(name, lemma) for name, lemma in found if os.path.exists(f"{TOP}/crates/{name}/proofs/{lemma}.antt")]
     return list(dict.fromkeys(own))
 
@@ -39,8 +40,9 @@ def laws_of(crate):
 
 def files_of(crate):
     """The lemma files of a crate, with their first line and what they cite."""
-    for path in sorted(glob.glob(f"{TOP}/crates/{crate}/proofs/[A-Z]*.antt")):
-        name = os.path.basename(path)[:-5]
+    top = f"{TOP}/crates/{crate}/proofs/"
+    for path in sorted(glob.glob(f"{top}[A-Z]*.antt") + glob.glob(f"{top}[A-Z]*/*.antt")):
+        name = path[len(top):-5]
         if name == "Lib":
             continue
         with open(path, encoding="utf-8") as file:

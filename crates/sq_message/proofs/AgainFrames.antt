@@ -5,7 +5,7 @@ use Rattle.sq_angle.specs.Fraction.{Fraction}
 use Rattle.sq_angle.specs.Position.{lat_of, lon_of}
 use Rattle.sq_cpr.specs.Grid.{Point, IsGridPoint, latitude, longitude}
 use Rattle.sq_cpr.specs.Rounds.{RoundsTo}
-use Rattle.sq_cpr.proofs.Points.{rounds_once, rounds_to_itself}
+use Rattle.sq_cpr.proofs.Grids.Points.{rounds_once, rounds_to_itself}
 use Rattle.sq_message.specs.declared.air.Airborne.{Airborne}
 use Rattle.sq_message.specs.declared.ground.Surface.{Surface}
 use Rattle.sq_message.specs.declared.squitter.Me.TheVariants as kinds

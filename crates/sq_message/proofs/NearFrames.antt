@@ -6,7 +6,7 @@ use Rattle.sq_angle.specs.Position.{lat_of, lon_of}
 use Rattle.sq_cpr.specs.Code.{numbers_of}
 use Rattle.sq_cpr.specs.Grid.{Point, IsGridPoint}
 use Rattle.sq_cpr.specs.Near.{IsStrictlyNearPoint}
-use Rattle.sq_cpr.proofs.NearLaw.{strictly_near_point_is_local}
+use Rattle.sq_cpr.proofs.Decoding.NearLaw.{strictly_near_point_is_local}
 use Rattle.sq_message.specs.declared.squitter.Squitter.{Squitter}
 use Rattle.sq_message.specs.declared.place.Place.{Place}
 use Rattle.sq_message.specs.declared.place.Place.TheVariants.{Air, Ground}

@@ -17,7 +17,7 @@ use Rattle.sq_message.specs.TypeCodes.{IsOtherCode}
 use Rattle.sq_zones.specs.declared.parity.Parity.{Parity}
 use Rattle.sq_cpr.specs.declared.code.Code.{Code}
 use Rattle.sq_cpr.specs.Code.{CodeNumbers, numbers_of}
-use Rattle.sq_cpr.proofs.SameCode.{same_code}
+use Rattle.sq_cpr.proofs.Grids.SameCode.{same_code}
 use Rattle.sq_message.specs.Spelling.{IsFault, IsReading, Spells, SpellsMe, SpellsAirborne, SpellsSurface, SpellsPlace}
 use Rattle.sq_message.proofs.Same.{same_bit, same_parity, same_air_fields, same_ground_fields, same_other, same_squitter}
 

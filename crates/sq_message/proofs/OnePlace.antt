@@ -6,9 +6,9 @@ use Rattle.sq_angle.specs.Position.{lat_of, lon_of}
 use Rattle.sq_zones.specs.declared.parity.Parity.{Parity}
 use Rattle.sq_zones.specs.declared.parity.Parity.TheVariants.{Even, Odd}
 use Rattle.sq_cpr.specs.Code.{numbers_of}
-use Rattle.sq_cpr.proofs.NearLaw.{one_local_answer}
-use Rattle.sq_cpr.proofs.PairLaw.{one_pair_answer}
-use Rattle.sq_cpr.proofs.AirLaw.{one_air_pair_answer}
+use Rattle.sq_cpr.proofs.Decoding.NearLaw.{one_local_answer}
+use Rattle.sq_cpr.proofs.Decoding.PairLaw.{one_pair_answer}
+use Rattle.sq_cpr.proofs.Decoding.AirLaw.{one_air_pair_answer}
 use Rattle.sq_message.specs.declared.air.Airborne.{Airborne}
 use Rattle.sq_message.specs.declared.ground.Surface.{Surface}
 use Rattle.sq_message.specs.declared.squitter.Me.{Me}

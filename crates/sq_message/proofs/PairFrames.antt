@@ -10,7 +10,7 @@ use Rattle.sq_cpr.specs.Grid.{Point, IsGridPoint, HasCode}
 use Rattle.sq_cpr.specs.Close.{AreClosePoints}
 use Rattle.sq_cpr.specs.Pair.{of_parity, AirPairAnswer, PairAnswer}
 use Rattle.sq_cpr.specs.Slow.{IsPointWithin}
-use Rattle.sq_cpr.proofs.PairPoints.{close_air_points_are_answered, close_ground_points_are_answered}
+use Rattle.sq_cpr.proofs.Decoding.PairPoints.{close_air_points_are_answered, close_ground_points_are_answered}
 use Rattle.sq_message.specs.declared.air.Airborne.{Airborne}
 use Rattle.sq_message.specs.declared.ground.Surface.{Surface}
 use Rattle.sq_message.specs.declared.squitter.Me.{Me}

@@ -14,8 +14,8 @@ use Rattle.sq_cpr.specs.Code.{CodeNumbers, numbers_of}
 use Rattle.sq_cpr.specs.Grid.{Point, IsGridPoint, HasCode, code_of}
 use Rattle.sq_cpr.specs.Local.{LocalAnswer}
 use Rattle.sq_cpr.specs.Pair.{of_parity, AirPairAnswer, PairAnswer}
-use Rattle.sq_cpr.proofs.Codes.{one_code}
-use Rattle.sq_cpr.proofs.PairPoints.{pair_keeps_code, air_pair_keeps_code}
+use Rattle.sq_cpr.proofs.Grids.Codes.{one_code}
+use Rattle.sq_cpr.proofs.Decoding.PairPoints.{pair_keeps_code, air_pair_keeps_code}
 use Rattle.sq_message.specs.declared.air.Airborne.{Airborne}
 use Rattle.sq_message.specs.declared.ground.Surface.{Surface}
 use Rattle.sq_message.specs.declared.squitter.Me.{Me}

@@ -5,8 +5,8 @@ use Rattle.sq_angle.specs.Angle.{degrees}
 use Rattle.sq_angle.specs.Position.{lat_of, lon_of}
 use Rattle.sq_cpr.specs.Code.{CodeNumbers, numbers_of}
 use Rattle.sq_cpr.specs.Grid.{Point, code_of}
-use Rattle.sq_cpr.proofs.SameCode.{same_code}
-use Rattle.sq_cpr.proofs.Codes.{same_zones}
+use Rattle.sq_cpr.proofs.Grids.SameCode.{same_code}
+use Rattle.sq_cpr.proofs.Grids.Codes.{same_zones}
 use Rattle.sq_message.specs.declared.air.Airborne.{Airborne}
 use Rattle.sq_message.specs.declared.ground.Surface.{Surface}
 use Rattle.sq_message.specs.declared.squitter.Me.{Me}

@@ -7,7 +7,7 @@ use Rattle.sq_angle.specs.Position.{lat_of, lon_of}
 use Rattle.sq_zones.specs.declared.parity.Parity.{Parity}
 use Rattle.sq_zones.specs.declared.parity.Parity.TheVariants.{Even, Odd}
 use Rattle.sq_cpr.specs.Code.{numbers_of}
-use Rattle.sq_cpr.proofs.SomeAnswers.{some_air_pair_answer, some_local_answer, some_pair_answer}
+use Rattle.sq_cpr.proofs.Decoding.SomeAnswers.{some_air_pair_answer, some_local_answer, some_pair_answer}
 use Rattle.sq_message.specs.declared.air.Airborne.{Airborne}
 use Rattle.sq_message.specs.declared.ground.Surface.{Surface}
 use Rattle.sq_message.specs.declared.squitter.Me.{Me}

@@ -14,7 +14,7 @@ use Rattle.sq_zones.specs.declared.parity.Parity.TheVariants.{Even, Odd}
 use Rattle.sq_zones.proofs.ZoneBounds.{lon_zones_at-least, lon_zones_at-most}
 use Rattle.sq_cpr.specs.Code.{numbers_of}
 use Rattle.sq_cpr.specs.Grid.{Point, IsGridPoint, grid_longitude, latitude, longitude}
-use Rattle.sq_cpr.proofs.SomeAnswers.{some_local_answer, some_pair_answer, some_air_pair_answer}
+use Rattle.sq_cpr.proofs.Decoding.SomeAnswers.{some_local_answer, some_pair_answer, some_air_pair_answer}
 use Rattle.sq_message.specs.declared.air.Airborne.{Airborne}
 use Rattle.sq_message.specs.declared.ground.Surface.{Surface}
 use Rattle.sq_message.specs.declared.squitter.Me.{Me}

@@ -14,9 +14,9 @@ use Rattle.sq_cpr.specs.DecodeLaws.{TameAnswer}
 use Rattle.sq_cpr.specs.Grid.{Point}
 use Rattle.sq_cpr.specs.Pair.{AirPairAnswer, PairAnswer}
 use Rattle.sq_cpr.specs.Slow.{AreSlow}
-use Rattle.sq_cpr.proofs.PairPoints.{tame_air_points_are_answered, tame_ground_points_are_answered}
-use Rattle.sq_cpr.proofs.SiteLaw.{rounds_near_site}
-use Rattle.sq_cpr.proofs.SlowLaw.{slow_is_tame}
+use Rattle.sq_cpr.proofs.Decoding.PairPoints.{tame_air_points_are_answered, tame_ground_points_are_answered}
+use Rattle.sq_cpr.proofs.Distances.SiteLaw.{rounds_near_site}
+use Rattle.sq_cpr.proofs.Distances.SlowLaw.{slow_is_tame}
 use Rattle.sq_message.specs.declared.squitter.Me.{Me}
 use Rattle.sq_message.specs.declared.squitter.Me.TheVariants as kinds
 use Rattle.sq_message.specs.declared.place.Place.{Place}

@@ -8,8 +8,8 @@ use Rattle.sq_cpr.specs.Code.{numbers_of}
 use Rattle.sq_cpr.specs.Grid.{Point, circle}
 use Rattle.sq_cpr.specs.Local.{IsNearLatitude}
 use Rattle.sq_cpr.specs.Multiplied.{LiesWithin}
-use Rattle.sq_cpr.proofs.Bits32.{back32}
-use Rattle.sq_cpr.proofs.Decoded.{near_latitude, local_point}
+use Rattle.sq_cpr.proofs.Grids.Bits32.{back32}
+use Rattle.sq_cpr.proofs.Decoding.Decoded.{near_latitude, local_point}
 use Rattle.sq_cpr.proofs.decode_local.local.Goals as goal
 use Rattle.sq_cpr.proofs.decode_local.local.Given.{Over}
 

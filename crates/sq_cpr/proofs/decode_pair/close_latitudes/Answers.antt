@@ -3,9 +3,9 @@ use Rattle.std.specs.Int.{w128}
 use Rattle.sq_angle.specs.Angle.{degrees}
 use Rattle.sq_angle.proofs.Sizes.{back}
 use Rattle.sq_cpr.specs.Grid.{codes_of_zone}
-use Rattle.sq_cpr.proofs.Agree.{representative_from_within}
-use Rattle.sq_cpr.proofs.Bits32.{back32}
-use Rattle.sq_cpr.proofs.Pairs.{close_pair, paired_latitudes}
+use Rattle.sq_cpr.proofs.Distances.Agree.{representative_from_within}
+use Rattle.sq_cpr.proofs.Grids.Bits32.{back32}
+use Rattle.sq_cpr.proofs.Decoding.Pairs.{close_pair, paired_latitudes}
 use Rattle.sq_cpr.proofs.decode_pair.close_latitudes.Goals as goal
 
 even_base : (c : goal.After-index_within-2) → to_z w128 (of_z w128 c.index_of.result) ≡ pos c.args.even.lat +ℤ pos codes_of_zone *ℤ c.pair_zone-zone.result

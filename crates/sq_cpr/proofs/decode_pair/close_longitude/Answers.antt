@@ -8,9 +8,9 @@ use Rattle.sq_cpr.specs.Grid.{codes_of_zone}
 use Rattle.sq_cpr.specs.Close.{zones_of}
 use Rattle.sq_cpr.specs.Multiplied.{IsZone}
 use Rattle.sq_cpr.specs.Pair.{of_parity}
-use Rattle.sq_cpr.proofs.Agree.{representative_from_within}
-use Rattle.sq_cpr.proofs.Bits32.{back32}
-use Rattle.sq_cpr.proofs.Pairs.{newest_of_pair}
+use Rattle.sq_cpr.proofs.Distances.Agree.{representative_from_within}
+use Rattle.sq_cpr.proofs.Grids.Bits32.{back32}
+use Rattle.sq_cpr.proofs.Decoding.Pairs.{newest_of_pair}
 use Rattle.sq_cpr.proofs.decode_pair.close_longitude.Goals as goal
 
 base : (c : goal.After-index_within) → to_z w128 (of_z w128 c.index_of.result) ≡ pos (of_parity c.args.newest c.args.even.lon c.args.odd.lon) +ℤ pos codes_of_zone *ℤ c.pair_zone-zone.result

@@ -7,8 +7,8 @@ use Rattle.sq_cpr.specs.Grid.{Point}
 use Rattle.sq_cpr.specs.Near.{IsRepresentative, angle_at}
 use Rattle.sq_cpr.specs.Close.{zones_of}
 use Rattle.sq_cpr.specs.Pair.{of_parity}
-use Rattle.sq_cpr.proofs.Bits32.{back32}
-use Rattle.sq_cpr.proofs.Decoded.{found_pair, point_of_pair}
+use Rattle.sq_cpr.proofs.Grids.Bits32.{back32}
+use Rattle.sq_cpr.proofs.Decoding.Decoded.{found_pair, point_of_pair}
 use Rattle.sq_cpr.proofs.decode_pair.pair.Goals as goal
 
 pub of_parts-requires : goal.of_parts-requires

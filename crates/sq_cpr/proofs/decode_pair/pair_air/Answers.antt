@@ -1,7 +1,7 @@
 use Rattle.sq_angle.specs.Angle.{degrees}
 use Rattle.sq_angle.specs.Position.{lon_of}
 use Rattle.sq_cpr.specs.Code.{numbers_of}
-use Rattle.sq_cpr.proofs.AirLaw.{air_answer}
+use Rattle.sq_cpr.proofs.Decoding.AirLaw.{air_answer}
 use Rattle.sq_cpr.proofs.decode_pair.pair_air.Goals as goal
 
 pub returns : goal.returns

@@ -3,7 +3,7 @@ use Rattle.sq_angle.specs.Fraction.{Fraction}
 use Rattle.sq_angle.specs.Angle.{degrees}
 use Rattle.sq_angle.specs.Position.{lat_of, lon_of}
 use Rattle.sq_cpr.specs.Rounds.{RoundsTo}
-use Rattle.sq_cpr.proofs.Points.{rounds_once, rounds_to_itself}
+use Rattle.sq_cpr.proofs.Grids.Points.{rounds_once, rounds_to_itself}
 use Rattle.sq_cpr.proofs.encoding.nearest.Goals as goal
 
 pub returns-clause-only : goal.returns-clause-only

@@ -4,7 +4,7 @@ use Rattle.std.proofs.lemmas.Int.{ints}
 use Rattle.sq_angle.specs.Angle.{degrees}
 use Rattle.sq_angle.specs.Nearest.{IsNearest}
 use Rattle.sq_cpr.specs.Grid.{IsLatitude, step, lat_zones}
-use Rattle.sq_cpr.proofs.SpanBounds.{nearest_within_90, index_small}
+use Rattle.sq_cpr.proofs.Grids.SpanBounds.{nearest_within_90, index_small}
 use Rattle.sq_cpr.proofs.encoding.nearest_latitude.Goals as goal
 use Rattle.sq_cpr.proofs.encoding.nearest_latitude.Given.{Over}
 

@@ -1,5 +1,5 @@
 use Rattle.std.proofs.Common.{ℕ, ◌*◌, ap₂, ◌∙◌, arith}
-use Rattle.sq_cpr.proofs.Spans.{east_small}
+use Rattle.sq_cpr.proofs.Grids.Spans.{east_small}
 use Rattle.sq_cpr.proofs.grid.lon_angle.Goals as goal
 
 pub west_from_180-num-requires-clause-of_circle : goal.west_from_180-num-requires-clause-of_circle

@@ -6,8 +6,8 @@ use Rattle.sq_angle.specs.Scale.{scale-neg}
 use Rattle.sq_angle.proofs.Sizes.{back, scaled_size, small_mag}
 use Rattle.sq_cpr.specs.Grid.{codes_of_zone}
 use Rattle.sq_cpr.specs.Multiplied.{apart, LiesWithin}
-use Rattle.sq_cpr.proofs.Bits32.{back32}
-use Rattle.sq_cpr.proofs.Indices.{settled, index_small}
+use Rattle.sq_cpr.proofs.Grids.Bits32.{back32}
+use Rattle.sq_cpr.proofs.Grids.Indices.{settled, index_small}
 use Rattle.sq_cpr.proofs.index.index_within.Goals as goal
 
 back_by : (c : goal.After-scaled) → c.scaled.result ≡ pos (c.args.count * codes_of_zone) *ℤ c.turns-turns.result

@@ -5,7 +5,7 @@ use Rattle.std.proofs.lemmas.Nat.{mul-le}
 use Rattle.sq_angle.specs.Angle.{degrees}
 use Rattle.sq_angle.proofs.Rounding.{IsRounded, nearest_from_rounded}
 use Rattle.sq_angle.proofs.Sizes.{mul_pos, scaled_size}
-use Rattle.sq_cpr.proofs.Indices.{rounded_small}
+use Rattle.sq_cpr.proofs.Grids.Indices.{rounded_small}
 use Rattle.sq_cpr.proofs.index.nearest_index.Goals as goal
 
 module _ (c : goal.After-quotient_down) where

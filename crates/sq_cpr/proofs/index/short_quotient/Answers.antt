@@ -1,7 +1,7 @@
 use Rattle.std.proofs.Common.{rules, ◌+ℤ◌, ◌*ℤ◌, ◌≤ℤ◌, ◌<ℤ◌, ◌≤◌, unsigned_abs, FitsSigned}
 use Rattle.std.proofs.lemmas.Int.{to_z-of_z}
 use Rattle.std.specs.Int.{w64}
-use Rattle.sq_cpr.proofs.Indices.{quotient_parts}
+use Rattle.sq_cpr.proofs.Grids.Indices.{quotient_parts}
 use Rattle.sq_cpr.proofs.index.short_quotient.Goals as goal
 
 parts : (c : goal.After-div_euclid) → ((c.args.divisor *ℤ c.div_euclid.result) ≤ℤ c.args.value) × (c.args.value <ℤ (c.args.divisor *ℤ c.div_euclid.result +ℤ c.args.divisor)) × (unsigned_abs c.div_euclid.result ≤ unsigned_abs c.args.value)

@@ -1,4 +1,4 @@
-use Rattle.sq_cpr.proofs.PairPoints.{close_air_points_are_answered}
+use Rattle.sq_cpr.proofs.Decoding.PairPoints.{close_air_points_are_answered}
 use Rattle.sq_cpr.proofs.laws.close_air_points_are_answered.Goals as goal
 
 pub returns : goal.returns

@@ -1,4 +1,4 @@
-use Rattle.sq_cpr.proofs.Exact.{differ_around_exactly, differ_exactly}
+use Rattle.sq_cpr.proofs.Distances.Exact.{differ_around_exactly, differ_exactly}
 use Rattle.sq_cpr.proofs.laws.differ_exactly.Goals as goal
 
 pub returns-clause-straight : goal.returns-clause-straight

@@ -1,5 +1,5 @@
 use Rattle.std.proofs.Common.{rules}
-use Rattle.sq_cpr.proofs.Points.{same_points}
+use Rattle.sq_cpr.proofs.Grids.Points.{same_points}
 use Rattle.sq_cpr.proofs.laws.equal_points.Goals as goal
 
 pub returns-clause-indices : goal.returns-clause-indices

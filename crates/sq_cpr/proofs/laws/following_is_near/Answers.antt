@@ -1,4 +1,4 @@
-use Rattle.sq_cpr.proofs.FollowLaw.{following_is_near}
+use Rattle.sq_cpr.proofs.Distances.FollowLaw.{following_is_near}
 use Rattle.sq_cpr.proofs.laws.following_is_near.Goals as goal
 
 pub returns : goal.returns

@@ -1,4 +1,4 @@
-use Rattle.sq_cpr.proofs.Agree.{fractions_agree}
+use Rattle.sq_cpr.proofs.Distances.Agree.{fractions_agree}
 use Rattle.sq_cpr.proofs.laws.fractions_agree.Goals as goal
 
 pub returns : goal.returns

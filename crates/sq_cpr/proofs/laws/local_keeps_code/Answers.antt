@@ -1,4 +1,4 @@
-use Rattle.sq_cpr.proofs.NearLaw.{local_keeps_code}
+use Rattle.sq_cpr.proofs.Decoding.NearLaw.{local_keeps_code}
 use Rattle.sq_cpr.proofs.laws.local_keeps_code.Goals as goal
 
 pub returns : goal.returns

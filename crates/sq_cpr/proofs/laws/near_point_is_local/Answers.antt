@@ -1,4 +1,4 @@
-use Rattle.sq_cpr.proofs.NearLaw.{near_point_is_local}
+use Rattle.sq_cpr.proofs.Decoding.NearLaw.{near_point_is_local}
 use Rattle.sq_cpr.proofs.laws.near_point_is_local.Goals as goal
 
 pub returns : goal.returns

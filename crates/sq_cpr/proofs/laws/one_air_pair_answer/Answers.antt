@@ -1,4 +1,4 @@
-use Rattle.sq_cpr.proofs.AirLaw.{one_air_pair_answer}
+use Rattle.sq_cpr.proofs.Decoding.AirLaw.{one_air_pair_answer}
 use Rattle.sq_cpr.proofs.laws.one_air_pair_answer.Goals as goal
 
 pub returns : goal.returns

@@ -1,4 +1,4 @@
-use Rattle.sq_cpr.proofs.CloseLaw.{one_close_longitudes}
+use Rattle.sq_cpr.proofs.Distances.CloseLaw.{one_close_longitudes}
 use Rattle.sq_cpr.proofs.laws.one_close_longitudes.Goals as goal
 
 pub returns : goal.returns

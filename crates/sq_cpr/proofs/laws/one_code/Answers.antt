@@ -1,4 +1,4 @@
-use Rattle.sq_cpr.proofs.Codes.{one_code}
+use Rattle.sq_cpr.proofs.Grids.Codes.{one_code}
 use Rattle.sq_cpr.proofs.laws.one_code.Goals as goal
 
 pub returns : goal.returns

@@ -1,4 +1,4 @@
-use Rattle.sq_cpr.proofs.NearLaw.{one_local_answer}
+use Rattle.sq_cpr.proofs.Decoding.NearLaw.{one_local_answer}
 use Rattle.sq_cpr.proofs.laws.one_local_answer.Goals as goal
 
 pub returns : goal.returns

@@ -1,4 +1,4 @@
-use Rattle.sq_cpr.proofs.NearLaw.{one_near_latitude}
+use Rattle.sq_cpr.proofs.Decoding.NearLaw.{one_near_latitude}
 use Rattle.sq_cpr.proofs.laws.one_near_latitude.Goals as goal
 
 pub returns : goal.returns

@@ -1,4 +1,4 @@
-use Rattle.sq_cpr.proofs.PairLaw.{one_pair_answer}
+use Rattle.sq_cpr.proofs.Decoding.PairLaw.{one_pair_answer}
 use Rattle.sq_cpr.proofs.laws.one_pair_answer.Goals as goal
 
 pub returns : goal.returns

@@ -1,4 +1,4 @@
-use Rattle.sq_cpr.proofs.Codes.{one_pair_of_zones}
+use Rattle.sq_cpr.proofs.Grids.Codes.{one_pair_of_zones}
 use Rattle.sq_cpr.proofs.laws.one_pair_of_zones.Goals as goal
 
 pub returns : goal.returns

@@ -1,4 +1,4 @@
-use Rattle.sq_cpr.proofs.CloseLaw.{one_zone_is_close}
+use Rattle.sq_cpr.proofs.Distances.CloseLaw.{one_zone_is_close}
 use Rattle.sq_cpr.proofs.laws.one_zone_is_close.Goals as goal
 
 pub returns : goal.returns

@@ -1,4 +1,4 @@
-use Rattle.sq_cpr.proofs.PairPoints.{pair_keeps_code}
+use Rattle.sq_cpr.proofs.Decoding.PairPoints.{pair_keeps_code}
 use Rattle.sq_cpr.proofs.laws.pair_keeps_code.Goals as goal
 
 pub returns : goal.returns

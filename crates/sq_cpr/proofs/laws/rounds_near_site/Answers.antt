@@ -1,4 +1,4 @@
-use Rattle.sq_cpr.proofs.SiteLaw.{rounds_near_site}
+use Rattle.sq_cpr.proofs.Distances.SiteLaw.{rounds_near_site}
 use Rattle.sq_cpr.proofs.laws.rounds_near_site.Goals as goal
 
 pub returns : goal.returns

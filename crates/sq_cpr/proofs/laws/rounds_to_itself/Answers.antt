@@ -1,4 +1,4 @@
-use Rattle.sq_cpr.proofs.Points.{rounds_to_itself}
+use Rattle.sq_cpr.proofs.Grids.Points.{rounds_to_itself}
 use Rattle.sq_cpr.proofs.laws.rounds_to_itself.Goals as goal
 
 pub returns : goal.returns

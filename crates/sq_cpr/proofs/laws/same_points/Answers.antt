@@ -1,4 +1,4 @@
-use Rattle.sq_cpr.proofs.Points.{same_points}
+use Rattle.sq_cpr.proofs.Grids.Points.{same_points}
 use Rattle.sq_cpr.proofs.laws.same_points.Goals as goal
 
 pub returns : goal.returns

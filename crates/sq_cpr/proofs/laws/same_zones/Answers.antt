@@ -1,4 +1,4 @@
-use Rattle.sq_cpr.proofs.Codes.{same_zones}
+use Rattle.sq_cpr.proofs.Grids.Codes.{same_zones}
 use Rattle.sq_cpr.proofs.laws.same_zones.Goals as goal
 
 pub returns : goal.returns

@@ -1,4 +1,4 @@
-use Rattle.sq_cpr.proofs.SlowLaw.{slow_is_tame}
+use Rattle.sq_cpr.proofs.Distances.SlowLaw.{slow_is_tame}
 use Rattle.sq_cpr.proofs.laws.slow_is_tame.Goals as goal
 
 pub returns : goal.returns

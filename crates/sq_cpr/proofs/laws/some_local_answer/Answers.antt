@@ -1,4 +1,4 @@
-use Rattle.sq_cpr.proofs.SomeAnswers.{some_local_answer}
+use Rattle.sq_cpr.proofs.Decoding.SomeAnswers.{some_local_answer}
 use Rattle.sq_cpr.proofs.laws.some_local_answer.Goals as goal
 
 pub returns : goal.returns

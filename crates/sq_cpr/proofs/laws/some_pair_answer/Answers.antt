@@ -1,4 +1,4 @@
-use Rattle.sq_cpr.proofs.SomeAnswers.{some_air_pair_answer, some_pair_answer}
+use Rattle.sq_cpr.proofs.Decoding.SomeAnswers.{some_air_pair_answer, some_pair_answer}
 use Rattle.sq_cpr.proofs.laws.some_pair_answer.Goals as goal
 
 pub returns-clause-at_a_place : goal.returns-clause-at_a_place

@@ -1,4 +1,4 @@
-use Rattle.sq_cpr.proofs.NearLaw.{strictly_near_is_near}
+use Rattle.sq_cpr.proofs.Decoding.NearLaw.{strictly_near_is_near}
 use Rattle.sq_cpr.proofs.laws.strictly_near_is_near.Goals as goal
 
 pub returns : goal.returns

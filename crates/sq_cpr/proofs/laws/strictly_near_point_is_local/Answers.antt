@@ -1,4 +1,4 @@
-use Rattle.sq_cpr.proofs.NearLaw.{strictly_near_point_is_local}
+use Rattle.sq_cpr.proofs.Decoding.NearLaw.{strictly_near_point_is_local}
 use Rattle.sq_cpr.proofs.laws.strictly_near_point_is_local.Goals as goal
 
 pub returns : goal.returns

@@ -1,4 +1,4 @@
-use Rattle.sq_cpr.proofs.Exact.{turns_change_nothing}
+use Rattle.sq_cpr.proofs.Distances.Exact.{turns_change_nothing}
 use Rattle.sq_cpr.proofs.laws.turns_change_nothing.Goals as goal
 
 pub returns : goal.returns

@@ -1,4 +1,4 @@
-use Rattle.sq_cpr.proofs.Exact.{point_within_exactly}
+use Rattle.sq_cpr.proofs.Distances.Exact.{point_within_exactly}
 use Rattle.sq_cpr.proofs.laws.within_exactly.Goals as goal
 
 pub returns-clause-points : goal.returns-clause-points

@@ -14,9 +14,9 @@ use Rattle.sq_cpr.specs.Close.{IsClosePair, count_at, zones_of, HaveOneCount}
 use Rattle.sq_cpr.specs.Multiplied.{IsZone}
 use Rattle.sq_cpr.specs.Pair.{of_parity, AreLatitudes, AreInRange, AreAt, IsPointOfPair, IsPointOfPairAt, HaveTwoCounts}
 use Rattle.sq_cpr.specs.DecodeLaws.{OnePairAnswer}
-use Rattle.sq_cpr.proofs.Pairs.{some_zones, paired_latitudes, paired_longitudes, pair_at, same_representative}
-use Rattle.sq_cpr.proofs.Spans.{span_bounds}
-use Rattle.sq_cpr.proofs.ZonePairs.{zone_exists}
+use Rattle.sq_cpr.proofs.Decoding.Pairs.{some_zones, paired_latitudes, paired_longitudes, pair_at, same_representative}
+use Rattle.sq_cpr.proofs.Grids.Spans.{span_bounds}
+use Rattle.sq_cpr.proofs.Decoding.ZonePairs.{zone_exists}
 
 pub some_count : (w : ℕ) (parity : Parity) (index : ℤ) → 0 < count_at w parity index
 some_count w parity index = zones_at-least (grid_latitude w parity index)

@@ -16,8 +16,8 @@ use Rattle.sq_zones.proofs.ZoneBounds.{lon_zones_at-least}
 use Rattle.sq_cpr.specs.Grid.{Point, IsGridPoint, step, circle, lat_zones, grid_latitude, latitude}
 use Rattle.sq_cpr.specs.Rounds.{RoundsTo}
 use Rattle.sq_cpr.specs.Laws.{RoundsToOne, RoundsToItself, SamePoints}
-use Rattle.sq_cpr.proofs.Spans.{span_bounds, circle_positive}
-use Rattle.sq_cpr.proofs.SpanBounds.{nearest_within_90, lat_zones_at-least}
+use Rattle.sq_cpr.proofs.Grids.Spans.{span_bounds, circle_positive}
+use Rattle.sq_cpr.proofs.Grids.SpanBounds.{nearest_within_90, lat_zones_at-least}
 
 -- a point of these parts
 abbrev made : Parity → ℤ → ℕ → ℕ → Point

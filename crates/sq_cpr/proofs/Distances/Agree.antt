@@ -9,7 +9,7 @@ use Rattle.sq_cpr.specs.Near.{IsNear, IsStrictlyNear, IsRepresentative, half_zon
 use Rattle.sq_cpr.specs.Close.{IsClose}
 use Rattle.sq_cpr.specs.Multiplied.{apart, LiesWithin, LiesStrictlyWithin, LiesClose}
 use Rattle.sq_cpr.specs.DecodeLaws.{FractionsAgree}
-use Rattle.sq_cpr.proofs.Spans.{span_bounds}
+use Rattle.sq_cpr.proofs.Grids.Spans.{span_bounds}
 
 -- two orders between numbers whose differences are one
 pub below_by : (a b c d : ℤ) → a -ℤ b ≡ c -ℤ d → c <ℤ d → a <ℤ b

@@ -12,9 +12,9 @@ use Rattle.sq_cpr.specs.Grid.{codes_of_zone, circle, step, lat_zones}
 use Rattle.sq_cpr.specs.Near.{angle_at}
 use Rattle.sq_cpr.specs.Slow.{IsSmallerThan, DifferByLess}
 use Rattle.sq_cpr.specs.DecodeLaws.{RoundsNearSite}
-use Rattle.sq_cpr.proofs.Decoded.{some_lat_zones, some_zones_of_point}
-use Rattle.sq_cpr.proofs.NearestPoints.{above_index, nearest_parts, between_angles, around_is, straight_is, one_more}
-use Rattle.sq_cpr.proofs.Spans.{span_bounds}
+use Rattle.sq_cpr.proofs.Decoding.Decoded.{some_lat_zones, some_zones_of_point}
+use Rattle.sq_cpr.proofs.Grids.NearestPoints.{above_index, nearest_parts, between_angles, around_is, straight_is, one_more}
+use Rattle.sq_cpr.proofs.Grids.Spans.{span_bounds}
 
 -- the index of the same angle, so many turns of 360 degrees up
 balance : (w r z xd rd : ℕ) (index xn rn turns : ℤ) →

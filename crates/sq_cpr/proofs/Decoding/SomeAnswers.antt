@@ -17,14 +17,14 @@ use Rattle.sq_cpr.specs.Near.{IsRepresentative, angle_at}
 use Rattle.sq_cpr.specs.Close.{HaveOneCount, count_at, zones_of}
 use Rattle.sq_cpr.specs.Pair.{AreAt, AreInRange, AreLatitudes, IsPointOfPairAt, of_parity}
 use Rattle.sq_cpr.specs.DecodeLaws.{SomeAirPairAnswer, SomeLocalAnswer, SomePairAnswer}
-use Rattle.sq_cpr.proofs.AirLaw.{air_answer, some_latitudes}
-use Rattle.sq_cpr.proofs.CloseLaw.{residue}
-use Rattle.sq_cpr.proofs.Decoded.{point_of_pair}
-use Rattle.sq_cpr.proofs.NearLaw.{one_near_latitude, one_near_longitude}
-use Rattle.sq_cpr.proofs.PairLaw.{some_count}
-use Rattle.sq_cpr.proofs.Pairs.{newest_of_pair, one_representative, some_zones}
-use Rattle.sq_cpr.proofs.Spans.{span_bounds}
-use Rattle.sq_cpr.proofs.ZonePairs.{zone_exists}
+use Rattle.sq_cpr.proofs.Decoding.AirLaw.{air_answer, some_latitudes}
+use Rattle.sq_cpr.proofs.Distances.CloseLaw.{residue}
+use Rattle.sq_cpr.proofs.Decoding.Decoded.{point_of_pair}
+use Rattle.sq_cpr.proofs.Decoding.NearLaw.{one_near_latitude, one_near_longitude}
+use Rattle.sq_cpr.proofs.Decoding.PairLaw.{some_count}
+use Rattle.sq_cpr.proofs.Decoding.Pairs.{newest_of_pair, one_representative, some_zones}
+use Rattle.sq_cpr.proofs.Grids.Spans.{span_bounds}
+use Rattle.sq_cpr.proofs.Decoding.ZonePairs.{zone_exists}
 
 -- an index is that of a latitude, or is not
 is_latitude : (w : ℕ) (parity : Parity) (index : ℤ) → IsLatitude w parity index ⊎ (¬ IsLatitude w parity index)

@@ -12,8 +12,8 @@ use Rattle.sq_cpr.specs.Grid.{Point, HasCode, step, lat_zones, code_of}
 use Rattle.sq_cpr.specs.Rounds.{RoundsTo}
 use Rattle.sq_cpr.specs.Zones.{ZonePair, IsInZones}
 use Rattle.sq_cpr.specs.Laws.{OnePairOfZones, SameZones, OneCode}
-use Rattle.sq_cpr.proofs.Points.{point_same, zones_same, rounds_once, rounds_somewhere}
-use Rattle.sq_cpr.proofs.ZoneIndices.{zone_from, zone_below, zone_of_index, lon_zone_index, lon_index_zone}
+use Rattle.sq_cpr.proofs.Grids.Points.{point_same, zones_same, rounds_once, rounds_somewhere}
+use Rattle.sq_cpr.proofs.Grids.ZoneIndices.{zone_from, zone_below, zone_of_index, lon_zone_index, lon_index_zone}
 
 -- the indices of a point are among those of the zones of each position that rounds to it
 record AreZonesOf (zones : ZonePair) (p : Point) : Type 0 where

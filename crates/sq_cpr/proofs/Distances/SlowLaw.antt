@@ -12,13 +12,13 @@ use Rattle.sq_cpr.specs.Grid.{codes_of_zone, step}
 use Rattle.sq_cpr.specs.Close.{count_at, zones_of}
 use Rattle.sq_cpr.specs.Multiplied.{LiesClose}
 use Rattle.sq_cpr.specs.DecodeLaws.{SlowIsTame}
-use Rattle.sq_cpr.proofs.Agree.{close_from_lies}
-use Rattle.sq_cpr.proofs.CloseLaw.{one_zone_is_close}
-use Rattle.sq_cpr.proofs.Decoded.{some_zones_of_point}
-use Rattle.sq_cpr.proofs.NearestPoints.{above_index, nearest_parts, slow_parts, between_angles, around_is, straight_is, one_more}
-use Rattle.sq_cpr.proofs.PairLaw.{some_count}
-use Rattle.sq_cpr.proofs.Spans.{span_bounds}
-use Rattle.sq_cpr.proofs.ZonePairs.{close_turned_even, close_turned_odd}
+use Rattle.sq_cpr.proofs.Distances.Agree.{close_from_lies}
+use Rattle.sq_cpr.proofs.Distances.CloseLaw.{one_zone_is_close}
+use Rattle.sq_cpr.proofs.Decoding.Decoded.{some_zones_of_point}
+use Rattle.sq_cpr.proofs.Grids.NearestPoints.{above_index, nearest_parts, slow_parts, between_angles, around_is, straight_is, one_more}
+use Rattle.sq_cpr.proofs.Decoding.PairLaw.{some_count}
+use Rattle.sq_cpr.proofs.Grids.Spans.{span_bounds}
+use Rattle.sq_cpr.proofs.Decoding.ZonePairs.{close_turned_even, close_turned_odd}
 
 -- The distances of the indices from the angles, the difference of the angles and that of the indices, in one unit.
 pub balance : (w r n m xd yd : ℕ) (a b xn yn turns : ℤ) →

@@ -15,9 +15,9 @@ use Rattle.sq_cpr.specs.Near.{IsRepresentative, angle_at}
 use Rattle.sq_cpr.specs.Close.{IsClosePair, count_at, zones_of}
 use Rattle.sq_cpr.specs.Pair.{of_parity, AreLatitudes, AreInRange, AreAt, IsPointOfPair, IsPointOfPairAt, PairAnswer, AirPairAnswer}
 use Rattle.sq_cpr.specs.DecodeLaws.{OneAirPairAnswer}
-use Rattle.sq_cpr.proofs.Pairs.{some_zones, close_pair, paired_latitudes, one_representative, turned_even, turned_odd}
-use Rattle.sq_cpr.proofs.PairLaw.{out_and_in, zones_of_pair, one_pair_answer}
-use Rattle.sq_cpr.proofs.ZonePairs.{zone_exists}
+use Rattle.sq_cpr.proofs.Decoding.Pairs.{some_zones, close_pair, paired_latitudes, one_representative, turned_even, turned_odd}
+use Rattle.sq_cpr.proofs.Decoding.PairLaw.{out_and_in, zones_of_pair, one_pair_answer}
+use Rattle.sq_cpr.proofs.Decoding.ZonePairs.{zone_exists}
 
 -- a latitude in -90 to 90 is a representative at 0
 pub at_zero : (zones : ℕ) (a : ℤ) → 0 < zones → unsigned_abs (pos 360 *ℤ a) ≤ 90 * (zones * codes_of_zone) → IsRepresentative 360 (whole 0) (angle_at 360 zones a)

@@ -9,7 +9,7 @@ use Rattle.sq_angle.proofs.Rounding.{rounded_from_nearest}
 use Rattle.sq_zones.specs.declared.parity.Parity.{Parity}
 use Rattle.sq_zones.specs.declared.parity.Parity.TheVariants.{Even, Odd}
 use Rattle.sq_cpr.specs.Grid.{IsLatitude, step, lat_zones}
-use Rattle.sq_cpr.proofs.Spans.{span_bounds}
+use Rattle.sq_cpr.proofs.Grids.Spans.{span_bounds}
 
 -- 90 degrees are a whole number of latitude steps
 quarter : (w r z xd : ℕ) → w * r ≡ 360 → (2 * (xd * w)) * (z * 32768 * r) ≡ (2 * (z * 131072)) * (90 * xd)

@@ -13,11 +13,11 @@ use Rattle.sq_cpr.specs.Grid.{Point, codes_of_zone, lat_zones, circle}
 use Rattle.sq_cpr.specs.Near.{IsNear, IsStrictlyNear, IsNearLongitude, half_zone, angle_at}
 use Rattle.sq_cpr.specs.Local.{IsNearLatitude, IsLocalPoint}
 use Rattle.sq_cpr.specs.DecodeLaws.{OneNearLatitude, OneNearLongitude, OneLocalAnswer, StrictlyNearIsNear, NearPointIsLocal, StrictlyNearPointIsLocal, LocalKeepsCode}
-use Rattle.sq_cpr.proofs.Agree.{near_from_within, within_from_near}
-use Rattle.sq_cpr.proofs.OneWithin.{one_within}
-use Rattle.sq_cpr.proofs.ZonePairs.{code_of_turn}
-use Rattle.sq_cpr.proofs.Decoded.{some_lat_zones, some_zones_of_point, code_of_circle}
-use Rattle.sq_cpr.proofs.Spans.{span_bounds}
+use Rattle.sq_cpr.proofs.Distances.Agree.{near_from_within, within_from_near}
+use Rattle.sq_cpr.proofs.Decoding.OneWithin.{one_within}
+use Rattle.sq_cpr.proofs.Decoding.ZonePairs.{code_of_turn}
+use Rattle.sq_cpr.proofs.Decoding.Decoded.{some_lat_zones, some_zones_of_point, code_of_circle}
+use Rattle.sq_cpr.proofs.Grids.Spans.{span_bounds}
 
 one_turn : {a b : ℤ} → IsCongruent codes_of_zone a b → IsCongruent (1 * codes_of_zone) a b
 one_turn h = record { times = h.times; apart = h.apart }

@@ -19,11 +19,11 @@ use Rattle.sq_cpr.specs.Close.{IsClosePair, count_at, zones_of, AreCloseLatitude
 use Rattle.sq_cpr.specs.Pair.{of_parity, AreLatitudes, AreInRange, AreAt, IsPointOfPair, IsPointOfPairAt, PairAnswer}
 use Rattle.sq_cpr.specs.Slow.{IsSmallerThan, IsPointWithin}
 use Rattle.sq_cpr.specs.DecodeLaws.{PairKeepsCode, AirPairKeepsCode, CloseAirPointsAreAnswered, CloseGroundPointsAreAnswered, TameAnswer, TameAirPointsAreAnswered, TameGroundPointsAreAnswered}
-use Rattle.sq_cpr.proofs.AirLaw.{at_zero, air_is_at_origin}
-use Rattle.sq_cpr.proofs.Decoded.{some_lat_zones, some_zones_of_point, code_of_circle}
-use Rattle.sq_cpr.proofs.PairLaw.{out_and_in, same_latitudes, one_pair_answer}
-use Rattle.sq_cpr.proofs.Pairs.{one_representative, turned_even, turned_odd}
-use Rattle.sq_cpr.proofs.Spans.{span_bounds}
+use Rattle.sq_cpr.proofs.Decoding.AirLaw.{at_zero, air_is_at_origin}
+use Rattle.sq_cpr.proofs.Decoding.Decoded.{some_lat_zones, some_zones_of_point, code_of_circle}
+use Rattle.sq_cpr.proofs.Decoding.PairLaw.{out_and_in, same_latitudes, one_pair_answer}
+use Rattle.sq_cpr.proofs.Decoding.Pairs.{one_representative, turned_even, turned_odd}
+use Rattle.sq_cpr.proofs.Grids.Spans.{span_bounds}
 
 -- a turn of the circle is one of so many spans
 turn_of_circle : (zones repeats : ℕ) {a b : ℤ} → IsCongruent (circle zones repeats) a b → IsCongruent (zones * codes_of_zone) a b

@@ -14,10 +14,10 @@ use Rattle.sq_zones.specs.declared.parity.Parity.TheVariants.{Even, Odd}
 use Rattle.sq_cpr.specs.Grid.{codes_of_zone, circle, step, lat_zones, grid_longitude}
 use Rattle.sq_cpr.specs.Near.{IsStrictlyNear, half_zone, angle_at}
 use Rattle.sq_cpr.specs.DecodeLaws.{FollowingIsNear}
-use Rattle.sq_cpr.proofs.Agree.{strictly_from_within}
-use Rattle.sq_cpr.proofs.Decoded.{some_lat_zones, some_zones_of_point}
-use Rattle.sq_cpr.proofs.NearestPoints.{above_index, nearest_parts, follow_parts, between_angles, around_is, straight_is, one_more}
-use Rattle.sq_cpr.proofs.Spans.{span_bounds}
+use Rattle.sq_cpr.proofs.Distances.Agree.{strictly_from_within}
+use Rattle.sq_cpr.proofs.Decoding.Decoded.{some_lat_zones, some_zones_of_point}
+use Rattle.sq_cpr.proofs.Grids.NearestPoints.{above_index, nearest_parts, follow_parts, between_angles, around_is, straight_is, one_more}
+use Rattle.sq_cpr.proofs.Grids.Spans.{span_bounds}
 
 -- twice the difference of the indices a of i zones and b of j zones, in one unit
 abbrev twice : ℕ → ℕ → ℕ → ℤ → ℤ → ℤ → ℤ

@@ -11,10 +11,10 @@ use Rattle.sq_cpr.specs.Grid.{codes_of_zone}
 use Rattle.sq_cpr.specs.Close.{IsClosePair, zones_of}
 use Rattle.sq_cpr.specs.Multiplied.{LiesClose}
 use Rattle.sq_cpr.specs.DecodeLaws.{IndexPair, HaveOneClosePair, OneCloseLatitudes, OneCloseLongitudes, OneZoneIsClose}
-use Rattle.sq_cpr.proofs.Agree.{close_from_lies}
-use Rattle.sq_cpr.proofs.Pairs.{some_zones, paired_latitudes, paired_longitudes, close_pair, pair_at}
-use Rattle.sq_cpr.proofs.Spans.{span_bounds}
-use Rattle.sq_cpr.proofs.ZonePairs.{Paired, zone_exists}
+use Rattle.sq_cpr.proofs.Distances.Agree.{close_from_lies}
+use Rattle.sq_cpr.proofs.Decoding.Pairs.{some_zones, paired_latitudes, paired_longitudes, close_pair, pair_at}
+use Rattle.sq_cpr.proofs.Grids.Spans.{span_bounds}
+use Rattle.sq_cpr.proofs.Decoding.ZonePairs.{Paired, zone_exists}
 
 -- the one index of a circle
 pub residue : (m : ℕ) (z : ℤ) → 0 < m → (r : ℕ) × (r < m) × IsCongruent m (pos r) z

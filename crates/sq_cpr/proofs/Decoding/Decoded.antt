@@ -17,8 +17,8 @@ use Rattle.sq_cpr.specs.Close.{count_at, zones_of, HaveOneCount}
 use Rattle.sq_cpr.specs.Multiplied.{LiesWithin}
 use Rattle.sq_cpr.specs.Local.{IsNearLatitude, IsLocalPoint}
 use Rattle.sq_cpr.specs.Pair.{of_parity, AreInRange}
-use Rattle.sq_cpr.proofs.Agree.{near_from_within}
-use Rattle.sq_cpr.proofs.ZonePairs.{code_of_turn}
+use Rattle.sq_cpr.proofs.Distances.Agree.{near_from_within}
+use Rattle.sq_cpr.proofs.Decoding.ZonePairs.{code_of_turn}
 
 pub some_lat_zones : (parity : Parity) → 0 < lat_zones parity
 some_lat_zones Even = omega arith
