@@ -14,4 +14,6 @@ mod pairs;
 #[cfg(test)]
 mod points;
 #[cfg(test)]
+mod rows;
+#[cfg(test)]
 mod zones;

@@ -1,6 +1,6 @@
 //! The command `encode`: `IsEncodeRun`.
-use sq_commands::Status;
 use crate::outcomes::{assert_reported, assert_written, outcome_on};
+use sq_commands::Status;
 use sq_requests::{EncodeWords, Request};
 use std::alloc::Global;
 use std::process::Abort;

@@ -1,6 +1,6 @@
 //! The command `local`: `IsLocalRun`.
-use sq_commands::Status;
 use crate::outcomes::{assert_reported, assert_unreported, assert_unwritten, assert_written};
+use sq_commands::Status;
 use sq_requests::Request;
 use std::alloc::Global;
 use std::process::Abort;

@@ -1,6 +1,6 @@
 //! Command lines read and refused.
-use sq_words::{Refusal, read_request};
 use sq_requests::Request;
+use sq_words::{Refusal, read_request};
 use std::alloc::Global;
 
 const FRAME: &str = "8D40621D58C382D690C8AC2863A7";

@@ -1,7 +1,7 @@
 //! Faults of the crates below show themselves as they are reported.
-use sq_text::{FrameFault, LineFault, PlaceFault, TextFault, push_fault, push_place_fault};
 use arrayvec::ArrayString;
 use sq_cpr::{LocalFault, PairFault};
+use sq_text::{FrameFault, LineFault, PlaceFault, TextFault, push_fault, push_place_fault};
 use std::alloc::Global;
 use std::fmt;
 

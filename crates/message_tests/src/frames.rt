@@ -1,8 +1,11 @@
 //! Real frames read and written, damaged frames, limits of fields, and altitudes.
 ghost use Rattle.std.specs.Prelude.{◌≤◌};
 
-use sq_message::{AirFields, Airborne, Altitude, Code, Frame, FrameFault, GroundFields, Me, Other, Parity, Squitter, Surface, altitude, field_of_feet, laws, read_frame, write_frame};
 use sq_bits::remainder;
+use sq_message::{
+    AirFields, Airborne, Altitude, Code, Frame, FrameFault, GroundFields, Me, Other, Parity,
+    Squitter, Surface, altitude, field_of_feet, laws, read_frame, write_frame,
+};
 use std::process::Abort;
 
 pub const AIR_EVEN: Frame = Frame([

@@ -1,7 +1,7 @@
 //! What is reported of squitters that are decoded to no place.
-use sq_text::push_place_fault;
 use arrayvec::ArrayString;
 use sq_message::PlaceFault;
+use sq_text::push_place_fault;
 
 fn text_of(fault: PlaceFault) -> ArrayString<32> {
     let mut text = ArrayString::new();

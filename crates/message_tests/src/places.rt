@@ -1,7 +1,11 @@
 //! Places of worked frames, each fault in its order, and what is sent of a place.
-use sq_message::{Air, AirFields, Airborne, Code, Frame, GridPoint, Ground, GroundFields, GroundHead, Me, Other, Parity, Place, PlaceFault, Squitter, Surface, laws, place_local, place_pair, read_frame, send_ground, send_point, write_frame};
-use crate::sending::position;
 use crate::frames::{AIR_EVEN, AIR_ODD, GROUND_EVEN, GROUND_ODD, IDENTITY};
+use crate::sending::position;
+use sq_message::{
+    Air, AirFields, Airborne, Code, Frame, GridPoint, Ground, GroundFields, GroundHead, Me, Other,
+    Parity, Place, PlaceFault, Squitter, Surface, laws, place_local, place_pair, read_frame,
+    send_ground, send_point, write_frame,
+};
 use std::process::Abort;
 
 // The squitter of a frame.

@@ -1,5 +1,8 @@
 //! Heads at and past their limits, and the frames of worked positions.
-use sq_message::{AirFields, AirHead, Angle, Frame, GroundFields, GroundHead, Parity, Position, altitude, field_of_feet, laws, send_air, send_ground, write_frame};
+use sq_message::{
+    AirFields, AirHead, Angle, Frame, GroundFields, GroundHead, Parity, Position, altitude,
+    field_of_feet, laws, send_air, send_ground, write_frame,
+};
 use std::process::Abort;
 
 // The position of two fractions, each a numerator over a denominator.

@@ -1,7 +1,10 @@
 //! Frame texts and their faults, and what is shown of squitters.
-use sq_text::{ArrayString, LineFault, ShowText, TextFault, place_text, push_decimal, push_fault, push_hexadecimal, push_summary, read_squitter, read_text, show_text};
 use sq_angle::{Angle, Position};
 use sq_message::{AirFields, Airborne, Code, Frame, FrameFault, Me, Parity, Squitter, write_frame};
+use sq_text::{
+    ArrayString, LineFault, ShowText, TextFault, place_text, push_decimal, push_fault,
+    push_hexadecimal, push_summary, read_squitter, read_text, show_text,
+};
 use std::process::Abort;
 
 const AIR_EVEN: &str = "8D40621D58C382D690C8AC2863A7";

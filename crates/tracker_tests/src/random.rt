@@ -1,7 +1,7 @@
 //! Random calls against a plain list of everything heard, searched by the definitions.
 use crate::runs::{Told, airborne, hear, other, position, sent_in_air, sent_on_ground};
-use sq_track::{Place, Position, Squitter, TrackFault, Tracker};
 use sq_message::{Me, Parity, PlaceFault, place_local, place_pair};
+use sq_track::{Place, Position, Squitter, TrackFault, Tracker};
 use std::alloc::{AllocError, Global};
 use std::process::Abort;
 use std::test::Fail;

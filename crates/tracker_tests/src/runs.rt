@@ -1,9 +1,9 @@
 //! Worked runs of a tracker: pairs, windows, kinds, and following.
-use sq_track::{Heard, Position, Received, Squitter, TrackFault, Tracker, hear_each};
 use sq_message::{
     AirFields, AirHead, Airborne, Angle, Code, Frame, GroundFields, GroundHead, Me, Other, Parity,
     read_frame, send_air, send_ground,
 };
+use sq_track::{Heard, Position, Received, Squitter, TrackFault, Tracker, hear_each};
 use std::process::Abort;
 use std::test::Fail;
 

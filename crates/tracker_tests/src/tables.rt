@@ -4,8 +4,8 @@ use crate::runs::{
     AIR, AIR_EVEN, AIR_ODD, GROUND, IDENTITY, Told, airborne, assert_told, even, hear, odd_place,
     other, read,
 };
-use sq_track::{Squitter, TrackFault, Tracker};
 use sq_message::Parity;
+use sq_track::{Squitter, TrackFault, Tracker};
 use std::process::Abort;
 use std::test::Fail;
 

@@ -1,8 +1,8 @@
 //! Worlds that stand still, which the laws say are slow: at a pole, over the 180th meridian, on a border of zone counts,
 //! in the air and on the ground. Each has a fix, and it is the point of the odd grid nearest to where the sender stands.
 use crate::runs::{AIR, Told, position, sent_in_air, sent_on_ground};
-use sq_track::{Position, Received, Squitter, TrackFault, Tracker, hear_each};
 use sq_message::Parity;
+use sq_track::{Position, Received, Squitter, TrackFault, Tracker, hear_each};
 use std::process::Abort;
 use std::test::Fail;
 
