@@ -3,8 +3,8 @@
 //! Each frame is written out: DF 17, one bit of one field, and its parity, made by hand and apart from the code. The digits
 //! are those of the header, of the message and of the parity.
 use sq_message::{
-    Air, AirFields, Airborne, Code, Frame, GroundFields, Me, Other, Parity, Squitter, Surface,
-    altitude, read_frame, write_frame,
+    AirFields, Airborne, Code, Frame, GroundFields, Me, Other, Parity, Squitter, Surface, altitude,
+    read_frame, write_frame,
 };
 use std::process::Abort;
 
