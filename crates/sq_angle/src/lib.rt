@@ -21,6 +21,3 @@ pub mod read;
 pub use angle::{Angle, MAX_DENOMINATOR};
 pub use position::Position;
 pub use read::AngleFault;
-
-#[cfg(test)]
-mod tests;

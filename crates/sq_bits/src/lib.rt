@@ -12,6 +12,3 @@ mod table;
 
 pub use frame::Frame;
 pub use parity::{remainder, sealed};
-
-#[cfg(test)]
-mod tests;

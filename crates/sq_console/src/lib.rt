@@ -7,8 +7,6 @@
 
 mod prompt;
 mod start;
-#[cfg(test)]
-mod tests;
 
 pub use prompt::{PromptInput, PromptOutput, SharedOutput};
 pub use sq_devices::{Failed, Sink, Source};

@@ -26,12 +26,3 @@ pub use grid::GridPoint;
 pub use span::{Air, Ground, Span};
 pub use sq_angle::{Angle, Position};
 pub use sq_zones::Parity;
-
-#[cfg(test)]
-mod border_tests;
-#[cfg(test)]
-mod decode_tests;
-#[cfg(test)]
-mod pair_tests;
-#[cfg(test)]
-mod tests;

@@ -8,8 +8,6 @@
 
 mod device;
 mod readers;
-#[cfg(test)]
-mod tests;
 mod texts;
 mod writers;
 

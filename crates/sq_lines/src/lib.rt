@@ -23,6 +23,3 @@ pub use sq_devices::{Sink, Source};
 pub use sq_text::LineFault;
 pub use streams::run_lines;
 pub use tallies::Tally;
-
-#[cfg(test)]
-mod tests;

@@ -34,14 +34,3 @@ pub use sq_bits::Frame;
 pub use sq_cpr::{Air, Angle, Code, GridPoint, Ground, Parity, Position};
 pub use squitter::{FrameFault, Me, Squitter};
 pub use write::write_frame;
-
-#[cfg(test)]
-mod headline_tests;
-#[cfg(test)]
-mod layout_tests;
-#[cfg(test)]
-mod place_tests;
-#[cfg(test)]
-mod send_tests;
-#[cfg(test)]
-mod tests;

@@ -27,12 +27,3 @@ pub use show::{ShowText, show_text};
 pub use sq_message::{Frame, FrameFault, PlaceFault, Position, Squitter};
 pub use summary::push_summary;
 pub use timed::{TimedSquitter, read_moment, read_timed};
-
-#[cfg(test)]
-mod display_tests;
-#[cfg(test)]
-mod place_fault_tests;
-#[cfg(test)]
-mod tests;
-#[cfg(test)]
-mod timed_tests;

@@ -12,6 +12,3 @@ pub use sq_devices::{Failed, Reading, Sink, Source, Writing};
 pub use sq_lines::{Cutter, RunFault, Tally, laws};
 pub use sq_text::{Frame, LineFault, TextFault, read_text};
 pub use sq_track::{Heard, Place, Position, Squitter, TrackFault, Tracker};
-
-#[cfg(test)]
-mod tests;

@@ -21,14 +21,3 @@ pub use heard::{Heard, TrackFault};
 pub use listening::hear_each;
 pub use sq_message::{Place, Position, Squitter};
 pub use tracker::Tracker;
-
-#[cfg(test)]
-mod memory_tests;
-#[cfg(test)]
-mod random_tests;
-#[cfg(test)]
-mod table_tests;
-#[cfg(test)]
-mod tests;
-#[cfg(test)]
-mod world_tests;

@@ -9,7 +9,5 @@ mod command_line;
 mod help;
 pub mod laws;
 mod request;
-#[cfg(test)]
-mod tests;
 
 pub use request::{Refusal, read_request};

@@ -13,6 +13,3 @@ pub mod zones;
 pub use parity::Parity;
 pub use sq_angle::Angle;
 pub use zones::{lon_zones, zone_count};
-
-#[cfg(test)]
-mod tests;

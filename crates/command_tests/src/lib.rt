@@ -1,0 +1,27 @@
+//! Tests of the command: its words, its devices, its lines, each command, and the whole program.
+#![tactic(auto)]
+
+#[cfg(test)]
+mod check;
+#[cfg(test)]
+mod console;
+#[cfg(test)]
+mod devices;
+#[cfg(test)]
+mod encode;
+#[cfg(test)]
+mod faulty_devices;
+#[cfg(test)]
+mod lines;
+#[cfg(test)]
+mod local;
+#[cfg(test)]
+mod outcomes;
+#[cfg(test)]
+mod pair;
+#[cfg(test)]
+mod program;
+#[cfg(test)]
+mod track;
+#[cfg(test)]
+mod words;
