@@ -8,6 +8,8 @@ mod console;
 #[cfg(test)]
 mod devices;
 #[cfg(test)]
+mod displays;
+#[cfg(test)]
 mod encode;
 #[cfg(test)]
 mod faulty_devices;
