@@ -11,8 +11,10 @@ pub mod LowestTerms
 pub mod Twos
 pub mod Coprime
 pub mod Decimals
+pub mod DigitTexts
 pub mod OneText
 pub mod OneSpelling
 pub mod Texts
 pub mod OneReading
 pub mod SomeText
+pub mod Reciprocals

@@ -7,6 +7,10 @@ use Rattle.sq_angle.specs.Nearest.{IsNearest}
 abbrev pub ten_millionth : Fraction
 ten_millionth = record { num = pos 1; den = 10 ^ 7 }
 
+-- a number below 100 in two digits
+abbrev pub two_digits : ℕ → List ℕ
+two_digits n = (48 + n / 10) ∷ (48 + n % 10) ∷ []
+
 -- n in so many digits
 abbrev pub fixed_digits : ℕ → ℕ → List ℕ
 fixed_digits zero n = []

@@ -1,5 +1,5 @@
 //! An angle as text with seven decimals.
-ghost use Rattle.std.specs.Prelude.{◌≡◌, ◌+◌, ◌*◌, ◌^◌, ◌/◌, ◌<◌, ◌≤◌, [], ◌∷◌, ◌++◌, pos, decimal};
+ghost use Rattle.std.specs.Prelude.{◌≡◌, ◌+◌, ◌*◌, ◌^◌, ◌<◌, ◌≤◌, ◌++◌, List, ℕ, pos, decimal};
 ghost use Rattle.arrayvec.specs.ArrayString.{array_string_len};
 ghost use Rattle.sq_angle.specs.Angle.{degrees};
 ghost use Rattle.sq_angle.specs.Decimal.{IsDecimal7, fixed_digits, ten_millionth};
@@ -7,6 +7,8 @@ ghost use Rattle.sq_angle.specs.Fraction.{magnitude};
 ghost use Rattle.sq_angle.specs.Nearest.{IsNearest};
 
 use crate::angle::Angle;
+use crate::digits::{push_digit, push_pair};
+use crate::quotients::quotient;
 use arrayvec::ArrayString;
 
 impl Angle {
@@ -16,15 +18,24 @@ impl Angle {
         ensures text { IsDecimal7 (degrees self.now) result.bytes }
         ensures short { array_string_len result ≤ 12 }
     {
-        let places = self.seven_places();
         let mut text = ArrayString::new();
-        if self.num() < 0 && places > 0 {
-            text.push('-');
-        }
-        push_whole(&mut text, (places / 10_000_000) as u16);
-        text.push('.');
-        push_fraction(&mut text, (places % 10_000_000) as u32);
+        self.push_decimal7(&mut text);
         text
+    }
+
+    /// Appends the text of [`Angle::decimal7`], at most 12 bytes.
+    pub fn push_decimal7<const N: usize>(&self, text: &mut ArrayString<N>)
+        requires { array_string_len text.old + 12 ≤ N }
+        ensures bytes { (part : List ℕ) × IsDecimal7 (degrees self.now) part × (text.new.bytes ≡ text.old.bytes ++ part) }
+        ensures len { array_string_len text.new ≤ array_string_len text.old + 12 }
+    {
+        let places = self.seven_places();
+        if self.num() < 0 && places > 0 {
+            text.push_str("-");
+        }
+        push_whole(text, places / 10_000_000);
+        text.push_str(".");
+        push_fraction(text, places % 10_000_000);
     }
 
     // The magnitude in ten-millionths, a half taken up.
@@ -38,58 +49,35 @@ impl Angle {
     }
 }
 
-// The quotient, rounded down. 64 bits divide faster, and hold what the points of a grid have.
-fn quotient(value: u128, divisor: u64) -> u128
-    requires { 0 < divisor }
-    ensures { result ≡ value / divisor }
-{
-    match u64::try_from(value) {
-        Ok(value) => u128::from(value / divisor),
-        Err(_) => value / u128::from(divisor),
-    }
-}
-
 // Appends a number below 1000.
+#[inline(always)]
 #[tactic(auto, using(crate::proofs::Decimals::decimals))]
-fn push_whole(text: &mut ArrayString<16>, n: u16)
+fn push_whole<const N: usize>(text: &mut ArrayString<N>, n: u64)
     requires small { n < 1000 }
-    requires room { array_string_len text.old ≤ 13 }
+    requires room { array_string_len text.old + 3 ≤ N }
     ensures bytes { text.new.bytes ≡ text.old.bytes ++ decimal n }
     ensures len { array_string_len text.new ≤ array_string_len text.old + 3 }
 {
     if n >= 100 {
         push_digit(text, n / 100);
-        push_digit(text, n / 10 % 10);
-        push_digit(text, n % 10);
+        push_pair(text, n % 100);
     } else if n >= 10 {
-        push_digit(text, n / 10);
-        push_digit(text, n % 10);
+        push_pair(text, n);
     } else {
         push_digit(text, n);
     }
 }
 
 // Appends a number below 10^7 in seven digits.
-fn push_fraction(text: &mut ArrayString<16>, n: u32)
+#[inline(always)]
+fn push_fraction<const N: usize>(text: &mut ArrayString<N>, n: u64)
     requires small { n < 10 ^ 7 }
-    requires room { array_string_len text.old ≤ 9 }
+    requires room { array_string_len text.old + 7 ≤ N }
     ensures bytes { text.new.bytes ≡ text.old.bytes ++ fixed_digits 7 n }
-    ensures len { array_string_len text.new ≤ array_string_len text.old + 7 }
+    ensures len { array_string_len text.new ≡ array_string_len text.old + 7 }
 {
-    push_digit(text, (n / 1_000_000) as u16);
-    push_digit(text, (n / 100_000 % 10) as u16);
-    push_digit(text, (n / 10_000 % 10) as u16);
-    push_digit(text, (n / 1_000 % 10) as u16);
-    push_digit(text, (n / 100 % 10) as u16);
-    push_digit(text, (n / 10 % 10) as u16);
-    push_digit(text, (n % 10) as u16);
-}
-
-fn push_digit(text: &mut ArrayString<16>, digit: u16)
-    requires digit { digit < 10 }
-    requires room { array_string_len text.old ≤ 15 }
-    ensures bytes { text.new.bytes ≡ text.old.bytes ++ (48 + digit) ∷ [] }
-    ensures len { array_string_len text.new ≡ array_string_len text.old + 1 }
-{
-    text.push(char::from(b'0' + digit as u8));
+    push_digit(text, n / 1_000_000);
+    push_pair(text, n / 10_000 % 100);
+    push_pair(text, n / 100 % 100);
+    push_pair(text, n % 100);
 }

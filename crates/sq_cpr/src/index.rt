@@ -58,7 +58,12 @@ fn turns(away: i128, width: u128) -> i128
     ensures below { (pos 2 *ℤ away -ℤ pos (2 * width) *ℤ result) ≤ℤ pos width }
     ensures small { unsigned_abs result < 2 ^ 102 }
 {
-    quotient_down(2 * away + (width as i128 - 1), 2 * width)
+    let above = 2 * away + (width as i128 - 1);
+    // What is there already, as most indices are, needs no division.
+    if 0 <= above && above < 2 * width as i128 {
+        return 0;
+    }
+    quotient_down(above, 2 * width)
 }
 
 // A whole number times a natural factor.
@@ -149,6 +154,11 @@ pub(crate) fn on_circle(index: i64, zones: u8, repeats: u32) -> u32
     ensures congruent { IsCongruent (circle zones repeats) (pos result) index }
     ensures below { result < circle zones repeats }
 {
-    let circle = zones as u64 * CODES * repeats as u64;
-    index.rem_euclid(circle as i64) as u32
+    let circle = (zones as u64 * CODES * repeats as u64) as i64;
+    // Nearly each index is less than a circle away from it, and needs no division.
+    let turned = if index < 0 { index + circle } else { index };
+    if 0 <= turned && turned < circle {
+        return turned as u32;
+    }
+    index.rem_euclid(circle) as u32
 }

@@ -2,15 +2,12 @@
 ghost use Rattle.std.specs.Prelude.{◌≡◌, ◌+◌, ◌*◌, ◌/◌, ◌%◌, ◌<◌, ◌≤◌, ◌^◌, ◌++◌, ◌∷◌, [], true, decimal, length};
 ghost use Rattle.std.specs.Fmt.{digit_glyph};
 ghost use Rattle.arrayvec.specs.ArrayString.{array_string_len};
-ghost use Rattle.sq_text.specs.Digits.{hexadecimal, two_digits};
+ghost use Rattle.sq_angle.specs.Decimal.{two_digits};
+ghost use Rattle.sq_text.specs.Digits.{hexadecimal};
 
 use arrayvec::ArrayString;
 use itoa::Buffer;
-
-// The numbers from 0 to 99 in two decimal digits each.
-const PAIRS: &str = "\
-0001020304050607080910111213141516171819202122232425262728293031323334353637383940414243444546474849\
-5051525354555657585960616263646566676869707172737475767778798081828384858687888990919293949596979899";
+use sq_angle::{push_digit, push_pair};
 
 // The bytes in two hexadecimal digits each.
 const BYTES: &str = "\
@@ -85,19 +82,10 @@ fn push_front<const N: usize>(text: &mut ArrayString<N>, number: u64)
     ensures { text.new.bytes ≡ text.old.bytes ++ decimal number }
 {
     if number < 10 {
-        push_one(text, number as u8);
+        push_digit(text, number);
     } else {
         push_pair(text, number);
     }
-}
-
-// Appends one digit.
-fn push_one<const N: usize>(text: &mut ArrayString<N>, digit: u8)
-    requires small { digit < 10 }
-    requires room { array_string_len text.old + 1 ≤ N }
-    ensures { text.new.bytes ≡ text.old.bytes ++ (48 + digit) ∷ [] }
-{
-    text.push(char::from(b'0' + digit));
 }
 
 // Appends four digits, zeros in front too.
@@ -109,17 +97,6 @@ fn push_four<const N: usize>(text: &mut ArrayString<N>, number: u64)
 {
     push_pair(text, number / 100);
     push_pair(text, number % 100);
-}
-
-// Appends two digits, a zero in front too.
-#[inline(always)]
-fn push_pair<const N: usize>(text: &mut ArrayString<N>, number: u64)
-    requires small { number < 100 }
-    requires room { array_string_len text.old + 2 ≤ N }
-    ensures { text.new.bytes ≡ text.old.bytes ++ two_digits number }
-{
-    let at = 2 * number as usize;
-    text.push_str(&PAIRS[at..at + 2]);
 }
 
 /// Appends the lowest six places of a number, in upper-case hexadecimal digits, two at a time.
@@ -150,11 +127,11 @@ pub fn push_hexadecimal<const N: usize>(text: &mut ArrayString<N>, number: u64, 
     ensures len { array_string_len text.new ≡ array_string_len text.old + places }
 {
     for place in 0..places {
-        push_digit(text, (number >> (4 * (places - 1 - place)) & 0xF) as u8);
+        push_nibble(text, (number >> (4 * (places - 1 - place)) & 0xF) as u8);
     }
 }
 
-fn push_digit<const N: usize>(text: &mut ArrayString<N>, digit: u8)
+fn push_nibble<const N: usize>(text: &mut ArrayString<N>, digit: u8)
     requires digit { digit < 16 }
     requires room { array_string_len text.old + 1 ≤ N }
     ensures bytes { text.new.bytes ≡ text.old.bytes ++ digit_glyph true digit ∷ [] }

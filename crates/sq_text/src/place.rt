@@ -36,8 +36,7 @@ pub fn push_decimals<const N: usize>(text: &mut ArrayString<N>, angle: &Angle)
     ensures bytes { (part : List ℕ) × IsDecimal7 (degrees angle.now) part × (text.new.bytes ≡ text.old.bytes ++ part) }
     ensures len { array_string_len text.new ≤ array_string_len text.old + 12 }
 {
-    let decimals = angle.decimal7();
-    text.push_str(decimals.as_str());
+    angle.push_decimal7(text);
 }
 
 fn push_fraction(text: &mut PlaceText, angle: &Angle)

@@ -7,11 +7,8 @@ ghost use Rattle.sq_zones.specs.Fits.{all_fit};
 ghost use Rattle.sq_zones.specs.Zones.{zones_at, lon_zones_at};
 
 use crate::parity::Parity;
-use sq_angle::Angle;
+use sq_angle::{Angle, quotient};
 use std::simd::prelude::*;
-
-// Below it 10^8 times a numerator is a number of 64 bits.
-const FAST_MAGNITUDE: u64 = 1 << 37;
 
 // What fills the table up to 64 lanes: no scaled latitude is at most this, so it never counts.
 const PADDING: i64 = -1;
@@ -119,11 +116,8 @@ fn scaled_up(magnitude: u64, den: u64) -> u64
     ensures value { result ≡ div_ceil (magnitude * 10 ^ 8) den }
     ensures small { result ≤ 9 * 10 ^ 9 }
 {
-    // 64 bits divide faster, and hold each latitude of a grid
-    if magnitude < FAST_MAGNITUDE {
-        return (magnitude * 100_000_000).div_ceil(den);
-    }
-    (u128::from(magnitude) * 100_000_000).div_ceil(u128::from(den)) as u64
+    let scaled = 100_000_000 * u128::from(magnitude);
+    quotient(scaled + u128::from(den - 1), den) as u64
 }
 
 // How many lanes are at least the scaled latitude.

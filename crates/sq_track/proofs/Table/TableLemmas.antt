@@ -1,5 +1,5 @@
 -- Contacts in the order of their moments.
-use Rattle.std.proofs.Common.{◌≡◌, ℕ, ◌+◌, ◌≤◌, ◌<◌, Bool, true, false, not, cond, eqb, leb, List, [], ◌∷◌, length, filter, slice_get, Option, Some, None, refl, sym, ap, ◌∙◌, arith, is_some, unwrap_or}
+use Rattle.std.proofs.Common.{subst, ◌≡◌, ℕ, ◌+◌, ◌≤◌, ◌<◌, Bool, true, false, not, cond, eqb, leb, List, [], ◌∷◌, length, filter, slice_get, Option, Some, None, refl, sym, ap, ◌∙◌, arith, is_some, unwrap_or}
 use Rattle.std.specs.List.{IsDistinct, AllByRecursion}
 use Rattle.std.specs.Map.{keys_of, lookup}
 use Rattle.std.proofs.lemmas.Bool.{true≢false, false≢true, le-leb, leb-true, lt-leb}
@@ -14,7 +14,7 @@ abbrev Entries : Type 0
 Entries = List (ℕ × Contact)
 
 -- from a fresh entry on all are fresh
-all_fresh : (w m from to : ℕ) (es : Entries) → IsOrdered from to es → m ≤ from + w → filter (fresh_entry w m) es ≡ es
+pub all_fresh : (w m from to : ℕ) (es : Entries) → IsOrdered from to es → m ≤ from + w → filter (fresh_entry w m) es ≡ es
 all_fresh w m from to [] o le = refl
 all_fresh w m from to (e ∷ es) o le =
     let later : m ≤ e.1.moment + w = omega (arith, o.0) in
@@ -93,6 +93,16 @@ module _ (w m a limit : ℕ) (es : Entries) (d : IsDistinct eqb (keys_of es)) (f
 
   pub room_stale : (e : ℕ × Contact) → Some e ≡ slice_get es 0 → is_fresh w m e.1 ≡ false → leb limit n ≡ false
   room_stale e at f = lt-leb limit n (omega (arith, few, count_fresh w m a es d, ap length (first_stale w m es e d at f).0, length-filter_le (fresh_entry w m) (others_in e.0 es), (first_stale w m es e d at f).1))
+
+-- in order from the first on
+pub from_first : (from to : ℕ) (es : Entries) (e : ℕ × Contact) → IsOrdered from to es → Some e ≡ slice_get es 0 → IsOrdered e.1.moment to es
+from_first from to [] e o at = absurd (false≢true (sym (ap is_some at)))
+from_first from to (x ∷ es) e o at = subst (λ (y : ℕ × Contact). IsOrdered y.1.moment to (x ∷ es)) (sym (same_entry e x at)) (omega arith, o.1)
+
+-- nothing is in order from any moment on
+pub from_none : (m : ℕ) (es : Entries) → None ≡ slice_get es 0 → IsOrdered m m es
+from_none m [] at = omega arith
+from_none m (x ∷ es) at = absurd (false≢true (ap is_some at))
 
 pub none_kept : (p : ℕ × Contact → Bool) (es : Entries) → None ≡ slice_get es 0 → es ≡ filter p es
 none_kept p [] at = refl

@@ -14,5 +14,5 @@ push_pair-requires g c =
 
 pub returns-else-number-lt100 : goal.returns-else-number-lt100
 returns-else-number-lt100 g c =
-    rw (c.push_pair.ensures, c.push_front-else-number-lt100.ensures, append_assoc)
+    rw (c.push_pair.ensures.bytes, c.push_front-else-number-lt100.ensures, append_assoc)
     (ap (λ t. c.args.text.now.bytes ++ t) (sym (decimal_pair c.args.number c.if-number-lt100.false (omega arith))))

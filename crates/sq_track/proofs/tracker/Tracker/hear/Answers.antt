@@ -14,14 +14,21 @@ use Rattle.sq_track.specs.Entries.{fresh_entry, IsOrdered, IsSound}
 use Rattle.sq_track.specs.Ordered.{others_in}
 use Rattle.sq_track.specs.Held.{Held, StandsFor, contact_of, settings, present_of}
 use Rattle.sq_track.specs.contracts.tracker.Tracker.{the_view}
-use Rattle.sq_track.proofs.Table.EntryLemmas.{Entries, is_shown, find-entries}
+use Rattle.sq_track.proofs.Table.EntryLemmas.{Entries, is_shown, find-entries, bound_from}
 use Rattle.sq_track.proofs.Table.StandsForLemmas.{in_time_of, full_is, not_full, silent_is, heard_silent, stands_silent, stands_position, put_is, ordered_put, sound_put, sound_silent, position_of, silent_of, moment_after, within_after}
 use Rattle.sq_track.proofs.tracker.Tracker.hear.Goals as goal
 
+pub keep_recent-self-inside-requires : goal.keep_recent-self-inside-requires
+keep_recent-self-inside-requires c =
+    let t : Held = the_view c.self.inside in
+    bound_from c.self.inside.since t.last c.args.moment t.contacts c.in_ok-check_moment.ensures.ok c.self.invariant.1
+
 pub invariant_of-self : goal.invariant_of-self
 invariant_of-self c =
-    let t : Held = the_view c.self.inside in
-    subst (IsSound t.limit (Some c.args.moment)) (sym c.drop_stale.ensures) (sound_silent t c.args.moment c.args.squitter.now NotPosition c.in_ok-check_moment.ensures.ok c.self.invariant)
+    let t : Held = the_view c.self.inside in (
+      subst (IsSound t.limit (Some c.args.moment)) (sym c.keep_recent-self-inside.ensures.kept) (sound_silent t c.args.moment c.args.squitter.now NotPosition c.in_ok-check_moment.ensures.ok c.self.invariant.0),
+      c.keep_recent-self-inside.ensures.since,
+    )
 
 pub returns-then-not-is_position-clause-reply : goal.returns-then-not-is_position-clause-reply
 returns-then-not-is_position-clause-reply c =
@@ -40,11 +47,11 @@ returns-then-not-is_position-clause-ok c =
     let le = c.in_ok-check_moment.ensures.ok in
     let silent = silent_of (squitter_parts q).me (λ p. false≢true (sym c.if-not-is_position.true ∙ c.is_position.ensures.1 p)) in
     subst (λ (v : Held). (h : History) → StandsFor v h
-    → StandsFor (record { limit = t.limit; window = t.window; site = t.site; last = Some m; contacts = c.drop_stale.new.contacts }) (record { moment = m; squitter = q; heard = NotPosition } ∷ h)) c.self.view_is
+    → StandsFor (record { limit = t.limit; window = t.window; site = t.site; last = Some m; contacts = c.keep_recent-self-inside.new.contacts }) (record { moment = m; squitter = q; heard = NotPosition } ∷ h)) c.self.view_is
     (λ h st.
     let in_time = in_time_of t h m st le in
-    subst (λ (es : Entries). StandsFor (record { limit = t.limit; window = t.window; site = t.site; last = Some m; contacts = es }) (record { moment = m; squitter = q; heard = NotPosition } ∷ h)) (sym c.drop_stale.ensures)
-    (stands_silent t m q NotPosition h st le silent c.len-len.ensures.unique c.self.invariant.within (silent_is t h m q in_time silent, heard_silent t h m q st in_time silent)))
+    subst (λ (es : Entries). StandsFor (record { limit = t.limit; window = t.window; site = t.site; last = Some m; contacts = es }) (record { moment = m; squitter = q; heard = NotPosition } ∷ h)) (sym c.keep_recent-self-inside.ensures.kept)
+    (stands_silent t m q NotPosition h st le silent c.len-len.ensures.unique c.self.invariant.0.within (silent_is t h m q in_time silent, heard_silent t h m q st in_time silent)))
 
 pub returns-then-is_full-clause-reply : goal.returns-then-is_full-clause-reply
 returns-then-is_full-clause-reply c =
@@ -56,8 +63,8 @@ returns-then-is_full-clause-reply c =
     subst (λ (v : Held). (h : History) → StandsFor v h → IsReply (settings v) h m q (Err Full)) c.self.view_is
     (λ h st. let in_time = in_time_of t h m st c.in_ok-check_moment.ensures.ok in (in_time, full_is t h m q st in_time here (sym full ∙ c.if-is_full.true)))
 
-pub drop_stale-requires-in-Ok : goal.drop_stale-requires-in-Ok
-drop_stale-requires-in-Ok c =
+pub keep_recent-self-inside-requires-in-Ok : goal.keep_recent-self-inside-requires-in-Ok
+keep_recent-self-inside-requires-in-Ok c =
     let t : Held = the_view c.self.inside in
     let m = c.args.moment in
     let q = c.args.squitter.now in
@@ -67,7 +74,7 @@ drop_stale-requires-in-Ok c =
     let step = subst (λ a. IsStep t.window (option_map (λ s. s.now) c.as_ref-site.result) m q (contact_of t.contacts a) c.in-Ok.heard new) c.address-address.ensures.value step_at in
     let moment = moment_after m q c.in-Ok.heard (contact_of t.contacts a) new here step.kept in
     let put = subst (λ x. c.hear_last.new.self ≡ others_in x t.contacts ++ (x, new) ∷ []) c.address-address.ensures.value put_at in
-    (0, m, subst (IsOrdered 0 m) (sym put) (ordered_put t m q c.in-Ok.heard here new moment c.in_ok-check_moment.ensures.ok c.self.invariant.ordered))
+    subst (IsOrdered c.self.inside.since m) (sym put) (ordered_put t m q c.in-Ok.heard here new moment c.self.inside.since c.in_ok-check_moment.ensures.ok c.self.invariant.1)
 
 pub invariant_of-self-in-Ok : goal.invariant_of-self-in-Ok
 invariant_of-self-in-Ok c =
@@ -83,9 +90,11 @@ invariant_of-self-in-Ok c =
     let step = subst (λ a. IsStep t.window (option_map (λ s. s.now) c.as_ref-site.result) m q (contact_of t.contacts a) c.in-Ok.heard new) c.address-address.ensures.value step_at in
     let moment = moment_after m q heard old new here step.kept in
     let put = subst (λ x. c.hear_last.new.self ≡ others_in x t.contacts ++ (x, new) ∷ []) c.address-address.ensures.value put_at in
-    let all = c.drop_stale-in-Ok.ensures ∙ ap (filter (fresh_entry t.window m)) put ∙ put_is t m q heard here new moment in
-    subst (IsSound t.limit (Some m)) (sym all)
-    (sound_put t m q heard here new moment le (sym full ∙ c.if-is_full.false) c.self.invariant (within_after t m q heard old new le c.self.invariant here refl step.kept))
+    let all = c.keep_recent-self-inside-in-Ok.ensures.kept ∙ ap (filter (fresh_entry t.window m)) put ∙ put_is t m q heard here new moment in (
+      subst (IsSound t.limit (Some m)) (sym all)
+          (sound_put t m q heard here new moment le (sym full ∙ c.if-is_full.false) c.self.invariant.0 (within_after t m q heard old new le c.self.invariant.0 here refl step.kept)),
+      c.keep_recent-self-inside-in-Ok.ensures.since,
+    )
 
 pub returns-in-Ok-clause-reply : goal.returns-in-Ok-clause-reply
 returns-in-Ok-clause-reply c =
@@ -118,9 +127,9 @@ returns-in-Ok-clause-ok c =
     let step = subst (λ a. IsStep t.window (option_map (λ s. s.now) c.as_ref-site.result) m q (contact_of t.contacts a) c.in-Ok.heard new) c.address-address.ensures.value step_at in
     let moment = moment_after m q heard old new here step.kept in
     let put = subst (λ x. c.hear_last.new.self ≡ others_in x t.contacts ++ (x, new) ∷ []) c.address-address.ensures.value put_at in
-    let all = c.drop_stale-in-Ok.ensures ∙ ap (filter (fresh_entry t.window m)) put ∙ put_is t m q heard here new moment in
+    let all = c.keep_recent-self-inside-in-Ok.ensures.kept ∙ ap (filter (fresh_entry t.window m)) put ∙ put_is t m q heard here new moment in
     subst (λ (v : Held). (h : History) → StandsFor v h
-    → StandsFor (record { limit = t.limit; window = t.window; site = t.site; last = Some m; contacts = c.drop_stale-in-Ok.new.contacts }) (record { moment = m; squitter = q; heard = heard } ∷ h)) c.self.view_is
+    → StandsFor (record { limit = t.limit; window = t.window; site = t.site; last = Some m; contacts = c.keep_recent-self-inside-in-Ok.new.contacts }) (record { moment = m; squitter = q; heard = heard } ∷ h)) c.self.view_is
     (λ h st.
     let in_time = in_time_of t h m st le in
     let remembered = st.kept (squitter_parts q).address in
@@ -129,7 +138,7 @@ returns-in-Ok-clause-ok c =
       subst (λ (site : Option Position). IsHeard t.window site h m q heard) c.as_ref-site.ensures.value (step.answers h remembered in_time),
     ) in
     subst (λ (es : Entries). StandsFor (record { limit = t.limit; window = t.window; site = t.site; last = Some m; contacts = es }) (record { moment = m; squitter = q; heard = heard } ∷ h)) (sym all)
-    (stands_position t m q heard here new moment h st le c.len-len.ensures.unique c.self.invariant.within reply (step.remembers h remembered in_time)))
+    (stands_position t m q heard here new moment h st le c.len-len.ensures.unique c.self.invariant.0.within reply (step.remembers h remembered in_time)))
 
 pub returns-in-Err-clause-reply : goal.returns-in-Err-clause-reply
 returns-in-Err-clause-reply c =

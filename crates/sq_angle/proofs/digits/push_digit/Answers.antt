@@ -1,0 +1,17 @@
+use Rattle.std.proofs.Common.{◌≡◌, ◌+◌, ◌-◌, ◌*◌, ◌++◌, ℕ, take, drop, ap, ◌∙◌, arith}
+use Rattle.sq_angle.specs.declared.digits.TheConstants.{PAIRS}
+use Rattle.sq_angle.proofs.DigitTexts.{digit_at, IsAscii-pairs}
+use Rattle.sq_angle.proofs.digits.push_digit.Goals as goal
+
+pub range-requires-clause-start_boundary : goal.range-requires-clause-start_boundary
+range-requires-clause-start_boundary g c = λ _. (omega arith, λ a b. absurd (omega (arith, IsAscii-pairs (2 * c.args.digit + 1))))
+
+pub range-requires-clause-end_boundary : goal.range-requires-clause-end_boundary
+range-requires-clause-end_boundary g c = (omega arith, λ a b. absurd (omega (arith, IsAscii-pairs (2 * c.args.digit + 1 + 1))))
+
+pub returns-clause-bytes : goal.returns-clause-bytes
+returns-clause-bytes g c =
+    let at : ℕ = 2 * c.args.digit + 1 in
+    let width : at + 1 - at ≡ 1 = omega arith in
+    let read : c.range.result.now ≡ take (at + 1 - at) (drop at PAIRS.now) = c.range.ensures.value in
+    c.push_str.ensures.bytes ∙ ap (λ t. c.args.text.now.bytes ++ t) (read ∙ ap (λ (n : ℕ). take n (drop at PAIRS.now)) width ∙ digit_at c.args.digit c.requires.small)
