@@ -2,24 +2,28 @@
 # hear.sh [CALLS]: nanoseconds a call of `hear` at 10 to 1,000,000 addresses, heard in turn and at random, beside a table in C
 # that does the same with doubles (hear.c). Each is run three times with the same calls, the fastest counts, and what the loop
 # takes without the calls is taken off. hear.rattle is the source of a program over the proved crates; it is built in a copy of them, so that
-# the gate does not prove it. Needs rt and a C compiler.
+# the gate does not prove it, or is the one that PROGRAM names. With KEEP, that file keeps the built program. Needs rt and a C compiler.
 set -eu
 here=$(cd "$(dirname "$0")" && pwd)
 calls=${1:-4000000}
 work=$(mktemp -d)
 trap 'rm -rf "$work"' EXIT
-mkdir "$work/crates"
-for name in sq_bits sq_angle sq_zones sq_cpr sq_message sq_track; do
-    cp -a "$here/../crates/$name" "$work/crates/"
-    grep "^$name:" "$here/../crates.txt" >> "$work/crates.txt"
-done
-mkdir -p "$work/crates/hear/src" "$work/crates/hear/specs"
-cp "$here/hear.rattle" "$work/crates/hear/src/main.rt"
-: > "$work/crates/hear/specs/Lib.antt"
-echo "hear: sq_bits sq_angle sq_zones sq_cpr sq_message sq_track" >> "$work/crates.txt"
-cp "$here/../HANDLES" "$work/"
-(cd "$work/crates/hear" && rt run -- 10 1000 0 > /dev/null)
-program="$work/crates/hear/out/hear"
+build() {
+    mkdir "$work/crates"
+    for name in sq_bits sq_angle sq_zones sq_cpr sq_message sq_track; do
+        cp -a "$here/../crates/$name" "$work/crates/"
+        grep "^$name:" "$here/../crates.txt" >> "$work/crates.txt"
+    done
+    mkdir -p "$work/crates/hear/src" "$work/crates/hear/specs"
+    cp "$here/hear.rattle" "$work/crates/hear/src/main.rt"
+    : > "$work/crates/hear/specs/Lib.antt"
+    echo "hear: sq_bits sq_angle sq_zones sq_cpr sq_message sq_track" >> "$work/crates.txt"
+    cp "$here/../HANDLES" "$work/"
+    (cd "$work/crates/hear" && rt run -- 10 1000 0 > /dev/null)
+    cp "$work/crates/hear/out/hear" "${KEEP:-$work/hear}"
+}
+[ -n "${PROGRAM:-}" ] || build
+program=${PROGRAM:-${KEEP:-$work/hear}}
 cc -O2 -o "$work/plain" "$here/hear.c" -lm
 nanoseconds() { # PROGRAM ADDRESSES ORDER
     best=

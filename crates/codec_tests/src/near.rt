@@ -1,49 +1,47 @@
 //! Worked codes decoded near a reference: exact places, at whole degrees, zone borders, poles and 180 degrees.
 use crate::rows::{assert_near, position};
 use sq_cpr::Parity::Even;
-use sq_cpr::{Air, Code, Ground, local};
+use sq_cpr::{Air, Code, GridPoint, Ground, Position, local};
+
+// The point of the even code (0, 65536) near a reference.
+fn point_near(lat: (i64, u64), lon: (i64, u64)) -> Option<GridPoint<Air>> {
+    let code = Code::new(0, 65_536)?;
+    let reference = position(lat, lon)?;
+    local::<Air>(code, Even, &reference).ok()
+}
 
 #[test]
 fn worked_parts(rt: HostRuntime) {
-    let twelve = Code::new(0, 65_536).expect(&rt, "a code");
-    let east = position((10, 1), (100, 1)).expect(&rt, "a reference");
-    let far = position((0, 1), (359, 2)).expect(&rt, "a reference");
-    let near = local::<Air>(twelve, Even, &east).expect(&rt, "a near point");
+    let near = point_near((10, 1), (100, 1)).expect(&rt, "a near point");
     assert_eq!(rt; near.parity(), Even);
     assert_eq!(rt; near.lat_index(), 262_144);
     assert_eq!(rt; near.zones(), 58);
     assert_eq!(rt; near.lon_index(), 2_162_688);
-    let west = local::<Air>(twelve, Even, &far).expect(&rt, "a near point");
+    let west = point_near((0, 1), (359, 2)).expect(&rt, "a near point");
     assert_eq!(rt; west.lat_index(), 0);
     assert_eq!(rt; west.zones(), 59);
     assert_eq!(rt; west.lon_index(), 3_866_624);
+}
+
+// The position on the ground of an even code near whole degrees.
+fn position_near(numbers: (u32, u32), lat: i64, lon: i64) -> Option<Position> {
+    let code = Code::new(numbers.0, numbers.1)?;
+    let reference = position((lat, 1), (lon, 1))?;
+    let point = local::<Ground>(code, Even, &reference).ok()?;
+    Some(point.position())
 }
 
 // On the ground, at whole degrees, as they are shown.
 #[test]
 fn worked_decimals(rt: HostRuntime) {
     let rows = [
-        (
-            (38_470, 117_431),
-            (2, 1),
-            (-90, 1),
-            "1.9402542",
-            "-90.1587548",
-        ),
-        (
-            (32_636, 15_725),
-            (-25, 1),
-            (65, 1),
-            "-25.1265106",
-            "65.1999537",
-        ),
+        ((38_470, 117_431), 2, -90, "1.9402542", "-90.1587548"),
+        ((32_636, 15_725), -25, 65, "-25.1265106", "65.1999537"),
     ];
     for (numbers, lat, lon, lat_text, lon_text) in rows {
-        let sent = Code::new(numbers.0, numbers.1).expect(&rt, "a code");
-        let reference = position(lat, lon).expect(&rt, "a reference");
-        let point = local::<Ground>(sent, Even, &reference).expect(&rt, "a near point");
-        assert_eq!(rt; point.position().lat().decimal7().as_str(), lat_text);
-        assert_eq!(rt; point.position().lon().decimal7().as_str(), lon_text);
+        let near = position_near(numbers, lat, lon).expect(&rt, "a near point");
+        assert!(rt; near.lat().decimal7().as_str() == lat_text, "{lat_text}");
+        assert!(rt; near.lon().decimal7().as_str() == lon_text, "{lon_text}");
     }
 }
 

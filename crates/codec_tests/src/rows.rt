@@ -8,7 +8,7 @@ use std::str::SplitWhitespace;
 type Fraction = (i64, u64);
 
 // What two codes, or a code near a reference, are decoded to.
-#[derive(Clone, Copy, Debug, PartialEq, Eq)]
+#[derive(Clone, Copy, PartialEq, Eq)]
 enum Decoded {
     // The latitude and the longitude.
     Place(Fraction, Fraction),
@@ -18,7 +18,9 @@ enum Decoded {
 
 // The position of two fractions. None where they are none.
 pub fn position(lat: Fraction, lon: Fraction) -> Option<Position> {
-    Position::new(Angle::new(lat.0, lat.1)?, Angle::new(lon.0, lon.1)?)
+    let lat = Angle::new(lat.0, lat.1)?;
+    let lon = Angle::new(lon.0, lon.1)?;
+    Position::new(lat, lon)
 }
 
 // `num/den`, or a whole number.
@@ -82,66 +84,60 @@ fn of_pair<S: Span>(answer: Result<GridPoint<S>, PairFault>) -> Decoded {
     }
 }
 
-// A code, its parity and a reference: what is decoded, and what the row says. None where it is no such row.
-fn near_row<S: Span>(row: &str) -> Option<(Decoded, Decoded)> {
-    let (question, expected) = row.split_once(" -> ")?;
-    let mut words = question.split_whitespace();
+// What a code, its parity and a reference are decoded to. None where the text is not these.
+fn near<S: Span>(text: &str) -> Option<Decoded> {
+    let mut words = text.split_whitespace();
     let code = read_code(&mut words)?;
     let parity = read_parity(&mut words)?;
     let reference = read_position(&mut words)?;
-    Some((
-        of_local(local::<S>(code, parity, &reference)),
-        read_decoded(expected)?,
-    ))
+    Some(of_local(local::<S>(code, parity, &reference)))
 }
 
-// The even and the odd code in the air, and the newest parity.
-fn air_row(row: &str) -> Option<(Decoded, Decoded)> {
-    let (question, expected) = row.split_once(" -> ")?;
-    let mut words = question.split_whitespace();
+// What the even and the odd code and the newest parity are decoded to in the air.
+fn in_air(text: &str) -> Option<Decoded> {
+    let mut words = text.split_whitespace();
     let even = read_code(&mut words)?;
     let odd = read_code(&mut words)?;
     let newest = read_parity(&mut words)?;
-    Some((
-        of_pair(pair_air(even, odd, newest)),
-        read_decoded(expected)?,
-    ))
+    Some(of_pair(pair_air(even, odd, newest)))
 }
 
-// The same on the ground, and the site.
-fn ground_row(row: &str) -> Option<(Decoded, Decoded)> {
-    let (question, expected) = row.split_once(" -> ")?;
-    let mut words = question.split_whitespace();
+// The same on the ground, with the site after the parity.
+fn on_ground(text: &str) -> Option<Decoded> {
+    let mut words = text.split_whitespace();
     let even = read_code(&mut words)?;
     let odd = read_code(&mut words)?;
     let newest = read_parity(&mut words)?;
     let site = read_position(&mut words)?;
-    Some((
-        of_pair(pair_ground(even, odd, newest, &site)),
-        read_decoded(expected)?,
-    ))
+    Some(of_pair(pair_ground(even, odd, newest, &site)))
+}
+
+// The question of a row, and the answer.
+fn parts<'a>(rt: &impl Abort, row: &'a str) -> (&'a str, Decoded) {
+    let (question, expected) = row.split_once(" -> ").expect(rt, "an arrow");
+    (question, read_decoded(expected).expect(rt, "an answer"))
 }
 
 pub fn assert_near<S: Span>(rt: &impl Abort, table: &str, rows: usize) {
     assert_eq!(rt; table.lines().count(), rows);
     for row in table.lines() {
-        let (decoded, expected) = near_row::<S>(row).expect(rt, "a row");
-        assert_eq!(rt; decoded, expected, "{row}");
+        let (question, expected) = parts(rt, row);
+        assert!(rt; near::<S>(question) == Some(expected), "{row}");
     }
 }
 
 pub fn assert_in_air(rt: &impl Abort, table: &str, rows: usize) {
     assert_eq!(rt; table.lines().count(), rows);
     for row in table.lines() {
-        let (decoded, expected) = air_row(row).expect(rt, "a row");
-        assert_eq!(rt; decoded, expected, "{row}");
+        let (question, expected) = parts(rt, row);
+        assert!(rt; in_air(question) == Some(expected), "{row}");
     }
 }
 
 pub fn assert_on_ground(rt: &impl Abort, table: &str, rows: usize) {
     assert_eq!(rt; table.lines().count(), rows);
     for row in table.lines() {
-        let (decoded, expected) = ground_row(row).expect(rt, "a row");
-        assert_eq!(rt; decoded, expected, "{row}");
+        let (question, expected) = parts(rt, row);
+        assert!(rt; on_ground(question) == Some(expected), "{row}");
     }
 }
