@@ -1,6 +1,7 @@
 //! Worked angles: limits, values, texts read and written, positions.
+use arrayvec::ArrayString;
 use sq_angle::laws::{equal_angles, equal_positions, is_below};
-use sq_angle::{Angle, AngleFault, Position};
+use sq_angle::{Angle, AngleFault, Position, push_digit, push_pair, quotient};
 
 #[test]
 fn limits(rt: HostRuntime) {
@@ -215,4 +216,31 @@ fn calls_of_equality_and_order(rt: HostRuntime) {
     let west = Position::new(zero, zero).expect(&rt, "a position");
     assert!(rt; equal_positions(&here, &same));
     assert!(rt; !equal_positions(&here, &north) && !equal_positions(&here, &west));
+}
+
+#[test]
+fn quotients(rt: HostRuntime) {
+    let rows = [
+        (77_332_479, 7_733_248, 9),
+        (77_332_480, 7_733_248, 10),
+        (72_057_594_037_927_935, 16_646_144, 4_328_785_936),
+        (1_000_000_000_000_000, 7_733_248, 129_311_771),
+        (1_000, 3, 333),
+        (55_340_232_221_128_654_848, 7, 7_905_747_460_161_236_406),
+    ];
+    for (value, divisor, expected) in rows {
+        assert_eq!(rt; quotient(value, divisor), expected, "{value} / {divisor}");
+    }
+}
+
+#[test]
+fn digits_one_after_another(rt: HostRuntime) {
+    let mut text = ArrayString::<32>::new();
+    push_pair(&mut text, 7);
+    push_pair(&mut text, 42);
+    push_digit(&mut text, 9);
+    text.push_str(" ");
+    let west = Angle::new(-1, 2).expect(&rt, "an angle");
+    west.push_decimal7(&mut text);
+    assert_eq!(rt; text.as_str(), "07429 -0.5000000");
 }

@@ -60,6 +60,7 @@ fn zones_of(parity: Parity, count: u8) -> u8
 }
 
 // The close latitudes of two codes, each by its representative at the reference.
+#[inline(always)]
 fn close_latitudes(span: u32, even: Code, odd: Code, reference: &Angle) -> Indices
     requires span_some { 0 < span }
     requires span_small { span ≤ 360 }
@@ -76,6 +77,7 @@ fn close_latitudes(span: u32, even: Code, odd: Code, reference: &Angle) -> Indic
 
 // The newest of the close longitudes of two codes, by its representative at the reference, where both latitudes have the
 // zone count `count`.
+#[inline(always)]
 fn close_longitude(
     span: u32,
     count: u8,

@@ -49,6 +49,20 @@ fn long_quotient(value: i128, divisor: i128) -> i128
     value.div_euclid(divisor)
 }
 
+// The quotient, rounded down, for what is seldom needed: apart, so that the common case stays short.
+#[cold]
+#[inline(never)]
+fn far_quotient(value: i128, divisor: u128) -> i128
+    requires value_small { unsigned_abs value < 2 ^ 120 }
+    requires divisor_some { 0 < divisor }
+    requires divisor_small { divisor < 2 ^ 120 }
+    ensures reached { (pos divisor *ℤ result) ≤ℤ value }
+    ensures next { value <ℤ (pos divisor *ℤ result +ℤ pos divisor) }
+    ensures small { unsigned_abs result ≤ unsigned_abs value }
+{
+    quotient_down(value, divisor)
+}
+
 // How many times `2 * width` is to be taken from `2 * away`, to come into (-width, width].
 fn turns(away: i128, width: u128) -> i128
     requires away_small { unsigned_abs away < 2 ^ 100 }
@@ -63,7 +77,7 @@ fn turns(away: i128, width: u128) -> i128
     if 0 <= above && above < 2 * width as i128 {
         return 0;
     }
-    quotient_down(above, 2 * width)
+    far_quotient(above, 2 * width)
 }
 
 // A whole number times a natural factor.

@@ -1,5 +1,5 @@
 //! The zone count of a latitude, by vector lanes over the table of limits.
-ghost use Rattle.std.specs.Prelude.{◌≡◌, ◌≤◌, ◌*◌, ◌^◌, count_by, length, int_le, IsTrue};
+ghost use Rattle.std.specs.Prelude.{◌≡◌, ◌≤◌, ◌*◌, ◌<◌, ◌^◌, count_by, drop, length, int_le, take, IsTrue};
 ghost use Rattle.std.specs.Int.{div_ceil};
 ghost use Rattle.sq_angle.specs.Angle.{degrees};
 ghost use Rattle.sq_angle.specs.Fraction.{IsWithin};
@@ -13,8 +13,15 @@ use std::simd::prelude::*;
 // What fills the table up to 64 lanes: no scaled latitude is at most this, so it never counts.
 const PADDING: i64 = -1;
 
-// The greatest latitude with 59 zones, with 58 and so on down to 2, in units of 10^-8 degree.
-pub(crate) const ZONE_LIMITS: [i64; 64] = [
+// The greatest latitude with 59 zones, with 58 and so on down to 2, in units of 10^-8 degree, behind the padding: eight
+// rows of eight in ascending order.
+static ZONE_LIMITS: [i64; 64] = [
+    PADDING,
+    PADDING,
+    PADDING,
+    PADDING,
+    PADDING,
+    PADDING,
     1_047_047_130,
     1_482_817_437,
     1_818_626_357,
@@ -73,12 +80,18 @@ pub(crate) const ZONE_LIMITS: [i64; 64] = [
     8_575_541_621,
     8_653_536_998,
     8_700_000_000,
-    PADDING,
-    PADDING,
-    PADDING,
-    PADDING,
-    PADDING,
-    PADDING,
+];
+
+// The last limit of each row.
+const ROW_ENDS: [i64; 8] = [
+    1_482_817_437,
+    3_353_993_436,
+    4_554_626_723,
+    5_544_378_444,
+    6_426_616_523,
+    7_245_884_545,
+    8_024_923_213,
+    8_700_000_000,
 ];
 
 /// The number of longitude zones at a latitude, NL: from 59 at the equator to 1 at the poles.
@@ -93,7 +106,7 @@ pub fn zone_count(lat: &Angle) -> u8
     ensures at_most { result ≤ 59 }
 {
     let scaled = scaled_up(lat.num().unsigned_abs(), lat.den());
-    1 + limits_from(i64x64::from_array(ZONE_LIMITS), scaled as i64) as u8
+    1 + limits_from(scaled as i64) as u8
 }
 
 /// The number of longitude zones at a latitude on the grid of a parity: [`zone_count`], for odd one less and at least 1.
@@ -120,15 +133,37 @@ fn scaled_up(magnitude: u64, den: u64) -> u64
     quotient(scaled + u128::from(den - 1), den) as u64
 }
 
-// How many lanes are at least the scaled latitude.
-fn limits_from(limits: i64x64, scaled: i64) -> u32
-    requires whole { length limits ≡ 64 }
-    requires fit { IsTrue (all_fit limits) }
-    ensures value { result ≡ count_by (λ limit. int_le scaled limit) limits }
+// How many limits are at least the scaled latitude: all of each row after the first whose end is, and those of that row.
+fn limits_from(scaled: i64) -> u32
+    ensures value { result ≡ count_by (λ limit. int_le scaled limit) ZONE_LIMITS }
     ensures at_most { result ≤ 64 }
 {
+    let rows = lanes_from(i64x8::from_array(ROW_ENDS), scaled);
+    if rows == 0 {
+        return 0;
+    }
+    8 * (rows - 1) + lanes_from(row_at(8 - rows as usize), scaled)
+}
+
+// The limits of a row.
+fn row_at(index: usize) -> i64x8
+    requires { index < 8 }
+    ensures { result ≡ take 8 (drop (8 * index) ZONE_LIMITS) }
+{
+    let mut row = [0; 8];
+    row.copy_from_slice(&ZONE_LIMITS[8 * index..8 * index + 8]);
+    i64x8::from_array(row)
+}
+
+// How many lanes are at least the scaled latitude.
+fn lanes_from(limits: i64x8, scaled: i64) -> u32
+    requires whole { length limits ≡ 8 }
+    requires fit { IsTrue (all_fit limits) }
+    ensures value { result ≡ count_by (λ limit. int_le scaled limit) limits }
+    ensures at_most { result ≤ 8 }
+{
     limits
-        .simd_ge(i64x64::splat(scaled))
+        .simd_ge(i64x8::splat(scaled))
         .to_bitmask()
         .count_ones()
 }

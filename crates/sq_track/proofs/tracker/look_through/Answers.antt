@@ -1,4 +1,4 @@
-use Rattle.std.proofs.Common.{◌∙◌, sym, subst}
+use Rattle.std.proofs.Common.{sym, subst}
 use Rattle.sq_track.specs.Entries.{fresh_entry, IsOrdered}
 use Rattle.sq_track.proofs.Table.EntryLemmas.{IsOrdered-filter}
 use Rattle.sq_track.proofs.Table.TableLemmas.{from_first, from_none}

@@ -17,7 +17,7 @@ value c =
     let num_is : c.unsigned_abs.result ≡ unsigned_abs x.num = c.unsigned_abs.ensures.value ∙ ap unsigned_abs (ap (λ z. to_z w64 (of_z w64 z)) c.num.ensures ∙ to_z-of_z fits) in
     let scaled_is : to_z w64 s ≡ pos s = omega (arith, ints) in
     let quotient_is : s ≡ div_ceil n x.den = c.scaled_up-scaled.ensures.value ∙ ap₂ (λ m d. div_ceil (m * 10 ^ 8) d) num_is c.den.ensures in
-    ap (λ m. 1 + m) (c.limits_from.ensures.value ∙ ap (counted (padded zone_limits)) (scaled_is ∙ ap pos quotient_is) ∙ count_padded n x.den zone_limits x.in_range.positive)
+    ap (λ m. 1 + m) (c.limits_from.ensures.value ∙ ap (counted (padded 6 zone_limits)) (scaled_is ∙ ap pos quotient_is) ∙ count_padded 6 n x.den zone_limits x.in_range.positive)
 
 pub returns-clause-value : goal.returns-clause-value
 returns-clause-value c = value c
