@@ -1,5 +1,5 @@
 -- The texts of two digits each, and what is read of them.
-use Rattle.std.proofs.Common.{◌≡◌, ℕ, ◌+◌, ◌*◌, ◌<◌, Bool, true, false, ◌&&◌, List, [], ◌∷◌, map, take, drop, get_or, nat_lt, refl, sym, ap, ◌∙◌, arith, true≢false}
+use Rattle.std.proofs.Common.{◌≡◌, ℕ, ◌*◌, ◌<◌, Bool, true, false, ◌&&◌, List, [], ◌∷◌, map, take, drop, get_or, nat_lt, refl, sym, ap, ◌∙◌, arith, true≢false}
 use Rattle.std.proofs.lemmas.Bool.{ltb-true}
 use Rattle.std.proofs.lemmas.List.FromFn.{get_or-map-range_with_len}
 use Rattle.std.proofs.lemmas.Str.Ascii.{IsAscii-cons, IsAscii-nil}
@@ -19,21 +19,6 @@ pub pair_at : (n : ℕ) → n < 100 → two_at n ≡ two_digits n
 pair_at n small =
     sym (get_or-map-range_with_len two_at 0 100 n n [] small (omega arith))
     ∙ ap (λ t. get_or t n []) pairs_are ∙ get_or-map-range_with_len two_digits 0 100 n n [] small (omega arith)
-
--- the byte of the second digit
-abbrev one_at : ℕ → List ℕ
-one_at n = take 1 (drop (2 * n + 1) PAIRS.now)
-
-abbrev one_digit : ℕ → List ℕ
-one_digit n = (48 + n) ∷ []
-
-digits_are : map one_at (range_with_len 0 10) ≡ map one_digit (range_with_len 0 10)
-digits_are = refl
-
-pub digit_at : (n : ℕ) → n < 10 → one_at n ≡ one_digit n
-digit_at n small =
-    sym (get_or-map-range_with_len one_at 0 10 n n [] small (omega arith))
-    ∙ ap (λ t. get_or t n []) digits_are ∙ get_or-map-range_with_len one_digit 0 10 n n [] small (omega arith)
 
 both : (a b : Bool) → (a && b) ≡ true → (a ≡ true) × (b ≡ true)
 both true b e = (refl, e)

@@ -30,6 +30,5 @@ pub fn push_digit<const N: usize>(text: &mut ArrayString<N>, digit: u64)
     ensures bytes { text.new.bytes ≡ text.old.bytes ++ (48 + digit) ∷ [] }
     ensures len { array_string_len text.new ≡ array_string_len text.old + 1 }
 {
-    let at = 2 * digit as usize + 1;
-    text.push_str(&PAIRS[at..at + 1]);
+    text.push(char::from(b'0' + digit as u8));
 }
