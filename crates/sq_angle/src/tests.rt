@@ -150,6 +150,19 @@ fn refuses(rt: HostRuntime) {
 }
 
 #[test]
+fn tells_faults(rt: HostRuntime) {
+    let rows = [
+        (AngleFault::NotANumber, "not a number"),
+        (AngleFault::TooManyDecimals, "too many decimals"),
+        (AngleFault::OutOfRange, "out of range"),
+    ];
+    for (fault, text) in rows {
+        let told = format!(in rt.alloc(); "{fault}").unwrap_or(String::new(rt.alloc()));
+        assert!(rt; told.as_str() == text, "{text}");
+    }
+}
+
+#[test]
 fn seven_decimals(rt: HostRuntime) {
     let rows = [
         (-50, 100, "-0.5000000"),

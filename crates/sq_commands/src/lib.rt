@@ -28,6 +28,8 @@ pub use status::Status;
 pub use track::run_track;
 
 #[cfg(test)]
+mod argument_tests;
+#[cfg(test)]
 mod check_tests;
 #[cfg(test)]
 mod encode_tests;

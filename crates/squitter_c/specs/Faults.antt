@@ -1,5 +1,5 @@
 -- Why a call has no answer, and the code of each reason. Here alone the codes are stated.
-use Rattle.std.specs.Prelude.{◌≡◌, ℕ, Result, Ok, Err}
+use Rattle.std.specs.Prelude.{◌≡◌, ◌≢◌, ◌↔◌, ℕ, Result, Ok, Err}
 use Rattle.sq_angle.specs.declared.read.AngleFault.{AngleFault}
 use Rattle.sq_angle.specs.declared.read.AngleFault.TheVariants as angles
 use Rattle.sq_message.specs.declared.place.PlaceFault.{PlaceFault}
@@ -62,13 +62,52 @@ fault_of NoLatitude = told 23 0 0
 fault_of NoFeet = told 24 0 0
 fault_of NoParity = told 25 0 0
 
--- no two reasons have one code and the same numbers
-abbrev pub OneCode : Type 0
-OneCode = (a b : Refusal) → fault_of a ≡ fault_of b → a ≡ b
+-- the reasons of texts, frames and moments with 0 for their numbers
+abbrev pub kind_of_line : LineFault → LineFault
+kind_of_line lines.Wrap = lines.Wrap
+kind_of_line lines.Short = lines.Short
+kind_of_line (lines.Length n) = lines.Length 0
+kind_of_line (lines.Digit place) = lines.Digit 0
+kind_of_line (lines.NotDf17 format) = lines.NotDf17 0
+kind_of_line (lines.Parity remainder) = lines.Parity 0
+kind_of_line lines.LongLine = lines.LongLine
+kind_of_line lines.Moment = lines.Moment
+kind_of_line (lines.MomentBack last) = lines.MomentBack 0
+kind_of_line lines.Full = lines.Full
 
--- and none has the code of an answer
+-- the same of places
+abbrev pub kind_of_place : PlaceFault → PlaceFault
+kind_of_place places.NotPosition = places.NotPosition
+kind_of_place places.OtherAddress = places.OtherAddress
+kind_of_place places.OtherKind = places.OtherKind
+kind_of_place places.SameParity = places.SameParity
+kind_of_place places.NoSite = places.NoSite
+kind_of_place places.OutOfRange = places.OutOfRange
+kind_of_place (places.ZoneCounts even odd) = places.ZoneCounts 0 0
+
+-- the same of everything: two reasons have one kind if they differ in their numbers at most
+abbrev pub kind_of : Refusal → Refusal
+kind_of (Line fault) = Line (kind_of_line fault)
+kind_of (Place fault) = Place (kind_of_place fault)
+kind_of (Angle fault) = Angle fault
+kind_of NoPosition = NoPosition
+kind_of NoHead = NoHead
+kind_of NoAngle = NoAngle
+kind_of NoLatitude = NoLatitude
+kind_of NoFeet = NoFeet
+kind_of NoParity = NoParity
+
+-- a code is that of one kind of reason, whatever the numbers
+abbrev pub OneCode : Type 0
+OneCode = (a b : Refusal) → ((fault_of a).code ≡ (fault_of b).code) ↔ (kind_of a ≡ kind_of b)
+
+-- and with its numbers of one reason
+abbrev pub OneReason : Type 0
+OneReason = (a b : Refusal) → fault_of a ≡ fault_of b → a ≡ b
+
+-- and none is the code of an answer
 abbrev pub NoCodeIsZero : Type 0
-NoCodeIsZero = (a : Refusal) → ¬ (fault_of a ≡ none)
+NoCodeIsZero = (a : Refusal) → (fault_of a).code ≢ none.code
 
 -- a text's fault, a frame's and a line's, as reasons
 abbrev pub of_texts : TextFault → Refusal

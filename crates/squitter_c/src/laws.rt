@@ -1,16 +1,18 @@
 //! Laws of the codes of faults, of their texts and of entries, over the definitions alone.
-ghost use Rattle.squitter_c.specs.Faults.{NoCodeIsZero, OneCode};
+ghost use Rattle.squitter_c.specs.Faults.{NoCodeIsZero, OneCode, OneReason};
 ghost use Rattle.squitter_c.specs.Texts.{EachText};
 ghost use Rattle.squitter_c.specs.Tracking.{AsTheTracker, BlankKeepsNothing};
 
 use sq_track::laws::{one_address_alone, one_answer};
 
-/// No two reasons have one code and the same numbers.
+/// Two reasons have one code exactly if they differ in their numbers at most, and a code with its numbers is that of one
+/// reason.
 pub fn one_code()
-    ensures { OneCode }
+    ensures codes { OneCode }
+    ensures numbers { OneReason }
 {}
 
-/// The code of an answer, 0, is that of no reason.
+/// The code of an answer, 0, is that of no reason, whatever its numbers.
 pub fn no_code_is_zero()
     ensures { NoCodeIsZero }
 {}
