@@ -12,3 +12,4 @@ pub mod Spelling
 pub mod Points
 pub mod Reading
 pub mod Laws
+pub mod Faults

@@ -28,11 +28,16 @@ pub enum AngleFault {
 }
 
 impl fmt::Display for AngleFault {
+    ghost use Rattle.std.specs.Prelude.{Some};
+    ghost use Rattle.sq_angle.specs.Faults.{angle_fault_text};
+
+    ghost output = { λ fault. Some (angle_fault_text fault) };
+
     fn fmt<W: fmt::Write>(&self, f: &mut fmt::Formatter<W>) -> fmt::Result {
         match self {
-            AngleFault::NotANumber => write!(f, "not a number"),
-            AngleFault::TooManyDecimals => write!(f, "too many decimals"),
-            AngleFault::OutOfRange => write!(f, "out of range"),
+            AngleFault::NotANumber => f.write_str("not a number"),
+            AngleFault::TooManyDecimals => f.write_str("too many decimals"),
+            AngleFault::OutOfRange => f.write_str("out of range"),
         }
     }
 }

@@ -1,5 +1,5 @@
 //! Why a line is refused.
-ghost use Rattle.std.specs.Prelude.{◌≡◌, ◌+◌, ◌≤◌, ◌++◌, decimal, length};
+ghost use Rattle.std.specs.Prelude.{◌≡◌, ◌+◌, ◌≤◌, ◌++◌, decimal, length, Some};
 ghost use Rattle.arrayvec.specs.ArrayString.{array_string_len};
 ghost use Rattle.sq_text.specs.Faults.{fault_text, of_frame, of_text};
 
@@ -60,6 +60,8 @@ impl From<FrameFault> for LineFault {
 }
 
 impl fmt::Display for LineFault {
+    ghost output = { λ fault. Some (fault_text fault) };
+
     fn fmt<W: fmt::Write>(&self, f: &mut fmt::Formatter<W>) -> fmt::Result {
         let mut text = ArrayString::<32>::new();
         push_fault(&mut text, *self);
@@ -70,6 +72,8 @@ impl fmt::Display for LineFault {
 impl Error for LineFault {}
 
 impl fmt::Display for TextFault {
+    ghost output = { λ fault. Some (fault_text (of_text fault)) };
+
     fn fmt<W: fmt::Write>(&self, f: &mut fmt::Formatter<W>) -> fmt::Result {
         fmt::Display::fmt(&LineFault::from(*self), f)
     }
