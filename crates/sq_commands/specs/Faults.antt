@@ -1,18 +1,11 @@
 -- What is reported of arguments at fault.
 use Rattle.std.specs.Prelude.{◌++◌, ℕ, List, Result, MatchResult, codes}
-use Rattle.sq_angle.specs.declared.read.AngleFault.{AngleFault}
-use Rattle.sq_angle.specs.declared.read.AngleFault.TheVariants.{NotANumber, TooManyDecimals, OutOfRange}
+use Rattle.sq_angle.specs.Faults.{angle_fault_text}
 use Rattle.sq_commands.specs.declared.arguments.ArgumentFault.{ArgumentFault}
 use Rattle.sq_commands.specs.declared.arguments.ArgumentFault.TheVariants.{Kind, Parity, Address, Feet, Limit, NoLimit, Window, Site, Lat, Lon}
 use Rattle.sq_commands.specs.declared.status.Status.{Status}
 use Rattle.sq_commands.specs.declared.status.Status.TheVariants.{Misused}
 use Rattle.sq_commands.specs.Outputs.{Outputs, IsReport}
-
--- what is reported of an angle
-abbrev pub angle_text : AngleFault → List ℕ
-angle_text NotANumber = codes "not a number"
-angle_text TooManyDecimals = codes "too many decimals"
-angle_text OutOfRange = codes "out of range"
 
 -- what is reported of an argument
 abbrev pub argument_text : ArgumentFault → List ℕ
@@ -24,8 +17,8 @@ argument_text Limit = codes "bad limit"
 argument_text NoLimit = codes "limit is 0"
 argument_text Window = codes "bad window"
 argument_text Site = codes "site needs lat and lon"
-argument_text (Lat fault) = codes "lat " ++ angle_text fault
-argument_text (Lon fault) = codes "lon " ++ angle_text fault
+argument_text (Lat fault) = codes "lat " ++ angle_fault_text fault
+argument_text (Lon fault) = codes "lon " ++ angle_fault_text fault
 
 -- the fault is reported, and nothing was written
 abbrev pub IsMisuse : ArgumentFault → Status → Outputs → Type 0

@@ -7,7 +7,7 @@ use Rattle.sq_message.specs.declared.squitter.Squitter.{Squitter}
 use Rattle.sq_message.specs.Parts.{squitter_parts}
 use Rattle.sq_message.specs.Places.{IsLocalPlace, IsPositionOf}
 use Rattle.sq_text.specs.Place.{IsPlaceText}
-use Rattle.sq_text.specs.PlaceFaults.{place_fault_text}
+use Rattle.sq_message.specs.Faults.{place_fault_text}
 use Rattle.sq_commands.specs.declared.status.Status.{Status}
 use Rattle.sq_commands.specs.declared.status.Status.TheVariants.{Refused}
 use Rattle.sq_commands.specs.Arguments.{IsPositionReading}

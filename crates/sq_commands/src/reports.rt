@@ -2,7 +2,7 @@
 ghost use Rattle.std.specs.Prelude.{◌≡◌, ◌++◌, codes};
 ghost use Rattle.sq_devices.specs.Changes.{WroteOrFailed, written_on};
 ghost use Rattle.sq_text.specs.Faults.{fault_text};
-ghost use Rattle.sq_text.specs.PlaceFaults.{place_fault_text};
+ghost use Rattle.sq_message.specs.Faults.{place_fault_text};
 ghost use Rattle.sq_commands.specs.Faults.{argument_text};
 ghost use Rattle.sq_commands.specs.Local.{IsPlaceRun};
 ghost use Rattle.sq_commands.specs.Outputs.{IsAnswer, broken_text, outputs};

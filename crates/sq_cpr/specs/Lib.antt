@@ -11,3 +11,4 @@ pub mod Pair
 pub mod Slow
 pub mod DecodeLaws
 pub mod Exactly
+pub mod Faults

@@ -1,4 +1,7 @@
 //! Why codes are decoded to no point.
+ghost use Rattle.std.specs.Prelude.{Some};
+ghost use Rattle.sq_cpr.specs.Faults.{local_fault_text, pair_fault_text};
+
 use std::error::Error;
 use std::fmt;
 
@@ -10,6 +13,8 @@ pub enum LocalFault {
 }
 
 impl fmt::Display for LocalFault {
+    ghost output = { λ fault. Some (local_fault_text fault) };
+
     fn fmt<W: fmt::Write>(&self, f: &mut fmt::Formatter<W>) -> fmt::Result {
         match self {
             LocalFault::OutOfRange => write!(f, "latitude out of range"),
@@ -29,6 +34,8 @@ pub enum PairFault {
 }
 
 impl fmt::Display for PairFault {
+    ghost output = { λ fault. Some (pair_fault_text fault) };
+
     fn fmt<W: fmt::Write>(&self, f: &mut fmt::Formatter<W>) -> fmt::Result {
         match self {
             PairFault::OutOfRange => write!(f, "latitude out of range"),

@@ -7,3 +7,4 @@ pub mod Sending
 pub mod Places
 pub mod Headline
 pub mod Calls
+pub mod Faults

@@ -53,6 +53,11 @@ pub enum PlaceFault {
 }
 
 impl fmt::Display for PlaceFault {
+    ghost use Rattle.std.specs.Prelude.{Some};
+    ghost use Rattle.sq_message.specs.Faults.{place_fault_text};
+
+    ghost output = { λ fault. Some (place_fault_text fault) };
+
     fn fmt<W: fmt::Write>(&self, f: &mut fmt::Formatter<W>) -> fmt::Result {
         match self {
             PlaceFault::NotPosition => write!(f, "not a position"),

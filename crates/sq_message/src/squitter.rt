@@ -78,6 +78,11 @@ pub enum FrameFault {
 }
 
 impl fmt::Display for FrameFault {
+    ghost use Rattle.std.specs.Prelude.{Some};
+    ghost use Rattle.sq_message.specs.Faults.{frame_fault_text};
+
+    ghost output = { λ fault. Some (frame_fault_text fault) };
+
     fn fmt<W: fmt::Write>(&self, f: &mut fmt::Formatter<W>) -> fmt::Result {
         match self {
             FrameFault::NotDf17(format) => write!(f, "not DF17 {format}"),

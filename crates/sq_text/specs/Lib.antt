@@ -6,4 +6,3 @@ pub mod Timed
 pub mod Show
 pub mod Summary
 pub mod Place
-pub mod PlaceFaults

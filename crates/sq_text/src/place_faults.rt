@@ -1,7 +1,7 @@
 //! Why squitters are decoded to no place.
 ghost use Rattle.std.specs.Prelude.{◌≡◌, ◌+◌, ◌≤◌, ◌++◌, decimal};
 ghost use Rattle.arrayvec.specs.ArrayString.{array_string_len};
-ghost use Rattle.sq_text.specs.PlaceFaults.{place_fault_text};
+ghost use Rattle.sq_message.specs.Faults.{place_fault_text};
 
 use arrayvec::ArrayString;
 use itoa::Buffer;

@@ -1,20 +1,14 @@
 -- The texts of faults.
 use Rattle.std.specs.Prelude.{◌≡◌, ◌==◌, ◌+◌, ◌*◌, ℕ, List, codes, if◌then◌else◌}
-use Rattle.sq_angle.specs.declared.read.AngleFault.{AngleFault}
+use Rattle.sq_angle.specs.Faults.{angle_fault_text}
 use Rattle.sq_angle.specs.declared.read.AngleFault.TheVariants as angles
 use Rattle.sq_message.specs.declared.place.PlaceFault.TheVariants as places
 use Rattle.sq_text.specs.declared.faults.LineFault.TheVariants as lines
 use Rattle.sq_text.specs.Faults.{fault_text}
-use Rattle.sq_text.specs.PlaceFaults.{place_fault_text}
+use Rattle.sq_message.specs.Faults.{place_fault_text}
 use Rattle.squitter_c.specs.declared.faults.Refusal.{Refusal}
 use Rattle.squitter_c.specs.declared.faults.Refusal.TheVariants.{Line, Place, Angle, NoPosition, NoHead, NoAngle, NoLatitude, NoFeet, NoParity}
 use Rattle.squitter_c.specs.Faults.{fault_of}
-
--- the words for the text of an angle
-abbrev pub angle_fault_text : AngleFault → List ℕ
-angle_fault_text angles.NotANumber = codes "not a number"
-angle_fault_text angles.TooManyDecimals = codes "too many decimals"
-angle_fault_text angles.OutOfRange = codes "out of range"
 
 -- the text of a reason: that of the program, where it has one
 abbrev pub refusal_text : Refusal → List ℕ
