@@ -33,6 +33,11 @@ impl From<PlaceFault> for Fault {
 }
 
 impl fmt::Display for Fault {
+    ghost use Rattle.std.specs.Prelude.{Some};
+    ghost use Rattle.example_place.specs.Faults.{text_of};
+
+    ghost output = { λ fault. Some (text_of fault) };
+
     fn fmt<W: fmt::Write>(&self, f: &mut fmt::Formatter<W>) -> fmt::Result {
         match self {
             Fault::OfText(fault) => write!(f, "{fault}"),
