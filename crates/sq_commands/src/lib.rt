@@ -28,9 +28,9 @@ pub use status::Status;
 pub use track::run_track;
 
 #[cfg(test)]
-mod argument_tests;
-#[cfg(test)]
 mod check_tests;
+#[cfg(test)]
+mod display_tests;
 #[cfg(test)]
 mod encode_tests;
 #[cfg(test)]
