@@ -26,23 +26,3 @@ pub use sq_requests::Request;
 pub use sq_track::Tracker;
 pub use status::Status;
 pub use track::run_track;
-<<<<<<< HEAD
-=======
-
-#[cfg(test)]
-mod check_tests;
-#[cfg(test)]
-mod display_tests;
-#[cfg(test)]
-mod encode_tests;
-#[cfg(test)]
-mod faulty_devices;
-#[cfg(test)]
-mod local_tests;
-#[cfg(test)]
-mod pair_tests;
-#[cfg(test)]
-mod tests;
-#[cfg(test)]
-mod track_tests;
->>>>>>> 9aea044d4f5d17170755aa95289b18a7bff2661c
