@@ -29,8 +29,20 @@ fn reports_faults_of_angles_by_name(rt: HostRuntime) {
     ] {
         let lat = line_of(rt.alloc(), "lat ", fault);
         let lon = line_of(rt.alloc(), "lon ", fault);
-        assert_reported(&rt, rt.alloc(), near(word, "0"), Status::Misused, lat.as_str());
-        assert_reported(&rt, rt.alloc(), near("0", word), Status::Misused, lon.as_str());
+        assert_reported(
+            &rt,
+            rt.alloc(),
+            near(word, "0"),
+            Status::Misused,
+            lat.as_str(),
+        );
+        assert_reported(
+            &rt,
+            rt.alloc(),
+            near("0", word),
+            Status::Misused,
+            lon.as_str(),
+        );
     }
 }
 
