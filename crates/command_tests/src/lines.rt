@@ -1,4 +1,5 @@
 //! Lines cut out of pieces, and runs over memory and over devices that fail.
+use sq_lines::laws::one_take;
 use sq_lines::{Cutter, Line, content_of};
 
 #[test]
@@ -48,4 +49,13 @@ fn tells_what_stands_on_a_line(rt: HostRuntime) {
     cutter.take(&[b'x'; 64]);
     cutter.take(b"\r\n");
     assert!(rt; matches!(content_of(&cutter), Line::Long));
+}
+
+#[test]
+fn takes_one_piece(rt: HostRuntime) {
+    let mut cutter = Cutter::new();
+    assert!(rt; one_take(&mut cutter, b"ab\ncd") == (3, true));
+    assert!(rt; cutter.line() == b"ab".as_slice());
+    assert!(rt; one_take(&mut cutter, b"cd") == (2, false));
+    assert!(rt; cutter.line() == b"cd".as_slice());
 }

@@ -21,12 +21,3 @@ pub fn one_take(cutter: &mut Cutter, piece: &[u8]) -> (usize, bool)
 {
     cutter.take(piece)
 }
-
-#[test]
-fn takes_one_piece(rt: HostRuntime) {
-    let mut cutter = Cutter::new();
-    assert!(rt; one_take(&mut cutter, b"ab\ncd") == (3, true));
-    assert!(rt; cutter.line() == b"ab".as_slice());
-    assert!(rt; one_take(&mut cutter, b"cd") == (2, false));
-    assert!(rt; cutter.line() == b"cd".as_slice());
-}
