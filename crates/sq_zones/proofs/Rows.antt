@@ -15,24 +15,29 @@ abbrev within : ℤ → ℤ → List ℤ → Bool
 within low high [] = true
 within low high (z ∷ zs) = (le_z low z && le_z z high) && within low high zs
 
+-- the last of eight limits
 abbrev last_of : List ℤ → ℤ
-last_of row = get_or row 7 (pos 0)
+last_of limits = get_or limits 7 (pos 0)
 
 -- rows of eight, each from the last of the row before to its own
 abbrev stacked : ℤ → List (List ℤ) → Bool
 stacked low [] = true
 stacked low (row ∷ rows) = ((le_z low (last_of row) && within low (last_of row) row) && eqb (length row) 8) && stacked (last_of row) rows
 
+-- the limits of all rows, one row after the other
 abbrev joined : List (List ℤ) → List ℤ
 joined [] = []
 joined (row ∷ rows) = row ++ joined rows
 
+-- eight limits of the table
 abbrev pub row_of : ℕ → List ℤ
 row_of r = take 8 (drop (8 * r) ZONE_LIMITS)
 
+-- the rows of the table
 abbrev the_rows : List (List ℤ)
 the_rows = map row_of (range_with_len 0 8)
 
+-- both parts of what holds
 both : (a b : Bool) → (a && b) ≡ true → (a ≡ true) × (b ≡ true)
 both true b e = (refl, e)
 both false b e = absurd (true≢false (sym e))
@@ -46,21 +51,26 @@ parts_of low row rows w =
     let inside = both _ _ first.0 in
     (inside.0, inside.1, eqb-true (length row) 8 first.1, parts.1)
 
+-- what is not false is true
 only_true : (b : Bool) → (b ≡ false → ⊥) → b ≡ true
 only_true true not_false = refl
 only_true false not_false = absurd (not_false refl)
 
+-- what is not true is false
 only_false : (b : Bool) → (b ≡ true → ⊥) → b ≡ false
 only_false true not_true = absurd (not_true refl)
 only_false false not_true = refl
 
 module _ (s : ℤ) where
+  -- how many limits are at least the number
   abbrev pub counted_from : List ℤ → ℕ
   counted_from zs = count_by (λ z. le_z s z) zs
 
+  -- one more limit counts for itself
   counted-cons : (z : ℤ) (zs : List ℤ) → counted_from (z ∷ zs) ≡ cond (le_z s z) 1 0 + counted_from zs
   counted-cons z zs = sum_by-cons (λ y. cond (le_z s y) 1 0) z zs
 
+  -- limits count for themselves, wherever they stand
   counted-append : (xs ys : List ℤ) → counted_from (xs ++ ys) ≡ counted_from xs + counted_from ys
   counted-append [] ys = omega arith
   counted-append (x ∷ xs) ys = omega (arith, counted-cons x (xs ++ ys), counted-append xs ys, counted-cons x xs)
@@ -102,6 +112,7 @@ module _ (s : ℤ) where
       × (counted_from (map last_of rows) ≡ 0 → counted_from (joined rows) ≡ 0)
       × (0 < counted_from (map last_of rows) → counted_from (joined rows) + 8 ≡ 8 * counted_from (map last_of rows) + counted_from (get_or rows (length rows - counted_from (map last_of rows)) []))
 
+  -- rows in ascending order are split so by their ends
   split_by_ends : (low : ℤ) (rows : List (List ℤ)) → stacked low rows ≡ true → IsSplit rows
   split_by_ends low [] w = (omega arith, λ _. refl, λ some. absurd (omega (arith, some)))
   split_by_ends low (row ∷ rows) w = by (le_z s (last_of row)) refl (split_by_ends (last_of row) rows (parts_of low row rows w).3)
@@ -127,18 +138,23 @@ module _ (s : ℤ) where
             λ some. omega (arith, counted-append row (joined rows), none, rest.2 (omega (arith, ends, some)), ends, here),
           )
 
+-- the rows are the table's
 limits_are : joined the_rows ≡ ZONE_LIMITS
 limits_are = refl
 
+-- and their ends are those of the code
 ends_are : map last_of the_rows ≡ ROW_ENDS
 ends_are = refl
 
+-- the table is in ascending order, its padding in front
 stacked_are : stacked (negsuc 0) the_rows ≡ true
 stacked_are = refl
 
+-- a row is found by its number
 row_is : (r : ℕ) → r < 8 → get_or the_rows r [] ≡ row_of r
 row_is r small = get_or-map-range_with_len row_of 0 8 r r [] small (omega arith)
 
+-- the numbers of every row fit 64 bits
 fits_are : map (λ r. all_fit (row_of r)) (range_with_len 0 8) ≡ map (λ _. true) (range_with_len 0 8)
 fits_are = refl
 
