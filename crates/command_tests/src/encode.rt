@@ -1,5 +1,5 @@
 //! The command `encode`: `IsEncodeRun`.
-use crate::outcomes::{assert_reported, assert_written, outcome_on};
+use crate::outcomes::{assert_written, outcome_on};
 use sq_commands::Status;
 use sq_requests::{EncodeWords, Request};
 use std::alloc::Global;
@@ -85,83 +85,53 @@ fn encodes_altitudes(rt: HostRuntime) {
 }
 
 // Kind, parity, address, feet, latitude and longitude, each row with each fault after it too, and the line that is reported.
-const ARGUMENT_FAULTS: [([&str; 6], &str); 15] = [
-    (["sea", "up", "40621", "38010", "x", "180.1"], "bad kind\n"),
-    (
-        ["air", "up", "40621", "38010", "x", "180.1"],
-        "bad parity\n",
-    ),
-    (
-        ["air", "odd", "40621", "38010", "x", "180.1"],
-        "bad address\n",
-    ),
-    (
-        ["air", "odd", "40621G", "38010", "x", "180.1"],
-        "bad address\n",
-    ),
-    (
-        ["air", "odd", "40621D", "38010", "x", "180.1"],
-        "bad feet\n",
-    ),
-    (
-        ["air", "odd", "40621D", "+38000", "x", "180.1"],
-        "bad feet\n",
-    ),
-    (
-        ["air", "odd", "40621D", "038000", "x", "180.1"],
-        "bad feet\n",
-    ),
-    (
-        ["ground", "odd", "40621D", "38000", "x", "180.1"],
-        "bad feet\n",
-    ),
-    (
-        ["air", "odd", "40621D", "38000", "x", "180.1"],
-        "lat not a number\n",
-    ),
-    (
-        ["air", "odd", "40621D", "38000", "1.0000000000001", "180.1"],
-        "lat too many decimals\n",
-    ),
-    (
-        ["air", "odd", "40621D", "38000", "90.000000000001", "180.1"],
-        "lat out of range\n",
-    ),
-    (
-        ["air", "odd", "40621D", "38000", "-90.1", "180.1"],
-        "lat out of range\n",
-    ),
-    (
-        ["air", "odd", "40621D", "38000", "90", "1e2"],
-        "lon not a number\n",
-    ),
-    (
-        ["air", "odd", "40621D", "38000", "90", "0.1234567890123"],
-        "lon too many decimals\n",
-    ),
-    (
-        ["air", "odd", "40621D", "38000", "90", "180.1"],
-        "lon out of range\n",
-    ),
-];
+const ARGUMENT_FAULTS: &str = "\
+sea up 40621 38010 x 180.1 -> bad kind
+air up 40621 38010 x 180.1 -> bad parity
+air odd 40621 38010 x 180.1 -> bad address
+air odd 40621G 38010 x 180.1 -> bad address
+air odd 40621D 38010 x 180.1 -> bad feet
+air odd 40621D +38000 x 180.1 -> bad feet
+air odd 40621D 038000 x 180.1 -> bad feet
+ground odd 40621D 38000 x 180.1 -> bad feet
+air odd 40621D 38000 x 180.1 -> lat not a number
+air odd 40621D 38000 1.0000000000001 180.1 -> lat too many decimals
+air odd 40621D 38000 90.000000000001 180.1 -> lat out of range
+air odd 40621D 38000 -90.1 180.1 -> lat out of range
+air odd 40621D 38000 90 1e2 -> lon not a number
+air odd 40621D 38000 90 0.1234567890123 -> lon too many decimals
+air odd 40621D 38000 90 180.1 -> lon out of range";
+
+// The words of a row.
+fn words_of(text: &str) -> Option<EncodeWords<'_>> {
+    let mut words = text.split_whitespace();
+    Some(EncodeWords {
+        kind: words.next()?,
+        parity: words.next()?,
+        address: words.next()?,
+        feet: Some(words.next()?),
+        lat: words.next()?,
+        lon: words.next()?,
+    })
+}
+
+// Asserts the line that is reported of the words of a row, as misuse.
+fn assert_argument_fault(rt: &impl Abort, alloc: Global, row: &str) {
+    let (question, text) = row.split_once(" -> ").expect(rt, "an arrow");
+    let words = words_of(question).expect(rt, "six words");
+    let ran = outcome_on(alloc, Request::Encode(words), b"");
+    assert!(rt;
+        ran.reported.as_slice().strip_suffix(b"\n") == Some(text.as_bytes()),
+        "{row}"
+    );
+    assert!(rt; ran.written.is_empty());
+    assert_eq!(rt; ran.status, Status::Misused);
+}
 
 #[test]
 fn refuses_arguments_in_order(rt: HostRuntime) {
-    for (values, text) in ARGUMENT_FAULTS {
-        assert_argument_fault(&rt, rt.alloc(), values, text);
+    assert_eq!(rt; ARGUMENT_FAULTS.lines().count(), 15);
+    for row in ARGUMENT_FAULTS.lines() {
+        assert_argument_fault(&rt, rt.alloc(), row);
     }
-}
-
-// Asserts the line that is reported of these values, as misuse.
-fn assert_argument_fault(rt: &impl Abort, alloc: Global, values: [&str; 6], text: &str) {
-    let [kind, parity, address, feet, lat, lon] = values;
-    let words = EncodeWords {
-        kind,
-        parity,
-        address,
-        feet: Some(feet),
-        lat,
-        lon,
-    };
-    assert_reported(rt, alloc, Request::Encode(words), Status::Misused, text);
 }

@@ -48,7 +48,8 @@ IsChecked (Ok tally) input output = IfSome input.before (λ bytes. (input.after 
 -- where the source failed, the lines that were read whole were answered
 IsChecked (Err Read) input output = (input.failed ≡ true)
     × ((bytes : List ℕ) × ConsumesOrHides input.before input.after bytes × WroteChecks output (ended_lines bytes))
--- where the sink failed, it did so within the answers to the lines that were read whole; the last part is a line at the end of the input
+-- where the sink failed, it did so within the answers to the lines that were read whole; the last part is a line at the
+-- end of the input
 IsChecked (Err Write) input output = (bytes : List ℕ) × Consumes input.before input.after bytes
     × (FailedWithinChecks output (ended_lines bytes) ⊎ (IsAtEnd input.after × FailedWithinChecks output (lines_of bytes)))
 -- no memory is wanted

@@ -18,7 +18,8 @@ abbrev pub IsPairedRun : Option Position → (older newer : Squitter) → Status
 IsPairedRun site older newer status o =
     (answer : Result Place PlaceFault) × IsPairPlace (squitter_parts older) (squitter_parts newer) site answer × IsPlaceRun answer status o
 
--- the squitters of the frames are decoded with the site that the words spell, or with none; the arguments are looked at before the frames
+-- the squitters of the frames are decoded with the site that the words spell, or with none; the arguments are
+-- looked at before the frames
 abbrev pub IsPairRun : (older newer : List ℕ) → (lat lon : Option (List ℕ)) → Status → Outputs → Type 0
 IsPairRun older newer lat lon status o = IsArgumentsRun (IsSiteReading lat lon)
     (λ site. IsFramesRun older newer (λ first second. IsPairedRun site first second status o) status o) status o
