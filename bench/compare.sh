@@ -1,7 +1,8 @@
 #!/bin/sh
-# compare.sh [LINES [ROUNDS]]: lines a second of `squitter check` beside two C programs for the same job, in one run: an ordinary one, and
-# one by large blocks and one table, built without vectors and with them. Each is run three times, or so many ROUNDS,
-# on the same log of good positions, its output to the null device, and the fastest counts. Needs a C compiler.
+# compare.sh [LINES [ROUNDS]]: lines a second of `squitter check` beside two C programs for the same job, in one run: an
+# ordinary one, and one by large blocks and one table, built without vectors and with them. Each is run three times, or
+# so many ROUNDS, on the same log of good positions, its output to the null device, and the fastest counts. Needs a C
+# compiler.
 set -eu
 here=$(cd "$(dirname "$0")" && pwd)
 lines=${1:-1000000}

@@ -1,8 +1,9 @@
 #!/bin/sh
-# hear.sh [CALLS]: nanoseconds a call of `hear` at 10 to 1,000,000 addresses, heard in turn and at random, beside a table in C
-# that does the same with doubles (hear.c). Each is run three times with the same calls, the fastest counts, and what the loop
-# takes without the calls is taken off. hear.rattle is the source of a program over the proved crates; it is built in a copy of them, so that
-# the gate does not prove it, or is the one that PROGRAM names. With KEEP, that file keeps the built program. Needs rt and a C compiler.
+# hear.sh [CALLS]: nanoseconds a call of `hear` at 10 to 1,000,000 addresses, heard in turn and at random, beside a
+# table in C that does the same with doubles (hear.c). Each is run three times with the same calls, the fastest counts,
+# and what the loop takes without the calls is taken off. hear.rattle is the source of a program over the proved crates;
+# it is built in a copy of them, so that the gate does not prove it, or is the one that PROGRAM names. With KEEP, that
+# file keeps the built program. Needs rt and a C compiler.
 set -eu
 here=$(cd "$(dirname "$0")" && pwd)
 calls=${1:-4000000}

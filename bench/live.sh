@@ -1,7 +1,7 @@
 #!/bin/sh
-# live.sh: what no contract says of the built program's pipes and devices, for `check` and `track`. A line of a pipe that stays
-# open is answered within the second; a million lines pass in 8 and in 16 MiB of address space; a line of 100 MB takes no memory;
-# a full disk and a closed pipe are status 3.
+# live.sh: what no contract says of the built program's pipes and devices, for `check` and `track`. A line of a pipe
+# that stays open is answered within the second; a million lines pass in 8 and in 16 MiB of address space; a line of 100
+# MB takes no memory; a full disk and a closed pipe are status 3.
 set -eu
 here=$(cd "$(dirname "$0")" && pwd)
 frame=8D40621D58C382D690C8AC2863A7

@@ -1,8 +1,8 @@
 #!/bin/sh
-# shards.sh [LINES [SHARDS]]: cuts a log of so many lines (ten million) by the address of the frame, has each shard heard by a
-# `track` of its own, as many at once as there are processors, and compares the answers with those of one run over the whole log,
-# address by address. An address answers for itself alone as long as moments are in order and no limit is reached, so none
-# differs. The same for `check`, whose lines answer each for itself, cut at any line.
+# shards.sh [LINES [SHARDS]]: cuts a log of so many lines (ten million) by the address of the frame, has each shard
+# heard by a `track` of its own, as many at once as there are processors, and compares the answers with those of one run
+# over the whole log, address by address. An address answers for itself alone as long as moments are in order and no
+# limit is reached, so none differs. The same for `check`, whose lines answer each for itself, cut at any line.
 set -eu
 here=$(cd "$(dirname "$0")" && pwd)
 lines=${1:-10000000}

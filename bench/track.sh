@@ -1,7 +1,8 @@
 #!/bin/sh
-# track.sh [LINES [ROUNDS]]: lines a second of `squitter track` beside a C program that pairs in doubles and follows nothing (track.c, built
-# without vectors and with them), and the most memory that it held, for 10 to 100,000 aircraft. Each is run three times, or so many
-# ROUNDS, on the same log of good positions, its output to the null device, and the fastest counts. Needs a C compiler and GNU time.
+# track.sh [LINES [ROUNDS]]: lines a second of `squitter track` beside a C program that pairs in doubles and follows
+# nothing (track.c, built without vectors and with them), and the most memory that it held, for 10 to 100,000 aircraft.
+# Each is run three times, or so many ROUNDS, on the same log of good positions, its output to the null device, and the
+# fastest counts. Needs a C compiler and GNU time.
 set -eu
 here=$(cd "$(dirname "$0")" && pwd)
 lines=${1:-1000000}

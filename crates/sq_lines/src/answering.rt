@@ -29,10 +29,10 @@ pub trait Answering {
     /// The answer to a line by the past, the past after it, and the text of what was found.
     ghost way: { Answerer Self.Past Self.Found };
 
-    /// That an answer may want memory.
+    /// That an answer may run out of memory.
     ghost MayWantMemory: { Type 0 };
 
-    /// The answer to the held line, `None` for an empty one. Where memory is wanting the line was not heard.
+    /// The answer to the held line, `None` for an empty one. At `OutOfMemory` the line was not heard.
     fn answer(
         state: &mut Self::State,
         cutter: &Cutter,

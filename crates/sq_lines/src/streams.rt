@@ -28,7 +28,7 @@ pub fn run_lines<S: Source, K: Sink, A: Answering>(
         × ((read : List ℕ) × ConsumesOrHides (S.to_come source.old) (S.to_come source.new) read
         × HasTold A.stands_for A.way state.old state.new (K.written sink.old) (K.written sink.new) (ended_lines read))) }
 
-    // Where memory was wanting for a line, those before it have been answered; the last part is a line at the end of the input.
+    // Where there was no memory for a line, those before it have been answered; the last part is a line at the end of the input.
     ensures unanswered { IfErr result (λ fault. fault ≡ RunFault.Memory
         → (read : List ℕ) × Consumes (S.to_come source.old) (S.to_come source.new) read
         × (StoppedIn Unanswered.Memory A.stands_for A.way state.old state.new (K.written sink.old) (K.written sink.new) (ended_lines read)

@@ -69,7 +69,7 @@ count_plain n d (limit ∷ limits) p =
     ∙ ap₂ (λ (b : Bool) (m : ℕ). cond b 1 0 + m) (ceil_le n d limit p) (count_plain n d limits p)
     ∙ sym (sum_by-cons (λ m. cond (nat_le n (m * d)) 1 0) limit limits)
 
--- the limits as signed lanes, behind padding that is never counted
+-- the limits as signed lanes, after padding that is never counted
 abbrev pub padded : ℕ → List ℕ → List ℤ
 padded zero limits = map pos limits
 padded (suc n) limits = negsuc 0 ∷ padded n limits

@@ -13,7 +13,7 @@ use std::simd::prelude::*;
 // What fills the table up to 64 lanes: no scaled latitude is at most this, so it never counts.
 const PADDING: i64 = -1;
 
-// The greatest latitude with 59 zones, with 58 and so on down to 2, in units of 10^-8 degree, behind the padding: eight
+// The greatest latitude with 59 zones, with 58 and so on down to 2, in units of 10^-8 degree, after the padding: eight
 // rows of eight in ascending order.
 static ZONE_LIMITS: [i64; 64] = [
     PADDING,
