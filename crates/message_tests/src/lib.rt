@@ -1,4 +1,4 @@
-//! Tests of messages and of their texts: frames read and written, places decoded and sent again.
+//! Tests of messages and of their texts, and of the tracker: frames read and written, places decoded, sent again and heard.
 #![tactic(auto)]
 
 #[cfg(test)]
@@ -16,6 +16,10 @@ mod place_faults;
 #[cfg(test)]
 mod places;
 #[cfg(test)]
+mod samples;
+#[cfg(test)]
 mod sending;
 #[cfg(test)]
 mod texts;
+#[cfg(test)]
+mod tracker;

@@ -1,47 +1,12 @@
 //! Places of worked frames, each fault in its order, and what is sent of a place.
-use crate::frames::{AIR_EVEN, AIR_ODD, GROUND_EVEN, GROUND_ODD, IDENTITY};
-use crate::sending::position;
+use crate::samples::{
+    AIR_EVEN, AIR_ODD, GROUND_EVEN, GROUND_ODD, IDENTITY, airborne, other, position, read, surface,
+};
 use sq_message::{
-    Air, AirFields, Airborne, Code, Frame, GridPoint, Ground, GroundFields, GroundHead, Me, Other,
-    Parity, Place, PlaceFault, Squitter, Surface, laws, place_local, place_pair, read_frame,
-    send_ground, send_point, write_frame,
+    Air, GridPoint, Ground, GroundFields, GroundHead, Parity, Place, PlaceFault, Squitter, laws,
+    place_local, place_pair, send_ground, send_point, write_frame,
 };
 use std::process::Abort;
-
-// The squitter of a frame.
-fn read(rt: &impl Abort, frame: &Frame) -> Squitter {
-    read_frame(frame).expect(rt, "a squitter")
-}
-
-// An airborne squitter of this parity and code.
-fn airborne(rt: &impl Abort, address: u32, parity: Parity, lat: u32, lon: u32) -> Squitter {
-    let fields = AirFields::new(11, 0, false, 0xC38, false).expect(rt, "fields");
-    let code = Code::new(lat, lon).expect(rt, "a code");
-    let me = Me::Airborne(Airborne {
-        fields,
-        parity,
-        code,
-    });
-    Squitter::new(5, address, me).expect(rt, "a squitter")
-}
-
-// A surface squitter of this parity and code.
-fn surface(rt: &impl Abort, address: u32, parity: Parity, lat: u32, lon: u32) -> Squitter {
-    let fields = GroundFields::new(7, 0, false, 0, false).expect(rt, "fields");
-    let code = Code::new(lat, lon).expect(rt, "a code");
-    let me = Me::Surface(Surface {
-        fields,
-        parity,
-        code,
-    });
-    Squitter::new(4, address, me).expect(rt, "a squitter")
-}
-
-// A squitter of another message.
-fn other(rt: &impl Abort, address: u32) -> Squitter {
-    let raw = Other::new(0).expect(rt, "type code 0");
-    Squitter::new(5, address, Me::Other(raw)).expect(rt, "a squitter")
-}
 
 // What is sent of a place of the squitter's kind.
 fn sent(rt: &impl Abort, squitter: &Squitter, place: &Place) -> Squitter {

@@ -1,16 +1,10 @@
 //! Heads at and past their limits, and the frames of worked positions.
+use crate::samples::position;
 use sq_message::{
-    AirFields, AirHead, Angle, Frame, GroundFields, GroundHead, Parity, Position, altitude,
-    field_of_feet, laws, send_air, send_ground, write_frame,
+    AirFields, AirHead, Frame, GroundFields, GroundHead, Parity, altitude, field_of_feet, laws,
+    send_air, send_ground, write_frame,
 };
 use std::process::Abort;
-
-// The position of two fractions, each a numerator over a denominator.
-pub fn position(rt: &impl Abort, lat: (i64, u64), lon: (i64, u64)) -> Position {
-    let lat = Angle::new(lat.0, lat.1).expect(rt, "a latitude");
-    let lon = Angle::new(lon.0, lon.1).expect(rt, "a longitude");
-    Position::new(lat, lon).expect(rt, "a position")
-}
 
 // The head of an aircraft at 38,000 feet.
 pub fn air_head(rt: &impl Abort) -> AirHead {

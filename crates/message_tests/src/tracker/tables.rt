@@ -1,9 +1,7 @@
 //! The table of addresses: who is present, in which order, and when it is full; moments, windows and limits at their
 //! ends.
-use crate::runs::{
-    AIR, AIR_EVEN, AIR_ODD, GROUND, IDENTITY, Told, airborne, assert_told, even, hear, odd_place,
-    other, read,
-};
+use super::runs::{AIR, GROUND, Told, assert_told, even, hear, odd_place};
+use crate::samples::{AIR_EVEN, AIR_ODD, IDENTITY, airborne, other, read};
 use sq_message::Parity;
 use sq_track::{Squitter, TrackFault, Tracker};
 use std::process::Abort;

@@ -1,5 +1,6 @@
 //! Random calls against a plain list of everything heard, searched by the definitions.
-use crate::runs::{Told, airborne, hear, other, position, sent_in_air, sent_on_ground};
+use super::runs::{Told, hear, sent_in_air, sent_on_ground};
+use crate::samples::{airborne, other, position};
 use sq_message::{Me, Parity, PlaceFault, place_local, place_pair};
 use sq_track::{Place, Position, Squitter, TrackFault, Tracker};
 use std::alloc::{AllocError, Global};

@@ -1,7 +1,8 @@
 //! Allocations that fail: the clauses `memory`, `known` and `err` of `Tracker::hear`. Each run goes through as it stands,
 //! and also where any one allocation fails, as under `rt try --test --fail-alloc N`: the call that was refused then
 //! changes nothing, and goes through when it is made again.
-use crate::runs::{AIR, AIR_EVEN, GROUND, GROUND_EVEN, GROUND_ODD, Told, even, hear, other, read};
+use super::runs::{AIR, GROUND, Told, even, hear};
+use crate::samples::{AIR_EVEN, GROUND_EVEN, GROUND_ODD, other, read};
 use sq_track::{Squitter, TrackFault, Tracker};
 use std::process::Abort;
 use std::test::Fail;
