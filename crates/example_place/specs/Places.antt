@@ -24,7 +24,8 @@ use Rattle.example_place.specs.declared.fault.Fault.TheVariants.{OfPlace, OfText
 -- the text spells a squitter, and this is its place near the reference
 abbrev pub IsPlaceNear : List ℕ → Position → Place → Type 0
 IsPlaceNear text reference place =
-    (squitter : Squitter) × IsSquitterReading text (Ok squitter) × IsLocalPlace (squitter_parts squitter).me reference (Ok place)
+    (squitter : Squitter) × IsSquitterReading text (Ok squitter)
+    × IsLocalPlace (squitter_parts squitter).me reference (Ok place)
 
 -- the text spells no squitter, or that has no place near the reference
 abbrev pub IsFaultNear : List ℕ → Position → Fault → Type 0
@@ -39,14 +40,16 @@ IsPlaceOfText text reference answer = MatchResult answer (IsPlaceNear text refer
 
 -- both texts spell squitters, and this is the place of the pair
 abbrev pub IsPlaceOfPair : (older newer : List ℕ) → Option Position → Place → Type 0
-IsPlaceOfPair older newer site place = (first second : Squitter) × IsSquitterReading older (Ok first) × IsSquitterReading newer (Ok second)
+IsPlaceOfPair older newer site place =
+    (first second : Squitter) × IsSquitterReading older (Ok first) × IsSquitterReading newer (Ok second)
     × IsPairPlace (squitter_parts first) (squitter_parts second) site (Ok place)
 
 -- the first fault: of the older text, of the newer one, or of the pair
 abbrev pub IsFaultOfPair : (older newer : List ℕ) → Option Position → Fault → Type 0
 IsFaultOfPair older newer site fault =
     ((e : LineFault) × IsSquitterReading older (Err e) × (fault ≡ OfText e))
-    ⊎ ((first : Squitter) × (e : LineFault) × IsSquitterReading older (Ok first) × IsSquitterReading newer (Err e) × (fault ≡ OfText e))
+    ⊎ ((first : Squitter) × (e : LineFault) × IsSquitterReading older (Ok first) × IsSquitterReading newer (Err e)
+        × (fault ≡ OfText e))
     ⊎ ((first second : Squitter) × (e : PlaceFault) × IsSquitterReading older (Ok first) × IsSquitterReading newer (Ok second)
     × IsPairPlace (squitter_parts first) (squitter_parts second) site (Err e) × (fault ≡ OfPlace e))
 

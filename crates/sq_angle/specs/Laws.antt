@@ -17,7 +17,8 @@ OneLowestForm = (x y p q : Fraction) → 1 ≤ x.den → 1 ≤ y.den → IsLowes
 
 -- two angles are equal exactly if they have one form in lowest terms
 abbrev pub OneLowestFormOfAngles : Type 0
-OneLowestFormOfAngles = (x y : Angle) (p q : Fraction) → IsLowestFormOf (degrees x) p → IsLowestFormOf (degrees y) q → IsTrue (same_angle x y) ↔ (p ≡ q)
+OneLowestFormOfAngles = (x y : Angle) (p q : Fraction) → IsLowestFormOf (degrees x) p → IsLowestFormOf (degrees y) q
+    → IsTrue (same_angle x y) ↔ (p ≡ q)
 
 -- what `==`, `<` and `>` of angles test, as facts on fractions
 abbrev pub OrderedByValue : Type 0

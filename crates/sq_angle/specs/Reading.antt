@@ -17,4 +17,5 @@ abbrev pub IsReading : List ℕ → Result Angle AngleFault → Type 0
 IsReading text (Ok a) = (p : Parts) × Spells text p × (length p.decimals ≤ most_decimals) × (degrees a ≡ value_of p)
 IsReading text (Err NotANumber) = (p : Parts) → ¬ Spells text p
 IsReading text (Err TooManyDecimals) = (p : Parts) × Spells text p × (most_decimals < length p.decimals)
-IsReading text (Err OutOfRange) = (p : Parts) × Spells text p × (length p.decimals ≤ most_decimals) × ¬ IsWithin 360 (value_of p)
+IsReading text (Err OutOfRange) =
+    (p : Parts) × Spells text p × (length p.decimals ≤ most_decimals) × ¬ IsWithin 360 (value_of p)

@@ -26,7 +26,8 @@ kind_name Ground = codes "ground"
 
 -- six hexadecimal digits of either case, the most significant first
 abbrev pub IsAddress : List ℕ → ℕ → Type 0
-IsAddress word address = (bytes : List ℕ) × (length bytes ≡ 3) × (decode_of word ≡ Ok bytes) × (address ≡ number_from_digits 256 bytes)
+IsAddress word address =
+    (bytes : List ℕ) × (length bytes ≡ 3) × (decode_of word ≡ Ok bytes) × (address ≡ number_from_digits 256 bytes)
 
 -- one to five digits of a number
 pub record IsFiveDigits (digits : List ℕ) (number : ℕ) : Type 0 where
@@ -69,7 +70,8 @@ IsAngleWord limit word = (angle : Angle) × IsReading word (Ok angle) × IsWithi
 
 -- what is wrong with such an angle: the fault of its reading, or that it is larger
 abbrev pub IsAngleFault : ℕ → List ℕ → AngleFault → Type 0
-IsAngleFault limit word fault = IsReading word (Err fault) ⊎ ((fault ≡ OutOfRange) × ((angle : Angle) × IsReading word (Ok angle) × ¬ IsWithin limit (degrees angle)))
+IsAngleFault limit word fault = IsReading word (Err fault)
+    ⊎ ((fault ≡ OutOfRange) × ((angle : Angle) × IsReading word (Ok angle) × ¬ IsWithin limit (degrees angle)))
 
 -- what is wrong with a position: the latitude is looked at first
 abbrev pub IsPositionFault : (lat lon : List ℕ) → ArgumentFault → Type 0

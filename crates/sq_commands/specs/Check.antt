@@ -26,7 +26,8 @@ check_tally reader lines = tally_of (map (answer_by reader.read) lines)
 
 -- `check` answers each line by itself: what came before it is nothing but the reader
 abbrev pub check_way : Answerer SquitterReader Squitter
-check_way = record { answer = λ reader line. answer_by reader.read line; after = λ reader line. reader; text = λ reader. summary }
+check_way =
+    record { answer = λ reader line. answer_by reader.read line; after = λ reader line. reader; text = λ reader. summary }
 
 -- every state of `check` stands for every reader
 abbrev pub IsChecking : {State : Type 0} → State → SquitterReader → Type 0

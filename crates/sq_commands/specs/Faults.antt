@@ -25,6 +25,7 @@ abbrev pub IsMisuse : ArgumentFault → Status → Outputs → Type 0
 IsMisuse fault status o = IsReport Misused (argument_text fault) status o
 
 -- the arguments are read: of what they say the rest holds, or the first fault is reported
-abbrev pub IsArgumentsRun : {Values : Type 0} → (Result Values ArgumentFault → Type 0) → (Values → Type 0) → Status → Outputs → Type 0
+abbrev pub IsArgumentsRun : {Values : Type 0} → (Result Values ArgumentFault → Type 0) → (Values → Type 0) → Status
+    → Outputs → Type 0
 IsArgumentsRun {Values = Values} Reads Rest status o = (reading : Result Values ArgumentFault) × Reads reading
     × MatchResult reading Rest (λ fault. IsMisuse fault status o)

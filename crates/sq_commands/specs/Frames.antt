@@ -17,7 +17,8 @@ IsFrameRun frame Rest status o = (reading : Result Squitter LineFault) × IsSqui
 abbrev pub AreReadingsOf : (older newer : List ℕ) → Result (Squitter × Squitter) LineFault → Type 0
 AreReadingsOf older newer (Ok (first, second)) = IsSquitterReading older (Ok first) × IsSquitterReading newer (Ok second)
 AreReadingsOf older newer (Err fault) =
-    IsSquitterReading older (Err fault) ⊎ ((first : Squitter) × IsSquitterReading older (Ok first) × IsSquitterReading newer (Err fault))
+    IsSquitterReading older (Err fault)
+    ⊎ ((first : Squitter) × IsSquitterReading older (Ok first) × IsSquitterReading newer (Err fault))
 
 -- two frame texts are read: of their squitters the rest holds, or the first fault is reported
 abbrev pub IsFramesRun : (older newer : List ℕ) → (Squitter → Squitter → Type 0) → Status → Outputs → Type 0

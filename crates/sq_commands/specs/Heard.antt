@@ -17,7 +17,8 @@ abbrev pub heard_words : DecimalWriter → List ℕ → Heard → List ℕ
 heard_words decimals address (Fix place) = codes "fix " ++ address ++ codes " " ++ place_words decimals place
 heard_words decimals address (Followed place) = codes "followed " ++ address ++ codes " " ++ place_words decimals place
 heard_words decimals address Waiting = codes "waiting " ++ address
-heard_words decimals address (Split even odd) = codes "split " ++ address ++ codes " " ++ (decimal even ++ codes " " ++ decimal odd)
+heard_words decimals address (Split even odd) =
+    codes "split " ++ address ++ codes " " ++ (decimal even ++ codes " " ++ decimal odd)
 heard_words decimals address Far = codes "far " ++ address
 heard_words decimals address NoSite = codes "no site " ++ address
 heard_words decimals address NotPosition = codes "no position " ++ address

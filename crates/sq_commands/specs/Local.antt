@@ -22,7 +22,8 @@ IsTextOf place text = (position : Position) × IsPositionOf place position × Is
 -- a place is written, its fault is reported
 abbrev pub IsPlaceRun : Result Place PlaceFault → Status → Outputs → Type 0
 IsPlaceRun answer status o =
-    MatchResult answer (λ place. (text : List ℕ) × IsTextOf place text × IsAnswer text status o) (λ fault. IsReport Refused (place_fault_text fault) status o)
+    MatchResult answer (λ place. (text : List ℕ) × IsTextOf place text × IsAnswer text status o)
+    (λ fault. IsReport Refused (place_fault_text fault) status o)
 
 -- the place of the squitter near the reference is written, or its fault reported
 abbrev pub IsNearRun : Position → Squitter → Status → Outputs → Type 0
@@ -32,4 +33,5 @@ IsNearRun reference squitter status o =
 -- the squitter of the frame is decoded near the reference that the words spell; the arguments are looked at before the frame
 abbrev pub IsLocalRun : (frame lat lon : List ℕ) → Status → Outputs → Type 0
 IsLocalRun frame lat lon status o =
-    IsArgumentsRun (IsPositionReading lat lon) (λ reference. IsFrameRun frame (λ squitter. IsNearRun reference squitter status o) status o) status o
+    IsArgumentsRun (IsPositionReading lat lon)
+    (λ reference. IsFrameRun frame (λ squitter. IsNearRun reference squitter status o) status o) status o

@@ -16,7 +16,8 @@ use Rattle.sq_commands.specs.Outputs.{Outputs}
 -- the place of the newer of two squitters is written, or its fault reported
 abbrev pub IsPairedRun : Option Position → (older newer : Squitter) → Status → Outputs → Type 0
 IsPairedRun site older newer status o =
-    (answer : Result Place PlaceFault) × IsPairPlace (squitter_parts older) (squitter_parts newer) site answer × IsPlaceRun answer status o
+    (answer : Result Place PlaceFault) × IsPairPlace (squitter_parts older) (squitter_parts newer) site answer
+    × IsPlaceRun answer status o
 
 -- the squitters of the frames are decoded with the site that the words spell, or with none; the arguments are
 -- looked at before the frames

@@ -74,13 +74,15 @@ IsTrackFault limit window lat lon fault =
     (IsSiteFault lat lon fault)))
 
 abbrev pub IsTrackReading : (limit window lat lon : Option (List ℕ)) → Result TrackOptions ArgumentFault → Type 0
-IsTrackReading limit window lat lon reading = MatchResult reading (IsTrackOptions limit window lat lon) (IsTrackFault limit window lat lon)
+IsTrackReading limit window lat lon reading =
+    MatchResult reading (IsTrackOptions limit window lat lon) (IsTrackFault limit window lat lon)
 
 -- ---- the command
 
 -- a run over the input, by a tracker with these options that has heard nothing; what broke it off is reported, and else nothing
 abbrev pub IsLogRun : TrackOptions → Status → Effects → Type 0
-IsLogRun options status e = (old : Held) × (new : Held) × StandsFor old [] × (settings old ≡ made_with options.limit options.window options.site)
+IsLogRun options status e = (old : Held) × (new : Held) × StandsFor old []
+    × (settings old ≡ made_with options.limit options.window options.site)
     × ((answer : Result Tally RunFault) × IsTracked answer e.input e.outputs.output old new
     × MatchResult answer (λ tally. (status ≡ status_of tally) × WroteNothing e.outputs.reports)
     (λ fault. (status ≡ Broken) × Reported e.outputs (broken_text fault)))
@@ -89,4 +91,5 @@ IsLogRun options status e = (old : Held) × (new : Held) × StandsFor old [] × 
 abbrev pub IsTrackRun : (limit window lat lon : Option (List ℕ)) → Status → Effects → Type 0
 IsTrackRun limit window lat lon status e =
     ((options : TrackOptions) × IsTrackOptions limit window lat lon options × IsLogRun options status e)
-    ⊎ (TookNothing e.input × ((fault : ArgumentFault) × IsTrackFault limit window lat lon fault × IsMisuse fault status e.outputs))
+    ⊎ (TookNothing e.input
+        × ((fault : ArgumentFault) × IsTrackFault limit window lat lon fault × IsMisuse fault status e.outputs))

@@ -40,12 +40,14 @@ IsHeardLine s h (Some (Ok timed)) answer next = (reply : Result Heard TrackFault
 abbrev pub AreHeardLines : TimedReader → Settings → History → List (List ℕ) → List (Answer HeardFrom) → History → Type 0
 AreHeardLines reader s h [] answers next = (answers ≡ []) × (next ≡ h)
 AreHeardLines reader s h (line ∷ lines) answers next =
-    (first : Answer HeardFrom) × (then_on : History) × (rest : List (Answer HeardFrom)) × IsHeardLine s h (answer_by reader.read line) first then_on
+    (first : Answer HeardFrom) × (then_on : History) × (rest : List (Answer HeardFrom))
+    × IsHeardLine s h (answer_by reader.read line) first then_on
     × AreHeardLines reader s then_on lines rest next × (answers ≡ first ∷ rest)
 
 -- what a tracker has heard of these lines: from each history that it stood for it stands for the one after them, and of the
 -- answers, spelled in this way, this holds
-abbrev pub HasHeard : (old new : Held) → List (List ℕ) → ((List (Answer HeardFrom) → List ℕ) → List (Answer HeardFrom) → Type 0) → Type 0
+abbrev pub HasHeard : (old new : Held) → List (List ℕ)
+    → ((List (Answer HeardFrom) → List ℕ) → List (Answer HeardFrom) → Type 0) → Type 0
 HasHeard old new lines Holding = (reader : TimedReader) (decimals : DecimalWriter) (h : History) → StandsFor old h
     → (answers : List (Answer HeardFrom)) × (next : History) × AreHeardLines reader (settings old) h lines answers next
     × StandsFor new next × Holding (texts_of (heard_text decimals)) answers
@@ -60,8 +62,10 @@ WroteIntoLast output text answers = (part : List ℕ) × IsPrefixOf (text (take 
 -- what replies to calls, unless memory runs out
 pub record Replier : Type 0 where
   pub reply : (s : Settings) (h : History) → IsHistory s h → ℕ → Squitter → Result Heard TrackFault
-  pub replies : (s : Settings) (h : History) (accepted : IsHistory s h) (m : ℕ) (q : Squitter) → IsReply s h m q (reply s h accepted m q)
-  pub remembers : (s : Settings) (h : History) (accepted : IsHistory s h) (m : ℕ) (q : Squitter) → reply s h accepted m q ≢ Err Memory
+  pub replies : (s : Settings) (h : History) (accepted : IsHistory s h) (m : ℕ) (q : Squitter)
+      → IsReply s h m q (reply s h accepted m q)
+  pub remembers : (s : Settings) (h : History) (accepted : IsHistory s h) (m : ℕ) (q : Squitter)
+      → reply s h accepted m q ≢ Err Memory
 
 -- what came before a line: a history, and how lines are read, calls replied to and fractions written
 pub record Tracking : Type 0 where
@@ -84,14 +88,18 @@ answer_heard past (Some (Ok timed)) = Some (found_of timed (reply_by past timed)
 abbrev pub past_with : (past : Tracking) (timed : TimedSquitter) (reply : Result Heard TrackFault)
     → IsReply past.settings past.history timed.moment timed.squitter reply → Tracking
 past_with past timed (Ok heard) is =
-    record past { history = record { moment = timed.moment; squitter = timed.squitter; heard = heard } ∷ past.history; accepted = (is, past.accepted) }
+    record past {
+      history = record { moment = timed.moment; squitter = timed.squitter; heard = heard } ∷ past.history;
+      accepted = (is, past.accepted)
+    }
 past_with past timed (Err fault) is = past
 
 abbrev pub past_heard : Tracking → Answer TimedSquitter → Tracking
 past_heard past None = past
 past_heard past (Some (Err fault)) = past
 past_heard past (Some (Ok timed)) =
-    past_with past timed (reply_by past timed) (past.replier.replies past.settings past.history past.accepted timed.moment timed.squitter)
+    past_with past timed (reply_by past timed)
+    (past.replier.replies past.settings past.history past.accepted timed.moment timed.squitter)
 
 -- how `track` answers lines
 abbrev pub track_way : Answerer Tracking HeardFrom

@@ -21,8 +21,10 @@ closeness degrees even_zones odd_zones = record { num = pos degrees; den = 2 * e
 -- spans. Where each grid has one zone any two are.
 pub record IsClose (degrees even_zones odd_zones : ℕ) (p q : ℤ) : Type 0 where
   pub turns : ℤ
-  pub from : opposite (closeness degrees even_zones odd_zones) ≼ difference degrees (angle_at degrees even_zones p) (angle_at degrees odd_zones q) turns
-  pub below : difference degrees (angle_at degrees even_zones p) (angle_at degrees odd_zones q) turns ≺ closeness degrees even_zones odd_zones
+  pub from : opposite (closeness degrees even_zones odd_zones) ≼ difference degrees (angle_at degrees even_zones p)
+      (angle_at degrees odd_zones q) turns
+  pub below : difference degrees (angle_at degrees even_zones p)
+      (angle_at degrees odd_zones q) turns ≺ closeness degrees even_zones odd_zones
 
 -- p and q are close and have these codes
 pub record IsClosePair (degrees even_zones odd_zones even odd : ℕ) (p q : ℤ) : Type 0 where
@@ -59,4 +61,5 @@ pub record AreTamePoints (degrees : ℕ) (a b : Point) : Type 0 where
   pub even : a.parity ≡ Even
   pub odd : b.parity ≡ Odd
   pub latitudes : AreCloseLatitudes degrees a.lat_index b.lat_index
-  pub longitudes : HaveOneCount degrees a.lat_index b.lat_index → IsClose degrees a.zones b.zones (pos a.lon_index) (pos b.lon_index)
+  pub longitudes : HaveOneCount degrees a.lat_index b.lat_index
+      → IsClose degrees a.zones b.zones (pos a.lon_index) (pos b.lon_index)

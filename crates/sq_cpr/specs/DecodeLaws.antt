@@ -21,44 +21,56 @@ use Rattle.sq_cpr.specs.Slow.{PositionRoundsTo, AreSlow, AreSlowForFollowing, Ar
 
 -- the windows with fractions mean what their multiplied-out forms mean
 pub record FractionsAgree (degrees : ℕ) : Type 0 where
-  pub near : (zones : ℕ) (index : ℤ) (r : Fraction) → 0 < zones → LiesWithin 1 degrees zones index r ↔ IsNear (half_zone degrees zones) r (angle_at degrees zones index)
-  pub strictly_near : (zones : ℕ) (index : ℤ) (r : Fraction) → 0 < zones → LiesStrictlyWithin degrees zones index r ↔ IsStrictlyNear (half_zone degrees zones) r (angle_at degrees zones index)
-  pub representative : (zones : ℕ) (index : ℤ) (r : Fraction) → LiesWithin zones degrees zones index r ↔ IsRepresentative degrees r (angle_at degrees zones index)
+  pub near : (zones : ℕ) (index : ℤ) (r : Fraction) → 0 < zones → LiesWithin 1 degrees zones index r
+      ↔ IsNear (half_zone degrees zones) r (angle_at degrees zones index)
+  pub strictly_near : (zones : ℕ) (index : ℤ) (r : Fraction) → 0 < zones → LiesStrictlyWithin degrees zones index r
+      ↔ IsStrictlyNear (half_zone degrees zones) r (angle_at degrees zones index)
+  pub representative : (zones : ℕ) (index : ℤ) (r : Fraction) → LiesWithin zones degrees zones index r
+      ↔ IsRepresentative degrees r (angle_at degrees zones index)
   pub close : (n m : ℕ) (p q : ℤ) → 0 < n → 0 < m → LiesClose n m p q ↔ IsClose degrees n m p q
 
 -- exactly one latitude index with this code is near a latitude
 abbrev pub OneNearLatitude : ℕ → Type 0
-OneNearLatitude degrees = (parity : Parity) (lat : Fraction) (code : ℕ) → 0 < lat.den → ExactlyOne (IsNearLatitude degrees parity lat code)
+OneNearLatitude degrees =
+    (parity : Parity) (lat : Fraction) (code : ℕ) → 0 < lat.den → ExactlyOne (IsNearLatitude degrees parity lat code)
 
 -- exactly one longitude index on the circle with this code is near a longitude, whatever the number of zones
 abbrev pub OneNearLongitude : ℕ → ℕ → Type 0
 OneNearLongitude degrees repeats =
     (zones : ℕ) (lon : Fraction) (code : ℕ) → 0 < zones → 0 < lon.den
-    → ExactlyOne (λ (index : ℕ). (index < circle zones repeats) × IsCongruent codes_of_zone (pos index) (pos code) × IsNearLongitude degrees repeats zones lon index)
+    → ExactlyOne (λ (index : ℕ). (index < circle zones repeats) × IsCongruent codes_of_zone (pos index) (pos code)
+        × IsNearLongitude degrees repeats zones lon index)
 
 -- decoding near a reference has one answer
 abbrev pub OneLocalAnswer : ℕ → ℕ → Type 0
 OneLocalAnswer degrees repeats =
-    (code : CodeNumbers) (parity : Parity) (lat lon : Fraction) (answer other : Result Point LocalFault) → 0 < lat.den → 0 < lon.den
-    → LocalAnswer degrees repeats code parity lat lon answer → LocalAnswer degrees repeats code parity lat lon other → answer ≡ other
+    (code : CodeNumbers) (parity : Parity) (lat lon : Fraction) (answer other : Result Point LocalFault) → 0 < lat.den
+    → 0 < lon.den
+    → LocalAnswer degrees repeats code parity lat lon answer → LocalAnswer degrees repeats code parity lat lon other
+    → answer ≡ other
 
 -- a strictly near point is near
 abbrev pub StrictlyNearIsNear : ℕ → ℕ → Type 0
-StrictlyNearIsNear degrees repeats = (lat lon : Fraction) (point : Point) → IsStrictlyNearPoint degrees repeats lat lon point → IsNearPoint degrees repeats lat lon point
+StrictlyNearIsNear degrees repeats = (lat lon : Fraction) (point : Point)
+    → IsStrictlyNearPoint degrees repeats lat lon point → IsNearPoint degrees repeats lat lon point
 
 -- a point with this code that is near the reference is the answer
 abbrev pub NearPointIsLocal : ℕ → ℕ → Type 0
 NearPointIsLocal degrees repeats =
-    (code : CodeNumbers) (parity : Parity) (lat lon : Fraction) (answer : Result Point LocalFault) (point : Point) → 0 < lat.den → 0 < lon.den
+    (code : CodeNumbers) (parity : Parity) (lat lon : Fraction) (answer : Result Point LocalFault) (point : Point)
+    → 0 < lat.den → 0 < lon.den
     → LocalAnswer degrees repeats code parity lat lon answer
-    → IsGridPoint degrees repeats point → point.parity ≡ parity → HasCode point code → IsNearPoint degrees repeats lat lon point → answer ≡ Ok point
+    → IsGridPoint degrees repeats point → point.parity ≡ parity → HasCode point code
+    → IsNearPoint degrees repeats lat lon point → answer ≡ Ok point
 
 -- the same of a strictly near point
 abbrev pub StrictlyNearPointIsLocal : ℕ → ℕ → Type 0
 StrictlyNearPointIsLocal degrees repeats =
-    (code : CodeNumbers) (parity : Parity) (lat lon : Fraction) (answer : Result Point LocalFault) (point : Point) → 0 < lat.den → 0 < lon.den
+    (code : CodeNumbers) (parity : Parity) (lat lon : Fraction) (answer : Result Point LocalFault) (point : Point)
+    → 0 < lat.den → 0 < lon.den
     → LocalAnswer degrees repeats code parity lat lon answer
-    → IsGridPoint degrees repeats point → point.parity ≡ parity → HasCode point code → IsStrictlyNearPoint degrees repeats lat lon point → answer ≡ Ok point
+    → IsGridPoint degrees repeats point → point.parity ≡ parity → HasCode point code
+    → IsStrictlyNearPoint degrees repeats lat lon point → answer ≡ Ok point
 
 -- the decoded point has the code and the parity that were given
 abbrev pub LocalKeepsCode : ℕ → ℕ → Type 0
@@ -75,13 +87,15 @@ pub record IndexPair : Type 0 where
 -- each index is below the steps of a span.
 abbrev pub HaveOneClosePair : ℕ → ℕ → ℕ → Type 0
 HaveOneClosePair degrees n m =
-    (even odd : ℕ) → ExactlyOne (λ (pair : IndexPair). (pair.even < n * codes_of_zone) × (pair.odd < m * codes_of_zone) × IsClosePair degrees n m even odd (pos pair.even) (pos pair.odd))
+    (even odd : ℕ) → ExactlyOne (λ (pair : IndexPair). (pair.even < n * codes_of_zone) × (pair.odd < m * codes_of_zone)
+        × IsClosePair degrees n m even odd (pos pair.even) (pos pair.odd))
 
 abbrev pub OneCloseLatitudes : ℕ → Type 0
 OneCloseLatitudes degrees = HaveOneClosePair degrees (lat_zones Even) (lat_zones Odd)
 
 abbrev pub OneCloseLongitudes : ℕ → Type 0
-OneCloseLongitudes degrees = (count : ℕ) → 1 ≤ count → count ≤ 59 → HaveOneClosePair degrees (zones_of Even count) (zones_of Odd count)
+OneCloseLongitudes degrees =
+    (count : ℕ) → 1 ≤ count → count ≤ 59 → HaveOneClosePair degrees (zones_of Even count) (zones_of Odd count)
 
 -- where each grid has one zone any two angles are close
 abbrev pub OneZoneIsClose : ℕ → Type 0
@@ -90,8 +104,10 @@ OneZoneIsClose degrees = (p q : ℤ) → IsClose degrees 1 1 p q
 -- decoding a pair has one answer
 abbrev pub OnePairAnswer : ℕ → ℕ → Type 0
 OnePairAnswer degrees repeats =
-    (even odd : CodeNumbers) (newest : Parity) (lat lon : Fraction) (answer other : Result Point PairFault) → 0 < lat.den → 0 < lon.den
-    → PairAnswer degrees repeats even odd newest lat lon answer → PairAnswer degrees repeats even odd newest lat lon other → answer ≡ other
+    (even odd : CodeNumbers) (newest : Parity) (lat lon : Fraction) (answer other : Result Point PairFault)
+    → 0 < lat.den → 0 < lon.den
+    → PairAnswer degrees repeats even odd newest lat lon answer
+    → PairAnswer degrees repeats even odd newest lat lon other → answer ≡ other
 
 abbrev pub OneAirPairAnswer : Type 0
 OneAirPairAnswer =
@@ -102,7 +118,8 @@ OneAirPairAnswer =
 abbrev pub PairKeepsCode : ℕ → ℕ → Type 0
 PairKeepsCode degrees repeats =
     (even odd : CodeNumbers) (newest : Parity) (lat lon : Fraction) (point : Point)
-    → PairAnswer degrees repeats even odd newest lat lon (Ok point) → (point.parity ≡ newest) × HasCode point (of_parity newest even odd)
+    → PairAnswer degrees repeats even odd newest lat lon (Ok point) → (point.parity ≡ newest)
+    × HasCode point (of_parity newest even odd)
 
 abbrev pub AirPairKeepsCode : Type 0
 AirPairKeepsCode =
@@ -128,7 +145,8 @@ CloseGroundPointsAreAnswered =
 abbrev pub TameAnswer : ℕ → Parity → Point → Point → Result Point PairFault → Type 0
 TameAnswer degrees newest a b (Ok point) = point ≡ of_parity newest a b
 TameAnswer degrees newest a b (Err OutOfRange) = ⊥
-TameAnswer degrees newest a b (Err (ZoneCounts even_count odd_count)) = HaveTwoCounts degrees a.lat_index b.lat_index even_count odd_count
+TameAnswer degrees newest a b (Err (ZoneCounts even_count odd_count)) =
+    HaveTwoCounts degrees a.lat_index b.lat_index even_count odd_count
 
 abbrev pub TameAirPointsAreAnswered : Type 0
 TameAirPointsAreAnswered =
@@ -146,19 +164,23 @@ TameGroundPointsAreAnswered =
 -- slow positions round to tame points
 abbrev pub SlowIsTame : ℕ → ℕ → Type 0
 SlowIsTame degrees repeats =
-    (x y : Position) (a b : Point) → PositionRoundsTo degrees repeats x a → PositionRoundsTo degrees repeats y b → a.parity ≡ Even → b.parity ≡ Odd
+    (x y : Position) (a b : Point) → PositionRoundsTo degrees repeats x a → PositionRoundsTo degrees repeats y b
+    → a.parity ≡ Even → b.parity ≡ Odd
     → AreSlow degrees a b x y → AreTamePoints degrees a b
 
 -- a position less than 44 degrees from the site rounds to a point less than 45 degrees from it
 abbrev pub RoundsNearSite : ℕ → ℕ → Type 0
 RoundsNearSite degrees repeats =
-    (x site : Position) (point : Point) → PositionRoundsTo degrees repeats x point → AreWithin 44 x site → IsPointWithin 45 degrees repeats point site
+    (x site : Position) (point : Point) → PositionRoundsTo degrees repeats x point → AreWithin 44 x site
+    → IsPointWithin 45 degrees repeats point site
 
 -- positions that are slow for following round to points that are strictly near one another
 abbrev pub FollowingIsNear : ℕ → ℕ → Type 0
 FollowingIsNear degrees repeats =
-    (x y : Position) (a b : Point) → PositionRoundsTo degrees repeats x a → PositionRoundsTo degrees repeats y b → AreSlowForFollowing degrees a b x y
-    → IsStrictlyNearPoint degrees repeats (latitude degrees b) (longitude degrees b) a × IsStrictlyNearPoint degrees repeats (latitude degrees a) (longitude degrees a) b
+    (x y : Position) (a b : Point) → PositionRoundsTo degrees repeats x a → PositionRoundsTo degrees repeats y b
+    → AreSlowForFollowing degrees a b x y
+    → IsStrictlyNearPoint degrees repeats (latitude degrees b) (longitude degrees b) a
+    × IsStrictlyNearPoint degrees repeats (latitude degrees a) (longitude degrees a) b
 
 -- decoding near a reference has an answer
 abbrev pub SomeLocalAnswer : ℕ → ℕ → Type 0
@@ -174,4 +196,5 @@ SomePairAnswer degrees repeats =
 
 -- decoding a pair in the air has an answer
 abbrev pub SomeAirPairAnswer : Type 0
-SomeAirPairAnswer = (even odd : CodeNumbers) (newest : Parity) → (answer : Result Point PairFault) × AirPairAnswer even odd newest answer
+SomeAirPairAnswer = (even odd : CodeNumbers) (newest : Parity) → (answer : Result Point PairFault)
+    × AirPairAnswer even odd newest answer

@@ -16,7 +16,8 @@ DifferExactly = (limit x y : Fraction) → DifferByLess limit x y ↔ ((x ≺ pl
 
 -- modulo 360 degrees, they do exactly where the first, some turns on, and the second do
 abbrev pub DifferAroundExactly : Type 0
-DifferAroundExactly = (limit x y : Fraction) → DifferByLessAround limit x y ↔ ((turns : ℤ) × DifferByLess limit (turned x turns) y)
+DifferAroundExactly =
+    (limit x y : Fraction) → DifferByLessAround limit x y ↔ ((turns : ℤ) × DifferByLess limit (turned x turns) y)
 
 -- whole turns of either change nothing
 pub record TurnsChangeNothing : Type 0 where
@@ -75,20 +76,24 @@ abbrev pub FollowingExactly : ℕ → Type 0
 FollowingExactly degrees =
     (a b : Point) (x y : Position) → AreSlowForFollowing degrees a b x y
     ↔ (DifferByLess (following_limit degrees 60 59) (degrees_of (lat_of x)) (degrees_of (lat_of y))
-    × DifferByLessAround (following_limit degrees (max a.zones b.zones) (min a.zones b.zones)) (degrees_of (lon_of x)) (degrees_of (lon_of y)))
+    × DifferByLessAround (following_limit degrees (max a.zones b.zones) (min a.zones b.zones)) (degrees_of (lon_of x))
+    (degrees_of (lon_of y)))
 
 -- positions lie within so many degrees exactly where both coordinates differ by less
 abbrev pub WithinExactly : Type 0
 WithinExactly =
     (limit : ℕ) (x y : Position) → AreWithin limit x y
-    ↔ (DifferByLess (whole limit) (degrees_of (lat_of x)) (degrees_of (lat_of y)) × DifferByLessAround (whole limit) (degrees_of (lon_of x)) (degrees_of (lon_of y)))
+    ↔ (DifferByLess (whole limit) (degrees_of (lat_of x)) (degrees_of (lat_of y))
+        × DifferByLessAround (whole limit) (degrees_of (lon_of x)) (degrees_of (lon_of y)))
 
 -- a point lies within so many degrees of a position exactly where its latitude and its longitude do
 abbrev pub PointWithinExactly : ℕ → ℕ → Type 0
 PointWithinExactly degrees repeats =
     (limit : ℕ) (point : Point) (x : Position) → IsPointWithin limit degrees repeats point x
-    ↔ (DifferByLess (whole limit) (latitude degrees point) (degrees_of (lat_of x)) × DifferByLessAround (whole limit) (longitude degrees point) (degrees_of (lon_of x)))
+    ↔ (DifferByLess (whole limit) (latitude degrees point) (degrees_of (lat_of x))
+        × DifferByLessAround (whole limit) (longitude degrees point) (degrees_of (lon_of x)))
 
 -- tame points with one zone count are close, and close points are tame and have one
 abbrev pub CloseExactly : ℕ → Type 0
-CloseExactly degrees = (a b : Point) → AreClosePoints degrees a b ↔ (AreTamePoints degrees a b × HaveOneCount degrees a.lat_index b.lat_index)
+CloseExactly degrees = (a b : Point) → AreClosePoints degrees a b
+    ↔ (AreTamePoints degrees a b × HaveOneCount degrees a.lat_index b.lat_index)

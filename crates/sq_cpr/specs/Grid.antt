@@ -65,11 +65,13 @@ pub record IsGridPoint (degrees repeats : ℕ) (point : Point) : Type 0 where
 -- the grid has a point with these indices
 abbrev pub HasPoint : ℕ → ℕ → Parity → ℤ → ℕ → Type 0
 HasPoint degrees repeats parity lat_index lon_index =
-    (zones : ℕ) × IsGridPoint degrees repeats (record { parity = parity; lat_index = lat_index; zones = zones; lon_index = lon_index })
+    (zones : ℕ) × IsGridPoint degrees repeats
+    (record { parity = parity; lat_index = lat_index; zones = zones; lon_index = lon_index })
 
 -- the code of a point: both indices modulo 2^17
 abbrev pub code_of : Point → CodeNumbers
-code_of point = record { lat = unsigned_abs (int_rem_euclid point.lat_index (pos codes_of_zone)); lon = point.lon_index % codes_of_zone }
+code_of point =
+    record { lat = unsigned_abs (int_rem_euclid point.lat_index (pos codes_of_zone)); lon = point.lon_index % codes_of_zone }
 
 -- the point has this code: each index and its number differ by a whole multiple of 2^17
 pub record HasCode (point : Point) (code : CodeNumbers) : Type 0 where

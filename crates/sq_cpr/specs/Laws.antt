@@ -18,7 +18,8 @@ RoundsToOne degrees repeats =
 -- a point's own position rounds to that point
 abbrev pub RoundsToItself : ℕ → ℕ → Type 0
 RoundsToItself degrees repeats =
-    (point : Point) → IsGridPoint degrees repeats point → RoundsTo degrees repeats (latitude degrees point) (longitude degrees point) point
+    (point : Point) → IsGridPoint degrees repeats point
+    → RoundsTo degrees repeats (latitude degrees point) (longitude degrees point) point
 
 -- a position lies in exactly one pair of zones of each parity's grid
 abbrev pub OnePairOfZones : ℕ → ℕ → Type 0

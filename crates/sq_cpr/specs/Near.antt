@@ -43,7 +43,8 @@ IsNearLongitude degrees repeats zones lon index =
 -- the same with both ends of the interval left out
 abbrev pub IsStrictlyNearLongitude : ℕ → ℕ → ℕ → Fraction → ℕ → Type 0
 IsStrictlyNearLongitude degrees repeats zones lon index =
-    OnSomeTurn (circle zones repeats) index (λ turned. IsStrictlyNear (half_zone degrees zones) lon (angle_at degrees zones turned))
+    OnSomeTurn (circle zones repeats) index
+    (λ turned. IsStrictlyNear (half_zone degrees zones) lon (angle_at degrees zones turned))
 
 -- the point is near the place: within half a zone in both coordinates, of the zones that the point itself has
 pub record IsNearPoint (degrees repeats : ℕ) (lat lon : Fraction) (point : Point) : Type 0 where

@@ -41,7 +41,8 @@ pub record IsPointOfPair (degrees repeats : ℕ) (even odd : CodeNumbers) (newes
   pub latitudes : AreLatitudes degrees even odd even_lat odd_lat
   pub in_range : AreInRange degrees even_lat odd_lat
   pub counts : HaveOneCount degrees even_lat odd_lat
-  pub longitudes : IsClosePair degrees (zones_of Even (count_at degrees Even even_lat)) (zones_of Odd (count_at degrees Even even_lat)) even.lon odd.lon even_lon odd_lon
+  pub longitudes : IsClosePair degrees (zones_of Even (count_at degrees Even even_lat))
+      (zones_of Odd (count_at degrees Even even_lat)) even.lon odd.lon even_lon odd_lon
   pub of_grid : IsGridPoint degrees repeats point
   pub parity : point.parity ≡ newest
   pub lat_index : point.lat_index ≡ of_parity newest even_lat odd_lat

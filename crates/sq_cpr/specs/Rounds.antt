@@ -10,4 +10,5 @@ use Rattle.sq_cpr.specs.Grid.{Point, IsGridPoint, step, circle, lat_zones}
 pub record RoundsTo (degrees repeats : ℕ) (lat lon : Fraction) (point : Point) : Type 0 where
   pub of_grid : IsGridPoint degrees repeats point
   pub north_south : IsNearest lat (step degrees (lat_zones point.parity)) point.lat_index
-  pub east_west : (index : ℤ) × IsNearest lon (step degrees point.zones) index × IsCongruent (circle point.zones repeats) index (pos point.lon_index)
+  pub east_west : (index : ℤ) × IsNearest lon (step degrees point.zones) index
+      × IsCongruent (circle point.zones repeats) index (pos point.lon_index)

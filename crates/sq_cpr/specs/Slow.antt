@@ -34,7 +34,8 @@ slow_limit degrees even_zones odd_zones = minus (closeness degrees even_zones od
 -- The true positions x and y, which round to a and to b, are slow: their latitudes, and where the points have one zone
 -- count of two or more, their longitudes.
 pub record AreSlow (degrees : ℕ) (a b : Point) (x y : Position) : Type 0 where
-  pub latitudes : DifferByLess (slow_limit degrees (lat_zones Even) (lat_zones Odd)) (degrees_of (lat_of x)) (degrees_of (lat_of y))
+  pub latitudes : DifferByLess (slow_limit degrees (lat_zones Even) (lat_zones Odd)) (degrees_of (lat_of x))
+      (degrees_of (lat_of y))
   pub longitudes : HaveOneCount degrees a.lat_index b.lat_index → 2 ≤ count_at degrees Even a.lat_index
       → DifferByLessAround (slow_limit degrees a.zones b.zones) (degrees_of (lon_of x)) (degrees_of (lon_of y))
 
@@ -46,8 +47,10 @@ following_limit degrees larger smaller = minus (half_zone degrees larger) (step 
 -- The true positions x and y, which round to a and to b, are slow for following. The latitudes are held against the even
 -- grid's zones and the odd grid's step, whatever the parities.
 pub record AreSlowForFollowing (degrees : ℕ) (a b : Point) (x y : Position) : Type 0 where
-  pub latitudes : DifferByLess (following_limit degrees (lat_zones Even) (lat_zones Odd)) (degrees_of (lat_of x)) (degrees_of (lat_of y))
-  pub longitudes : DifferByLessAround (following_limit degrees (max a.zones b.zones) (min a.zones b.zones)) (degrees_of (lon_of x)) (degrees_of (lon_of y))
+  pub latitudes : DifferByLess (following_limit degrees (lat_zones Even) (lat_zones Odd)) (degrees_of (lat_of x))
+      (degrees_of (lat_of y))
+  pub longitudes : DifferByLessAround (following_limit degrees (max a.zones b.zones) (min a.zones b.zones))
+      (degrees_of (lon_of x)) (degrees_of (lon_of y))
 
 -- the positions differ by less than so many degrees in both coordinates, the longitudes modulo 360
 pub record AreWithin (limit : ℕ) (x y : Position) : Type 0 where
@@ -57,4 +60,5 @@ pub record AreWithin (limit : ℕ) (x y : Position) : Type 0 where
 -- the point differs from the position by less than so many degrees in both coordinates, the longitudes modulo 360
 pub record IsPointWithin (limit degrees repeats : ℕ) (point : Point) (x : Position) : Type 0 where
   pub latitudes : DifferByLess (whole limit) (latitude degrees point) (degrees_of (lat_of x))
-  pub longitudes : OnSomeTurn (circle point.zones repeats) point.lon_index (λ turned. DifferByLess (whole limit) (angle_at degrees point.zones turned) (degrees_of (lon_of x)))
+  pub longitudes : OnSomeTurn (circle point.zones repeats) point.lon_index
+      (λ turned. DifferByLess (whole limit) (angle_at degrees point.zones turned) (degrees_of (lon_of x)))

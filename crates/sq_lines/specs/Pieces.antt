@@ -41,9 +41,11 @@ told_last held = if held.is_complete then [] else (if length held.line == 0 then
 -- what is reported of the lines, each when it is complete, and of the last one
 abbrev pub lines_told : Held → List Step → List Told
 lines_told held [] = told_last held
-lines_told held (step ∷ steps) = if step.after.is_complete then told_by step.after ∷ lines_told step.after steps else lines_told step.after steps
+lines_told held (step ∷ steps) =
+    if step.after.is_complete then told_by step.after ∷ lines_told step.after steps else lines_told step.after steps
 
 -- However an input is cut into pieces: what a cutter reports of its lines, from an empty one on, is in order what there is to
 -- report of the lines of the whole.
 abbrev pub GivesTheLines : Type 0
-GivesTheLines = (steps : List Step) → AreTakes empty_line steps → lines_told empty_line steps ≡ map told_of (lines_of (flat_map taken steps))
+GivesTheLines = (steps : List Step) → AreTakes empty_line steps → lines_told empty_line steps
+    ≡ map told_of (lines_of (flat_map taken steps))

@@ -13,27 +13,32 @@ abbrev pub but_last : List (List ℕ) → List (List ℕ)
 but_last lines = take (length lines - 1) lines
 
 -- the output for these lines was written up to some place in the last one's text, or the sink does not report
-abbrev pub WroteIntoLast : {Past Found : Type 0} → Answerer Past Found → Past → List (List ℕ) → Option (List ℕ) → Option (List ℕ) → Type 0
+abbrev pub WroteIntoLast : {Past Found : Type 0} → Answerer Past Found → Past → List (List ℕ) → Option (List ℕ)
+    → Option (List ℕ) → Type 0
 WroteIntoLast way past lines before after = (part : List ℕ) × IsPrefixOf (output_of way past (but_last lines)) part
     × IsPrefixOf part (output_of way past lines) × AppendsOrHides before after part
 
 -- from each past that the start stood for, the state stands for the past after these lines, and their output was written
-abbrev pub HasTold : {State Past Found : Type 0} → (State → Past → Type 0) → Answerer Past Found → (start now : State) → (before after : Option (List ℕ)) → List (List ℕ) → Type 0
+abbrev pub HasTold : {State Past Found : Type 0} → (State → Past → Type 0) → Answerer Past Found → (start now : State)
+    → (before after : Option (List ℕ)) → List (List ℕ) → Type 0
 HasTold {Past = Past} stands_for way start now before after lines = (past : Past) → stands_for start past
     → stands_for now (past_after way past lines) × Appends before after (output_of way past lines)
 
 -- the same, but that of the last line's text only a prefix was written
-abbrev pub HasToldPart : {State Past Found : Type 0} → (State → Past → Type 0) → Answerer Past Found → (start now : State) → (before after : Option (List ℕ)) → List (List ℕ) → Type 0
+abbrev pub HasToldPart : {State Past Found : Type 0} → (State → Past → Type 0) → Answerer Past Found
+    → (start now : State) → (before after : Option (List ℕ)) → List (List ℕ) → Type 0
 HasToldPart {Past = Past} stands_for way start now before after lines = (past : Past) → stands_for start past
     → stands_for now (past_after way past lines) × WroteIntoLast way past lines before after
 
 -- what was reported where an answer failed
-abbrev pub HasToldAt : {State Past Found : Type 0} → Unanswered → (State → Past → Type 0) → Answerer Past Found → (start now : State) → (before after : Option (List ℕ)) → List (List ℕ) → Type 0
+abbrev pub HasToldAt : {State Past Found : Type 0} → Unanswered → (State → Past → Type 0) → Answerer Past Found
+    → (start now : State) → (before after : Option (List ℕ)) → List (List ℕ) → Type 0
 HasToldAt Memory stands_for way start now before after lines = HasTold stands_for way start now before after lines
 HasToldAt Write stands_for way start now before after lines = HasToldPart stands_for way start now before after lines
 
 -- an answer failed at some of these lines
-abbrev pub StoppedIn : {State Past Found : Type 0} → Unanswered → (State → Past → Type 0) → Answerer Past Found → (start now : State) → (before after : Option (List ℕ)) → List (List ℕ) → Type 0
+abbrev pub StoppedIn : {State Past Found : Type 0} → Unanswered → (State → Past → Type 0) → Answerer Past Found
+    → (start now : State) → (before after : Option (List ℕ)) → List (List ℕ) → Type 0
 StoppedIn fault stands_for way start now before after complete =
     (lines : List (List ℕ)) × IsPrefixOf lines complete × HasToldAt fault stands_for way start now before after lines
 

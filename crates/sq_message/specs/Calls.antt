@@ -21,21 +21,25 @@ IsPlaceOfPair older newer site answer = IsPairPlace (squitter_parts older) (squi
 
 -- the frame is read as a squitter, and this is what that is decoded to near the reference
 abbrev pub IsReadingNear : Frame → Position → Result Place PlaceFault → Type 0
-IsReadingNear frame reference answer = (squitter : Squitter) × IsReading frame (Ok squitter) × IsLocalPlace (squitter_parts squitter).me reference answer
+IsReadingNear frame reference answer =
+    (squitter : Squitter) × IsReading frame (Ok squitter) × IsLocalPlace (squitter_parts squitter).me reference answer
 
 -- both frames are read as squitters, and this is what these are decoded to, the newest being the one of this parity
 abbrev pub IsReadingOfPair : Parity → (even odd : Frame) → Option Position → Result Place PlaceFault → Type 0
 IsReadingOfPair newest even odd site answer =
-    (p q : Squitter) × IsReading even (Ok p) × IsReading odd (Ok q) × IsPlaceOfPair (of_parity newest q p) (of_parity newest p q) site answer
+    (p q : Squitter) × IsReading even (Ok p) × IsReading odd (Ok q)
+    × IsPlaceOfPair (of_parity newest q p) (of_parity newest p q) site answer
 
 -- the squitter of the newer of two frames, with what is read of the older, is decoded to this place
 abbrev pub IsReadingOfNewer : Frame → Squitter → Option Position → Place → Type 0
-IsReadingOfNewer older newer site place = (earlier : Squitter) × IsReading older (Ok earlier) × IsPlaceOfPair earlier newer site (Ok place)
+IsReadingOfNewer older newer site place =
+    (earlier : Squitter) × IsReading older (Ok earlier) × IsPlaceOfPair earlier newer site (Ok place)
 
 -- no squitter that is read of the frame is decoded to a place near the reference
 abbrev pub HasNoPlaceNear : Frame → Position → Type 0
 HasNoPlaceNear frame reference =
-    (squitter : Squitter) (place : Place) → IsReading frame (Ok squitter) → ¬ IsLocalPlace (squitter_parts squitter).me reference (Ok place)
+    (squitter : Squitter) (place : Place) → IsReading frame (Ok squitter)
+    → ¬ IsLocalPlace (squitter_parts squitter).me reference (Ok place)
 
 -- no squitters that are read of the frames are decoded to a place
 abbrev pub HaveNoPlace : (older newer : Frame) → Option Position → Type 0
@@ -56,7 +60,8 @@ IsStrictlyNearInAir reference point = IsStrictlyNearPoint 360 1 (degrees (lat_of
 
 -- the same on the ground
 abbrev pub IsStrictlyNearOnGround : Position → Point → Type 0
-IsStrictlyNearOnGround reference point = IsStrictlyNearPoint 90 4 (degrees (lat_of reference)) (degrees (lon_of reference)) point
+IsStrictlyNearOnGround reference point =
+    IsStrictlyNearPoint 90 4 (degrees (lat_of reference)) (degrees (lon_of reference)) point
 
 -- what is sent of a place that a squitter is decoded to is that squitter
 abbrev pub DecodedIsSentAgain : Type 0

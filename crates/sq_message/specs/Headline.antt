@@ -38,7 +38,8 @@ abbrev pub IsReadAsPair : (older newer : Frame) → Option Position → Place �
 IsReadAsPair older newer site place =
     (earlier later : Result Squitter FrameFault) → IsReading older earlier → IsReading newer later
     → (first second : Squitter) × (earlier ≡ Ok first) × (later ≡ Ok second)
-    × ((answer : Result Place PlaceFault) → IsPairPlace (squitter_parts first) (squitter_parts second) site answer → answer ≡ Ok place)
+    × ((answer : Result Place PlaceFault) → IsPairPlace (squitter_parts first) (squitter_parts second) site answer
+        → answer ≡ Ok place)
 
 -- A frame that was sent in the air, read with a reference strictly within half a zone of the point in both coordinates, by
 -- the zones that the point itself has, gives that point.
@@ -61,7 +62,8 @@ NearReferenceOnGround =
 -- give the newest one's point, whatever the site.
 abbrev pub ClosePairInAir : Type 0
 ClosePairInAir =
-    (even_head odd_head : AirHeadParts) (even_position odd_position : Position) (a b : Point) (even odd : Frame) (newest : Parity) (site : Option Position)
+    (even_head odd_head : AirHeadParts) (even_position odd_position : Position) (a b : Point) (even odd : Frame)
+    (newest : Parity) (site : Option Position)
     → even_head.address ≡ odd_head.address
     → IsSentInAir even_head Even even_position a even → IsSentInAir odd_head Odd odd_position b odd
     → AreClosePoints 360 a b
@@ -70,7 +72,8 @@ ClosePairInAir =
 -- the same on the ground, where both points lie less than 45 degrees from the site in both coordinates
 abbrev pub ClosePairOnGround : Type 0
 ClosePairOnGround =
-    (even_head odd_head : GroundHeadParts) (even_position odd_position : Position) (a b : Point) (even odd : Frame) (newest : Parity) (site : Position)
+    (even_head odd_head : GroundHeadParts) (even_position odd_position : Position) (a b : Point) (even odd : Frame)
+    (newest : Parity) (site : Position)
     → even_head.address ≡ odd_head.address
     → IsSentOnGround even_head Even even_position a even → IsSentOnGround odd_head Odd odd_position b odd
     → AreClosePoints 90 a b → IsPointWithin 45 90 4 a site → IsPointWithin 45 90 4 b site
@@ -88,35 +91,43 @@ WrittenAgain =
 abbrev pub SentAgainInAir : Type 0
 SentAgainInAir =
     (squitter : Squitter) (airborne : Airborne) (point rounded : Point) (position : Position) (frame again : Frame)
-    → IsFrame frame → Spells frame squitter → (squitter_parts squitter).me ≡ kinds.Airborne airborne → IsDecoded (squitter_parts squitter) (Air point)
-    → IsPositionOf (Air point) position → IsSentInAir (air_head_of (squitter_parts squitter) airborne) airborne.parity position rounded again
+    → IsFrame frame → Spells frame squitter → (squitter_parts squitter).me ≡ kinds.Airborne airborne
+    → IsDecoded (squitter_parts squitter) (Air point)
+    → IsPositionOf (Air point) position
+    → IsSentInAir (air_head_of (squitter_parts squitter) airborne) airborne.parity position rounded again
     → again ≡ frame
 
 -- the same on the ground
 abbrev pub SentAgainOnGround : Type 0
 SentAgainOnGround =
     (squitter : Squitter) (surface : Surface) (point rounded : Point) (position : Position) (frame again : Frame)
-    → IsFrame frame → Spells frame squitter → (squitter_parts squitter).me ≡ kinds.Surface surface → IsDecoded (squitter_parts squitter) (Ground point)
-    → IsPositionOf (Ground point) position → IsSentOnGround (ground_head_of (squitter_parts squitter) surface) surface.parity position rounded again
+    → IsFrame frame → Spells frame squitter → (squitter_parts squitter).me ≡ kinds.Surface surface
+    → IsDecoded (squitter_parts squitter) (Ground point)
+    → IsPositionOf (Ground point) position
+    → IsSentOnGround (ground_head_of (squitter_parts squitter) surface) surface.parity position rounded again
     → again ≡ frame
 
 -- near a reference there is one answer
 abbrev pub OneLocalPlace : Type 0
 OneLocalPlace =
     (squitter : Squitter) (reference : Position) (answer other : Result Place PlaceFault)
-    → IsLocalPlace (squitter_parts squitter).me reference answer → IsLocalPlace (squitter_parts squitter).me reference other → answer ≡ other
+    → IsLocalPlace (squitter_parts squitter).me reference answer
+    → IsLocalPlace (squitter_parts squitter).me reference other → answer ≡ other
 
 -- of a pair there is one answer
 abbrev pub OnePairPlace : Type 0
 OnePairPlace =
     (older newer : Squitter) (site : Option Position) (answer other : Result Place PlaceFault)
-    → IsPairPlace (squitter_parts older) (squitter_parts newer) site answer → IsPairPlace (squitter_parts older) (squitter_parts newer) site other → answer ≡ other
+    → IsPairPlace (squitter_parts older) (squitter_parts newer) site answer
+    → IsPairPlace (squitter_parts older) (squitter_parts newer) site other → answer ≡ other
 
 -- near a reference there is an answer
 abbrev pub SomeLocalPlace : Type 0
-SomeLocalPlace = (squitter : Squitter) (reference : Position) → (answer : Result Place PlaceFault) × IsLocalPlace (squitter_parts squitter).me reference answer
+SomeLocalPlace = (squitter : Squitter) (reference : Position) → (answer : Result Place PlaceFault)
+    × IsLocalPlace (squitter_parts squitter).me reference answer
 
 -- of a pair there is an answer
 abbrev pub SomePairPlace : Type 0
 SomePairPlace =
-    (older newer : Squitter) (site : Option Position) → (answer : Result Place PlaceFault) × IsPairPlace (squitter_parts older) (squitter_parts newer) site answer
+    (older newer : Squitter) (site : Option Position) → (answer : Result Place PlaceFault)
+    × IsPairPlace (squitter_parts older) (squitter_parts newer) site answer

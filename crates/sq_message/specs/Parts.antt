@@ -15,7 +15,13 @@ pub record AirParts : Type 0 where
   pub time : Bool
 
 abbrev pub air_parts : AirFields → AirParts
-air_parts fields = record { type_code = fields.type_code; status = fields.status; flag = fields.flag; altitude = fields.altitude; time = fields.time }
+air_parts fields = record {
+  type_code = fields.type_code;
+  status = fields.status;
+  flag = fields.flag;
+  altitude = fields.altitude;
+  time = fields.time
+}
 
 -- what a surface position says besides where
 pub record GroundParts : Type 0 where
@@ -26,8 +32,13 @@ pub record GroundParts : Type 0 where
   pub time : Bool
 
 abbrev pub ground_parts : GroundFields → GroundParts
-ground_parts fields =
-    record { type_code = fields.type_code; movement = fields.movement; track_status = fields.track_status; track = fields.track; time = fields.time }
+ground_parts fields = record {
+  type_code = fields.type_code;
+  movement = fields.movement;
+  track_status = fields.track_status;
+  track = fields.track;
+  time = fields.time
+}
 
 -- the 56 bits of another message
 abbrev pub raw_of : Other → ℕ

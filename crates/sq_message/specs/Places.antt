@@ -87,7 +87,8 @@ place_of kind named (Err fault) = Err (named fault)
 -- what a message is decoded to near a reference: its code, by its span and parity
 abbrev pub IsLocalPlace : Me → Position → Result Place PlaceFault → Type 0
 IsLocalPlace (kinds.Airborne airborne) reference answer = (found : Result Point LocalFault)
-    × LocalAnswer 360 1 (numbers_of airborne.code) airborne.parity (degrees (lat_of reference)) (degrees (lon_of reference)) found
+    × LocalAnswer 360 1 (numbers_of airborne.code) airborne.parity (degrees (lat_of reference))
+    (degrees (lon_of reference)) found
     × (answer ≡ place_of Air of_local found)
 IsLocalPlace (kinds.Surface surface) reference answer = (found : Result Point LocalFault)
     × LocalAnswer 90 4 (numbers_of surface.code) surface.parity (degrees (lat_of reference)) (degrees (lon_of reference)) found
@@ -115,7 +116,9 @@ IsGroundPairPlace older newer None answer = answer ≡ Err NoSite
 IsGroundPairPlace older newer (Some site) answer =
     let even = even_of newer.parity (numbers_of older.code) (numbers_of newer.code) in
     let odd = odd_of newer.parity (numbers_of older.code) (numbers_of newer.code) in
-    (found : Result Point PairFault) × PairAnswer 90 4 even odd newer.parity (degrees (lat_of site)) (degrees (lon_of site)) found × (answer ≡ place_of Ground of_pair found)
+    (found : Result Point PairFault)
+    × PairAnswer 90 4 even odd newer.parity (degrees (lat_of site)) (degrees (lon_of site)) found
+    × (answer ≡ place_of Ground of_pair found)
 
 -- one parity is a fault; of two parities there is this answer
 abbrev pub NeedsTwoParities : (older newer : Parity) → Result Place PlaceFault → Type 0 → Type 0
@@ -123,8 +126,10 @@ NeedsTwoParities older newer answer Rest = (older ≡ newer → answer ≡ Err S
 
 -- two positions of one address
 abbrev pub IsKindredPlace : (older newer : Me) → Option Position → Result Place PlaceFault → Type 0
-IsKindredPlace (kinds.Airborne older) (kinds.Airborne newer) site answer = NeedsTwoParities older.parity newer.parity answer (IsAirPairPlace older newer answer)
-IsKindredPlace (kinds.Surface older) (kinds.Surface newer) site answer = NeedsTwoParities older.parity newer.parity answer (IsGroundPairPlace older newer site answer)
+IsKindredPlace (kinds.Airborne older) (kinds.Airborne newer) site answer =
+    NeedsTwoParities older.parity newer.parity answer (IsAirPairPlace older newer answer)
+IsKindredPlace (kinds.Surface older) (kinds.Surface newer) site answer =
+    NeedsTwoParities older.parity newer.parity answer (IsGroundPairPlace older newer site answer)
 IsKindredPlace (kinds.Airborne older) (kinds.Surface newer) site answer = answer ≡ Err OtherKind
 IsKindredPlace (kinds.Surface older) (kinds.Airborne newer) site answer = answer ≡ Err OtherKind
 IsKindredPlace (kinds.Airborne older) (kinds.Other newer) site answer = ⊥
@@ -135,7 +140,8 @@ IsKindredPlace (kinds.Other older) newer site answer = ⊥
 pub record IsPairPlace (older newer : SquitterParts) (site : Option Position) (answer : Result Place PlaceFault) : Type 0 where
   pub other : ¬ (IsPosition older.me × IsPosition newer.me) → answer ≡ Err NotPosition
   pub strangers : IsPosition older.me × IsPosition newer.me → older.address ≢ newer.address → answer ≡ Err OtherAddress
-  pub kindred : IsPosition older.me × IsPosition newer.me → older.address ≡ newer.address → IsKindredPlace older.me newer.me site answer
+  pub kindred : IsPosition older.me × IsPosition newer.me → older.address ≡ newer.address
+      → IsKindredPlace older.me newer.me site answer
 
 -- the place is one that the squitter is decoded to: near some reference, or as the newer of some pair
 abbrev pub IsDecoded : SquitterParts → Place → Type 0

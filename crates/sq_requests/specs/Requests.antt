@@ -50,7 +50,9 @@ abbrev pub asked_by : Request → Asked
 asked_by (variants.Show frame) = Show frame.now
 asked_by (variants.Encode e) = Encode (asked_encode e)
 asked_by (variants.Local frame lat lon) = Local frame.now lat.now lon.now
-asked_by (variants.Pair older newer lat lon) = Pair older.now newer.now (option_map (λ s. s.now) lat) (option_map (λ s. s.now) lon)
+asked_by (variants.Pair older newer lat lon) =
+    Pair older.now newer.now (option_map (λ s. s.now) lat) (option_map (λ s. s.now) lon)
 asked_by variants.Check = Check
 asked_by (variants.Track limit window lat lon) =
-    Track (option_map (λ s. s.now) limit) (option_map (λ s. s.now) window) (option_map (λ s. s.now) lat) (option_map (λ s. s.now) lon)
+    Track (option_map (λ s. s.now) limit) (option_map (λ s. s.now) window) (option_map (λ s. s.now) lat)
+    (option_map (λ s. s.now) lon)

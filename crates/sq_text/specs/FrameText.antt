@@ -40,7 +40,8 @@ abbrev pub IsTextFault : List ℕ → TextFault → Type 0
 IsTextFault text Wrap = IsHalfWrapped text
 IsTextFault text Short = (body : List ℕ) × IsBody text body × (length body ≡ 14)
 IsTextFault text (Length n) = (body : List ℕ) × IsBody text body × (length body ≡ n) × (n ≢ 14) × (n ≢ 28)
-IsTextFault text (Digit p) = (body : List ℕ) × IsBody text body × (length body ≡ 28) × ((k : ℕ) × (p ≡ k + 1) × IsFirstBadDigit body k)
+IsTextFault text (Digit p) =
+    (body : List ℕ) × IsBody text body × (length body ≡ 28) × ((k : ℕ) × (p ≡ k + 1) × IsFirstBadDigit body k)
 
 -- what `read_text` answers
 abbrev pub IsAnswer : List ℕ → Result Frame TextFault → Type 0

@@ -10,7 +10,8 @@ use Rattle.sq_angle.specs.Lowest.{IsLowestFormOf}
 
 -- a fraction in lowest terms, as `num/den`
 abbrev pub IsFractionText : Fraction → List ℕ → Type 0
-IsFractionText x text = (lowest : Fraction) × IsLowestFormOf x lowest × (text ≡ signed_decimal lowest.num ++ codes "/" ++ decimal lowest.den)
+IsFractionText x text = (lowest : Fraction) × IsLowestFormOf x lowest
+    × (text ≡ signed_decimal lowest.num ++ codes "/" ++ decimal lowest.den)
 
 -- two texts with a space between and a line feed at the end
 abbrev pub pair_line : List ℕ → List ℕ → List ℕ

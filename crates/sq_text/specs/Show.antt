@@ -35,26 +35,30 @@ altitude_line (Raw field) = codes "altitude raw " ++ hexadecimal 3 field ++ code
 
 -- the parity and the code of a position
 abbrev pub place_lines : Parity → CodeNumbers → List ℕ
-place_lines parity code = line (codes "parity") (parity_name parity) ++ number_line (codes "lat") code.lat ++ number_line (codes "lon") code.lon
+place_lines parity code = line (codes "parity") (parity_name parity) ++ number_line (codes "lat") code.lat
+    ++ number_line (codes "lon") code.lon
 
 -- an airborne position of this altitude
 abbrev pub airborne_lines : Airborne → Altitude → List ℕ
 airborne_lines airborne altitude =
     let fields = air_parts airborne.fields in
-    number_line (codes "type") fields.type_code ++ line (codes "kind") (codes "air") ++ number_line (codes "status") fields.status
+    number_line (codes "type") fields.type_code ++ line (codes "kind") (codes "air")
+    ++ number_line (codes "status") fields.status
     ++ number_line (codes "flag") (bit fields.flag) ++ altitude_line altitude ++ number_line (codes "time") (bit fields.time)
     ++ place_lines airborne.parity (numbers_of airborne.code)
 
 abbrev pub surface_lines : Surface → List ℕ
 surface_lines surface =
     let fields = ground_parts surface.fields in
-    number_line (codes "type") fields.type_code ++ line (codes "kind") (codes "ground") ++ number_line (codes "movement") fields.movement
+    number_line (codes "type") fields.type_code ++ line (codes "kind") (codes "ground")
+    ++ number_line (codes "movement") fields.movement
     ++ number_line (codes "track status") (bit fields.track_status) ++ number_line (codes "track") fields.track
     ++ number_line (codes "time") (bit fields.time) ++ place_lines surface.parity (numbers_of surface.code)
 
 abbrev pub other_lines : Other → List ℕ
 other_lines other =
-    number_line (codes "type") (raw_of other / 2 ^ 51) ++ line (codes "kind") (codes "other") ++ line (codes "me") (hexadecimal 14 (raw_of other))
+    number_line (codes "type") (raw_of other / 2 ^ 51) ++ line (codes "kind") (codes "other")
+    ++ line (codes "me") (hexadecimal 14 (raw_of other))
 
 -- the text is that of the airborne position with the altitude that its field means
 abbrev pub IsShownAirborne : Airborne → List ℕ → Type 0

@@ -18,4 +18,5 @@ IsUnread status e = TookNothing e.input × IsOutOfMemory status e.outputs
 
 -- the words ask for a command, which is run; or they are refused; or there is no memory to read them
 abbrev pub IsProgramRun : List Text → Status → Effects → Type 0
-IsProgramRun words status e = ((asked : Asked) × Asks words asked × IsRun asked status e) ⊎ IsRefusal words status e ⊎ IsUnread status e
+IsProgramRun words status e =
+    ((asked : Asked) × Asks words asked × IsRun asked status e) ⊎ IsRefusal words status e ⊎ IsUnread status e

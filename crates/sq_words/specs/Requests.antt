@@ -12,10 +12,12 @@ HasValues rows (Encode e) = (first_of (codes "kind") rows ≡ Some e.kind) × (f
     × (first_of (codes "lat") rows ≡ Some e.lat) × (first_of (codes "lon") rows ≡ Some e.lon)
 HasValues rows (Local frame lat lon) = (first_of (codes "FRAME") rows ≡ Some frame)
     × (first_of (codes "lat") rows ≡ Some lat) × (first_of (codes "lon") rows ≡ Some lon)
-HasValues rows (Pair older newer lat lon) = (first_of (codes "OLDER") rows ≡ Some older) × (first_of (codes "NEWER") rows ≡ Some newer)
+HasValues rows (Pair older newer lat lon) =
+    (first_of (codes "OLDER") rows ≡ Some older) × (first_of (codes "NEWER") rows ≡ Some newer)
     × (first_of (codes "lat") rows ≡ lat) × (first_of (codes "lon") rows ≡ lon)
 HasValues rows Check = ⊤
-HasValues rows (Track limit window lat lon) = (first_of (codes "limit") rows ≡ limit) × (first_of (codes "window") rows ≡ window)
+HasValues rows (Track limit window lat lon) =
+    (first_of (codes "limit") rows ≡ limit) × (first_of (codes "window") rows ≡ window)
     × (first_of (codes "lat") rows ≡ lat) × (first_of (codes "lon") rows ≡ lon)
 
 -- the command of this name, with these values, is what was asked
