@@ -49,7 +49,7 @@ abbrev pub IsFaultOfPair : (older newer : List ℕ) → Option Position → Faul
 IsFaultOfPair older newer site fault =
     ((e : LineFault) × IsSquitterReading older (Err e) × (fault ≡ OfText e))
     ⊎ ((first : Squitter) × (e : LineFault) × IsSquitterReading older (Ok first) × IsSquitterReading newer (Err e)
-        × (fault ≡ OfText e))
+    × (fault ≡ OfText e))
     ⊎ ((first second : Squitter) × (e : PlaceFault) × IsSquitterReading older (Ok first) × IsSquitterReading newer (Ok second)
     × IsPairPlace (squitter_parts first) (squitter_parts second) site (Err e) × (fault ≡ OfPlace e))
 

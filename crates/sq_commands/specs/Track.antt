@@ -92,4 +92,4 @@ abbrev pub IsTrackRun : (limit window lat lon : Option (List ℕ)) → Status �
 IsTrackRun limit window lat lon status e =
     ((options : TrackOptions) × IsTrackOptions limit window lat lon options × IsLogRun options status e)
     ⊎ (TookNothing e.input
-        × ((fault : ArgumentFault) × IsTrackFault limit window lat lon fault × IsMisuse fault status e.outputs))
+    × ((fault : ArgumentFault) × IsTrackFault limit window lat lon fault × IsMisuse fault status e.outputs))

@@ -90,7 +90,7 @@ abbrev pub past_with : (past : Tracking) (timed : TimedSquitter) (reply : Result
 past_with past timed (Ok heard) is =
     record past {
       history = record { moment = timed.moment; squitter = timed.squitter; heard = heard } ∷ past.history;
-      accepted = (is, past.accepted)
+      accepted = (is, past.accepted);
     }
 past_with past timed (Err fault) is = past
 

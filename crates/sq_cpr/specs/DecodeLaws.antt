@@ -39,7 +39,7 @@ abbrev pub OneNearLongitude : ℕ → ℕ → Type 0
 OneNearLongitude degrees repeats =
     (zones : ℕ) (lon : Fraction) (code : ℕ) → 0 < zones → 0 < lon.den
     → ExactlyOne (λ (index : ℕ). (index < circle zones repeats) × IsCongruent codes_of_zone (pos index) (pos code)
-        × IsNearLongitude degrees repeats zones lon index)
+    × IsNearLongitude degrees repeats zones lon index)
 
 -- decoding near a reference has one answer
 abbrev pub OneLocalAnswer : ℕ → ℕ → Type 0
@@ -88,7 +88,7 @@ pub record IndexPair : Type 0 where
 abbrev pub HaveOneClosePair : ℕ → ℕ → ℕ → Type 0
 HaveOneClosePair degrees n m =
     (even odd : ℕ) → ExactlyOne (λ (pair : IndexPair). (pair.even < n * codes_of_zone) × (pair.odd < m * codes_of_zone)
-        × IsClosePair degrees n m even odd (pos pair.even) (pos pair.odd))
+    × IsClosePair degrees n m even odd (pos pair.even) (pos pair.odd))
 
 abbrev pub OneCloseLatitudes : ℕ → Type 0
 OneCloseLatitudes degrees = HaveOneClosePair degrees (lat_zones Even) (lat_zones Odd)

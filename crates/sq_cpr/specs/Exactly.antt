@@ -84,14 +84,14 @@ abbrev pub WithinExactly : Type 0
 WithinExactly =
     (limit : ℕ) (x y : Position) → AreWithin limit x y
     ↔ (DifferByLess (whole limit) (degrees_of (lat_of x)) (degrees_of (lat_of y))
-        × DifferByLessAround (whole limit) (degrees_of (lon_of x)) (degrees_of (lon_of y)))
+    × DifferByLessAround (whole limit) (degrees_of (lon_of x)) (degrees_of (lon_of y)))
 
 -- a point lies within so many degrees of a position exactly where its latitude and its longitude do
 abbrev pub PointWithinExactly : ℕ → ℕ → Type 0
 PointWithinExactly degrees repeats =
     (limit : ℕ) (point : Point) (x : Position) → IsPointWithin limit degrees repeats point x
     ↔ (DifferByLess (whole limit) (latitude degrees point) (degrees_of (lat_of x))
-        × DifferByLessAround (whole limit) (longitude degrees point) (degrees_of (lon_of x)))
+    × DifferByLessAround (whole limit) (longitude degrees point) (degrees_of (lon_of x)))
 
 -- tame points with one zone count are close, and close points are tame and have one
 abbrev pub CloseExactly : ℕ → Type 0

@@ -39,7 +39,7 @@ IsReadAsPair older newer site place =
     (earlier later : Result Squitter FrameFault) → IsReading older earlier → IsReading newer later
     → (first second : Squitter) × (earlier ≡ Ok first) × (later ≡ Ok second)
     × ((answer : Result Place PlaceFault) → IsPairPlace (squitter_parts first) (squitter_parts second) site answer
-        → answer ≡ Ok place)
+    → answer ≡ Ok place)
 
 -- A frame that was sent in the air, read with a reference strictly within half a zone of the point in both coordinates, by
 -- the zones that the point itself has, gives that point.

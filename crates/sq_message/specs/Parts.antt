@@ -20,7 +20,7 @@ air_parts fields = record {
   status = fields.status;
   flag = fields.flag;
   altitude = fields.altitude;
-  time = fields.time
+  time = fields.time;
 }
 
 -- what a surface position says besides where
@@ -37,7 +37,7 @@ ground_parts fields = record {
   movement = fields.movement;
   track_status = fields.track_status;
   track = fields.track;
-  time = fields.time
+  time = fields.time;
 }
 
 -- the 56 bits of another message
