@@ -1,5 +1,5 @@
-//! The codes of positions exactly on each border of zone counts, from 10.47047130 degrees to 87, north and south in turn: the
-//! newest point, or the two zone counts where one parity rounds to either side.
+//! The codes of positions exactly on each border of zone counts, from 10.47047130 degrees to 87, north and south in
+//! turn: the newest point, or the two zone counts where one parity rounds to either side.
 use crate::rows::assert_in_air;
 
 const PAIRS_AT_EACH_BORDER: &str = "\

@@ -1,7 +1,8 @@
 //! Worked zone counts, at and beside each limit, and the lanes against a plain loop.
 use sq_zones::{Angle, Parity, lon_zones, zone_count};
 
-// The 58 limits in units of 10^-8 degree, each with the zone count up to and including it, apart from the table of the code.
+// The 58 limits in units of 10^-8 degree, each with the zone count up to and including it, apart from the table of the
+// code.
 const LIMITS: &str = "\
 1047047130 59
 1482817437 58

@@ -1,5 +1,5 @@
-//! The command `check` over inputs in pieces, and over devices that fail: the clauses `whole`, `unread` and `unwritten` of
-//! `run_lines`, and `IsCheckRun` at status 3.
+//! The command `check` over inputs in pieces, and over devices that fail: the clauses `whole`, `unread` and `unwritten`
+//! of `run_lines`, and `IsCheckRun` at status 3.
 use crate::faulty_devices::{End, lines_in, pieces_of, room_of};
 use crate::outcomes::outcome_on;
 use sq_commands::{Status, answer, run_check};

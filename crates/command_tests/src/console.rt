@@ -1,5 +1,5 @@
-//! The devices over readers and writers that keep a log: the clauses of `Source` and `Sink`, and what none says, that the
-//! output is flushed before input is awaited. The words over a made-up command line.
+//! The devices over readers and writers that keep a log: the clauses of `Source` and `Sink`, and what none says, that
+//! the output is flushed before input is awaited. The words over a made-up command line.
 use sq_console::{PromptInput, PromptOutput, SharedOutput, Trouble, arguments};
 use sq_devices::{Failed, Sink, Source, Writing};
 use std::cell::RefCell;
@@ -209,7 +209,8 @@ fn reads_a_long_command_line(rt: HostRuntime) -> Result<(), Fail> {
     Ok(())
 }
 
-/// Fails at its first read or write and then works, and notes each read as `<`, a failed write as `!` and a flush as `|`.
+/// Fails at its first read or write and then works, and notes each read as `<`, a failed write as `!` and a flush as
+/// `|`.
 #[derive(Drop)]
 struct Once<'a> {
     log: &'a Log,

@@ -1,5 +1,5 @@
-//! Devices over memory, and over readers and writers that fail: the clauses of `Source` and `Sink`, `part` of `put_all` and
-//! `put_last`, and what none says, that a sink is finished once and nothing is tried again.
+//! Devices over memory, and over readers and writers that fail: the clauses of `Source` and `Sink`, `part` of `put_all`
+//! and `put_last`, and what none says, that a sink is finished once and nothing is tried again.
 use sq_devices::{Failed, Reading, Sink, Source, Writing, put_all, put_last};
 use std::io;
 use std::io::{ErrorKind, Read, Write};
@@ -61,7 +61,8 @@ impl Write for Narrow {
     }
 }
 
-/// Fails at its first read, its first write and its first flush, and then works. It counts the calls, and keeps what it takes.
+/// Fails at its first read, its first write and its first flush, and then works. It counts the calls, and keeps what it
+/// takes.
 #[derive(Drop)]
 struct Once {
     text: &'static [u8],

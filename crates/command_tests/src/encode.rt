@@ -84,7 +84,8 @@ fn encodes_altitudes(rt: HostRuntime) {
     assert_altitude(&rt, rt.alloc(), "50175", b"8D40621D58FFF000010000");
 }
 
-// Kind, parity, address, feet, latitude and longitude, each row with each fault after it too, and the line that is reported.
+// Kind, parity, address, feet, latitude and longitude, each row with each fault after it too, and the line that is
+// reported.
 const ARGUMENT_FAULTS: &str = "\
 sea up 40621 38010 x 180.1 -> bad kind
 air up 40621 38010 x 180.1 -> bad parity

@@ -1,4 +1,5 @@
-//! The command `track`: `IsTrackRun`, and with devices that fail the clauses `whole`, `unread` and `unwritten` of `run_lines`.
+//! The command `track`: `IsTrackRun`, and with devices that fail the clauses `whole`, `unread` and `unwritten` of
+//! `run_lines`.
 use crate::faulty_devices::{End, lines_in, pieces_of, room_of};
 use crate::outcomes::{assert_reported, outcome_on};
 use sq_commands::{Status, run_track};

@@ -1,212 +1,88 @@
 //! Command lines read and refused.
-use sq_requests::Request;
 use sq_words::{Refusal, read_request};
-use std::alloc::Global;
+use std::alloc::{AllocError, Global};
 
-const FRAME: &str = "8D40621D58C382D690C8AC2863A7";
-
-const OTHER: &str = "8D40621D58C386435CC412692AD6";
-
-#[test]
-fn reads_show_and_check(rt: HostRuntime) {
-    let shown = read_request(rt.alloc(), &["squitter", "show", FRAME]);
-    assert!(rt; matches!(shown, Ok(Request::Show { frame: FRAME })));
-    let checked = read_request(rt.alloc(), &["squitter", "check"]);
-    assert!(rt; matches!(checked, Ok(Request::Check)));
+// The words of a command line.
+fn words_of<'a>(alloc: Global, line: &'a str) -> Result<Vec<&'a str>, AllocError> {
+    let mut words = Vec::new(alloc);
+    for word in line.split_whitespace() {
+        words.push(word)?;
+    }
+    Ok(words)
 }
 
-#[test]
-fn reads_encode(rt: HostRuntime) {
-    let words = [
-        "squitter",
-        "encode",
-        "--kind",
-        "air",
-        "--parity=even",
-        "--address",
-        "40621D",
-        "--feet",
-        "38000",
-        "--lat=-33.9",
-        "--lon",
-        "18.5",
-    ];
-    let Ok(Request::Encode(read)) = read_request(rt.alloc(), &words) else {
-        panic!(rt; "not read");
-    };
-    assert_eq!(rt;
-        (read.kind, read.parity, read.address),
-        ("air", "even", "40621D")
-    );
-    assert_eq!(rt;
-        (read.feet, read.lat, read.lon),
-        (Some("38000"), "-33.9", "18.5")
-    );
-}
-
-#[test]
-fn reads_encode_with_no_feet(rt: HostRuntime) {
-    let words = [
-        "squitter",
-        "encode",
-        "--lon",
-        "4.7",
-        "--lat",
-        "52.3",
-        "--address",
-        "484175",
-        "--parity",
-        "odd",
-        "--kind",
-        "ground",
-    ];
-    let Ok(Request::Encode(read)) = read_request(rt.alloc(), &words) else {
-        panic!(rt; "not read");
-    };
-    assert_eq!(rt;
-        (read.kind, read.parity, read.address),
-        ("ground", "odd", "484175")
-    );
-    assert_eq!(rt; (read.feet, read.lat, read.lon), (None, "52.3", "4.7"));
-}
-
-#[test]
-fn reads_local(rt: HostRuntime) {
-    let words = ["squitter", "local", "--lat=-33.9", FRAME, "--lon", "18.5"];
-    let Ok(Request::Local { frame, lat, lon }) = read_request(rt.alloc(), &words) else {
-        panic!(rt; "not read");
-    };
-    assert_eq!(rt; (frame, lat, lon), (FRAME, "-33.9", "18.5"));
-}
-
-#[test]
-fn reads_pair(rt: HostRuntime) {
-    let words = [
-        "squitter", "pair", FRAME, OTHER, "--lat", "51.990", "--lon", "4.375",
-    ];
-    let Ok(
-        Request::Pair {
-            older,
-            newer,
-            lat,
-            lon,
-        },
-    ) = read_request(rt.alloc(), &words)
-    else {
-        panic!(rt; "not read");
-    };
-    assert_eq!(rt; (older, newer), (FRAME, OTHER));
-    assert_eq!(rt; (lat, lon), (Some("51.990"), Some("4.375")));
-}
-
-#[test]
-fn reads_pair_with_a_part_of_the_site(rt: HostRuntime) {
-    let words = ["squitter", "pair", FRAME, OTHER, "--lon", "4.375"];
-    let Ok(
-        Request::Pair {
-            older,
-            newer,
-            lat,
-            lon,
-        },
-    ) = read_request(rt.alloc(), &words)
-    else {
-        panic!(rt; "not read");
-    };
-    assert_eq!(rt; (older, newer), (FRAME, OTHER));
-    assert_eq!(rt; (lat, lon), (None, Some("4.375")));
-}
-
-#[test]
-fn reads_track(rt: HostRuntime) {
-    let words = [
-        "squitter", "track", "--window", "5000", "--lat", "52", "--limit", "7", "--lon=4",
-    ];
-    let Ok(
-        Request::Track {
-            limit,
-            window,
-            lat,
-            lon,
-        },
-    ) = read_request(rt.alloc(), &words)
-    else {
-        panic!(rt; "not read");
-    };
-    assert_eq!(rt; (limit, window), (Some("7"), Some("5000")));
-    assert_eq!(rt; (lat, lon), (Some("52"), Some("4")));
-}
-
-#[test]
-fn reads_track_with_no_option(rt: HostRuntime) {
-    let Ok(
-        Request::Track {
-            limit,
-            window,
-            lat,
-            lon,
-        },
-    ) = read_request(rt.alloc(), &["squitter", "track"])
-    else {
-        panic!(rt; "not read");
-    };
-    assert_eq!(rt; (limit, window), (None, None));
-    assert_eq!(rt; (lat, lon), (None, None));
-}
-
-/// Whether the words are refused, with a text of whole lines.
-fn is_refused(alloc: Global, words: &[&str]) -> bool {
-    match read_request(alloc, words) {
-        Err(Refusal::Words(text)) => text.as_str().ends_with("\n"),
-        _ => false,
+// What a command line asks for, or how it is refused.
+fn asked(alloc: Global, line: &str) -> Result<String, AllocError> {
+    let words = words_of(alloc, line)?;
+    match read_request(alloc, words.as_slice()) {
+        Ok(request) => format!(in alloc; "{request:?}"),
+        Err(Refusal::Words(text)) if text.as_str().ends_with("\n") => format!(in alloc; "refused"),
+        Err(_) => format!(in alloc; "refused with no line"),
     }
 }
 
 #[test]
-fn refuses_what_is_no_command_line(rt: HostRuntime) {
-    let alloc = rt.alloc();
-    assert!(rt; is_refused(alloc, &["squitter"]), "no command");
-    assert!(rt;
-        is_refused(alloc, &["squitter", "fly"]),
-        "an unknown command"
-    );
-    assert!(rt; is_refused(alloc, &["squitter", "--help"]), "the help");
-    assert!(rt;
-        is_refused(alloc, &["squitter", "help"]),
-        "the help by its command"
-    );
-    assert!(rt; is_refused(alloc, &["squitter", "show"]), "no frame");
-    assert!(rt;
-        is_refused(alloc, &["squitter", "show", FRAME, OTHER]),
-        "a frame too many"
-    );
-    assert!(rt;
-        is_refused(alloc, &["squitter", "pair", FRAME]),
-        "no newer frame"
-    );
-    assert!(rt;
-        is_refused(alloc, &["squitter", "check", "--limit", "7"]),
-        "an option of another"
-    );
+fn reads_each_command(rt: HostRuntime) -> Result<(), AllocError> {
+    let rows = [
+        ("squitter show 8D40", r#"Show { frame: "8D40" }"#),
+        ("squitter check", "Check"),
+        (
+            "squitter encode --kind air --parity=even --address 40621D --feet 38000 --lat=-33.9 --lon 18.5",
+            r#"Encode(EncodeWords { kind: "air", parity: "even", address: "40621D", feet: Some("38000"), lat: "-33.9", lon: "18.5" })"#,
+        ),
+        (
+            "squitter encode --lon 4.7 --lat 52.3 --address 484175 --parity odd --kind ground",
+            r#"Encode(EncodeWords { kind: "ground", parity: "odd", address: "484175", feet: None, lat: "52.3", lon: "4.7" })"#,
+        ),
+        (
+            "squitter local --lat=-33.9 8D40 --lon 18.5",
+            r#"Local { frame: "8D40", lat: "-33.9", lon: "18.5" }"#,
+        ),
+        (
+            "squitter pair 8D40 8D41 --lat 51.990 --lon 4.375",
+            r#"Pair { older: "8D40", newer: "8D41", lat: Some("51.990"), lon: Some("4.375") }"#,
+        ),
+        (
+            "squitter pair 8D40 8D41 --lon 4.375",
+            r#"Pair { older: "8D40", newer: "8D41", lat: None, lon: Some("4.375") }"#,
+        ),
+        (
+            "squitter track --window 5000 --lat 52 --limit 7 --lon=4",
+            r#"Track { limit: Some("7"), window: Some("5000"), lat: Some("52"), lon: Some("4") }"#,
+        ),
+        (
+            "squitter track",
+            "Track { limit: None, window: None, lat: None, lon: None }",
+        ),
+    ];
+    for (line, request) in rows {
+        assert!(rt; asked(rt.alloc(), line)?.as_str() == request, "{line}");
+    }
+    Ok(())
 }
 
+// No command, an unknown one, and help; words too few and too many; an option of another command, with no value, twice, in
+// part of its name, and with a minus but no equals sign.
+const REFUSED: &str = "\
+squitter
+squitter fly
+squitter --help
+squitter help
+squitter show
+squitter show 8D40 8D41
+squitter pair 8D40
+squitter check --limit 7
+squitter local 8D40 --lat 33.9
+squitter track --limit
+squitter local 8D40 --lat=1 --lon=2 --lat=1
+squitter track --lim=7
+squitter local 8D40 --lat -33.9 --lon 18.5";
+
 #[test]
-fn refuses_options_that_are_not_as_they_should(rt: HostRuntime) {
-    let alloc = rt.alloc();
-    let local = [
-        "squitter", "local", FRAME, "--lat", "-33.9", "--lon", "18.5",
-    ];
-    assert!(rt; is_refused(alloc, &local), "a minus with no equals sign");
-    let local = ["squitter", "local", FRAME, "--lat", "33.9"];
-    assert!(rt; is_refused(alloc, &local), "no longitude");
-    let local = ["squitter", "local", FRAME, "--lat=1", "--lon=2", "--lat=1"];
-    assert!(rt; is_refused(alloc, &local), "a repeated option");
-    assert!(rt;
-        is_refused(alloc, &["squitter", "track", "--limit"]),
-        "no value"
-    );
-    assert!(rt;
-        is_refused(alloc, &["squitter", "track", "--lim=7"]),
-        "a part of a name"
-    );
+fn refuses_what_is_no_command_line(rt: HostRuntime) -> Result<(), AllocError> {
+    assert_eq!(rt; REFUSED.lines().count(), 13);
+    for line in REFUSED.lines() {
+        assert!(rt; asked(rt.alloc(), line)?.as_str() == "refused", "{line}");
+    }
+    Ok(())
 }

@@ -18,7 +18,8 @@ use Rattle.example_place.specs.Places.{IsPlaceOfText, IsTrueInAir, IsTrueOnGroun
 
 -- a text has one reading
 abbrev pub OneReading : Type 0
-OneReading = (text : List ℕ) (r s : Result Squitter LineFault) → IsSquitterReading text r → IsSquitterReading text s → r ≡ s
+OneReading = (text : List ℕ) (r s : Result Squitter LineFault) → IsSquitterReading text r → IsSquitterReading text s
+    → r ≡ s
 
 -- both are readings, and both are answers
 abbrev Same : (r s : Result Squitter LineFault) → Type 0
@@ -43,26 +44,36 @@ no_place : (a : PlaceFault) (b : Place) → SamePlace (Err a) (Ok b) → ⊥
 no_place a b is = cc
 
 -- the text of a frame that is read near the reference as a place is decoded to this place
-pub place_of_read : OneReading → (text : List ℕ) (reference : Position) (frame : Frame) (squitter : Squitter) (place : Place) (answer : Result Place Fault)
-    → IsFrameText text frame → Spells frame squitter → IsReadNear frame reference place → IsPlaceOfText text reference answer → answer ≡ Ok place
+pub place_of_read : OneReading
+    → (text : List ℕ) (reference : Position) (frame : Frame) (squitter : Squitter) (place : Place)
+    (answer : Result Place Fault)
+    → IsFrameText text frame → Spells frame squitter → IsReadNear frame reference place
+    → IsPlaceOfText text reference answer → answer ≡ Ok place
 place_of_read one text reference frame squitter place (Ok found) of_text spelled near h =
     let r = near (Ok squitter) spelled in
-    let same = same_squitter h.0 squitter (one text (Ok h.0) (Ok squitter) h.1 (frame, of_text, spelled)) ∙ same_squitter squitter r.0 r.1 in
-    same_answer found place (r.2 (Ok found) (subst (λ q. IsLocalPlace (squitter_parts q).me reference (Ok found)) same h.2))
+    let same = same_squitter h.0 squitter (one text (Ok h.0) (Ok squitter) h.1 (frame, of_text, spelled))
+    ∙ same_squitter squitter r.0 r.1 in
+    same_answer found place (r.2 (Ok found)
+    (subst (λ q. IsLocalPlace (squitter_parts q).me reference (Ok found)) same h.2))
 place_of_read one text reference frame squitter place (Err fault) of_text spelled near h = elim h [
   | inl a ↦ absurd (no_reading a.0 squitter (one text (Err a.0) (Ok squitter) a.1 (frame, of_text, spelled)))
   | inr b ↦
       let r = near (Ok squitter) spelled in
-      let same = same_squitter b.0 squitter (one text (Ok b.0) (Ok squitter) b.2 (frame, of_text, spelled)) ∙ same_squitter squitter r.0 r.1 in
-      absurd (no_place b.1 place (r.2 (Err b.1) (subst (λ q. IsLocalPlace (squitter_parts q).me reference (Err b.1)) same b.3)))
+      let same = same_squitter b.0 squitter (one text (Ok b.0) (Ok squitter) b.2 (frame, of_text, spelled))
+      ∙ same_squitter squitter r.0 r.1 in
+      absurd (no_place b.1 place (r.2 (Err b.1)
+      (subst (λ q. IsLocalPlace (squitter_parts q).me reference (Err b.1)) same b.3)))
 ]
 
 pub true_in_air : NearReferenceInAir → OneReading → (text : List ℕ) (reference : Position) (answer : Result Place Fault)
     → IsPlaceOfText text reference answer → IsTrueInAir text reference answer
 true_in_air near one text reference answer h head parity position point frame of_text sent close =
-    place_of_read one text reference frame sent.squitter _ answer of_text sent.spelled (near head parity position reference point frame sent close) h
+    place_of_read one text reference frame sent.squitter _ answer of_text sent.spelled
+    (near head parity position reference point frame sent close) h
 
-pub true_on_ground : NearReferenceOnGround → OneReading → (text : List ℕ) (reference : Position) (answer : Result Place Fault)
+pub true_on_ground : NearReferenceOnGround → OneReading
+    → (text : List ℕ) (reference : Position) (answer : Result Place Fault)
     → IsPlaceOfText text reference answer → IsTrueOnGround text reference answer
 true_on_ground near one text reference answer h head parity position point frame of_text sent close =
-    place_of_read one text reference frame sent.squitter _ answer of_text sent.spelled (near head parity position reference point frame sent close) h
+    place_of_read one text reference frame sent.squitter _ answer of_text sent.spelled
+    (near head parity position reference point frame sent close) h

@@ -50,14 +50,17 @@ IsFaultOfPair older newer site fault =
     ((e : LineFault) × IsSquitterReading older (Err e) × (fault ≡ OfText e))
     ⊎ ((first : Squitter) × (e : LineFault) × IsSquitterReading older (Ok first) × IsSquitterReading newer (Err e)
     × (fault ≡ OfText e))
-    ⊎ ((first second : Squitter) × (e : PlaceFault) × IsSquitterReading older (Ok first) × IsSquitterReading newer (Ok second)
+    ⊎ ((first second : Squitter) × (e : PlaceFault) × IsSquitterReading older (Ok first)
+    × IsSquitterReading newer (Ok second)
     × IsPairPlace (squitter_parts first) (squitter_parts second) site (Err e) × (fault ≡ OfPlace e))
 
 -- what two texts are decoded to
 abbrev pub IsPairOfTexts : (older newer : List ℕ) → Option Position → Result Place Fault → Type 0
-IsPairOfTexts older newer site answer = MatchResult answer (IsPlaceOfPair older newer site) (IsFaultOfPair older newer site)
+IsPairOfTexts older newer site answer =
+    MatchResult answer (IsPlaceOfPair older newer site) (IsFaultOfPair older newer site)
 
--- the text of a frame that was sent in the air of a position gives the point to which that rounds, if the reference is near it
+-- the text of a frame that was sent in the air of a position gives the point to which that rounds, if the reference is
+-- near it
 abbrev pub IsTrueInAir : List ℕ → Position → Result Place Fault → Type 0
 IsTrueInAir text reference answer =
     (head : AirHeadParts) (parity : Parity) (position : Position) (point : Point) (frame : Frame)

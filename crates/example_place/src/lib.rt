@@ -1,11 +1,11 @@
 //! The library as a program of your own calls it: from the text of a frame to the place of the aircraft.
 //!
-//! [`place_near`] reads a text as a receiver prints it and decodes the place near a reference, and [`place_of_texts`] that of
-//! the newer of two texts. Their contracts are those of the calls below, put together, and [`place_near`] adds what a user
-//! wants of them: the text of a frame that was sent of a position near the reference gives that very point.
+//! [`place_near`] reads a text as a receiver prints it and decodes the place near a reference, and [`place_of_texts`]
+//! that of the newer of two texts. Their contracts are those of the calls below, put together, and [`place_near`] adds
+//! what a user wants of them: the text of a frame that was sent of a position near the reference gives that very point.
 #![tactic(auto)]
 
-ghost use Rattle.std.specs.Prelude.{option_map};
+ghost use Rattle.std.specs.Prelude.{option_copied};
 ghost use Rattle.sq_text.specs.Reading.{IsSquitterReading};
 ghost use Rattle.example_place.specs.Places.{IsPairOfTexts, IsPlaceOfText, IsTrueInAir, IsTrueOnGround};
 
@@ -49,10 +49,11 @@ fn decoded_near(text: &str, reference: &Position) -> Result<Place, Fault>
     Ok(place_local(&squitter, reference)?)
 }
 
-/// The place of the newer of two texts of frames of one aircraft, an even and an odd one; on the ground with a site within 45
-/// degrees. Else the first fault: of the older text, of the newer one, and then of the pair. It takes no memory.
+/// The place of the newer of two texts of frames of one aircraft, an even and an odd one; on the ground with a site
+/// within 45 degrees. Else the first fault: of the older text, of the newer one, and then of the pair. It takes no
+/// memory.
 pub fn place_of_texts(older: &str, newer: &str, site: Option<&Position>) -> Result<Place, Fault>
-    ensures { IsPairOfTexts older.now newer.now (option_map (λ s. s.now) site.entry) result }
+    ensures { IsPairOfTexts older.now newer.now (option_copied site.entry) result }
 {
     let older = squitter_of(older)?;
     let newer = squitter_of(newer)?;

@@ -1,4 +1,5 @@
-//! Tests of messages and of their texts, and of the tracker: frames read and written, places decoded, sent again and heard.
+//! Tests of messages and of their texts, and of the tracker: frames read and written, places decoded, sent again and
+//! heard.
 #![tactic(auto)]
 
 #[cfg(test)]

@@ -53,4 +53,5 @@ same_rem m a b h c =
     let s = rem_is_pos b m h in
     let left : IsCongruent m a (pos r.0) = rw r.1 at (congruent_rem a m h) in
     let right : IsCongruent m b (pos s.0) = rw s.1 at (congruent_rem b m h) in
-    r.1 ∙ ap pos (same_below m r.0 s.0 r.2 s.2 (congruent_trans (congruent_sym left) (congruent_trans c right))) ∙ sym s.1
+    r.1 ∙ ap pos (same_below m r.0 s.0 r.2 s.2 (congruent_trans (congruent_sym left) (congruent_trans c right)))
+    ∙ sym s.1

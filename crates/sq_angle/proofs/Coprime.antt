@@ -36,8 +36,10 @@ coprime_divides a b k d h p q =
 -- the denominator of lowest terms divides that of every fraction of the value
 den_divides : (x y : Fraction) → IsLowestTerms x → x ≃ y → x.den ∣ y.den
 den_divides x y p e =
-    let magnitudes : y.den * unsigned_abs x.num ≡ x.den * unsigned_abs y.num = sym (unsigned_abs-mul (pos y.den) x.num) ∙ ap unsigned_abs e ∙ unsigned_abs-mul (pos x.den) y.num in
-    let turned : unsigned_abs x.num * y.den ≡ x.den * unsigned_abs y.num = mul_comm (unsigned_abs x.num) y.den ∙ magnitudes in
+    let magnitudes : y.den * unsigned_abs x.num ≡ x.den * unsigned_abs y.num =
+    sym (unsigned_abs-mul (pos y.den) x.num) ∙ ap unsigned_abs e ∙ unsigned_abs-mul (pos x.den) y.num in
+    let turned : unsigned_abs x.num * y.den ≡ x.den * unsigned_abs y.num =
+    mul_comm (unsigned_abs x.num) y.den ∙ magnitudes in
     coprime_divides (unsigned_abs x.num) x.den y.den x.den p.coprime
     (subst (λ n. x.den ∣ n) (sym turned) (dvd-mul_right x.den (unsigned_abs y.num)))
     (dvd-mul_right x.den y.den)
@@ -63,6 +65,7 @@ one_lowest_form x y p q some_x some_y a b = (
 -- the same of angles and of what `==` tests
 pub one_lowest_form_of_angles : OneLowestFormOfAngles
 one_lowest_form_of_angles x y p q a b =
-    let fractions = one_lowest_form (record { num = x.num; den = x.den }) (record { num = y.num; den = y.den }) p q x.in_range.positive y.in_range.positive a b in
+    let fractions = one_lowest_form (record { num = x.num; den = x.den })
+    (record { num = y.num; den = y.den }) p q x.in_range.positive y.in_range.positive a b in
     let values = same_angle-value x y in
     (λ t. fractions.0 (values.0 t), λ e. values.1 (fractions.1 e))

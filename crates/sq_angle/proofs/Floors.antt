@@ -36,20 +36,30 @@ remainder_below (pos n) d p = omega arith
 remainder_below (negsuc n) d p = omega arith
 
 -- a number is a natural remainder and a whole multiple
-pub remainder_split : (m : ℤ) (d : ℕ) → 0 < d → m ≡ pos (unsigned_abs (int_rem_euclid m (pos d))) +ℤ pos d *ℤ int_div_euclid m (pos d)
+pub remainder_split : (m : ℤ) (d : ℕ) → 0 < d
+    → m ≡ pos (unsigned_abs (int_rem_euclid m (pos d))) +ℤ pos d *ℤ int_div_euclid m (pos d)
 remainder_split (pos n) d p = omega (arith, ints)
 remainder_split (negsuc n) d p = omega (arith, ints)
 
 -- the remainder as a natural number
 pub rem_is_pos : (m : ℤ) (d : ℕ) → 0 < d → (r : ℕ) × (int_rem_euclid m (pos d) ≡ pos r) × (r < d)
-rem_is_pos (pos n) d p = (unsigned_abs (int_rem_euclid (pos n) (pos d)), omega (arith, ints), remainder_below (pos n) d p)
-rem_is_pos (negsuc n) d p = (unsigned_abs (int_rem_euclid (negsuc n) (pos d)), omega (arith, ints), remainder_below (negsuc n) d p)
+rem_is_pos (pos n) d p = (
+  unsigned_abs (int_rem_euclid (pos n) (pos d)),
+  omega (arith, ints),
+  remainder_below (pos n) d p,
+)
+rem_is_pos (negsuc n) d p = (
+  unsigned_abs (int_rem_euclid (negsuc n) (pos d)),
+  omega (arith, ints),
+  remainder_below (negsuc n) d p,
+)
 
 -- a factor is taken out of an order with less than one step of room
 pub le_from_scaled : (k : ℕ) (a b : ℤ) → (pos k *ℤ a) <ℤ (pos k *ℤ b +ℤ pos k) → a ≤ℤ b
 le_from_scaled k a b h =
     by_lt_z b a
-    (λ less. let more : k * (up b + down a + 1) ≤ k * (up a + down b) = mul-le-mul_left k (omega (arith, ints)) in absurd (omega (arith, ints)))
+    (λ less. let more : k * (up b + down a + 1) ≤ k * (up a + down b) = mul-le-mul_left k
+    (omega (arith, ints)) in absurd (omega (arith, ints)))
     (λ done. done)
 
 -- where a multiple of d is at most m, and m is below the next one after another, the first is below that next one
@@ -59,18 +69,21 @@ quotient_below a b m d h k =
     lt_of_scale d a (b +ℤ pos 1) (omega (arith, ints))
 
 -- a number lies in one block of d numbers
-pub block_once : (i j : ℤ) (m : ℤ) (d : ℕ) → (pos d *ℤ i) ≤ℤ m → m <ℤ (pos d *ℤ i +ℤ pos d) → (pos d *ℤ j) ≤ℤ m → m <ℤ (pos d *ℤ j +ℤ pos d) → i ≡ j
+pub block_once : (i j : ℤ) (m : ℤ) (d : ℕ) → (pos d *ℤ i) ≤ℤ m → m <ℤ (pos d *ℤ i +ℤ pos d) → (pos d *ℤ j) ≤ℤ m
+    → m <ℤ (pos d *ℤ j +ℤ pos d) → i ≡ j
 block_once i j m d a b c e =
     let h = quotient_below i j m d a e in
     let g = quotient_below j i m d c b in
     omega (arith, ints)
 
 -- the block of a number is its quotient
-pub block_quotient : (j : ℤ) (m : ℤ) (d : ℕ) → 0 < d → (pos d *ℤ j) ≤ℤ m → m <ℤ (pos d *ℤ j +ℤ pos d) → int_div_euclid m (pos d) ≡ j
+pub block_quotient : (j : ℤ) (m : ℤ) (d : ℕ) → 0 < d → (pos d *ℤ j) ≤ℤ m → m <ℤ (pos d *ℤ j +ℤ pos d)
+    → int_div_euclid m (pos d) ≡ j
 block_quotient j m d p a b = block_once (int_div_euclid m (pos d)) j m d (div_euclid-le m d p) (div_euclid-lt m d p) a b
 
 -- two numbers of one block with one remainder are one
-pub same_in_block : (j : ℤ) (m n : ℤ) (d : ℕ) → 0 < d → (pos d *ℤ j) ≤ℤ m → m <ℤ (pos d *ℤ j +ℤ pos d) → (pos d *ℤ j) ≤ℤ n → n <ℤ (pos d *ℤ j +ℤ pos d)
+pub same_in_block : (j : ℤ) (m n : ℤ) (d : ℕ) → 0 < d → (pos d *ℤ j) ≤ℤ m → m <ℤ (pos d *ℤ j +ℤ pos d)
+    → (pos d *ℤ j) ≤ℤ n → n <ℤ (pos d *ℤ j +ℤ pos d)
     → unsigned_abs (int_rem_euclid m (pos d)) ≡ unsigned_abs (int_rem_euclid n (pos d)) → m ≡ n
 same_in_block j m n d p a b a' b' e =
     let q = block_quotient j m d p a b in

@@ -33,7 +33,8 @@ same_fraction (d ∷ ds) [] e = cc
 same_fraction (d ∷ ds) (x ∷ es) e = same_tail 46 46 (d ∷ ds) (x ∷ es) e
 
 -- what stands around the first point is one pair
-pub one_split : (xs ys ds es : List ℕ) → HasNoPoint xs → HasNoPoint ys → xs ++ fraction ds ≡ ys ++ fraction es → (xs ≡ ys) × (ds ≡ es)
+pub one_split : (xs ys ds es : List ℕ) → HasNoPoint xs → HasNoPoint ys → xs ++ fraction ds ≡ ys ++ fraction es
+    → (xs ≡ ys) × (ds ≡ es)
 one_split [] [] ds es a b e = (refl, same_fraction ds es e)
 one_split [] (y ∷ ys) ds es a b e = absurd (no_start ds y (ys ++ fraction es) b.0 e)
 one_split (x ∷ xs) [] ds es a b e = absurd (no_start es x (xs ++ fraction ds) a.0 (sym e))
@@ -51,7 +52,8 @@ no_point_last : (xs ys es : List ℕ) → HasNoPoint xs → HasNoPoint ys → xs
 no_point_last [] [] es a b e = bare_point es e
 no_point_last [] (y ∷ ys) es a b e = b.0 (sym (same_head 46 y [] (ys ++ fraction es) e))
 no_point_last (x ∷ xs) [] es a b e = no_start es x (xs ++ 46 ∷ []) a.0 (sym e)
-no_point_last (x ∷ xs) (y ∷ ys) es a b e = no_point_last xs ys es a.1 b.1 (same_tail x y (xs ++ 46 ∷ []) (ys ++ fraction es) e)
+no_point_last (x ∷ xs) (y ∷ ys) es a b e =
+    no_point_last xs ys es a.1 b.1 (same_tail x y (xs ++ 46 ∷ []) (ys ++ fraction es) e)
 
 -- a digit is no minus
 no_minus : (xs : List ℕ) (ts us : List ℕ) → 1 ≤ length xs → AllByRecursion IsAsciiDigit xs → xs ++ ts ≡ 45 ∷ us → ⊥
@@ -63,7 +65,8 @@ abbrev pub made : Bool → List ℕ → List ℕ → Parts
 made negative whole decimals = record { negative = negative; whole = whole; decimals = decimals }
 
 -- the sign of a text, and what is left of it, are those of its spelling
-same_rest : (s t : Bool) (rest xs ds : List ℕ) → OnFalse s ((us : List ℕ) → ¬ (minus s ++ rest ≡ 45 ∷ us)) → IsSpelling (made t xs ds)
+same_rest : (s t : Bool) (rest xs ds : List ℕ) → OnFalse s ((us : List ℕ) → ¬ (minus s ++ rest ≡ 45 ∷ us))
+    → IsSpelling (made t xs ds)
     → minus s ++ rest ≡ minus t ++ xs ++ fraction ds → (s ≡ t) × (rest ≡ xs ++ fraction ds)
 same_rest true true rest xs ds h a e = (refl, same_tail 45 45 rest (xs ++ fraction ds) e)
 same_rest false false rest xs ds h a e = (refl, e)
@@ -76,33 +79,43 @@ pub record IsTakenApart (text : List ℕ) (negative : Bool) (rest : List ℕ) : 
   pub other : OnFalse negative ((us : List ℕ) → ¬ (text ≡ 45 ∷ us))
 
 -- the sign of a spelled text, and what is left of it, are those of the spelling
-rest_of_spelling : (text : List ℕ) (negative : Bool) (rest : List ℕ) (p : Parts) → IsTakenApart text negative rest → Spells text p → (negative ≡ p.negative) × (rest ≡ p.whole ++ fraction p.decimals)
+rest_of_spelling : (text : List ℕ) (negative : Bool) (rest : List ℕ) (p : Parts) → IsTakenApart text negative rest
+    → Spells text p → (negative ≡ p.negative) × (rest ≡ p.whole ++ fraction p.decimals)
 rest_of_spelling text negative rest p h s =
     same_rest negative p.negative rest p.whole p.decimals (rw h.parts at h.other) s.0 (sym h.parts ∙ s.1)
 
 -- where the rest ends in its first point, there is no spelling
-pub point_last_refused : (text : List ℕ) (negative : Bool) (rest : List ℕ) → IsTakenApart text negative rest → EndsInPoint rest → (p : Parts) → ¬ Spells text p
+pub point_last_refused : (text : List ℕ) (negative : Bool) (rest : List ℕ) → IsTakenApart text negative rest
+    → EndsInPoint rest → (p : Parts) → ¬ Spells text p
 point_last_refused text negative rest h (whole, none, e) p s =
     let same = rest_of_spelling text negative rest p h s in
     no_point_last whole p.whole p.decimals none (no_point p.whole s.0.whole_digits) (sym e ∙ same.1)
 
 -- a spelling has the parts that the text was taken into
-pub parts_of_spelling : (text : List ℕ) (negative : Bool) (rest whole decimals : List ℕ) → IsTakenApart text negative rest → StandsAroundPoint rest whole decimals
+pub parts_of_spelling : (text : List ℕ) (negative : Bool) (rest whole decimals : List ℕ)
+    → IsTakenApart text negative rest → StandsAroundPoint rest whole decimals
     → (p : Parts) → Spells text p → made negative whole decimals ≡ p
 parts_of_spelling text negative rest whole decimals h k p s =
     let same = rest_of_spelling text negative rest p h s in
-    let split = one_split whole p.whole decimals p.decimals k.0 (no_point p.whole s.0.whole_digits) (sym k.1 ∙ same.1) in
-    ap₂ (λ (t : Bool) (xs : List ℕ). made t xs decimals) same.0 split.0 ∙ ap₂ (λ (xs ds : List ℕ). made p.negative xs ds) refl split.1
+    let split = one_split whole p.whole decimals p.decimals k.0 (no_point p.whole s.0.whole_digits)
+    (sym k.1 ∙ same.1) in
+    ap₂ (λ (t : Bool) (xs : List ℕ). made t xs decimals) same.0 split.0
+    ∙ ap₂ (λ (xs ds : List ℕ). made p.negative xs ds) refl split.1
 
 -- a text's own spelling takes it apart
 own_parts : (text : List ℕ) (p : Parts) → Spells text p → IsTakenApart text p.negative (p.whole ++ fraction p.decimals)
 own_parts text p s = by p.negative p.whole p.decimals s.0 s.1
   where
-    by : (t : Bool) (xs ds : List ℕ) → IsSpelling (made t xs ds) → text ≡ minus t ++ xs ++ fraction ds → IsTakenApart text t (xs ++ fraction ds)
+    by : (t : Bool) (xs ds : List ℕ) → IsSpelling (made t xs ds) → text ≡ minus t ++ xs ++ fraction ds
+        → IsTakenApart text t (xs ++ fraction ds)
     by true xs ds a e = record { parts = e; other = tt }
-    by false xs ds a e = record { parts = e; other = λ us f. no_minus xs (fraction ds) us a.one a.whole_digits (sym e ∙ f) }
+    by false xs ds a e = record {
+      parts = e;
+      other = λ us f. no_minus xs (fraction ds) us a.one a.whole_digits (sym e ∙ f);
+    }
 
 -- two spellings of a text are one
 pub one_spelling : OneSpelling
 one_spelling text p q a b =
-    parts_of_spelling text p.negative (p.whole ++ fraction p.decimals) p.whole p.decimals (own_parts text p a) (no_point p.whole a.0.whole_digits, refl) q b
+    parts_of_spelling text p.negative (p.whole ++ fraction p.decimals) p.whole p.decimals (own_parts text p a)
+    (no_point p.whole a.0.whole_digits, refl) q b

@@ -16,11 +16,13 @@ table_is : RECIPROCALS ≡ map reciprocal (range_with_len 0 128)
 table_is = refl
 
 -- the entry of z: from 2^48 up to less than z above it, z times
-pub entry : (z : ℕ) → 0 < z → z < 128 → (2 ^ 48 ≤ get_or RECIPROCALS z 0 * z) × (get_or RECIPROCALS z 0 * z < 2 ^ 48 + z)
+pub entry : (z : ℕ) → 0 < z → z < 128
+    → (2 ^ 48 ≤ get_or RECIPROCALS z 0 * z) × (get_or RECIPROCALS z 0 * z < 2 ^ 48 + z)
 entry zero some few = absurd (omega arith)
 entry (suc z) some few =
     let is : get_or RECIPROCALS (suc z) 0 ≡ div_ceil (2 ^ 48) (suc z)
-    = ap (λ t. get_or t (suc z) 0) table_is ∙ get_or-map-range_with_len reciprocal 0 128 (suc z) (suc z) 0 few (omega arith) in
+    = ap (λ t. get_or t (suc z) 0) table_is
+    ∙ get_or-map-range_with_len reciprocal 0 128 (suc z) (suc z) 0 few (omega arith) in
     rw is (div_ceil_times (2 ^ 48) (suc z) some)
 
 -- x / z by a factor that is little above 2^48 / z

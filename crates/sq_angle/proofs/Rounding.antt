@@ -40,14 +40,16 @@ abbrev pub step_of : ℕ → ℕ → Fraction
 step_of w d = record { num = pos w; den = d }
 
 -- being nearest to x with a step of w/d is to be x * 2d / 2w rounded, x's denominator multiplied out
-pub nearest_from_rounded : (x : Fraction) (w d : ℕ) (a : ℤ) → IsRounded (pos (2 * d) *ℤ x.num) (x.den * w) a → IsNearest x (step_of w d) a
+pub nearest_from_rounded : (x : Fraction) (w d : ℕ) (a : ℤ) → IsRounded (pos (2 * d) *ℤ x.num) (x.den * w) a
+    → IsNearest x (step_of w d) a
 nearest_from_rounded x w d a r =
     let below = scale-scale x.den w (pos 2 *ℤ a -ℤ pos 1) ∙ odd_below a (x.den * w) in
     let above = scale-scale x.den w (pos 2 *ℤ a +ℤ pos 1) ∙ odd_above a (x.den * w) in
     record { from = omega (arith, ints); below = omega (arith, ints) }
 
 -- and back
-pub rounded_from_nearest : (x : Fraction) (w d : ℕ) (a : ℤ) → IsNearest x (step_of w d) a → IsRounded (pos (2 * d) *ℤ x.num) (x.den * w) a
+pub rounded_from_nearest : (x : Fraction) (w d : ℕ) (a : ℤ) → IsNearest x (step_of w d) a
+    → IsRounded (pos (2 * d) *ℤ x.num) (x.den * w) a
 rounded_from_nearest x w d a r =
     let below = scale-scale x.den w (pos 2 *ℤ a -ℤ pos 1) ∙ odd_below a (x.den * w) in
     let above = scale-scale x.den w (pos 2 *ℤ a +ℤ pos 1) ∙ odd_above a (x.den * w) in
@@ -56,7 +58,8 @@ rounded_from_nearest x w d a r =
     record { from = omega (arith, ints); below = omega (arith, ints) }
 
 -- each x has one nearest number of steps
-pub nearest_once : (x : Fraction) (w d : ℕ) (a b : ℤ) → IsNearest x (step_of w d) a → IsNearest x (step_of w d) b → a ≡ b
+pub nearest_once : (x : Fraction) (w d : ℕ) (a b : ℤ) → IsNearest x (step_of w d) a → IsNearest x (step_of w d) b
+    → a ≡ b
 nearest_once x w d a b p q = rounded_once _ _ a b (rounded_from_nearest x w d a p) (rounded_from_nearest x w d b q)
 
 -- a product of positive numbers is positive
@@ -73,37 +76,45 @@ one_nearest x w d p q =
     (a, is, λ b n. nearest_once x w d b a n is)
 
 -- a whole number of steps is nearest to itself
-pub nearest_itself : (a : ℤ) (w d : ℕ) → 0 < w → 0 < d → IsNearest (record { num = pos w *ℤ a; den = d }) (step_of w d) a
+pub nearest_itself : (a : ℤ) (w d : ℕ) → 0 < w → 0 < d
+    → IsNearest (record { num = pos w *ℤ a; den = d }) (step_of w d) a
 nearest_itself a w d p q =
     let grouped : 2 * d * w ≡ 2 * (d * w) = omega arith in
     let same = scale-scale (2 * d) w a ∙ ap (λ (n : ℕ). pos n *ℤ a) grouped in
     let positive : 0 < d * w = mul_pos d w q p in
-    nearest_from_rounded (record { num = pos w *ℤ a; den = d }) w d a (record { from = omega (arith, ints); below = omega (arith, ints) })
+    nearest_from_rounded (record { num = pos w *ℤ a; den = d }) w d a
+    (record { from = omega (arith, ints); below = omega (arith, ints) })
 
 -- the same over natural numbers, as a body computes it
-pub nearest_quotient : (n xd w d v : ℕ) → v ≡ (2 * d * n + xd * w) / (2 * (xd * w)) → 0 < xd → 0 < w → IsNearest (record { num = pos n; den = xd }) (step_of w d) (pos v)
+pub nearest_quotient : (n xd w d v : ℕ) → v ≡ (2 * d * n + xd * w) / (2 * (xd * w)) → 0 < xd → 0 < w
+    → IsNearest (record { num = pos n; den = xd }) (step_of w d) (pos v)
 nearest_quotient n xd w d v e p q =
     let positive : 0 < xd * w = mul_pos xd w p q in
     let r = rounded (pos (2 * d * n)) (xd * w) positive in
     nearest_from_rounded (record { num = pos n; den = xd }) w d (pos v) (rw e r)
 
 -- the same for units of 1/d
-pub nearest_unit : (n xd d : ℕ) → 0 < xd → IsNearest (record { num = pos n; den = xd }) (step_of 1 d) (pos ((2 * d * n + xd) / (2 * xd)))
+pub nearest_unit : (n xd d : ℕ) → 0 < xd
+    → IsNearest (record { num = pos n; den = xd }) (step_of 1 d) (pos ((2 * d * n + xd) / (2 * xd)))
 nearest_unit n xd d p =
     let one : xd * 1 ≡ xd = omega arith in
-    nearest_quotient n xd 1 d ((2 * d * n + xd) / (2 * xd)) (ap (λ e. (2 * d * n + e) / (2 * e)) (sym one)) p (omega arith)
+    nearest_quotient n xd 1 d ((2 * d * n + xd) / (2 * xd)) (ap (λ e. (2 * d * n + e) / (2 * e)) (sym one)) p
+    (omega arith)
 
 -- the same as a distance: twice the way from a steps to x is from minus one step up to, and not at, one step
 pub nearest_distance : (x : Fraction) (w d : ℕ) (a : ℤ) →
     IsNearest x (step_of w d) a ↔
-    ((neg_ℤ (pos (x.den * w)) ≤ℤ (pos 2 *ℤ (pos d *ℤ x.num -ℤ pos (x.den * w) *ℤ a))) × ((pos 2 *ℤ (pos d *ℤ x.num -ℤ pos (x.den * w) *ℤ a)) <ℤ pos (x.den * w)))
+    ((neg_ℤ (pos (x.den * w)) ≤ℤ (pos 2 *ℤ (pos d *ℤ x.num -ℤ pos (x.den * w) *ℤ a)))
+    × ((pos 2 *ℤ (pos d *ℤ x.num -ℤ pos (x.den * w) *ℤ a)) <ℤ pos (x.den * w)))
 nearest_distance x w d a =
     let e = x.den * w in
-    let twice : pos 2 *ℤ (pos d *ℤ x.num -ℤ pos e *ℤ a) ≡ pos (2 * d) *ℤ x.num -ℤ pos (2 * e) *ℤ a = simp scales (omega (arith, ints)) in (
+    let twice : pos 2 *ℤ (pos d *ℤ x.num -ℤ pos e *ℤ a) ≡ pos (2 * d) *ℤ x.num -ℤ pos (2 * e) *ℤ a =
+    simp scales (omega (arith, ints)) in (
       λ (n : IsNearest x (step_of w d) a).
           let r = rounded_from_nearest x w d a n in
           rw twice (omega (arith, ints, r.from), omega (arith, ints, r.below)),
-      λ (h : (neg_ℤ (pos e) ≤ℤ (pos 2 *ℤ (pos d *ℤ x.num -ℤ pos e *ℤ a))) × ((pos 2 *ℤ (pos d *ℤ x.num -ℤ pos e *ℤ a)) <ℤ pos e)).
+      λ (h : (neg_ℤ (pos e) ≤ℤ (pos 2 *ℤ (pos d *ℤ x.num -ℤ pos e *ℤ a)))
+          × ((pos 2 *ℤ (pos d *ℤ x.num -ℤ pos e *ℤ a)) <ℤ pos e)).
           let low : neg_ℤ (pos e) ≤ℤ (pos (2 * d) *ℤ x.num -ℤ pos (2 * e) *ℤ a) = rw twice at h.0 in
           let high : (pos (2 * d) *ℤ x.num -ℤ pos (2 * e) *ℤ a) <ℤ pos e = rw twice at h.1 in
           nearest_from_rounded x w d a (record { from = omega (arith, ints); below = omega (arith, ints) }),

@@ -35,12 +35,15 @@ pub digits_small : (ds : List ℕ) → AllByRecursion IsAsciiDigit ds → digits
 digits_small ds a = digits_value-lt 10 ds (digits_model.to ds a)
 
 -- `parse` reads up to twelve digits, and 0 stands in where there are none
-pub parsed_digits : {E : Type 0} → (ds : List ℕ) (r : Result ℕ E) → ParsesUnsigned 64 10 ds r → AllByRecursion IsAsciiDigit ds → length ds ≤ 12 → result_unwrap_or r 0 ≡ digits_value 10 ds
+pub parsed_digits : {E : Type 0} → (ds : List ℕ) (r : Result ℕ E) → ParsesUnsigned 64 10 ds r
+    → AllByRecursion IsAsciiDigit ds → length ds ≤ 12 → result_unwrap_or r 0 ≡ digits_value 10 ds
 parsed_digits ds r h a short =
     let small : digits_value 10 ds < 2 ^ 64 = omega (arith, digits_small ds a, pow-le-pow_right ten_positive short) in
     by ds r (parse_digits digits_model 64 ds r h a) small
   where
-    by : {E : Type 0} → (ds : List ℕ) (r : Result ℕ E) → OkIff r ((0 < length ds) × (digits_value 10 ds < 2 ^ 64)) (digits_value 10 ds) → digits_value 10 ds < 2 ^ 64 → result_unwrap_or r 0 ≡ digits_value 10 ds
+    by : {E : Type 0} → (ds : List ℕ) (r : Result ℕ E)
+        → OkIff r ((0 < length ds) × (digits_value 10 ds < 2 ^ 64)) (digits_value 10 ds) → digits_value 10 ds < 2 ^ 64
+        → result_unwrap_or r 0 ≡ digits_value 10 ds
     by ds (Ok n) h small = h.1
     by [] (Err e) h small = refl
     by (d ∷ ds) (Err e) h small = absurd (h (omega arith, small))
@@ -55,16 +58,19 @@ value_after n (d ∷ ds) =
     omega (arith, value_after (n * 10 + v) ds, value_after (0 * 10 + v) ds, ap (λ m. n * m) power)
 
 -- digits that follow others are read on from what these write
-append_after : (n : ℕ) (xs ys : List ℕ) → digits_value_after 10 n (xs ++ ys) ≡ digits_value_after 10 (digits_value_after 10 n xs) ys
+append_after : (n : ℕ) (xs ys : List ℕ)
+    → digits_value_after 10 n (xs ++ ys) ≡ digits_value_after 10 (digits_value_after 10 n xs) ys
 append_after n [] ys = refl
 append_after n (x ∷ xs) ys = append_after (n * 10 + digit_value x) xs ys
 
 -- what two texts of digits write one after another
-pub digits_value-append : (xs ys : List ℕ) → digits_value 10 (xs ++ ys) ≡ digits_value 10 xs * 10 ^ length ys + digits_value 10 ys
+pub digits_value-append : (xs ys : List ℕ)
+    → digits_value 10 (xs ++ ys) ≡ digits_value 10 xs * 10 ^ length ys + digits_value 10 ys
 digits_value-append xs ys = append_after 0 xs ys ∙ value_after (digits_value 10 xs) ys
 
 -- the magnitude of an angle as its digits write it is small
-pub magnitude_small : (a b d m n : ℕ) → m ≤ 3 → n ≤ 12 → a < 10 ^ m → d ≡ 10 ^ n → b < 10 ^ n → (a * d < 10 ^ 16) × (a * d + b < 10 ^ 16)
+pub magnitude_small : (a b d m n : ℕ) → m ≤ 3 → n ≤ 12 → a < 10 ^ m → d ≡ 10 ^ n → b < 10 ^ n
+    → (a * d < 10 ^ 16) × (a * d + b < 10 ^ 16)
 magnitude_small a b d m n h k p e q =
     let power_m : 10 ^ m ≤ 10 ^ 3 = pow-le-pow_right ten_positive h in
     let power_n : 10 ^ n ≤ 10 ^ 12 = pow-le-pow_right ten_positive k in
@@ -74,10 +80,12 @@ magnitude_small a b d m n h k p e q =
     (omega arith, omega arith)
 
 -- the fraction of an angle that was read, as its parts were
-pub value_read : (p : Parts) (a b d : ℕ) (z : ℤ) → a ≡ digits_value 10 p.whole → b ≡ digits_value 10 p.decimals → d ≡ 10 ^ length p.decimals → z ≡ signed p.negative (a * d + b)
+pub value_read : (p : Parts) (a b d : ℕ) (z : ℤ) → a ≡ digits_value 10 p.whole → b ≡ digits_value 10 p.decimals
+    → d ≡ 10 ^ length p.decimals → z ≡ signed p.negative (a * d + b)
     → (z ≡ num_of p) × (d ≡ den_of p)
 value_read p a b d z e f g h =
-    let magnitude : a * d + b ≡ digits_value 10 (p.whole ++ p.decimals) = ap₂ (λ m n. m + n) (ap₂ (λ m n. m * n) e g) f ∙ sym (digits_value-append p.whole p.decimals) in
+    let magnitude : a * d + b ≡ digits_value 10 (p.whole ++ p.decimals) =
+    ap₂ (λ m n. m + n) (ap₂ (λ m n. m * n) e g) f ∙ sym (digits_value-append p.whole p.decimals) in
     (h ∙ ap (λ n. signed p.negative n) magnitude, g)
 
 -- a list of no length is empty
@@ -87,7 +95,8 @@ nothing (d ∷ ds) e = absurd (omega arith)
 
 -- a power of ten is positive
 pub power_positive : (n : ℕ) → 0 < 10 ^ n
-power_positive n = let low : 0 ≤ n = omega arith in let one : 10 ^ 0 ≤ 10 ^ n = pow-le-pow_right ten_positive low in omega arith
+power_positive n = let low : 0 ≤ n = omega arith in let one : 10 ^ 0 ≤ 10 ^ n = pow-le-pow_right ten_positive low in
+    omega arith
 
 -- 16 decimal digits fit 64 bits
 pub less_than_64 : (n : ℕ) → n < 10 ^ 16 → n < 2 ^ 64

@@ -44,7 +44,8 @@ odd_divides_half d m odd h = case (parity (2 * m / d))
     case (inl is) =
         let r = 2 * m / d / 2 in
         let halved : d * (2 * r) ≡ 2 * m = ap (λ n. d * n) (omega (arith, is)) ∙ whole in
-        let turned : d * (2 * r) ≡ 2 * (d * r) = sym (mul_assoc d 2 r) ∙ ap (λ n. n * r) (mul_comm d 2) ∙ mul_assoc 2 d r in
+        let turned : d * (2 * r) ≡ 2 * (d * r) =
+        sym (mul_assoc d 2 r) ∙ ap (λ n. n * r) (mul_comm d 2) ∙ mul_assoc 2 d r in
         let half : d * r ≡ m = omega (arith, halved, turned) in
         subst (λ n. d ∣ n) half (dvd-mul_right d r)
 
@@ -65,11 +66,14 @@ gcd_of_halves x y g ex ey h = (of_x, of_y, greatest)
     of_y = subst (λ n. 2 * g ∣ n) y_is (mul-dvd-mul_left g 2 h.1)
 
     by_parity : (d : ℕ) → d ∣ 2 * (x / 2) → d ∣ 2 * (y / 2) → (d % 2 ≡ 0) ⊎ (d % 2 ≡ 1) → d ∣ 2 * g
-    by_parity d p q (inr odd) = dvd-mul_left_of_dvd d (h.2 d (odd_divides_half d (x / 2) odd p) (odd_divides_half d (y / 2) odd q)) 2
+    by_parity d p q (inr odd) = dvd-mul_left_of_dvd d
+        (h.2 d (odd_divides_half d (x / 2) odd p) (odd_divides_half d (y / 2) odd q)) 2
     by_parity d p q (inl even) =
         let half : 2 * (d / 2) ≡ d = omega (arith, even) in
-        let in_x : d / 2 ∣ x / 2 = dvd_of_mul-dvd-mul_left (d / 2) (omega arith) (subst (λ n. n ∣ 2 * (x / 2)) (sym half) p) in
-        let in_y : d / 2 ∣ y / 2 = dvd_of_mul-dvd-mul_left (d / 2) (omega arith) (subst (λ n. n ∣ 2 * (y / 2)) (sym half) q) in
+        let in_x : d / 2 ∣ x / 2 = dvd_of_mul-dvd-mul_left (d / 2) (omega arith)
+        (subst (λ n. n ∣ 2 * (x / 2)) (sym half) p) in
+        let in_y : d / 2 ∣ y / 2 = dvd_of_mul-dvd-mul_left (d / 2) (omega arith)
+        (subst (λ n. n ∣ 2 * (y / 2)) (sym half) q) in
         subst (λ n. n ∣ 2 * g) half (mul-dvd-mul_left (d / 2) 2 (h.2 (d / 2) in_x in_y))
 
     greatest : (d : ℕ) → d ∣ x → d ∣ y → d ∣ 2 * g
@@ -93,7 +97,8 @@ abbrev pub AreLeft : ℕ → ℕ → ℕ → ℕ → ℕ → Type 0
 AreLeft a b x y twos = ((g : ℕ) → IsGcd x y g → IsGcd a b (twos * g)) × (0 < y) × (twos * y ≤ b)
 
 -- a two is taken of both
-pub left_of_both : (a b x y twos : ℕ) → x % 2 ≡ 0 → y % 2 ≡ 0 → AreLeft a b x y twos → AreLeft a b (x / 2) (y / 2) (twos * 2)
+pub left_of_both : (a b x y twos : ℕ) → x % 2 ≡ 0 → y % 2 ≡ 0 → AreLeft a b x y twos
+    → AreLeft a b (x / 2) (y / 2) (twos * 2)
 left_of_both a b x y twos ex ey h =
     let halved : 2 * (y / 2) ≡ y = omega (arith, ey) in
     let same : twos * 2 * (y / 2) ≡ twos * y = mul_assoc twos 2 (y / 2) ∙ ap (λ n. twos * n) halved in (

@@ -7,7 +7,8 @@ use Rattle.sq_angle.specs.Scale.{scale-neg}
 use Rattle.sq_angle.proofs.Floors.{div_euclid-le, div_euclid-lt, div_euclid-small, le_from_scaled}
 
 -- exactly one c + 2hj lies in (-h, h]
-pub one_upper : (h : ℕ) (c : ℤ) → 0 < h → ExactlyOne (λ (j : ℤ). (neg_ℤ (pos h) <ℤ (c +ℤ pos (2 * h) *ℤ j)) × ((c +ℤ pos (2 * h) *ℤ j) ≤ℤ pos h))
+pub one_upper : (h : ℕ) (c : ℤ) → 0 < h
+    → ExactlyOne (λ (j : ℤ). (neg_ℤ (pos h) <ℤ (c +ℤ pos (2 * h) *ℤ j)) × ((c +ℤ pos (2 * h) *ℤ j) ≤ℤ pos h))
 one_upper h c positive =
     let k : ℕ = 2 * h in
     let a : ℤ = pos h -ℤ c in
@@ -24,7 +25,8 @@ one_upper h c positive =
     )
 
 -- exactly one c + 2hj lies in [-h, h)
-pub one_lower : (h : ℕ) (c : ℤ) → 0 < h → ExactlyOne (λ (j : ℤ). (neg_ℤ (pos h) ≤ℤ (c +ℤ pos (2 * h) *ℤ j)) × ((c +ℤ pos (2 * h) *ℤ j) <ℤ pos h))
+pub one_lower : (h : ℕ) (c : ℤ) → 0 < h
+    → ExactlyOne (λ (j : ℤ). (neg_ℤ (pos h) ≤ℤ (c +ℤ pos (2 * h) *ℤ j)) × ((c +ℤ pos (2 * h) *ℤ j) <ℤ pos h))
 one_lower h c positive =
     let k : ℕ = 2 * h in
     let a : ℤ = c +ℤ pos h in
@@ -43,10 +45,13 @@ one_lower h c positive =
 -- what a quotient rounded down says, over plain numbers
 pub quotient_down_parts : (value q : ℤ) (divisor : ℕ) → 0 < divisor → q ≡ int_div_euclid value (pos divisor) →
     ((pos divisor *ℤ q) ≤ℤ value) × (value <ℤ (pos divisor *ℤ q +ℤ pos divisor)) × (unsigned_abs q ≤ unsigned_abs value)
-quotient_down_parts value q divisor h e = rw e (div_euclid-le value divisor h, div_euclid-lt value divisor h, div_euclid-small value divisor h)
+quotient_down_parts value q divisor h e =
+    rw e (div_euclid-le value divisor h, div_euclid-lt value divisor h, div_euclid-small value divisor h)
 
 -- the whole number of turns by which `away` comes into the window (-width/2, width/2]
 pub turns_parts : (away q : ℤ) (width : ℕ) → 0 < width →
-    (pos (2 * width) *ℤ q) ≤ℤ (pos 2 *ℤ away +ℤ (pos width -ℤ pos 1)) → (pos 2 *ℤ away +ℤ (pos width -ℤ pos 1)) <ℤ (pos (2 * width) *ℤ q +ℤ pos (2 * width)) →
-    (neg_ℤ (pos width) <ℤ (pos 2 *ℤ away -ℤ pos (2 * width) *ℤ q)) × ((pos 2 *ℤ away -ℤ pos (2 * width) *ℤ q) ≤ℤ pos width)
+    (pos (2 * width) *ℤ q) ≤ℤ (pos 2 *ℤ away +ℤ (pos width -ℤ pos 1))
+    → (pos 2 *ℤ away +ℤ (pos width -ℤ pos 1)) <ℤ (pos (2 * width) *ℤ q +ℤ pos (2 * width)) →
+    (neg_ℤ (pos width) <ℤ (pos 2 *ℤ away -ℤ pos (2 * width) *ℤ q))
+    × ((pos 2 *ℤ away -ℤ pos (2 * width) *ℤ q) ≤ℤ pos width)
 turns_parts away q width h low high = (omega (arith, ints), omega (arith, ints))

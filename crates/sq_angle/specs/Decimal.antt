@@ -23,7 +23,8 @@ seven_places negative v =
 
 -- the text of x: the whole number of ten-millionths nearest to its magnitude, and x's sign
 abbrev pub IsDecimal7 : Fraction → List ℕ → Type 0
-IsDecimal7 x text = (v : ℕ) × IsNearest (magnitude x) ten_millionth (pos v) × (text ≡ seven_places (int_lt x.num (pos 0)) v)
+IsDecimal7 x text = (v : ℕ) × IsNearest (magnitude x) ten_millionth (pos v)
+    × (text ≡ seven_places (int_lt x.num (pos 0)) v)
 
 -- a function that writes fractions with seven decimals: there is one, and no two differ at a fraction
 pub record DecimalWriter : Type 0 where

@@ -13,7 +13,8 @@ use Rattle.sq_angle.specs.Reading.{IsReading}
 
 -- two fractions have one value exactly if they have one form in lowest terms
 abbrev pub OneLowestForm : Type 0
-OneLowestForm = (x y p q : Fraction) → 1 ≤ x.den → 1 ≤ y.den → IsLowestFormOf x p → IsLowestFormOf y q → (x ≃ y) ↔ (p ≡ q)
+OneLowestForm = (x y p q : Fraction) → 1 ≤ x.den → 1 ≤ y.den → IsLowestFormOf x p → IsLowestFormOf y q → (x ≃ y)
+    ↔ (p ≡ q)
 
 -- two angles are equal exactly if they have one form in lowest terms
 abbrev pub OneLowestFormOfAngles : Type 0
@@ -23,7 +24,8 @@ OneLowestFormOfAngles = (x y : Angle) (p q : Fraction) → IsLowestFormOf (degre
 -- what `==`, `<` and `>` of angles test, as facts on fractions
 abbrev pub OrderedByValue : Type 0
 OrderedByValue =
-    (x y : Angle) → (IsTrue (same_angle x y) ↔ (degrees x ≃ degrees y)) × ((angle_cmp x y ≡ Less) ↔ (degrees x ≺ degrees y))
+    (x y : Angle) → (IsTrue (same_angle x y) ↔ (degrees x ≃ degrees y))
+    × ((angle_cmp x y ≡ Less) ↔ (degrees x ≺ degrees y))
     × ((angle_cmp x y ≡ Equal) ↔ (degrees x ≃ degrees y)) × ((angle_cmp x y ≡ Greater) ↔ (degrees y ≺ degrees x))
 
 -- a magnitude of at most so many degrees is a value from minus so many up to so many

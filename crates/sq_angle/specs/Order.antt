@@ -28,7 +28,8 @@ abbrev pub same_angle : Angle → Angle → Bool
 same_angle x y = same_value (degrees x) (degrees y)
 
 -- x against z, both times y's denominator
-lifted : (x y z : Fraction) → 0 < y.den → fraction_cmp x z ≡ int_cmp (pos z.den *ℤ (pos y.den *ℤ x.num)) (pos x.den *ℤ (pos y.den *ℤ z.num))
+lifted : (x y z : Fraction) → 0 < y.den
+    → fraction_cmp x z ≡ int_cmp (pos z.den *ℤ (pos y.den *ℤ x.num)) (pos x.den *ℤ (pos y.den *ℤ z.num))
 lifted x y z p =
     sym (cmp-scale y.den (pos z.den *ℤ x.num) (pos x.den *ℤ z.num) p)
     ∙ ap₂ int_cmp (scale_comm y.den z.den x.num) (scale_comm y.den x.den z.num)
@@ -57,8 +58,10 @@ angle_cmp_congr x y z e =
 -- the order goes from one angle to the next
 pub angle_cmp_trans : (x y z : Angle) → angle_cmp x y ≡ Less → angle_cmp y z ≡ Less → angle_cmp x z ≡ Less
 angle_cmp_trans x y z e f =
-    let first = scale-lt z.den (pos y.den *ℤ x.num) (pos x.den *ℤ y.num) z.in_range.positive (below_from (degrees x) (degrees y) e) in
-    let second = scale-lt x.den (pos z.den *ℤ y.num) (pos y.den *ℤ z.num) x.in_range.positive (below_from (degrees y) (degrees z) f) in
+    let first = scale-lt z.den (pos y.den *ℤ x.num) (pos x.den *ℤ y.num) z.in_range.positive
+    (below_from (degrees x) (degrees y) e) in
+    let second = scale-lt x.den (pos z.den *ℤ y.num) (pos y.den *ℤ z.num) x.in_range.positive
+    (below_from (degrees y) (degrees z) f) in
     let turned = scale_comm z.den x.den y.num in
     let chain : (pos z.den *ℤ (pos y.den *ℤ x.num)) <ℤ (pos x.den *ℤ (pos y.den *ℤ z.num)) = omega (arith, ints) in
     lifted (degrees x) (degrees y) (degrees z) y.in_range.positive ∙ sym (int_cmp_is _ _ Less chain)

@@ -1,5 +1,6 @@
 -- Whole numbers times a natural factor, which stands on the left. With the equations of `scales`, `simp scales` takes
--- every such product apart, and `omega (arith, ints)` reads what is left. The laws of the order of angles rest on these.
+-- every such product apart, and `omega (arith, ints)` reads what is left. The laws of the order of angles rest on
+-- these.
 use Rattle.std.specs.Prelude.{◌≡◌, ℕ, ◌+◌, ◌*◌, ◌<◌, ◌≤◌, ℤ, pos, neg_ℤ, ◌+ℤ◌, ◌*ℤ◌, ◌≤ℤ◌, ◌<ℤ◌}
 use Rattle.std.specs.Ordering.{int_cmp, MatchOrdering}
 use Rattle.std.specs.declared.cmp.Ordering.{Ordering}
@@ -19,7 +20,8 @@ scale-neg k a = omega (arith, ints, ap (λ m. k * m) (neg_is a).0, ap (λ m. k *
 
 -- j(ka) = (jk)a
 pub scale-scale : (j k : ℕ) (a : ℤ) → pos j *ℤ (pos k *ℤ a) ≡ pos (j * k) *ℤ a
-scale-scale j k a = omega (arith, ints, ap (λ m. j * m) (product_is (pos k) a).0, ap (λ m. j * m) (product_is (pos k) a).1)
+scale-scale j k a =
+    omega (arith, ints, ap (λ m. j * m) (product_is (pos k) a).0, ap (λ m. j * m) (product_is (pos k) a).1)
 
 pub ruleset scales = (scale-sum, scale-neg, scale-scale)
 
@@ -29,7 +31,8 @@ scale_comm j k a = scale-scale j k a ∙ ap (λ (n : ℕ). pos n *ℤ a) (mul_co
 
 -- an order is kept by a factor
 pub scale-le : (k : ℕ) (a b : ℤ) → a ≤ℤ b → (pos k *ℤ a) ≤ℤ (pos k *ℤ b)
-scale-le k a b h = let m : k * (up a + down b) ≤ k * (up b + down a) = mul-le-mul_left k (le_out a b h) in omega (arith, ints)
+scale-le k a b h =
+    let m : k * (up a + down b) ≤ k * (up b + down a) = mul-le-mul_left k (le_out a b h) in omega (arith, ints)
 
 -- a strict order is kept by a positive factor
 pub scale-lt : (k : ℕ) (a b : ℤ) → 0 < k → a <ℤ b → (pos k *ℤ a) <ℤ (pos k *ℤ b)
@@ -57,7 +60,8 @@ same_of_scale k a b p e =
     omega (arith, ints)
 
 -- a fact for each outcome, carried over
-rank-mono : {P Q R P' Q' R' : Type 0} (r : Ordering) → (P → P') → (Q → Q') → (R → R') → MatchOrdering r P Q R → MatchOrdering r P' Q' R'
+rank-mono : {P Q R P' Q' R' : Type 0} (r : Ordering) → (P → P') → (Q → Q') → (R → R') → MatchOrdering r P Q R
+    → MatchOrdering r P' Q' R'
 rank-mono Less f g h m = f m
 rank-mono Equal f g h m = g m
 rank-mono Greater f g h m = h m
@@ -65,4 +69,6 @@ rank-mono Greater f g h m = h m
 -- a factor changes no comparison
 pub cmp-scale : (k : ℕ) (a b : ℤ) → 0 < k → int_cmp (pos k *ℤ a) (pos k *ℤ b) ≡ int_cmp a b
 cmp-scale k a b p =
-    int_cmp_is a b (int_cmp (pos k *ℤ a) (pos k *ℤ b)) (rank-mono (int_cmp (pos k *ℤ a) (pos k *ℤ b)) (lt_of_scale k a b) (same_of_scale k a b p) (lt_of_scale k b a) (int_ranks (pos k *ℤ a) (pos k *ℤ b)))
+    int_cmp_is a b (int_cmp (pos k *ℤ a) (pos k *ℤ b))
+    (rank-mono (int_cmp (pos k *ℤ a) (pos k *ℤ b)) (lt_of_scale k a b) (same_of_scale k a b p) (lt_of_scale k b a)
+    (int_ranks (pos k *ℤ a) (pos k *ℤ b)))

@@ -26,7 +26,8 @@ impl Angle {
     /// Appends the text of [`Angle::decimal7`], at most 12 bytes.
     pub fn push_decimal7<const N: usize>(&self, text: &mut ArrayString<N>)
         requires { array_string_len text.old + 12 ≤ N }
-        ensures bytes { (part : List ℕ) × IsDecimal7 (degrees self.now) part × (text.new.bytes ≡ text.old.bytes ++ part) }
+        ensures bytes { (part : List ℕ) × IsDecimal7 (degrees self.now) part
+            × (text.new.bytes ≡ text.old.bytes ++ part) }
         ensures len { array_string_len text.new ≤ array_string_len text.old + 12 }
     {
         let places = self.seven_places();

@@ -138,8 +138,8 @@ static RECIPROCALS: [u64; 128] = [
 
 /// `value / divisor`, rounded down.
 ///
-/// A division of 64 bits is slow. By a multiple of 2^17 below 2^24, as the denominators of a grid's points are and twice
-/// them, it multiplies instead.
+/// A division of 64 bits is slow. By a multiple of 2^17 below 2^24, as the denominators of a grid's points are and
+/// twice them, it multiplies instead.
 #[inline(always)]
 pub fn quotient(value: u128, divisor: u64) -> u128
     requires { 0 < divisor }

@@ -23,7 +23,8 @@ low_bit m c k within =
     ap (λ x. m % 2 ^ x / 2 ^ k % 2) whole ∙ ap (λ x. x % 2) (field_as_mod m (j + 1) k) ∙ mod-mod_pow (m / 2 ^ k) j 1
 
 -- bit k of a field, counted from its least significant one
-pub field_bit : (f : Frame) (first count k : ℕ) → k < count → bit_at (quotient_of f first count) k ≡ bit_at (frame_number f) ((113 - first - count) + k)
+pub field_bit : (f : Frame) (first count k : ℕ) → k < count
+    → bit_at (quotient_of f first count) k ≡ bit_at (frame_number f) ((113 - first - count) + k)
 unfolding quotient_of
 field_bit f first count k within =
     let b : ℕ = 113 - first - count in
@@ -33,7 +34,8 @@ pow_byte_suc : (i : ℕ) → 2 ^ (8 * suc i) ≡ 2 ^ (8 * i) * 256
 pow_byte_suc i = subst (λ x. 2 ^ (8 * x) ≡ 2 ^ (8 * i) * 256) (add-one i) (pow_byte i)
 
 -- the digits after a number stand for the lower part
-after_parts : (n : ℕ) (ys : List ℕ) → number_from_digits_after 256 n ys ≡ n * 2 ^ (8 * length ys) + number_from_digits_after 256 0 ys
+after_parts : (n : ℕ) (ys : List ℕ)
+    → number_from_digits_after 256 n ys ≡ n * 2 ^ (8 * length ys) + number_from_digits_after 256 0 ys
 after_parts n [] = omega arith
 after_parts n (y ∷ ys) =
     let l : ℕ = length ys in
@@ -66,16 +68,20 @@ byte_of f i (long, all) within =
     let rest : List ℕ = drop (i + 1) f.0 in
     let short : length rest ≡ 13 - i = omega (arith, length-drop (i + 1) f.0) in
     let whole : frame_number f ≡ front * 2 ^ (8 * length rest) + number_from_digits 256 rest
-    = ap (number_from_digits 256) (sym (take-append-drop (i + 1) f.0)) ∙ number_after_append 256 0 (take (i + 1) f.0) rest ∙ after_parts front rest in
-    let low : number_from_digits 256 rest < 2 ^ (8 * length rest) = rw (pow_256 (length rest)) at (number_lt 256 rest (AllBelowBase-drop (i + 1) f.0 all)) in
+    = ap (number_from_digits 256) (sym (take-append-drop (i + 1) f.0))
+    ∙ number_after_append 256 0 (take (i + 1) f.0) rest ∙ after_parts front rest in
+    let low : number_from_digits 256 rest < 2 ^ (8 * length rest) =
+    rw (pow_256 (length rest)) at (number_lt 256 rest (AllBelowBase-drop (i + 1) f.0 all)) in
     let high : frame_number f / 2 ^ (8 * length rest) ≡ front
     = ap (λ x. x / 2 ^ (8 * length rest)) whole ∙ shr_high front (8 * length rest) (number_from_digits 256 rest) low in
-    let last : front ≡ number_from_digits 256 (take i f.0) * 256 + get_or f.0 i 0 = number_more 256 f.0 i (omega arith) in
+    let last : front ≡ number_from_digits 256 (take i f.0) * 256 + get_or f.0 i 0 =
+    number_more 256 f.0 i (omega arith) in
     ap (λ k. frame_number f / 2 ^ (8 * k) % 2 ^ 8) (sym short) ∙ ap (λ x. x % 2 ^ 8) (high ∙ last)
     ∙ mod_low (number_from_digits 256 (take i f.0)) 8 (get_or f.0 i 0) (AllBelowBase-get_or f.0 i all)
 
 -- bit p + 1 of a frame, in its number
-pub number_bit : (f : Frame) (place : ℕ) → IsFrame f → 1 ≤ place → place ≤ 112 → bit_at (frame_number f) (112 - place) ≡ bit_of f place
+pub number_bit : (f : Frame) (place : ℕ) → IsFrame f → 1 ≤ place → place ≤ 112
+    → bit_at (frame_number f) (112 - place) ≡ bit_of f place
 number_bit f place is begins within =
     let p : ℕ = place - 1 in
     let k : ℕ = 7 - p % 8 in
@@ -89,7 +95,8 @@ pub bits_of_field : (f : Frame) (first count k : ℕ) → IsFrame f → 1 ≤ fi
     → bit_at (quotient_of f first count) (count - 1 - k) ≡ bit_of f (first + k)
 bits_of_field f first count k is begins within small =
     let e : (113 - first - count) + (count - 1 - k) ≡ 112 - (first + k) = omega arith in
-    field_bit f first count (count - 1 - k) (omega arith) ∙ ap (λ x. bit_at (frame_number f) x) e ∙ number_bit f (first + k) is (omega arith) (omega arith)
+    field_bit f first count (count - 1 - k) (omega arith) ∙ ap (λ x. bit_at (frame_number f) x) e
+    ∙ number_bit f (first + k) is (omega arith) (omega arith)
 
 pub AllBelowBase-each : (ds : List ℕ) → ((i : ℕ) → get_or ds i 0 < 256) → AllBelowBase 256 ds
 AllBelowBase-each [] each = tt
@@ -98,9 +105,11 @@ AllBelowBase-each (d ∷ ds) each = (each 0, AllBelowBase-each ds (λ i. each (s
 -- one bit as a field
 one_bit : (f : Frame) (place : ℕ) → IsFrame f → 1 ≤ place → place ≤ 112 → quotient_of f place 1 ≡ bit_of f place
 one_bit f place is begins within =
-    let at : bit_at (quotient_of f place 1) (1 - 1 - 0) ≡ bit_of f (place + 0) = bits_of_field f place 1 0 is begins (omega arith) (omega arith) in
+    let at : bit_at (quotient_of f place 1) (1 - 1 - 0) ≡ bit_of f (place + 0) =
+    bits_of_field f place 1 0 is begins (omega arith) (omega arith) in
     let same : place + 0 ≡ place = omega arith in
-    let at' : bit_at (quotient_of f place 1) 0 ≡ bit_of f place = subst (λ p. bit_at (quotient_of f place 1) 0 ≡ bit_of f p) same at in
+    let at' : bit_at (quotient_of f place 1) 0 ≡ bit_of f place =
+    subst (λ p. bit_at (quotient_of f place 1) 0 ≡ bit_of f p) same at in
     let small = field_small f place 1 in
     omega (arith, at', small)
 
@@ -109,13 +118,19 @@ pub field_spelled : (f : Frame) (first count : ℕ) → IsFrame f → 1 ≤ firs
     → quotient_of f first count ≡ number_from_digits 2 (map (bit_of f) (range_with_len first count))
 field_spelled f first zero is begins within = let small = field_small f first 0 in omega arith
 field_spelled f first (suc count) is begins within =
-    let more : map (bit_of f) (range_with_len first (count + 1)) ≡ map (bit_of f) (range_with_len first count) ++ bit_of f (first + count) ∷ []
+    let more : map (bit_of f) (range_with_len first (count + 1)) ≡ map (bit_of f) (range_with_len first count)
+    ++ bit_of f (first + count) ∷ []
     = map-range_with_len_more (bit_of f) first count (first + count) refl in
     let parts : quotient_of f first (count + 1) ≡ quotient_of f first count * 2 ^ 1 + quotient_of f (first + count) 1
     = field_parts f first count 1 begins (omega arith) in
     let before = field_spelled f first count is begins (omega arith) in
     let last = one_bit f (first + count) is (omega arith) (omega arith) in
-    let spelled : number_from_digits 2 (map (bit_of f) (range_with_len first (count + 1))) ≡ number_from_digits 2 (map (bit_of f) (range_with_len first count)) * 2 + bit_of f (first + count)
-    = ap (number_from_digits 2) more ∙ number_push 2 (map (bit_of f) (range_with_len first count)) (bit_of f (first + count)) in
-    let whole : quotient_of f first (count + 1) ≡ number_from_digits 2 (map (bit_of f) (range_with_len first (count + 1))) = omega (arith, parts, before, last, spelled) in
-    subst (λ c. quotient_of f first c ≡ number_from_digits 2 (map (bit_of f) (range_with_len first c))) (add-one count) whole
+    let spelled : number_from_digits 2 (map (bit_of f) (range_with_len first (count + 1)))
+    ≡ number_from_digits 2 (map (bit_of f) (range_with_len first count)) * 2 + bit_of f (first + count)
+    = ap (number_from_digits 2) more
+    ∙ number_push 2 (map (bit_of f) (range_with_len first count)) (bit_of f (first + count)) in
+    let whole : quotient_of f first (count + 1)
+    ≡ number_from_digits 2 (map (bit_of f) (range_with_len first (count + 1))) =
+    omega (arith, parts, before, last, spelled) in
+    subst (λ c. quotient_of f first c ≡ number_from_digits 2 (map (bit_of f) (range_with_len first c)))
+    (add-one count) whole

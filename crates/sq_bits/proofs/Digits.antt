@@ -25,7 +25,8 @@ digit_written bs i v within =
     number_more 256 (set bs i v) i long ∙ rw (get_or-set_same bs i v 0 within, take-set) refl
 
 -- the leading bits of a number, and the eight below them
-pub byte_below : (n i : ℕ) → i < 14 → n / 2 ^ (112 - 8 * i) * 256 + bit_and (n / 2 ^ (104 - 8 * i)) 255 ≡ n / 2 ^ (112 - 8 * (i + 1))
+pub byte_below : (n i : ℕ) → i < 14
+    → n / 2 ^ (112 - 8 * i) * 256 + bit_and (n / 2 ^ (104 - 8 * i)) 255 ≡ n / 2 ^ (112 - 8 * (i + 1))
 byte_below n i small =
     let k : ℕ = 104 - 8 * i in
     let high : 112 - 8 * i ≡ k + 8 = omega arith in
@@ -33,7 +34,8 @@ byte_below n i small =
     rw (high, low, ← shr-shr n k 8, and_mask (n / 2 ^ k) 8) (shr_split (n / 2 ^ k) 8)
 
 -- one more byte after a number of i bytes
-pub byte_more : (n b i : ℕ) → n < 2 ^ (8 * i) → b < 256 → i < 14 → (n * 256 + b < 2 ^ (8 * (i + 1))) × (n * 256 + b < 2 ^ 112)
+pub byte_more : (n b i : ℕ) → n < 2 ^ (8 * i) → b < 256 → i < 14
+    → (n * 256 + b < 2 ^ (8 * (i + 1))) × (n * 256 + b < 2 ^ 112)
 byte_more n b i small byte within =
     let less : n * 256 + b < 2 ^ (8 * i) * 256 = omega arith in
     (rw pow_byte less, omega (arith, pow_byte-le i within))
@@ -42,20 +44,31 @@ AllBelowBase-push : (b x : ℕ) (xs : List ℕ) → AllBelowBase b xs → x < b 
 AllBelowBase-push b x [] all last = (last, tt)
 AllBelowBase-push b x (y ∷ ys) all last = (all.0, AllBelowBase-push b x ys all.1 last)
 
-pub AllBelowBase-written : (bs : List ℕ) (i n : ℕ) → i < length bs → AllBelowBase 256 (take i bs) → AllBelowBase 256 (take (i + 1) (set bs i (bit_and n 255)))
+pub AllBelowBase-written : (bs : List ℕ) (i n : ℕ) → i < length bs → AllBelowBase 256 (take i bs)
+    → AllBelowBase 256 (take (i + 1) (set bs i (bit_and n 255)))
 AllBelowBase-written bs i n within all =
-    rw (take_more_set bs i (bit_and n 255) within) (AllBelowBase-push 256 (bit_and n 255) (take i bs) all (omega (arith, and_le_r n 255)))
+    rw (take_more_set bs i (bit_and n 255) within)
+    (AllBelowBase-push 256 (bit_and n 255) (take i bs) all (omega (arith, and_le_r n 255)))
 
 -- two bytes of a number, and three more after a number
-pub two_bytes : (bs : List ℕ) → 2 ≤ length bs → number_from_digits 256 (take 2 bs) ≡ (0 + get_or bs 0 0) * 256 + get_or bs 1 0
-two_bytes bs long = number_more 256 bs 1 (omega arith) ∙ ap (λ n. n * 256 + get_or bs 1 0) (number_more 256 bs 0 (omega arith))
+pub two_bytes : (bs : List ℕ) → 2 ≤ length bs
+    → number_from_digits 256 (take 2 bs) ≡ (0 + get_or bs 0 0) * 256 + get_or bs 1 0
+two_bytes bs long = number_more 256 bs 1 (omega arith)
+    ∙ ap (λ n. n * 256 + get_or bs 1 0) (number_more 256 bs 0 (omega arith))
 
 pub three_bytes : (bs : List ℕ) (i : ℕ) → i + 3 ≤ length bs
-    → number_from_digits 256 (take (i + 3) bs) ≡ number_from_digits 256 (take i bs) * 2 ^ 24 + ((get_or bs i 0 * 256 + get_or bs (i + 1) 0) * 256 + get_or bs (i + 2) 0)
+    → number_from_digits 256 (take (i + 3) bs)
+    ≡ number_from_digits 256 (take i bs) * 2 ^ 24 +
+    ((get_or bs i 0 * 256 + get_or bs (i + 1) 0) * 256 + get_or bs (i + 2) 0)
 three_bytes bs i long =
-    let a : number_from_digits 256 (take (i + 1) bs) ≡ number_from_digits 256 (take i bs) * 256 + get_or bs i 0 = number_more 256 bs i (omega arith) in
-    let b : number_from_digits 256 (take (i + 1 + 1) bs) ≡ number_from_digits 256 (take (i + 1) bs) * 256 + get_or bs (i + 1) 0 = number_more 256 bs (i + 1) (omega arith) in
-    let c : number_from_digits 256 (take (i + 2 + 1) bs) ≡ number_from_digits 256 (take (i + 2) bs) * 256 + get_or bs (i + 2) 0 = number_more 256 bs (i + 2) (omega arith) in
+    let a : number_from_digits 256 (take (i + 1) bs) ≡ number_from_digits 256 (take i bs) * 256 + get_or bs i 0 =
+    number_more 256 bs i (omega arith) in
+    let b : number_from_digits 256 (take (i + 1 + 1) bs)
+    ≡ number_from_digits 256 (take (i + 1) bs) * 256 + get_or bs (i + 1) 0 =
+    number_more 256 bs (i + 1) (omega arith) in
+    let c : number_from_digits 256 (take (i + 2 + 1) bs)
+    ≡ number_from_digits 256 (take (i + 2) bs) * 256 + get_or bs (i + 2) 0 =
+    number_more 256 bs (i + 2) (omega arith) in
     let e : i + 1 + 1 ≡ i + 2 = omega arith in
     let f : i + 2 + 1 ≡ i + 3 = omega arith in
     let b' = rw e at b in
@@ -72,9 +85,12 @@ pub five_words : (bs : List ℕ) (h a b c d : ℕ) → length bs ≡ 14
     → (((h * 2 ^ 24 + a) * 2 ^ 24 + b) * 2 ^ 24 + c) * 2 ^ 24 + d ≡ number_from_digits 256 bs
 five_words bs h a b c d long ih ia ib ic id =
     let e : number_from_digits 256 (take 2 bs) ≡ h = two_bytes bs (omega arith) ∙ sym ih in
-    let f : number_from_digits 256 (take 5 bs) ≡ h * 2 ^ 24 + a = three_bytes bs 2 (omega arith) ∙ ap₂ (λ n w. n * 2 ^ 24 + w) e (sym ia) in
-    let g : number_from_digits 256 (take 8 bs) ≡ (h * 2 ^ 24 + a) * 2 ^ 24 + b = three_bytes bs 5 (omega arith) ∙ ap₂ (λ n w. n * 2 ^ 24 + w) f (sym ib) in
-    let i : number_from_digits 256 (take 11 bs) ≡ ((h * 2 ^ 24 + a) * 2 ^ 24 + b) * 2 ^ 24 + c = three_bytes bs 8 (omega arith) ∙ ap₂ (λ n w. n * 2 ^ 24 + w) g (sym ic) in
+    let f : number_from_digits 256 (take 5 bs) ≡ h * 2 ^ 24 + a =
+    three_bytes bs 2 (omega arith) ∙ ap₂ (λ n w. n * 2 ^ 24 + w) e (sym ia) in
+    let g : number_from_digits 256 (take 8 bs) ≡ (h * 2 ^ 24 + a) * 2 ^ 24 + b =
+    three_bytes bs 5 (omega arith) ∙ ap₂ (λ n w. n * 2 ^ 24 + w) f (sym ib) in
+    let i : number_from_digits 256 (take 11 bs) ≡ ((h * 2 ^ 24 + a) * 2 ^ 24 + b) * 2 ^ 24 + c =
+    three_bytes bs 8 (omega arith) ∙ ap₂ (λ n w. n * 2 ^ 24 + w) g (sym ic) in
     let j : number_from_digits 256 (take 14 bs) ≡ (((h * 2 ^ 24 + a) * 2 ^ 24 + b) * 2 ^ 24 + c) * 2 ^ 24 + d =
     three_bytes bs 11 (omega arith) ∙ ap₂ (λ n w. n * 2 ^ 24 + w) i (sym id) in
     sym j ∙ ap (number_from_digits 256) (take_all 14 bs (omega arith))

@@ -29,19 +29,23 @@ replaced-field n b c v small =
     ∙ shr_high v b (n % 2 ^ b) (mod_below n (2 ^ b) (pow_pos b))
 
 -- a field above it is kept
-replaced-above : (n b c v d e : ℕ) → v < 2 ^ c → replaced n b c v / 2 ^ ((c + b) + d) % 2 ^ e ≡ n / 2 ^ ((c + b) + d) % 2 ^ e
+replaced-above : (n b c v d e : ℕ) → v < 2 ^ c
+    → replaced n b c v / 2 ^ ((c + b) + d) % 2 ^ e ≡ n / 2 ^ ((c + b) + d) % 2 ^ e
 replaced-above n b c v d e small =
     rw (← shr-shr (replaced n b c v) (c + b) d, ← shr-shr n (c + b) d, replaced-upper n b c v small) refl
 
 -- the lowest b bits are kept
 replaced-low : (n b c v : ℕ) → replaced n b c v % 2 ^ b ≡ n % 2 ^ b
 replaced-low n b c v =
-    let regrouped : replaced n b c v ≡ (n / 2 ^ (c + b) * 2 ^ c + v) * 2 ^ b + n % 2 ^ b = rw (pow-add 2 c b) (omega arith) in
-    ap (λ x. x % 2 ^ b) regrouped ∙ mod_low (n / 2 ^ (c + b) * 2 ^ c + v) b (n % 2 ^ b) (mod_below n (2 ^ b) (pow_pos b))
+    let regrouped : replaced n b c v ≡ (n / 2 ^ (c + b) * 2 ^ c + v) * 2 ^ b + n % 2 ^ b =
+    rw (pow-add 2 c b) (omega arith) in
+    ap (λ x. x % 2 ^ b) regrouped
+    ∙ mod_low (n / 2 ^ (c + b) * 2 ^ c + v) b (n % 2 ^ b) (mod_below n (2 ^ b) (pow_pos b))
 
 -- a remainder by a power of 2 has the smaller remainders of its number
 pub mod-mod_pow : (n j k : ℕ) → n % 2 ^ (j + k) % 2 ^ k ≡ n % 2 ^ k
-mod-mod_pow n j k = ap (λ x. x % 2 ^ k) (mod-pow-add n j k) ∙ mod_low (n / 2 ^ k % 2 ^ j) k (n % 2 ^ k) (mod_below n (2 ^ k) (pow_pos k))
+mod-mod_pow n j k = ap (λ x. x % 2 ^ k) (mod-pow-add n j k)
+    ∙ mod_low (n / 2 ^ k % 2 ^ j) k (n % 2 ^ k) (mod_below n (2 ^ k) (pow_pos k))
 
 -- a field within the lowest b bits
 field_low : (n d e k : ℕ) → n / 2 ^ k % 2 ^ e ≡ n % 2 ^ (d + (e + k)) % 2 ^ (e + k) / 2 ^ k
@@ -56,7 +60,8 @@ same_low_field m n b e k same within =
     field_low m d e k ∙ ap (λ x. x % 2 ^ (e + k) / 2 ^ k) same' ∙ sym (field_low n d e k)
 
 -- a field apart from it is kept
-pub replaced-apart : (n v first count start len : ℕ) → v < 2 ^ count → 1 ≤ first → first + count ≤ 113 → IsApart start len first count
+pub replaced-apart : (n v first count start len : ℕ) → v < 2 ^ count → 1 ≤ first → first + count ≤ 113
+    → IsApart start len first count
     → field_at (replaced n (113 - first - count) count v) start len ≡ field_at n start len
 replaced-apart n v first count start len small begins within (starts, ends, apart) =
     let b : ℕ = 113 - first - count in

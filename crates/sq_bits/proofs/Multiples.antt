@@ -7,19 +7,22 @@ use Rattle.sq_bits.specs.Parity.{generator, carryless_product, IsMultiple, IsRem
 -- (a ^ b) ^ (c ^ d) with the middle two exchanged
 pub xor_exchange : (a b c d : ℕ) → bit_xor (bit_xor a b) (bit_xor c d) ≡ bit_xor (bit_xor a c) (bit_xor b d)
 xor_exchange a b c d =
-    xor_assoc a b (bit_xor c d) ∙ ap (λ x. bit_xor a x) (sym (xor_assoc b c d) ∙ ap (λ x. bit_xor x d) (xor_comm b c) ∙ xor_assoc c b d)
+    xor_assoc a b (bit_xor c d) ∙ ap (λ x. bit_xor a x)
+    (sym (xor_assoc b c d) ∙ ap (λ x. bit_xor x d) (xor_comm b c) ∙ xor_assoc c b d)
     ∙ sym (xor_assoc a c (bit_xor b d))
 
 pub xor_twice : (a b : ℕ) → bit_xor (2 * a) (2 * b) ≡ 2 * bit_xor a b
 xor_twice a b =
-    let block : bit_xor (a * 2 ^ 1 + 0) (b * 2 ^ 1 + 0) ≡ bit_xor a b * 2 ^ 1 + bit_xor 0 0 = xor_block 1 a b 0 0 (omega arith) (omega arith) in
+    let block : bit_xor (a * 2 ^ 1 + 0) (b * 2 ^ 1 + 0) ≡ bit_xor a b * 2 ^ 1 + bit_xor 0 0 =
+    xor_block 1 a b 0 0 (omega arith) (omega arith) in
     let left : 2 * a ≡ a * 2 ^ 1 + 0 = omega arith in
     let right : 2 * b ≡ b * 2 ^ 1 + 0 = omega arith in
     let out : bit_xor a b * 2 ^ 1 + bit_xor 0 0 ≡ 2 * bit_xor a b = omega arith in
     rw (left, right) (block ∙ out)
 
 -- the sum of two products is the product with the sum
-pub sum_of_products : (a : ℕ) (p q : List Bool) → (s : List Bool) × (bit_xor (carryless_product a p) (carryless_product a q) ≡ carryless_product a s)
+pub sum_of_products : (a : ℕ) (p q : List Bool)
+    → (s : List Bool) × (bit_xor (carryless_product a p) (carryless_product a q) ≡ carryless_product a s)
 unfolding carryless_product
 sum_of_products a [] q = (q, refl)
 sum_of_products a (c ∷ p) [] = (c ∷ p, xor_zero_r (carryless_product a (c ∷ p)))
@@ -28,15 +31,34 @@ sum_of_products a (c ∷ p) (d ∷ q) =
     let inner : bit_xor (2 * carryless_product a p) (2 * carryless_product a q) ≡ 2 * carryless_product a rest.0
     = xor_twice (carryless_product a p) (carryless_product a q) ∙ ap (λ x. 2 * x) rest.1 in
     let swapped = xor_exchange (cond c a 0) (2 * carryless_product a p) (cond d a 0) (2 * carryless_product a q) in
-    elim c as (λ e. (s : List Bool) × (bit_xor (carryless_product a (e ∷ p)) (carryless_product a (d ∷ q)) ≡ carryless_product a s)) [
-      | true ↦ elim d as (λ e. (s : List Bool) × (bit_xor (carryless_product a (true ∷ p)) (carryless_product a (e ∷ q)) ≡ carryless_product a s)) [
-        | true ↦ (false ∷ rest.0, xor_exchange a (2 * carryless_product a p) a (2 * carryless_product a q) ∙ rw (xor_self a, inner) refl)
-        | false ↦ (true ∷ rest.0, xor_exchange a (2 * carryless_product a p) 0 (2 * carryless_product a q) ∙ rw (xor_zero_r a, inner) refl)
-      ]
-      | false ↦ elim d as (λ e. (s : List Bool) × (bit_xor (carryless_product a (false ∷ p)) (carryless_product a (e ∷ q)) ≡ carryless_product a s)) [
-        | true ↦ (true ∷ rest.0, xor_exchange 0 (2 * carryless_product a p) a (2 * carryless_product a q) ∙ rw inner refl)
-        | false ↦ (false ∷ rest.0, xor_exchange 0 (2 * carryless_product a p) 0 (2 * carryless_product a q) ∙ rw inner refl)
-      ]
+    elim c as (λ e. (s : List Bool)
+    × (bit_xor (carryless_product a (e ∷ p)) (carryless_product a (d ∷ q)) ≡ carryless_product a s)) [
+      | true ↦ elim d as (λ e. (s : List Bool)
+          × (bit_xor (carryless_product a (true ∷ p)) (carryless_product a (e ∷ q)) ≡ carryless_product a s)) [
+            | true ↦ (
+              false ∷ rest.0,
+              xor_exchange a (2 * carryless_product a p) a (2 * carryless_product a q)
+                  ∙ rw (xor_self a, inner) refl,
+            )
+            | false ↦ (
+              true ∷ rest.0,
+              xor_exchange a (2 * carryless_product a p) 0 (2 * carryless_product a q)
+                  ∙ rw (xor_zero_r a, inner) refl,
+            )
+          ]
+      | false ↦ elim d as (λ e. (s : List Bool)
+          × (bit_xor (carryless_product a (false ∷ p)) (carryless_product a (e ∷ q)) ≡ carryless_product a s)) [
+            | true ↦ (
+              true ∷ rest.0,
+              xor_exchange 0 (2 * carryless_product a p) a (2 * carryless_product a q)
+                  ∙ rw inner refl,
+            )
+            | false ↦ (
+              false ∷ rest.0,
+              xor_exchange 0 (2 * carryless_product a p) 0 (2 * carryless_product a q)
+                  ∙ rw inner refl,
+            )
+          ]
     ]
 
 pub IsMultiple-xor : (m n : ℕ) → IsMultiple m → IsMultiple n → IsMultiple (bit_xor m n)
@@ -96,7 +118,8 @@ same_from_xor a b none =
 pub IsRemainder-unique : (n r s : ℕ) → IsRemainder n r → IsRemainder n s → r ≡ s
 IsRemainder-unique n r s (small, is) (small', is') =
     let both = IsMultiple-xor (bit_xor n r) (bit_xor n s) is is' in
-    let moved : bit_xor (bit_xor n r) (bit_xor n s) ≡ bit_xor r s = xor_exchange n r n s ∙ ap (λ x. bit_xor x (bit_xor r s)) (xor_self n) in
+    let moved : bit_xor (bit_xor n r) (bit_xor n s) ≡ bit_xor r s =
+    xor_exchange n r n s ∙ ap (λ x. bit_xor x (bit_xor r s)) (xor_self n) in
     same_from_xor r s (IsMultiple-small (bit_xor r s) (rw moved at both) (xor_lt 24 r s small small'))
 
 -- a multiple has the remainder 0

@@ -14,7 +14,8 @@ IsRemainder-zero = (omega arith, IsMultiple-zero)
 -- both numbers with the same bit appended
 appended : (n r b : ℕ) → b < 2 → bit_xor (2 * n + b) (2 * r + b) ≡ 2 * bit_xor n r
 appended n r b small =
-    let block : bit_xor (n * 2 ^ 1 + b) (r * 2 ^ 1 + b) ≡ bit_xor n r * 2 ^ 1 + bit_xor b b = xor_block 1 n r b b (omega arith) (omega arith) in
+    let block : bit_xor (n * 2 ^ 1 + b) (r * 2 ^ 1 + b) ≡ bit_xor n r * 2 ^ 1 + bit_xor b b =
+    xor_block 1 n r b b (omega arith) (omega arith) in
     let left : 2 * n + b ≡ n * 2 ^ 1 + b = omega arith in
     let right : 2 * r + b ≡ r * 2 ^ 1 + b = omega arith in
     let out : bit_xor n r * 2 ^ 1 + bit_xor b b ≡ 2 * bit_xor n r = omega (arith, xor_self b) in
@@ -34,7 +35,8 @@ reduced-lt m high low =
     let none : bit_xor (m / 2 ^ 24) (generator / 2 ^ 24) ≡ 0 = rw top refl in
     omega (arith, shifted, none)
 
-pub IsRemainder-reduced : (n r b : ℕ) → b < 2 → 2 ^ 24 ≤ r * 2 + b → IsRemainder n r → IsRemainder (2 * n + b) (bit_xor (r * 2 + b) generator)
+pub IsRemainder-reduced : (n r b : ℕ) → b < 2 → 2 ^ 24 ≤ r * 2 + b → IsRemainder n r
+    → IsRemainder (2 * n + b) (bit_xor (r * 2 + b) generator)
 IsRemainder-reduced n r b bit high (low, is) =
     let turned : r * 2 + b ≡ 2 * r + b = omega arith in
     let sum : bit_xor (2 * n + b) (bit_xor (r * 2 + b) generator) ≡ bit_xor generator (2 * bit_xor n r)
@@ -48,7 +50,8 @@ upper_kept n r small =
     let none : r / 2 ^ 24 ≡ 0 = omega arith in
     xor_shr n r 24 ∙ rw none (xor_zero_r (n / 2 ^ 24))
 
-pub upper_field : (m n start len : ℕ) → m / 2 ^ 24 ≡ n / 2 ^ 24 → 1 ≤ start → start + len ≤ 89 → field_at m start len ≡ field_at n start len
+pub upper_field : (m n start len : ℕ) → m / 2 ^ 24 ≡ n / 2 ^ 24 → 1 ≤ start → start + len ≤ 89
+    → field_at m start len ≡ field_at n start len
 upper_field m n start len same begins within =
     let d : ℕ = 89 - start - len in
     let far : 113 - start - len ≡ 24 + d = omega arith in
@@ -57,9 +60,11 @@ upper_field m n start len same begins within =
 -- 256 times a multiple, by doubling
 IsMultiple-byte : (n : ℕ) → IsMultiple n → IsMultiple (256 * n)
 IsMultiple-byte n is =
-    let two = IsMultiple-twice (2 * (2 * (2 * n))) (IsMultiple-twice (2 * (2 * n)) (IsMultiple-twice (2 * n) (IsMultiple-twice n is))) in
+    let two = IsMultiple-twice (2 * (2 * (2 * n)))
+    (IsMultiple-twice (2 * (2 * n)) (IsMultiple-twice (2 * n) (IsMultiple-twice n is))) in
     let m : ℕ = 2 * (2 * (2 * (2 * n))) in
-    let eight = IsMultiple-twice (2 * (2 * (2 * m))) (IsMultiple-twice (2 * (2 * m)) (IsMultiple-twice (2 * m) (IsMultiple-twice m two))) in
+    let eight = IsMultiple-twice (2 * (2 * (2 * m)))
+    (IsMultiple-twice (2 * (2 * m)) (IsMultiple-twice (2 * m) (IsMultiple-twice m two))) in
     let whole : 256 * n ≡ 2 * (2 * (2 * (2 * m))) = omega arith in
     rw whole eight
 
@@ -72,7 +77,8 @@ IsRemainder-moved : (m n t : ℕ) → IsMultiple (bit_xor m n) → IsRemainder n
 IsRemainder-moved m n t is (small, rest) =
     let both = IsMultiple-xor (bit_xor m n) (bit_xor n t) is rest in
     let sum : bit_xor (bit_xor m n) (bit_xor n t) ≡ bit_xor m t
-    = xor_assoc m n (bit_xor n t) ∙ ap (λ x. bit_xor m x) (sym (xor_assoc n n t) ∙ ap (λ x. bit_xor x t) (xor_self n)) in
+    = xor_assoc m n (bit_xor n t)
+    ∙ ap (λ x. bit_xor m x) (sym (xor_assoc n n t) ∙ ap (λ x. bit_xor x t) (xor_self n)) in
     (small, rw sum at both)
 
 -- the three bytes of a remainder go out, and with them their remainders come in
@@ -81,24 +87,31 @@ IsRemainder-bytes : (h m l w a b c : ℕ) → m < 256 → l < 256 → w < 2 ^ 24
     → IsRemainder (h * 2 ^ 40 + (m * 2 ^ 32 + (l * 2 ^ 24 + w))) (bit_xor a (bit_xor b (bit_xor c w)))
 IsRemainder-bytes h m l w a b c middle low word first second third =
     let one : bit_xor (l * 2 ^ 24) w ≡ l * 2 ^ 24 + w = xor_shifted l 24 w word in
-    let two : bit_xor (m * 2 ^ 32) (l * 2 ^ 24 + w) ≡ m * 2 ^ 32 + (l * 2 ^ 24 + w) = xor_shifted m 32 (l * 2 ^ 24 + w) (omega arith) in
+    let two : bit_xor (m * 2 ^ 32) (l * 2 ^ 24 + w) ≡ m * 2 ^ 32 + (l * 2 ^ 24 + w) =
+    xor_shifted m 32 (l * 2 ^ 24 + w) (omega arith) in
     let all : bit_xor (h * 2 ^ 40) (m * 2 ^ 32 + (l * 2 ^ 24 + w)) ≡ h * 2 ^ 40 + (m * 2 ^ 32 + (l * 2 ^ 24 + w))
     = xor_shifted h 40 (m * 2 ^ 32 + (l * 2 ^ 24 + w)) (omega arith) in
-    let x = subst (λ k. IsRemainder k (bit_xor c w)) one (IsRemainder-sum (l * 2 ^ 24) w c w third (IsRemainder-small w word)) in
-    let y = subst (λ k. IsRemainder k (bit_xor b (bit_xor c w))) two (IsRemainder-sum (m * 2 ^ 32) (l * 2 ^ 24 + w) b (bit_xor c w) second x) in
-    subst (λ k. IsRemainder k (bit_xor a (bit_xor b (bit_xor c w)))) all (IsRemainder-sum (h * 2 ^ 40) (m * 2 ^ 32 + (l * 2 ^ 24 + w)) a (bit_xor b (bit_xor c w)) first y)
+    let x = subst (λ k. IsRemainder k (bit_xor c w)) one
+    (IsRemainder-sum (l * 2 ^ 24) w c w third (IsRemainder-small w word)) in
+    let y = subst (λ k. IsRemainder k (bit_xor b (bit_xor c w))) two
+    (IsRemainder-sum (m * 2 ^ 32) (l * 2 ^ 24 + w) b (bit_xor c w) second x) in
+    subst (λ k. IsRemainder k (bit_xor a (bit_xor b (bit_xor c w)))) all
+    (IsRemainder-sum (h * 2 ^ 40) (m * 2 ^ 32 + (l * 2 ^ 24 + w)) a (bit_xor b (bit_xor c w)) first y)
 
 -- 24 more coefficients w
 pub IsRemainder-word : (n r w a b c : ℕ) → w < 2 ^ 24 → IsRemainder n r
     → IsRemainder (r / 2 ^ 16 * 2 ^ 40) a → IsRemainder (r / 2 ^ 8 % 256 * 2 ^ 32) b → IsRemainder (r % 256 * 2 ^ 24) c
     → IsRemainder (n * 2 ^ 24 + w) (bit_xor a (bit_xor b (bit_xor c w)))
 IsRemainder-word n r w a b c word is first second third =
-    let block : bit_xor (n * 2 ^ 24 + w) (r * 2 ^ 24 + w) ≡ bit_xor n r * 2 ^ 24 + bit_xor w w = xor_block 24 n r w w word word in
+    let block : bit_xor (n * 2 ^ 24 + w) (r * 2 ^ 24 + w) ≡ bit_xor n r * 2 ^ 24 + bit_xor w w =
+    xor_block 24 n r w w word word in
     let shifted : bit_xor n r * 2 ^ 24 + bit_xor w w ≡ 256 * (256 * (256 * bit_xor n r)) = omega (arith, xor_self w) in
     let moved : IsMultiple (bit_xor (n * 2 ^ 24 + w) (r * 2 ^ 24 + w))
     = rw (block, shifted) (IsMultiple-byte _ (IsMultiple-byte _ (IsMultiple-byte (bit_xor n r) is.1))) in
-    let parts : r / 2 ^ 16 * 2 ^ 40 + (r / 2 ^ 8 % 256 * 2 ^ 32 + (r % 256 * 2 ^ 24 + w)) ≡ r * 2 ^ 24 + w = omega arith in
-    let bytes = IsRemainder-bytes (r / 2 ^ 16) (r / 2 ^ 8 % 256) (r % 256) w a b c (omega arith) (omega arith) word first second third in
+    let parts : r / 2 ^ 16 * 2 ^ 40 + (r / 2 ^ 8 % 256 * 2 ^ 32 + (r % 256 * 2 ^ 24 + w)) ≡ r * 2 ^ 24 + w =
+    omega arith in
+    let bytes = IsRemainder-bytes (r / 2 ^ 16) (r / 2 ^ 8 % 256) (r % 256) w a b c (omega arith)
+    (omega arith) word first second third in
     IsRemainder-moved (n * 2 ^ 24 + w) (r * 2 ^ 24 + w) (bit_xor a (bit_xor b (bit_xor c w))) moved (rw parts at bytes)
 
 -- one more bit after a number with a remainder

@@ -31,7 +31,8 @@ frame_number-lt f (long, p) = rw long at (number_lt 256 f.0 p)
 -- multiples with the same bits above the last 24 are equal
 pub same_multiple : (m n : ℕ) → IsMultiple m → IsMultiple n → m / 2 ^ 24 ≡ n / 2 ^ 24 → m ≡ n
 same_multiple m n p q upper =
-    let none : bit_xor m n / 2 ^ 24 ≡ 0 = xor_shr m n 24 ∙ ap (λ x. bit_xor x (n / 2 ^ 24)) upper ∙ xor_self (n / 2 ^ 24) in
+    let none : bit_xor m n / 2 ^ 24 ≡ 0 =
+    xor_shr m n 24 ∙ ap (λ x. bit_xor x (n / 2 ^ 24)) upper ∙ xor_self (n / 2 ^ 24) in
     same_from_xor m n (IsMultiple-small (bit_xor m n) (IsMultiple-xor m n p q) (omega arith))
 
 -- frames that are multiples and have the same first 88 bits are equal
@@ -45,7 +46,8 @@ same_sealed f g x y p q e =
 
 -- the number of an exclusive or is that of the numbers
 xor_numbers : (m n : ℕ) (xs ys : List ℕ) → length xs ≡ length ys → AllBelowBase 256 xs → AllBelowBase 256 ys
-    → number_from_digits_after 256 (bit_xor m n) (xor_bytes xs ys) ≡ bit_xor (number_from_digits_after 256 m xs) (number_from_digits_after 256 n ys)
+    → number_from_digits_after 256 (bit_xor m n) (xor_bytes xs ys)
+    ≡ bit_xor (number_from_digits_after 256 m xs) (number_from_digits_after 256 n ys)
 xor_numbers m n [] [] long p q = refl
 xor_numbers m n [] (y ∷ ys) long p q = absurd (omega arith)
 xor_numbers m n (x ∷ xs) [] long p q = absurd (omega arith)

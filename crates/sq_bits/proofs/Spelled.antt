@@ -14,15 +14,19 @@ use Rattle.sq_bits.proofs.BitLaws.{field_spelled}
 use Rattle.sq_bits.proofs.Same.{same_sealed as same_sealed_quotient}
 
 -- what the code computes is the field
-pub quotient_is : (f : Frame) (first count : ℕ) → IsFrame f → 1 ≤ first → first + count ≤ 113 → quotient_of f first count ≡ field_of f first count
+pub quotient_is : (f : Frame) (first count : ℕ) → IsFrame f → 1 ≤ first → first + count ≤ 113
+    → quotient_of f first count ≡ field_of f first count
 unfolding field_of
 quotient_is f first count is begins within = field_spelled f first count is begins within
 
 -- one more bit after a field
-field_more : (f : Frame) (first count : ℕ) → field_of f first (suc count) ≡ field_of f first count * 2 + bit_of f (first + count)
+field_more : (f : Frame) (first count : ℕ)
+    → field_of f first (suc count) ≡ field_of f first count * 2 + bit_of f (first + count)
 unfolding field_of
 field_more f first count =
-    subst (λ c. number_from_digits 2 (map (bit_of f) (range_with_len first c)) ≡ number_from_digits 2 (map (bit_of f) (range_with_len first count)) * 2 + bit_of f (first + count)) (add-one count)
+    subst (λ c. number_from_digits 2 (map (bit_of f) (range_with_len first c))
+    ≡ number_from_digits 2 (map (bit_of f) (range_with_len first count)) * 2 + bit_of f (first + count))
+    (add-one count)
     (ap (number_from_digits 2) (map-range_with_len_more (bit_of f) first count (first + count) refl)
     ∙ number_push 2 (map (bit_of f) (range_with_len first count)) (bit_of f (first + count)))
 
@@ -31,10 +35,12 @@ unfolding field_of
 field_none f first = refl
 
 -- a field is its leading bits and the ones after them
-pub field_parts : (f : Frame) (first a b : ℕ) → field_of f first (a + b) ≡ field_of f first a * 2 ^ b + field_of f (first + a) b
+pub field_parts : (f : Frame) (first a b : ℕ)
+    → field_of f first (a + b) ≡ field_of f first a * 2 ^ b + field_of f (first + a) b
 field_parts f first a zero =
     let same : a + 0 ≡ a = omega arith in
-    subst (λ c. field_of f first c ≡ field_of f first a * 2 ^ 0 + field_of f (first + a) 0) (sym same) (omega (arith, field_none f (first + a)))
+    subst (λ c. field_of f first c ≡ field_of f first a * 2 ^ 0 + field_of f (first + a) 0) (sym same)
+    (omega (arith, field_none f (first + a)))
 field_parts f first a (suc b) =
     let before = field_parts f first a b in
     let left = field_more f first (a + b) in
@@ -58,14 +64,17 @@ field_small f first (suc count) =
 -- the leading bits of a field
 pub leading_field : (f : Frame) (first a b : ℕ) → field_of f first (a + b) / 2 ^ b ≡ field_of f first a
 leading_field f first a b =
-    ap (λ x. x / 2 ^ b) (field_parts f first a b) ∙ shr_high (field_of f first a) b (field_of f (first + a) b) (field_small f (first + a) b)
+    ap (λ x. x / 2 ^ b) (field_parts f first a b)
+    ∙ shr_high (field_of f first a) b (field_of f (first + a) b) (field_small f (first + a) b)
 
 -- frames that agree on two fields side by side agree on both as one
-pub join_fields : (f g : Frame) (first a b : ℕ) → field_of f first a ≡ field_of g first a → field_of f (first + a) b ≡ field_of g (first + a) b
+pub join_fields : (f g : Frame) (first a b : ℕ) → field_of f first a ≡ field_of g first a
+    → field_of f (first + a) b ≡ field_of g (first + a) b
     → field_of f first (a + b) ≡ field_of g first (a + b)
 join_fields f g first a b left right = field_parts f first a b ∙ rw (left, right) (sym (field_parts g first a b))
 
 pub same_sealed : (f g : Frame) → IsFrame f → IsFrame g → IsMultiple (frame_number f) → IsMultiple (frame_number g)
     → field_of f 1 88 ≡ field_of g 1 88 → f ≡ g
 same_sealed f g x y p q e =
-    same_sealed_quotient f g x y p q (quotient_is f 1 88 x (omega arith) (omega arith) ∙ e ∙ sym (quotient_is g 1 88 y (omega arith) (omega arith)))
+    same_sealed_quotient f g x y p q
+    (quotient_is f 1 88 x (omega arith) (omega arith) ∙ e ∙ sym (quotient_is g 1 88 y (omega arith) (omega arith)))

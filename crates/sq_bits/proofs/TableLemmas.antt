@@ -22,11 +22,14 @@ IsRemainder-step n r is =
       | inl low ↦
           let kept : IsRemainder (2 * n + 0) (r * 2 + 0) = IsRemainder-kept n r 0 (omega arith) (omega arith) is in
           let kept' : IsRemainder (2 * n) (r * 2) = rw (same, shifted) at kept in
-          subst (λ t. IsRemainder (2 * n) (cond t (r * 2) (bit_xor (r * 2) generator))) (sym (lt-ltb (r * 2) 16777216 low)) kept'
+          subst (λ t. IsRemainder (2 * n) (cond t (r * 2) (bit_xor (r * 2) generator)))
+          (sym (lt-ltb (r * 2) 16777216 low)) kept'
       | inr high ↦
-          let reduced : IsRemainder (2 * n + 0) (bit_xor (r * 2 + 0) generator) = IsRemainder-reduced n r 0 (omega arith) (omega arith) is in
+          let reduced : IsRemainder (2 * n + 0) (bit_xor (r * 2 + 0) generator) =
+          IsRemainder-reduced n r 0 (omega arith) (omega arith) is in
           let reduced' : IsRemainder (2 * n) (bit_xor (r * 2) generator) = rw (same, shifted) at reduced in
-          subst (λ t. IsRemainder (2 * n) (cond t (r * 2) (bit_xor (r * 2) generator))) (sym (le-ltb (r * 2) 16777216 high)) reduced'
+          subst (λ t. IsRemainder (2 * n) (cond t (r * 2) (bit_xor (r * 2) generator)))
+          (sym (le-ltb (r * 2) 16777216 high)) reduced'
     ]
 
 -- the remainder of a byte with 24 coefficients 0 after it
@@ -68,7 +71,8 @@ table_32_is = refl
 
 pub IsRemainder-entry_32 : (b : ℕ) → b < 256 → IsRemainder (b * 2 ^ 32) (get_or REMAINDERS_32 b 0)
 IsRemainder-entry_32 b small =
-    let entry : get_or REMAINDERS_32 b 0 ≡ eight (get_or REMAINDERS b 0) = ap (λ t. get_or t b 0) table_32_is ∙ get_or-map eight REMAINDERS b 0 in
+    let entry : get_or REMAINDERS_32 b 0 ≡ eight (get_or REMAINDERS b 0) =
+    ap (λ t. get_or t b 0) table_32_is ∙ get_or-map eight REMAINDERS b 0 in
     let more = IsRemainder-eight (b * 2 ^ 24) (get_or REMAINDERS b 0) (IsRemainder-entry b small) in
     let whole : b * 2 ^ 24 * 256 ≡ b * 2 ^ 32 = omega arith in
     rw whole at (subst (λ x. IsRemainder (b * 2 ^ 24 * 256) x) (sym entry) more)
@@ -78,7 +82,8 @@ table_40_is = refl
 
 pub IsRemainder-entry_40 : (b : ℕ) → b < 256 → IsRemainder (b * 2 ^ 40) (get_or REMAINDERS_40 b 0)
 IsRemainder-entry_40 b small =
-    let entry : get_or REMAINDERS_40 b 0 ≡ eight (get_or REMAINDERS_32 b 0) = ap (λ t. get_or t b 0) table_40_is ∙ get_or-map eight REMAINDERS_32 b 0 in
+    let entry : get_or REMAINDERS_40 b 0 ≡ eight (get_or REMAINDERS_32 b 0) =
+    ap (λ t. get_or t b 0) table_40_is ∙ get_or-map eight REMAINDERS_32 b 0 in
     let more = IsRemainder-eight (b * 2 ^ 32) (get_or REMAINDERS_32 b 0) (IsRemainder-entry_32 b small) in
     let whole : b * 2 ^ 32 * 256 ≡ b * 2 ^ 40 = omega arith in
     rw whole at (subst (λ x. IsRemainder (b * 2 ^ 32 * 256) x) (sym entry) more)

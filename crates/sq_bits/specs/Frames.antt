@@ -17,6 +17,11 @@ bit_of f place = bit_at (slice_index f.0 ((place - 1) / 8)) (7 - (place - 1) % 8
 unfoldable pub field_of : Frame → ℕ → ℕ → ℕ
 field_of f first count = number_from_digits 2 (map (bit_of f) (range_with_len first count))
 
+-- the fields that end before this bit are as they were
+abbrev pub KeepsFieldsBefore : ℕ → (old new : Frame) → Type 0
+KeepsFieldsBefore bit old new =
+    (start len : ℕ) → 1 ≤ start → start + len ≤ bit → field_of new start len ≡ field_of old start len
+
 -- the `len` bit places from `start` on are bits of a frame, and none of them is one of the `count` from `first` on
 abbrev pub IsApart : ℕ → ℕ → ℕ → ℕ → Type 0
 IsApart start len first count = (1 ≤ start) × (start + len ≤ 113) × ((start + len ≤ first) ⊎ (first + count ≤ start))

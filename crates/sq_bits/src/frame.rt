@@ -7,8 +7,8 @@ use crate::laws::each_frame;
 // The numbers of three bytes.
 const WORD: u128 = 1 << 24;
 
-/// The 112 bits of an extended squitter (ICAO Annex 10 volume IV, section 3.1.2.3), numbered from 1 to 112: bit 1 is the
-/// most significant bit of byte 0.
+/// The 112 bits of an extended squitter (ICAO Annex 10 volume IV, section 3.1.2.3), numbered from 1 to 112: bit 1 is
+/// the most significant bit of byte 0.
 #[derive(Clone, Copy, Debug, PartialEq, Eq)]
 pub struct Frame(pub [u8; 14]);
 
@@ -71,7 +71,8 @@ impl Frame {
         requires within { first + count ≤ 113 }
         requires fits { value < 2 ^ count }
         ensures value { field_of result first count ≡ value }
-        ensures kept { (start len : ℕ) → IsApart start len first count → field_of result start len ≡ field_of self.now start len }
+        ensures kept { (start len : ℕ) → IsApart start len first count
+            → field_of result start len ≡ field_of self.now start len }
     {
         let below = 113 - first - count;
         let held = u128::from(self.field(first, count)) << below;

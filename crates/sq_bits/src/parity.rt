@@ -1,6 +1,6 @@
 //! The parity of a frame, three bytes at a time.
-ghost use Rattle.std.specs.Prelude.{◌≡◌, ℕ, ◌+◌, ◌*◌, ◌<◌, ◌≤◌, ◌^◌};
-ghost use Rattle.sq_bits.specs.Frames.{frame_number, field_of, IsFrame};
+ghost use Rattle.std.specs.Prelude.{ℕ, ◌+◌, ◌*◌, ◌<◌, ◌^◌};
+ghost use Rattle.sq_bits.specs.Frames.{frame_number, IsFrame, KeepsFieldsBefore};
 ghost use Rattle.sq_bits.specs.Parity.{IsMultiple, IsRemainder};
 
 use crate::frame::{Frame, word_of};
@@ -38,7 +38,7 @@ fn append_word(remainder: u32, word: u32) -> u32
 pub fn sealed(frame: &Frame) -> Frame
     ensures multiple { IsMultiple (frame_number result) }
     ensures frame { IsFrame result }
-    ensures kept { (start len : ℕ) → 1 ≤ start → start + len ≤ 89 → field_of result start len ≡ field_of frame.now start len }
+    ensures kept { KeepsFieldsBefore 89 frame.now result }
 {
     Frame::from_number(frame.number() ^ u128::from(remainder(frame)))
 }

@@ -8,9 +8,11 @@ use Rattle.sq_angle.specs.Fraction.{Fraction}
 use Rattle.sq_angle.proofs.OneText.{one_decimal7}
 
 -- an angle's decimals are those of the writer
-pub written : (decimals : DecimalWriter) (angle : Angle) (x : Fraction) (part : List ℕ) → degrees angle ≡ x → IsDecimal7 (degrees angle) part → part ≡ decimals.write x
+pub written : (decimals : DecimalWriter) (angle : Angle) (x : Fraction) (part : List ℕ) → degrees angle ≡ x
+    → IsDecimal7 (degrees angle) part → part ≡ decimals.write x
 written decimals angle x part same is =
-    one_decimal7 (degrees angle) part (decimals.write (degrees angle)) angle.in_range.positive is (decimals.writes (degrees angle) angle.in_range.positive)
+    one_decimal7 (degrees angle) part (decimals.write (degrees angle)) angle.in_range.positive is
+    (decimals.writes (degrees angle) angle.in_range.positive)
     ∙ ap decimals.write same
 
 joined : (old word address a b : List ℕ)
@@ -18,7 +20,8 @@ joined : (old word address a b : List ℕ)
 joined old word address a b = simp append_assoc refl
 
 -- a word, an address and two coordinates, pushed one after the other
-pub pushed : (old word address p q a b t0 t1 t2 t3 t4 : List ℕ) → t0 ≡ old ++ (word ++ address) → t1 ≡ t0 ++ codes " " → t2 ≡ t1 ++ p → t3 ≡ t2 ++ codes " "
+pub pushed : (old word address p q a b t0 t1 t2 t3 t4 : List ℕ) → t0 ≡ old ++ (word ++ address) → t1 ≡ t0 ++ codes " "
+    → t2 ≡ t1 ++ p → t3 ≡ t2 ++ codes " "
     → t4 ≡ t3 ++ q → p ≡ a → q ≡ b → t4 ≡ old ++ (word ++ address ++ codes " " ++ (a ++ codes " " ++ b))
 pushed old word address p q a b t0 t1 t2 t3 t4 e0 e1 e2 e3 e4 x y =
     let s1 : t1 ≡ (old ++ (word ++ address)) ++ codes " " = e1 ∙ ap (λ l. l ++ codes " ") e0 in

@@ -30,27 +30,35 @@ use Rattle.sq_commands.specs.Heard.{heard_text}
 use Rattle.sq_commands.specs.Track.{IsTracked}
 use Rattle.sq_commands.specs.Tracking.{AreHeardLines, HasHeard, IsHeardLine, IsTracking, Replier, Tracking, WroteIntoLast, answer_heard, found_of, past_heard, past_with, reply_by, track_way}
 
-history_with : (past : Tracking) (timed : TimedSquitter) (reply : Result Heard TrackFault) (is : IsReply past.settings past.history timed.moment timed.squitter reply)
+history_with : (past : Tracking) (timed : TimedSquitter) (reply : Result Heard TrackFault)
+    (is : IsReply past.settings past.history timed.moment timed.squitter reply)
     → (past_with past timed reply is).history ≡ history_after past.history timed.moment timed.squitter reply
 history_with past timed (Ok heard) is = refl
 history_with past timed (Err fault) is = refl
 
-settings_with : (past : Tracking) (timed : TimedSquitter) (reply : Result Heard TrackFault) (is : IsReply past.settings past.history timed.moment timed.squitter reply)
+settings_with : (past : Tracking) (timed : TimedSquitter) (reply : Result Heard TrackFault)
+    (is : IsReply past.settings past.history timed.moment timed.squitter reply)
     → (past_with past timed reply is).settings ≡ past.settings
 settings_with past timed (Ok heard) is = refl
 settings_with past timed (Err fault) is = refl
 
 -- the tracker's reply is the one by what came before
-pub heard_line : (past : Tracking) (timed : TimedSquitter) (verdict : Result HeardFrom LineFault) (new : Held) (reply : Result Heard TrackFault)
-    → IsReply past.settings past.history timed.moment timed.squitter reply → reply ≢ Err track_faults.Memory → verdict ≡ found_of timed reply
+pub heard_line : (past : Tracking) (timed : TimedSquitter) (verdict : Result HeardFrom LineFault) (new : Held)
+    (reply : Result Heard TrackFault)
+    → IsReply past.settings past.history timed.moment timed.squitter reply → reply ≢ Err track_faults.Memory
+    → verdict ≡ found_of timed reply
     → StandsFor new (history_after past.history timed.moment timed.squitter reply) → settings new ≡ past.settings
-    → (let answer : Answer HeardFrom = Some verdict in answer ≡ answer_heard past (Some (Ok timed))) × IsTracking new (past_heard past (Some (Ok timed)))
+    → (let answer : Answer HeardFrom = Some verdict in answer ≡ answer_heard past (Some (Ok timed)))
+    × IsTracking new (past_heard past (Some (Ok timed)))
 heard_line past timed verdict new reply is remembers found stands same =
     let by = past.replier.replies past.settings past.history past.accepted timed.moment timed.squitter in
-    let one : reply ≡ reply_by past timed = one_reply past.settings past.history timed.moment timed.squitter reply (reply_by past timed) remembers
+    let one : reply ≡ reply_by past timed =
+    one_reply past.settings past.history timed.moment timed.squitter reply (reply_by past timed) remembers
     (past.replier.remembers past.settings past.history past.accepted timed.moment timed.squitter) is by in
-    let after : history_after past.history timed.moment timed.squitter reply ≡ (past_with past timed (reply_by past timed) by).history =
-    ap (history_after past.history timed.moment timed.squitter) one ∙ sym (history_with past timed (reply_by past timed) by) in (
+    let after : history_after past.history timed.moment timed.squitter reply
+    ≡ (past_with past timed (reply_by past timed) by).history =
+    ap (history_after past.history timed.moment timed.squitter) one
+    ∙ sym (history_with past timed (reply_by past timed) by) in (
       ap Some (found ∙ ap (found_of timed) one),
       (subst (StandsFor new) after stands, same ∙ sym (settings_with past timed (reply_by past timed) by)),
     )
@@ -71,16 +79,24 @@ line_heard : (past : Tracking) (read : Answer TimedSquitter)
 line_heard past None = (refl, refl)
 line_heard past (Some (Err fault)) = (refl, refl)
 line_heard past (Some (Ok timed)) =
-    let by = past.replier.replies past.settings past.history past.accepted timed.moment timed.squitter in
-    (reply_by past timed, by, past.replier.remembers past.settings past.history past.accepted timed.moment timed.squitter, refl, history_with past timed (reply_by past timed) by)
+    let by = past.replier.replies past.settings past.history past.accepted timed.moment timed.squitter in (
+      reply_by past timed,
+      by,
+      past.replier.remembers past.settings past.history past.accepted timed.moment
+          timed.squitter,
+      refl,
+      history_with past timed (reply_by past timed) by,
+    )
 
 settings_heard : (past : Tracking) (read : Answer TimedSquitter) → (past_heard past read).settings ≡ past.settings
 settings_heard past None = refl
 settings_heard past (Some (Err fault)) = refl
 settings_heard past (Some (Ok timed)) =
-    settings_with past timed (reply_by past timed) (past.replier.replies past.settings past.history past.accepted timed.moment timed.squitter)
+    settings_with past timed (reply_by past timed)
+    (past.replier.replies past.settings past.history past.accepted timed.moment timed.squitter)
 
-reader_with : (past : Tracking) (timed : TimedSquitter) (reply : Result Heard TrackFault) (is : IsReply past.settings past.history timed.moment timed.squitter reply)
+reader_with : (past : Tracking) (timed : TimedSquitter) (reply : Result Heard TrackFault)
+    (is : IsReply past.settings past.history timed.moment timed.squitter reply)
     → (past_with past timed reply is).reader ≡ past.reader
 reader_with past timed (Ok heard) is = refl
 reader_with past timed (Err fault) is = refl
@@ -89,10 +105,12 @@ reader_heard : (past : Tracking) (read : Answer TimedSquitter) → (past_heard p
 reader_heard past None = refl
 reader_heard past (Some (Err fault)) = refl
 reader_heard past (Some (Ok timed)) =
-    reader_with past timed (reply_by past timed) (past.replier.replies past.settings past.history past.accepted timed.moment timed.squitter)
+    reader_with past timed (reply_by past timed)
+    (past.replier.replies past.settings past.history past.accepted timed.moment timed.squitter)
 
 pub lines_heard : (past : Tracking) (lines : List (List ℕ))
-    → AreHeardLines past.reader past.settings past.history lines (answers_to track_way past lines) (past_after track_way past lines).history
+    → AreHeardLines past.reader past.settings past.history lines (answers_to track_way past lines)
+    (past_after track_way past lines).history
 lines_heard past [] = (refl, refl)
 lines_heard past (line ∷ lines) =
     let read = answer_by past.reader.read line in
@@ -104,7 +122,8 @@ lines_heard past (line ∷ lines) =
       next.history,
       answers,
       line_heard past read,
-      subst₂ (λ (r : TimedReader) (s : Settings). AreHeardLines r s next.history lines answers end) (reader_heard past read) (settings_heard past read) rest,
+      subst₂ (λ (r : TimedReader) (s : Settings). AreHeardLines r s next.history lines answers end)
+          (reader_heard past read) (settings_heard past read) rest,
       refl,
     )
 
@@ -112,9 +131,11 @@ lines_heard past (line ∷ lines) =
 
 -- what came before the first line
 abbrev start : TimedReader → DecimalWriter → (s : Settings) (h : History) → IsHistory s h → Tracking
-start reader decimals s h accepted = record { reader = reader; replier = replier; decimals = decimals; settings = s; history = h; accepted = accepted }
+start reader decimals s h accepted =
+    record { reader = reader; replier = replier; decimals = decimals; settings = s; history = h; accepted = accepted }
 
-pub heard_from : (old new : Held) (before after : Option (List ℕ)) (lines : List (List ℕ)) (Holding : (List (Answer HeardFrom) → List ℕ) → List (Answer HeardFrom) → Type 0)
+pub heard_from : (old new : Held) (before after : Option (List ℕ)) (lines : List (List ℕ))
+    (Holding : (List (Answer HeardFrom) → List ℕ) → List (Answer HeardFrom) → Type 0)
     → ((past : Tracking) → IsTracking old past → IsTracking new (past_after track_way past lines)
     × Holding (texts_of (heard_text past.decimals)) (answers_to track_way past lines))
     → HasHeard old new lines Holding
@@ -123,7 +144,8 @@ heard_from old new before after lines Holding told reader decimals h stands =
     let one = told past (stands, refl) in
     (answers_to track_way past lines, (past_after track_way past lines).history, lines_heard past lines, one.0.0, one.1)
 
-answers-take : (past : Tracking) (n : ℕ) (lines : List (List ℕ)) → answers_to track_way past (take n lines) ≡ take n (answers_to track_way past lines)
+answers-take : (past : Tracking) (n : ℕ) (lines : List (List ℕ))
+    → answers_to track_way past (take n lines) ≡ take n (answers_to track_way past lines)
 answers-take past zero lines = refl
 answers-take past (suc n) [] = refl
 answers-take past (suc n) (line ∷ lines) =
@@ -136,35 +158,51 @@ answers-length past (line ∷ lines) =
     let read = answer_by past.reader.read line in
     omega (arith, answers-length (past_heard past read) lines)
 
-pub told-track : (old new : Held) (before after : Option (List ℕ)) (lines : List (List ℕ)) → HasTold IsTracking track_way old new before after lines
+pub told-track : (old new : Held) (before after : Option (List ℕ)) (lines : List (List ℕ))
+    → HasTold IsTracking track_way old new before after lines
     → HasHeard old new lines (λ text answers. Appends before after (text answers))
-told-track old new before after lines told = heard_from old new before after lines (λ text answers. Appends before after (text answers)) told
+told-track old new before after lines told =
+    heard_from old new before after lines (λ text answers. Appends before after (text answers)) told
 
-pub told_part-track : (old new : Held) (output : Written) (lines : List (List ℕ)) → HasToldPart IsTracking track_way old new output.before output.after lines
+pub told_part-track : (old new : Held) (output : Written) (lines : List (List ℕ))
+    → HasToldPart IsTracking track_way old new output.before output.after lines
     → HasHeard old new lines (λ text answers. WroteIntoLast output text answers)
-told_part-track old new output lines told = heard_from old new output.before output.after lines (λ text answers. WroteIntoLast output text answers) (λ past st.
+told_part-track old new output lines told = heard_from old new output.before output.after lines
+    (λ text answers. WroteIntoLast output text answers) (λ past st.
     let one = told past st in
     let text : List (Answer HeardFrom) → List ℕ = texts_of (heard_text past.decimals) in
     let answers = answers_to track_way past lines in
     let n : length answers - 1 ≡ length lines - 1 = ap (λ k. k - 1) (answers-length past lines) in
     let front : answers_to track_way past (but_last lines) ≡ take (length answers - 1) answers =
     answers-take past (length lines - 1) lines ∙ ap (λ k. take k answers) (sym n) in
-    let part : List ℕ = one.1.0 in
-    (one.0, (part, subst (λ (front : List (Answer HeardFrom)). IsPrefixOf (text front) part) front one.1.1, one.1.2, one.1.3)))
+    let part : List ℕ = one.1.0 in (
+      one.0,
+      (
+        part,
+        subst (λ (front : List (Answer HeardFrom)). IsPrefixOf (text front) part) front one.1.1,
+        one.1.2,
+        one.1.3,
+      ),
+    ))
 
 pub whole-track : (input : Taken) (output : Written) (old new : Held) (tally : Tally)
-    → IfSome input.before (λ bytes. (input.after ≡ Some []) × HasTold IsTracking track_way old new output.before output.after (lines_of bytes)
+    → IfSome input.before (λ bytes. (input.after ≡ Some [])
+    × HasTold IsTracking track_way old new output.before output.after (lines_of bytes)
     × ((past : Tracking) → IsTracking old past → tally ≡ tally_of (answers_to track_way past (lines_of bytes))))
     → IsTracked (Ok tally) input output old new
 whole-track input output old new tally whole = at_end input.before whole
   where
-    at_end : (before : Option (List ℕ)) → IfSome before (λ bytes. (input.after ≡ Some []) × HasTold IsTracking track_way old new output.before output.after (lines_of bytes)
+    at_end : (before : Option (List ℕ))
+        → IfSome before (λ bytes. (input.after ≡ Some [])
+        × HasTold IsTracking track_way old new output.before output.after (lines_of bytes)
         × ((past : Tracking) → IsTracking old past → tally ≡ tally_of (answers_to track_way past (lines_of bytes))))
-        → IfSome before (λ bytes. (input.after ≡ Some []) × HasHeard old new (lines_of bytes) (λ text answers. Wrote output (text answers) × (tally ≡ tally_of answers)))
+        → IfSome before (λ bytes. (input.after ≡ Some [])
+        × HasHeard old new (lines_of bytes) (λ text answers. Wrote output (text answers) × (tally ≡ tally_of answers)))
     at_end None whole = tt
     at_end (Some bytes) whole = (
       whole.0,
-      heard_from old new output.before output.after (lines_of bytes) (λ text answers. Wrote output (text answers) × (tally ≡ tally_of answers)) (λ past st.
+      heard_from old new output.before output.after (lines_of bytes)
+          (λ text answers. Wrote output (text answers) × (tally ≡ tally_of answers)) (λ past st.
           let one = whole.1 past st in (one.0, (one.1, whole.2 past st))),
     )
 
@@ -173,25 +211,42 @@ StoppedInLog fault old new before after complete = StoppedIn fault IsTracking tr
 
 -- what a run of any lines came to, of `track`
 pub tracked : (result : Result Tally RunFault) (input : Taken) (output : Written) (old new : Held)
-    → IfOk result (λ tally. IfSome input.before (λ bytes. (input.after ≡ Some []) × HasTold IsTracking track_way old new output.before output.after (lines_of bytes)
+    → IfOk result (λ tally. IfSome input.before
+    (λ bytes. (input.after ≡ Some [])
+    × HasTold IsTracking track_way old new output.before output.after (lines_of bytes)
     × ((past : Tracking) → IsTracking old past → tally ≡ tally_of (answers_to track_way past (lines_of bytes)))))
-    → IfErr result (λ fault. fault ≡ Read → (input.failed ≡ true) × ((bytes : List ℕ) × ConsumesOrHides input.before input.after bytes
+    → IfErr result (λ fault. fault ≡ Read
+    → (input.failed ≡ true) × ((bytes : List ℕ) × ConsumesOrHides input.before input.after bytes
     × HasTold IsTracking track_way old new output.before output.after (ended_lines bytes)))
     → IfErr result (λ fault. fault ≡ run_faults.Memory → (bytes : List ℕ) × Consumes input.before input.after bytes
     × (StoppedInLog Memory old new output.before output.after (ended_lines bytes)
     ⊎ (IsAtEnd input.after × StoppedInLog Memory old new output.before output.after (lines_of bytes))))
-    → IfErr result (λ fault. fault ≡ run_faults.Write → (output.failed ≡ true) × ((bytes : List ℕ) × Consumes input.before input.after bytes
+    → IfErr result (λ fault. fault ≡ run_faults.Write
+    → (output.failed ≡ true) × ((bytes : List ℕ) × Consumes input.before input.after bytes
     × (StoppedInLog Write old new output.before output.after (ended_lines bytes)
     ⊎ (IsAtEnd input.after × StoppedInLog Write old new output.before output.after (lines_of bytes)))))
     → IsTracked result input output old new
 tracked (Ok tally) input output old new whole unread unanswered unwritten = whole-track input output old new tally whole
 tracked (Err Read) input output old new whole unread unanswered unwritten =
-    let u = unread refl in (u.0, (u.1.0, u.1.1, told-track old new output.before output.after (ended_lines u.1.0) u.1.2))
+    let u = unread refl in (
+      u.0,
+      (
+        u.1.0,
+        u.1.1,
+        told-track old new output.before output.after (ended_lines u.1.0) u.1.2,
+      ),
+    )
 tracked (Err run_faults.Memory) input output old new whole unread unanswered unwritten =
     let u = unanswered refl in
     elim u.2 [
       | inl ended ↦ (u.0, ended.0, u.1, inl ended.1, told-track old new output.before output.after ended.0 ended.2)
-      | inr last ↦ (u.0, last.1.0, u.1, inr (last.0, last.1.1), told-track old new output.before output.after last.1.0 last.1.2)
+      | inr last ↦ (
+        u.0,
+        last.1.0,
+        u.1,
+        inr (last.0, last.1.1),
+        told-track old new output.before output.after last.1.0 last.1.2,
+      )
     ]
 tracked (Err run_faults.Write) input output old new whole unread unanswered unwritten =
     let u = unwritten refl in (

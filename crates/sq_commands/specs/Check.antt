@@ -27,7 +27,11 @@ check_tally reader lines = tally_of (map (answer_by reader.read) lines)
 -- `check` answers each line by itself: what came before it is nothing but the reader
 abbrev pub check_way : Answerer SquitterReader Squitter
 check_way =
-    record { answer = λ reader line. answer_by reader.read line; after = λ reader line. reader; text = λ reader. summary }
+    record {
+      answer = λ reader line. answer_by reader.read line;
+      after = λ reader line. reader;
+      text = λ reader. summary;
+    }
 
 -- every state of `check` stands for every reader
 abbrev pub IsChecking : {State : Type 0} → State → SquitterReader → Type 0
@@ -52,7 +56,8 @@ IsChecked (Err Read) input output = (input.failed ≡ true)
 -- where the sink failed, it did so within the answers to the lines that were read whole; the last part is a line at the
 -- end of the input
 IsChecked (Err Write) input output = (bytes : List ℕ) × Consumes input.before input.after bytes
-    × (FailedWithinChecks output (ended_lines bytes) ⊎ (IsAtEnd input.after × FailedWithinChecks output (lines_of bytes)))
+    × (FailedWithinChecks output (ended_lines bytes)
+    ⊎ (IsAtEnd input.after × FailedWithinChecks output (lines_of bytes)))
 -- no memory is wanted
 IsChecked (Err Memory) input output = ⊥
 

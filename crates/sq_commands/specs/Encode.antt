@@ -58,23 +58,32 @@ IsEncodeFault words fault =
 pub record IsAirHead (address altitude : ℕ) (head : AirHeadParts) : Type 0 where
   pub ca : head.ca ≡ 5
   pub of : head.address ≡ address
-  pub fields : air_parts head.fields ≡ record { type_code = 11; status = 0; flag = false; altitude = altitude; time = false }
+  pub fields : air_parts head.fields ≡ record {
+    type_code = 11;
+    status = 0;
+    flag = false;
+    altitude = altitude;
+    time = false;
+  }
 
 -- capability 4, type code 7, and no other field
 pub record IsGroundHead (address : ℕ) (head : GroundHeadParts) : Type 0 where
   pub ca : head.ca ≡ 4
   pub of : head.address ≡ address
-  pub fields : ground_parts head.fields ≡ record { type_code = 7; movement = 0; track_status = false; track = 0; time = false }
+  pub fields : ground_parts head.fields
+      ≡ record { type_code = 7; movement = 0; track_status = false; track = 0; time = false }
 
 -- the frame that is sent in the air
 abbrev pub IsAirFrame : (address altitude : ℕ) → Parity → Position → Frame → Type 0
 IsAirFrame address altitude parity position frame =
-    (head : AirHeadParts) × IsAirHead address altitude head × ((point : Point) × IsSentInAir head parity position point frame)
+    (head : AirHeadParts) × IsAirHead address altitude head
+    × ((point : Point) × IsSentInAir head parity position point frame)
 
 -- the frame that is sent on the ground
 abbrev pub IsGroundFrame : (address : ℕ) → Parity → Position → Frame → Type 0
 IsGroundFrame address parity position frame =
-    (head : GroundHeadParts) × IsGroundHead address head × ((point : Point) × IsSentOnGround head parity position point frame)
+    (head : GroundHeadParts) × IsGroundHead address head
+    × ((point : Point) × IsSentOnGround head parity position point frame)
 
 -- the frame that is sent of a kind
 abbrev pub IsFrameOf : Kind → EncodeValues → Frame → Type 0
@@ -88,9 +97,11 @@ frame_line frame = encode_upper frame.0 ++ codes "\n"
 -- what the arguments of `encode` ask for: a frame of the values that they spell, or their first fault
 abbrev pub IsEncodeReading : AskedEncode → Result Frame ArgumentFault → Type 0
 IsEncodeReading words reading = MatchResult reading
-    (λ frame. (values : EncodeValues) × IsEncodeValues words values × IsFrameOf values.kind values frame) (IsEncodeFault words)
+    (λ frame. (values : EncodeValues) × IsEncodeValues words values × IsFrameOf values.kind values frame)
+    (IsEncodeFault words)
 
 -- the frame of the values that the words spell is written, unless the program is out of memory
 abbrev pub IsEncodeRun : AskedEncode → Status → Outputs → Type 0
 IsEncodeRun words status o =
-    IsArgumentsRun (IsEncodeReading words) (λ frame. IsAnswer (frame_line frame) status o ⊎ IsOutOfMemory status o) status o
+    IsArgumentsRun (IsEncodeReading words)
+    (λ frame. IsAnswer (frame_line frame) status o ⊎ IsOutOfMemory status o) status o

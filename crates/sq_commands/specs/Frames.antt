@@ -15,12 +15,14 @@ IsFrameRun frame Rest status o = (reading : Result Squitter LineFault) × IsSqui
 
 -- what two frame texts are read as: both squitters, or the first fault, the older's and then the newer's
 abbrev pub AreReadingsOf : (older newer : List ℕ) → Result (Squitter × Squitter) LineFault → Type 0
-AreReadingsOf older newer (Ok (first, second)) = IsSquitterReading older (Ok first) × IsSquitterReading newer (Ok second)
+AreReadingsOf older newer (Ok (first, second)) =
+    IsSquitterReading older (Ok first) × IsSquitterReading newer (Ok second)
 AreReadingsOf older newer (Err fault) =
     IsSquitterReading older (Err fault)
     ⊎ ((first : Squitter) × IsSquitterReading older (Ok first) × IsSquitterReading newer (Err fault))
 
 -- two frame texts are read: of their squitters the rest holds, or the first fault is reported
 abbrev pub IsFramesRun : (older newer : List ℕ) → (Squitter → Squitter → Type 0) → Status → Outputs → Type 0
-IsFramesRun older newer Rest status o = (readings : Result (Squitter × Squitter) LineFault) × AreReadingsOf older newer readings
+IsFramesRun older newer Rest status o =
+    (readings : Result (Squitter × Squitter) LineFault) × AreReadingsOf older newer readings
     × MatchResult readings (λ both. Rest both.0 both.1) (λ fault. IsReport Refused (fault_text fault) status o)

@@ -10,7 +10,8 @@ use Rattle.sq_commands.specs.declared.heard.HeardFrom.{HeardFrom}
 
 -- both coordinates of a place with seven decimals
 abbrev pub place_words : DecimalWriter → Place → List ℕ
-place_words decimals place = decimals.write (place_latitude place) ++ codes " " ++ decimals.write (place_longitude place)
+place_words decimals place = decimals.write (place_latitude place) ++ codes " "
+    ++ decimals.write (place_longitude place)
 
 -- what was heard, of an address in six digits
 abbrev pub heard_words : DecimalWriter → List ℕ → Heard → List ℕ

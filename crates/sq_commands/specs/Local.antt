@@ -28,9 +28,11 @@ IsPlaceRun answer status o =
 -- the place of the squitter near the reference is written, or its fault reported
 abbrev pub IsNearRun : Position → Squitter → Status → Outputs → Type 0
 IsNearRun reference squitter status o =
-    (answer : Result Place PlaceFault) × IsLocalPlace (squitter_parts squitter).me reference answer × IsPlaceRun answer status o
+    (answer : Result Place PlaceFault) × IsLocalPlace (squitter_parts squitter).me reference answer
+    × IsPlaceRun answer status o
 
--- the squitter of the frame is decoded near the reference that the words spell; the arguments are looked at before the frame
+-- the squitter of the frame is decoded near the reference that the words spell; the arguments are looked at before the
+-- frame
 abbrev pub IsLocalRun : (frame lat lon : List ℕ) → Status → Outputs → Type 0
 IsLocalRun frame lat lon status o =
     IsArgumentsRun (IsPositionReading lat lon)

@@ -13,7 +13,8 @@ pub record Outputs : Type 0 where
   pub output : Written
   pub reports : Written
 
-abbrev pub outputs : {K F : Type 0} → SinkGhosts K → SinkGhosts F → (output output' : K) → (faults faults' : F) → Outputs
+abbrev pub outputs : {K F : Type 0} → SinkGhosts K → SinkGhosts F → (output output' : K) → (faults faults' : F)
+    → Outputs
 outputs k f output output' faults faults' =
     record { output = written_on k output output'; reports = written_on f faults faults' }
 

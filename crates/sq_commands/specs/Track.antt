@@ -39,7 +39,8 @@ IsTracked (Ok tally) input output old new = IfSome input.before (λ bytes. (inpu
     × HasHeard old new (lines_of bytes) (λ text answers. Wrote output (text answers) × (tally ≡ tally_of answers)))
 -- where the source failed, the lines that were read whole were heard and answered
 IsTracked (Err Read) input output old new = (input.failed ≡ true)
-    × ((bytes : List ℕ) × ConsumesOrHides input.before input.after bytes × HasAnswered output old new (ended_lines bytes))
+    × ((bytes : List ℕ) × ConsumesOrHides input.before input.after bytes
+    × HasAnswered output old new (ended_lines bytes))
 -- where the program was out of memory for a line, those before it were heard and answered
 IsTracked (Err Memory) input output old new = SomeLines input (HasAnswered output old new)
 -- where the sink failed, some lines were heard, and all their answers written but for the end of the last one's
@@ -79,7 +80,8 @@ IsTrackReading limit window lat lon reading =
 
 -- ---- the command
 
--- a run over the input, by a tracker with these options that has heard nothing; what broke it off is reported, and else nothing
+-- a run over the input, by a tracker with these options that has heard nothing; what broke it off is reported, and else
+-- nothing
 abbrev pub IsLogRun : TrackOptions → Status → Effects → Type 0
 IsLogRun options status e = (old : Held) × (new : Held) × StandsFor old []
     × (settings old ≡ made_with options.limit options.window options.site)

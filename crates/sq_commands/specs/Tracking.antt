@@ -44,8 +44,8 @@ AreHeardLines reader s h (line ∷ lines) answers next =
     × IsHeardLine s h (answer_by reader.read line) first then_on
     × AreHeardLines reader s then_on lines rest next × (answers ≡ first ∷ rest)
 
--- what a tracker has heard of these lines: from each history that it stood for it stands for the one after them, and of the
--- answers, spelled in this way, this holds
+-- what a tracker has heard of these lines: from each history that it stood for it stands for the one after them, and of
+-- the answers, spelled in this way, this holds
 abbrev pub HasHeard : (old new : Held) → List (List ℕ)
     → ((List (Answer HeardFrom) → List ℕ) → List (Answer HeardFrom) → Type 0) → Type 0
 HasHeard old new lines Holding = (reader : TimedReader) (decimals : DecimalWriter) (h : History) → StandsFor old h

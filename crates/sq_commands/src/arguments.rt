@@ -1,5 +1,5 @@
 //! The arguments of the commands, read from their words.
-ghost use Rattle.std.specs.Prelude.{◌≡◌, ◌≢◌, ◌≤◌, ◌<◌, ◌^◌, ◌++◌, ◌∷◌, List, ℤ, ℕ, IfErr, IfOk, IfSome, OnErr, codes, length, option_map, MatchOption, Some};
+ghost use Rattle.std.specs.Prelude.{◌≡◌, ◌≢◌, ◌≤◌, ◌<◌, ◌^◌, ◌++◌, ◌∷◌, List, ℤ, ℕ, IfErr, IfOk, IfSome, OnErr, codes, length, option_copied, MatchOption, Some};
 ghost use Rattle.std.specs.Bool.{OnFalse};
 ghost use Rattle.std.specs.Char.{IsAsciiDigit};
 ghost use Rattle.std.specs.Int.Digits.{number_from_digits};
@@ -147,9 +147,9 @@ fn read_feet(word: &str) -> Result<u16, ArgumentFault>
 
 /// The altitude field of these feet, in the air alone; 0 where none are given.
 pub(crate) fn read_altitude(kind: Kind, feet: Option<&str>) -> Result<u16, ArgumentFault>
-    ensures ok { IfOk result (IsAltitudeOf kind (option_map (λ word. word.now) feet.entry)) }
+    ensures ok { IfOk result (IsAltitudeOf kind (option_copied feet.entry)) }
     ensures small { IfOk result (λ altitude. altitude < 4096) }
-    ensures err { OnErr result ((altitude : ℕ) → ¬ IsAltitudeOf kind (option_map (λ word. word.now) feet.entry) altitude) }
+    ensures err { OnErr result ((altitude : ℕ) → ¬ IsAltitudeOf kind (option_copied feet.entry) altitude) }
     ensures fault { IfErr result (λ fault. fault ≡ ArgumentFault.Feet) }
 {
     match (kind, feet) {
@@ -234,7 +234,7 @@ pub(crate) fn read_site(
     lat: Option<&str>,
     lon: Option<&str>,
 ) -> Result<Option<Position>, ArgumentFault>
-    ensures { IsSiteReading (option_map (λ word. word.now) lat.entry) (option_map (λ word. word.now) lon.entry) result }
+    ensures { IsSiteReading (option_copied lat.entry) (option_copied lon.entry) result }
 {
     match (lat, lon) {
         (Some(lat), Some(lon)) => match read_position(lat, lon) {
@@ -253,8 +253,8 @@ pub(crate) fn read_options(
     lat: Option<&str>,
     lon: Option<&str>,
 ) -> Result<TrackOptions, ArgumentFault>
-    ensures { IsTrackReading (option_map (λ word. word.now) limit.entry) (option_map (λ word. word.now) window.entry)
-        (option_map (λ word. word.now) lat.entry) (option_map (λ word. word.now) lon.entry) result }
+    ensures { IsTrackReading (option_copied limit.entry) (option_copied window.entry)
+        (option_copied lat.entry) (option_copied lon.entry) result }
 {
     let limit = read_limit(limit)?;
     if limit == 0 {
@@ -271,8 +271,8 @@ pub(crate) fn read_options(
 
 // One to ten digits of a number below 2^32.
 fn read_limit(word: Option<&str>) -> Result<u32, ArgumentFault>
-    ensures ok { IfOk result (IsLimit (option_map (λ word. word.now) word.entry)) }
-    ensures err { OnErr result ((n : ℕ) → ¬ IsLimit (option_map (λ word. word.now) word.entry) n) }
+    ensures ok { IfOk result (IsLimit (option_copied word.entry)) }
+    ensures err { OnErr result ((n : ℕ) → ¬ IsLimit (option_copied word.entry) n) }
     ensures fault { IfErr result (λ fault. fault ≡ ArgumentFault.Limit) }
 {
     match word {
@@ -295,8 +295,8 @@ fn limit_of(word: &str) -> Option<u32>
 
 // One to twenty digits of a number below 2^64.
 fn read_window(word: Option<&str>) -> Result<u64, ArgumentFault>
-    ensures ok { IfOk result (IsWindow (option_map (λ word. word.now) word.entry)) }
-    ensures err { OnErr result ((n : ℕ) → ¬ IsWindow (option_map (λ word. word.now) word.entry) n) }
+    ensures ok { IfOk result (IsWindow (option_copied word.entry)) }
+    ensures err { OnErr result ((n : ℕ) → ¬ IsWindow (option_copied word.entry) n) }
     ensures fault { IfErr result (λ fault. fault ≡ ArgumentFault.Window) }
 {
     match word {

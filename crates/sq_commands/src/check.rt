@@ -56,12 +56,12 @@ fn check_line(cutter: &Cutter) -> Option<Result<Squitter, LineFault>>
     }
 }
 
-/// Answers each line of the source that is not empty on the sink, as soon as its line feed was got; the last one at the end
-/// of the input. It keeps one line and takes no memory.
+/// Answers each line of the source that is not empty on the sink, as soon as its line feed was got; the last one at the
+/// end of the input. It keeps one line and takes no memory.
 ///
-/// `Ok` comes only at the end of the input, with the numbers of good and of refused lines. `Read` comes where a get failed,
-/// after the answers to the lines that were read whole; `Write` where a put or the finish at the end did, within these
-/// answers; `Memory` never comes.
+/// `Ok` comes only at the end of the input, with the numbers of good and of refused lines. `Read` comes where a get
+/// failed, after the answers to the lines that were read whole; `Write` where a put or the finish at the end did,
+/// within these answers; `Memory` never comes.
 pub fn run_check<S: Source, K: Sink>(source: &mut S, sink: &mut K) -> Result<Tally, RunFault>
     ensures { IsChecked result (taken_from S.Source source.old source.new) (written_on K.Sink sink.old sink.new) }
 {
@@ -74,7 +74,8 @@ pub(crate) fn check<S: Source, K: Sink, F: Sink>(
     output: &mut K,
     faults: &mut F,
 ) -> Status
-    ensures { IsCheckRun result (effects S.Source input.old input.new (outputs K.Sink F.Sink output.old output.new faults.old faults.new)) }
+    ensures { IsCheckRun result (effects S.Source input.old input.new
+        (outputs K.Sink F.Sink output.old output.new faults.old faults.new)) }
 {
     match run_check(input, output) {
         Ok(tally) => end_of(tally),

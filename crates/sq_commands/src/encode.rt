@@ -29,7 +29,8 @@ pub(crate) fn encode<K: Sink, F: Sink>(
     output: &mut K,
     faults: &mut F,
 ) -> Status
-    ensures { IsEncodeRun (asked_encode words.now) result (outputs K.Sink F.Sink output.old output.new faults.old faults.new) }
+    ensures { IsEncodeRun (asked_encode words.now) result
+        (outputs K.Sink F.Sink output.old output.new faults.old faults.new) }
 {
     match frame_of(words) {
         Ok(frame) => write_frame_line(alloc, &frame, output, faults),

@@ -48,8 +48,8 @@ fn push_address(text: &mut LineText, word: &str, address: u32)
 fn push_place(text: &mut LineText, word: &str, address: u32, place: &Place)
     requires word { length word.now ≤ 12 }
     requires room { array_string_len text.old ≤ 21 }
-    ensures bytes { (decimals : DecimalWriter)
-        → text.new.bytes ≡ text.old.bytes ++ (word.now ++ hexadecimal 6 address ++ codes " " ++ place_words decimals place.now) }
+    ensures bytes { (decimals : DecimalWriter) → text.new.bytes
+        ≡ text.old.bytes ++ (word.now ++ hexadecimal 6 address ++ codes " " ++ place_words decimals place.now) }
     ensures len { array_string_len text.new ≤ array_string_len text.old + 72 }
 {
     push_address(text, word, address);
@@ -63,7 +63,8 @@ fn push_place(text: &mut LineText, word: &str, address: u32, place: &Place)
 // Appends the address and both zone counts.
 fn push_split(text: &mut LineText, address: u32, even: u8, odd: u8)
     requires { array_string_len text.old ≤ 21 }
-    ensures bytes { text.new.bytes ≡ text.old.bytes ++ (codes "split " ++ hexadecimal 6 address ++ codes " " ++ (decimal even ++ codes " " ++ decimal odd)) }
+    ensures bytes { text.new.bytes ≡ text.old.bytes
+        ++ (codes "split " ++ hexadecimal 6 address ++ codes " " ++ (decimal even ++ codes " " ++ decimal odd)) }
     ensures len { array_string_len text.new ≤ array_string_len text.old + 72 }
 {
     push_address(text, "split ", address);

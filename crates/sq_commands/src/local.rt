@@ -19,7 +19,8 @@ pub(crate) fn local<K: Sink, F: Sink>(
     output: &mut K,
     faults: &mut F,
 ) -> Status
-    ensures { IsLocalRun frame.now lat.now lon.now result (outputs K.Sink F.Sink output.old output.new faults.old faults.new) }
+    ensures { IsLocalRun frame.now lat.now lon.now result
+        (outputs K.Sink F.Sink output.old output.new faults.old faults.new) }
 {
     match read_position(lat, lon) {
         Ok(reference) => local_near(frame, &reference, output, faults),

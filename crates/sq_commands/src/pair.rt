@@ -1,5 +1,5 @@
 //! The command `pair`.
-ghost use Rattle.std.specs.Prelude.{option_map};
+ghost use Rattle.std.specs.Prelude.{option_copied};
 ghost use Rattle.sq_commands.specs.Frames.{AreReadingsOf, IsFramesRun};
 ghost use Rattle.sq_commands.specs.Outputs.{outputs};
 ghost use Rattle.sq_commands.specs.Pair.{IsPairRun, IsPairedRun};
@@ -21,7 +21,7 @@ pub(crate) fn pair<K: Sink, F: Sink>(
     output: &mut K,
     faults: &mut F,
 ) -> Status
-    ensures { IsPairRun older.now newer.now (option_map (λ word. word.now) lat.entry) (option_map (λ word. word.now) lon.entry)
+    ensures { IsPairRun older.now newer.now (option_copied lat.entry) (option_copied lon.entry)
         result (outputs K.Sink F.Sink output.old output.new faults.old faults.new) }
 {
     match read_site(lat, lon) {
@@ -39,7 +39,8 @@ fn pair_at<K: Sink, F: Sink>(
     faults: &mut F,
 ) -> Status
     ensures { let o = outputs K.Sink F.Sink output.old output.new faults.old faults.new in
-        IsFramesRun older.now newer.now (λ first second. IsPairedRun (option_map (λ s. s.now) site.entry) first second result o) result o }
+        IsFramesRun older.now newer.now
+        (λ first second. IsPairedRun (option_copied site.entry) first second result o) result o }
 {
     match read_both(older, newer) {
         Ok((older, newer)) => write_place(place_pair(&older, &newer, site), output, faults),

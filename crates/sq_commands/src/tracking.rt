@@ -69,7 +69,8 @@ fn hear(
 ) -> Result<Result<HeardFrom, LineFault>, OutOfMemory>
     ensures heard { IfOk result (λ verdict. (h : History) → StandsFor tracker.old h → (reply : Result Heard TrackFault)
         × IsReply (settings tracker.old) h timed.now.moment timed.now.squitter reply × (reply ≢ Err TrackFault.Memory)
-        × (verdict ≡ found_of timed.now reply) × StandsFor tracker.new (history_after h timed.now.moment timed.now.squitter reply)) }
+        × (verdict ≡ found_of timed.now reply)
+        × StandsFor tracker.new (history_after h timed.now.moment timed.now.squitter reply)) }
     ensures settings { settings tracker.new ≡ settings tracker.old }
     ensures unheard { OnErr result (tracker.new ≡ tracker.old) }
 {

@@ -74,7 +74,8 @@ impl<'a, R: Read + Drop, W: Write + Drop> PromptInput<'a, R, W> {
         gets: u64,
     ) -> Result<Self, AllocError>
         requires { gets ≤ 1000000000000 }
-        ensures to_come { IfOk result (λ input. ⟦<PromptInput<'a, R, W> as Source>⟧.to_come input ≡ R.remaining reader) }
+        ensures to_come { IfOk result (λ input. ⟦<PromptInput<'a, R, W> as Source>⟧.to_come input
+            ≡ R.remaining reader) }
         ensures gets { IfOk result (λ input. ⟦<PromptInput<'a, R, W> as Source>⟧.gets_left input ≡ gets) }
         ensures unfailed { IfOk result (λ input. ⟦<PromptInput<'a, R, W> as Source>⟧.has_failed input ≡ false) }
     {

@@ -16,8 +16,9 @@ use Rattle.sq_cpr.specs.Near.{IsNear, IsStrictlyNear, IsRepresentative, half_zon
 use Rattle.sq_cpr.specs.Close.{IsClose, IsClosePair, zones_of, AreClosePoints, AreTamePoints}
 use Rattle.sq_cpr.specs.Multiplied.{LiesWithin, LiesStrictlyWithin, LiesClose}
 use Rattle.sq_cpr.specs.Local.{IsNearLatitude, LocalAnswer}
-use Rattle.sq_cpr.specs.Pair.{of_parity, HaveTwoCounts, AirPairAnswer, PairAnswer}
-use Rattle.sq_cpr.specs.Slow.{PositionRoundsTo, AreSlow, AreSlowForFollowing, AreWithin, IsPointWithin}
+use Rattle.sq_cpr.specs.Pair.{of_parity, HaveTwoCounts, AirPairAnswer, PairAnswer, PairAnswerAt}
+use Rattle.sq_cpr.specs.Rounds.{PositionRoundsTo}
+use Rattle.sq_cpr.specs.Slow.{AreSlow, AreSlowForFollowing, AreWithin, IsPointWithin}
 
 -- the windows with fractions mean what their multiplied-out forms mean
 pub record FractionsAgree (degrees : ℕ) : Type 0 where
@@ -83,8 +84,8 @@ pub record IndexPair : Type 0 where
   pub even : ℕ
   pub odd : ℕ
 
--- Any two codes have exactly one close pair on grids of n and of m zones. Angles that differ by whole spans count as one:
--- each index is below the steps of a span.
+-- Any two codes have exactly one close pair on grids of n and of m zones. Angles that differ by whole spans count as
+-- one: each index is below the steps of a span.
 abbrev pub HaveOneClosePair : ℕ → ℕ → ℕ → Type 0
 HaveOneClosePair degrees n m =
     (even odd : ℕ) → ExactlyOne (λ (pair : IndexPair). (pair.even < n * codes_of_zone) × (pair.odd < m * codes_of_zone)
@@ -137,9 +138,10 @@ CloseAirPointsAreAnswered =
 abbrev pub CloseGroundPointsAreAnswered : Type 0
 CloseGroundPointsAreAnswered =
     (even odd : CodeNumbers) (newest : Parity) (site : Position) (answer : Result Point PairFault) (a b : Point)
-    → PairAnswer 90 4 even odd newest (degrees_of (lat_of site)) (degrees_of (lon_of site)) answer
+    → PairAnswerAt 90 4 even odd newest site answer
     → IsGridPoint 90 4 a → IsGridPoint 90 4 b → HasCode a even → HasCode b odd
-    → AreClosePoints 90 a b → IsPointWithin 45 90 4 a site → IsPointWithin 45 90 4 b site → answer ≡ Ok (of_parity newest a b)
+    → AreClosePoints 90 a b → IsPointWithin 45 90 4 a site → IsPointWithin 45 90 4 b site
+    → answer ≡ Ok (of_parity newest a b)
 
 -- what tame points a and b are decoded to: the newest, or their zone counts, which differ; never out of range
 abbrev pub TameAnswer : ℕ → Parity → Point → Point → Result Point PairFault → Type 0
@@ -157,9 +159,10 @@ TameAirPointsAreAnswered =
 abbrev pub TameGroundPointsAreAnswered : Type 0
 TameGroundPointsAreAnswered =
     (even odd : CodeNumbers) (newest : Parity) (site : Position) (answer : Result Point PairFault) (a b : Point)
-    → PairAnswer 90 4 even odd newest (degrees_of (lat_of site)) (degrees_of (lon_of site)) answer
+    → PairAnswerAt 90 4 even odd newest site answer
     → IsGridPoint 90 4 a → IsGridPoint 90 4 b → HasCode a even → HasCode b odd
-    → AreTamePoints 90 a b → IsPointWithin 45 90 4 a site → IsPointWithin 45 90 4 b site → TameAnswer 90 newest a b answer
+    → AreTamePoints 90 a b → IsPointWithin 45 90 4 a site → IsPointWithin 45 90 4 b site
+    → TameAnswer 90 newest a b answer
 
 -- slow positions round to tame points
 abbrev pub SlowIsTame : ℕ → ℕ → Type 0

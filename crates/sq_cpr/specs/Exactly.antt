@@ -1,4 +1,5 @@
--- Laws that say what the premises on true positions are, and no more: what a law asks of positions cannot shrink unseen.
+-- Laws that say what the premises on true positions are, and no more: what a law asks of positions cannot shrink
+-- unseen.
 use Rattle.std.specs.Prelude.{◌≡◌, ◌↔◌, ◌≤◌, ◌*◌, ℕ, max, min, ℤ, pos, neg_ℤ}
 use Rattle.sq_angle.specs.Angle.{degrees as degrees_of}
 use Rattle.sq_angle.specs.Fraction.{Fraction, ◌≺◌, ◌≃◌, minus, plus, whole}
@@ -21,8 +22,10 @@ DifferAroundExactly =
 
 -- whole turns of either change nothing
 pub record TurnsChangeNothing : Type 0 where
-  pub first : (limit x y : Fraction) (turns : ℤ) → DifferByLessAround limit x y → DifferByLessAround limit (turned x turns) y
-  pub second : (limit x y : Fraction) (turns : ℤ) → DifferByLessAround limit x y → DifferByLessAround limit x (turned y turns)
+  pub first : (limit x y : Fraction) (turns : ℤ) → DifferByLessAround limit x y
+      → DifferByLessAround limit (turned x turns) y
+  pub second : (limit x y : Fraction) (turns : ℤ) → DifferByLessAround limit x y
+      → DifferByLessAround limit x (turned y turns)
 
 -- so many hundredths of a degree
 abbrev pub hundredths : ℤ → Fraction
@@ -32,7 +35,8 @@ hundredths n = record { num = n; den = 100 }
 -- following, and 159 and -159 less than 44 degrees apart; 158 and -158 are not.
 pub record Across180Degrees : Type 0 where
   pub slow : DifferByLessAround (slow_limit 360 59 58) (hundredths (pos 17999)) (hundredths (neg_ℤ (pos 17999)))
-  pub following : DifferByLessAround (following_limit 360 59 58) (hundredths (pos 17900)) (hundredths (neg_ℤ (pos 17900)))
+  pub following : DifferByLessAround (following_limit 360 59 58) (hundredths (pos 17900))
+      (hundredths (neg_ℤ (pos 17900)))
   pub within : DifferByLessAround (whole 44) (hundredths (pos 15900)) (hundredths (neg_ℤ (pos 15900)))
   pub not_within : ¬ DifferByLessAround (whole 44) (hundredths (pos 15800)) (hundredths (neg_ℤ (pos 15800)))
 
@@ -40,8 +44,8 @@ pub record Across180Degrees : Type 0 where
 abbrev pub ten_thousandths : ℕ → Fraction
 ten_thousandths n = record { num = pos n; den = 10000 }
 
--- At the limits where the points have 59 and 58 zones: 0.0525 degrees are slow and 0.0526 are not, though they are less than
--- W / (2 59 58); 3.0508 degrees are slow for following and 3.0509 are not.
+-- At the limits where the points have 59 and 58 zones: 0.0525 degrees are slow and 0.0526 are not, though they are less
+-- than W / (2 59 58); 3.0508 degrees are slow for following and 3.0509 are not.
 pub record AtTheLimits : Type 0 where
   pub slow : DifferByLess (slow_limit 360 59 58) (ten_thousandths 525) (whole 0)
   pub not_slow : ¬ DifferByLess (slow_limit 360 59 58) (ten_thousandths 526) (whole 0)
@@ -58,11 +62,13 @@ pub record LimitsAsNumbers : Type 0 where
 -- the limits of all zone counts: W / (2 n m) less W / (m 2^17), and W / (2 n) less W / (m 2^17)
 abbrev pub LimitsInWords : Type 0
 LimitsInWords = (w n m : ℕ) →
-    (slow_limit w n m ≡ minus (record { num = pos w; den = 2 * n * m }) (record { num = pos w; den = m * codes_of_zone }))
-    × (following_limit w n m ≡ minus (record { num = pos w; den = 2 * n }) (record { num = pos w; den = m * codes_of_zone }))
+    (slow_limit w n m ≡ minus (record { num = pos w; den = 2 * n * m })
+    (record { num = pos w; den = m * codes_of_zone }))
+    × (following_limit w n m ≡ minus (record { num = pos w; den = 2 * n })
+    (record { num = pos w; den = m * codes_of_zone }))
 
--- positions are slow exactly where their latitudes are near enough and, where their points have one zone count of 2 or more,
--- their longitudes
+-- positions are slow exactly where their latitudes are near enough and, where their points have one zone count of 2 or
+-- more, their longitudes
 abbrev pub SlowExactly : ℕ → Type 0
 SlowExactly degrees =
     (a b : Point) (x y : Position) → AreSlow degrees a b x y
@@ -70,8 +76,8 @@ SlowExactly degrees =
     × (HaveOneCount degrees a.lat_index b.lat_index → 2 ≤ count_at degrees Even a.lat_index
     → DifferByLessAround (slow_limit degrees a.zones b.zones) (degrees_of (lon_of x)) (degrees_of (lon_of y))))
 
--- positions are slow for following exactly where both coordinates are near enough, the longitudes by the larger count of zones
--- and the step of the smaller
+-- positions are slow for following exactly where both coordinates are near enough, the longitudes by the larger count
+-- of zones and the step of the smaller
 abbrev pub FollowingExactly : ℕ → Type 0
 FollowingExactly degrees =
     (a b : Point) (x y : Position) → AreSlowForFollowing degrees a b x y

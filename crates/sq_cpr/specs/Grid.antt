@@ -1,5 +1,5 @@
--- The grid of a span and a parity (RTCA DO-260B, appendix on compact position reporting).
--- A span covers `degrees` degrees and fits `repeats` times into the circle: 360 and 1 in the air, 90 and 4 on the ground.
+-- The grid of a span and a parity (RTCA DO-260B, appendix on compact position reporting). A span covers `degrees`
+-- degrees and fits `repeats` times into the circle: 360 and 1 in the air, 90 and 4 on the ground.
 use Rattle.std.specs.Prelude.{◌≡◌, ℕ, ◌-◌, ◌*◌, ◌%◌, ◌^◌, ◌<◌, ℤ, pos, ◌-ℤ◌, ◌*ℤ◌, unsigned_abs, nat_lt, if◌then◌else◌}
 use Rattle.std.specs.Int.{int_rem_euclid}
 use Rattle.sq_angle.specs.Fraction.{Fraction, IsWithin}
@@ -14,6 +14,11 @@ pub record Point : Type 0 where
   pub lat_index : ℤ
   pub zones : ℕ
   pub lon_index : ℕ
+
+-- the point of these parts
+abbrev pub point_at : Parity → ℤ → ℕ → ℕ → Point
+point_at parity lat_index zones lon_index =
+    record { parity = parity; lat_index = lat_index; zones = zones; lon_index = lon_index }
 
 -- the codes of one zone, in each coordinate
 abbrev pub codes_of_zone : ℕ
@@ -56,7 +61,8 @@ longitude degrees point = grid_longitude degrees point.zones point.lon_index
 abbrev pub IsLatitude : ℕ → Parity → ℤ → Type 0
 IsLatitude degrees parity lat_index = IsWithin 90 (grid_latitude degrees parity lat_index)
 
--- a point of the grid: its latitude is one, its zones are those of its own latitude, and its longitude index is on the circle
+-- a point of the grid: its latitude is one, its zones are those of its own latitude, and its longitude index is on the
+-- circle
 pub record IsGridPoint (degrees repeats : ℕ) (point : Point) : Type 0 where
   pub north_south : IsLatitude degrees point.parity point.lat_index
   pub zones : point.zones ≡ lon_zones_at point.parity (latitude degrees point)
@@ -65,13 +71,15 @@ pub record IsGridPoint (degrees repeats : ℕ) (point : Point) : Type 0 where
 -- the grid has a point with these indices
 abbrev pub HasPoint : ℕ → ℕ → Parity → ℤ → ℕ → Type 0
 HasPoint degrees repeats parity lat_index lon_index =
-    (zones : ℕ) × IsGridPoint degrees repeats
-    (record { parity = parity; lat_index = lat_index; zones = zones; lon_index = lon_index })
+    (zones : ℕ) × IsGridPoint degrees repeats (point_at parity lat_index zones lon_index)
 
 -- the code of a point: both indices modulo 2^17
 abbrev pub code_of : Point → CodeNumbers
 code_of point =
-    record { lat = unsigned_abs (int_rem_euclid point.lat_index (pos codes_of_zone)); lon = point.lon_index % codes_of_zone }
+    record {
+      lat = unsigned_abs (int_rem_euclid point.lat_index (pos codes_of_zone));
+      lon = point.lon_index % codes_of_zone;
+    }
 
 -- the point has this code: each index and its number differ by a whole multiple of 2^17
 pub record HasCode (point : Point) (code : CodeNumbers) : Type 0 where

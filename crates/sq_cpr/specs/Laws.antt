@@ -1,4 +1,5 @@
--- Laws of grids, codes and zones, as statements. A span covers `degrees` degrees and fits `repeats` times into the circle.
+-- Laws of grids, codes and zones, as statements. A span covers `degrees` degrees and fits `repeats` times into the
+-- circle.
 use Rattle.std.specs.Prelude.{◌≡◌, ◌↔◌, ℕ, ◌<◌}
 use Rattle.sq_angle.specs.Fraction.{Fraction}
 use Rattle.sq_angle.specs.Bounds.{IsPosition}

@@ -1,6 +1,9 @@
 -- Decoding near a reference (RTCA DO-260B, appendix on compact position reporting: local decoding; ICAO Doc 9871).
 use Rattle.std.specs.Prelude.{◌≡◌, ℕ, ℤ, pos, Result, Ok, Err}
+use Rattle.sq_angle.specs.Angle.{degrees as degrees_of}
 use Rattle.sq_angle.specs.Fraction.{Fraction}
+use Rattle.sq_angle.specs.Position.{lat_of, lon_of}
+use Rattle.sq_angle.specs.declared.position.Position.{Position}
 use Rattle.sq_angle.specs.Whole.{IsCongruent}
 use Rattle.sq_zones.specs.declared.parity.Parity.{Parity}
 use Rattle.sq_cpr.specs.declared.faults.LocalFault.{LocalFault}
@@ -15,7 +18,8 @@ pub record IsNearLatitude (degrees : ℕ) (parity : Parity) (lat : Fraction) (co
   pub near : IsNear (half_zone degrees (lat_zones parity)) lat (grid_latitude degrees parity index)
 
 -- a point of the parity's grid with this code that is near
-pub record IsLocalPoint (degrees repeats : ℕ) (code : CodeNumbers) (parity : Parity) (lat lon : Fraction) (point : Point) : Type 0 where
+pub record IsLocalPoint (degrees repeats : ℕ) (code : CodeNumbers) (parity : Parity) (lat lon : Fraction)
+    (point : Point) : Type 0 where
   pub of_grid : IsGridPoint degrees repeats point
   pub of_parity : point.parity ≡ parity
   pub has_code : HasCode point code
@@ -26,3 +30,8 @@ abbrev pub LocalAnswer : ℕ → ℕ → CodeNumbers → Parity → Fraction →
 LocalAnswer degrees repeats code parity lat lon (Ok point) = IsLocalPoint degrees repeats code parity lat lon point
 LocalAnswer degrees repeats code parity lat lon (Err OutOfRange) =
     (index : ℤ) × IsNearLatitude degrees parity lat code.lat index × ¬ IsLatitude degrees parity index
+
+-- what a code is decoded to near a position
+abbrev pub LocalAnswerNear : ℕ → ℕ → CodeNumbers → Parity → Position → Result Point LocalFault → Type 0
+LocalAnswerNear degrees repeats code parity reference answer =
+    LocalAnswer degrees repeats code parity (degrees_of (lat_of reference)) (degrees_of (lon_of reference)) answer

@@ -38,7 +38,8 @@ OnSomeTurn circle index P = (turned : ℤ) × IsCongruent circle turned (pos ind
 -- the longitude of the index is near, modulo 360 degrees: within half a longitude zone
 abbrev pub IsNearLongitude : ℕ → ℕ → ℕ → Fraction → ℕ → Type 0
 IsNearLongitude degrees repeats zones lon index =
-    OnSomeTurn (circle zones repeats) index (λ turned. IsNear (half_zone degrees zones) lon (angle_at degrees zones turned))
+    OnSomeTurn (circle zones repeats) index
+    (λ turned. IsNear (half_zone degrees zones) lon (angle_at degrees zones turned))
 
 -- the same with both ends of the interval left out
 abbrev pub IsStrictlyNearLongitude : ℕ → ℕ → ℕ → Fraction → ℕ → Type 0

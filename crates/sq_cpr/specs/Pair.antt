@@ -1,7 +1,10 @@
 -- Decoding an even and an odd code together (RTCA DO-260B, appendix on compact position reporting: globally unambiguous
 -- decoding, airborne and surface; ICAO Doc 9871).
 use Rattle.std.specs.Prelude.{◌≡◌, ◌≢◌, ℕ, ℤ, pos, Result, Ok, Err}
+use Rattle.sq_angle.specs.Angle.{degrees as degrees_of}
 use Rattle.sq_angle.specs.Fraction.{Fraction}
+use Rattle.sq_angle.specs.Position.{lat_of, lon_of}
+use Rattle.sq_angle.specs.declared.position.Position.{Position}
 use Rattle.sq_angle.specs.Whole.{IsCongruent}
 use Rattle.sq_zones.specs.declared.parity.Parity.{Parity}
 use Rattle.sq_zones.specs.declared.parity.Parity.TheVariants.{Even, Odd}
@@ -55,8 +58,8 @@ pub record HaveTwoCounts (degrees : ℕ) (p q : ℤ) (even_count odd_count : ℕ
   pub odd : odd_count ≡ count_at degrees Odd q
   pub differ : even_count ≢ odd_count
 
--- What a pair of codes in the air is decoded to: the newest point of the close pair; or that the close latitudes are not
--- both in -90 to 90; or their two zone counts.
+-- What a pair of codes in the air is decoded to: the newest point of the close pair; or that the close latitudes are
+-- not both in -90 to 90; or their two zone counts.
 abbrev pub AirPairAnswer : CodeNumbers → CodeNumbers → Parity → Result Point PairFault → Type 0
 AirPairAnswer even odd newest (Ok point) = IsPointOfPair 360 1 even odd newest point
 AirPairAnswer even odd newest (Err OutOfRange) = (p q : ℤ) → AreLatitudes 360 even odd p q → ¬ AreInRange 360 p q
@@ -64,16 +67,26 @@ AirPairAnswer even odd newest (Err (ZoneCounts even_count odd_count)) =
     (p q : ℤ) × AreLatitudes 360 even odd p q × HaveTwoCounts 360 p q even_count odd_count
 
 -- the newest point of the close pair, each coordinate by its representative at the place
-pub record IsPointOfPairAt (degrees repeats : ℕ) (even odd : CodeNumbers) (newest : Parity) (lat lon : Fraction) (point : Point) : Type 0 where
+pub record IsPointOfPairAt (degrees repeats : ℕ) (even odd : CodeNumbers) (newest : Parity) (lat lon : Fraction)
+    (point : Point) : Type 0 where
   pub of_pair : IsPointOfPair degrees repeats even odd newest point
   pub lat_at : AreAt degrees lat of_pair.even_lat of_pair.odd_lat
-  pub lon_at : IsRepresentative degrees lon (angle_at degrees point.zones (of_parity newest of_pair.even_lon of_pair.odd_lon))
+  pub lon_at : IsRepresentative degrees lon
+      (angle_at degrees point.zones (of_parity newest of_pair.even_lon of_pair.odd_lon))
 
 -- What a pair of codes is decoded to at the place (lat, lon): each latitude by its representative there, whatever the
 -- other's is.
-abbrev pub PairAnswer : ℕ → ℕ → CodeNumbers → CodeNumbers → Parity → Fraction → Fraction → Result Point PairFault → Type 0
-PairAnswer degrees repeats even odd newest lat lon (Ok point) = IsPointOfPairAt degrees repeats even odd newest lat lon point
+abbrev pub PairAnswer : ℕ → ℕ → CodeNumbers → CodeNumbers → Parity → Fraction → Fraction → Result Point PairFault
+    → Type 0
+PairAnswer degrees repeats even odd newest lat lon (Ok point) =
+    IsPointOfPairAt degrees repeats even odd newest lat lon point
 PairAnswer degrees repeats even odd newest lat lon (Err OutOfRange) =
     (p q : ℤ) × AreLatitudes degrees even odd p q × AreAt degrees lat p q × ¬ AreInRange degrees p q
 PairAnswer degrees repeats even odd newest lat lon (Err (ZoneCounts even_count odd_count)) =
-    (p q : ℤ) × AreLatitudes degrees even odd p q × AreAt degrees lat p q × HaveTwoCounts degrees p q even_count odd_count
+    (p q : ℤ) × AreLatitudes degrees even odd p q × AreAt degrees lat p q
+    × HaveTwoCounts degrees p q even_count odd_count
+
+-- what a pair of codes is decoded to at a position
+abbrev pub PairAnswerAt : ℕ → ℕ → CodeNumbers → CodeNumbers → Parity → Position → Result Point PairFault → Type 0
+PairAnswerAt degrees repeats even odd newest place answer =
+    PairAnswer degrees repeats even odd newest (degrees_of (lat_of place)) (degrees_of (lon_of place)) answer

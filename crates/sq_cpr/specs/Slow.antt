@@ -8,7 +8,7 @@ use Rattle.sq_zones.specs.declared.parity.Parity.TheVariants.{Even, Odd}
 use Rattle.sq_cpr.specs.Grid.{Point, step, lat_zones, circle, latitude}
 use Rattle.sq_cpr.specs.Near.{half_zone, angle_at, OnSomeTurn}
 use Rattle.sq_cpr.specs.Close.{difference, closeness, count_at, HaveOneCount}
-use Rattle.sq_cpr.specs.Rounds.{RoundsTo}
+use Rattle.sq_cpr.specs.Rounds.{PositionRoundsTo}
 
 -- -limit < d < limit
 pub record IsSmallerThan (limit d : Fraction) : Type 0 where
@@ -23,10 +23,6 @@ DifferByLess limit x y = IsSmallerThan limit (minus x y)
 abbrev pub DifferByLessAround : Fraction → Fraction → Fraction → Type 0
 DifferByLessAround limit x y = (turns : ℤ) × IsSmallerThan limit (difference 360 x y turns)
 
--- the position rounds to the point
-abbrev pub PositionRoundsTo : ℕ → ℕ → Position → Point → Type 0
-PositionRoundsTo degrees repeats x point = RoundsTo degrees repeats (degrees_of (lat_of x)) (degrees_of (lon_of x)) point
-
 -- how far slow positions may lie apart: the closeness of the angles to which they round, less the odd grid's step
 abbrev pub slow_limit : ℕ → ℕ → ℕ → Fraction
 slow_limit degrees even_zones odd_zones = minus (closeness degrees even_zones odd_zones) (step degrees odd_zones)
@@ -39,13 +35,13 @@ pub record AreSlow (degrees : ℕ) (a b : Point) (x y : Position) : Type 0 where
   pub longitudes : HaveOneCount degrees a.lat_index b.lat_index → 2 ≤ count_at degrees Even a.lat_index
       → DifferByLessAround (slow_limit degrees a.zones b.zones) (degrees_of (lon_of x)) (degrees_of (lon_of y))
 
--- how far positions that are slow for following may lie apart: half a zone of the larger number of zones, less a step of
--- the smaller
+-- how far positions that are slow for following may lie apart: half a zone of the larger number of zones, less a step
+-- of the smaller
 abbrev pub following_limit : ℕ → ℕ → ℕ → Fraction
 following_limit degrees larger smaller = minus (half_zone degrees larger) (step degrees smaller)
 
--- The true positions x and y, which round to a and to b, are slow for following. The latitudes are held against the even
--- grid's zones and the odd grid's step, whatever the parities.
+-- The true positions x and y, which round to a and to b, are slow for following. The latitudes are held against the
+-- even grid's zones and the odd grid's step, whatever the parities.
 pub record AreSlowForFollowing (degrees : ℕ) (a b : Point) (x y : Position) : Type 0 where
   pub latitudes : DifferByLess (following_limit degrees (lat_zones Even) (lat_zones Odd)) (degrees_of (lat_of x))
       (degrees_of (lat_of y))

@@ -1,5 +1,6 @@
--- The zones of a position (RTCA DO-260B, appendix on compact position reporting), shifted south and west by half a step: the
--- indices to which the angles of one zone round are then 2^17 in a row, so that no two of them have one number in the code.
+-- The zones of a position (RTCA DO-260B, appendix on compact position reporting), shifted south and west by half a
+-- step: the indices to which the angles of one zone round are then 2^17 in a row, so that no two of them have one
+-- number in the code.
 use Rattle.std.specs.Prelude.{◌≡◌, ℕ, ◌*◌, ◌<◌, ℤ, pos, ◌+ℤ◌, ◌-ℤ◌, ◌*ℤ◌}
 use Rattle.sq_angle.specs.Fraction.{Fraction, ◌≼◌, ◌≺◌}
 use Rattle.sq_angle.specs.Nearest.{half_steps}
@@ -25,8 +26,8 @@ pub record ZonePair : Type 0 where
   pub lat : ℤ
   pub lon : ℕ
 
--- The position lies in these zones of the parity's grid. There are as many longitude zones a span as the point has to which the
--- position rounds.
+-- The position lies in these zones of the parity's grid. There are as many longitude zones a span as the point has to
+-- which the position rounds.
 pub record IsInZones (degrees repeats : ℕ) (parity : Parity) (lat lon : Fraction) (zones : ZonePair) : Type 0 where
   pub point : Point
   pub of_parity : point.parity ≡ parity

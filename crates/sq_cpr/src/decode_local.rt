@@ -1,9 +1,7 @@
 //! Decoding near a reference.
 ghost use Rattle.std.specs.Prelude.{◌≡◌, ◌*◌, ◌<◌, ◌≤◌};
-ghost use Rattle.sq_angle.specs.Angle.{degrees};
-ghost use Rattle.sq_angle.specs.Position.{lat_of, lon_of};
 ghost use Rattle.sq_cpr.specs.Code.{numbers_of};
-ghost use Rattle.sq_cpr.specs.Local.{LocalAnswer};
+ghost use Rattle.sq_cpr.specs.Local.{LocalAnswerNear};
 
 use crate::code::Code;
 use crate::faults::LocalFault;
@@ -14,17 +12,17 @@ use sq_angle::Position;
 use sq_zones::{Parity, lon_zones};
 
 /// The one point with this code that is near the reference: its latitude lies at most half a latitude zone from the
-/// reference's, its longitude, modulo 360 degrees, at most half a longitude zone, of the zones that the point's own latitude
-/// has. Of two such latitudes or longitudes, half a zone to either side, it is the northern or the eastern.
+/// reference's, its longitude, modulo 360 degrees, at most half a longitude zone, of the zones that the point's own
+/// latitude has. Of two such latitudes or longitudes, half a zone to either side, it is the northern or the eastern.
 ///
-/// `OutOfRange` exactly where the near latitude lies outside -90 to 90 degrees. RTCA DO-260B, appendix on compact position
-/// reporting, local decoding.
+/// `OutOfRange` exactly where the near latitude lies outside -90 to 90 degrees. RTCA DO-260B, appendix on compact
+/// position reporting, local decoding.
 pub fn local<S: Span>(
     code: Code,
     parity: Parity,
     reference: &Position,
 ) -> Result<GridPoint<S>, LocalFault>
-    ensures { LocalAnswer S.DEGREES S.REPEATS (numbers_of code) parity (degrees (lat_of reference.now)) (degrees (lon_of reference.now)) result }
+    ensures { LocalAnswerNear S.DEGREES S.REPEATS (numbers_of code) parity reference.now result }
 {
     let span = degrees_of::<S>();
     let lat_index = index_within(

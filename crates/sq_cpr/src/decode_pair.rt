@@ -8,7 +8,7 @@ ghost use Rattle.sq_cpr.specs.Near.{IsRepresentative};
 ghost use Rattle.sq_cpr.specs.Near.{angle_at as angle_of_index};
 ghost use Rattle.sq_cpr.specs.Close.{IsClosePair};
 ghost use Rattle.sq_cpr.specs.Close.{zones_of as zones_of_count};
-ghost use Rattle.sq_cpr.specs.Pair.{of_parity, AreLatitudes, AreAt, AirPairAnswer, PairAnswer};
+ghost use Rattle.sq_cpr.specs.Pair.{of_parity, AreLatitudes, AreAt, AirPairAnswer, PairAnswerAt};
 
 use crate::code::Code;
 use crate::faults::PairFault;
@@ -75,8 +75,8 @@ fn close_latitudes(span: u32, even: Code, odd: Code, reference: &Angle) -> Indic
     }
 }
 
-// The newest of the close longitudes of two codes, by its representative at the reference, where both latitudes have the
-// zone count `count`.
+// The newest of the close longitudes of two codes, by its representative at the reference, where both latitudes have
+// the zone count `count`.
 #[inline(always)]
 fn close_longitude(
     span: u32,
@@ -91,8 +91,11 @@ fn close_longitude(
     requires count_some { 1 ≤ count }
     requires count_small { count ≤ 59 }
     requires reference_small { IsWithin 180 (degrees reference.now) }
-    ensures longitudes { (p q : ℤ) × IsClosePair span (zones_of_count Parity.Even count) (zones_of_count Parity.Odd count) (numbers_of even).lon (numbers_of odd).lon p q × (result ≡ of_parity newest p q) }
-    ensures at { IsRepresentative span (degrees reference.now) (angle_of_index span (zones_of_count newest count) result) }
+    ensures longitudes { (p q : ℤ) × IsClosePair span (zones_of_count Parity.Even count)
+        (zones_of_count Parity.Odd count) (numbers_of even).lon (numbers_of odd).lon p q
+        × (result ≡ of_parity newest p q) }
+    ensures at { IsRepresentative span (degrees reference.now)
+        (angle_of_index span (zones_of_count newest count) result) }
 {
     let zone = pair_zone(
         zones_of(Parity::Even, count),
@@ -117,7 +120,7 @@ fn pair<S: Span>(
     newest: Parity,
     place: &Position,
 ) -> Result<GridPoint<S>, PairFault>
-    ensures { PairAnswer S.DEGREES S.REPEATS (numbers_of even) (numbers_of odd) newest (degrees (lat_of place.now)) (degrees (lon_of place.now)) result }
+    ensures { PairAnswerAt S.DEGREES S.REPEATS (numbers_of even) (numbers_of odd) newest place.now result }
 {
     let span = degrees_of::<S>();
     let lats = close_latitudes(span, even, odd, &place.lat());
@@ -151,8 +154,8 @@ fn origin() -> Position
 /// latitudes are close, and whose longitudes are.
 ///
 /// `OutOfRange` exactly where the close latitudes do not both lie in -90 to 90 degrees, by whole turns of 360; else
-/// `ZoneCounts` exactly where their zone counts differ, the even one's first. RTCA DO-260B, appendix on compact position
-/// reporting, globally unambiguous airborne decoding.
+/// `ZoneCounts` exactly where their zone counts differ, the even one's first. RTCA DO-260B, appendix on compact
+/// position reporting, globally unambiguous airborne decoding.
 pub fn pair_air(even: Code, odd: Code, newest: Parity) -> Result<GridPoint<Air>, PairFault>
     ensures { AirPairAnswer (numbers_of even) (numbers_of odd) newest result }
 {
@@ -161,18 +164,19 @@ pub fn pair_air(even: Code, odd: Code, newest: Parity) -> Result<GridPoint<Air>,
 
 /// The point of two codes that were sent from nearly one place on the ground: the newest parity's of the one pair whose
 /// latitudes are close, and whose longitudes are. Of the places that these codes have, 90 degrees apart, it is the one
-/// within 45 degrees of the site in both coordinates; of two such, 45 degrees to either side, the northern or the eastern.
+/// within 45 degrees of the site in both coordinates; of two such, 45 degrees to either side, the northern or the
+/// eastern.
 ///
-/// `OutOfRange` exactly where one of the latitudes, so chosen by itself, lies outside -90 to 90 degrees; else `ZoneCounts`
-/// exactly where their zone counts differ, the even one's first. RTCA DO-260B, appendix on compact position reporting,
-/// globally unambiguous surface decoding.
+/// `OutOfRange` exactly where one of the latitudes, so chosen by itself, lies outside -90 to 90 degrees; else
+/// `ZoneCounts` exactly where their zone counts differ, the even one's first. RTCA DO-260B, appendix on compact
+/// position reporting, globally unambiguous surface decoding.
 pub fn pair_ground(
     even: Code,
     odd: Code,
     newest: Parity,
     site: &Position,
 ) -> Result<GridPoint<Ground>, PairFault>
-    ensures { PairAnswer 90 4 (numbers_of even) (numbers_of odd) newest (degrees (lat_of site.now)) (degrees (lon_of site.now)) result }
+    ensures { PairAnswerAt 90 4 (numbers_of even) (numbers_of odd) newest site.now result }
 {
     pair::<Ground>(even, odd, newest, site)
 }

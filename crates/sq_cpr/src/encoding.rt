@@ -7,7 +7,7 @@ ghost use Rattle.sq_angle.specs.Position.{lat_of, lon_of};
 ghost use Rattle.sq_angle.specs.Whole.{IsCongruent};
 ghost use Rattle.sq_cpr.specs.Code.{numbers_of};
 ghost use Rattle.sq_cpr.specs.Grid.{Point, IsGridPoint, IsLatitude, step, circle, lat_zones as lat_zones_of, latitude, longitude, code_of};
-ghost use Rattle.sq_cpr.specs.Rounds.{RoundsTo};
+ghost use Rattle.sq_cpr.specs.Rounds.{PositionRoundsTo};
 
 use crate::code::Code;
 use crate::grid::{GridPoint, angle_at, lat_zones};
@@ -16,19 +16,20 @@ use crate::span::{Span, degrees_of, repeats_of};
 use sq_angle::{Angle, Position};
 use sq_zones::{Parity, lon_zones};
 
-/// The point of the parity's grid to which a position rounds (RTCA DO-260B, appendix on compact position reporting): the
-/// nearest latitude index, a tie taken north, and by the longitude zones of that latitude the nearest longitude index, a
-/// tie taken east.
+/// The point of the parity's grid to which a position rounds (RTCA DO-260B, appendix on compact position reporting):
+/// the nearest latitude index, a tie taken north, and by the longitude zones of that latitude the nearest longitude
+/// index, a tie taken east.
 ///
 /// Each position rounds to exactly one point; a point's own [`GridPoint::position`] rounds to that point.
 pub fn nearest<S: Span>(position: &Position, parity: Parity) -> GridPoint<S>
     ensures parity { result.parity ≡ parity }
     ensures of_grid { IsGridPoint S.DEGREES S.REPEATS result }
-    ensures rounds { RoundsTo S.DEGREES S.REPEATS (degrees (lat_of position.now)) (degrees (lon_of position.now)) result }
+    ensures rounds { PositionRoundsTo S.DEGREES S.REPEATS position.now result }
     ensures only { (point : Point) → point.parity ≡ parity
-        → RoundsTo S.DEGREES S.REPEATS (degrees (lat_of position.now)) (degrees (lon_of position.now)) point → point ≡ result }
+        → PositionRoundsTo S.DEGREES S.REPEATS position.now point → point ≡ result }
     ensures itself { (point : Point) → IsGridPoint S.DEGREES S.REPEATS point → point.parity ≡ parity
-        → degrees (lat_of position.now) ≡ latitude S.DEGREES point → degrees (lon_of position.now) ≡ longitude S.DEGREES point
+        → degrees (lat_of position.now) ≡ latitude S.DEGREES point
+        → degrees (lon_of position.now) ≡ longitude S.DEGREES point
         → point ≡ result }
 {
     rounded(position, parity)
@@ -37,11 +38,9 @@ pub fn nearest<S: Span>(position: &Position, parity: Parity) -> GridPoint<S>
 /// The code of the point to which a position rounds.
 pub fn encode<S: Span>(position: &Position, parity: Parity) -> Code
     ensures code { (point : Point) × (point.parity ≡ parity)
-        × RoundsTo S.DEGREES S.REPEATS (degrees (lat_of position.now)) (degrees (lon_of position.now)) point
-        × (numbers_of result ≡ code_of point) }
+        × PositionRoundsTo S.DEGREES S.REPEATS position.now point × (numbers_of result ≡ code_of point) }
     ensures only { (point : Point) → point.parity ≡ parity
-        → RoundsTo S.DEGREES S.REPEATS (degrees (lat_of position.now)) (degrees (lon_of position.now)) point
-        → numbers_of result ≡ code_of point }
+        → PositionRoundsTo S.DEGREES S.REPEATS position.now point → numbers_of result ≡ code_of point }
 {
     nearest::<S>(position, parity).code()
 }
@@ -49,7 +48,7 @@ pub fn encode<S: Span>(position: &Position, parity: Parity) -> Code
 // A point to which a position rounds.
 fn rounded<S: Span>(position: &Position, parity: Parity) -> GridPoint<S>
     ensures parity { result.parity ≡ parity }
-    ensures rounds { RoundsTo S.DEGREES S.REPEATS (degrees (lat_of position.now)) (degrees (lon_of position.now)) result }
+    ensures rounds { PositionRoundsTo S.DEGREES S.REPEATS position.now result }
 {
     let lat_index = nearest_latitude::<S>(&position.lat(), parity);
     let lat = angle_at::<S>(parity, lat_index).unwrap();
@@ -71,7 +70,8 @@ fn nearest_longitude<S: Span>(lon: &Angle, zones: u8) -> u32
     requires at_least { 1 ≤ zones }
     requires at_most { zones ≤ 59 }
     ensures within { result < circle zones S.REPEATS }
-    ensures nearest { (index : ℤ) × IsNearest (degrees lon.now) (step S.DEGREES zones) index × IsCongruent (circle zones S.REPEATS) index (pos result) }
+    ensures nearest { (index : ℤ) × IsNearest (degrees lon.now) (step S.DEGREES zones) index
+        × IsCongruent (circle zones S.REPEATS) index (pos result) }
 {
     let index = nearest_index(lon, degrees_of::<S>(), zones);
     on_circle(index, zones, repeats_of::<S>())

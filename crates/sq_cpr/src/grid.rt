@@ -4,7 +4,7 @@ ghost use Rattle.sq_angle.specs.Angle.{degrees};
 ghost use Rattle.sq_angle.specs.Fraction.{IsWithin};
 ghost use Rattle.sq_angle.specs.Position.{lat_of, lon_of};
 ghost use Rattle.sq_cpr.specs.Code.{numbers_of};
-ghost use Rattle.sq_cpr.specs.Grid.{Point, IsGridPoint, HasPoint, IsLatitude, circle, lat_zones as lat_zones_of, grid_latitude, grid_longitude, latitude, longitude, code_of};
+ghost use Rattle.sq_cpr.specs.Grid.{Point, IsGridPoint, HasPoint, IsLatitude, circle, lat_zones as lat_zones_of, grid_latitude, grid_longitude, latitude, longitude, code_of, point_at};
 
 use crate::code::{CODES, Code};
 use crate::span::Span;
@@ -12,8 +12,8 @@ use sq_angle::{Angle, Position};
 use sq_zones::{Parity, lon_zones};
 use std::marker::{Model, PhantomData};
 
-/// A point of a parity's grid (RTCA DO-260B, appendix on compact position reporting): its latitude is `lat_index` steps of
-/// the latitude zones, its longitude `lon_index` steps of as many longitude zones as its own latitude has.
+/// A point of a parity's grid (RTCA DO-260B, appendix on compact position reporting): its latitude is `lat_index` steps
+/// of the latitude zones, its longitude `lon_index` steps of as many longitude zones as its own latitude has.
 ///
 /// Two points of a span are equal exactly if their parity and both indices are.
 #[derive_where(Clone, Copy, Debug, PartialEq, Eq)]
@@ -28,19 +28,26 @@ pub struct GridPoint<S: Span> {
 impl<S: Span> Model for GridPoint<S> {
     ghost Value = { Point };
 
-    ghost view = { λ p. record { parity = p.parity; lat_index = p.lat_index; zones = p.zones; lon_index = p.lon_index } };
+    ghost view = { λ p. point_at p.parity p.lat_index p.zones p.lon_index };
 
-    ghost invariant = { λ p. IsGridPoint S.DEGREES S.REPEATS (record { parity = p.parity; lat_index = p.lat_index; zones = p.zones; lon_index = p.lon_index }) };
+    ghost invariant = { λ p. IsGridPoint S.DEGREES S.REPEATS (point_at p.parity p.lat_index p.zones p.lon_index) };
 
-    ghost inverse = { λ p. record { parity = p.parity; lat_index = p.lat_index; zones = p.zones; lon_index = p.lon_index; span = record {} } };
+    ghost inverse = { λ p. record {
+      parity = p.parity;
+      lat_index = p.lat_index;
+      zones = p.zones;
+      lon_index = p.lon_index;
+      span = record {};
+    } };
 }
 
 impl<S: Span> GridPoint<S> {
-    /// The point with these indices; `None` exactly where the grid has no such point: where the latitude would lie outside
-    /// -90 to 90 degrees, or the longitude index is not below the steps of its circle.
+    /// The point with these indices; `None` exactly where the grid has no such point: where the latitude would lie
+    /// outside -90 to 90 degrees, or the longitude index is not below the steps of its circle.
     pub fn new(parity: Parity, lat_index: i32, lon_index: u32) -> Option<GridPoint<S>>
         ensures variant { IsSome result ↔ HasPoint S.DEGREES S.REPEATS parity lat_index lon_index }
-        ensures value { IfSome result (λ p. (p.parity ≡ parity) × (p.lat_index ≡ lat_index) × (p.lon_index ≡ lon_index)) }
+        ensures value { IfSome result (λ p. (p.parity ≡ parity) × (p.lat_index ≡ lat_index)
+            × (p.lon_index ≡ lon_index)) }
         ensures of_grid { IfSome result (IsGridPoint S.DEGREES S.REPEATS) }
     {
         let lat = angle_at::<S>(parity, lat_index)?;
@@ -58,8 +65,8 @@ impl<S: Span> GridPoint<S> {
         zones: u8,
         lon_index: u32,
     ) -> GridPoint<S>
-        requires { IsGridPoint S.DEGREES S.REPEATS (record { parity = parity; lat_index = lat_index; zones = zones; lon_index = lon_index }) }
-        ensures value { result ≡ record { parity = parity; lat_index = lat_index; zones = zones; lon_index = lon_index } }
+        requires { IsGridPoint S.DEGREES S.REPEATS (point_at parity lat_index zones lon_index) }
+        ensures value { result ≡ point_at parity lat_index zones lon_index }
         ensures of_grid { IsGridPoint S.DEGREES S.REPEATS result }
     {
         GridPoint {
@@ -110,8 +117,8 @@ impl<S: Span> GridPoint<S> {
     }
 
     /// The position of this point, exactly: the latitude is `lat_index * W` over `(60 - i) * 2^17`, and the longitude
-    /// `lon_index * W` over `zones * 2^17`, less 360 degrees from 180 up, where W is the span's degrees and i is 0 for even
-    /// and 1 for odd.
+    /// `lon_index * W` over `zones * 2^17`, less 360 degrees from 180 up, where W is the span's degrees and i is 0 for
+    /// even and 1 for odd.
     pub fn position(&self) -> Position
         ensures lat { degrees (lat_of result) ≡ latitude S.DEGREES self.now }
         ensures lon { degrees (lon_of result) ≡ longitude S.DEGREES self.now }

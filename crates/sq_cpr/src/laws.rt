@@ -28,7 +28,8 @@ pub fn one_pair_of_zones<S: Span>()
     ensures { OnePairOfZones S.DEGREES S.REPEATS }
 {}
 
-/// Where two positions lie in the same zones, the points to which they round have one code exactly if they are one point.
+/// Where two positions lie in the same zones, the points to which they round have one code exactly if they are one
+/// point.
 pub fn same_zones<S: Span>()
     ensures { SameZones S.DEGREES S.REPEATS }
 {}
@@ -128,8 +129,8 @@ pub fn close_ground_points_are_answered()
     ensures { CloseGroundPointsAreAnswered }
 {}
 
-/// Points in the air with close latitudes and, where their zone counts agree, close longitudes are answered by the newest or
-/// by their zone counts, and never as out of range.
+/// Points in the air with close latitudes and, where their zone counts agree, close longitudes are answered by the
+/// newest or by their zone counts, and never as out of range.
 pub fn tame_air_points_are_answered()
     ensures { TameAirPointsAreAnswered }
 {}
@@ -139,8 +140,8 @@ pub fn tame_ground_points_are_answered()
     ensures { TameGroundPointsAreAnswered }
 {}
 
-/// True positions that differ by less than the closeness less the odd grid's step, in latitude and, where the zone counts
-/// agree on two or more, in longitude, round to such points.
+/// True positions that differ by less than the closeness less the odd grid's step, in latitude and, where the zone
+/// counts agree on two or more, in longitude, round to such points.
 pub fn slow_is_tame<S: Span>()
     ensures { SlowIsTame S.DEGREES S.REPEATS }
 {}
@@ -218,7 +219,8 @@ pub fn some_pair_answer<S: Span>()
 /// Whether two points are equal, which they are exactly if their parity and both indices are.
 pub fn equal_points<S: Span>(a: &GridPoint<S>, b: &GridPoint<S>) -> bool
     ensures equal { IsTrue result ↔ (a.now ≡ b.now) }
-    ensures indices { IsTrue result ↔ ((a.now.parity ≡ b.now.parity) × (a.now.lat_index ≡ b.now.lat_index) × (a.now.lon_index ≡ b.now.lon_index)) }
+    ensures indices { IsTrue result ↔ ((a.now.parity ≡ b.now.parity) × (a.now.lat_index ≡ b.now.lat_index)
+        × (a.now.lon_index ≡ b.now.lon_index)) }
 {
     // each call says that its point is one of the grid
     let _ = (a.parity(), b.parity());

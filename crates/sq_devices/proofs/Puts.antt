@@ -14,7 +14,8 @@ take_front text at n fits =
 
 -- one more put makes the front longer
 pub puts_more : (a b c : Option (List ℕ)) (text : List ℕ) (at n : ℕ) → n ≤ length text - at
-    → Appends a b (take at text) → Appends b c (take n (take (length text - at) (drop at text))) → Appends a c (take (at + n) text)
+    → Appends a b (take at text) → Appends b c (take n (take (length text - at) (drop at text)))
+    → Appends a c (take (at + n) text)
 puts_more a b c text at n fits front part =
     subst (Appends a c) (take_front text at n fits) (Appends-trans a b c _ _ front part)
 

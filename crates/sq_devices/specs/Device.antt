@@ -1,5 +1,5 @@
--- What a call that failed does to the bytes of a device, which may not report them. `None` stands for bytes that are not
--- reported.
+-- What a call that failed does to the bytes of a device, which may not report them. `None` stands for bytes that are
+-- not reported.
 use Rattle.std.specs.Prelude.{◌≡◌, ◌++◌, ℕ, List, ⊤, Option, None, Some}
 
 -- the device's bytes are as before, or it does not report them

@@ -12,20 +12,24 @@ parts_of : (lines : List (List ℕ)) (rest : List ℕ) → All HasNoFeed lines �
     → slice_split is_feed (flat_map with_feed lines ++ rest) ≡ lines ++ rest ∷ []
 parts_of [] rest each last = slice_split_none is_feed rest last
 parts_of (line ∷ lines) rest each last =
-    ap (slice_split is_feed) (append_assoc (line ++ 10 ∷ []) (flat_map with_feed lines) rest ∙ append_assoc line (10 ∷ []) (flat_map with_feed lines ++ rest))
+    ap (slice_split is_feed) (append_assoc (line ++ 10 ∷ []) (flat_map with_feed lines) rest
+    ∙ append_assoc line (10 ∷ []) (flat_map with_feed lines ++ rest))
     ∙ slice_split_at is_feed line 10 (flat_map with_feed lines ++ rest) (All-head HasNoFeed line lines each) refl
     ∙ ap (λ parts. line ∷ parts) (parts_of lines rest (All-tail HasNoFeed line lines each) last)
 
-parts-cut : (input : List ℕ) (lines : List (List ℕ)) (rest : List ℕ) → Cuts input lines rest → slice_split is_feed input ≡ lines ++ rest ∷ []
+parts-cut : (input : List ℕ) (lines : List (List ℕ)) (rest : List ℕ) → Cuts input lines rest
+    → slice_split is_feed input ≡ lines ++ rest ∷ []
 parts-cut input lines rest cut = ap (slice_split is_feed) cut.whole ∙ parts_of lines rest cut.each cut.last
 
-pub ended_lines-cut : (input : List ℕ) (lines : List (List ℕ)) (rest : List ℕ) → Cuts input lines rest → ended_lines input ≡ lines
+pub ended_lines-cut : (input : List ℕ) (lines : List (List ℕ)) (rest : List ℕ) → Cuts input lines rest
+    → ended_lines input ≡ lines
 unfolding ended_lines
 ended_lines-cut input lines rest cut =
     ap (λ (parts : List (List ℕ)). take (length parts - 1) parts) (parts-cut input lines rest cut)
     ∙ take_at lines (rest ∷ []) (length (lines ++ rest ∷ []) - 1) (omega (arith, length_push lines rest))
 
-pub last_part-cut : (input : List ℕ) (lines : List (List ℕ)) (rest : List ℕ) → Cuts input lines rest → last_part input ≡ rest
+pub last_part-cut : (input : List ℕ) (lines : List (List ℕ)) (rest : List ℕ) → Cuts input lines rest
+    → last_part input ≡ rest
 unfolding last_part
 last_part-cut input lines rest cut =
     ap (λ (parts : List (List ℕ)). get_or parts (length parts - 1) []) (parts-cut input lines rest cut)
@@ -34,27 +38,32 @@ last_part-cut input lines rest cut =
 pub cuts_nothing : Cuts [] [] []
 cuts_nothing = record { whole = refl; each = All-nil HasNoFeed; last = All-nil (λ byte. is_feed byte ≡ false) }
 
-pub cuts_more : (input : List ℕ) (lines : List (List ℕ)) (rest piece : List ℕ) → Cuts input lines rest → HasNoFeed piece → Cuts (input ++ piece) lines (rest ++ piece)
+pub cuts_more : (input : List ℕ) (lines : List (List ℕ)) (rest piece : List ℕ) → Cuts input lines rest
+    → HasNoFeed piece → Cuts (input ++ piece) lines (rest ++ piece)
 cuts_more input lines rest piece cut none = record {
   whole = ap (λ l. l ++ piece) cut.whole ∙ append_assoc (flat_map with_feed lines) rest piece;
   each = cut.each;
   last = All-append (λ byte. is_feed byte ≡ false) rest piece cut.last none;
 }
 
-pub cuts_ended : (input : List ℕ) (lines : List (List ℕ)) (rest front : List ℕ) → Cuts input lines rest → HasNoFeed front
+pub cuts_ended : (input : List ℕ) (lines : List (List ℕ)) (rest front : List ℕ) → Cuts input lines rest
+    → HasNoFeed front
     → Cuts (input ++ (front ++ 10 ∷ [])) (lines ++ (rest ++ front) ∷ []) []
 cuts_ended input lines rest front cut none =
     let ended : HasNoFeed (rest ++ front) = All-append (λ byte. is_feed byte ≡ false) rest front cut.last none in
     record {
-      whole = ap (λ l. l ++ (front ++ 10 ∷ [])) cut.whole ∙ append_assoc (flat_map with_feed lines) rest (front ++ 10 ∷ [])
-          ∙ ap (λ l. flat_map with_feed lines ++ l) (sym (append_assoc rest front (10 ∷ [])) ∙ sym (append-nil (with_feed (rest ++ front))))
+      whole = ap (λ l. l ++ (front ++ 10 ∷ [])) cut.whole
+          ∙ append_assoc (flat_map with_feed lines) rest (front ++ 10 ∷ [])
+          ∙ ap (λ l. flat_map with_feed lines ++ l)
+          (sym (append_assoc rest front (10 ∷ [])) ∙ sym (append-nil (with_feed (rest ++ front))))
           ∙ sym (flat_map-append with_feed lines ((rest ++ front) ∷ []))
           ∙ sym (append-nil (flat_map with_feed (lines ++ (rest ++ front) ∷ [])));
       each = All-push HasNoFeed lines (rest ++ front) cut.each ended;
       last = All-nil (λ byte. is_feed byte ≡ false);
     }
 
-same_cut : {input input' rest rest' : List ℕ} {lines lines' : List (List ℕ)} → Cuts input lines rest → input ≡ input' → lines ≡ lines' → rest ≡ rest' → Cuts input' lines' rest'
+same_cut : {input input' rest rest' : List ℕ} {lines lines' : List (List ℕ)} → Cuts input lines rest → input ≡ input'
+    → lines ≡ lines' → rest ≡ rest' → Cuts input' lines' rest'
 same_cut {input' = input'} {rest} {lines} {lines'} cut same_input same_lines same_rest =
     subst (Cuts input' lines') same_rest
     (subst (λ (ls : List (List ℕ)). Cuts input' ls rest) same_lines
@@ -91,7 +100,8 @@ cuts_itself input =
     let on = cuts_on [] [] [] input cuts_nothing in
     same_cut on.2 refl (sym (ended_lines-cut input on.0 on.1 on.2)) (sym (last_part-cut input on.0 on.1 on.2))
 
-pub ended_lines-append : (input more : List ℕ) → (extra : List (List ℕ)) × (ended_lines (input ++ more) ≡ ended_lines input ++ extra)
+pub ended_lines-append : (input more : List ℕ)
+    → (extra : List (List ℕ)) × (ended_lines (input ++ more) ≡ ended_lines input ++ extra)
 ended_lines-append input more =
     let on = cuts_on input (ended_lines input) (last_part input) more (cuts_itself input) in
     (on.0, ended_lines-cut (input ++ more) (ended_lines input ++ on.0) on.1 on.2)

@@ -16,7 +16,8 @@ pub marks_lanes : (bytes : List ℕ) → MarksFeeds (mask_l (map (λ x. eqb x 10
 marks_lanes bytes k within = bit_mask_l (map is_feed bytes) k ∙ ap (λ b. cond b 1 0) (get_or-map is_feed bytes k 0)
 
 -- the mask of what stands after a place
-pub marks_rest : (piece : List ℕ) (at feeds : ℕ) → MarksFeeds feeds piece → MarksFeeds (feeds / 2 ^ at) (take (length piece - at) (drop at piece))
+pub marks_rest : (piece : List ℕ) (at feeds : ℕ) → MarksFeeds feeds piece
+    → MarksFeeds (feeds / 2 ^ at) (take (length piece - at) (drop at piece))
 marks_rest piece at feeds marked k within =
     let short : k < length piece - at = omega (arith, ap length (take_rest piece at), length-drop at piece) in
     ap (λ x. x % 2) (shr-shr feeds at k) ∙ marked (at + k) (omega arith)

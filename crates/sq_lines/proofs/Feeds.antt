@@ -17,7 +17,8 @@ pub no_place : (piece : List ℕ) → position is_feed piece ≡ None → length
 no_place piece none =
     elim (cases_lt (place piece) (length piece)) [
       | inl there ↦
-          let some : position is_feed piece ≡ Some (place piece) = ap (λ b. cond b (Some (place piece)) None) (lt-ltb _ _ there) in
+          let some : position is_feed piece ≡ Some (place piece) =
+          ap (λ b. cond b (Some (place piece)) None) (lt-ltb _ _ there) in
           cc
       | inr past ↦ let within = place-le piece in omega arith
     ]
@@ -31,7 +32,9 @@ before_has_none piece k d here =
 pub all_before : (piece : List ℕ) → length piece ≤ place piece → before_first is_feed piece ≡ piece
 all_before piece past = take_all (place piece) piece past
 
-pub through_first : (piece : List ℕ) → place piece < length piece → take (place piece + 1) piece ≡ before_first is_feed piece ++ 10 ∷ []
+pub through_first : (piece : List ℕ) → place piece < length piece
+    → take (place piece + 1) piece ≡ before_first is_feed piece ++ 10 ∷ []
 through_first piece there =
     take_more piece (place piece) 0 there
-    ∙ ap (λ b. take (place piece) piece ++ b ∷ []) (eqb-true (get_or piece (place piece) 0) 10 (passes_at_first is_feed piece 0 there))
+    ∙ ap (λ b. take (place piece) piece ++ b ∷ [])
+    (eqb-true (get_or piece (place piece) 0) 10 (passes_at_first is_feed piece 0 there))

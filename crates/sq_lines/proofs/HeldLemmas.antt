@@ -14,12 +14,14 @@ whole : (old : Held) (line : List ℕ) → Holds old line → length line ≤ 64
 whole old line h short = h.front ∙ take_all 64 line short
 
 -- nothing is added
-holds_same : (old new : Held) (line : List ℕ) → Holds old line → new.line ≡ old.line ++ [] → new.is_long ≡ old.is_long → Holds new (line ++ [])
+holds_same : (old new : Held) (line : List ℕ) → Holds old line → new.line ≡ old.line ++ [] → new.is_long ≡ old.is_long
+    → Holds new (line ++ [])
 holds_same old new line h grown same =
     subst (Holds new) (sym (append-nil line))
     (record { front = grown ∙ append-nil old.line ∙ h.front; more = same ∙ h.more })
 
-holds_fitting_short : (old new : Held) (line bytes : List ℕ) → Holds old line → length line ≤ 64 → length bytes ≤ 64 - length old.line
+holds_fitting_short : (old new : Held) (line bytes : List ℕ) → Holds old line → length line ≤ 64
+    → length bytes ≤ 64 - length old.line
     → new.line ≡ old.line ++ bytes → new.is_long ≡ old.is_long → Holds new (line ++ bytes)
 holds_fitting_short old new line bytes h short fits grown same =
     let held = whole old line h short in
@@ -55,6 +57,7 @@ holds_cut old new line bytes h over grown long =
           record {
             front = grown ∙ ap (λ l. l ++ take (64 - length old.line) bytes) held
                 ∙ sym (take-append-add line bytes (64 - length old.line)) ∙ ap (λ n. take n (line ++ bytes)) room;
-            more = long ∙ sym (lt-ltb 64 (length (line ++ bytes)) (omega (arith, ap length held, length-append line bytes)));
+            more = long ∙ sym (lt-ltb 64 (length (line ++ bytes))
+                (omega (arith, ap length held, length-append line bytes)));
           }
     ]

@@ -22,7 +22,8 @@ use Rattle.sq_lines.proofs.Tallying.{past_push, output_push, output_none, output
 
 -- ---- fronts
 
-pub AppendsOrHides-after : (a b c : Option (List ℕ)) (bs cs : List ℕ) → Appends a b bs → AppendsOrHides b c cs → AppendsOrHides a c (bs ++ cs)
+pub AppendsOrHides-after : (a b c : Option (List ℕ)) (bs cs : List ℕ) → Appends a b bs → AppendsOrHides b c cs
+    → AppendsOrHides a c (bs ++ cs)
 AppendsOrHides-after None b c bs cs p q = tt
 AppendsOrHides-after (Some x) None c bs cs p q = absurd p
 AppendsOrHides-after (Some x) (Some y) None bs cs p q = tt
@@ -31,15 +32,20 @@ AppendsOrHides-after (Some x) (Some y) (Some z) bs cs p q = q ∙ ap (λ l. l ++
 pub prefix_trans : {X : Type 0} (xs ys zs : List X) → IsPrefixOf xs ys → IsPrefixOf ys zs → IsPrefixOf xs zs
 prefix_trans xs ys zs p q = (p.0 ++ q.0, q.1 ∙ ap (λ l. l ++ q.0) p.1 ∙ append_assoc xs p.0 q.0)
 
-pub stopped_longer : {State Past Found : Type 0} (stands_for : State → Past → Type 0) (way : Answerer Past Found) (fault : Unanswered) (start now : State)
+pub stopped_longer : {State Past Found : Type 0} (stands_for : State → Past → Type 0) (way : Answerer Past Found)
+    (fault : Unanswered) (start now : State)
     (before after : Option (List ℕ)) (lines more : List (List ℕ))
-    → StoppedIn fault stands_for way start now before after lines → IsPrefixOf lines more → StoppedIn fault stands_for way start now before after more
-stopped_longer stands_for way fault start now before after lines more (told, first, rest) longer = (told, prefix_trans told lines more first longer, rest)
+    → StoppedIn fault stands_for way start now before after lines → IsPrefixOf lines more
+    → StoppedIn fault stands_for way start now before after more
+stopped_longer stands_for way fault start now before after lines more (told, first, rest) longer =
+    (told, prefix_trans told lines more first longer, rest)
 
 -- ---- the start
 
-pub starts : {State Past Found : Type 0} (stands_for : State → Past → Type 0) (way : Answerer Past Found) (start : State) (sink : Option (List ℕ)) (run : LineRun)
-    → run.number ≡ 0 → run.cutter ≡ empty_line → (let none : Tally = record { good = 0; refused = 0 } in run.tally ≡ none)
+pub starts : {State Past Found : Type 0} (stands_for : State → Past → Type 0) (way : Answerer Past Found)
+    (start : State) (sink : Option (List ℕ)) (run : LineRun)
+    → run.number ≡ 0 → run.cutter ≡ empty_line
+    → (let none : Tally = record { good = 0; refused = 0 } in run.tally ≡ none)
     → HasAnswered stands_for way start sink run start sink []
 starts stands_for way start sink run number cutter tally = record {
   lines = [];
@@ -54,25 +60,33 @@ starts stands_for way start sink run number cutter tally = record {
 -- ---- one more line
 
 -- from each past, the line was answered
-abbrev pub LineTold : {State Past Found : Type 0} → (State → Past → Type 0) → Answerer Past Found → (old new : LineRun) → (now next : State) → (a b : Option (List ℕ)) → List ℕ → Type 0
+abbrev pub LineTold : {State Past Found : Type 0} → (State → Past → Type 0) → Answerer Past Found → (old new : LineRun)
+    → (now next : State) → (a b : Option (List ℕ)) → List ℕ → Type 0
 LineTold {Past = Past} stands_for way old new now next a b line = (past first : Past) → stands_for now past
     → stands_for next (way.after past line) × (new.tally ≡ noted old.tally (way.answer past line))
     × Appends a b (answer_text (way.text first) (old.number + 1) (way.answer past line))
 
 -- the same, with a prefix of the text
-abbrev pub LineToldPart : {State Past Found : Type 0} → (State → Past → Type 0) → Answerer Past Found → (old : LineRun) → (now next : State) → (a b : Option (List ℕ)) → List ℕ → Type 0
+abbrev pub LineToldPart : {State Past Found : Type 0} → (State → Past → Type 0) → Answerer Past Found → (old : LineRun)
+    → (now next : State) → (a b : Option (List ℕ)) → List ℕ → Type 0
 LineToldPart {Past = Past} stands_for way old now next a b line = (past first : Past) → stands_for now past
-    → stands_for next (way.after past line) × WroteFront a b (answer_text (way.text first) (old.number + 1) (way.answer past line))
+    → stands_for next (way.after past line)
+    × WroteFront a b (answer_text (way.text first) (old.number + 1) (way.answer past line))
 
-module _ {State Past Found : Type 0} (stands_for : State → Past → Type 0) (way : Answerer Past Found) (start : State) (before a b : Option (List ℕ))
-    (old new : LineRun) (now next : State) (read : List ℕ) (h : HasAnswered stands_for way start before old now a read) where
+module _ {State Past Found : Type 0} (stands_for : State → Past → Type 0) (way : Answerer Past Found) (start : State)
+    (before a b : Option (List ℕ))
+    (old new : LineRun) (now next : State) (read : List ℕ)
+    (h : HasAnswered stands_for way start before old now a read) where
   output_through : (past : Past) (line : List ℕ)
-      → output_of way past h.lines ++ answer_text (way.text past) (old.number + 1) (way.answer (past_after way past h.lines) line) ≡ output_of way past (h.lines ++ line ∷ [])
+      → output_of way past h.lines ++ answer_text (way.text past) (old.number + 1)
+      (way.answer (past_after way past h.lines) line) ≡ output_of way past (h.lines ++ line ∷ [])
   output_through past line =
-      ap (λ (n : ℕ). output_of way past h.lines ++ answer_text (way.text past) (n + 1) (way.answer (past_after way past h.lines) line)) h.number
+      ap (λ (n : ℕ). output_of way past h.lines
+      ++ answer_text (way.text past) (n + 1) (way.answer (past_after way past h.lines) line)) h.number
       ∙ sym (output_push way past h.lines line)
 
-  pub told_line : (line : List ℕ) → LineTold stands_for way old new now next a b line → HasTold stands_for way start next before b (h.lines ++ line ∷ [])
+  pub told_line : (line : List ℕ) → LineTold stands_for way old new now next a b line
+      → HasTold stands_for way start next before b (h.lines ++ line ∷ [])
   told_line line more = λ past st.
       let told = h.told past st in
       let one = more (past_after way past h.lines) past told.0 in (
@@ -84,9 +98,11 @@ module _ {State Past Found : Type 0} (stands_for : State → Past → Type 0) (w
       → (past : Past) → stands_for start past → new.tally ≡ tally_of (answers_to way past (h.lines ++ line ∷ []))
   tally_line line more past st =
       let one = more (past_after way past h.lines) past (h.told past st).0 in
-      one.1 ∙ ap (λ t. noted t (way.answer (past_after way past h.lines) line)) (h.tally past st) ∙ sym (tally_push way past h.lines line)
+      one.1 ∙ ap (λ t. noted t (way.answer (past_after way past h.lines) line)) (h.tally past st)
+      ∙ sym (tally_push way past h.lines line)
 
-  told_part : (line : List ℕ) → LineToldPart stands_for way old now next a b line → HasToldPart stands_for way start next before b (h.lines ++ line ∷ [])
+  told_part : (line : List ℕ) → LineToldPart stands_for way old now next a b line
+      → HasToldPart stands_for way start next before b (h.lines ++ line ∷ [])
   told_part line more = λ past st.
       let told = h.told past st in
       let one = more (past_after way past h.lines) past told.0 in
@@ -96,15 +112,21 @@ module _ {State Past Found : Type 0} (stands_for : State → Past → Type 0) (w
         (
           done ++ front.0,
           (front.0, ap (λ ls. output_of way past ls ++ front.0) (sym (but_last-push h.lines line))),
-          (front.1.0, sym (output_through past line) ∙ ap (λ l. done ++ l) front.1.1 ∙ sym (append_assoc done front.0 front.1.0)),
+          (
+            front.1.0,
+            sym (output_through past line) ∙ ap (λ l. done ++ l) front.1.1
+                ∙ sym (append_assoc done front.0 front.1.0),
+          ),
           AppendsOrHides-after before a b done front.0 told.1 front.2,
         ),
       )
 
   -- the line was not answered, or not all of its text was written
-  pub stopped_line : (line : List ℕ) (complete : List (List ℕ)) (fault : Unanswered) → (fault ≡ Memory → (next ≡ now) × (b ≡ a))
+  pub stopped_line : (line : List ℕ) (complete : List (List ℕ)) (fault : Unanswered)
+      → (fault ≡ Memory → (next ≡ now) × (b ≡ a))
       → ((past first : Past) → stands_for now past → fault ≡ Write
-      → stands_for next (way.after past line) × WroteFront a b (answer_text (way.text first) (old.number + 1) (way.answer past line)))
+      → stands_for next (way.after past line)
+      × WroteFront a b (answer_text (way.text first) (old.number + 1) (way.answer past line)))
       → IsPrefixOf (h.lines ++ line ∷ []) complete → StoppedIn fault stands_for way start next before b complete
   stopped_line line complete Memory memory part first =
       let same = memory refl in (
@@ -116,12 +138,16 @@ module _ {State Past Found : Type 0} (stands_for : State → Past → Type 0) (w
               subst (λ (w : Option (List ℕ)). Appends before w (output_of way past h.lines)) (sym same.1) told.1,
             ),
       )
-  stopped_line line complete Write memory part first = (h.lines ++ line ∷ [], first, told_part line (λ past first st. part past first st refl))
+  stopped_line line complete Write memory part first =
+      (h.lines ++ line ∷ [], first, told_part line (λ past first st. part past first st refl))
 
-  pub stopped_result : (line : List ℕ) (complete : List (List ℕ)) (result : Result (Unit {0}) Unanswered) → IfErr result (λ fault. fault ≡ Memory → (next ≡ now) × (b ≡ a))
+  pub stopped_result : (line : List ℕ) (complete : List (List ℕ)) (result : Result (Unit {0}) Unanswered)
+      → IfErr result (λ fault. fault ≡ Memory → (next ≡ now) × (b ≡ a))
       → ((past first : Past) → stands_for now past → IfErr result (λ fault. fault ≡ Write
-      → stands_for next (way.after past line) × WroteFront a b (answer_text (way.text first) (old.number + 1) (way.answer past line))))
-      → IsPrefixOf (h.lines ++ line ∷ []) complete → IfErr result (λ fault. StoppedIn fault stands_for way start next before b complete)
+      → stands_for next (way.after past line)
+      × WroteFront a b (answer_text (way.text first) (old.number + 1) (way.answer past line))))
+      → IsPrefixOf (h.lines ++ line ∷ []) complete
+      → IfErr result (λ fault. StoppedIn fault stands_for way start next before b complete)
   stopped_result line complete (Ok u) memory part first = tt
   stopped_result line complete (Err fault) memory part first = stopped_line line complete fault memory part first
 
@@ -130,25 +156,31 @@ module _ {State Past Found : Type 0} (stands_for : State → Past → Type 0) (w
 abbrev place : List ℕ → ℕ
 place piece = position_or_len is_feed piece
 
-module _ {State Past Found : Type 0} {stands_for : State → Past → Type 0} {way : Answerer Past Found} {start : State} {before a : Option (List ℕ)}
+module _ {State Past Found : Type 0} {stands_for : State → Past
+    → Type 0} {way : Answerer Past Found} {start : State} {before a : Option (List ℕ)}
     {old : LineRun} {now : State} {read : List ℕ} (h : HasAnswered stands_for way start before old now a read) where
   abbrev pub line_in : List ℕ → List ℕ
   line_in piece = h.rest ++ before_first is_feed piece
 
-  cut_through : (piece : List ℕ) → place piece < length piece → Cuts (read ++ take (place piece + 1) piece) (h.lines ++ line_in piece ∷ []) []
+  cut_through : (piece : List ℕ) → place piece < length piece
+      → Cuts (read ++ take (place piece + 1) piece) (h.lines ++ line_in piece ∷ []) []
   cut_through piece there =
       subst (λ (l : List ℕ). Cuts (read ++ l) (h.lines ++ line_in piece ∷ []) []) (sym (through_first piece there))
       (cuts_ended read h.lines h.rest (before_first is_feed piece) h.cut (before_has_none piece))
 
   -- the piece ends the line
-  pub prefix_through : (piece : List ℕ) → place piece < length piece → IsPrefixOf (h.lines ++ line_in piece ∷ []) (ended_lines (read ++ piece))
+  pub prefix_through : (piece : List ℕ) → place piece < length piece
+      → IsPrefixOf (h.lines ++ line_in piece ∷ []) (ended_lines (read ++ piece))
   prefix_through piece there =
       let k = place piece + 1 in
       let cut = cut_through piece there in
       let whole : (read ++ take k piece) ++ drop k piece ≡ read ++ piece =
       append_assoc read (take k piece) (drop k piece) ∙ ap (λ l. read ++ l) (take-append-drop k piece) in
-      let longer = ended_lines-append (read ++ take k piece) (drop k piece) in
-      (longer.0, ap ended_lines (sym whole) ∙ longer.1 ∙ ap (λ (ls : List (List ℕ)). ls ++ longer.0) (ended_lines-cut _ _ _ cut))
+      let longer = ended_lines-append (read ++ take k piece) (drop k piece) in (
+        longer.0,
+        ap ended_lines (sym whole) ∙ longer.1
+            ∙ ap (λ (ls : List (List ℕ)). ls ++ longer.0) (ended_lines-cut _ _ _ cut),
+      )
 
   -- the piece completes the line, and it was answered
   pub answered_feed : (new : LineRun) (next : State) (b : Option (List ℕ)) (piece : List ℕ)
@@ -186,15 +218,18 @@ module _ {State Past Found : Type 0} {stands_for : State → Past → Type 0} {w
 
   lines_of-read : lines_of read ≡ h.lines ++ as_last_line h.rest
   lines_of-read =
-      ap₂ (λ ls part. ls ++ as_last_line part) (ended_lines-cut read h.lines h.rest h.cut) (last_part-cut read h.lines h.rest h.cut)
+      ap₂ (λ ls part. ls ++ as_last_line part) (ended_lines-cut read h.lines h.rest h.cut)
+      (last_part-cut read h.lines h.rest h.cut)
 
   no_last : length h.rest ≡ 0 → h.lines ≡ lines_of read
   no_last none =
-      sym (lines_of-read ∙ ap (λ (t : Bool). h.lines ++ cond t [] (h.rest ∷ [])) (eq-eqb (length h.rest) 0 none) ∙ append-nil h.lines)
+      sym (lines_of-read ∙ ap (λ (t : Bool). h.lines ++ cond t [] (h.rest ∷ [])) (eq-eqb (length h.rest) 0 none)
+      ∙ append-nil h.lines)
 
   a_last : 0 < length h.rest → h.lines ++ h.rest ∷ [] ≡ lines_of read
   a_last some =
-      sym (lines_of-read ∙ ap (λ (t : Bool). h.lines ++ cond t [] (h.rest ∷ [])) (ne_eqb (length h.rest) 0 (λ e. absurd (omega arith))))
+      sym (lines_of-read ∙ ap (λ (t : Bool). h.lines ++ cond t [] (h.rest ∷ []))
+      (ne_eqb (length h.rest) 0 (λ e. absurd (omega arith))))
 
   pub prefix_last : 0 < length h.rest → IsPrefixOf (h.lines ++ h.rest ∷ []) (lines_of read)
   prefix_last some = ([], sym (append-nil (h.lines ++ h.rest ∷ []) ∙ a_last some))
@@ -207,7 +242,8 @@ module _ {State Past Found : Type 0} {stands_for : State → Past → Type 0} {w
         λ past st. h.tally past st ∙ ap (λ (ls : List (List ℕ)). tally_of (answers_to way past ls)) same,
       )
 
-  pub finished_line : (new : LineRun) (next : State) (b : Option (List ℕ)) (result : Result (Unit {0}) Unanswered) → 0 < length h.rest
+  pub finished_line : (new : LineRun) (next : State) (b : Option (List ℕ)) (result : Result (Unit {0}) Unanswered)
+      → 0 < length h.rest
       → ((past first : Past) → stands_for now past → OnOk result (
       stands_for next (way.after past h.rest) × (new.tally ≡ noted old.tally (way.answer past h.rest))
       × Appends a b (answer_text (way.text first) (old.number + 1) (way.answer past h.rest))))
@@ -216,8 +252,10 @@ module _ {State Past Found : Type 0} {stands_for : State → Past → Type 0} {w
   finished_line new next b (Err fault) some more = tt
   finished_line new next b (Ok u) some more =
       let same = a_last some in (
-        subst (λ (ls : List (List ℕ)). HasTold stands_for way start next before b ls) same (told_line stands_for way start before a b old new now next read h h.rest more),
-        λ past st. tally_line stands_for way start before a b old new now next read h h.rest more past st ∙ ap (λ (ls : List (List ℕ)). tally_of (answers_to way past ls)) same,
+        subst (λ (ls : List (List ℕ)). HasTold stands_for way start next before b ls) same
+            (told_line stands_for way start before a b old new now next read h h.rest more),
+        λ past st. tally_line stands_for way start before a b old new now next read h h.rest more past st
+            ∙ ap (λ (ls : List (List ℕ)). tally_of (answers_to way past ls)) same,
       )
 
 pub held_rest : (held : Held) (rest : List ℕ) → Holds held (rest ++ []) → Holds held rest
@@ -234,13 +272,22 @@ some_rest held rest h some =
     ]
 
 -- ---- all was written, and then the sink failed
-pub told_unfinished : {State Past Found : Type 0} (stands_for : State → Past → Type 0) (way : Answerer Past Found) (start now : State) (before a b : Option (List ℕ)) (lines : List (List ℕ))
-    → HasTold stands_for way start now before a lines → KeepsOrHides a b → StoppedIn Write stands_for way start now before b lines
+pub told_unfinished : {State Past Found : Type 0} (stands_for : State → Past → Type 0) (way : Answerer Past Found)
+    (start now : State) (before a b : Option (List ℕ)) (lines : List (List ℕ))
+    → HasTold stands_for way start now before a lines → KeepsOrHides a b
+    → StoppedIn Write stands_for way start now before b lines
 told_unfinished stands_for way start now before a b lines told kept = (
   lines,
   ([], sym (append-nil lines)),
   λ past st.
       let one = told past st in
-      let output = output_of way past lines in
-      (one.0, (output, output_but_last way past lines, ([], sym (append-nil output)), Appends-hidden before a b output one.1 kept)),
+      let output = output_of way past lines in (
+        one.0,
+        (
+          output,
+          output_but_last way past lines,
+          ([], sym (append-nil output)),
+          Appends-hidden before a b output one.1 kept,
+        ),
+      ),
 )

@@ -21,22 +21,27 @@ pub past_push : {Past Found : Type 0} (way : Answerer Past Found) (past : Past) 
 past_push way past [] line = refl
 past_push way past (x ∷ xs) line = past_push way (way.after past x) xs line
 
-length_answers : {Past Found : Type 0} (way : Answerer Past Found) (past : Past) (lines : List (List ℕ)) → length (answers_to way past lines) ≡ length lines
+length_answers : {Past Found : Type 0} (way : Answerer Past Found) (past : Past) (lines : List (List ℕ))
+    → length (answers_to way past lines) ≡ length lines
 length_answers way past [] = refl
 length_answers way past (x ∷ xs) = omega (arith, length_answers way (way.after past x) xs)
 
-enumerate_from_append : {X : Type 0} (n : ℕ) (xs ys : List X) → enumerate_from n (xs ++ ys) ≡ enumerate_from n xs ++ enumerate_from (n + length xs) ys
+enumerate_from_append : {X : Type 0} (n : ℕ) (xs ys : List X)
+    → enumerate_from n (xs ++ ys) ≡ enumerate_from n xs ++ enumerate_from (n + length xs) ys
 enumerate_from_append n [] ys = let e : n ≡ n + 0 = omega arith in ap (λ (k : ℕ). enumerate_from k ys) e
 enumerate_from_append n (x ∷ xs) ys =
     let e : (n + 1) + length xs ≡ n + length (x ∷ xs) = omega arith in
-    ap (λ l. (n, x) ∷ l) (enumerate_from_append (n + 1) xs ys ∙ ap (λ (k : ℕ). enumerate_from (n + 1) xs ++ enumerate_from k ys) e)
+    ap (λ l. (n, x) ∷ l) (enumerate_from_append (n + 1) xs ys
+    ∙ ap (λ (k : ℕ). enumerate_from (n + 1) xs ++ enumerate_from k ys) e)
 
 -- the texts of answers that are numbered from here
 abbrev texts_from : {Past Found : Type 0} → Answerer Past Found → Past → ℕ → List (Answer Found) → List ℕ
-texts_from way first n answers = flat_map (λ entry. answer_text (way.text first) entry.0 entry.1) (enumerate_from n answers)
+texts_from way first n answers =
+    flat_map (λ entry. answer_text (way.text first) entry.0 entry.1) (enumerate_from n answers)
 
 output_append : {Past Found : Type 0} (way : Answerer Past Found) (past : Past) (xs ys : List (List ℕ))
-    → output_of way past (xs ++ ys) ≡ output_of way past xs ++ texts_from way past (length xs + 1) (answers_to way (past_after way past xs) ys)
+    → output_of way past (xs ++ ys) ≡ output_of way past xs
+    ++ texts_from way past (length xs + 1) (answers_to way (past_after way past xs) ys)
 unfolding texts_of
 output_append {Found = Found} way past xs ys =
     let text : ℕ × Answer Found → List ℕ = λ entry. answer_text (way.text past) entry.0 entry.1 in
@@ -48,14 +53,18 @@ output_append {Found = Found} way past xs ys =
     ∙ flat_map-append text (enumerate_from 1 first) (enumerate_from (1 + length first) more)
     ∙ ap (λ (n : ℕ). flat_map text (enumerate_from 1 first) ++ flat_map text (enumerate_from n more)) e
 
-pub output_push : {Past Found : Type 0} (way : Answerer Past Found) (past : Past) (lines : List (List ℕ)) (line : List ℕ)
-    → output_of way past (lines ++ line ∷ []) ≡ output_of way past lines ++ answer_text (way.text past) (length lines + 1) (way.answer (past_after way past lines) line)
+pub output_push : {Past Found : Type 0} (way : Answerer Past Found) (past : Past) (lines : List (List ℕ))
+    (line : List ℕ)
+    → output_of way past (lines ++ line ∷ []) ≡ output_of way past lines
+    ++ answer_text (way.text past) (length lines + 1) (way.answer (past_after way past lines) line)
 output_push way past lines line =
     output_append way past lines (line ∷ [])
-    ∙ ap (λ l. output_of way past lines ++ l) (append-nil (answer_text (way.text past) (length lines + 1) (way.answer (past_after way past lines) line)))
+    ∙ ap (λ l. output_of way past lines ++ l)
+    (append-nil (answer_text (way.text past) (length lines + 1) (way.answer (past_after way past lines) line)))
 
 -- more lines leave the output for the first ones as it is
-pub output_prefix : {Past Found : Type 0} (way : Answerer Past Found) (past : Past) (lines more : List (List ℕ)) → IsPrefixOf lines more
+pub output_prefix : {Past Found : Type 0} (way : Answerer Past Found) (past : Past) (lines more : List (List ℕ))
+    → IsPrefixOf lines more
     → IsPrefixOf (output_of way past lines) (output_of way past more)
 output_prefix way past lines more first = (
   texts_from way past (length lines + 1) (answers_to way (past_after way past lines) first.0),
@@ -69,20 +78,27 @@ output_none way past = refl
 pub output_but_last : {Past Found : Type 0} (way : Answerer Past Found) (past : Past) (lines : List (List ℕ))
     → IsPrefixOf (output_of way past (but_last lines)) (output_of way past lines)
 output_but_last way past lines =
-    let n = length lines - 1 in output_prefix way past (take n lines) lines (drop n lines, sym (take-append-drop n lines))
+    let n = length lines - 1 in output_prefix way past (take n lines) lines
+    (drop n lines, sym (take-append-drop n lines))
 
 pub but_last-push : (lines : List (List ℕ)) (line : List ℕ) → but_last (lines ++ line ∷ []) ≡ lines
-but_last-push lines line = take_at lines (line ∷ []) (length (lines ++ line ∷ []) - 1) (omega (arith, length_push lines line))
+but_last-push lines line = take_at lines (line ∷ []) (length (lines ++ line ∷ []) - 1)
+    (omega (arith, length_push lines line))
 
-pub tally_nothing : {Past Found : Type 0} (way : Answerer Past Found) (past : Past) → tally_of (answers_to way past []) ≡ record { good = 0; refused = 0 }
+pub tally_nothing : {Past Found : Type 0} (way : Answerer Past Found) (past : Past)
+    → tally_of (answers_to way past []) ≡ record { good = 0; refused = 0 }
 unfolding tally_of
 tally_nothing way past = refl
 
-count_by_more : {X : Type 0} (p : X → Bool) (xs : List X) (x : X) → count_by p (xs ++ x ∷ []) ≡ count_by p xs + cond (p x) 1 0
+count_by_more : {X : Type 0} (p : X → Bool) (xs : List X) (x : X)
+    → count_by p (xs ++ x ∷ []) ≡ count_by p xs + cond (p x) 1 0
 count_by_more p xs x = sum_by_push (λ y. cond (p y) 1 0) xs x
 
 noted_by_counts : {Found : Type 0} (good refused : ℕ) (answer : Answer Found)
-    → (let counted : Tally = record { good = good + cond (is_good answer) 1 0; refused = refused + cond (is_refused answer) 1 0 } in
+    → (let counted : Tally = record {
+      good = good + cond (is_good answer) 1 0;
+      refused = refused + cond (is_refused answer) 1 0;
+    } in
     counted ≡ noted (record { good = good; refused = refused }) answer)
 noted_by_counts good refused None =
     let tally : ℕ → ℕ → Tally = λ g r. record { good = g; refused = r } in
@@ -99,12 +115,14 @@ noted_by_counts good refused (Some (Err fault)) =
     ap (λ (n : ℕ). tally n (refused + 1)) g
 
 pub tally_push : {Past Found : Type 0} (way : Answerer Past Found) (past : Past) (lines : List (List ℕ)) (line : List ℕ)
-    → tally_of (answers_to way past (lines ++ line ∷ [])) ≡ noted (tally_of (answers_to way past lines)) (way.answer (past_after way past lines) line)
+    → tally_of (answers_to way past (lines ++ line ∷ []))
+    ≡ noted (tally_of (answers_to way past lines)) (way.answer (past_after way past lines) line)
 unfolding tally_of
 tally_push {Found = Found} way past lines line =
     let tally : ℕ → ℕ → Tally = λ g r. record { good = g; refused = r } in
     let first : List (Answer Found) = answers_to way past lines in
     let answer : Answer Found = way.answer (past_after way past lines) line in
-    ap (λ (answers : List (Answer Found)). tally (count_by is_good answers) (count_by is_refused answers)) (answers_append way past lines (line ∷ []))
+    ap (λ (answers : List (Answer Found)). tally (count_by is_good answers) (count_by is_refused answers))
+    (answers_append way past lines (line ∷ []))
     ∙ ap₂ tally (count_by_more is_good first answer) (count_by_more is_refused first answer)
     ∙ noted_by_counts (count_by is_good first) (count_by is_refused first) answer

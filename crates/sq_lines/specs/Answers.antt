@@ -6,8 +6,8 @@ use Rattle.sq_text.specs.Faults.{fault_text}
 use Rattle.sq_lines.specs.Content.{Answer}
 use Rattle.sq_lines.specs.declared.tallies.Tally.{Tally}
 
--- how lines are answered: the answer to a line by the past, the past after it, and the text of what was found; any past may
--- say how that is spelled
+-- how lines are answered: the answer to a line by the past, the past after it, and the text of what was found; any past
+-- may say how that is spelled
 pub record Answerer (Past Found : Type 0) : Type 0 where
   pub answer : Past → List ℕ → Answer Found
   pub after : Past → List ℕ → Past

@@ -44,8 +44,8 @@ lines_told held [] = told_last held
 lines_told held (step ∷ steps) =
     if step.after.is_complete then told_by step.after ∷ lines_told step.after steps else lines_told step.after steps
 
--- However an input is cut into pieces: what a cutter reports of its lines, from an empty one on, is in order what there is to
--- report of the lines of the whole.
+-- However an input is cut into pieces: what a cutter reports of its lines, from an empty one on, is in order what there
+-- is to report of the lines of the whole.
 abbrev pub GivesTheLines : Type 0
 GivesTheLines = (steps : List Step) → AreTakes empty_line steps → lines_told empty_line steps
     ≡ map told_of (lines_of (flat_map taken steps))

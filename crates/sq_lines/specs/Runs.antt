@@ -18,7 +18,8 @@ abbrev pub WroteIntoLast : {Past Found : Type 0} → Answerer Past Found → Pas
 WroteIntoLast way past lines before after = (part : List ℕ) × IsPrefixOf (output_of way past (but_last lines)) part
     × IsPrefixOf part (output_of way past lines) × AppendsOrHides before after part
 
--- from each past that the start stood for, the state stands for the past after these lines, and their output was written
+-- from each past that the start stood for, the state stands for the past after these lines, and their output was
+-- written
 abbrev pub HasTold : {State Past Found : Type 0} → (State → Past → Type 0) → Answerer Past Found → (start now : State)
     → (before after : Option (List ℕ)) → List (List ℕ) → Type 0
 HasTold {Past = Past} stands_for way start now before after lines = (past : Past) → stands_for start past
@@ -43,7 +44,8 @@ StoppedIn fault stands_for way start now before after complete =
     (lines : List (List ℕ)) × IsPrefixOf lines complete × HasToldAt fault stands_for way start now before after lines
 
 -- the run has read these bytes, and the lines that they end were answered
-pub record HasAnswered {State Past Found : Type 0} (stands_for : State → Past → Type 0) (way : Answerer Past Found) (start : State) (before : Option (List ℕ))
+pub record HasAnswered {State Past Found : Type 0} (stands_for : State → Past → Type 0) (way : Answerer Past Found)
+    (start : State) (before : Option (List ℕ))
     (run : LineRun) (now : State) (after : Option (List ℕ)) (read : List ℕ) : Type 0 where
   pub lines : List (List ℕ)
   pub rest : List ℕ
@@ -54,7 +56,8 @@ pub record HasAnswered {State Past Found : Type 0} (stands_for : State → Past 
   pub told : HasTold stands_for way start now before after lines
 
 -- the source gave these bytes, and the run answered the lines that they end
-pub record HasRead {State Past Found : Type 0} (stands_for : State → Past → Type 0) (way : Answerer Past Found) (start : State) (to_come_before to_come_after written_before : Option (List ℕ))
+pub record HasRead {State Past Found : Type 0} (stands_for : State → Past → Type 0) (way : Answerer Past Found)
+    (start : State) (to_come_before to_come_after written_before : Option (List ℕ))
     (run : LineRun) (now : State) (written_after : Option (List ℕ)) : Type 0 where
   pub read : List ℕ
   pub consumed : Consumes to_come_before to_come_after read

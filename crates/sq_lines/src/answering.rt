@@ -37,7 +37,8 @@ pub trait Answering {
         state: &mut Self::State,
         cutter: &Cutter,
     ) -> Result<Option<Result<Self::Found, LineFault>>, OutOfMemory>
-        ensures answer { IfOk result (λ answer. (line : List ℕ) (past : Self.Past) → Holds cutter.now line → stands_for state.old past
+        ensures answer { IfOk result (λ answer. (line : List ℕ) (past : Self.Past) → Holds cutter.now line
+            → stands_for state.old past
             → (answer ≡ way.answer past line) × stands_for state.new (way.after past line)) }
         ensures unheard { OnErr result (state.new ≡ state.old) }
         ensures memory { OnErr result MayWantMemory };

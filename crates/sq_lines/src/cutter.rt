@@ -44,7 +44,8 @@ impl Cutter {
         ensures count { result.0 ≡ count_through piece.now }
         ensures complete { result.1 ≡ has_feed piece.now }
         ensures noted { self.new.is_complete ≡ has_feed piece.now }
-        ensures held { (line : List ℕ) → GoesOn self.old line → Holds self.new (line ++ before_first is_feed piece.now) }
+        ensures held { (line : List ℕ) → GoesOn self.old line
+            → Holds self.new (line ++ before_first is_feed piece.now) }
     {
         self.take_to(piece, feed_place(piece))
     }
@@ -56,7 +57,8 @@ impl Cutter {
         ensures count { result.0 ≡ count_through piece.now }
         ensures complete { result.1 ≡ has_feed piece.now }
         ensures noted { self.new.is_complete ≡ has_feed piece.now }
-        ensures held { (line : List ℕ) → GoesOn self.old line → Holds self.new (line ++ before_first is_feed piece.now) }
+        ensures held { (line : List ℕ) → GoesOn self.old line
+            → Holds self.new (line ++ before_first is_feed piece.now) }
     {
         self.take_to(piece, marked_place(piece, feeds))
     }
@@ -68,7 +70,8 @@ impl Cutter {
         ensures count { result.0 ≡ count_through piece.now }
         ensures complete { result.1 ≡ has_feed piece.now }
         ensures noted { self.new.is_complete ≡ has_feed piece.now }
-        ensures held { (line : List ℕ) → GoesOn self.old line → Holds self.new (line ++ before_first is_feed piece.now) }
+        ensures held { (line : List ℕ) → GoesOn self.old line
+            → Holds self.new (line ++ before_first is_feed piece.now) }
     {
         self.begin();
         self.append(&piece[..place]);

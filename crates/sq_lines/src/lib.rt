@@ -2,7 +2,8 @@
 //!
 //! A [`Cutter`] cuts an input that comes in pieces into lines of at most 64 bytes. [`run_lines`] answers each line of a
 //! source on a sink, as soon as its line feed was got, by whatever answers lines by what came before them
-//! ([`Answering`]): what was written is a stated function of the lines. A run keeps one line and takes no memory of its own.
+//! ([`Answering`]): what was written is a stated function of the lines. A run keeps one line and takes no memory of its
+//! own.
 #![tactic(auto)]
 
 mod answering;

@@ -50,14 +50,20 @@ impl LineRun {
         requires { self.old.number + 1 < 2 ^ 64 }
         ensures number { self.new.number ≡ self.old.number + 1 }
         ensures cutter { self.new.cutter ≡ self.old.cutter }
-        ensures answered { (line : List ℕ) (past first : A.Past) → Holds self.old.cutter line → A.stands_for state.old past → OnOk result (
-            A.stands_for state.new (A.way.after past line) × (self.new.tally ≡ noted self.old.tally (A.way.answer past line))
-            × Appends (K.written sink.old) (K.written sink.new) (answer_text (A.way.text first) (self.old.number + 1) (A.way.answer past line))) }
-        ensures memory { IfErr result (λ fault. fault ≡ Unanswered.Memory → (state.new ≡ state.old) × (K.written sink.new ≡ K.written sink.old)) }
-        ensures wanting { IfErr result (λ fault. fault ≡ Unanswered.Memory → A.MayWantMemory) }
-        ensures part { (line : List ℕ) (past first : A.Past) → Holds self.old.cutter line → A.stands_for state.old past → IfErr result (λ fault. fault ≡ Unanswered.Write →
+        ensures answered { (line : List ℕ) (past first : A.Past) → Holds self.old.cutter line
+            → A.stands_for state.old past → OnOk result (
             A.stands_for state.new (A.way.after past line)
-            × WroteFront (K.written sink.old) (K.written sink.new) (answer_text (A.way.text first) (self.old.number + 1) (A.way.answer past line))) }
+            × (self.new.tally ≡ noted self.old.tally (A.way.answer past line))
+            × Appends (K.written sink.old) (K.written sink.new)
+            (answer_text (A.way.text first) (self.old.number + 1) (A.way.answer past line))) }
+        ensures memory { IfErr result (λ fault. fault ≡ Unanswered.Memory
+            → (state.new ≡ state.old) × (K.written sink.new ≡ K.written sink.old)) }
+        ensures wanting { IfErr result (λ fault. fault ≡ Unanswered.Memory → A.MayWantMemory) }
+        ensures part { (line : List ℕ) (past first : A.Past) → Holds self.old.cutter line → A.stands_for state.old past
+            → IfErr result (λ fault. fault ≡ Unanswered.Write →
+            A.stands_for state.new (A.way.after past line)
+            × WroteFront (K.written sink.old) (K.written sink.new)
+            (answer_text (A.way.text first) (self.old.number + 1) (A.way.answer past line))) }
         ensures failed { IfErr result (λ fault. fault ≡ Unanswered.Write → K.has_failed sink.new ≡ true) }
     {
         self.number += 1;
@@ -94,10 +100,12 @@ impl LineRun {
         ensures within { IfOk result (λ n. n ≤ length piece.now) }
         ensures answered { (start : A.State) (before : Option (List ℕ)) (read : List ℕ)
             → HasAnswered A.stands_for A.way start before self.old state.old (K.written sink.old) read
-            → IfOk result (λ n. HasAnswered A.stands_for A.way start before self.new state.new (K.written sink.new) (read ++ take n piece.now)) }
+            → IfOk result (λ n. HasAnswered A.stands_for A.way start before self.new state.new (K.written sink.new)
+            (read ++ take n piece.now)) }
         ensures stopped { (start : A.State) (before : Option (List ℕ)) (read : List ℕ)
             → HasAnswered A.stands_for A.way start before self.old state.old (K.written sink.old) read
-            → IfErr result (λ fault. StoppedIn fault A.stands_for A.way start state.new before (K.written sink.new) (ended_lines (read ++ piece.now))) }
+            → IfErr result (λ fault. StoppedIn fault A.stands_for A.way start state.new before (K.written sink.new)
+            (ended_lines (read ++ piece.now))) }
         ensures wanting { IfErr result (λ fault. fault ≡ Unanswered.Memory → A.MayWantMemory) }
         ensures failed { IfErr result (λ fault. fault ≡ Unanswered.Write → K.has_failed sink.new ≡ true) }
     {
@@ -122,10 +130,12 @@ impl LineRun {
         ensures number { self.new.number ≤ self.old.number + length piece.now }
         ensures answered { (start : A.State) (before : Option (List ℕ)) (read : List ℕ)
             → HasAnswered A.stands_for A.way start before self.old state.old (K.written sink.old) read
-            → OnOk result (HasAnswered A.stands_for A.way start before self.new state.new (K.written sink.new) (read ++ piece.now)) }
+            → OnOk result (HasAnswered A.stands_for A.way start before self.new state.new (K.written sink.new)
+            (read ++ piece.now)) }
         ensures stopped { (start : A.State) (before : Option (List ℕ)) (read : List ℕ)
             → HasAnswered A.stands_for A.way start before self.old state.old (K.written sink.old) read
-            → IfErr result (λ fault. StoppedIn fault A.stands_for A.way start state.new before (K.written sink.new) (ended_lines (read ++ piece.now))) }
+            → IfErr result (λ fault. StoppedIn fault A.stands_for A.way start state.new before (K.written sink.new)
+            (ended_lines (read ++ piece.now))) }
         ensures wanting { IfErr result (λ fault. fault ≡ Unanswered.Memory → A.MayWantMemory) }
         ensures failed { IfErr result (λ fault. fault ≡ Unanswered.Write → K.has_failed sink.new ≡ true) }
     {
@@ -154,14 +164,18 @@ impl LineRun {
         ensures unread { IfErr result (λ fault. fault ≡ RunFault.Read → (S.has_failed source.new ≡ true)
             × KeepsOrHides (S.to_come source.old) (S.to_come source.new)
             × (self.new ≡ self.old) × (state.new ≡ state.old) × (K.written sink.new ≡ K.written sink.old)) }
-        ensures unanswered { IfErr result (λ fault. fault ≡ RunFault.Memory → (start : A.State) (before : Option (List ℕ)) (read : List ℕ)
+        ensures unanswered { IfErr result (λ fault. fault ≡ RunFault.Memory
+            → (start : A.State) (before : Option (List ℕ)) (read : List ℕ)
             → HasAnswered A.stands_for A.way start before self.old state.old (K.written sink.old) read
             → (piece : List ℕ) × Consumes (S.to_come source.old) (S.to_come source.new) piece
-            × StoppedIn Unanswered.Memory A.stands_for A.way start state.new before (K.written sink.new) (ended_lines (read ++ piece))) }
-        ensures unwritten { IfErr result (λ fault. fault ≡ RunFault.Write → (start : A.State) (before : Option (List ℕ)) (read : List ℕ)
+            × StoppedIn Unanswered.Memory A.stands_for A.way start state.new before (K.written sink.new)
+            (ended_lines (read ++ piece))) }
+        ensures unwritten { IfErr result (λ fault. fault ≡ RunFault.Write
+            → (start : A.State) (before : Option (List ℕ)) (read : List ℕ)
             → HasAnswered A.stands_for A.way start before self.old state.old (K.written sink.old) read
             → (piece : List ℕ) × Consumes (S.to_come source.old) (S.to_come source.new) piece
-            × StoppedIn Unanswered.Write A.stands_for A.way start state.new before (K.written sink.new) (ended_lines (read ++ piece))) }
+            × StoppedIn Unanswered.Write A.stands_for A.way start state.new before (K.written sink.new)
+            (ended_lines (read ++ piece))) }
         ensures wanting { IfErr result (λ fault. fault ≡ RunFault.Memory → A.MayWantMemory) }
         ensures failed { IfErr result (λ fault. fault ≡ RunFault.Write → K.has_failed sink.new ≡ true) }
     {
@@ -186,10 +200,12 @@ impl LineRun {
         ensures answered { (start : A.State) (before : Option (List ℕ)) (read : List ℕ)
             → HasAnswered A.stands_for A.way start before self.old state.old (K.written sink.old) read
             → OnOk result (HasTold A.stands_for A.way start state.new before (K.written sink.new) (lines_of read)
-            × ((past : A.Past) → A.stands_for start past → self.new.tally ≡ tally_of (answers_to A.way past (lines_of read)))) }
+            × ((past : A.Past) → A.stands_for start past
+            → self.new.tally ≡ tally_of (answers_to A.way past (lines_of read)))) }
         ensures stopped { (start : A.State) (before : Option (List ℕ)) (read : List ℕ)
             → HasAnswered A.stands_for A.way start before self.old state.old (K.written sink.old) read
-            → IfErr result (λ fault. StoppedIn fault A.stands_for A.way start state.new before (K.written sink.new) (lines_of read)) }
+            → IfErr result (λ fault. StoppedIn fault A.stands_for A.way start state.new before (K.written sink.new)
+            (lines_of read)) }
         ensures wanting { IfErr result (λ fault. fault ≡ Unanswered.Memory → A.MayWantMemory) }
         ensures failed { IfErr result (λ fault. fault ≡ Unanswered.Write → K.has_failed sink.new ≡ true) }
     {

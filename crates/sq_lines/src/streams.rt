@@ -21,26 +21,33 @@ pub fn run_lines<S: Source, K: Sink, A: Answering>(
     // At the end of the input, all of its lines have been answered.
     ensures whole { IfOk result (λ tally. IfSome (S.to_come source.old) (λ input. (S.to_come source.new ≡ Some [])
         × HasTold A.stands_for A.way state.old state.new (K.written sink.old) (K.written sink.new) (lines_of input)
-        × ((past : A.Past) → A.stands_for state.old past → tally ≡ tally_of (answers_to A.way past (lines_of input))))) }
+        × ((past : A.Past) → A.stands_for state.old past
+        → tally ≡ tally_of (answers_to A.way past (lines_of input))))) }
 
     // Where the source failed, the lines that were read whole have been answered.
     ensures unread { IfErr result (λ fault. fault ≡ RunFault.Read → (S.has_failed source.new ≡ true)
         × ((read : List ℕ) × ConsumesOrHides (S.to_come source.old) (S.to_come source.new) read
-        × HasTold A.stands_for A.way state.old state.new (K.written sink.old) (K.written sink.new) (ended_lines read))) }
+        × HasTold A.stands_for A.way state.old state.new (K.written sink.old) (K.written sink.new)
+        (ended_lines read))) }
 
-    // Where there was no memory for a line, those before it have been answered; the last part is a line at the end of the input.
+    // Where there was no memory for a line, those before it have been answered; the last part is a line at the end of
+    // the input.
     ensures unanswered { IfErr result (λ fault. fault ≡ RunFault.Memory
         → (read : List ℕ) × Consumes (S.to_come source.old) (S.to_come source.new) read
-        × (StoppedIn Unanswered.Memory A.stands_for A.way state.old state.new (K.written sink.old) (K.written sink.new) (ended_lines read)
-        ⊎ (IsAtEnd (S.to_come source.new) × StoppedIn Unanswered.Memory A.stands_for A.way state.old state.new (K.written sink.old) (K.written sink.new) (lines_of read)))) }
+        × (StoppedIn Unanswered.Memory A.stands_for A.way state.old state.new (K.written sink.old) (K.written sink.new)
+        (ended_lines read)
+        ⊎ (IsAtEnd (S.to_come source.new) × StoppedIn Unanswered.Memory A.stands_for A.way state.old state.new
+        (K.written sink.old) (K.written sink.new) (lines_of read)))) }
 
     ensures wanting { IfErr result (λ fault. fault ≡ RunFault.Memory → A.MayWantMemory) }
 
     // Where the sink failed at a line's answer, that line was heard and those before it have been answered.
     ensures unwritten { IfErr result (λ fault. fault ≡ RunFault.Write → (K.has_failed sink.new ≡ true)
         × ((read : List ℕ) × Consumes (S.to_come source.old) (S.to_come source.new) read
-        × (StoppedIn Unanswered.Write A.stands_for A.way state.old state.new (K.written sink.old) (K.written sink.new) (ended_lines read)
-        ⊎ (IsAtEnd (S.to_come source.new) × StoppedIn Unanswered.Write A.stands_for A.way state.old state.new (K.written sink.old) (K.written sink.new) (lines_of read))))) }
+        × (StoppedIn Unanswered.Write A.stands_for A.way state.old state.new (K.written sink.old) (K.written sink.new)
+        (ended_lines read)
+        ⊎ (IsAtEnd (S.to_come source.new) × StoppedIn Unanswered.Write A.stands_for A.way state.old state.new
+        (K.written sink.old) (K.written sink.new) (lines_of read))))) }
 {
     let mut run = LineRun::new();
     'pieces: loop {

@@ -15,7 +15,8 @@ pub joined : (steps : ℕ) → steps < 2048 → IsField (steps / 16 * 32 + 16 + 
 joined steps small = record { seven = omega arith; one = omega arith; four = omega arith; bits = omega arith }
 
 -- a field has one split
-pub same_split : (field h q l h' q' l' : ℕ) → IsField field h q l → IsField field h' q' l' → (h ≡ h') × (q ≡ q') × (l ≡ l')
+pub same_split : (field h q l h' q' l' : ℕ) → IsField field h q l → IsField field h' q' l'
+    → (h ≡ h') × (q ≡ q') × (l ≡ l')
 same_split field h q l h' q' l' x y = (
   omega (arith, x.one, x.four, x.bits, y.one, y.four, y.bits),
   omega (arith, x.one, x.four, x.bits, y.one, y.four, y.bits),
@@ -37,18 +38,21 @@ not_missing : (field : ℕ) (feet : ℤ) → IsFieldOfFeet field feet → field 
 not_missing field feet (h, l, is, means) none = omega (arith, is.bits, none)
 
 -- a field that means feet has no other meaning
-means_feet : (code field : ℕ) (feet : ℤ) (meaning : Altitude) → code ≤ 18 → IsAltitude code field meaning → IsFieldOfFeet field feet → meaning ≡ Feet feet
+means_feet : (code field : ℕ) (feet : ℤ) (meaning : Altitude) → code ≤ 18 → IsAltitude code field meaning
+    → IsFieldOfFeet field feet → meaning ≡ Feet feet
 means_feet code field feet Missing low x y = absurd (not_missing field feet y x.1)
 means_feet code field feet (Feet other) low x y = ap Feet (same_feet field other feet x.1 y)
 means_feet code field feet (Raw raw) low (_, inl high) y = absurd (omega arith)
 means_feet code field feet (Raw raw) low (_, inr (some, other)) y = absurd (one_form field feet y other)
 
-pub feet_exactly : (code field : ℕ) (feet : ℤ) (meaning : Altitude) → code ≤ 18 → IsAltitude code field meaning → (meaning ≡ Feet feet) ↔ IsFieldOfFeet field feet
+pub feet_exactly : (code field : ℕ) (feet : ℤ) (meaning : Altitude) → code ≤ 18 → IsAltitude code field meaning
+    → (meaning ≡ Feet feet) ↔ IsFieldOfFeet field feet
 feet_exactly code field feet meaning low is =
     (λ e. (subst (λ m. IsAltitude code field m) e is).1, λ y. means_feet code field feet meaning low is y)
 
 -- a field that is kept raw under a type code up to 18 is not zero and has no feet
-raw_form : (code field : ℕ) → code ≤ 18 → (20 ≤ code) ⊎ ((field ≢ 0) × IsOtherForm field) → (field ≢ 0) × IsOtherForm field
+raw_form : (code field : ℕ) → code ≤ 18 → (20 ≤ code) ⊎ ((field ≢ 0) × IsOtherForm field)
+    → (field ≢ 0) × IsOtherForm field
 raw_form code field low (inl high) = absurd (omega arith)
 raw_form code field low (inr form) = form
 

@@ -20,28 +20,34 @@ use Rattle.sq_message.proofs.One.{read_exactly}
 use Rattle.sq_message.proofs.PlaceLemmas.{has_code}
 
 -- what was sent in the air of a point is decoded to it with a reference that is strictly near
-local_in_air : (q : Squitter) (head : AirHeadParts) (point : Point) (reference : Position) (answer : Result Place PlaceFault)
+local_in_air : (q : Squitter) (head : AirHeadParts) (point : Point) (reference : Position)
+    (answer : Result Place PlaceFault)
     → IsAirSquitter head point (squitter_parts q) → IsGridPoint 360 1 point
     → IsStrictlyNearPoint 360 1 (degrees (lat_of reference)) (degrees (lon_of reference)) point
     → IsLocalPlace q.me reference answer → answer ≡ Ok (Air point)
 local_in_air q head point reference answer sent of_grid near h =
     let a = sent.airborne in
     let (found, decoded, is) = subst (λ me. IsLocalPlace me reference answer) sent.me h in
-    let law = strictly_near_point_is_local 360 1 refl (numbers_of a.code) a.parity (degrees (lat_of reference)) (degrees (lon_of reference)) found point in
+    let law = strictly_near_point_is_local 360 1 refl (numbers_of a.code) a.parity (degrees (lat_of reference))
+    (degrees (lon_of reference)) found point in
     is ∙ ap (place_of Air of_local)
-    (law reference.lat.in_range.positive reference.lon.in_range.positive decoded of_grid (sym sent.parity) (has_code point a.code sent.code) near)
+    (law reference.lat.in_range.positive reference.lon.in_range.positive decoded of_grid (sym sent.parity)
+    (has_code point a.code sent.code) near)
 
 -- the same on the ground
-local_on_ground : (q : Squitter) (head : GroundHeadParts) (point : Point) (reference : Position) (answer : Result Place PlaceFault)
+local_on_ground : (q : Squitter) (head : GroundHeadParts) (point : Point) (reference : Position)
+    (answer : Result Place PlaceFault)
     → IsGroundSquitter head point (squitter_parts q) → IsGridPoint 90 4 point
     → IsStrictlyNearPoint 90 4 (degrees (lat_of reference)) (degrees (lon_of reference)) point
     → IsLocalPlace q.me reference answer → answer ≡ Ok (Ground point)
 local_on_ground q head point reference answer sent of_grid near h =
     let s = sent.surface in
     let (found, decoded, is) = subst (λ me. IsLocalPlace me reference answer) sent.me h in
-    let law = strictly_near_point_is_local 90 4 refl (numbers_of s.code) s.parity (degrees (lat_of reference)) (degrees (lon_of reference)) found point in
+    let law = strictly_near_point_is_local 90 4 refl (numbers_of s.code) s.parity (degrees (lat_of reference))
+    (degrees (lon_of reference)) found point in
     is ∙ ap (place_of Ground of_local)
-    (law reference.lat.in_range.positive reference.lon.in_range.positive decoded of_grid (sym sent.parity) (has_code point s.code sent.code) near)
+    (law reference.lat.in_range.positive reference.lon.in_range.positive decoded of_grid (sym sent.parity)
+    (has_code point s.code sent.code) near)
 
 pub near_reference_in_air : NearReferenceInAir
 near_reference_in_air head parity position reference point frame h near reading read = (

@@ -22,15 +22,20 @@ use Rattle.sq_message.specs.Spelling.{IsFault, IsReading, Spells, SpellsMe, Spel
 use Rattle.sq_message.proofs.Same.{same_bit, same_parity, same_air_fields, same_ground_fields, same_other, same_squitter}
 
 -- two places at the same bits are one
-same_place : (f : Frame) (p q : Parity) (a b : Code) → SpellsPlace f p (numbers_of a) → SpellsPlace f q (numbers_of b) → (p ≡ q) × (a ≡ b)
-same_place f p q a b x y = (same_parity p q (sym x.parity_bit ∙ y.parity_bit), same_code a b (sym x.lat ∙ y.lat) (sym x.lon ∙ y.lon))
+same_place : (f : Frame) (p q : Parity) (a b : Code) → SpellsPlace f p (numbers_of a) → SpellsPlace f q (numbers_of b)
+    → (p ≡ q) × (a ≡ b)
+same_place f p q a b x y = (
+  same_parity p q (sym x.parity_bit ∙ y.parity_bit),
+  same_code a b (sym x.lat ∙ y.lat) (sym x.lon ∙ y.lon),
+)
 
 same_airborne : (f : Frame) (a b : Airborne) → SpellsAirborne f a → SpellsAirborne f b → a ≡ b
 same_airborne f a b x y =
     let m = x.fields in
     let n = y.fields in
     let fields = same_air_fields a.fields b.fields (sym m.type_code ∙ n.type_code) (sym m.status ∙ n.status)
-    (same_bit a.fields.flag b.fields.flag (sym m.flag ∙ n.flag)) (sym m.altitude ∙ n.altitude) (same_bit a.fields.time b.fields.time (sym m.time ∙ n.time)) in
+    (same_bit a.fields.flag b.fields.flag (sym m.flag ∙ n.flag)) (sym m.altitude ∙ n.altitude)
+    (same_bit a.fields.time b.fields.time (sym m.time ∙ n.time)) in
     let place = same_place f a.parity b.parity a.code b.code x.place y.place in
     λ i. record { fields = fields i; parity = place.0 i; code = place.1 i }
 
@@ -51,13 +56,19 @@ other_code f o raw =
 
 same_me : (f : Frame) (m n : Me) → SpellsMe f m → SpellsMe f n → m ≡ n
 same_me f (kinds.Airborne a) (kinds.Airborne b) x y = ap kinds.Airborne (same_airborne f a b x y)
-same_me f (kinds.Airborne a) (kinds.Surface b) x y = absurd (omega (arith, a.fields.type_code_in, b.fields.type_code_in, x.fields.type_code, y.fields.type_code))
-same_me f (kinds.Airborne a) (kinds.Other b) x y = absurd ((other_code f b y).0 (rw x.fields.type_code a.fields.type_code_in))
-same_me f (kinds.Surface a) (kinds.Airborne b) x y = absurd (omega (arith, a.fields.type_code_in, b.fields.type_code_in, x.fields.type_code, y.fields.type_code))
+same_me f (kinds.Airborne a) (kinds.Surface b) x y =
+    absurd (omega (arith, a.fields.type_code_in, b.fields.type_code_in, x.fields.type_code, y.fields.type_code))
+same_me f (kinds.Airborne a) (kinds.Other b) x y =
+    absurd ((other_code f b y).0 (rw x.fields.type_code a.fields.type_code_in))
+same_me f (kinds.Surface a) (kinds.Airborne b) x y =
+    absurd (omega (arith, a.fields.type_code_in, b.fields.type_code_in, x.fields.type_code, y.fields.type_code))
 same_me f (kinds.Surface a) (kinds.Surface b) x y = ap kinds.Surface (same_surface f a b x y)
-same_me f (kinds.Surface a) (kinds.Other b) x y = absurd ((other_code f b y).1 (rw x.fields.type_code a.fields.type_code_in))
-same_me f (kinds.Other a) (kinds.Airborne b) x y = absurd ((other_code f a x).0 (rw y.fields.type_code b.fields.type_code_in))
-same_me f (kinds.Other a) (kinds.Surface b) x y = absurd ((other_code f a x).1 (rw y.fields.type_code b.fields.type_code_in))
+same_me f (kinds.Surface a) (kinds.Other b) x y =
+    absurd ((other_code f b y).1 (rw x.fields.type_code a.fields.type_code_in))
+same_me f (kinds.Other a) (kinds.Airborne b) x y =
+    absurd ((other_code f a x).0 (rw y.fields.type_code b.fields.type_code_in))
+same_me f (kinds.Other a) (kinds.Surface b) x y =
+    absurd ((other_code f a x).1 (rw y.fields.type_code b.fields.type_code_in))
 same_me f (kinds.Other a) (kinds.Other b) x y = ap kinds.Other (same_other a b (sym x ∙ y))
 
 pub one_squitter : (f : Frame) (p q : Squitter) → Spells f p → Spells f q → p ≡ q
@@ -66,15 +77,18 @@ one_squitter f p q x y = same_squitter p q (sym x.ca ∙ y.ca) (sym x.address �
 -- a frame that spells a squitter has no fault
 pub no_fault : (f : Frame) (q : Squitter) (e : FrameFault) → Spells f q → IsFault f e → ⊥
 no_fault f q (faults.NotDf17 format) x (is, other) = other (sym is ∙ x.format)
-no_fault f q (faults.Parity r) x (is, remainder, other) = other (remainder_of_multiple (frame_number f) r x.multiple remainder)
+no_fault f q (faults.Parity r) x (is, remainder, other) =
+    other (remainder_of_multiple (frame_number f) r x.multiple remainder)
 
 -- what a frame spells is what was read of it
-pub read_exactly : (f : Frame) (r : Result Squitter FrameFault) → MatchResult r (Spells f) (IsFault f) → (q : Squitter) → Spells f q → r ≡ Ok q
+pub read_exactly : (f : Frame) (r : Result Squitter FrameFault) → MatchResult r (Spells f) (IsFault f) → (q : Squitter)
+    → Spells f q → r ≡ Ok q
 read_exactly f (Ok p) h q x = ap Ok (one_squitter f p q h x)
 read_exactly f (Err e) h q x = absurd (no_fault f q e x h)
 
 -- frames that spell one place agree on its 35 bits
-same_place_field : (f g : Frame) (parity : Parity) (code : CodeNumbers) → SpellsPlace f parity code → SpellsPlace g parity code → field_of f 54 35 ≡ field_of g 54 35
+same_place_field : (f g : Frame) (parity : Parity) (code : CodeNumbers) → SpellsPlace f parity code
+    → SpellsPlace g parity code → field_of f 54 35 ≡ field_of g 54 35
 same_place_field f g parity code x y =
     join_fields f g 54 1 34 (x.parity_bit ∙ sym y.parity_bit)
     (join_fields f g 55 17 17 (x.lat ∙ sym y.lat) (x.lon ∙ sym y.lon))
@@ -110,7 +124,8 @@ pub same_fault : (f : Frame) (d e : FrameFault) → IsFault f d → IsFault f e 
 same_fault f (faults.NotDf17 a) (faults.NotDf17 b) x y = ap faults.NotDf17 (sym x.0 ∙ y.0)
 same_fault f (faults.NotDf17 a) (faults.Parity b) x y = absurd (x.1 (sym x.0 ∙ y.0))
 same_fault f (faults.Parity a) (faults.NotDf17 b) x y = absurd (y.1 (sym y.0 ∙ x.0))
-same_fault f (faults.Parity a) (faults.Parity b) x y = ap faults.Parity (IsRemainder-unique (frame_number f) a b x.1 y.1)
+same_fault f (faults.Parity a) (faults.Parity b) x y =
+    ap faults.Parity (IsRemainder-unique (frame_number f) a b x.1 y.1)
 
 -- the reading of a frame is one
 pub one_reading : (f : Frame) (r s : Result Squitter FrameFault) → IsReading f r → IsReading f s → r ≡ s

@@ -21,13 +21,16 @@ use Rattle.sq_message.specs.Places.{place_of, of_local, of_pair, even_of, odd_of
 use Rattle.sq_message.specs.Headline.{OneLocalPlace, OnePairPlace}
 use Rattle.sq_message.proofs.PlaceLemmas.{past_or_fault}
 
-one_near : (me : Me) (reference : Position) (x y : Result Place PlaceFault) → IsLocalPlace me reference x → IsLocalPlace me reference y → x ≡ y
+one_near : (me : Me) (reference : Position) (x y : Result Place PlaceFault) → IsLocalPlace me reference x
+    → IsLocalPlace me reference y → x ≡ y
 one_near (kinds.Airborne a) reference x y (found, h, is) (other, k, be) =
-    let same = one_local_answer 360 1 refl (numbers_of a.code) a.parity (degrees (lat_of reference)) (degrees (lon_of reference)) found other
+    let same = one_local_answer 360 1 refl (numbers_of a.code) a.parity (degrees (lat_of reference))
+    (degrees (lon_of reference)) found other
     reference.lat.in_range.positive reference.lon.in_range.positive h k in
     is ∙ ap (place_of Air of_local) same ∙ sym be
 one_near (kinds.Surface s) reference x y (found, h, is) (other, k, be) =
-    let same = one_local_answer 90 4 refl (numbers_of s.code) s.parity (degrees (lat_of reference)) (degrees (lon_of reference)) found other
+    let same = one_local_answer 90 4 refl (numbers_of s.code) s.parity (degrees (lat_of reference))
+    (degrees (lon_of reference)) found other
     reference.lat.in_range.positive reference.lon.in_range.positive h k in
     is ∙ ap (place_of Ground of_local) same ∙ sym be
 one_near (kinds.Other o) reference x y h k = h ∙ sym k
@@ -36,10 +39,13 @@ pub one_local_place : OneLocalPlace
 one_local_place q reference x y h k = one_near q.me reference x y h k
 
 -- an answer for one parity, and one for two
-one_of_parities : (p q : Parity) (x y : Result Place PlaceFault) (A B : Type 0) → (A → B → x ≡ y) → NeedsTwoParities p q x A → NeedsTwoParities p q y B → x ≡ y
+one_of_parities : (p q : Parity) (x y : Result Place PlaceFault) (A B : Type 0) → (A → B → x ≡ y)
+    → NeedsTwoParities p q x A → NeedsTwoParities p q y B → x ≡ y
 one_of_parities Even Even x y A B one h k = h.0 refl ∙ sym (k.0 refl)
-one_of_parities Even Odd x y A B one h k = let differ = λ (e : ◌≡◌ {A = Parity} Even Odd). absurd (cc e) in one (h.1 differ) (k.1 differ)
-one_of_parities Odd Even x y A B one h k = let differ = λ (e : ◌≡◌ {A = Parity} Odd Even). absurd (cc e) in one (h.1 differ) (k.1 differ)
+one_of_parities Even Odd x y A B one h k =
+    let differ = λ (e : ◌≡◌ {A = Parity} Even Odd). absurd (cc e) in one (h.1 differ) (k.1 differ)
+one_of_parities Odd Even x y A B one h k =
+    let differ = λ (e : ◌≡◌ {A = Parity} Odd Even). absurd (cc e) in one (h.1 differ) (k.1 differ)
 one_of_parities Odd Odd x y A B one h k = h.0 refl ∙ sym (k.0 refl)
 
 one_in_air : (o n : Airborne) (x y : Result Place PlaceFault) → IsAirPairPlace o n x → IsAirPairPlace o n y → x ≡ y
@@ -48,7 +54,8 @@ one_in_air o n x y (found, h, is) (other, k, be) =
     let odd = odd_of n.parity (numbers_of o.code) (numbers_of n.code) in
     is ∙ ap (place_of Air of_pair) (one_air_pair_answer even odd n.parity found other h k) ∙ sym be
 
-one_on_ground : (o n : Surface) (site : Option Position) (x y : Result Place PlaceFault) → IsGroundPairPlace o n site x → IsGroundPairPlace o n site y → x ≡ y
+one_on_ground : (o n : Surface) (site : Option Position) (x y : Result Place PlaceFault) → IsGroundPairPlace o n site x
+    → IsGroundPairPlace o n site y → x ≡ y
 one_on_ground o n None x y h k = h ∙ sym k
 one_on_ground o n (Some site) x y (found, h, is) (other, k, be) =
     let even = even_of n.parity (numbers_of o.code) (numbers_of n.code) in
@@ -57,10 +64,13 @@ one_on_ground o n (Some site) x y (found, h, is) (other, k, be) =
     site.lat.in_range.positive site.lon.in_range.positive h k in
     is ∙ ap (place_of Ground of_pair) same ∙ sym be
 
-one_kindred : (m n : Me) (site : Option Position) (x y : Result Place PlaceFault) → IsKindredPlace m n site x → IsKindredPlace m n site y → x ≡ y
-one_kindred (kinds.Airborne o) (kinds.Airborne n) site x y h k = one_of_parities o.parity n.parity x y (IsAirPairPlace o n x) (IsAirPairPlace o n y) (one_in_air o n x y) h k
+one_kindred : (m n : Me) (site : Option Position) (x y : Result Place PlaceFault) → IsKindredPlace m n site x
+    → IsKindredPlace m n site y → x ≡ y
+one_kindred (kinds.Airborne o) (kinds.Airborne n) site x y h k =
+    one_of_parities o.parity n.parity x y (IsAirPairPlace o n x) (IsAirPairPlace o n y) (one_in_air o n x y) h k
 one_kindred (kinds.Surface o) (kinds.Surface n) site x y h k =
-    one_of_parities o.parity n.parity x y (IsGroundPairPlace o n site x) (IsGroundPairPlace o n site y) (one_on_ground o n site x y) h k
+    one_of_parities o.parity n.parity x y (IsGroundPairPlace o n site x) (IsGroundPairPlace o n site y)
+    (one_on_ground o n site x y) h k
 one_kindred (kinds.Airborne o) (kinds.Surface n) site x y h k = h ∙ sym k
 one_kindred (kinds.Surface o) (kinds.Airborne n) site x y h k = h ∙ sym k
 one_kindred (kinds.Airborne o) (kinds.Other n) site x y h k = absurd h
@@ -69,6 +79,7 @@ one_kindred (kinds.Other o) n site x y h k = absurd h
 
 pub one_pair_place : OnePairPlace
 one_pair_place older newer site x y h k = elim (past_or_fault (squitter_parts older) (squitter_parts newer) site) [
-  | inl here ↦ one_kindred older.me newer.me site x y (h.kindred here.positions here.address) (k.kindred here.positions here.address)
+  | inl here ↦ one_kindred older.me newer.me site x y (h.kindred here.positions here.address)
+      (k.kindred here.positions here.address)
   | inr refused ↦ refused.1 x h ∙ sym (refused.1 y k)
 ]

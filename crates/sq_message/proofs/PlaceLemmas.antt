@@ -29,7 +29,8 @@ use Rattle.sq_message.specs.Places.{place_of, of_local, of_pair, even_of, odd_of
 -- ---- places and points
 
 -- no place is a fault
-pub no_fault : {X : Type 0} (place : Place) (fault : PlaceFault) → ◌≡◌ {A = Result Place PlaceFault} (Ok place) (Err fault) → X
+pub no_fault : {X : Type 0} (place : Place) (fault : PlaceFault)
+    → ◌≡◌ {A = Result Place PlaceFault} (Ok place) (Err fault) → X
 no_fault place fault e = absurd (cc e)
 
 -- the point of a place in the air
@@ -65,7 +66,8 @@ positions (kinds.Surface s) = inl tt
 positions (kinds.Other o) = inr (λ x. x)
 
 -- squitters of a pair are both positions, or they are not
-pub both_positions : (older newer : Me) → (IsPosition older × IsPosition newer) ⊎ (¬ (IsPosition older × IsPosition newer))
+pub both_positions : (older newer : Me)
+    → (IsPosition older × IsPosition newer) ⊎ (¬ (IsPosition older × IsPosition newer))
 both_positions older newer = elim (positions older) [
   | inl a ↦ elim (positions newer) [
     | inl b ↦ inl (a, b)
@@ -81,7 +83,8 @@ pub record IsPast (older newer : SquitterParts) : Type 0 where
 
 -- a pair is past its first two faults, or one fault is every answer
 pub past_or_fault : (older newer : SquitterParts) (site : Option Position)
-    → IsPast older newer ⊎ ((fault : PlaceFault) × ((answer : Result Place PlaceFault) → IsPairPlace older newer site answer → answer ≡ Err fault))
+    → IsPast older newer ⊎ ((fault : PlaceFault)
+    × ((answer : Result Place PlaceFault) → IsPairPlace older newer site answer → answer ≡ Err fault))
 past_or_fault older newer site = elim (both_positions older.me newer.me) [
   | inl both ↦ elim (eqb_tells older.address newer.address) [
     | inl same ↦ inl (record { positions = both; address = same.1 })
@@ -91,7 +94,8 @@ past_or_fault older newer site = elim (both_positions older.me newer.me) [
 ]
 
 -- a pair that has a place is past its first two faults
-pub past : (older newer : SquitterParts) (site : Option Position) (place : Place) → IsPairPlace older newer site (Ok place) → IsPast older newer
+pub past : (older newer : SquitterParts) (site : Option Position) (place : Place)
+    → IsPairPlace older newer site (Ok place) → IsPast older newer
 past older newer site place h = elim (past_or_fault older newer site) [
   | inl here ↦ here
   | inr refused ↦ no_fault place refused.0 (refused.1 (Ok place) h)
@@ -113,75 +117,102 @@ pub record IsPointOf (degrees repeats : ℕ) (code : CodeNumbers) (parity : Pari
   pub has_code : HasCode point code
 
 -- the newer code of an even and an odd one
-newest_code : (newest : Parity) (older newer : CodeNumbers) → of_parity newest (even_of newest older newer) (odd_of newest older newer) ≡ newer
+newest_code : (newest : Parity) (older newer : CodeNumbers)
+    → of_parity newest (even_of newest older newer) (odd_of newest older newer) ≡ newer
 newest_code Even older newer = refl
 newest_code Odd older newer = refl
 
-local_point : (w r : ℕ) (code : CodeNumbers) (parity : Parity) (lat lon : Fraction) (found : Result Point LocalFault) (p : Point)
+local_point : (w r : ℕ) (code : CodeNumbers) (parity : Parity) (lat lon : Fraction) (found : Result Point LocalFault)
+    (p : Point)
     → found ≡ Ok p → LocalAnswer w r code parity lat lon found → IsPointOf w r code parity p
 local_point w r code parity lat lon found p is h =
     let here = subst (LocalAnswer w r code parity lat lon) is h in
     record { of_grid = here.of_grid; of_parity = here.of_parity; has_code = here.has_code }
 
-air_pair_point : (newest : Parity) (older newer : CodeNumbers) (found : Result Point PairFault) (p : Point) → found ≡ Ok p
-    → AirPairAnswer (even_of newest older newer) (odd_of newest older newer) newest found → IsPointOf 360 1 newer newest p
+air_pair_point : (newest : Parity) (older newer : CodeNumbers) (found : Result Point PairFault) (p : Point)
+    → found ≡ Ok p
+    → AirPairAnswer (even_of newest older newer) (odd_of newest older newer) newest found
+    → IsPointOf 360 1 newer newest p
 air_pair_point newest older newer found p is h =
     let even = even_of newest older newer in
     let odd = odd_of newest older newer in
     let here = subst (AirPairAnswer even odd newest) is h in
     let kept = air_pair_keeps_code even odd newest p here in
-    record { of_grid = here.of_grid; of_parity = here.parity; has_code = subst (HasCode p) (newest_code newest older newer) kept.1 }
+    record {
+      of_grid = here.of_grid;
+      of_parity = here.parity;
+      has_code = subst (HasCode p) (newest_code newest older newer) kept.1;
+    }
 
-ground_pair_point : (newest : Parity) (older newer : CodeNumbers) (lat lon : Fraction) (found : Result Point PairFault) (p : Point) → found ≡ Ok p
-    → PairAnswer 90 4 (even_of newest older newer) (odd_of newest older newer) newest lat lon found → IsPointOf 90 4 newer newest p
+ground_pair_point : (newest : Parity) (older newer : CodeNumbers) (lat lon : Fraction) (found : Result Point PairFault)
+    (p : Point) → found ≡ Ok p
+    → PairAnswer 90 4 (even_of newest older newer) (odd_of newest older newer) newest lat lon found
+    → IsPointOf 90 4 newer newest p
 ground_pair_point newest older newer lat lon found p is h =
     let even = even_of newest older newer in
     let odd = odd_of newest older newer in
     let here = subst (PairAnswer 90 4 even odd newest lat lon) is h in
     let kept = pair_keeps_code 90 4 even odd newest lat lon p here in
-    record { of_grid = here.of_pair.of_grid; of_parity = here.of_pair.parity; has_code = subst (HasCode p) (newest_code newest older newer) kept.1 }
+    record {
+      of_grid = here.of_pair.of_grid;
+      of_parity = here.of_pair.parity;
+      has_code = subst (HasCode p) (newest_code newest older newer) kept.1;
+    }
 
 -- the point of a place in the air that two positions of one address are decoded to
 kindred_in_air : (older : Me) (newer : Airborne) (site : Option Position) (p : Point)
-    → IsKindredPlace older (kinds.Airborne newer) site (Ok (Air p)) → IsPointOf 360 1 (numbers_of newer.code) newer.parity p
+    → IsKindredPlace older (kinds.Airborne newer) site (Ok (Air p))
+    → IsPointOf 360 1 (numbers_of newer.code) newer.parity p
 kindred_in_air (kinds.Airborne older) newer site p h =
-    let (found, decoded, is) = two_parities older.parity newer.parity (Air p) (IsAirPairPlace older newer (Ok (Air p))) h in
-    air_pair_point newer.parity (numbers_of older.code) (numbers_of newer.code) found p (placed_in_air of_pair found p is) decoded
+    let (found, decoded, is) = two_parities older.parity newer.parity (Air p)
+    (IsAirPairPlace older newer (Ok (Air p))) h in
+    air_pair_point newer.parity (numbers_of older.code) (numbers_of newer.code) found p
+    (placed_in_air of_pair found p is) decoded
 kindred_in_air (kinds.Surface older) newer site p h = no_fault (Air p) _ h
 kindred_in_air (kinds.Other older) newer site p h = absurd h
 
 -- the point of a place on the ground
-ground_pair : (older newer : Surface) (site : Option Position) (p : Point) → IsGroundPairPlace older newer site (Ok (Ground p)) → IsPointOf 90 4 (numbers_of newer.code) newer.parity p
+ground_pair : (older newer : Surface) (site : Option Position) (p : Point)
+    → IsGroundPairPlace older newer site (Ok (Ground p)) → IsPointOf 90 4 (numbers_of newer.code) newer.parity p
 ground_pair older newer None p h = no_fault (Ground p) _ h
 ground_pair older newer (Some site) p (found, decoded, is) =
-    ground_pair_point newer.parity (numbers_of older.code) (numbers_of newer.code) (degrees (lat_of site)) (degrees (lon_of site)) found p (placed_on_ground of_pair found p is) decoded
+    ground_pair_point newer.parity (numbers_of older.code) (numbers_of newer.code) (degrees (lat_of site))
+    (degrees (lon_of site)) found p (placed_on_ground of_pair found p is) decoded
 
 kindred_on_ground : (older : Me) (newer : Surface) (site : Option Position) (p : Point)
-    → IsKindredPlace older (kinds.Surface newer) site (Ok (Ground p)) → IsPointOf 90 4 (numbers_of newer.code) newer.parity p
+    → IsKindredPlace older (kinds.Surface newer) site (Ok (Ground p))
+    → IsPointOf 90 4 (numbers_of newer.code) newer.parity p
 kindred_on_ground (kinds.Airborne older) newer site p h = no_fault (Ground p) _ h
 kindred_on_ground (kinds.Surface older) newer site p h =
-    ground_pair older newer site p (two_parities older.parity newer.parity (Ground p) (IsGroundPairPlace older newer site (Ok (Ground p))) h)
+    ground_pair older newer site p
+    (two_parities older.parity newer.parity (Ground p) (IsGroundPairPlace older newer site (Ok (Ground p))) h)
 kindred_on_ground (kinds.Other older) newer site p h = absurd h
 
 -- the point of a place in the air that a squitter is decoded to has the squitter's code
-pub decoded_in_air : (squitter : SquitterParts) (a : Airborne) (p : Point) → squitter.me ≡ kinds.Airborne a → IsDecoded squitter (Air p)
+pub decoded_in_air : (squitter : SquitterParts) (a : Airborne) (p : Point) → squitter.me ≡ kinds.Airborne a
+    → IsDecoded squitter (Air p)
     → IsPointOf 360 1 (numbers_of a.code) a.parity p
 decoded_in_air squitter a p is (inl (reference, h)) =
     let (found, decoded, placed) = subst (λ me. IsLocalPlace me reference (Ok (Air p))) is h in
-    local_point 360 1 (numbers_of a.code) a.parity (degrees (lat_of reference)) (degrees (lon_of reference)) found p (placed_in_air of_local found p placed) decoded
+    local_point 360 1 (numbers_of a.code) a.parity (degrees (lat_of reference)) (degrees (lon_of reference)) found p
+    (placed_in_air of_local found p placed) decoded
 decoded_in_air squitter a p is (inr (older, site, h)) =
     let here = past older squitter site (Air p) h in
-    kindred_in_air older.me a site p (subst (λ me. IsKindredPlace older.me me site (Ok (Air p))) is (h.kindred here.positions here.address))
+    kindred_in_air older.me a site p
+    (subst (λ me. IsKindredPlace older.me me site (Ok (Air p))) is (h.kindred here.positions here.address))
 
 -- the same on the ground
-pub decoded_on_ground : (squitter : SquitterParts) (s : Surface) (p : Point) → squitter.me ≡ kinds.Surface s → IsDecoded squitter (Ground p)
+pub decoded_on_ground : (squitter : SquitterParts) (s : Surface) (p : Point) → squitter.me ≡ kinds.Surface s
+    → IsDecoded squitter (Ground p)
     → IsPointOf 90 4 (numbers_of s.code) s.parity p
 decoded_on_ground squitter s p is (inl (reference, h)) =
     let (found, decoded, placed) = subst (λ me. IsLocalPlace me reference (Ok (Ground p))) is h in
-    local_point 90 4 (numbers_of s.code) s.parity (degrees (lat_of reference)) (degrees (lon_of reference)) found p (placed_on_ground of_local found p placed) decoded
+    local_point 90 4 (numbers_of s.code) s.parity (degrees (lat_of reference)) (degrees (lon_of reference)) found p
+    (placed_on_ground of_local found p placed) decoded
 decoded_on_ground squitter s p is (inr (older, site, h)) =
     let here = past older squitter site (Ground p) h in
-    kindred_on_ground older.me s site p (subst (λ me. IsKindredPlace older.me me site (Ok (Ground p))) is (h.kindred here.positions here.address))
+    kindred_on_ground older.me s site p
+    (subst (λ me. IsKindredPlace older.me me site (Ok (Ground p))) is (h.kindred here.positions here.address))
 
 -- ---- codes
 

@@ -24,7 +24,8 @@ same_parity Even Odd e = cc
 same_parity Odd Even e = cc
 same_parity Odd Odd e = refl
 
-pub same_air_fields : (a b : AirFields) → a.type_code ≡ b.type_code → a.status ≡ b.status → a.flag ≡ b.flag → a.altitude ≡ b.altitude → a.time ≡ b.time → a ≡ b
+pub same_air_fields : (a b : AirFields) → a.type_code ≡ b.type_code → a.status ≡ b.status → a.flag ≡ b.flag
+    → a.altitude ≡ b.altitude → a.time ≡ b.time → a ≡ b
 same_air_fields a b type_code status flag altitude time =
     λ i. record {
       type_code = type_code i;
@@ -37,7 +38,8 @@ same_air_fields a b type_code status flag altitude time =
       altitude_in = is_prop→PathP (λ j. altitude j < 4096) (λ j. hlevel props) a.altitude_in b.altitude_in i;
     }
 
-pub same_ground_fields : (a b : GroundFields) → a.type_code ≡ b.type_code → a.movement ≡ b.movement → a.track_status ≡ b.track_status → a.track ≡ b.track → a.time ≡ b.time → a ≡ b
+pub same_ground_fields : (a b : GroundFields) → a.type_code ≡ b.type_code → a.movement ≡ b.movement
+    → a.track_status ≡ b.track_status → a.track ≡ b.track → a.time ≡ b.time → a ≡ b
 same_ground_fields a b type_code movement track_status track time =
     λ i. record {
       type_code = type_code i;
@@ -45,7 +47,8 @@ same_ground_fields a b type_code movement track_status track time =
       track_status = track_status i;
       track = track i;
       time = time i;
-      type_code_in = is_prop→PathP (λ j. IsGroundCode (type_code j)) (λ j. hlevel props) a.type_code_in b.type_code_in i;
+      type_code_in = is_prop→PathP (λ j. IsGroundCode (type_code j))
+          (λ j. hlevel props) a.type_code_in b.type_code_in i;
       movement_in = is_prop→PathP (λ j. movement j < 128) (λ j. hlevel props) a.movement_in b.movement_in i;
       track_in = is_prop→PathP (λ j. track j < 128) (λ j. hlevel props) a.track_in b.track_in i;
     }
@@ -55,7 +58,8 @@ same_other a b raw =
     λ i. record {
       raw = raw i;
       raw_in = is_prop→PathP (λ j. raw j < 2 ^ 56) (λ j. hlevel props) a.raw_in b.raw_in i;
-      type_code_in = is_prop→PathP (λ j. IsOtherCode (raw j / 2 ^ 51)) (λ j. hlevel props) a.type_code_in b.type_code_in i;
+      type_code_in = is_prop→PathP (λ j. IsOtherCode (raw j / 2 ^ 51))
+          (λ j. hlevel props) a.type_code_in b.type_code_in i;
     }
 
 pub same_squitter : (a b : Squitter) → a.ca ≡ b.ca → a.address ≡ b.address → a.me ≡ b.me → a ≡ b

@@ -20,21 +20,25 @@ use Rattle.sq_message.proofs.Same.{same_squitter}
 use Rattle.sq_message.proofs.One.{one_squitter, one_frame}
 
 -- squitters of one head and one point are one
-pub same_sent_in_air : (head : AirHeadParts) (p : Point) (a b : Squitter) → IsAirSquitter head p (squitter_parts a) → IsAirSquitter head p (squitter_parts b) → a ≡ b
+pub same_sent_in_air : (head : AirHeadParts) (p : Point) (a b : Squitter) → IsAirSquitter head p (squitter_parts a)
+    → IsAirSquitter head p (squitter_parts b) → a ≡ b
 same_sent_in_air head p a b h k =
     let fields = h.fields ∙ sym k.fields in
     let parity = h.parity ∙ sym k.parity in
     let numbers = h.code ∙ sym k.code in
-    let code = same_code h.airborne.code k.airborne.code (ap (λ (n : CodeNumbers). n.lat) numbers) (ap (λ (n : CodeNumbers). n.lon) numbers) in
+    let code = same_code h.airborne.code k.airborne.code (ap (λ (n : CodeNumbers). n.lat) numbers)
+    (ap (λ (n : CodeNumbers). n.lon) numbers) in
     let airborne : h.airborne ≡ k.airborne = λ i. record { fields = fields i; parity = parity i; code = code i } in
     same_squitter a b (h.ca ∙ sym k.ca) (h.address ∙ sym k.address) (h.me ∙ ap kinds.Airborne airborne ∙ sym k.me)
 
-pub same_sent_on_ground : (head : GroundHeadParts) (p : Point) (a b : Squitter) → IsGroundSquitter head p (squitter_parts a) → IsGroundSquitter head p (squitter_parts b) → a ≡ b
+pub same_sent_on_ground : (head : GroundHeadParts) (p : Point) (a b : Squitter)
+    → IsGroundSquitter head p (squitter_parts a) → IsGroundSquitter head p (squitter_parts b) → a ≡ b
 same_sent_on_ground head p a b h k =
     let fields = h.fields ∙ sym k.fields in
     let parity = h.parity ∙ sym k.parity in
     let numbers = h.code ∙ sym k.code in
-    let code = same_code h.surface.code k.surface.code (ap (λ (n : CodeNumbers). n.lat) numbers) (ap (λ (n : CodeNumbers). n.lon) numbers) in
+    let code = same_code h.surface.code k.surface.code (ap (λ (n : CodeNumbers). n.lat) numbers)
+    (ap (λ (n : CodeNumbers). n.lon) numbers) in
     let surface : h.surface ≡ k.surface = λ i. record { fields = fields i; parity = parity i; code = code i } in
     same_squitter a b (h.ca ∙ sym k.ca) (h.address ∙ sym k.address) (h.me ∙ ap kinds.Surface surface ∙ sym k.me)
 
@@ -50,14 +54,16 @@ surface_of other (kinds.Surface surface) = surface
 surface_of other (kinds.Other raw) = other
 
 -- a squitter has the code of one point
-one_code_in_air : (head : AirHeadParts) (p q : Point) (a b : Squitter) → a ≡ b → IsAirSquitter head p (squitter_parts a) → IsAirSquitter head q (squitter_parts b) → code_of p ≡ code_of q
+one_code_in_air : (head : AirHeadParts) (p q : Point) (a b : Squitter) → a ≡ b
+    → IsAirSquitter head p (squitter_parts a) → IsAirSquitter head q (squitter_parts b) → code_of p ≡ code_of q
 unfolding airborne_of
 one_code_in_air head p q a b e h k =
     let me : kinds.Airborne h.airborne ≡ kinds.Airborne k.airborne = sym h.me ∙ ap (λ (x : Squitter). x.me) e ∙ k.me in
     let airborne : h.airborne ≡ k.airborne = ap (airborne_of h.airborne) me in
     sym h.code ∙ ap (λ (x : Airborne). numbers_of x.code) airborne ∙ k.code
 
-one_code_on_ground : (head : GroundHeadParts) (p q : Point) (a b : Squitter) → a ≡ b → IsGroundSquitter head p (squitter_parts a) → IsGroundSquitter head q (squitter_parts b) → code_of p ≡ code_of q
+one_code_on_ground : (head : GroundHeadParts) (p q : Point) (a b : Squitter) → a ≡ b
+    → IsGroundSquitter head p (squitter_parts a) → IsGroundSquitter head q (squitter_parts b) → code_of p ≡ code_of q
 unfolding surface_of
 one_code_on_ground head p q a b e h k =
     let me : kinds.Surface h.surface ≡ kinds.Surface k.surface = sym h.me ∙ ap (λ (x : Squitter). x.me) e ∙ k.me in
@@ -68,12 +74,16 @@ pub same_zones_in_air : SameZonesInAir
 same_zones_in_air head parity here there zones p q f g in_p in_q h k = (
   λ (e : f ≡ g).
       let spelled : Spells f k.squitter = subst (λ (x : Frame). Spells x k.squitter) (sym e) k.spelled in
-      let code = one_code_in_air head p q h.squitter k.squitter (one_squitter f h.squitter k.squitter h.spelled spelled) h.sent k.sent in
-      let law = same_zones 360 1 refl parity (degrees (lat_of here)) (degrees (lon_of here)) (degrees (lat_of there)) (degrees (lon_of there)) zones p q in
+      let code = one_code_in_air head p q h.squitter k.squitter
+      (one_squitter f h.squitter k.squitter h.spelled spelled) h.sent k.sent in
+      let law = same_zones 360 1 refl parity (degrees (lat_of here)) (degrees (lon_of here)) (degrees (lat_of there))
+      (degrees (lon_of there)) zones p q in
       (law in_p in_q h.of_parity k.of_parity h.rounds k.rounds).0 code,
   λ (e : p ≡ q).
-      let sent : IsAirSquitter head q (squitter_parts h.squitter) = subst (λ (x : Point). IsAirSquitter head x (squitter_parts h.squitter)) e h.sent in
-      let spelled : Spells f k.squitter = subst (Spells f) (same_sent_in_air head q h.squitter k.squitter sent k.sent) h.spelled in
+      let sent : IsAirSquitter head q (squitter_parts h.squitter) =
+      subst (λ (x : Point). IsAirSquitter head x (squitter_parts h.squitter)) e h.sent in
+      let spelled : Spells f k.squitter =
+      subst (Spells f) (same_sent_in_air head q h.squitter k.squitter sent k.sent) h.spelled in
       one_frame f g k.squitter h.is_frame k.is_frame spelled k.spelled,
 )
 
@@ -81,11 +91,15 @@ pub same_zones_on_ground : SameZonesOnGround
 same_zones_on_ground head parity here there zones p q f g in_p in_q h k = (
   λ (e : f ≡ g).
       let spelled : Spells f k.squitter = subst (λ (x : Frame). Spells x k.squitter) (sym e) k.spelled in
-      let code = one_code_on_ground head p q h.squitter k.squitter (one_squitter f h.squitter k.squitter h.spelled spelled) h.sent k.sent in
-      let law = same_zones 90 4 refl parity (degrees (lat_of here)) (degrees (lon_of here)) (degrees (lat_of there)) (degrees (lon_of there)) zones p q in
+      let code = one_code_on_ground head p q h.squitter k.squitter
+      (one_squitter f h.squitter k.squitter h.spelled spelled) h.sent k.sent in
+      let law = same_zones 90 4 refl parity (degrees (lat_of here)) (degrees (lon_of here)) (degrees (lat_of there))
+      (degrees (lon_of there)) zones p q in
       (law in_p in_q h.of_parity k.of_parity h.rounds k.rounds).0 code,
   λ (e : p ≡ q).
-      let sent : IsGroundSquitter head q (squitter_parts h.squitter) = subst (λ (x : Point). IsGroundSquitter head x (squitter_parts h.squitter)) e h.sent in
-      let spelled : Spells f k.squitter = subst (Spells f) (same_sent_on_ground head q h.squitter k.squitter sent k.sent) h.spelled in
+      let sent : IsGroundSquitter head q (squitter_parts h.squitter) =
+      subst (λ (x : Point). IsGroundSquitter head x (squitter_parts h.squitter)) e h.sent in
+      let spelled : Spells f k.squitter =
+      subst (Spells f) (same_sent_on_ground head q h.squitter k.squitter sent k.sent) h.spelled in
       one_frame f g k.squitter h.is_frame k.is_frame spelled k.spelled,
 )

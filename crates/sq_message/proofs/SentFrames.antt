@@ -31,43 +31,66 @@ pub frame_in_air : (head : AirHeadParts) (parity : Parity) (x : Position) (f : F
     → ((point : Point) → point.parity ≡ parity → RoundsInAir x point → IsAirSquitter head point (squitter_parts q))
     → IsFrame f → Spells f q → IsFrameInAir head parity x f
 frame_in_air head parity x f q sent is spelled = λ point same rounds.
-    record { of_parity = same; rounds = rounds; squitter = q; sent = sent point same rounds; is_frame = is; spelled = spelled }
+    record {
+      of_parity = same;
+      rounds = rounds;
+      squitter = q;
+      sent = sent point same rounds;
+      is_frame = is;
+      spelled = spelled;
+    }
 
 pub frame_on_ground : (head : GroundHeadParts) (parity : Parity) (x : Position) (f : Frame) (q : Squitter)
-    → ((point : Point) → point.parity ≡ parity → RoundsOnGround x point → IsGroundSquitter head point (squitter_parts q))
+    → ((point : Point) → point.parity ≡ parity → RoundsOnGround x point
+    → IsGroundSquitter head point (squitter_parts q))
     → IsFrame f → Spells f q → IsFrameOnGround head parity x f
 frame_on_ground head parity x f q sent is spelled = λ point same rounds.
-    record { of_parity = same; rounds = rounds; squitter = q; sent = sent point same rounds; is_frame = is; spelled = spelled }
+    record {
+      of_parity = same;
+      rounds = rounds;
+      squitter = q;
+      sent = sent point same rounds;
+      is_frame = is;
+      spelled = spelled;
+    }
 
 -- what is read near a reference strictly near the point is that point
-pub near_in_air : (head : AirHeadParts) (parity : Parity) (x r : Position) (f : Frame) (q : Squitter) (answer : Result Place PlaceFault)
+pub near_in_air : (head : AirHeadParts) (parity : Parity) (x r : Position) (f : Frame) (q : Squitter)
+    (answer : Result Place PlaceFault)
     → IsFrameInAir head parity x f → IsReading f (Ok q) → IsLocalPlace (squitter_parts q).me r answer
-    → (point : Point) → point.parity ≡ parity → RoundsInAir x point → IsStrictlyNearInAir r point → answer ≡ Ok (Air point)
+    → (point : Point) → point.parity ≡ parity → RoundsInAir x point → IsStrictlyNearInAir r point
+    → answer ≡ Ok (Air point)
 near_in_air head parity x r f q answer sent read placed point same rounds near =
     let (p, is, answers) = near_reference_in_air head parity x r point f (sent point same rounds) near (Ok q) read in
     let one : q ≡ p = cc is in
     answers answer (subst (λ (s : Squitter). IsLocalPlace (squitter_parts s).me r answer) one placed)
 
-pub near_on_ground : (head : GroundHeadParts) (parity : Parity) (x r : Position) (f : Frame) (q : Squitter) (answer : Result Place PlaceFault)
+pub near_on_ground : (head : GroundHeadParts) (parity : Parity) (x r : Position) (f : Frame) (q : Squitter)
+    (answer : Result Place PlaceFault)
     → IsFrameOnGround head parity x f → IsReading f (Ok q) → IsLocalPlace (squitter_parts q).me r answer
-    → (point : Point) → point.parity ≡ parity → RoundsOnGround x point → IsStrictlyNearOnGround r point → answer ≡ Ok (Ground point)
+    → (point : Point) → point.parity ≡ parity → RoundsOnGround x point → IsStrictlyNearOnGround r point
+    → answer ≡ Ok (Ground point)
 near_on_ground head parity x r f q answer sent read placed point same rounds near =
     let (p, is, answers) = near_reference_on_ground head parity x r point f (sent point same rounds) near (Ok q) read in
     let one : q ≡ p = cc is in
     answers answer (subst (λ (s : Squitter). IsLocalPlace (squitter_parts s).me r answer) one placed)
 
 -- what two squitters are decoded to, by those that they equal
-moved : (p q older newer : Squitter) (site : Option Position) (answer : Result Place PlaceFault) → ◌≡◌ {A = Result Squitter FrameFault} (Ok p) (Ok older)
-    → ◌≡◌ {A = Result Squitter FrameFault} (Ok q) (Ok newer) → IsPlaceOfPair p q site answer → IsPlaceOfPair older newer site answer
+moved : (p q older newer : Squitter) (site : Option Position) (answer : Result Place PlaceFault)
+    → ◌≡◌ {A = Result Squitter FrameFault} (Ok p) (Ok older)
+    → ◌≡◌ {A = Result Squitter FrameFault} (Ok q) (Ok newer) → IsPlaceOfPair p q site answer
+    → IsPlaceOfPair older newer site answer
 moved p q older newer site answer was is placed =
     let first : p ≡ older = cc was in
     let second : q ≡ newer = cc is in
-    subst (λ (s : Squitter). IsPlaceOfPair older s site answer) second (subst (λ (s : Squitter). IsPlaceOfPair s q site answer) first placed)
+    subst (λ (s : Squitter). IsPlaceOfPair older s site answer) second
+    (subst (λ (s : Squitter). IsPlaceOfPair s q site answer) first placed)
 
 -- where the points to which the positions round in the air are close, the answer is the newest one's
 abbrev IsAirPlaceOfClose : Parity → (even odd : Position) → Result Place PlaceFault → Type 0
 IsAirPlaceOfClose newest even odd answer =
-    (a b : Point) → RoundsInAir even a → RoundsInAir odd b → AreClosePoints 360 a b → answer ≡ Ok (Air (of_parity newest a b))
+    (a b : Point) → RoundsInAir even a → RoundsInAir odd b → AreClosePoints 360 a b
+    → answer ≡ Ok (Air (of_parity newest a b))
 
 -- the same on the ground, where both points lie less than 45 degrees from the site in both coordinates
 abbrev IsGroundPlaceOfClose : Parity → (even odd site : Position) → Result Place PlaceFault → Type 0
@@ -76,35 +99,53 @@ IsGroundPlaceOfClose newest even odd site answer =
     → IsPointWithin 45 90 4 a site → IsPointWithin 45 90 4 b site → answer ≡ Ok (Ground (of_parity newest a b))
 
 -- what is read of the frames of close points is the newest one's point
-pub pair_in_air : (even_head odd_head : AirHeadParts) (x y : Position) (f g : Frame) (p q : Squitter) (newest : Parity) (site : Option Position) (answer : Result Place PlaceFault)
-    → even_head.address ≡ odd_head.address → IsFrameInAir even_head Even x f → IsFrameInAir odd_head Odd y g → IsReading f (Ok p) → IsReading g (Ok q)
+pub pair_in_air : (even_head odd_head : AirHeadParts) (x y : Position) (f g : Frame) (p q : Squitter) (newest : Parity)
+    (site : Option Position) (answer : Result Place PlaceFault)
+    → even_head.address ≡ odd_head.address → IsFrameInAir even_head Even x f → IsFrameInAir odd_head Odd y g
+    → IsReading f (Ok p) → IsReading g (Ok q)
     → IsPlaceOfPair (of_parity newest q p) (of_parity newest p q) site answer → IsAirPlaceOfClose newest x y answer
-pair_in_air even_head odd_head x y f g p q Even site answer address even odd first second placed = λ a b a_rounds b_rounds close.
-    let (older, newer, was, is, answers) = close_pair_in_air even_head odd_head x y a b f g Even site address (even a close.even a_rounds) (odd b close.odd b_rounds) close (Ok q) (Ok p) second first in
+pair_in_air even_head odd_head x y f g p q Even site answer address even odd first second placed =
+    λ a b a_rounds b_rounds close.
+    let (older, newer, was, is, answers) = close_pair_in_air even_head odd_head x y a b f g Even site address
+    (even a close.even a_rounds) (odd b close.odd b_rounds) close (Ok q) (Ok p) second first in
     answers answer (moved q p older newer site answer was is placed)
-pair_in_air even_head odd_head x y f g p q Odd site answer address even odd first second placed = λ a b a_rounds b_rounds close.
-    let (older, newer, was, is, answers) = close_pair_in_air even_head odd_head x y a b f g Odd site address (even a close.even a_rounds) (odd b close.odd b_rounds) close (Ok p) (Ok q) first second in
+pair_in_air even_head odd_head x y f g p q Odd site answer address even odd first second placed =
+    λ a b a_rounds b_rounds close.
+    let (older, newer, was, is, answers) = close_pair_in_air even_head odd_head x y a b f g Odd site address
+    (even a close.even a_rounds) (odd b close.odd b_rounds) close (Ok p) (Ok q) first second in
     answers answer (moved p q older newer site answer was is placed)
 
-pub pair_on_ground : (even_head odd_head : GroundHeadParts) (x y : Position) (f g : Frame) (p q : Squitter) (newest : Parity) (site : Position) (answer : Result Place PlaceFault)
-    → even_head.address ≡ odd_head.address → IsFrameOnGround even_head Even x f → IsFrameOnGround odd_head Odd y g → IsReading f (Ok p) → IsReading g (Ok q)
-    → IsPlaceOfPair (of_parity newest q p) (of_parity newest p q) (Some site) answer → IsGroundPlaceOfClose newest x y site answer
-pair_on_ground even_head odd_head x y f g p q Even site answer address even odd first second placed = λ a b a_rounds b_rounds close a_at b_at.
-    let (older, newer, was, is, answers) = close_pair_on_ground even_head odd_head x y a b f g Even site address (even a close.even a_rounds) (odd b close.odd b_rounds) close a_at b_at (Ok q) (Ok p) second first in
+pub pair_on_ground : (even_head odd_head : GroundHeadParts) (x y : Position) (f g : Frame) (p q : Squitter)
+    (newest : Parity) (site : Position) (answer : Result Place PlaceFault)
+    → even_head.address ≡ odd_head.address → IsFrameOnGround even_head Even x f → IsFrameOnGround odd_head Odd y g
+    → IsReading f (Ok p) → IsReading g (Ok q)
+    → IsPlaceOfPair (of_parity newest q p) (of_parity newest p q) (Some site) answer
+    → IsGroundPlaceOfClose newest x y site answer
+pair_on_ground even_head odd_head x y f g p q Even site answer address even odd first second placed =
+    λ a b a_rounds b_rounds close a_at b_at.
+    let (older, newer, was, is, answers) = close_pair_on_ground even_head odd_head x y a b f g Even site address
+    (even a close.even a_rounds) (odd b close.odd b_rounds) close a_at b_at (Ok q) (Ok p) second first in
     answers answer (moved q p older newer (Some site) answer was is placed)
-pair_on_ground even_head odd_head x y f g p q Odd site answer address even odd first second placed = λ a b a_rounds b_rounds close a_at b_at.
-    let (older, newer, was, is, answers) = close_pair_on_ground even_head odd_head x y a b f g Odd site address (even a close.even a_rounds) (odd b close.odd b_rounds) close a_at b_at (Ok p) (Ok q) first second in
+pair_on_ground even_head odd_head x y f g p q Odd site answer address even odd first second placed =
+    λ a b a_rounds b_rounds close a_at b_at.
+    let (older, newer, was, is, answers) = close_pair_on_ground even_head odd_head x y a b f g Odd site address
+    (even a close.even a_rounds) (odd b close.odd b_rounds) close a_at b_at (Ok p) (Ok q) first second in
     answers answer (moved p q older newer (Some site) answer was is placed)
 
 -- what has a fault near a reference has no place there
-pub no_place_near : (f : Frame) (q : Squitter) (r : Position) (fault : PlaceFault) → IsReading f (Ok q) → IsLocalPlace (squitter_parts q).me r (Err fault) → HasNoPlaceNear f r
+pub no_place_near : (f : Frame) (q : Squitter) (r : Position) (fault : PlaceFault) → IsReading f (Ok q)
+    → IsLocalPlace (squitter_parts q).me r (Err fault) → HasNoPlaceNear f r
 no_place_near f q r fault read refused = λ p place other placed.
-    let here = subst (λ (s : Squitter). IsLocalPlace (squitter_parts s).me r (Ok place)) (one_squitter f p q other read) placed in
+    let here = subst (λ (s : Squitter). IsLocalPlace (squitter_parts s).me r (Ok place))
+    (one_squitter f p q other read) placed in
     no_fault place fault (one_local_place q r (Ok place) (Err fault) here refused)
 
 -- what has a fault as a pair has no place
-pub no_place : (f g : Frame) (p q : Squitter) (site : Option Position) (fault : PlaceFault) → IsReading f (Ok p) → IsReading g (Ok q) → IsPlaceOfPair p q site (Err fault) → HaveNoPlace f g site
+pub no_place : (f g : Frame) (p q : Squitter) (site : Option Position) (fault : PlaceFault) → IsReading f (Ok p)
+    → IsReading g (Ok q) → IsPlaceOfPair p q site (Err fault) → HaveNoPlace f g site
 no_place f g p q site fault first second refused = λ x y place other_first other_second placed.
-    let here = subst (λ (s : Squitter). IsPlaceOfPair x s site (Ok place)) (one_squitter g y q other_second second) placed in
-    let there = subst (λ (s : Squitter). IsPlaceOfPair s q site (Ok place)) (one_squitter f x p other_first first) here in
+    let here = subst (λ (s : Squitter). IsPlaceOfPair x s site (Ok place))
+    (one_squitter g y q other_second second) placed in
+    let there = subst (λ (s : Squitter). IsPlaceOfPair s q site (Ok place))
+    (one_squitter f x p other_first first) here in
     no_fault place fault (one_pair_place p q site (Ok place) (Err fault) there refused)

@@ -22,11 +22,13 @@ use Rattle.sq_message.proofs.PlaceLemmas.{both_positions}
 
 some_near : (me : Me) (reference : Position) → (answer : Result Place PlaceFault) × IsLocalPlace me reference answer
 some_near (kinds.Airborne a) reference =
-    let found = some_local_answer 360 1 refl (numbers_of a.code) a.parity (degrees (lat_of reference)) (degrees (lon_of reference))
+    let found = some_local_answer 360 1 refl (numbers_of a.code) a.parity (degrees (lat_of reference))
+    (degrees (lon_of reference))
     reference.lat.in_range.positive reference.lon.in_range.positive in
     (place_of Air of_local found.0, (found.0, found.1, refl))
 some_near (kinds.Surface s) reference =
-    let found = some_local_answer 90 4 refl (numbers_of s.code) s.parity (degrees (lat_of reference)) (degrees (lon_of reference))
+    let found = some_local_answer 90 4 refl (numbers_of s.code) s.parity (degrees (lat_of reference))
+    (degrees (lon_of reference))
     reference.lat.in_range.positive reference.lon.in_range.positive in
     (place_of Ground of_local found.0, (found.0, found.1, refl))
 some_near (kinds.Other o) reference = (Err NotPosition, refl)
@@ -35,28 +37,37 @@ pub some_local_place : SomeLocalPlace
 some_local_place q reference = some_near q.me reference
 
 -- one parity has a fault, and two have what there is of them
-some_of_parities : (p q : Parity) (A : Result Place PlaceFault → Type 0) → ((answer : Result Place PlaceFault) × A answer)
+some_of_parities : (p q : Parity) (A : Result Place PlaceFault → Type 0)
+    → ((answer : Result Place PlaceFault) × A answer)
     → (answer : Result Place PlaceFault) × NeedsTwoParities p q answer (A answer)
-some_of_parities Even Even A some = (Err SameParity, (λ _. refl, λ (differ : ◌≢◌ {A = Parity} Even Even). absurd (differ refl)))
+some_of_parities Even Even A some =
+    (Err SameParity, (λ _. refl, λ (differ : ◌≢◌ {A = Parity} Even Even). absurd (differ refl)))
 some_of_parities Even Odd A some = (some.0, (λ (e : ◌≡◌ {A = Parity} Even Odd). absurd (cc e), λ _. some.1))
 some_of_parities Odd Even A some = (some.0, (λ (e : ◌≡◌ {A = Parity} Odd Even). absurd (cc e), λ _. some.1))
-some_of_parities Odd Odd A some = (Err SameParity, (λ _. refl, λ (differ : ◌≢◌ {A = Parity} Odd Odd). absurd (differ refl)))
+some_of_parities Odd Odd A some =
+    (Err SameParity, (λ _. refl, λ (differ : ◌≢◌ {A = Parity} Odd Odd). absurd (differ refl)))
 
 some_in_air : (o n : Airborne) → (answer : Result Place PlaceFault) × IsAirPairPlace o n answer
 some_in_air o n =
-    let found = some_air_pair_answer (even_of n.parity (numbers_of o.code) (numbers_of n.code)) (odd_of n.parity (numbers_of o.code) (numbers_of n.code)) n.parity in
+    let found = some_air_pair_answer (even_of n.parity (numbers_of o.code) (numbers_of n.code))
+    (odd_of n.parity (numbers_of o.code) (numbers_of n.code)) n.parity in
     (place_of Air of_pair found.0, (found.0, found.1, refl))
 
-some_on_ground : (o n : Surface) (site : Option Position) → (answer : Result Place PlaceFault) × IsGroundPairPlace o n site answer
+some_on_ground : (o n : Surface) (site : Option Position)
+    → (answer : Result Place PlaceFault) × IsGroundPairPlace o n site answer
 some_on_ground o n None = (Err NoSite, refl)
 some_on_ground o n (Some site) =
-    let found = some_pair_answer 90 4 refl (even_of n.parity (numbers_of o.code) (numbers_of n.code)) (odd_of n.parity (numbers_of o.code) (numbers_of n.code)) n.parity
+    let found = some_pair_answer 90 4 refl (even_of n.parity (numbers_of o.code) (numbers_of n.code))
+    (odd_of n.parity (numbers_of o.code) (numbers_of n.code)) n.parity
     (degrees (lat_of site)) (degrees (lon_of site)) site.lat.in_range.positive site.lon.in_range.positive in
     (place_of Ground of_pair found.0, (found.0, found.1, refl))
 
-some_kindred : (m n : Me) (site : Option Position) → IsPosition m → IsPosition n → (answer : Result Place PlaceFault) × IsKindredPlace m n site answer
-some_kindred (kinds.Airborne o) (kinds.Airborne n) site p q = some_of_parities o.parity n.parity (IsAirPairPlace o n) (some_in_air o n)
-some_kindred (kinds.Surface o) (kinds.Surface n) site p q = some_of_parities o.parity n.parity (IsGroundPairPlace o n site) (some_on_ground o n site)
+some_kindred : (m n : Me) (site : Option Position) → IsPosition m → IsPosition n
+    → (answer : Result Place PlaceFault) × IsKindredPlace m n site answer
+some_kindred (kinds.Airborne o) (kinds.Airborne n) site p q =
+    some_of_parities o.parity n.parity (IsAirPairPlace o n) (some_in_air o n)
+some_kindred (kinds.Surface o) (kinds.Surface n) site p q =
+    some_of_parities o.parity n.parity (IsGroundPairPlace o n site) (some_on_ground o n site)
 some_kindred (kinds.Airborne o) (kinds.Surface n) site p q = (Err OtherKind, refl)
 some_kindred (kinds.Surface o) (kinds.Airborne n) site p q = (Err OtherKind, refl)
 some_kindred (kinds.Airborne o) (kinds.Other n) site p q = absurd q
@@ -65,11 +76,27 @@ some_kindred (kinds.Other o) n site p q = absurd p
 
 pub some_pair_place : SomePairPlace
 some_pair_place older newer site = elim (both_positions older.me newer.me) [
-  | inr neither ↦ (Err NotPosition, record { other = λ _. refl; strangers = λ both differ. absurd (neither both); kindred = λ both same. absurd (neither both) })
+  | inr neither ↦ (
+    Err NotPosition,
+    record {
+      other = λ _. refl;
+      strangers = λ both differ. absurd (neither both);
+      kindred = λ both same. absurd (neither both);
+    },
+  )
   | inl both ↦ elim (eqb_tells older.address newer.address) [
-    | inr differ ↦ (Err OtherAddress, record { other = λ no. absurd (no both); strangers = λ _ _. refl; kindred = λ _ same. absurd (differ.1 same) })
+    | inr differ ↦ (
+      Err OtherAddress,
+      record { other = λ no. absurd (no both); strangers = λ _ _. refl; kindred = λ _ same. absurd (differ.1 same) },
+    )
     | inl same ↦
-        let some = some_kindred older.me newer.me site both.0 both.1 in
-        (some.0, record { other = λ no. absurd (no both); strangers = λ _ differ. absurd (differ same.1); kindred = λ _ _. some.1 })
+        let some = some_kindred older.me newer.me site both.0 both.1 in (
+          some.0,
+          record {
+            other = λ no. absurd (no both);
+            strangers = λ _ differ. absurd (differ same.1);
+            kindred = λ _ _. some.1;
+          },
+        )
   ]
 ]

@@ -48,7 +48,12 @@ flag f place = some_bit (field_of f place 1) (field_small f place 1)
 some_place : (f : Frame) → (p : Parity) × (code : Code) × SpellsPlace f p (numbers_of code)
 some_place f =
     let parity = some_parity (field_of f 54 1) (field_small f 54 1) in
-    let code : Code = record { lat = field_of f 55 17; lon = field_of f 72 17; lat_below = field_small f 55 17; lon_below = field_small f 72 17 } in
+    let code : Code = record {
+      lat = field_of f 55 17;
+      lon = field_of f 72 17;
+      lat_below = field_small f 55 17;
+      lon_below = field_small f 72 17;
+    } in
     (parity.0, code, record { parity_bit = parity.1; lat = refl; lon = refl })
 
 some_airborne : (f : Frame) → IsAirCode (field_of f 33 5) → (m : Me) × SpellsMe f m
@@ -67,7 +72,8 @@ some_airborne f is =
       altitude_in = field_small f 41 12;
     } in
     let airborne : Airborne = record { fields = fields; parity = place.0; code = place.1 } in
-    let spelled : SpellsAirFields f (air_parts fields) = record { type_code = refl; status = refl; flag = bit8.1; altitude = refl; time = time.1 } in
+    let spelled : SpellsAirFields f (air_parts fields) =
+    record { type_code = refl; status = refl; flag = bit8.1; altitude = refl; time = time.1 } in
     (kinds.Airborne airborne, record { fields = spelled; place = place.2 })
 
 some_surface : (f : Frame) → IsGroundCode (field_of f 33 5) → (m : Me) × SpellsMe f m
@@ -86,7 +92,8 @@ some_surface f is =
       track_in = field_small f 46 7;
     } in
     let surface : Surface = record { fields = fields; parity = place.0; code = place.1 } in
-    let spelled : SpellsGroundFields f (ground_parts fields) = record { type_code = refl; movement = refl; track_status = status.1; track = refl; time = time.1 } in
+    let spelled : SpellsGroundFields f (ground_parts fields) =
+    record { type_code = refl; movement = refl; track_status = status.1; track = refl; time = time.1 } in
     (kinds.Surface surface, record { fields = spelled; place = place.2 })
 
 some_other : (f : Frame) → IsOtherCode (field_of f 33 5) → (m : Me) × SpellsMe f m
@@ -147,7 +154,8 @@ some_reading f is = elim (cases_eq (field_of f 1 5) 17) [
       elim (cases_eq remainder.0 0) [
         | inr bad ↦ (Err (faults.Parity remainder.0), (format, remainder.1, bad))
         | inl none ↦
-            let multiple : IsMultiple (frame_number f) = subst IsMultiple (xor_zero_r (frame_number f)) (subst (λ r. IsRemainder (frame_number f) r) none remainder.1).1 in
+            let multiple : IsMultiple (frame_number f) = subst IsMultiple (xor_zero_r (frame_number f))
+            (subst (λ r. IsRemainder (frame_number f) r) none remainder.1).1 in
             let read = some_squitter f format multiple in
             (Ok read.0, read.1)
       ]

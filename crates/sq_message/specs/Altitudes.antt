@@ -12,7 +12,8 @@ pub record IsField (field high q low : ℕ) : Type 0 where
 
 -- Q is 1, and with N spelled by the upper bits and then the lower ones, the field means `25 * N - 1000` feet
 abbrev pub IsFieldOfFeet : ℕ → ℤ → Type 0
-IsFieldOfFeet field feet = (high low : ℕ) × IsField field high 1 low × (feet +ℤ pos 1000 ≡ pos (25 * (high * 2 ^ 4 + low)))
+IsFieldOfFeet field feet = (high low : ℕ) × IsField field high 1 low
+    × (feet +ℤ pos 1000 ≡ pos (25 * (high * 2 ^ 4 + low)))
 
 -- Q is 0
 abbrev pub IsOtherForm : ℕ → Type 0

@@ -44,7 +44,8 @@ HasNoPlaceNear frame reference =
 -- no squitters that are read of the frames are decoded to a place
 abbrev pub HaveNoPlace : (older newer : Frame) → Option Position → Type 0
 HaveNoPlace older newer site =
-    (p q : Squitter) (place : Place) → IsReading older (Ok p) → IsReading newer (Ok q) → ¬ IsPlaceOfPair p q site (Ok place)
+    (p q : Squitter) (place : Place) → IsReading older (Ok p) → IsReading newer (Ok q)
+    → ¬ IsPlaceOfPair p q site (Ok place)
 
 -- the frame is read as this squitter, and what is sent of the place is written as this frame, which is the same
 pub record IsSentAgain (frame : Frame) (squitter : Squitter) (place : Place) (again : Frame) : Type 0 where
@@ -56,7 +57,8 @@ pub record IsSentAgain (frame : Frame) (squitter : Squitter) (place : Place) (ag
 
 -- the point of the air's grid lies strictly within half a zone of the reference in both coordinates
 abbrev pub IsStrictlyNearInAir : Position → Point → Type 0
-IsStrictlyNearInAir reference point = IsStrictlyNearPoint 360 1 (degrees (lat_of reference)) (degrees (lon_of reference)) point
+IsStrictlyNearInAir reference point =
+    IsStrictlyNearPoint 360 1 (degrees (lat_of reference)) (degrees (lon_of reference)) point
 
 -- the same on the ground
 abbrev pub IsStrictlyNearOnGround : Position → Point → Type 0

@@ -31,7 +31,8 @@ abbrev pub IsReadNear : Frame → Position → Place → Type 0
 IsReadNear frame reference place =
     (reading : Result Squitter FrameFault) → IsReading frame reading
     → (squitter : Squitter) × (reading ≡ Ok squitter)
-    × ((answer : Result Place PlaceFault) → IsLocalPlace (squitter_parts squitter).me reference answer → answer ≡ Ok place)
+    × ((answer : Result Place PlaceFault) → IsLocalPlace (squitter_parts squitter).me reference answer
+    → answer ≡ Ok place)
 
 -- both frames are read as squitters, and these are decoded to this place
 abbrev pub IsReadAsPair : (older newer : Frame) → Option Position → Place → Type 0
@@ -41,8 +42,8 @@ IsReadAsPair older newer site place =
     × ((answer : Result Place PlaceFault) → IsPairPlace (squitter_parts first) (squitter_parts second) site answer
     → answer ≡ Ok place)
 
--- A frame that was sent in the air, read with a reference strictly within half a zone of the point in both coordinates, by
--- the zones that the point itself has, gives that point.
+-- A frame that was sent in the air, read with a reference strictly within half a zone of the point in both coordinates,
+-- by the zones that the point itself has, gives that point.
 abbrev pub NearReferenceInAir : Type 0
 NearReferenceInAir =
     (head : AirHeadParts) (parity : Parity) (position reference : Position) (point : Point) (frame : Frame)
@@ -58,8 +59,8 @@ NearReferenceOnGround =
     → IsStrictlyNearPoint 90 4 (degrees (lat_of reference)) (degrees (lon_of reference)) point
     → IsReadNear frame reference (Ground point)
 
--- An even and an odd frame that were sent in the air from one address, of points that are close and have one zone count,
--- give the newest one's point, whatever the site.
+-- An even and an odd frame that were sent in the air from one address, of points that are close and have one zone
+-- count, give the newest one's point, whatever the site.
 abbrev pub ClosePairInAir : Type 0
 ClosePairInAir =
     (even_head odd_head : AirHeadParts) (even_position odd_position : Position) (a b : Point) (even odd : Frame)

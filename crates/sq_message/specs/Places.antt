@@ -1,5 +1,5 @@
--- Where squitters are: the points that their codes are decoded to, and what is sent of a point (RTCA DO-260B, appendix on
--- compact position reporting; ICAO Doc 9871). In the air a span is 360 degrees, on the ground 90.
+-- Where squitters are: the points that their codes are decoded to, and what is sent of a point (RTCA DO-260B, appendix
+-- on compact position reporting; ICAO Doc 9871). In the air a span is 360 degrees, on the ground 90.
 use Rattle.std.specs.Prelude.{◌≡◌, ◌≢◌, ◌⊎◌, ⊤, Option, None, Some, Result, Ok, Err}
 use Rattle.sq_angle.specs.declared.position.Position.{Position}
 use Rattle.sq_angle.specs.Angle.{degrees}
@@ -12,8 +12,8 @@ use Rattle.sq_cpr.specs.declared.faults.PairFault.{PairFault}
 use Rattle.sq_cpr.specs.declared.faults.PairFault.TheVariants as pairs
 use Rattle.sq_cpr.specs.Code.{numbers_of}
 use Rattle.sq_cpr.specs.Grid.{Point, latitude, longitude}
-use Rattle.sq_cpr.specs.Local.{LocalAnswer}
-use Rattle.sq_cpr.specs.Pair.{of_parity, AirPairAnswer, PairAnswer}
+use Rattle.sq_cpr.specs.Local.{LocalAnswerNear}
+use Rattle.sq_cpr.specs.Pair.{of_parity, AirPairAnswer, PairAnswerAt}
 use Rattle.sq_message.specs.declared.air.Airborne.{Airborne}
 use Rattle.sq_message.specs.declared.ground.Surface.{Surface}
 use Rattle.sq_message.specs.declared.squitter.Me.{Me}
@@ -66,9 +66,11 @@ ground_head_of squitter surface = record { ca = squitter.ca; address = squitter.
 -- what is sent of a place of the squitter's kind: the squitter's head, with the parity and the code of the point
 abbrev pub IsSentAt : SquitterParts → Place → SquitterParts → Type 0
 IsSentAt squitter (Air point) sent =
-    (airborne : Airborne) × (squitter.me ≡ kinds.Airborne airborne) × IsAirSquitter (air_head_of squitter airborne) point sent
+    (airborne : Airborne) × (squitter.me ≡ kinds.Airborne airborne)
+    × IsAirSquitter (air_head_of squitter airborne) point sent
 IsSentAt squitter (Ground point) sent =
-    (surface : Surface) × (squitter.me ≡ kinds.Surface surface) × IsGroundSquitter (ground_head_of squitter surface) point sent
+    (surface : Surface) × (squitter.me ≡ kinds.Surface surface)
+    × IsGroundSquitter (ground_head_of squitter surface) point sent
 
 -- the decoder's fault near a reference, as a place's
 abbrev pub of_local : LocalFault → PlaceFault
@@ -80,18 +82,18 @@ of_pair pairs.OutOfRange = OutOfRange
 of_pair (pairs.ZoneCounts even odd) = ZoneCounts even odd
 
 -- the decoder's answer, as a place of this kind or its fault
-abbrev pub place_of : {Fault : Type 0} → (Point → Place) → (Fault → PlaceFault) → Result Point Fault → Result Place PlaceFault
+abbrev pub place_of : {Fault : Type 0} → (Point → Place) → (Fault → PlaceFault) → Result Point Fault
+    → Result Place PlaceFault
 place_of kind named (Ok point) = Ok (kind point)
 place_of kind named (Err fault) = Err (named fault)
 
 -- what a message is decoded to near a reference: its code, by its span and parity
 abbrev pub IsLocalPlace : Me → Position → Result Place PlaceFault → Type 0
 IsLocalPlace (kinds.Airborne airborne) reference answer = (found : Result Point LocalFault)
-    × LocalAnswer 360 1 (numbers_of airborne.code) airborne.parity (degrees (lat_of reference))
-    (degrees (lon_of reference)) found
+    × LocalAnswerNear 360 1 (numbers_of airborne.code) airborne.parity reference found
     × (answer ≡ place_of Air of_local found)
 IsLocalPlace (kinds.Surface surface) reference answer = (found : Result Point LocalFault)
-    × LocalAnswer 90 4 (numbers_of surface.code) surface.parity (degrees (lat_of reference)) (degrees (lon_of reference)) found
+    × LocalAnswerNear 90 4 (numbers_of surface.code) surface.parity reference found
     × (answer ≡ place_of Ground of_local found)
 IsLocalPlace (kinds.Other other) reference answer = answer ≡ Err NotPosition
 
@@ -117,7 +119,7 @@ IsGroundPairPlace older newer (Some site) answer =
     let even = even_of newer.parity (numbers_of older.code) (numbers_of newer.code) in
     let odd = odd_of newer.parity (numbers_of older.code) (numbers_of newer.code) in
     (found : Result Point PairFault)
-    × PairAnswer 90 4 even odd newer.parity (degrees (lat_of site)) (degrees (lon_of site)) found
+    × PairAnswerAt 90 4 even odd newer.parity site found
     × (answer ≡ place_of Ground of_pair found)
 
 -- one parity is a fault; of two parities there is this answer
@@ -137,7 +139,8 @@ IsKindredPlace (kinds.Surface older) (kinds.Other newer) site answer = ⊥
 IsKindredPlace (kinds.Other older) newer site answer = ⊥
 
 -- What two squitters are decoded to: the first fault that applies, else the place of the newer.
-pub record IsPairPlace (older newer : SquitterParts) (site : Option Position) (answer : Result Place PlaceFault) : Type 0 where
+pub record IsPairPlace (older newer : SquitterParts) (site : Option Position)
+    (answer : Result Place PlaceFault) : Type 0 where
   pub other : ¬ (IsPosition older.me × IsPosition newer.me) → answer ≡ Err NotPosition
   pub strangers : IsPosition older.me × IsPosition newer.me → older.address ≢ newer.address → answer ≡ Err OtherAddress
   pub kindred : IsPosition older.me × IsPosition newer.me → older.address ≡ newer.address

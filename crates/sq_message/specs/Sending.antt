@@ -1,5 +1,5 @@
--- What is sent of a position: the code of the point to which it rounds (RTCA DO-260B section 2.2.3.2 and the appendix on
--- compact position reporting). In the air a span is 360 degrees, on the ground 90.
+-- What is sent of a position: the code of the point to which it rounds (RTCA DO-260B section 2.2.3.2 and the appendix
+-- on compact position reporting). In the air a span is 360 degrees, on the ground 90.
 use Rattle.std.specs.Prelude.{◌≡◌, ◌↔◌}
 use Rattle.sq_bits.specs.declared.frame.Frame.{Frame}
 use Rattle.sq_bits.specs.Frames.{IsFrame}
@@ -29,11 +29,13 @@ RoundsOnGround position point = RoundsTo 90 4 (degrees (lat_of position)) (degre
 
 -- the zones of a position on a parity's grid of the air
 abbrev pub IsInAirZones : Parity → Position → ZonePair → Type 0
-IsInAirZones parity position zones = IsInZones 360 1 parity (degrees (lat_of position)) (degrees (lon_of position)) zones
+IsInAirZones parity position zones =
+    IsInZones 360 1 parity (degrees (lat_of position)) (degrees (lon_of position)) zones
 
 -- the zones of a position on a parity's grid of the ground
 abbrev pub IsInGroundZones : Parity → Position → ZonePair → Type 0
-IsInGroundZones parity position zones = IsInZones 90 4 parity (degrees (lat_of position)) (degrees (lon_of position)) zones
+IsInGroundZones parity position zones =
+    IsInZones 90 4 parity (degrees (lat_of position)) (degrees (lon_of position)) zones
 
 -- the airborne squitter with this head, and with the parity and the code of this point
 pub record IsAirSquitter (head : AirHeadParts) (point : Point) (squitter : SquitterParts) : Type 0 where
@@ -55,9 +57,10 @@ pub record IsGroundSquitter (head : GroundHeadParts) (point : Point) (squitter :
   pub parity : surface.parity ≡ point.parity
   pub code : numbers_of surface.code ≡ code_of point
 
--- The frame that is sent in the air with this head of a position: it spells the squitter of the point of this parity to which
--- the position rounds.
-pub record IsSentInAir (head : AirHeadParts) (parity : Parity) (position : Position) (point : Point) (frame : Frame) : Type 0 where
+-- The frame that is sent in the air with this head of a position: it spells the squitter of the point of this parity to
+-- which the position rounds.
+pub record IsSentInAir (head : AirHeadParts) (parity : Parity) (position : Position) (point : Point)
+    (frame : Frame) : Type 0 where
   pub of_parity : point.parity ≡ parity
   pub rounds : RoundsInAir position point
   pub squitter : Squitter
@@ -66,7 +69,8 @@ pub record IsSentInAir (head : AirHeadParts) (parity : Parity) (position : Posit
   pub spelled : Spells frame squitter
 
 -- the same on the ground
-pub record IsSentOnGround (head : GroundHeadParts) (parity : Parity) (position : Position) (point : Point) (frame : Frame) : Type 0 where
+pub record IsSentOnGround (head : GroundHeadParts) (parity : Parity) (position : Position) (point : Point)
+    (frame : Frame) : Type 0 where
   pub of_parity : point.parity ≡ parity
   pub rounds : RoundsOnGround position point
   pub squitter : Squitter
@@ -82,10 +86,11 @@ IsFrameInAir head parity position frame =
 -- the same on the ground
 abbrev pub IsFrameOnGround : GroundHeadParts → Parity → Position → Frame → Type 0
 IsFrameOnGround head parity position frame =
-    (point : Point) → point.parity ≡ parity → RoundsOnGround position point → IsSentOnGround head parity position point frame
+    (point : Point) → point.parity ≡ parity → RoundsOnGround position point
+    → IsSentOnGround head parity position point frame
 
--- Two positions in the same zones of a parity's grid of the air, with one head, have one frame exactly if they round to one
--- point.
+-- Two positions in the same zones of a parity's grid of the air, with one head, have one frame exactly if they round to
+-- one point.
 abbrev pub SameZonesInAir : Type 0
 SameZonesInAir =
     (head : AirHeadParts) (parity : Parity) (here there : Position) (zones : ZonePair) (p q : Point) (f g : Frame)

@@ -4,8 +4,8 @@ ghost use Rattle.sq_message.specs.TypeCodes.{IsAirCode};
 
 use sq_cpr::{Code, Parity};
 
-/// What an airborne position says besides where (ICAO Doc 9871, register 0,5): the type code, the surveillance status, bit 8
-/// raw, the altitude field raw, and T.
+/// What an airborne position says besides where (ICAO Doc 9871, register 0,5): the type code, the surveillance status,
+/// bit 8 raw, the altitude field raw, and T.
 #[derive(Clone, Copy, Debug, PartialEq, Eq)]
 pub struct AirFields {
     pub(crate) type_code: u8,

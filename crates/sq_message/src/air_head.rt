@@ -20,7 +20,8 @@ impl AirHead {
     /// The head of these parts; `None` unless `ca` is below 8 and `address` is below 2^24.
     pub fn new(ca: u8, address: u32, fields: AirFields) -> Option<AirHead>
         ensures variant { IsSome result ↔ ((ca < 8) × (address < 2 ^ 24)) }
-        ensures value { IfSome result (λ head. air_head_parts head ≡ record { ca = ca; address = address; fields = fields }) }
+        ensures value { IfSome result (λ head. air_head_parts head
+            ≡ record { ca = ca; address = address; fields = fields }) }
     {
         if ca < 8 && address < ADDRESSES {
             Some(AirHead {

@@ -4,8 +4,8 @@ ghost use Rattle.sq_message.specs.TypeCodes.{IsGroundCode};
 
 use sq_cpr::{Code, Parity};
 
-/// What a surface position says besides where (ICAO Doc 9871, register 0,6): the type code, movement, track status and track
-/// raw, and T.
+/// What a surface position says besides where (ICAO Doc 9871, register 0,6): the type code, movement, track status and
+/// track raw, and T.
 #[derive(Clone, Copy, Debug, PartialEq, Eq)]
 pub struct GroundFields {
     pub(crate) type_code: u8,
@@ -31,7 +31,13 @@ impl GroundFields {
     ) -> Option<GroundFields>
         ensures variant { IsSome result ↔ (IsGroundCode type_code × (movement < 128) × (track < 128)) }
         ensures value { IfSome result (λ fields. ground_parts fields
-            ≡ record { type_code = type_code; movement = movement; track_status = track_status; track = track; time = time }) }
+            ≡ record {
+              type_code = type_code;
+              movement = movement;
+              track_status = track_status;
+              track = track;
+              time = time;
+            }) }
     {
         if matches!(type_code, 5..=8) && movement < 128 && track < 128 {
             Some(GroundFields {

@@ -2,7 +2,7 @@
 //!
 //! A function with an empty body does nothing: its contract is the law. The others make the calls that they speak of,
 //! and answer what each of them answered.
-ghost use Rattle.std.specs.Prelude.{◌≡◌, ◌≤◌, ◌↔◌, ℕ, ℤ, None, Some, Result, Ok, Err, IfErr, IfOk, IfSome, option_map};
+ghost use Rattle.std.specs.Prelude.{◌≡◌, ◌≤◌, ◌↔◌, ℕ, ℤ, None, Some, Result, Ok, Err, IfErr, IfOk, IfSome, option_copied};
 ghost use Rattle.sq_bits.specs.declared.frame.Frame.{Frame};
 ghost use Rattle.sq_bits.specs.Frames.{IsFrame};
 ghost use Rattle.sq_message.specs.declared.air.Altitude.{Altitude};
@@ -193,11 +193,11 @@ pub fn pair_again(
     site: Option<&Position>,
 ) -> Result<(Place, Squitter), PlaceFault>
     ensures decoded { IfOk result (λ both.
-        IsPlaceOfPair older.now newer.now (option_map (λ s. s.now) site.entry) (Ok both.0)) }
+        IsPlaceOfPair older.now newer.now (option_copied site.entry) (Ok both.0)) }
     ensures sent { IfOk result (λ both. IsSentAt (squitter_parts newer.now) both.0 (squitter_parts both.1)) }
     ensures same { IfOk result (λ both. both.1 ≡ newer.now) }
     ensures refused { IfErr result (λ fault.
-        IsPlaceOfPair older.now newer.now (option_map (λ s. s.now) site.entry) (Err fault)) }
+        IsPlaceOfPair older.now newer.now (option_copied site.entry) (Err fault)) }
 {
     let place = place_pair(older, newer, site)?;
     let again = send_point(newer, &place);
@@ -287,7 +287,7 @@ fn place_of_newest(
     site: Option<&Position>,
 ) -> Result<Place, PlaceFault>
     ensures { IsPlaceOfPair (of_parity newest odd.now even.now) (of_parity newest even.now odd.now)
-        (option_map (λ s. s.now) site.entry) result }
+        (option_copied site.entry) result }
 {
     match newest {
         Parity::Even => place_pair(odd, even, site),
@@ -310,7 +310,7 @@ pub fn read_pair_of_sent_in_air(
 ) -> (Frame, Frame, Result<Place, PlaceFault>)
     ensures even { IsFrameInAir (air_head_parts even_head) Even even_position.now result.0 }
     ensures odd { IsFrameInAir (air_head_parts odd_head) Odd odd_position.now result.1 }
-    ensures read { IsReadingOfPair newest result.0 result.1 (option_map (λ s. s.now) site.entry) result.2 }
+    ensures read { IsReadingOfPair newest result.0 result.1 (option_copied site.entry) result.2 }
     ensures point { (a b : Point) → (air_head_parts even_head).address ≡ (air_head_parts odd_head).address
         → RoundsInAir even_position.now a → RoundsInAir odd_position.now b → AreClosePoints 360 a b
         → result.2 ≡ Ok (Air (of_parity newest a b)) }
@@ -380,9 +380,9 @@ pub fn sent_again_of_pair(
     site: Option<&Position>,
 ) -> Option<(Squitter, Place, Frame)>
     ensures decoded { IfSome result (λ all.
-        IsReadingOfNewer older.now all.0 (option_map (λ s. s.now) site.entry) all.1) }
+        IsReadingOfNewer older.now all.0 (option_copied site.entry) all.1) }
     ensures again { IfSome result (λ all. IsSentAgain newer.now all.0 all.1 all.2) }
-    ensures none { result ≡ None → HaveNoPlace older.now newer.now (option_map (λ s. s.now) site.entry) }
+    ensures none { result ≡ None → HaveNoPlace older.now newer.now (option_copied site.entry) }
 {
     let Ok(earlier) = read_frame(older) else {
         return None;

@@ -1,11 +1,11 @@
 //! DF17 squitters that carry a position, and the frames that spell them.
 //!
 //! Frames and squitters correspond one to one: `read_frame` answers the squitter that a frame spells, and `write_frame`
-//! the one frame that spells a squitter. A squitter is of one of three kinds: air, ground, and other, which is kept raw; its
-//! message ([`Me`]) is the standard's ME field.
-//! [`send_air`] and [`send_ground`] make the squitter of a position: a head with the code of the point to which the position
-//! rounds. [`place_local`] and [`place_pair`] answer the point again, near a reference or of an even and an odd squitter, and
-//! [`send_point`] sends it again. How all of this fits together is [`laws::headline`]. No call takes memory.
+//! the one frame that spells a squitter. A squitter is of one of three kinds: air, ground, and other, which is kept
+//! raw; its message ([`Me`]) is the standard's ME field. [`send_air`] and [`send_ground`] make the squitter of a
+//! position: a head with the code of the point to which the position rounds. [`place_local`] and [`place_pair`] answer
+//! the point again, near a reference or of an even and an odd squitter, and [`send_point`] sends it again. How all of
+//! this fits together is [`laws::headline`]. No call takes memory.
 #![tactic(auto)]
 
 mod air;

@@ -1,5 +1,5 @@
 //! Places: the points that squitters are decoded to, and what is sent of a point.
-ghost use Rattle.std.specs.Prelude.{◌≡◌, ◌↔◌, IsTrue, option_map};
+ghost use Rattle.std.specs.Prelude.{◌≡◌, ◌↔◌, IsTrue, option_copied};
 ghost use Rattle.sq_cpr.specs.Code.{numbers_of};
 ghost use Rattle.sq_message.specs.Parts.{squitter_parts};
 ghost use Rattle.sq_message.specs.Places.{Fits, IsAirPairPlace, IsGroundPairPlace, IsLocalPlace, IsPairPlace, IsPosition, IsPositionOf, IsSentAt, NeedsTwoParities, even_of, odd_of, of_local, of_pair};
@@ -116,8 +116,8 @@ impl Squitter {
     }
 }
 
-/// The squitter with the parity and the code of a place, and all else as it was (ICAO Doc 9871, registers 0,5 and 0,6). The
-/// place has to be of its kind: see [`Squitter::fits`].
+/// The squitter with the parity and the code of a place, and all else as it was (ICAO Doc 9871, registers 0,5 and 0,6).
+/// The place has to be of its kind: see [`Squitter::fits`].
 pub fn send_point(squitter: &Squitter, place: &Place) -> Squitter
     requires { Fits (squitter_parts squitter.now).me place.now }
     ensures { IsSentAt (squitter_parts squitter.now) place.now (squitter_parts result) }
@@ -142,11 +142,11 @@ pub fn send_point(squitter: &Squitter, place: &Place) -> Squitter
     }
 }
 
-/// The place of a squitter near a reference: the one point with its code, of its span and parity, that lies within half a
-/// zone of the reference in both coordinates.
+/// The place of a squitter near a reference: the one point with its code, of its span and parity, that lies within half
+/// a zone of the reference in both coordinates.
 ///
-/// `NotPosition` exactly for a squitter of kind other; else `OutOfRange` exactly where the latitude near the reference lies
-/// outside -90 to 90 degrees. RTCA DO-260B, appendix on compact position reporting, local decoding.
+/// `NotPosition` exactly for a squitter of kind other; else `OutOfRange` exactly where the latitude near the reference
+/// lies outside -90 to 90 degrees. RTCA DO-260B, appendix on compact position reporting, local decoding.
 pub fn place_local(squitter: &Squitter, reference: &Position) -> Result<Place, PlaceFault>
     ensures { IsLocalPlace (squitter_parts squitter.now).me reference.now result }
 {
@@ -163,17 +163,18 @@ pub fn place_local(squitter: &Squitter, reference: &Position) -> Result<Place, P
     }
 }
 
-/// The place of the newer of two squitters that were sent from nearly one place: its point of the one pair whose latitudes are
-/// close, and whose longitudes are; on the ground within 45 degrees of the site. A pair in the air does not look at the site.
+/// The place of the newer of two squitters that were sent from nearly one place: its point of the one pair whose
+/// latitudes are close, and whose longitudes are; on the ground within 45 degrees of the site. A pair in the air does
+/// not look at the site.
 ///
-/// `Err` has the first fault of [`PlaceFault`] that applies, and comes exactly where one does. RTCA DO-260B, appendix on
-/// compact position reporting, globally unambiguous decoding.
+/// `Err` has the first fault of [`PlaceFault`] that applies, and comes exactly where one does. RTCA DO-260B, appendix
+/// on compact position reporting, globally unambiguous decoding.
 pub fn place_pair(
     older: &Squitter,
     newer: &Squitter,
     site: Option<&Position>,
 ) -> Result<Place, PlaceFault>
-    ensures { IsPairPlace (squitter_parts older.now) (squitter_parts newer.now) (option_map (λ s. s.now) site.entry) result }
+    ensures { IsPairPlace (squitter_parts older.now) (squitter_parts newer.now) (option_copied site.entry) result }
 {
     if !older.is_position() || !newer.is_position() {
         return Err(PlaceFault::NotPosition);
@@ -230,7 +231,8 @@ fn ground_pair(
     newer: &Surface,
     site: Option<&Position>,
 ) -> Result<Place, PlaceFault>
-    ensures { NeedsTwoParities older.now.parity newer.now.parity result (IsGroundPairPlace older.now newer.now (option_map (λ s. s.now) site.entry) result) }
+    ensures { NeedsTwoParities older.now.parity newer.now.parity result
+        (IsGroundPairPlace older.now newer.now (option_copied site.entry) result) }
 {
     if older.parity == newer.parity {
         return Err(PlaceFault::SameParity);

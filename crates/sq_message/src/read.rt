@@ -14,8 +14,8 @@ use sq_cpr::{Code, Parity};
 
 /// The squitter that a frame spells (RTCA DO-260B section 2.2.3.2).
 ///
-/// `NotDf17` exactly where bits 1 to 5 are not 17, else `Parity` exactly where the remainder is not 0. Every type code is
-/// read: one that is no position's gives kind other.
+/// `NotDf17` exactly where bits 1 to 5 are not 17, else `Parity` exactly where the remainder is not 0. Every type code
+/// is read: one that is no position's gives kind other.
 #[inline(always)]
 pub fn read_frame(frame: &Frame) -> Result<Squitter, FrameFault>
     ensures read { IsReading frame.now result }

@@ -19,7 +19,8 @@ pub enum Me {
     Other(Other),
 }
 
-/// What a correct DF17 frame says (RTCA DO-260B section 2.2.3.2): the capability (CA), the address and the message (ME).
+/// What a correct DF17 frame says (RTCA DO-260B section 2.2.3.2): the capability (CA), the address and the message
+/// (ME).
 #[derive(Clone, Copy, Debug, PartialEq, Eq)]
 pub struct Squitter {
     pub(crate) ca: u8,
@@ -35,7 +36,8 @@ impl Squitter {
     /// The squitter of these parts; `None` unless `ca` is below 8 and `address` is below 2^24.
     pub fn new(ca: u8, address: u32, me: Me) -> Option<Squitter>
         ensures variant { IsSome result ↔ ((ca < 8) × (address < 2 ^ 24)) }
-        ensures value { IfSome result (λ squitter. squitter_parts squitter ≡ record { ca = ca; address = address; me = me }) }
+        ensures value { IfSome result (λ squitter. squitter_parts squitter
+            ≡ record { ca = ca; address = address; me = me }) }
     {
         if ca < 8 && address < ADDRESSES {
             Some(Squitter { ca, address, me })

@@ -1,7 +1,7 @@
 //! Writing a frame.
-ghost use Rattle.std.specs.Prelude.{◌≡◌, ℕ, ◌+◌, ◌≤◌};
+ghost use Rattle.std.specs.Prelude.{◌≡◌};
 ghost use Rattle.sq_bits.specs.declared.frame.Frame.{Frame};
-ghost use Rattle.sq_bits.specs.Frames.{field_of, IsFrame};
+ghost use Rattle.sq_bits.specs.Frames.{IsFrame, KeepsFieldsBefore};
 ghost use Rattle.sq_cpr.specs.Code.{numbers_of};
 ghost use Rattle.sq_message.specs.Parts.{air_parts, ground_parts};
 ghost use Rattle.sq_message.specs.Spelling.{Spells, SpellsAirborne, SpellsAirFields, SpellsGroundFields, SpellsMe, SpellsPlace, SpellsSurface};
@@ -25,7 +25,7 @@ pub fn write_frame(squitter: &Squitter) -> Frame
 // The frame with a message in bits 33 to 88.
 fn with_me(frame: &Frame, me: &Me) -> Frame
     ensures written { SpellsMe result me.now }
-    ensures kept { (start len : ℕ) → 1 ≤ start → start + len ≤ 33 → field_of result start len ≡ field_of frame.now start len }
+    ensures kept { KeepsFieldsBefore 33 frame.now result }
 {
     match me {
         Me::Airborne(airborne) => with_airborne(frame, airborne),
@@ -36,7 +36,7 @@ fn with_me(frame: &Frame, me: &Me) -> Frame
 
 fn with_airborne(frame: &Frame, airborne: &Airborne) -> Frame
     ensures written { SpellsAirborne result airborne.now }
-    ensures kept { (start len : ℕ) → 1 ≤ start → start + len ≤ 33 → field_of result start len ≡ field_of frame.now start len }
+    ensures kept { KeepsFieldsBefore 33 frame.now result }
 {
     let described = with_air_fields(frame, &airborne.fields);
     with_place(&described, airborne.parity, &airborne.code)
@@ -44,7 +44,7 @@ fn with_airborne(frame: &Frame, airborne: &Airborne) -> Frame
 
 fn with_air_fields(frame: &Frame, fields: &AirFields) -> Frame
     ensures written { SpellsAirFields result (air_parts fields.now) }
-    ensures kept { (start len : ℕ) → 1 ≤ start → start + len ≤ 33 → field_of result start len ≡ field_of frame.now start len }
+    ensures kept { KeepsFieldsBefore 33 frame.now result }
 {
     frame
         .with_field(33, 5, u64::from(fields.type_code))
@@ -56,7 +56,7 @@ fn with_air_fields(frame: &Frame, fields: &AirFields) -> Frame
 
 fn with_surface(frame: &Frame, surface: &Surface) -> Frame
     ensures written { SpellsSurface result surface.now }
-    ensures kept { (start len : ℕ) → 1 ≤ start → start + len ≤ 33 → field_of result start len ≡ field_of frame.now start len }
+    ensures kept { KeepsFieldsBefore 33 frame.now result }
 {
     let described = with_ground_fields(frame, &surface.fields);
     with_place(&described, surface.parity, &surface.code)
@@ -64,7 +64,7 @@ fn with_surface(frame: &Frame, surface: &Surface) -> Frame
 
 fn with_ground_fields(frame: &Frame, fields: &GroundFields) -> Frame
     ensures written { SpellsGroundFields result (ground_parts fields.now) }
-    ensures kept { (start len : ℕ) → 1 ≤ start → start + len ≤ 33 → field_of result start len ≡ field_of frame.now start len }
+    ensures kept { KeepsFieldsBefore 33 frame.now result }
 {
     frame
         .with_field(33, 5, u64::from(fields.type_code))
@@ -77,7 +77,7 @@ fn with_ground_fields(frame: &Frame, fields: &GroundFields) -> Frame
 // The frame with a parity and a code in ME bits 22 to 56.
 fn with_place(frame: &Frame, parity: Parity, code: &Code) -> Frame
     ensures written { SpellsPlace result parity (numbers_of code.now) }
-    ensures kept { (start len : ℕ) → 1 ≤ start → start + len ≤ 54 → field_of result start len ≡ field_of frame.now start len }
+    ensures kept { KeepsFieldsBefore 54 frame.now result }
 {
     frame
         .with_field(54, 1, u64::from(parity.index()))

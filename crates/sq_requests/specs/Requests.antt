@@ -1,5 +1,5 @@
 -- What is asked for: one of the commands, with the texts of its values.
-use Rattle.std.specs.Prelude.{ℕ, List, Option, codes, option_map}
+use Rattle.std.specs.Prelude.{ℕ, List, Option, codes, option_copied}
 use Rattle.sq_requests.specs.declared.EncodeWords.{EncodeWords}
 use Rattle.sq_requests.specs.declared.Request.{Request}
 use Rattle.sq_requests.specs.declared.Request.TheVariants as variants
@@ -40,7 +40,7 @@ asked_encode e = record {
   kind = e.kind.now;
   parity = e.parity.now;
   address = e.address.now;
-  feet = option_map (λ s. s.now) e.feet;
+  feet = option_copied e.feet;
   lat = e.lat.now;
   lon = e.lon.now;
 }
@@ -51,8 +51,8 @@ asked_by (variants.Show frame) = Show frame.now
 asked_by (variants.Encode e) = Encode (asked_encode e)
 asked_by (variants.Local frame lat lon) = Local frame.now lat.now lon.now
 asked_by (variants.Pair older newer lat lon) =
-    Pair older.now newer.now (option_map (λ s. s.now) lat) (option_map (λ s. s.now) lon)
+    Pair older.now newer.now (option_copied lat) (option_copied lon)
 asked_by variants.Check = Check
 asked_by (variants.Track limit window lat lon) =
-    Track (option_map (λ s. s.now) limit) (option_map (λ s. s.now) window) (option_map (λ s. s.now) lat)
-    (option_map (λ s. s.now) lon)
+    Track (option_copied limit) (option_copied window) (option_copied lat)
+    (option_copied lon)

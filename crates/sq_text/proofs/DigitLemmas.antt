@@ -41,7 +41,8 @@ entries_are = refl
 
 is_entry_at : (c : ℕ) → c < 256 → is_entry (get_or VALUES c 0) ≡ true
 is_entry_at c small =
-    sym (get_or-map is_entry VALUES c 0) ∙ ap (λ t. get_or t c true) entries_are ∙ get_or-map-range_with_len (λ _. true) 0 256 c c true small (omega arith)
+    sym (get_or-map is_entry VALUES c 0) ∙ ap (λ t. get_or t c true) entries_are
+    ∙ get_or-map-range_with_len (λ _. true) 0 256 c c true small (omega arith)
 
 one_of : (v : ℕ) → is_entry v ≡ true → (v < 2 ^ 24 → v < 16) × (v ≤ 2 ^ 24)
 one_of v is = elim (cases_lt v 16) [
@@ -53,11 +54,13 @@ one_of v is = elim (cases_lt v 16) [
 ]
 
 -- a digit's value is below 16, and what stands for none is 2^24
-pub entry_bounds : (c : ℕ) → c < 256 → (get_or VALUES c 0 < 2 ^ 24 → get_or VALUES c 0 < 16) × (get_or VALUES c 0 ≤ 2 ^ 24)
+pub entry_bounds : (c : ℕ) → c < 256
+    → (get_or VALUES c 0 < 2 ^ 24 → get_or VALUES c 0 < 16) × (get_or VALUES c 0 ≤ 2 ^ 24)
 entry_bounds c small = one_of (get_or VALUES c 0) (is_entry_at c small)
 
 -- two digits make a byte
-pair_from : (a b i h l : ℕ) → hex_digit_value a ≡ Some h → hex_digit_value b ≡ Some l → pair_value a b i ≡ Ok (h * 16 + l)
+pair_from : (a b i h l : ℕ) → hex_digit_value a ≡ Some h → hex_digit_value b ≡ Some l
+    → pair_value a b i ≡ Ok (h * 16 + l)
 pair_from a b i h l x y =
     ap (λ o. digit_or_error a i o >>= (λ high. value_at b (i + 1) >>= (λ low. Ok (high * 16 + low)))) x
     ∙ ap (λ o. digit_or_error b (i + 1) o >>= (λ low. Ok (h * 16 + low))) y
@@ -67,7 +70,8 @@ abbrev pub two_joined : ℕ → ℕ → ℕ
 two_joined h l = bit_or (h * 16 % 2 ^ 32) l
 
 -- what is below 2^24 was joined of two values below 16
-both_small : (h l : ℕ) → h ≤ 2 ^ 24 → l ≤ 2 ^ 24 → (h < 2 ^ 24 → h < 16) → (l < 2 ^ 24 → l < 16) → two_joined h l < 2 ^ 24
+both_small : (h l : ℕ) → h ≤ 2 ^ 24 → l ≤ 2 ^ 24 → (h < 2 ^ 24 → h < 16) → (l < 2 ^ 24 → l < 16)
+    → two_joined h l < 2 ^ 24
     → (h < 16) × (l < 16) × (two_joined h l ≡ h * 16 + l)
 both_small h l p q high low small =
     let kept : h * 16 % 2 ^ 32 ≡ h * 2 ^ 4 = omega arith in
@@ -78,12 +82,14 @@ both_small h l p q high low small =
     (x, y, ap (λ n. bit_or n l) kept ∙ or_shifted h 4 l y)
 
 pub pair_joined : (a b i h l : ℕ) → h ≤ 2 ^ 24 → l ≤ 2 ^ 24 → (h < 2 ^ 24 → h < 16) → (l < 2 ^ 24 → l < 16)
-    → (h < 2 ^ 24 → hex_digit_value a ≡ Some h) → (l < 2 ^ 24 → hex_digit_value b ≡ Some l) → two_joined h l < 2 ^ 24 → pair_value a b i ≡ Ok (two_joined h l)
+    → (h < 2 ^ 24 → hex_digit_value a ≡ Some h) → (l < 2 ^ 24 → hex_digit_value b ≡ Some l) → two_joined h l < 2 ^ 24
+    → pair_value a b i ≡ Ok (two_joined h l)
 pair_joined a b i h l p q high low x y small =
     let parts = both_small h l p q high low small in
     pair_from a b i h l (x (omega arith)) (y (omega arith)) ∙ ap Ok (sym parts.2)
 
-pub pair_below : (h l : ℕ) → h ≤ 2 ^ 24 → l ≤ 2 ^ 24 → (h < 2 ^ 24 → h < 16) → (l < 2 ^ 24 → l < 16) → two_joined h l < 2 ^ 24 → two_joined h l < 256
+pub pair_below : (h l : ℕ) → h ≤ 2 ^ 24 → l ≤ 2 ^ 24 → (h < 2 ^ 24 → h < 16) → (l < 2 ^ 24 → l < 16)
+    → two_joined h l < 2 ^ 24 → two_joined h l < 256
 pair_below h l p q high low small =
     let parts = both_small h l p q high low small in
     omega (arith, parts.0, parts.1, parts.2)
@@ -96,7 +102,8 @@ abbrev pub three_joined : ℕ → ℕ → ℕ → ℕ
 three_joined a b c = bit_or (bit_or (a * 65536 % 2 ^ 64) (b * 256 % 2 ^ 64)) c
 
 -- what is below 2^24 was joined of three bytes
-pub three_parts : (a b c : ℕ) → a < 2 ^ 29 → b < 2 ^ 29 → (b < 2 ^ 24 → b < 256) → (c < 2 ^ 24 → c < 256) → three_joined a b c < 2 ^ 24
+pub three_parts : (a b c : ℕ) → a < 2 ^ 29 → b < 2 ^ 29 → (b < 2 ^ 24 → b < 256) → (c < 2 ^ 24 → c < 256)
+    → three_joined a b c < 2 ^ 24
     → (a ≡ three_joined a b c / 2 ^ 16 % 256) × (b ≡ three_joined a b c / 2 ^ 8 % 256) × (c ≡ three_joined a b c % 256)
 three_parts a b c p q second third small =
     let x : ℕ = a * 65536 % 2 ^ 64 in
@@ -131,7 +138,8 @@ abbrev pub HasDecoded : List ℕ → List ℕ → ℕ → Type 0
 HasDecoded body bytes k = decode_pairs 0 body ≡ prepend (take k bytes) (decode_pairs (2 * k) (drop (2 * k) body))
 
 -- two more bytes
-pub first_two : (body bytes : List ℕ) (v w : ℕ) → length body ≡ 28 → length bytes ≡ 14 → SpellsByte body 0 v → SpellsByte body 1 w
+pub first_two : (body bytes : List ℕ) (v w : ℕ) → length body ≡ 28 → length bytes ≡ 14 → SpellsByte body 0 v
+    → SpellsByte body 1 w
     → HasDecoded body (set (set bytes 0 v) 1 w) 2
 first_two body bytes v w long room one two =
     let l : length (set bytes 0 v) ≡ length bytes = length-set bytes 0 v in
@@ -144,17 +152,22 @@ pub three_more : (body bytes : List ℕ) (at u v w : ℕ) → 2 * at + 6 ≤ len
     → HasDecoded body (set (set (set bytes at u) (at + 1) v) (at + 2) w) (at + 3)
 three_more body bytes at u v w long room one two three before =
     let l : length (set bytes at u) ≡ length bytes = length-set bytes at u in
-    let m : length (set (set bytes at u) (at + 1) v) ≡ length (set bytes at u) = length-set (set bytes at u) (at + 1) v in
+    let m : length (set (set bytes at u) (at + 1) v) ≡ length (set bytes at u) =
+    length-set (set bytes at u) (at + 1) v in
     let e : at + 1 + 1 ≡ at + 2 = omega arith in
     let f : at + 2 + 1 ≡ at + 3 = omega arith in
     let first = decode_step body bytes at u (omega arith) (omega arith) one before in
     let second = decode_step body (set bytes at u) (at + 1) v (omega arith) (omega arith) two first in
-    let second' : HasDecoded body (set (set bytes at u) (at + 1) v) (at + 2) = subst (HasDecoded body (set (set bytes at u) (at + 1) v)) e second in
-    let third = decode_step body (set (set bytes at u) (at + 1) v) (at + 2) w (omega arith) (omega arith) three second' in
+    let second' : HasDecoded body (set (set bytes at u) (at + 1) v) (at + 2) =
+    subst (HasDecoded body (set (set bytes at u) (at + 1) v)) e second in
+    let third = decode_step body (set (set bytes at u) (at + 1) v) (at + 2) w (omega arith)
+    (omega arith) three second' in
     subst (HasDecoded body (set (set (set bytes at u) (at + 1) v) (at + 2) w)) f third
 
 -- what the code read at these two places spells a byte
 pub spells : (body : List ℕ) (k a b v w : ℕ) → a ≡ 2 * k → b ≡ 2 * k + 1
-    → (v < 2 ^ 24 → (place : ℕ) → pair_value (get_or body a 0) (get_or body b 0) place ≡ Ok v) → v ≡ w % 256 → SpellsByte body k (w % 256)
+    → (v < 2 ^ 24 → (place : ℕ) → pair_value (get_or body a 0) (get_or body b 0) place ≡ Ok v) → v ≡ w % 256
+    → SpellsByte body k (w % 256)
 spells body k a b v w high low value is =
-    ap₂ (λ x y. pair_value (get_or body x 0) (get_or body y 0) (2 * k)) (sym high) (sym low) ∙ value (omega arith) (2 * k) ∙ ap Ok is
+    ap₂ (λ x y. pair_value (get_or body x 0) (get_or body y 0) (2 * k)) (sym high) (sym low)
+    ∙ value (omega arith) (2 * k) ∙ ap Ok is

@@ -33,10 +33,14 @@ byte_of m =
     ap (hexadecimal 2) byte ∙ ap₂ (λ h l. digit_glyph true h ∷ digit_glyph true l ∷ []) high low
 
 -- six places, two at a time
-pub six_places : (n : ℕ) → hexadecimal 6 n ≡ hexadecimal 2 (bit_and (n / 2 ^ 16) 255) ++ (hexadecimal 2 (bit_and (n / 2 ^ 8) 255) ++ hexadecimal 2 (bit_and n 255))
+pub six_places : (n : ℕ) → hexadecimal 6 n ≡ hexadecimal 2 (bit_and (n / 2 ^ 16) 255)
+    ++ (hexadecimal 2 (bit_and (n / 2 ^ 8) 255) ++ hexadecimal 2 (bit_and n 255))
 six_places n =
     let a : n / 16 / 16 / 16 / 16 ≡ n / 2 ^ 16 = omega arith in
     let b : n / 16 / 16 ≡ n / 2 ^ 8 = omega arith in
-    let all : hexadecimal 6 n ≡ hexadecimal 2 (n / 16 / 16 / 16 / 16) ++ (hexadecimal 2 (n / 16 / 16) ++ hexadecimal 2 n) = refl in
-    all ∙ ap₂ (λ x y. x ++ (y ++ hexadecimal 2 n)) (ap (hexadecimal 2) a ∙ sym (byte_of (n / 2 ^ 16))) (ap (hexadecimal 2) b ∙ sym (byte_of (n / 2 ^ 8)))
-    ∙ ap (λ z. hexadecimal 2 (bit_and (n / 2 ^ 16) 255) ++ (hexadecimal 2 (bit_and (n / 2 ^ 8) 255) ++ z)) (sym (byte_of n))
+    let all : hexadecimal 6 n ≡ hexadecimal 2 (n / 16 / 16 / 16 / 16)
+    ++ (hexadecimal 2 (n / 16 / 16) ++ hexadecimal 2 n) = refl in
+    all ∙ ap₂ (λ x y. x ++ (y ++ hexadecimal 2 n)) (ap (hexadecimal 2) a ∙ sym (byte_of (n / 2 ^ 16)))
+    (ap (hexadecimal 2) b ∙ sym (byte_of (n / 2 ^ 8)))
+    ∙ ap (λ z. hexadecimal 2 (bit_and (n / 2 ^ 16) 255) ++ (hexadecimal 2 (bit_and (n / 2 ^ 8) 255) ++ z))
+    (sym (byte_of n))

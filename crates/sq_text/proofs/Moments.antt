@@ -20,7 +20,8 @@ digits_without_space [] all = tt
 digits_without_space (d ∷ ds) all = (λ is. absurd (omega (arith, is, all.0)), digits_without_space ds all.1)
 
 -- a text has one front before its first space, and one rest after it
-pub one_front : (a b rest more : List ℕ) → HasNoSpace a → HasNoSpace b → a ++ 32 ∷ rest ≡ b ++ 32 ∷ more → (a ≡ b) × (rest ≡ more)
+pub one_front : (a b rest more : List ℕ) → HasNoSpace a → HasNoSpace b → a ++ 32 ∷ rest ≡ b ++ 32 ∷ more
+    → (a ≡ b) × (rest ≡ more)
 one_front [] [] rest more p q is = (refl, cc is)
 one_front [] (y ∷ ys) rest more p q is = let same : 32 ≡ y = cc is in absurd (q.0 (sym same))
 one_front (x ∷ xs) [] rest more p q is = let same : x ≡ 32 = cc is in absurd (p.0 same)

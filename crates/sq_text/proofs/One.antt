@@ -37,7 +37,8 @@ not_before : (body : List ℕ) (j k : ℕ) → IsFirstBadDigit body j → IsFirs
 not_before body j k x y less =
     let long : length (take k body) ≡ k = length-take-le k body (omega arith) in
     let at : is_hex_digit (get_or (take k body) j 0) ≡ true = y.2 j 0 (omega arith) in
-    let good : is_hex_digit (get_or body j 0) ≡ true = subst (λ x. is_hex_digit x ≡ true) (get_or-take k body j 0 less) at in
+    let good : is_hex_digit (get_or body j 0) ≡ true =
+    subst (λ x. is_hex_digit x ≡ true) (get_or-take k body j 0 less) at in
     cc (sym good ∙ x.1)
 
 one_bad_digit : (body : List ℕ) (j k : ℕ) → IsFirstBadDigit body j → IsFirstBadDigit body k → j ≡ k
@@ -56,8 +57,10 @@ same_text text f g (a, x, _, p) (b, y, _, q) =
 pub no_fault : (text : List ℕ) (f : Frame) (e : TextFault) → IsFrameText text f → IsTextFault text e → ⊥
 no_fault text f Wrap (a, x, long, p) h = not_half text a x h
 no_fault text f Short (a, x, long, p) (b, y, short) = let body = ap length (one_body text a b x y) in omega arith
-no_fault text f (Length n) (a, x, long, p) (b, y, is, _, other) = let body = ap length (one_body text a b x y) in other (omega arith)
-no_fault text f (Digit n) (a, x, long, p) (b, y, _, (k, _, bad)) = no_bad_digit b f.0 k (ap decode_of (sym (one_body text a b x y)) ∙ p) bad
+no_fault text f (Length n) (a, x, long, p) (b, y, is, _, other) =
+    let body = ap length (one_body text a b x y) in other (omega arith)
+no_fault text f (Digit n) (a, x, long, p) (b, y, _, (k, _, bad)) =
+    no_bad_digit b f.0 k (ap decode_of (sym (one_body text a b x y)) ∙ p) bad
 
 pub same_fault : (text : List ℕ) (d e : TextFault) → IsTextFault text d → IsTextFault text e → d ≡ e
 same_fault text Wrap Wrap x y = refl
@@ -66,21 +69,29 @@ same_fault text Wrap (Length n) x (b, y, _, _, _) = absurd (not_half text b y x)
 same_fault text Wrap (Digit n) x (b, y, _, _) = absurd (not_half text b y x)
 same_fault text Short Wrap (a, x, _) y = absurd (not_half text a x y)
 same_fault text Short Short x y = refl
-same_fault text Short (Length n) (a, x, is) (b, y, long, other, _) = let body = ap length (one_body text a b x y) in absurd (other (omega arith))
-same_fault text Short (Digit n) (a, x, is) (b, y, long, _) = let body = ap length (one_body text a b x y) in absurd (omega arith)
+same_fault text Short (Length n) (a, x, is) (b, y, long, other, _) =
+    let body = ap length (one_body text a b x y) in absurd (other (omega arith))
+same_fault text Short (Digit n) (a, x, is) (b, y, long, _) =
+    let body = ap length (one_body text a b x y) in absurd (omega arith)
 same_fault text (Length m) Wrap (a, x, _, _, _) y = absurd (not_half text a x y)
-same_fault text (Length m) Short (a, x, is, other, _) (b, y, long) = let body = ap length (one_body text a b x y) in absurd (other (omega arith))
-same_fault text (Length m) (Length n) (a, x, is, _, _) (b, y, long, _, _) = let body = ap length (one_body text a b x y) in ap Length (omega arith)
-same_fault text (Length m) (Digit n) (a, x, is, _, other) (b, y, long, _) = let body = ap length (one_body text a b x y) in absurd (other (omega arith))
+same_fault text (Length m) Short (a, x, is, other, _) (b, y, long) =
+    let body = ap length (one_body text a b x y) in absurd (other (omega arith))
+same_fault text (Length m) (Length n) (a, x, is, _, _) (b, y, long, _, _) =
+    let body = ap length (one_body text a b x y) in ap Length (omega arith)
+same_fault text (Length m) (Digit n) (a, x, is, _, other) (b, y, long, _) =
+    let body = ap length (one_body text a b x y) in absurd (other (omega arith))
 same_fault text (Digit m) Wrap (a, x, _, _) y = absurd (not_half text a x y)
-same_fault text (Digit m) Short (a, x, is, _) (b, y, long) = let body = ap length (one_body text a b x y) in absurd (omega arith)
-same_fault text (Digit m) (Length n) (a, x, is, _) (b, y, long, _, other) = let body = ap length (one_body text a b x y) in absurd (other (omega arith))
+same_fault text (Digit m) Short (a, x, is, _) (b, y, long) =
+    let body = ap length (one_body text a b x y) in absurd (omega arith)
+same_fault text (Digit m) (Length n) (a, x, is, _) (b, y, long, _, other) =
+    let body = ap length (one_body text a b x y) in absurd (other (omega arith))
 same_fault text (Digit m) (Digit n) (a, x, _, (j, is, bad)) (b, y, _, (k, is', bad')) =
     let place = one_bad_digit b j k (subst (λ c. IsFirstBadDigit c j) (one_body text a b x y) bad) bad' in
     ap Digit (omega arith)
 
 -- the answer to a text is one
-pub one_answer : (text : List ℕ) (r s : Result Frame TextFault) → MatchResult r (IsFrameText text) (IsTextFault text) → MatchResult s (IsFrameText text) (IsTextFault text) → r ≡ s
+pub one_answer : (text : List ℕ) (r s : Result Frame TextFault) → MatchResult r (IsFrameText text) (IsTextFault text)
+    → MatchResult s (IsFrameText text) (IsTextFault text) → r ≡ s
 one_answer text (Ok f) (Ok g) x y = ap Ok (same_text text f g x y)
 one_answer text (Ok f) (Err e) x y = absurd (no_fault text f e x y)
 one_answer text (Err d) (Ok g) x y = absurd (no_fault text g d y x)

@@ -19,7 +19,8 @@ one_text_squitter text p q (f, x, is) (g, y, is') =
     one_squitter g p q (subst (λ h. Spells h p) (same_text text f g x y) is) is'
 
 -- a text that spells a squitter has no fault
-no_squitter_fault : (text : List ℕ) (q : Squitter) (fault : LineFault) → IsSquitterText text q → IsSquitterFault text fault → ⊥
+no_squitter_fault : (text : List ℕ) (q : Squitter) (fault : LineFault) → IsSquitterText text q
+    → IsSquitterFault text fault → ⊥
 no_squitter_fault text q fault (f, x, is) (inl (e, bad, _)) = no_fault text f e x bad
 no_squitter_fault text q fault (f, x, is) (inr (g, e, y, bad, _)) =
     no_frame_fault g q e (subst (λ h. Spells h q) (same_text text f g x y) is) bad
@@ -32,7 +33,8 @@ one_squitter_fault text a b (inr (f, d, x, bad, is)) (inl (e, y, is')) = absurd 
 one_squitter_fault text a b (inr (f, d, x, bad, is)) (inr (g, e, y, bad', is')) =
     is ∙ ap of_frame (same_frame_fault g d e (subst (λ h. IsFault h d) (same_text text f g x y) bad) bad') ∙ sym is'
 
-pub one_squitter_reading : (text : List ℕ) (r s : Result Squitter LineFault) → IsSquitterReading text r → IsSquitterReading text s → r ≡ s
+pub one_squitter_reading : (text : List ℕ) (r s : Result Squitter LineFault) → IsSquitterReading text r
+    → IsSquitterReading text s → r ≡ s
 one_squitter_reading text (Ok p) (Ok q) x y = ap Ok (one_text_squitter text p q x y)
 one_squitter_reading text (Ok p) (Err e) x y = absurd (no_squitter_fault text p e x y)
 one_squitter_reading text (Err d) (Ok q) x y = absurd (no_squitter_fault text q d y x)
@@ -48,4 +50,5 @@ one_me_text (kinds.Other other) a b x y = x ∙ sym y
 
 pub one_text : (squitter : Squitter) (a b : List ℕ) → IsShown squitter a → IsShown squitter b → a ≡ b
 one_text squitter a b (r, x, is) (s, y, is') =
-    is ∙ ap (λ rest. head_lines (squitter_parts squitter) ++ rest) (one_me_text (squitter_parts squitter).me r s x y) ∙ sym is'
+    is ∙ ap (λ rest. head_lines (squitter_parts squitter) ++ rest) (one_me_text (squitter_parts squitter).me r s x y)
+    ∙ sym is'

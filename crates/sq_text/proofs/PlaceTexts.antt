@@ -19,8 +19,12 @@ pub one_place_text : (position : Position) (a b : List ℕ) → IsPlaceText posi
 one_place_text position a b h k =
     let lat = position.lat.in_range.positive in
     let lon = position.lon.in_range.positive in
-    let first = one_decimal7 (degrees (lat_of position)) h.lat_decimals k.lat_decimals lat h.lat_rounded k.lat_rounded in
-    let second = one_decimal7 (degrees (lon_of position)) h.lon_decimals k.lon_decimals lon h.lon_rounded k.lon_rounded in
-    let third = one_fraction_text (degrees (lat_of position)) h.lat_fraction k.lat_fraction lat h.lat_lowest k.lat_lowest in
-    let fourth = one_fraction_text (degrees (lon_of position)) h.lon_fraction k.lon_fraction lon h.lon_lowest k.lon_lowest in
+    let first = one_decimal7 (degrees
+    (lat_of position)) h.lat_decimals k.lat_decimals lat h.lat_rounded k.lat_rounded in
+    let second = one_decimal7 (degrees
+    (lon_of position)) h.lon_decimals k.lon_decimals lon h.lon_rounded k.lon_rounded in
+    let third = one_fraction_text
+    (degrees (lat_of position)) h.lat_fraction k.lat_fraction lat h.lat_lowest k.lat_lowest in
+    let fourth = one_fraction_text
+    (degrees (lon_of position)) h.lon_fraction k.lon_fraction lon h.lon_lowest k.lon_lowest in
     h.whole ∙ ap₂ (λ x y. x ++ y) (ap₂ pair_line first second) (ap₂ pair_line third fourth) ∙ sym k.whole

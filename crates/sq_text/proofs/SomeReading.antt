@@ -69,7 +69,8 @@ some_body text = elim (begins text) [
 ]
 
 -- 28 digits are a frame's, or one of them is bad
-some_digits : (text body : List ℕ) → IsBody text body → length body ≡ 28 → (r : Result (List ℕ) FromHexError) → decode_of body ≡ r
+some_digits : (text body : List ℕ) → IsBody text body → length body ≡ 28 → (r : Result (List ℕ) FromHexError)
+    → decode_of body ≡ r
     → (answer : Result Frame TextFault) × IsAnswer text answer
 some_digits text body is long (Ok bytes) gives = (Ok (record { 0 = bytes }), (body, is, long, gives))
 some_digits text body is long (Err e) gives = elim (decode_of-err body e gives) [
@@ -95,11 +96,13 @@ frame_is text frame (body, is, long, gives) =
     let ok = decode_of-ok body frame.0 gives in
     (omega (arith, ok.2, long), AllBelowBase-each frame.0 ok.3)
 
-of_answer : (text : List ℕ) (answer : Result Frame TextFault) → IsAnswer text answer → (r : Result Squitter LineFault) × IsSquitterReading text r
+of_answer : (text : List ℕ) (answer : Result Frame TextFault) → IsAnswer text answer
+    → (r : Result Squitter LineFault) × IsSquitterReading text r
 of_answer text (Err e) is = (Err (of_text e), inl (e, is, refl))
 of_answer text (Ok frame) is = of_reading text frame is (some_reading frame (frame_is text frame is))
   where
-    of_reading : (text : List ℕ) (frame : Frame) → IsFrameText text frame → (r : Result Squitter FrameFault) × IsReading frame r
+    of_reading : (text : List ℕ) (frame : Frame) → IsFrameText text frame
+        → (r : Result Squitter FrameFault) × IsReading frame r
         → (r : Result Squitter LineFault) × IsSquitterReading text r
     of_reading text frame is (Ok q, spells) = (Ok q, (frame, is, spells))
     of_reading text frame is (Err e, fault) = (Err (of_frame e), inr (frame, e, is, fault, refl))

@@ -15,9 +15,11 @@ use Rattle.sq_text.proofs.OneReading.{one_squitter_reading}
 use Rattle.sq_text.proofs.SomeReading.{some_squitter_reading}
 
 -- a text has one moment, and one rest after it
-one_line : (text rest more : List ℕ) (m n : ℕ) → IsMomentLine text rest m → IsMomentLine text more n → (m ≡ n) × (rest ≡ more)
+one_line : (text rest more : List ℕ) (m n : ℕ) → IsMomentLine text rest m → IsMomentLine text more n
+    → (m ≡ n) × (rest ≡ more)
 one_line text rest more m n x y =
-    let same = one_front x.digits y.digits rest more (digits_without_space x.digits x.of_moment.each) (digits_without_space y.digits y.of_moment.each)
+    let same = one_front x.digits y.digits rest more (digits_without_space x.digits x.of_moment.each)
+    (digits_without_space y.digits y.of_moment.each)
     (sym x.whole ∙ y.whole) in
     (x.of_moment.value ∙ ap (λ ds. digits_value 10 ds) same.0 ∙ sym y.of_moment.value, same.1)
 
@@ -27,7 +29,8 @@ with_moment moment (Ok squitter) = Ok (record { moment = moment; squitter = squi
 with_moment moment (Err fault) = Err fault
 
 -- a text with a moment is read as its rest is
-of_rest : (text rest : List ℕ) (m : ℕ) → IsMomentLine text rest m → (answer : Result TimedSquitter LineFault) → IsTimedReading text answer
+of_rest : (text rest : List ℕ) (m : ℕ) → IsMomentLine text rest m → (answer : Result TimedSquitter LineFault)
+    → IsTimedReading text answer
     → (reading : Result Squitter LineFault) × IsSquitterReading rest reading × (answer ≡ with_moment m reading)
 of_rest text rest m line (Ok timed) (more, here, spelled) =
     let same = one_line text rest more m timed.moment line here in
@@ -42,7 +45,8 @@ of_rest text rest m line (Err fault) (inr (more, n, here, why)) =
     (Err fault, subst (λ (r : List ℕ). IsSquitterReading r (Err fault)) (sym same.1) why, refl)
 
 -- a text without a moment has that fault
-of_none : (text : List ℕ) → HasNoMoment text → (answer : Result TimedSquitter LineFault) → IsTimedReading text answer → answer ≡ Err Moment
+of_none : (text : List ℕ) → HasNoMoment text → (answer : Result TimedSquitter LineFault) → IsTimedReading text answer
+    → answer ≡ Err Moment
 of_none text none (Ok timed) (rest, line, spelled) = absurd (none rest timed.moment line)
 of_none text none (Err fault) (inl (is, why)) = ap Err is
 of_none text none (Err fault) (inr (rest, m, line, why)) = absurd (none rest m line)
@@ -50,7 +54,8 @@ of_none text none (Err fault) (inr (rest, m, line, why)) = absurd (none rest m l
 -- ---- there is one
 
 -- a text has a first space or none
-first_space : (text : List ℕ) → ((front : List ℕ) × (rest : List ℕ) × HasNoSpace front × (text ≡ front ++ 32 ∷ rest)) ⊎ HasNoSpace text
+first_space : (text : List ℕ) → ((front : List ℕ) × (rest : List ℕ) × HasNoSpace front × (text ≡ front ++ 32 ∷ rest))
+    ⊎ HasNoSpace text
 first_space [] = inr tt
 first_space (c ∷ text) = elim (cases_eq c 32) [
   | inl space ↦ inl ([], text, tt, ap (λ x. x ∷ text) space)
@@ -75,7 +80,8 @@ are_digits (c ∷ bytes) = elim (cases_lt c 48) [
 ]
 
 -- digits are a moment or none
-is_moment : (digits : List ℕ) → ((moment : ℕ) × IsMomentText digits moment) ⊎ ((moment : ℕ) → ¬ IsMomentText digits moment)
+is_moment : (digits : List ℕ) → ((moment : ℕ) × IsMomentText digits moment)
+    ⊎ ((moment : ℕ) → ¬ IsMomentText digits moment)
 is_moment digits = elim (cases_lt 0 (length digits)) [
   | inr none ↦ inr (λ m is. absurd (omega (arith, none, is.some)))
   | inl some ↦ elim (cases_lt 20 (length digits)) [
@@ -84,7 +90,16 @@ is_moment digits = elim (cases_lt 0 (length digits)) [
       | inr other ↦ inr (λ m is. other is.each)
       | inl each ↦ elim (cases_lt (digits_value 10 digits) (2 ^ 64)) [
         | inr large ↦ inr (λ m is. absurd (omega (arith, large, is.small, is.value)))
-        | inl small ↦ inl (digits_value 10 digits, record { some = omega (arith, some); twenty = omega (arith, short); each = each; value = refl; small = small })
+        | inl small ↦ inl (
+          digits_value 10 digits,
+          record {
+            some = omega (arith, some);
+            twenty = omega (arith, short);
+            each = each;
+            value = refl;
+            small = small;
+          },
+        )
       ]
     ]
   ]
@@ -97,12 +112,14 @@ has_moment text = elim (first_space text) [
   | inl (front, rest, free, is) ↦ elim (is_moment front) [
     | inl (m, moment) ↦ inl (rest, m, record { digits = front; of_moment = moment; whole = is })
     | inr other ↦ inr (λ more m line.
-        let same = one_front line.digits front more rest (digits_without_space line.digits line.of_moment.each) free (sym line.whole ∙ is) in
+        let same = one_front line.digits front more rest (digits_without_space line.digits line.of_moment.each) free
+        (sym line.whole ∙ is) in
         other m (subst (λ ds. IsMomentText ds m) same.0 line.of_moment))
   ]
 ]
 
-read_rest : (text rest : List ℕ) (m : ℕ) → IsMomentLine text rest m → (reading : Result Squitter LineFault) → IsSquitterReading rest reading
+read_rest : (text rest : List ℕ) (m : ℕ) → IsMomentLine text rest m → (reading : Result Squitter LineFault)
+    → IsSquitterReading rest reading
     → (answer : Result TimedSquitter LineFault) × IsTimedReading text answer
 read_rest text rest m line (Ok squitter) is = (Ok (record { moment = m; squitter = squitter }), (rest, line, is))
 read_rest text rest m line (Err fault) is = (Err fault, inr (rest, m, line, is))
@@ -113,7 +130,8 @@ some_timed_reading text = elim (has_moment text) [
   | inr none ↦ (Err Moment, inl (refl, none))
 ]
 
-pub one_timed_reading : (text : List ℕ) (a b : Result TimedSquitter LineFault) → IsTimedReading text a → IsTimedReading text b → a ≡ b
+pub one_timed_reading : (text : List ℕ) (a b : Result TimedSquitter LineFault) → IsTimedReading text a
+    → IsTimedReading text b → a ≡ b
 one_timed_reading text a b x y = elim (has_moment text) [
   | inl (rest, m, line) ↦
       let first = of_rest text rest m line a x in

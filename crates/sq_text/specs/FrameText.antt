@@ -33,7 +33,8 @@ SpellsByte body k value = pair_value (slice_index body (2 * k)) (slice_index bod
 
 -- byte k is the first that is no hexadecimal digit
 abbrev pub IsFirstBadDigit : List ℕ → ℕ → Type 0
-IsFirstBadDigit body k = (k < length body) × (is_hex_digit (slice_index body k) ≡ false) × AllPass is_hex_digit (take k body)
+IsFirstBadDigit body k = (k < length body) × (is_hex_digit (slice_index body k) ≡ false)
+    × AllPass is_hex_digit (take k body)
 
 -- the first thing that is wrong with a text
 abbrev pub IsTextFault : List ℕ → TextFault → Type 0

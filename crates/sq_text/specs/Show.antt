@@ -44,7 +44,8 @@ airborne_lines airborne altitude =
     let fields = air_parts airborne.fields in
     number_line (codes "type") fields.type_code ++ line (codes "kind") (codes "air")
     ++ number_line (codes "status") fields.status
-    ++ number_line (codes "flag") (bit fields.flag) ++ altitude_line altitude ++ number_line (codes "time") (bit fields.time)
+    ++ number_line (codes "flag") (bit fields.flag) ++ altitude_line altitude
+    ++ number_line (codes "time") (bit fields.time)
     ++ place_lines airborne.parity (numbers_of airborne.code)
 
 abbrev pub surface_lines : Surface → List ℕ
@@ -64,7 +65,8 @@ other_lines other =
 abbrev pub IsShownAirborne : Airborne → List ℕ → Type 0
 IsShownAirborne airborne text =
     let fields = air_parts airborne.fields in
-    (altitude : Altitude) × IsAltitude fields.type_code fields.altitude altitude × (text ≡ airborne_lines airborne altitude)
+    (altitude : Altitude) × IsAltitude fields.type_code fields.altitude altitude
+    × (text ≡ airborne_lines airborne altitude)
 
 -- the text of a message, by its kind
 abbrev pub IsShownMe : Me → List ℕ → Type 0

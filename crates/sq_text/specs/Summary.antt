@@ -25,4 +25,5 @@ me_words (kinds.Other other) = codes " other " ++ decimal (raw_of other / 2 ^ 51
 
 -- the address, and the message in short
 abbrev pub summary : Squitter → List ℕ
-summary squitter = let parts = squitter_parts squitter in codes "ok " ++ hexadecimal 6 parts.address ++ me_words parts.me
+summary squitter = let parts = squitter_parts squitter in codes "ok " ++ hexadecimal 6 parts.address
+    ++ me_words parts.me

@@ -2,7 +2,8 @@
 ghost use Rattle.std.specs.Prelude.{◌≡◌, ◌<◌, ◌≤◌, ◌^◌, ℕ, Some, Ok};
 ghost use Rattle.hex.specs.Hex.{hex_digit_value, pair_value};
 
-// What stands for the value of a byte that is no digit: a bit above those of six digits, so that a word of digits shows it.
+// What stands for the value of a byte that is no digit: a bit above those of six digits, so that a word of digits shows
+// it.
 const NONE: u32 = 0x100_0000;
 
 // The value of each byte that is a digit of either case.

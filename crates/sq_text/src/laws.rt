@@ -19,7 +19,8 @@ pub fn one_answer()
 
 /// A text has one reading as a squitter.
 pub fn one_squitter_reading()
-    ensures { (text : List ℕ) (r s : Result Squitter LineFault) → IsSquitterReading text r → IsSquitterReading text s → r ≡ s }
+    ensures { (text : List ℕ) (r s : Result Squitter LineFault)
+        → IsSquitterReading text r → IsSquitterReading text s → r ≡ s }
 {}
 
 /// There is a function that reads every text as a squitter.
@@ -29,7 +30,8 @@ pub fn some_reader()
 
 /// A text has one reading as a squitter with its moment.
 pub fn one_timed_reading()
-    ensures { (text : List ℕ) (r s : Result TimedSquitter LineFault) → IsTimedReading text r → IsTimedReading text s → r ≡ s }
+    ensures { (text : List ℕ) (r s : Result TimedSquitter LineFault)
+        → IsTimedReading text r → IsTimedReading text s → r ≡ s }
 {}
 
 /// There is a function that reads every text as a squitter with its moment.

@@ -41,7 +41,8 @@ pub fn push_decimals<const N: usize>(text: &mut ArrayString<N>, angle: &Angle)
 
 fn push_fraction(text: &mut PlaceText, angle: &Angle)
     requires { array_string_len text.old ≤ 100 }
-    ensures bytes { (part : List ℕ) × IsFractionText (degrees angle.now) part × (text.new.bytes ≡ text.old.bytes ++ part) }
+    ensures bytes { (part : List ℕ) × IsFractionText (degrees angle.now) part
+        × (text.new.bytes ≡ text.old.bytes ++ part) }
     ensures len { array_string_len text.new ≤ array_string_len text.old + 41 }
 {
     let (num, den) = angle.reduced();

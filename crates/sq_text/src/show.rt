@@ -16,7 +16,8 @@ use sq_message::{Airborne, Altitude, Me, Other, Squitter, Surface, altitude};
 pub type ShowText = ArrayString<320>;
 
 /// The fields of a squitter, one a line: its address, capability and type code, its kind, and then the fields of the
-/// kind. The address and the bits of a message of kind other are upper-case hexadecimal digits, other numbers are decimal.
+/// kind. The address and the bits of a message of kind other are upper-case hexadecimal digits, other numbers are
+/// decimal.
 pub fn show_text(squitter: &Squitter) -> ShowText
     ensures { IsShown squitter.now result.bytes }
 {

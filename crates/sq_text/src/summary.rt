@@ -38,7 +38,8 @@ fn push_me<const N: usize>(text: &mut ArrayString<N>, me: &Me)
     }
 }
 
-// The kind and the parity of an airborne position, as one text: a choice of texts costs less than a jump that no one foresees.
+// The kind and the parity of an airborne position, as one text: a choice of texts costs less than a jump that no one
+// foresees.
 fn air_words(parity: Parity) -> &'static str
     ensures words { result.now ≡ codes " air " ++ parity_name parity ++ codes " " }
     ensures short { length result.now ≤ 13 }

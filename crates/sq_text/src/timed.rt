@@ -21,8 +21,8 @@ const DIGITS: usize = 20;
 
 /// Reads a moment of 1 to 20 decimal digits, below 2^64, one space, and a frame text.
 ///
-/// `Moment` comes where there is no space, or what stands before the first one is no moment; then the faults of the frame
-/// text and of its frame, as in `read_squitter`.
+/// `Moment` comes where there is no space, or what stands before the first one is no moment; then the faults of the
+/// frame text and of its frame, as in `read_squitter`.
 pub fn read_timed(text: &[u8]) -> Result<TimedSquitter, LineFault>
     ensures { IsTimedReading text.now result }
 {

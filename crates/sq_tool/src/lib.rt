@@ -1,7 +1,7 @@
 //! The program `squitter` over its devices: what is written is a stated function of what is read.
 //!
-//! [`run`] does what the words of a command line ask for, and answers the exit status. The commands, the devices, the words
-//! and the texts are crates of their own below, which are republished here.
+//! [`run`] does what the words of a command line ask for, and answers the exit status. The commands, the devices, the
+//! words and the texts are crates of their own below, which are republished here.
 #![tactic(auto)]
 
 mod program;

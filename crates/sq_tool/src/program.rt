@@ -11,11 +11,11 @@ use sq_lines::RunFault;
 use sq_words::{Refusal, read_request};
 use std::alloc::Global;
 
-/// Does what the words ask for, and answers the exit status: 0 all is good; 1 a line, a frame or a place was refused; 2 a bad
-/// command line; 3 a read, write or memory fault. The first of the words is the program's name.
+/// Does what the words ask for, and answers the exit status: 0 all is good; 1 a line, a frame or a place was refused; 2
+/// a bad command line; 3 a read, write or memory fault. The first of the words is the program's name.
 ///
-/// An answer goes to the output, a fault in one line to the sink for faults, as does clap's text for words that it refuses;
-/// what could not be written there changes no status.
+/// An answer goes to the output, a fault in one line to the sink for faults, as does clap's text for words that it
+/// refuses; what could not be written there changes no status.
 pub fn run<S: Source, K: Sink, F: Sink>(
     alloc: Global,
     words: &[&str],
@@ -23,7 +23,8 @@ pub fn run<S: Source, K: Sink, F: Sink>(
     output: &mut K,
     faults: &mut F,
 ) -> u8
-    ensures { (status : Status) × (result ≡ exit_status status) × IsProgramRun (map (λ word. word.now) words.entry.now) status
+    ensures { (status : Status) × (result ≡ exit_status status)
+        × IsProgramRun (map (λ word. word.now) words.entry.now) status
         (effects S.Source input.old input.new (outputs K.Sink F.Sink output.old output.new faults.old faults.new)) }
 {
     follow(alloc, words, input, output, faults).exit_status()

@@ -1,5 +1,5 @@
 //! What is kept of each address, in the order of last hearing.
-ghost use Rattle.std.specs.Prelude.{◌≢◌, IfNone, IfSome, Option, option_map, ◌≡◌, ℕ, ◌+◌, ◌-◌, ◌^◌, ◌<◌, ◌≤◌, ◌++◌};
+ghost use Rattle.std.specs.Prelude.{◌≢◌, IfNone, IfSome, Option, option_copied, ◌≡◌, ℕ, ◌+◌, ◌-◌, ◌^◌, ◌<◌, ◌≤◌, ◌++◌};
 ghost use Rattle.std.specs.Prelude.{nat_eq, Some, None, length, map, slice_get, IsOk, IfOk, OnOk, OnErr, [], ◌∷◌, true};
 ghost use Rattle.std.specs.Prelude.{reverse};
 ghost use Rattle.std.specs.List.{IsDistinct};
@@ -157,7 +157,7 @@ fn hear_known(
 ) -> Option<Heard>
     ensures some { IfSome result (λ heard. (before after : Contact)
         × (lookup (nat_eq address) table.old.entries ≡ Some before)
-        × IsStep window_ms (option_map (λ s. s.now) site.entry) moment squitter.now before heard after
+        × IsStep window_ms (option_copied site.entry) moment squitter.now before heard after
         × (lookup (nat_eq address) table.new.entries ≡ Some after)) }
     ensures none { IfNone result ((lookup (nat_eq address) table.old.entries ≡ None) × (table.new ≡ table.old)) }
     ensures others { (k : ℕ) → k ≢ address → lookup (nat_eq k) table.new.entries ≡ lookup (nat_eq k) table.old.entries }
@@ -247,7 +247,7 @@ impl Contacts {
     ) -> Result<Heard, AllocError>
         requires { (squitter_parts squitter.now).address ≡ address }
         ensures ok { IfOk result (λ heard. (after : Contact)
-            × IsStep window_ms (option_map (λ s. s.now) site.entry) moment squitter.now (contact_of self.old address) heard after
+            × IsStep window_ms (option_copied site.entry) moment squitter.now (contact_of self.old address) heard after
             × (self.new ≡ others_in address self.old ++ (address, after) ∷ [])) }
         ensures err { OnErr result (self.new ≡ self.old) }
         ensures absent { OnErr result (lookup (nat_eq address) self.old ≡ None) }

@@ -7,13 +7,15 @@ use Rattle.clap.specs.declared.builder.command.Command.{Command}
 use Rattle.clap.specs.declared.builder.Command.TheViews.{out-Command as fields_of}
 
 -- with one more argument a command has one more rule
-pub added : {Fault : Type 0} (old : Command) (a : Arg) {app : App} {rule : Rule} (result : Result Command Fault) → IfOk result (λ new. AddsArg old a new)
+pub added : {Fault : Type 0} (old : Command) (a : Arg) {app : App} {rule : Rule} (result : Result Command Fault)
+    → IfOk result (λ new. AddsArg old a new)
     → app_of old ≡ app → rule_of a ≡ rule → a.global ≡ false → IfOk result (λ new. app_of new ≡ with_rule app rule)
 added old a (Ok new) h o r g = h.shape g ∙ ap₂ with_rule o r
 added old a (Err fault) h o r g = tt
 
 -- and none that its commands have too, where it had none
-pub own : {Fault : Type 0} (old : Command) (a : Arg) (result : Result Command Fault) → IfOk result (λ new. AddsArg old a new)
+pub own : {Fault : Type 0} (old : Command) (a : Arg) (result : Result Command Fault)
+    → IfOk result (λ new. AddsArg old a new)
     → (fields_of old).has_globals ≡ false → a.global ≡ false → IfOk result (λ new. (fields_of new).has_globals ≡ false)
 own old a (Ok new) h o g = h.globals ∙ ap₂ ◌||◌ o g
 own old a (Err fault) h o g = tt

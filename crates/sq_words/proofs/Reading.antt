@@ -30,9 +30,11 @@ squitter-is_free = refl
 
 -- texts that compare as different are not one
 other : {X : Type 0} (a b : Text) → a ≡ b → bytes_eq a b ≡ false → X
-other a b is differ = let same : bytes_eq a b ≡ true = search (rules, bytes_eq-Decides) in absurd (true≢false (sym same ∙ differ))
+other a b is differ = let same : bytes_eq a b
+    ≡ true = search (rules, bytes_eq-Decides) in absurd (true≢false (sym same ∙ differ))
 
-pub show_values : (rows : List Row) (asked : Asked) → IsAsked (codes "show") rows asked → (frame : Text) × HasValues rows (Show frame)
+pub show_values : (rows : List Row) (asked : Asked) → IsAsked (codes "show") rows asked
+    → (frame : Text) × HasValues rows (Show frame)
 show_values rows (Show frame) is = (frame, is.values)
 show_values rows (Encode e) is = other _ _ is.named refl
 show_values rows (Local frame lat lon) is = other _ _ is.named refl
@@ -40,7 +42,8 @@ show_values rows (Pair older newer lat lon) is = other _ _ is.named refl
 show_values rows Check is = other _ _ is.named refl
 show_values rows (Track limit window lat lon) is = other _ _ is.named refl
 
-pub encode_values : (rows : List Row) (asked : Asked) → IsAsked (codes "encode") rows asked → (e : AskedEncode) × HasValues rows (Encode e)
+pub encode_values : (rows : List Row) (asked : Asked) → IsAsked (codes "encode") rows asked
+    → (e : AskedEncode) × HasValues rows (Encode e)
 encode_values rows (Show frame) is = other _ _ is.named refl
 encode_values rows (Encode e) is = (e, is.values)
 encode_values rows (Local frame lat lon) is = other _ _ is.named refl
@@ -94,7 +97,8 @@ pub record Accepted (words : List Text) (name : Text) (rows : List Row) : Type 0
   pub entered : subcommand_of squitter words ≡ Some (name, rows)
 
 -- what is asked of the command that clap entered is what the words ask for
-pub asks_of : (words : List Text) (name : Text) (rows : List Row) (asked : Asked) → Accepted words name rows → IsAsked name rows asked → Asks words asked
+pub asks_of : (words : List Text) (name : Text) (rows : List Row) (asked : Asked) → Accepted words name rows
+    → IsAsked name rows asked → Asks words asked
 asks_of words name rows asked clap is = record {
   accepted = clap.accepted;
   rows = rows;
@@ -103,7 +107,8 @@ asks_of words name rows asked clap is = record {
 }
 
 -- and where nothing is asked of it the words ask for nothing
-pub asks_none : (words : List Text) (name : Text) (rows : List Row) → Accepted words name rows → ((asked : Asked) → ¬ IsAsked name rows asked)
+pub asks_none : (words : List Text) (name : Text) (rows : List Row) → Accepted words name rows
+    → ((asked : Asked) → ¬ IsAsked name rows asked)
     → (asked : Asked) → ¬ Asks words asked
 asks_none words name rows clap none asked asks =
     let one : (name, rows) ≡ (command_name asked, asks.rows) =
@@ -114,7 +119,8 @@ asks_none words name rows clap none asked asks =
     })
 
 pair_of : {B : Type 0} (f : B → Text × List Row) (o : Option B) (name : Text) (rows : List Row)
-    → Some name ≡ option_map (λ b. (f b).0) o → Some rows ≡ option_map (λ p. p.1) (option_map f o) → option_map f o ≡ Some (name, rows)
+    → Some name ≡ option_map (λ b. (f b).0) o → Some rows ≡ option_map (λ p. p.1) (option_map f o)
+    → option_map f o ≡ Some (name, rows)
 pair_of f None name rows named has = cc
 pair_of f (Some b) name rows named has =
     let at_name : name ≡ (f b).0 = cc in
@@ -125,7 +131,8 @@ pair_of f (Some b) name rows named has =
 -- what clap's matches say of the words
 pub accepted_by : (app : App) (words : List Text) (m : ArgMatches) (name : Text) (rows : List Row) → app ≡ squitter
     → (is_simple_and_free app ≡ true → fault_of app words ≡ []) → HasMatchesOf app words m
-    → Some name ≡ subcommand_name_of m → Some rows ≡ option_map (λ p. p.1) (subcommand_rows_of m) → Accepted words name rows
+    → Some name ≡ subcommand_name_of m → Some rows ≡ option_map (λ p. p.1) (subcommand_rows_of m)
+    → Accepted words name rows
 accepted_by app words m name rows is kinds matches named has = record {
   accepted = subst (λ (a : App). fault_of a words ≡ []) is (kinds (ap is_simple_and_free is ∙ squitter-is_free));
   entered = ap (λ (a : App). subcommand_of a words) (sym is) ∙ sym (matches (ap is_simple is ∙ squitter-is_simple)).1
@@ -134,7 +141,8 @@ accepted_by app words m name rows is kinds matches named has = record {
 
 -- an error that is not memory's comes only where clap finds a fault
 pub refused_by : (app : App) (words : List Text) (e : Error) → app ≡ squitter
-    → (is_simple_and_free app ≡ true → HasKind (fault_of app words) e) → kind_of e ≢ kind.OutOfMemory → fault_of squitter words ≢ []
+    → (is_simple_and_free app ≡ true → HasKind (fault_of app words) e) → kind_of e ≢ kind.OutOfMemory
+    → fault_of squitter words ≢ []
 refused_by app words e is fails other_kind none =
     let has : HasKind (fault_of app words) e = fails (ap is_simple_and_free is ∙ squitter-is_free) in
     other_kind (fails_by_memory _ e (ap (λ (a : App). fault_of a words) is ∙ none) has)
@@ -146,5 +154,6 @@ pub value_is : (f : Found) (id : Text) (o : Option Text) → o ≡ first_value f
 value_is f id o is = sym (first_value-rows f id) ∙ sym is
 
 -- a value is not there and there
-pub no_value : {X : Type 0} (f : Found) (id value : Text) → None ≡ first_value f id → first_of id (rows_of f) ≡ Some value → X
+pub no_value : {X : Type 0} (f : Found) (id value : Text) → None ≡ first_value f id
+    → first_of id (rows_of f) ≡ Some value → X
 no_value f id value none some = let there : first_value f id ≡ Some value = first_value-rows f id ∙ some in cc

@@ -48,7 +48,8 @@ check = new_app (codes "check")
 
 -- track [--limit N] [--window MS] [--lat LAT] [--lon LON]
 abbrev pub track : App
-track = with_rule (with_rule (with_rule (with_rule (new_app (codes "track")) (option (codes "limit"))) (option (codes "window")))
+track = with_rule (with_rule (with_rule (with_rule (new_app (codes "track")) (option (codes "limit")))
+    (option (codes "window")))
     (option (codes "lat"))) (option (codes "lon"))
 
 -- the program with no command yet, one being required; it has a version, for which `--version` asks

@@ -7,7 +7,8 @@ use Rattle.sq_words.specs.CommandLine.{squitter}
 -- clap has this value for each argument and option of the command
 abbrev pub HasValues : List Row → Asked → Type 0
 HasValues rows (Show frame) = first_of (codes "FRAME") rows ≡ Some frame
-HasValues rows (Encode e) = (first_of (codes "kind") rows ≡ Some e.kind) × (first_of (codes "parity") rows ≡ Some e.parity)
+HasValues rows (Encode e) = (first_of (codes "kind") rows ≡ Some e.kind)
+    × (first_of (codes "parity") rows ≡ Some e.parity)
     × (first_of (codes "address") rows ≡ Some e.address) × (first_of (codes "feet") rows ≡ e.feet)
     × (first_of (codes "lat") rows ≡ Some e.lat) × (first_of (codes "lon") rows ≡ Some e.lon)
 HasValues rows (Local frame lat lon) = (first_of (codes "FRAME") rows ≡ Some frame)

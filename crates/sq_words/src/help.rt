@@ -1,4 +1,5 @@
-//! What the help of each command and option says. clap puts the usage and the list of options between the texts of a command.
+//! What the help of each command and option says. clap puts the usage and the list of options between the texts of a
+//! command.
 
 /// The texts of a command: its sentence, its usage, and what follows the list of its options.
 #[derive(Clone, Copy)]

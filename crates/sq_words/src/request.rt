@@ -67,7 +67,8 @@ fn refusal_of(alloc: Global, error: &Error) -> Refusal
 }
 
 fn request_of<'a>(name: &'a str, values: &ArgMatches<'a>) -> Option<Request<'a>>
-    ensures some { IfSome result (λ request. IsAsked name.entry.now (rows_of (found_of values.now)) (asked_by request)) }
+    ensures some { IfSome result (λ request. IsAsked name.entry.now (rows_of (found_of values.now))
+        (asked_by request)) }
     ensures none { IfNone result ((asked : Asked) → ¬ IsAsked name.entry.now (rows_of (found_of values.now)) asked) }
 {
     match name {
@@ -82,7 +83,8 @@ fn request_of<'a>(name: &'a str, values: &ArgMatches<'a>) -> Option<Request<'a>>
 }
 
 fn show_request<'a>(values: &ArgMatches<'a>) -> Option<Request<'a>>
-    ensures some { IfSome result (λ request. IsAsked (codes "show") (rows_of (found_of values.now)) (asked_by request)) }
+    ensures some { IfSome result (λ request. IsAsked (codes "show") (rows_of (found_of values.now))
+        (asked_by request)) }
     ensures none { IfNone result ((asked : Asked) → ¬ IsAsked (codes "show") (rows_of (found_of values.now)) asked) }
 {
     let frame = values.get_str("FRAME")?;
@@ -90,7 +92,8 @@ fn show_request<'a>(values: &ArgMatches<'a>) -> Option<Request<'a>>
 }
 
 fn encode_request<'a>(values: &ArgMatches<'a>) -> Option<Request<'a>>
-    ensures some { IfSome result (λ request. IsAsked (codes "encode") (rows_of (found_of values.now)) (asked_by request)) }
+    ensures some { IfSome result (λ request. IsAsked (codes "encode") (rows_of (found_of values.now))
+        (asked_by request)) }
     ensures none { IfNone result ((asked : Asked) → ¬ IsAsked (codes "encode") (rows_of (found_of values.now)) asked) }
 {
     Some(Request::Encode(EncodeWords {
@@ -104,7 +107,8 @@ fn encode_request<'a>(values: &ArgMatches<'a>) -> Option<Request<'a>>
 }
 
 fn local_request<'a>(values: &ArgMatches<'a>) -> Option<Request<'a>>
-    ensures some { IfSome result (λ request. IsAsked (codes "local") (rows_of (found_of values.now)) (asked_by request)) }
+    ensures some { IfSome result (λ request. IsAsked (codes "local") (rows_of (found_of values.now))
+        (asked_by request)) }
     ensures none { IfNone result ((asked : Asked) → ¬ IsAsked (codes "local") (rows_of (found_of values.now)) asked) }
 {
     Some(Request::Local {
@@ -115,7 +119,8 @@ fn local_request<'a>(values: &ArgMatches<'a>) -> Option<Request<'a>>
 }
 
 fn pair_request<'a>(values: &ArgMatches<'a>) -> Option<Request<'a>>
-    ensures some { IfSome result (λ request. IsAsked (codes "pair") (rows_of (found_of values.now)) (asked_by request)) }
+    ensures some { IfSome result (λ request. IsAsked (codes "pair") (rows_of (found_of values.now))
+        (asked_by request)) }
     ensures none { IfNone result ((asked : Asked) → ¬ IsAsked (codes "pair") (rows_of (found_of values.now)) asked) }
 {
     Some(Request::Pair {

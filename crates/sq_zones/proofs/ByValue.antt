@@ -16,16 +16,19 @@ passes_less m xd n yd limit p h k =
 
 -- a greater latitude is at most no more of the limits
 count_less : (m xd n yd : ℕ) (limits : List ℕ) → 0 < yd → m * yd ≤ n * xd →
-    count_by (λ limit. nat_le (n * 10 ^ 8) (limit * yd)) limits ≤ count_by (λ limit. nat_le (m * 10 ^ 8) (limit * xd)) limits
+    count_by (λ limit. nat_le (n * 10 ^ 8) (limit * yd)) limits ≤ count_by
+    (λ limit. nat_le (m * 10 ^ 8) (limit * xd)) limits
 count_less m xd n yd [] p h = omega arith
 count_less m xd n yd (limit ∷ limits) p h =
     let rest = count_less m xd n yd limits p h in
     let a = sum_by-cons (λ l. cond (nat_le (n * 10 ^ 8) (l * yd)) 1 0) limit limits in
     let b = sum_by-cons (λ l. cond (nat_le (m * 10 ^ 8) (l * xd)) 1 0) limit limits in
     by (nat_le (n * 10 ^ 8) (limit * yd)) (nat_le (m * 10 ^ 8) (limit * xd))
-    (λ e. le-leb (m * 10 ^ 8) (limit * xd) (passes_less m xd n yd limit p h (leb-true (n * 10 ^ 8) (limit * yd) e))) rest a b
+    (λ e. le-leb (m * 10 ^ 8) (limit * xd)
+    (passes_less m xd n yd limit p h (leb-true (n * 10 ^ 8) (limit * yd) e))) rest a b
   where
-    by : (s t : Bool) → (s ≡ true → t ≡ true) → {j k j' k' : ℕ} → j ≤ k → j' ≡ cond s 1 0 + j → k' ≡ cond t 1 0 + k → j' ≤ k'
+    by : (s t : Bool) → (s ≡ true → t ≡ true) → {j k j' k' : ℕ} → j ≤ k → j' ≡ cond s 1 0 + j → k' ≡ cond t 1 0 + k
+        → j' ≤ k'
     by true true f l e g = omega arith
     by true false f l e g = absurd (cc (f refl))
     by false true f l e g = omega arith

@@ -27,22 +27,33 @@ others_fit false b h = absurd (cc h)
 pub round_trip : (zs : List ℤ) → IsTrue (all_fit zs) → map (to_z w64) (map (of_z w64) zs) ≡ zs
 round_trip [] h = refl
 round_trip (z ∷ zs) h =
-    let g : SFits w64 z = record { sfits = small_mag z (2 ^ 63) (ltb-true (unsigned_abs z) (2 ^ 63) (first_fits (nat_lt (unsigned_abs z) (2 ^ 63)) (all_fit zs) h)) } in
-    ap₂ (λ (y : ℤ) (ys : List ℤ). y ∷ ys) (to_z-of_z g) (round_trip zs (others_fit (nat_lt (unsigned_abs z) (2 ^ 63)) (all_fit zs) h))
+    let g : SFits w64 z = record {
+      sfits = small_mag z (2 ^ 63)
+          (ltb-true (unsigned_abs z) (2 ^ 63) (first_fits (nat_lt (unsigned_abs z) (2 ^ 63)) (all_fit zs) h));
+    } in
+    ap₂ (λ (y : ℤ) (ys : List ℤ). y ∷ ys) (to_z-of_z g)
+    (round_trip zs (others_fit (nat_lt (unsigned_abs z) (2 ^ 63)) (all_fit zs) h))
 
 -- lanes of bits are counted as the numbers that they stand for
 pub count_read : (s : ℤ) (limits : List ℤ) → SFits w64 s → IsTrue (all_fit limits)
-    → count_by (λ y. le_z (to_z w64 (of_z w64 s)) (to_z w64 y)) (map (of_z w64) limits) ≡ count_by (λ limit. le_z s limit) limits
+    → count_by (λ y. le_z (to_z w64 (of_z w64 s)) (to_z w64 y)) (map (of_z w64) limits)
+    ≡ count_by (λ limit. le_z s limit) limits
 count_read s [] f h = refl
 count_read s (z ∷ zs) f h =
-    let g : SFits w64 z = record { sfits = small_mag z (2 ^ 63) (ltb-true (unsigned_abs z) (2 ^ 63) (first_fits (nat_lt (unsigned_abs z) (2 ^ 63)) (all_fit zs) h)) } in
+    let g : SFits w64 z = record {
+      sfits = small_mag z (2 ^ 63)
+          (ltb-true (unsigned_abs z) (2 ^ 63) (first_fits (nat_lt (unsigned_abs z) (2 ^ 63)) (all_fit zs) h));
+    } in
     sum_by-cons (λ y. cond (le_z (to_z w64 (of_z w64 s)) (to_z w64 y)) 1 0) (of_z w64 z) (map (of_z w64) zs)
-    ∙ ap₂ (λ (b : Bool) (n : ℕ). cond b 1 0 + n) (ap₂ le_z (to_z-of_z f) (to_z-of_z g)) (count_read s zs f (others_fit (nat_lt (unsigned_abs z) (2 ^ 63)) (all_fit zs) h))
+    ∙ ap₂ (λ (b : Bool) (n : ℕ). cond b 1 0 + n) (ap₂ le_z (to_z-of_z f) (to_z-of_z g))
+    (count_read s zs f (others_fit (nat_lt (unsigned_abs z) (2 ^ 63)) (all_fit zs) h))
     ∙ sym (sum_by-cons (λ limit. cond (le_z s limit) 1 0) z zs)
 
 -- what the mask of a splat's comparison with the lanes counts
 pub count_lanes : (s : ℤ) (limits : List ℤ) → SFits w64 s → IsTrue (all_fit limits) → length limits ≡ 8
-    → count_ones (mask_l (map (top 63) (zip2 (λ a b. cond (le_z (to_z w64 a) (to_z w64 b)) (2 ^ 64 - 1) 0) (replicate 8 (of_z w64 s)) (map (of_z w64) limits))) % 2 ^ 64) ≡ count_by (λ limit. le_z s limit) limits
+    → count_ones (mask_l (map (top 63)
+    (zip2 (λ a b. cond (le_z (to_z w64 a) (to_z w64 b)) (2 ^ 64 - 1) 0) (replicate 8 (of_z w64 s))
+    (map (of_z w64) limits))) % 2 ^ 64) ≡ count_by (λ limit. le_z s limit) limits
 count_lanes s limits f h len =
     let t : ℕ → ℕ → Bool = λ a b. le_z (to_z w64 a) (to_z w64 b) in
     let ys = map (of_z w64) limits in
@@ -50,7 +61,8 @@ count_lanes s limits f h len =
     let masked = tops_compared w64 t (replicate 8 (of_z w64 s)) ys ∙ zip2_splat_left t (of_z w64 s) 8 ys long in
     let p : ℕ → Bool = λ y. t (of_z w64 s) y in
     let short : length (map p ys) ≤ 64 = omega (arith, length-map ys p) in
-    ap (λ ms. count_ones (mask_l ms % 2 ^ 64)) masked ∙ ap count_ones (mask_l-mod (map p ys) 64 short) ∙ ones-mask_l p ys ∙ count_read s limits f h
+    ap (λ ms. count_ones (mask_l ms % 2 ^ 64)) masked ∙ ap count_ones (mask_l-mod (map p ys) 64 short)
+    ∙ ones-mask_l p ys ∙ count_read s limits f h
 
 -- a quotient rounded up is at most a whole number exactly where the quotient is
 ceil_le : (n d limit : ℕ) → 1 ≤ d → leb (div_ceil n d) limit ≡ leb n (limit * d)
@@ -59,10 +71,13 @@ ceil_le n d limit p =
     let bounds = div_ceil_times n d p in
     both_ways (leb r limit) (leb n (limit * d))
     (λ e. let up : r * d ≤ limit * d = mul-le-mul_right d (leb-true r limit e) in le-leb n (limit * d) (omega arith))
-    (λ e. let below : r * d < (limit + 1) * d = omega (arith, leb-true n (limit * d) e) in le-leb r limit (omega (arith, lt_of_mul-lt-mul_right d below)))
+    (λ e. let below : r * d < (limit + 1) * d = omega (arith, leb-true n (limit * d) e) in le-leb r limit
+    (omega (arith, lt_of_mul-lt-mul_right d below)))
 
 -- a quotient rounded up is counted over limits as the quotient is
-pub count_plain : (n d : ℕ) (limits : List ℕ) → 1 ≤ d → count_by (λ limit. le_z (pos (div_ceil n d)) limit) (map pos limits) ≡ count_by (λ limit. nat_le n (limit * d)) limits
+pub count_plain : (n d : ℕ) (limits : List ℕ) → 1 ≤ d
+    → count_by (λ limit. le_z (pos (div_ceil n d)) limit) (map pos limits)
+    ≡ count_by (λ limit. nat_le n (limit * d)) limits
 count_plain n d [] p = refl
 count_plain n d (limit ∷ limits) p =
     sum_by-cons (λ z. cond (le_z (pos (div_ceil n d)) z) 1 0) (pos limit) (map pos limits)
@@ -76,7 +91,8 @@ padded (suc n) limits = negsuc 0 ∷ padded n limits
 
 -- over the padded limits a quotient rounded up is counted as the quotient is over the limits
 pub count_padded : (pads n d : ℕ) (limits : List ℕ) → 1 ≤ d
-    → count_by (λ limit. le_z (pos (div_ceil n d)) limit) (padded pads limits) ≡ count_by (λ limit. nat_le n (limit * d)) limits
+    → count_by (λ limit. le_z (pos (div_ceil n d)) limit) (padded pads limits)
+    ≡ count_by (λ limit. nat_le n (limit * d)) limits
 count_padded zero n d limits p = count_plain n d limits p
 count_padded (suc pads) n d limits p =
     let step = sum_by-cons (λ z. cond (le_z (pos (div_ceil n d)) z) 1 0) (negsuc 0) (padded pads limits) in

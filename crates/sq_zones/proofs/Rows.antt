@@ -22,7 +22,8 @@ last_of limits = get_or limits 7 (pos 0)
 -- rows of eight, each from the last of the row before to its own
 abbrev stacked : ℤ → List (List ℤ) → Bool
 stacked low [] = true
-stacked low (row ∷ rows) = ((le_z low (last_of row) && within low (last_of row) row) && eqb (length row) 8) && stacked (last_of row) rows
+stacked low (row ∷ rows) = ((le_z low (last_of row) && within low (last_of row) row) && eqb (length row) 8)
+    && stacked (last_of row) rows
 
 -- the limits of all rows, one row after the other
 abbrev joined : List (List ℤ) → List ℤ
@@ -44,7 +45,8 @@ both false b e = absurd (true≢false (sym e))
 
 -- what holds of the first of such rows, and of the others
 parts_of : (low : ℤ) (row : List ℤ) (rows : List (List ℤ)) → stacked low (row ∷ rows) ≡ true
-    → (le_z low (last_of row) ≡ true) × (within low (last_of row) row ≡ true) × (length row ≡ 8) × (stacked (last_of row) rows ≡ true)
+    → (le_z low (last_of row) ≡ true) × (within low (last_of row) row ≡ true) × (length row ≡ 8)
+    × (stacked (last_of row) rows ≡ true)
 parts_of low row rows w =
     let parts = both _ _ w in
     let first = both _ _ parts.0 in
@@ -76,7 +78,8 @@ module _ (s : ℤ) where
   counted-append (x ∷ xs) ys = omega (arith, counted-cons x (xs ++ ys), counted-append xs ys, counted-cons x xs)
 
   -- where the least counts all do
-  all_counted : (low high : ℤ) (zs : List ℤ) → within low high zs ≡ true → le_z s low ≡ true → counted_from zs ≡ length zs
+  all_counted : (low high : ℤ) (zs : List ℤ) → within low high zs ≡ true → le_z s low ≡ true
+      → counted_from zs ≡ length zs
   all_counted low high [] w h = refl
   all_counted low high (z ∷ zs) w h =
       let parts = both (le_z low z && le_z z high) (within low high zs) w in
@@ -103,39 +106,64 @@ module _ (s : ℤ) where
       let (least, inside, long, others) = parts_of low row rows w in
       let next = only_true (le_z s (last_of row)) (λ e. omega (arith, ints, least, h, e)) in
       let rest = rows_counted (last_of row) rows others next in
-      let ends = counted-cons (last_of row) (map last_of rows) ∙ ap (λ b. cond b 1 0 + counted_from (map last_of rows)) next in
-      (omega (arith, counted-append row (joined rows), all_counted low (last_of row) row inside h, long, rest.0), omega (arith, ends, rest.1))
+      let ends = counted-cons (last_of row) (map last_of rows)
+      ∙ ap (λ b. cond b 1 0 + counted_from (map last_of rows)) next in (
+        omega (arith, counted-append row (joined rows), all_counted low (last_of row) row inside h, long, rest.0),
+        omega (arith, ends, rest.1),
+      )
 
   -- the limits that count are all of the rows after the first whose end counts, and those of that row
   abbrev IsSplit : List (List ℤ) → Type 0
   IsSplit rows = (counted_from (map last_of rows) ≤ length rows)
       × (counted_from (map last_of rows) ≡ 0 → counted_from (joined rows) ≡ 0)
-      × (0 < counted_from (map last_of rows) → counted_from (joined rows) + 8 ≡ 8 * counted_from (map last_of rows) + counted_from (get_or rows (length rows - counted_from (map last_of rows)) []))
+      × (0 < counted_from (map last_of rows)
+      → counted_from (joined rows) + 8
+      ≡ 8 * counted_from (map last_of rows) + counted_from
+      (get_or rows (length rows - counted_from (map last_of rows)) []))
 
   -- rows in ascending order are split so by their ends
   split_by_ends : (low : ℤ) (rows : List (List ℤ)) → stacked low rows ≡ true → IsSplit rows
   split_by_ends low [] w = (omega arith, λ _. refl, λ some. absurd (omega (arith, some)))
-  split_by_ends low (row ∷ rows) w = by (le_z s (last_of row)) refl (split_by_ends (last_of row) rows (parts_of low row rows w).3)
+  split_by_ends low (row ∷ rows) w =
+      by (le_z s (last_of row)) refl (split_by_ends (last_of row) rows (parts_of low row rows w).3)
     where
       by : (b : Bool) → le_z s (last_of row) ≡ b → IsSplit rows → IsSplit (row ∷ rows)
       by true counts split =
           let (least, inside, long, others) = parts_of low row rows w in
           let rest = rows_counted (last_of row) rows others counts in
-          let first = counted-cons (last_of row) (map last_of rows) ∙ ap (λ b. cond b 1 0 + counted_from (map last_of rows)) counts in
+          let first = counted-cons (last_of row) (map last_of rows)
+          ∙ ap (λ b. cond b 1 0 + counted_from (map last_of rows)) counts in
           let ends : counted_from (map last_of (row ∷ rows)) ≡ 1 + length rows = omega (arith, first, rest.1) in
           let place : length (row ∷ rows) - counted_from (map last_of (row ∷ rows)) ≡ 0 = omega (arith, ends) in
-          let here : counted_from (get_or (row ∷ rows) (length (row ∷ rows) - counted_from (map last_of (row ∷ rows))) []) ≡ counted_from row = ap (λ i. counted_from (get_or (row ∷ rows) i [])) place in
-          (omega (arith, ends), λ none. absurd (omega (arith, ends, none)), λ some. omega (arith, counted-append row (joined rows), rest.0, ends, here))
+          let here : counted_from (get_or (row ∷ rows)
+          (length (row ∷ rows) - counted_from (map last_of (row ∷ rows))) [])
+          ≡ counted_from row = ap (λ i. counted_from (get_or (row ∷ rows) i [])) place in (
+            omega (arith, ends),
+            λ none. absurd (omega (arith, ends, none)),
+            λ some. omega (arith, counted-append row (joined rows), rest.0, ends, here),
+          )
       by false passed rest =
           let (least, inside, long, others) = parts_of low row rows w in
           let none = none_counted low (last_of row) row inside passed in
-          let first = counted-cons (last_of row) (map last_of rows) ∙ ap (λ b. cond b 1 0 + counted_from (map last_of rows)) passed in
+          let first = counted-cons (last_of row) (map last_of rows)
+          ∙ ap (λ b. cond b 1 0 + counted_from (map last_of rows)) passed in
           let ends : counted_from (map last_of (row ∷ rows)) ≡ counted_from (map last_of rows) = omega (arith, first) in
-          let place : length (row ∷ rows) - counted_from (map last_of (row ∷ rows)) ≡ suc (length rows - counted_from (map last_of rows)) = omega (arith, ends, rest.0) in
-          let here : counted_from (get_or (row ∷ rows) (length (row ∷ rows) - counted_from (map last_of (row ∷ rows))) []) ≡ counted_from (get_or rows (length rows - counted_from (map last_of rows)) []) = ap (λ i. counted_from (get_or (row ∷ rows) i [])) place in (
+          let place : length (row ∷ rows) - counted_from (map last_of (row ∷ rows))
+          ≡ suc (length rows - counted_from (map last_of rows)) = omega (arith, ends, rest.0) in
+          let here : counted_from (get_or (row ∷ rows)
+          (length (row ∷ rows) - counted_from (map last_of (row ∷ rows))) [])
+          ≡ counted_from (get_or rows (length rows - counted_from (map last_of rows)) []) =
+          ap (λ i. counted_from (get_or (row ∷ rows) i [])) place in (
             omega (arith, ends, rest.0),
             λ zero_ends. omega (arith, counted-append row (joined rows), none, rest.1 (sym ends ∙ zero_ends)),
-            λ some. omega (arith, counted-append row (joined rows), none, rest.2 (omega (arith, ends, some)), ends, here),
+            λ some. omega (
+              arith,
+              counted-append row (joined rows),
+              none,
+              rest.2 (omega (arith, ends, some)),
+              ends,
+              here,
+            ),
           )
 
 -- the rows are the table's
@@ -167,7 +195,9 @@ row_fits r small =
 -- the table by its rows
 pub counted_by_rows : (s : ℤ) → (
     (counted_from s ROW_ENDS ≡ 0 → counted_from s ZONE_LIMITS ≡ 0)
-    × (0 < counted_from s ROW_ENDS → counted_from s ZONE_LIMITS + 8 ≡ 8 * counted_from s ROW_ENDS + counted_from s (row_of (8 - counted_from s ROW_ENDS)))
+    × (0 < counted_from s ROW_ENDS
+    → counted_from s ZONE_LIMITS + 8
+    ≡ 8 * counted_from s ROW_ENDS + counted_from s (row_of (8 - counted_from s ROW_ENDS)))
     )
 counted_by_rows s =
     let split = split_by_ends s (negsuc 0) the_rows stacked_are in
@@ -177,10 +207,12 @@ counted_by_rows s =
       λ some.
           let more = split.2 (omega (arith, ends, some)) in
           let place : 8 - counted_from s ROW_ENDS < 8 = omega (arith, some) in
-          let row = ap (λ (n : ℕ). counted_from s (get_or the_rows (8 - n) [])) ends ∙ ap (counted_from s) (row_is (8 - counted_from s ROW_ENDS) place) in
+          let row = ap (λ (n : ℕ). counted_from s (get_or the_rows (8 - n) [])) ends
+          ∙ ap (counted_from s) (row_is (8 - counted_from s ROW_ENDS) place) in
           omega (arith, more, ends, limits, row),
     )
 
 -- 8 for each row but one, and those of that row
-pub rows_total : (rows ends own total : ℕ) → rows ≡ ends → 0 < ends → total + 8 ≡ 8 * ends + own → 8 * (rows - 1) + own ≡ total
+pub rows_total : (rows ends own total : ℕ) → rows ≡ ends → 0 < ends → total + 8 ≡ 8 * ends + own
+    → 8 * (rows - 1) + own ≡ total
 rows_total rows ends own total same some split = omega (arith, same, some, split)

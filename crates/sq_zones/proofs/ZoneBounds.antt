@@ -14,7 +14,10 @@ zones_at-least lat = omega arith
 -- and at most 59
 pub zones_at-most : (lat : Fraction) → zones_at lat ≤ 59
 unfolding zones_at zone_limits
-zones_at-most lat = omega (arith, count_by-le-length (λ limit. nat_le (unsigned_abs lat.num * 10 ^ 8) (limit * lat.den)) zone_limits)
+zones_at-most lat = omega (
+  arith,
+  count_by-le-length (λ limit. nat_le (unsigned_abs lat.num * 10 ^ 8) (limit * lat.den)) zone_limits,
+)
 
 -- of each parity there is at least one
 pub lon_zones_at-least : (parity : Parity) (lat : Fraction) → 1 ≤ lon_zones_at parity lat

@@ -109,7 +109,8 @@ pub fn zone_count(lat: &Angle) -> u8
     1 + limits_from(scaled as i64) as u8
 }
 
-/// The number of longitude zones at a latitude on the grid of a parity: [`zone_count`], for odd one less and at least 1.
+/// The number of longitude zones at a latitude on the grid of a parity: [`zone_count`], for odd one less and at least
+/// 1.
 ///
 /// The latitude is from -90 to 90 degrees.
 pub fn lon_zones(lat: &Angle, parity: Parity) -> u8
@@ -133,7 +134,8 @@ fn scaled_up(magnitude: u64, den: u64) -> u64
     quotient(scaled + u128::from(den - 1), den) as u64
 }
 
-// How many limits are at least the scaled latitude: all of each row after the first whose end is, and those of that row.
+// How many limits are at least the scaled latitude: all of each row after the first whose end is, and those of that
+// row.
 fn limits_from(scaled: i64) -> u32
     ensures value { result ≡ count_by (λ limit. int_le scaled limit) ZONE_LIMITS }
     ensures at_most { result ≤ 64 }

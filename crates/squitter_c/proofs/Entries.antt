@@ -39,7 +39,8 @@ one_position a b lat lon =
     λ i. record {
       lat = lat i;
       lon = lon i;
-      in_range = is_prop→PathP (λ j. IsPosition (degrees (lat j)) (degrees (lon j))) (λ j. hlevel props) a.in_range b.in_range i;
+      in_range = is_prop→PathP (λ j. IsPosition (degrees (lat j)) (degrees (lon j)))
+          (λ j. hlevel props) a.in_range b.in_range i;
     }
 
 -- fractions are those of one position

@@ -125,7 +125,8 @@ of_angles fault = Angle fault
 abbrev pub as_it_is : Refusal → Refusal
 as_it_is refusal = refusal
 
--- What is answered for an answer: what is written stands for it, and the code is 0; else the fault, and `out` is as it was.
+-- What is answered for an answer: what is written stands for it, and the code is 0; else the fault, and `out` is as it
+-- was.
 abbrev pub Tells : {A B E : Type 0} → (A → B → Type 0) → (E → Refusal) → Result A E → (old new : B) → Fault → Type 0
 Tells Stands named (Ok answer) old new fault = Stands answer new × (fault ≡ none)
 Tells Stands named (Err reason) old new fault = (new ≡ old) × (fault ≡ fault_of (named reason))

@@ -64,7 +64,8 @@ IsFrameFrom q place frame =
 unfoldable pub IsAgainAnswer : Frame → (odd : ℕ) → PlainPosition → Result Frame Refusal → Type 0
 IsAgainAnswer frame odd plain (Ok again) = (parity : Parity) × IsParity odd parity
     × ((position : Position) × IsOfDegrees plain position
-    × ((q : Squitter) × Spells frame q × ((place : Place) × IsRoundedTo parity position place × IsFrameFrom q place again)))
+    × ((q : Squitter) × Spells frame q × ((place : Place) × IsRoundedTo parity position place
+    × IsFrameFrom q place again)))
 IsAgainAnswer frame odd plain (Err refusals.NoParity) = ¬ (IsFlag odd)
 IsAgainAnswer frame odd plain (Err refusals.NoPosition) = IsFlag odd × ¬ (PlainIsPosition plain)
 IsAgainAnswer frame odd plain (Err (refusals.Line fault)) =

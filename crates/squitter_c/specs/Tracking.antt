@@ -124,14 +124,16 @@ AreOne answer written = written ≡ answer
 
 -- what is answered for a frame: it is heard, or refused, and the entry and `out` are as they were
 abbrev pub IsHeardFrame :
-    (window : ℕ) → Option Position → (moment : ℕ) → Frame → (old new : PlainEntry) → (was is : PlainHeard) → Fault → Type 0
+    (window : ℕ) → Option Position → (moment : ℕ) → Frame → (old new : PlainEntry) → (was is : PlainHeard) → Fault
+    → Type 0
 IsHeardFrame window site moment frame old new was is fault =
     (IsAccepted window site moment frame old new is × (fault ≡ none))
     ⊎ ((reason : Refusal) × IsRefused moment frame old reason × (new ≡ old) × (is ≡ was) × (fault ≡ fault_of reason))
 
 -- the same with a site, which is looked at first
 abbrev pub IsHeardFrameAt :
-    (window : ℕ) → PlainPosition → (moment : ℕ) → Frame → (old new : PlainEntry) → (was is : PlainHeard) → Fault → Type 0
+    (window : ℕ) → PlainPosition → (moment : ℕ) → Frame → (old new : PlainEntry) → (was is : PlainHeard) → Fault
+    → Type 0
 IsHeardFrameAt window plain moment frame old new was is fault =
     ((¬ (PlainIsPosition plain)) × (new ≡ old) × (is ≡ was) × (fault ≡ fault_of refusals.NoPosition))
     ⊎ ((site : Position) × IsOfDegrees plain site × IsHeardFrame window (Some site) moment frame old new was is fault)

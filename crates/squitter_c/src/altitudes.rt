@@ -15,8 +15,8 @@ pub struct PlainAltitude {
     pub form: u8,
 }
 
-/// What the altitude field of an airborne position means, by its type code, in feet (ICAO Doc 9871, register 0,5). The fault is
-/// that no airborne position has this type code or this field, of 12 bits.
+/// What the altitude field of an airborne position means, by its type code, in feet (ICAO Doc 9871, register 0,5). The
+/// fault is that no airborne position has this type code or this field, of 12 bits.
 #[unsafe(no_mangle)]
 pub extern "C" fn squitter_feet_of_field(
     type_code: u8,
@@ -50,7 +50,8 @@ fn meaning(type_code: u8, field: u16) -> Result<PlainAltitude, Refusal>
     Ok(PlainAltitude { feet, form })
 }
 
-/// The altitude field, with Q = 1, that means so many feet; the fault comes for all but multiples of 25 from -1000 to 50175.
+/// The altitude field, with Q = 1, that means so many feet; the fault comes for all but multiples of 25 from -1000 to
+/// 50175.
 #[unsafe(no_mangle)]
 pub extern "C" fn squitter_field_of_feet(feet: i32, out: &mut u16) -> Fault
     ensures { IsFieldWritten feet out.old out.new result }

@@ -8,8 +8,8 @@ use crate::plain::{PlainAngle, angle_of, plain_angle};
 use sq_angle::{Angle, AngleFault};
 use sq_zones::zone_count;
 
-/// The number of longitude zones at a latitude (NL), from 1 to 59; the fault comes where it is no angle of -90 to 90 degrees.
-/// RTCA DO-260B, section 2.2.3.2.
+/// The number of longitude zones at a latitude (NL), from 1 to 59; the fault comes where it is no angle of -90 to 90
+/// degrees. RTCA DO-260B, section 2.2.3.2.
 #[unsafe(no_mangle)]
 pub extern "C" fn squitter_zone_count(lat: &PlainAngle, out: &mut u8) -> Fault
     ensures { IsZoneCount lat.now out.old out.new result }

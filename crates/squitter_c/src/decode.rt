@@ -1,5 +1,5 @@
 //! Decoding: a frame near a reference, and a pair of frames.
-ghost use Rattle.std.specs.Prelude.{option_map};
+ghost use Rattle.std.specs.Prelude.{option_copied};
 ghost use Rattle.squitter_c.specs.Decoding.{IsLocal, IsLocalAnswer, IsPair, IsPairAnswer, IsPairAt, IsSiteAnswer};
 ghost use Rattle.squitter_c.specs.Decoding.{TellsPosition};
 ghost use Rattle.squitter_c.specs.Reading.{frame_of};
@@ -23,8 +23,8 @@ pub extern "C" fn squitter_local(
     give(near(&Frame(*frame), reference), out)
 }
 
-/// The place of the newer of two frames that were sent in the air, in degrees and in lowest terms. The first fault is the
-/// older frame's, then the newer's, then the pair's. RTCA DO-260B, appendix on compact position reporting, globally
+/// The place of the newer of two frames that were sent in the air, in degrees and in lowest terms. The first fault is
+/// the older frame's, then the newer's, then the pair's. RTCA DO-260B, appendix on compact position reporting, globally
 /// unambiguous decoding.
 #[unsafe(no_mangle)]
 pub extern "C" fn squitter_pair(
@@ -37,8 +37,8 @@ pub extern "C" fn squitter_pair(
     give(of_two(&Frame(*older), &Frame(*newer), None), out)
 }
 
-/// The place of the newer of two frames, in degrees and in lowest terms; on the ground the one within 45 degrees of the site
-/// in both coordinates. The first fault is the site's, then as in [`squitter_pair`].
+/// The place of the newer of two frames, in degrees and in lowest terms; on the ground the one within 45 degrees of the
+/// site in both coordinates. The first fault is the site's, then as in [`squitter_pair`].
 #[unsafe(no_mangle)]
 pub extern "C" fn squitter_pair_at(
     older: &[u8; 14],
@@ -95,7 +95,7 @@ fn of_two_at(older: &Frame, newer: &Frame, site: &PlainPosition) -> Result<Posit
 // The place of the newer of two frames.
 #[tactic(auto, unfolding(crate::specs::Decoding::IsPairAnswer))]
 fn of_two(older: &Frame, newer: &Frame, site: Option<&Position>) -> Result<Position, Refusal>
-    ensures { IsPairAnswer older.now newer.now (option_map (λ s. s.now) site.entry) result }
+    ensures { IsPairAnswer older.now newer.now (option_copied site.entry) result }
 {
     let older = match read_frame(older) {
         Ok(squitter) => squitter,

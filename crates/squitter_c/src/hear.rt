@@ -1,5 +1,5 @@
 //! Hearing: one frame more of an address.
-ghost use Rattle.std.specs.Prelude.{◌≡◌, ◌≤◌, MatchResult, None, option_map};
+ghost use Rattle.std.specs.Prelude.{◌≡◌, ◌≤◌, MatchResult, None, option_copied};
 ghost use Rattle.sq_track.specs.declared.heard.Heard.{Heard};
 ghost use Rattle.sq_track.specs.Kept.{IsStep};
 ghost use Rattle.squitter_c.specs.Faults.{Tells, as_it_is};
@@ -70,7 +70,7 @@ fn hear(
     frame: &Frame,
     out: &mut PlainHeard,
 ) -> Fault
-    ensures { IsHeardFrame window (option_map (λ s. s.now) site.entry) moment frame.now entry.old entry.new
+    ensures { IsHeardFrame window (option_copied site.entry) moment frame.now entry.old entry.new
         out.old out.new result }
 {
     tell(hear_frame(entry, window, site, moment, frame), out)
@@ -98,7 +98,7 @@ fn hear_frame(
     frame: &Frame,
 ) -> Result<PlainHeard, Refusal>
     ensures { MatchResult result
-        (IsAccepted window (option_map (λ s. s.now) site.entry) moment frame.now entry.old entry.new)
+        (IsAccepted window (option_copied site.entry) moment frame.now entry.old entry.new)
         (λ reason. IsRefused moment frame.now entry.old reason × (entry.new ≡ entry.old)) }
 {
     let squitter = match read_frame(frame) {
@@ -121,7 +121,7 @@ fn hear_squitter(
 ) -> PlainHeard
     requires { entry.old.last ≤ moment }
     ensures { (heard : Heard)
-        × IsHearing window (option_map (λ s. s.now) site.entry) moment squitter.now entry.old entry.new heard
+        × IsHearing window (option_copied site.entry) moment squitter.now entry.old entry.new heard
         × IsPlainHeard heard result }
 {
     let mut contact = contact_of(entry);
@@ -140,7 +140,7 @@ fn step(
     squitter: &Squitter,
 ) -> PlainHeard
     ensures { (heard : Heard)
-        × IsStep window (option_map (λ s. s.now) site.entry) moment squitter.now contact.old heard contact.new
+        × IsStep window (option_copied site.entry) moment squitter.now contact.old heard contact.new
         × IsPlainHeard heard result }
 {
     let heard = contact.hear(window, site, moment, squitter);

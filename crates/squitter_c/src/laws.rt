@@ -5,8 +5,8 @@ ghost use Rattle.squitter_c.specs.Tracking.{AsTheTracker, BlankKeepsNothing};
 
 use sq_track::laws::{one_address_alone, one_answer};
 
-/// Two reasons have one code exactly if they differ in their numbers at most, and a code with its numbers is that of one
-/// reason.
+/// Two reasons have one code exactly if they differ in their numbers at most, and a code with its numbers is that of
+/// one reason.
 pub fn one_code()
     ensures codes { OneCode }
     ensures numbers { OneReason }
@@ -27,8 +27,8 @@ pub fn blank_keeps_nothing()
     ensures { BlankKeepsNothing }
 {}
 
-/// An entry that keeps what a tracker accepted of an address hears of its next frame what the tracker hears, and goes on
-/// keeping what the tracker accepted.
+/// An entry that keeps what a tracker accepted of an address hears of its next frame what the tracker hears, and goes
+/// on keeping what the tracker accepted.
 pub fn as_the_tracker()
     ensures { AsTheTracker }
 {

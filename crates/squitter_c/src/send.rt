@@ -16,8 +16,8 @@ use sq_message::{
     Me, Place, PlaceFault, Squitter, read_frame, send_air, send_ground, send_point, write_frame,
 };
 
-/// The frame that is sent of a position in the air (ICAO Doc 9871, register 0,5). The first fault is the head's, with its
-/// parity, then the position's.
+/// The frame that is sent of a position in the air (ICAO Doc 9871, register 0,5). The first fault is the head's, with
+/// its parity, then the position's.
 #[unsafe(no_mangle)]
 pub extern "C" fn squitter_encode_air(
     head: &PlainAirHead,
@@ -29,8 +29,8 @@ pub extern "C" fn squitter_encode_air(
     give(air_frame(head, position), out)
 }
 
-/// The frame that is sent of a position on the ground (ICAO Doc 9871, register 0,6). The first fault is the head's, with its
-/// parity, then the position's.
+/// The frame that is sent of a position on the ground (ICAO Doc 9871, register 0,6). The first fault is the head's,
+/// with its parity, then the position's.
 #[unsafe(no_mangle)]
 pub extern "C" fn squitter_encode_ground(
     head: &PlainGroundHead,
@@ -42,8 +42,8 @@ pub extern "C" fn squitter_encode_ground(
     give(ground_frame(head, position), out)
 }
 
-/// The frame with the parity and the code of a position, and all else as it was: the squitter, sent from there. The first
-/// fault is the parity's, then the position's, then the frame's, and then that it carries no position.
+/// The frame with the parity and the code of a position, and all else as it was: the squitter, sent from there. The
+/// first fault is the parity's, then the position's, then the frame's, and then that it carries no position.
 #[unsafe(no_mangle)]
 pub extern "C" fn squitter_send_again(
     frame: &[u8; 14],

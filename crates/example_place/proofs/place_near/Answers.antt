@@ -8,4 +8,5 @@ returns-clause-true_in_air c =
 
 pub returns-clause-true_on_ground : goal.returns-clause-true_on_ground
 returns-clause-true_on_ground c =
-    true_on_ground c.headline.ensures.near_reference_on_ground c.one_squitter_reading.ensures _ _ _ c.decoded_near.ensures
+    true_on_ground c.headline.ensures.near_reference_on_ground c.one_squitter_reading.ensures _ _ _
+    c.decoded_near.ensures

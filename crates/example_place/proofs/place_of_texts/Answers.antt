@@ -5,7 +5,13 @@ use Rattle.example_place.proofs.place_of_texts.Goals as goal
 pub returns-in_err-newer : goal.returns-in_err-newer
 returns-in_err-newer c =
     let p = err_from_is_err_and c.from_residual-in_err-newer.result c.from_residual-in_err-newer.ensures.1 in
-    rw p.1 (inr (inl (c.in_ok-older.older, c.in_err-newer.field-0.0, c.in_ok-older.ensures, c.in_err-newer.ensures, p.2)))
+    rw p.1 (inr (inl (
+      c.in_ok-older.older,
+      c.in_err-newer.field-0.0,
+      c.in_ok-older.ensures,
+      c.in_err-newer.ensures,
+      p.2,
+    )))
 
 pub returns-in_err-place_pair : goal.returns-in_err-place_pair
 returns-in_err-place_pair c =

@@ -1,6 +1,6 @@
-//! Allocations that fail: the clauses `memory`, `known` and `err` of `Tracker::hear`. Each run goes through as it stands,
-//! and also where any one allocation fails, as under `rt try --test --fail-alloc N`: the call that was refused then
-//! changes nothing, and goes through when it is made again.
+//! Allocations that fail: the clauses `memory`, `known` and `err` of `Tracker::hear`. Each run goes through as it
+//! stands, and also where any one allocation fails, as under `rt try --test --fail-alloc N`: the call that was refused
+//! then changes nothing, and goes through when it is made again.
 use super::runs::{AIR, GROUND, Told, even, hear};
 use crate::samples::{AIR_EVEN, GROUND_EVEN, GROUND_ODD, other, read};
 use sq_track::{Squitter, TrackFault, Tracker};

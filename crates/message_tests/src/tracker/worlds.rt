@@ -1,5 +1,6 @@
-//! Worlds that stand still, which the laws say are slow: at a pole, over the 180th meridian, on a border of zone counts,
-//! in the air and on the ground. Each has a fix, and it is the point of the odd grid nearest to where the sender stands.
+//! Worlds that stand still, which the laws say are slow: at a pole, over the 180th meridian, on a border of zone
+//! counts, in the air and on the ground. Each has a fix, and it is the point of the odd grid nearest to where the
+//! sender stands.
 use super::runs::{AIR, Told, sent_in_air, sent_on_ground};
 use crate::samples::position;
 use sq_message::Parity;

@@ -20,7 +20,8 @@ use Rattle.sq_cpr.proofs.Decoding.PairLaw.{out_and_in, zones_of_pair, one_pair_a
 use Rattle.sq_cpr.proofs.Decoding.ZonePairs.{zone_exists}
 
 -- a latitude in -90 to 90 is a representative at 0
-pub at_zero : (zones : ℕ) (a : ℤ) → 0 < zones → unsigned_abs (pos 360 *ℤ a) ≤ 90 * (zones * codes_of_zone) → IsRepresentative 360 (whole 0) (angle_at 360 zones a)
+pub at_zero : (zones : ℕ) (a : ℤ) → 0 < zones → unsigned_abs (pos 360 *ℤ a) ≤ 90 * (zones * codes_of_zone)
+    → IsRepresentative 360 (whole 0) (angle_at 360 zones a)
 at_zero zones (pos n) h k = record { above = omega (arith, ints); at_most = omega (arith, ints) }
 at_zero zones (negsuc n) h k = record { above = omega (arith, ints); at_most = omega (arith, ints) }
 
@@ -31,32 +32,46 @@ pub air_answer : (even odd : CodeNumbers) (newest : Parity) (lon : Fraction) (an
     PairAnswer 360 1 even odd newest (whole 0) lon answer → AirPairAnswer even odd newest answer
 air_answer even odd newest lon (Ok p) k = k.of_pair
 air_answer even odd newest lon (Err OutOfRange) k =
-    λ p q pair inside. out_and_in 360 even odd (whole 0) k.0 k.1 p q (omega arith) (omega arith) k.2 k.3 k.4 pair (both_at_zero p q inside) inside
+    λ p q pair inside. out_and_in 360 even odd (whole 0) k.0 k.1 p q (omega arith) (omega arith) k.2 k.3 k.4 pair
+    (both_at_zero p q inside) inside
 air_answer even odd newest lon (Err (ZoneCounts a b)) k = (k.0, k.1, k.2, k.4)
 
 -- close latitudes have representatives at any reference
-pub some_latitudes : (w : ℕ) (even odd : CodeNumbers) (lat : Fraction) → 0 < w → 0 < lat.den → (p q : ℤ) × AreLatitudes w even odd p q × AreAt w lat p q
+pub some_latitudes : (w : ℕ) (even odd : CodeNumbers) (lat : Fraction) → 0 < w → 0 < lat.den
+    → (p q : ℤ) × AreLatitudes w even odd p q × AreAt w lat p q
 some_latitudes w even odd lat h d =
     let z = zone_exists 60 59 even.lat odd.lat in
     let a = one_representative w 60 (pos even.lat +ℤ pos codes_of_zone *ℤ z.0) lat h (omega arith) d in
-    let b = one_representative w 59 (pos odd.lat +ℤ pos codes_of_zone *ℤ z.0) lat h (omega arith) d in
-    (a.0, b.0, close_pair w 60 59 even.lat odd.lat z.0 a.0 b.0 h (omega arith) (omega arith) paired_latitudes z.1 a.1.0 b.1.0, record { even = a.1.1; odd = b.1.1 })
+    let b = one_representative w 59 (pos odd.lat +ℤ pos codes_of_zone *ℤ z.0) lat h (omega arith) d in (
+      a.0,
+      b.0,
+      close_pair w 60 59 even.lat odd.lat z.0 a.0 b.0 h (omega arith)
+          (omega arith) paired_latitudes z.1 a.1.0 b.1.0,
+      record { even = a.1.1; odd = b.1.1 },
+    )
 
 -- and so has the newest of close longitudes
-turned_newest : (w n m even odd : ℕ) (newest : Parity) (b c r : ℤ) → 0 < w → 0 < n → 0 < m → IsClosePair w n m even odd b c →
-    IsCongruent (of_parity newest n m * codes_of_zone) r (of_parity newest b c) → (p q : ℤ) × IsClosePair w n m even odd p q × (of_parity newest p q ≡ r)
+turned_newest : (w n m even odd : ℕ) (newest : Parity) (b c r : ℤ) → 0 < w → 0 < n → 0 < m
+    → IsClosePair w n m even odd b c →
+    IsCongruent (of_parity newest n m * codes_of_zone) r (of_parity newest b c)
+    → (p q : ℤ) × IsClosePair w n m even odd p q × (of_parity newest p q ≡ r)
 turned_newest w n m even odd Even b c r h i j k l = (r, c, turned_even w n m even odd b c r h i j l k, refl)
 turned_newest w n m even odd Odd b c r h i j k l = (b, r, turned_odd w n m even odd b c r h i j l k, refl)
 
-zones_of_newest : (newest : Parity) (count : ℕ) → of_parity newest (zones_of Even count) (zones_of Odd count) ≡ zones_of newest count
+zones_of_newest : (newest : Parity) (count : ℕ)
+    → of_parity newest (zones_of Even count) (zones_of Odd count) ≡ zones_of newest count
 zones_of_newest Even count = refl
 zones_of_newest Odd count = refl
 
 -- a point of a pair in the air, where the longitude's representative at 0 is known
-air_point_with : (even odd : CodeNumbers) (newest : Parity) (p : Point) (k : IsPointOfPair 360 1 even odd newest p) (b c r : ℤ) →
-    IsClosePair 360 (zones_of Even (count_at 360 Even k.even_lat)) (zones_of Odd (count_at 360 Even k.even_lat)) even.lon odd.lon b c → of_parity newest b c ≡ r →
-    IsCongruent (zones_of newest (count_at 360 Even k.even_lat) * codes_of_zone) r (of_parity newest k.even_lon k.odd_lon) →
-    IsRepresentative 360 (whole 0) (angle_at 360 (zones_of newest (count_at 360 Even k.even_lat)) r) → IsPointOfPairAt 360 1 even odd newest (whole 0) (whole 0) p
+air_point_with : (even odd : CodeNumbers) (newest : Parity) (p : Point) (k : IsPointOfPair 360 1 even odd newest p)
+    (b c r : ℤ) →
+    IsClosePair 360 (zones_of Even (count_at 360 Even k.even_lat))
+    (zones_of Odd (count_at 360 Even k.even_lat)) even.lon odd.lon b c → of_parity newest b c ≡ r →
+    IsCongruent (zones_of newest (count_at 360 Even k.even_lat) * codes_of_zone) r
+    (of_parity newest k.even_lon k.odd_lon) →
+    IsRepresentative 360 (whole 0) (angle_at 360 (zones_of newest (count_at 360 Even k.even_lat)) r)
+    → IsPointOfPairAt 360 1 even odd newest (whole 0) (whole 0) p
 air_point_with even odd newest p k b c r pair e around there =
     let count : ℕ = count_at 360 Even k.even_lat in
     let zones : p.zones ≡ zones_of newest count = zones_of_pair 360 1 even odd newest p k in
@@ -80,12 +95,17 @@ air_point_with even odd newest p k b c r pair e around there =
       lon_at = rw (zones, e) there;
     }
 
-air_point_at : (even odd : CodeNumbers) (newest : Parity) (p : Point) → IsPointOfPair 360 1 even odd newest p → IsPointOfPairAt 360 1 even odd newest (whole 0) (whole 0) p
+air_point_at : (even odd : CodeNumbers) (newest : Parity) (p : Point) → IsPointOfPair 360 1 even odd newest p
+    → IsPointOfPairAt 360 1 even odd newest (whole 0) (whole 0) p
 air_point_at even odd newest p k =
     let count : ℕ = count_at 360 Even k.even_lat in
-    let one = one_representative 360 (zones_of newest count) (of_parity newest k.even_lon k.odd_lon) (whole 0) (omega arith) (some_zones newest count) (omega arith) in
-    let around : IsCongruent (of_parity newest (zones_of Even count) (zones_of Odd count) * codes_of_zone) one.0 (of_parity newest k.even_lon k.odd_lon) = rw (zones_of_newest newest count) one.1.0 in
-    let pair = turned_newest 360 (zones_of Even count) (zones_of Odd count) even.lon odd.lon newest k.even_lon k.odd_lon one.0 (omega arith) (some_zones Even count) (some_zones Odd count) k.longitudes around in
+    let one = one_representative 360 (zones_of newest count) (of_parity newest k.even_lon k.odd_lon) (whole 0)
+    (omega arith) (some_zones newest count) (omega arith) in
+    let around : IsCongruent (of_parity newest (zones_of Even count) (zones_of Odd count) * codes_of_zone) one.0
+    (of_parity newest k.even_lon k.odd_lon) = rw (zones_of_newest newest count) one.1.0 in
+    let pair = turned_newest 360 (zones_of Even count)
+    (zones_of Odd count) even.lon odd.lon newest k.even_lon k.odd_lon one.0 (omega arith) (some_zones Even count)
+    (some_zones Odd count) k.longitudes around in
     air_point_with even odd newest p k pair.0 pair.1 one.0 pair.2 pair.3 one.1.0 one.1.1
 
 pub air_is_at_origin : (even odd : CodeNumbers) (newest : Parity) (answer : Result Point PairFault) →
@@ -98,4 +118,5 @@ air_is_at_origin even odd newest (Err (ZoneCounts a b)) k = (k.0, k.1, k.2, both
 
 pub one_air_pair_answer : OneAirPairAnswer
 one_air_pair_answer even odd newest answer other h k =
-    one_pair_answer 360 1 refl even odd newest (whole 0) (whole 0) answer other (omega arith) (omega arith) (air_is_at_origin even odd newest answer h) (air_is_at_origin even odd newest other k)
+    one_pair_answer 360 1 refl even odd newest (whole 0) (whole 0) answer other (omega arith) (omega arith)
+    (air_is_at_origin even odd newest answer h) (air_is_at_origin even odd newest other k)

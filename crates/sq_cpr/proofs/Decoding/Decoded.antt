@@ -28,36 +28,55 @@ pub some_zones_of_point : (w r : ℕ) (p : Point) → IsGridPoint w r p → 0 < 
 some_zones_of_point w r p h = rw h.zones (lon_zones_at-least p.parity (latitude w p))
 
 -- indices that differ by whole circles have one code
-pub code_of_circle : (zones repeats : ℕ) {a b : ℤ} → IsCongruent (circle zones repeats) a b → IsCongruent codes_of_zone a b
+pub code_of_circle : (zones repeats : ℕ) {a b : ℤ} → IsCongruent (circle zones repeats) a b
+    → IsCongruent codes_of_zone a b
 code_of_circle zones repeats h = code_of_turn zones (congruent_factor (zones * codes_of_zone) repeats h)
 
-pub near_latitude : (w zones code : ℕ) (parity : Parity) (lat : Fraction) (base index : ℤ) → zones ≡ lat_zones parity → base ≡ pos code →
+pub near_latitude : (w zones code : ℕ) (parity : Parity) (lat : Fraction) (base index : ℤ) → zones ≡ lat_zones parity
+    → base ≡ pos code →
     IsCongruent (1 * codes_of_zone) index base → LiesWithin 1 w zones index lat → IsNearLatitude w parity lat code index
 near_latitude w zones code parity lat base index e f h k =
-    record { has_code = code_of_turn 1 (rw f at h); near = near_from_within w (lat_zones parity) index lat (some_lat_zones parity) (rw e at k) }
+    record {
+      has_code = code_of_turn 1 (rw f at h);
+      near = near_from_within w (lat_zones parity) index lat (some_lat_zones parity) (rw e at k);
+    }
 
 pub local_point : (w r : ℕ) (code : CodeNumbers) (parity : Parity) (lat lon : Fraction) (p : Point) (base turned : ℤ) →
     IsGridPoint w r p → p.parity ≡ parity → IsNearLatitude w parity lat code.lat p.lat_index → base ≡ pos code.lon →
-    IsCongruent (1 * codes_of_zone) turned base → LiesWithin 1 w p.zones turned lon → IsCongruent (circle p.zones r) (pos p.lon_index) turned →
+    IsCongruent (1 * codes_of_zone) turned base → LiesWithin 1 w p.zones turned lon
+    → IsCongruent (circle p.zones r) (pos p.lon_index) turned →
     IsLocalPoint w r code parity lat lon p
 local_point w r code parity lat lon p base turned p_is p_parity near f same near_lon around =
     record {
       of_grid = p_is;
       of_parity = p_parity;
-      has_code = record { latitude = near.has_code; longitude = congruent_trans (code_of_circle p.zones r around) (code_of_turn 1 (rw f at same)) };
+      has_code = record {
+        latitude = near.has_code;
+        longitude = congruent_trans (code_of_circle p.zones r around) (code_of_turn 1 (rw f at same));
+      };
       near = record {
         north_south = rw p_parity near.near;
-        east_west = (turned, congruent_sym around, near_from_within w p.zones turned lon (some_zones_of_point w r p p_is) near_lon);
+        east_west = (
+          turned,
+          congruent_sym around,
+          near_from_within w p.zones turned lon (some_zones_of_point w r p p_is) near_lon,
+        );
       };
     }
 
 -- the newest of two latitudes with one zone count makes a point
-pub point_of_pair : (w r : ℕ) (newest : Parity) (p : Point) (even odd : ℤ) → AreInRange w even odd → HaveOneCount w even odd →
-    p.parity ≡ newest → p.lat_index ≡ of_parity newest even odd → p.zones ≡ zones_of newest (count_at w Even even) → p.lon_index < circle p.zones r → IsGridPoint w r p
+pub point_of_pair : (w r : ℕ) (newest : Parity) (p : Point) (even odd : ℤ) → AreInRange w even odd
+    → HaveOneCount w even odd →
+    p.parity ≡ newest → p.lat_index ≡ of_parity newest even odd → p.zones ≡ zones_of newest (count_at w Even even)
+    → p.lon_index < circle p.zones r → IsGridPoint w r p
 point_of_pair w r Even p even odd inside counts parity index zones below =
     record { north_south = rw (parity, index) inside.even; zones = zones ∙ rw (parity, index) refl; east_west = below }
 point_of_pair w r Odd p even odd inside counts parity index zones below =
-    record { north_south = rw (parity, index) inside.odd; zones = zones ∙ rw (parity, index, counts) refl; east_west = below }
+    record {
+      north_south = rw (parity, index) inside.odd;
+      zones = zones ∙ rw (parity, index, counts) refl;
+      east_west = below;
+    }
 
 -- what the values of the two latitudes say of their indices
 pub record FoundPair (w : ℕ) (even odd : ℤ) (count : ℕ) : Type 0 where
@@ -65,15 +84,21 @@ pub record FoundPair (w : ℕ) (even odd : ℤ) (count : ℕ) : Type 0 where
   pub counted : count ≡ count_at w Even even
   pub counts : HaveOneCount w even odd
 
-pub found_pair : (w : ℕ) (even odd : ℤ) (even_lat odd_lat : Angle) (even_count odd_count : ℕ) → FitsSigned w32 even → FitsSigned w32 odd →
+pub found_pair : (w : ℕ) (even odd : ℤ) (even_lat odd_lat : Angle) (even_count odd_count : ℕ) → FitsSigned w32 even
+    → FitsSigned w32 odd →
     IsLatitude w Even (to_z w32 (of_z w32 even)) → IsLatitude w Odd (to_z w32 (of_z w32 odd)) →
-    degrees even_lat ≡ grid_latitude w Even (to_z w32 (of_z w32 even)) → degrees odd_lat ≡ grid_latitude w Odd (to_z w32 (of_z w32 odd)) →
-    even_count ≡ zones_at (degrees even_lat) → odd_count ≡ zones_at (degrees odd_lat) → even_count ≡ odd_count → FoundPair w even odd even_count
-found_pair w even odd even_lat odd_lat even_count odd_count even_fits odd_fits even_in odd_in even_is odd_is even_counted odd_counted one =
+    degrees even_lat ≡ grid_latitude w Even (to_z w32 (of_z w32 even))
+    → degrees odd_lat ≡ grid_latitude w Odd (to_z w32 (of_z w32 odd)) →
+    even_count ≡ zones_at (degrees even_lat) → odd_count ≡ zones_at (degrees odd_lat) → even_count ≡ odd_count
+    → FoundPair w even odd even_count
+found_pair w even odd even_lat odd_lat even_count odd_count even_fits odd_fits even_in odd_in even_is odd_is
+    even_counted odd_counted one =
     let even_back = to_z-of_z w32 even even_fits in
     let odd_back = to_z-of_z w32 odd odd_fits in
-    let first : even_count ≡ count_at w Even even = even_counted ∙ ap zones_at even_is ∙ ap (λ (a : ℤ). count_at w Even a) even_back in
-    let second : odd_count ≡ count_at w Odd odd = odd_counted ∙ ap zones_at odd_is ∙ ap (λ (a : ℤ). count_at w Odd a) odd_back in
+    let first : even_count ≡ count_at w Even even =
+    even_counted ∙ ap zones_at even_is ∙ ap (λ (a : ℤ). count_at w Even a) even_back in
+    let second : odd_count ≡ count_at w Odd odd =
+    odd_counted ∙ ap zones_at odd_is ∙ ap (λ (a : ℤ). count_at w Odd a) odd_back in
     record {
       inside = record { even = rw even_back at even_in; odd = rw odd_back at odd_in };
       counted = first;

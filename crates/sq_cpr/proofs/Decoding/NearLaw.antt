@@ -24,12 +24,14 @@ one_turn h = record { times = h.times; apart = h.apart }
 
 -- exactly one of the indices of a code is near
 pub one_near : (w zones code : ℕ) (r : Fraction) → 0 < w → 0 < zones → 0 < r.den →
-    ExactlyOne (λ (index : ℤ). IsCongruent codes_of_zone index (pos code) × IsNear (half_zone w zones) r (angle_at w zones index))
+    ExactlyOne (λ (index : ℤ). IsCongruent codes_of_zone index (pos code)
+    × IsNear (half_zone w zones) r (angle_at w zones index))
 one_near w zones code r p q s =
     let one = one_within 1 w zones (pos code) r (omega arith) p s in (
       one.0,
       (code_of_turn 1 one.1.0, near_from_within w zones one.0 r q one.1.1),
-      λ y (h : IsCongruent codes_of_zone y (pos code) × IsNear (half_zone w zones) r (angle_at w zones y)). one.2 y (one_turn h.0, within_from_near w zones y r q h.1),
+      λ y (h : IsCongruent codes_of_zone y (pos code) × IsNear (half_zone w zones) r (angle_at w zones y)). one.2 y
+          (one_turn h.0, within_from_near w zones y r q h.1),
     )
 
 pub one_near_latitude : (w r : ℕ) → w * r ≡ 360 → OneNearLatitude w
@@ -51,7 +53,8 @@ one_near_longitude w r e zones lon code q s =
       (b.2, congruent_trans (congruent_sym (code_of_circle zones r back)) one.1.0, (one.0, back, one.1.1)),
       λ y (h : (y < circle zones r) × IsCongruent codes_of_zone (pos y) (pos code) × IsNearLongitude w r zones lon y).
           let turned = h.2 in
-          let same : turned.0 ≡ one.0 = one.2 turned.0 (congruent_trans (code_of_circle zones r turned.1) h.1, turned.2) in
+          let same : turned.0 ≡ one.0 =
+          one.2 turned.0 (congruent_trans (code_of_circle zones r turned.1) h.1, turned.2) in
           let here : IsCongruent around one.0 (pos y) = rw same at turned.1 in
           same_below around y b.0 h.0 b.2 (congruent_trans (congruent_sym here) back),
     )
@@ -63,7 +66,8 @@ same_latitude w r e parity lat code a b s h k =
     let one = one_near_latitude w r e parity lat code s in
     one.2 a h ∙ sym (one.2 b k)
 
-pub same_point : (w r : ℕ) → w * r ≡ 360 → (code : CodeNumbers) (parity : Parity) (lat lon : Fraction) (p q : Point) → 0 < lat.den → 0 < lon.den →
+pub same_point : (w r : ℕ) → w * r ≡ 360 → (code : CodeNumbers) (parity : Parity) (lat lon : Fraction) (p q : Point)
+    → 0 < lat.den → 0 < lon.den →
     IsLocalPoint w r code parity lat lon p → IsLocalPoint w r code parity lat lon q → p ≡ q
 same_point w r e code parity lat lon p q s t h k =
     let same_parity : p.parity ≡ q.parity = h.of_parity ∙ sym k.of_parity in
@@ -80,15 +84,19 @@ same_point w r e code parity lat lon p q s t h k =
 
 pub near_point_is_local : (w r : ℕ) → w * r ≡ 360 → NearPointIsLocal w r
 near_point_is_local w r e code parity lat lon (Ok q) p s t answer p_is p_parity p_code p_near =
-    ap Ok (same_point w r e code parity lat lon q p s t answer (record { of_grid = p_is; of_parity = p_parity; has_code = p_code; near = p_near }))
+    ap Ok (same_point w r e code parity lat lon q p s t answer
+    (record { of_grid = p_is; of_parity = p_parity; has_code = p_code; near = p_near }))
 near_point_is_local w r e code parity lat lon (Err OutOfRange) p s t answer p_is p_parity p_code p_near =
     let same : answer.0 ≡ p.lat_index =
-    same_latitude w r e parity lat code.lat answer.0 p.lat_index s answer.1 (record { has_code = p_code.latitude; near = rw p_parity at p_near.north_south }) in
+    same_latitude w r e parity lat code.lat answer.0 p.lat_index s answer.1
+    (record { has_code = p_code.latitude; near = rw p_parity at p_near.north_south }) in
     absurd (answer.2 (rw (same, ← p_parity) p_is.north_south))
 
 pub one_local_answer : (w r : ℕ) → w * r ≡ 360 → OneLocalAnswer w r
-one_local_answer w r e code parity lat lon answer (Ok q) s t h k = near_point_is_local w r e code parity lat lon answer q s t h k.of_grid k.of_parity k.has_code k.near
-one_local_answer w r e code parity lat lon (Ok p) (Err OutOfRange) s t h k = sym (near_point_is_local w r e code parity lat lon (Err OutOfRange) p s t k h.of_grid h.of_parity h.has_code h.near)
+one_local_answer w r e code parity lat lon answer (Ok q) s t h k =
+    near_point_is_local w r e code parity lat lon answer q s t h k.of_grid k.of_parity k.has_code k.near
+one_local_answer w r e code parity lat lon (Ok p) (Err OutOfRange) s t h k = sym
+    (near_point_is_local w r e code parity lat lon (Err OutOfRange) p s t k h.of_grid h.of_parity h.has_code h.near)
 one_local_answer w r e code parity lat lon (Err OutOfRange) (Err OutOfRange) s t h k = refl
 
 strictly_near : (h r x : Fraction) → IsStrictlyNear h r x → IsNear h r x
@@ -104,7 +112,8 @@ strictly_near_is_near w r lat lon p h =
 
 pub strictly_near_point_is_local : (w r : ℕ) → w * r ≡ 360 → StrictlyNearPointIsLocal w r
 strictly_near_point_is_local w r e code parity lat lon answer p s t k p_is p_parity p_code p_near =
-    near_point_is_local w r e code parity lat lon answer p s t k p_is p_parity p_code (strictly_near_is_near w r lat lon p p_near)
+    near_point_is_local w r e code parity lat lon answer p s t k p_is p_parity p_code
+    (strictly_near_is_near w r lat lon p p_near)
 
 pub local_keeps_code : (w r : ℕ) → LocalKeepsCode w r
 local_keeps_code w r code parity lat lon p h = (h.of_parity, h.has_code)

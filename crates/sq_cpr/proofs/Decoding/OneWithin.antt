@@ -20,11 +20,15 @@ pub one_within : (count degrees zones : ℕ) (base : ℤ) (r : Fraction) → 0 <
 one_within count degrees zones base r o p q =
     let width : ℕ = count * codes_of_zone * (degrees * r.den) in
     let start : ℤ = pos 2 *ℤ apart degrees zones base r in
-    let positive : 0 < width = mul_pos (count * codes_of_zone) (degrees * r.den) (omega arith) (mul_pos degrees r.den p q) in
-    let one : ExactlyOne (λ (j : ℤ). (neg_ℤ (pos width) <ℤ (start +ℤ pos (2 * width) *ℤ j)) × ((start +ℤ pos (2 * width) *ℤ j) ≤ℤ pos width)) = one_upper width start positive in (
+    let positive : 0 < width = mul_pos (count * codes_of_zone) (degrees * r.den) (omega arith)
+    (mul_pos degrees r.den p q) in
+    let one : ExactlyOne (λ (j : ℤ). (neg_ℤ (pos width) <ℤ (start +ℤ pos (2 * width) *ℤ j))
+    × ((start +ℤ pos (2 * width) *ℤ j) ≤ℤ pos width)) = one_upper width start positive in (
       base +ℤ pos (count * codes_of_zone) *ℤ one.0,
       (record { times = one.0; apart = refl }, rw (shifted count degrees zones base r one.0) at one.1),
       λ y (w : IsCongruent (count * codes_of_zone) y base × LiesWithin count degrees zones y r).
-          let near : LiesWithin count degrees zones (base +ℤ pos (count * codes_of_zone) *ℤ w.0.times) r = rw w.0.apart at w.1 in
-          w.0.apart ∙ ap (λ (j : ℤ). base +ℤ pos (count * codes_of_zone) *ℤ j) (one.2 w.0.times (rw (shifted count degrees zones base r w.0.times) near)),
+          let near : LiesWithin count degrees zones (base +ℤ pos (count * codes_of_zone) *ℤ w.0.times) r =
+          rw w.0.apart at w.1 in
+          w.0.apart ∙ ap (λ (j : ℤ). base +ℤ pos (count * codes_of_zone) *ℤ j)
+          (one.2 w.0.times (rw (shifted count degrees zones base r w.0.times) near)),
     )

@@ -26,13 +26,15 @@ use Rattle.sq_cpr.proofs.Decoding.Pairs.{one_representative, turned_even, turned
 use Rattle.sq_cpr.proofs.Grids.Spans.{span_bounds}
 
 -- a turn of the circle is one of so many spans
-turn_of_circle : (zones repeats : ℕ) {a b : ℤ} → IsCongruent (circle zones repeats) a b → IsCongruent (zones * codes_of_zone) a b
+turn_of_circle : (zones repeats : ℕ) {a b : ℤ} → IsCongruent (circle zones repeats) a b
+    → IsCongruent (zones * codes_of_zone) a b
 turn_of_circle zones repeats h = congruent_factor (zones * codes_of_zone) repeats h
 
 -- both coordinates of the point are the representatives at the place, the longitude modulo 360 degrees
 pub record IsPointAt (degrees repeats : ℕ) (lat lon : Fraction) (point : Point) : Type 0 where
   pub north_south : IsRepresentative degrees lat (grid_latitude degrees point.parity point.lat_index)
-  pub east_west : OnSomeTurn (circle point.zones repeats) point.lon_index (λ turned. IsRepresentative degrees lon (angle_at degrees point.zones turned))
+  pub east_west : OnSomeTurn (circle point.zones repeats) point.lon_index
+      (λ turned. IsRepresentative degrees lon (angle_at degrees point.zones turned))
 
 -- points of an even and an odd code
 pub record ArePointsOf (w r : ℕ) (even odd : CodeNumbers) (a b : Point) : Type 0 where
@@ -46,16 +48,21 @@ pub record ArePointsAt (w r : ℕ) (lat lon : Fraction) (a b : Point) : Type 0 w
   pub first : IsPointAt w r lat lon a
   pub second : IsPointAt w r lat lon b
 
-latitudes_of : (w r : ℕ) (even odd : CodeNumbers) (a b : Point) → ArePointsOf w r even odd a b → AreCloseLatitudes w a.lat_index b.lat_index → AreLatitudes w even odd a.lat_index b.lat_index
-latitudes_of w r even odd a b h k = record { even_code = h.even_code.latitude; odd_code = h.odd_code.latitude; close = k }
+latitudes_of : (w r : ℕ) (even odd : CodeNumbers) (a b : Point) → ArePointsOf w r even odd a b
+    → AreCloseLatitudes w a.lat_index b.lat_index → AreLatitudes w even odd a.lat_index b.lat_index
+latitudes_of w r even odd a b h k =
+    record { even_code = h.even_code.latitude; odd_code = h.odd_code.latitude; close = k }
 
-in_range_of : (w r : ℕ) (even odd : CodeNumbers) (a b : Point) → a.parity ≡ Even → b.parity ≡ Odd → ArePointsOf w r even odd a b → AreInRange w a.lat_index b.lat_index
+in_range_of : (w r : ℕ) (even odd : CodeNumbers) (a b : Point) → a.parity ≡ Even → b.parity ≡ Odd
+    → ArePointsOf w r even odd a b → AreInRange w a.lat_index b.lat_index
 in_range_of w r even odd a b e f h = record { even = rw e at h.even_is.north_south; odd = rw f at h.odd_is.north_south }
 
-lat_at_of : (w r : ℕ) (lat lon : Fraction) (a b : Point) → a.parity ≡ Even → b.parity ≡ Odd → ArePointsAt w r lat lon a b → AreAt w lat a.lat_index b.lat_index
+lat_at_of : (w r : ℕ) (lat lon : Fraction) (a b : Point) → a.parity ≡ Even → b.parity ≡ Odd
+    → ArePointsAt w r lat lon a b → AreAt w lat a.lat_index b.lat_index
 lat_at_of w r lat lon a b e f h = record { even = rw e at h.first.north_south; odd = rw f at h.second.north_south }
 
-module _ (w r : ℕ) (some : 0 < w) (even odd : CodeNumbers) (lat lon : Fraction) (a b : Point) (points : ArePointsOf w r even odd a b) (close : AreClosePoints w a b) (here : ArePointsAt w r lat lon a b) where
+module _ (w r : ℕ) (some : 0 < w) (even odd : CodeNumbers) (lat lon : Fraction) (a b : Point)
+    (points : ArePointsOf w r even odd a b) (close : AreClosePoints w a b) (here : ArePointsAt w r lat lon a b) where
   a_zones : a.zones ≡ zones_of Even (count_at w Even a.lat_index)
   a_zones = rw close.even at points.even_is.zones
 
@@ -63,13 +70,19 @@ module _ (w r : ℕ) (some : 0 < w) (even odd : CodeNumbers) (lat lon : Fraction
   b_zones = rw (close.odd, ← close.counts) at points.odd_is.zones
 
   pair : IsClosePair w a.zones b.zones even.lon odd.lon (pos a.lon_index) (pos b.lon_index)
-  pair = record { even_code = points.even_code.longitude; odd_code = points.odd_code.longitude; close = close.longitudes }
+  pair = record {
+    even_code = points.even_code.longitude;
+    odd_code = points.odd_code.longitude;
+    close = close.longitudes;
+  }
 
   found_even : IsPointOfPairAt w r even odd Even lat lon a
   found_even =
       let t = here.first.east_west in
       let turned : IsClosePair w a.zones b.zones even.lon odd.lon t.0 (pos b.lon_index) =
-      turned_even w a.zones b.zones even.lon odd.lon (pos a.lon_index) (pos b.lon_index) t.0 some (some_zones_of_point w r a points.even_is) (some_zones_of_point w r b points.odd_is) (turn_of_circle a.zones r t.1) pair in
+      turned_even w a.zones b.zones even.lon odd.lon (pos a.lon_index) (pos b.lon_index) t.0 some
+      (some_zones_of_point w r a points.even_is) (some_zones_of_point w r b points.odd_is)
+      (turn_of_circle a.zones r t.1) pair in
       record {
         of_pair = record {
           even_lat = a.lat_index;
@@ -93,7 +106,9 @@ module _ (w r : ℕ) (some : 0 < w) (even odd : CodeNumbers) (lat lon : Fraction
   found_odd =
       let t = here.second.east_west in
       let turned : IsClosePair w a.zones b.zones even.lon odd.lon (pos a.lon_index) t.0 =
-      turned_odd w a.zones b.zones even.lon odd.lon (pos a.lon_index) (pos b.lon_index) t.0 some (some_zones_of_point w r a points.even_is) (some_zones_of_point w r b points.odd_is) (turn_of_circle b.zones r t.1) pair in
+      turned_odd w a.zones b.zones even.lon odd.lon (pos a.lon_index) (pos b.lon_index) t.0 some
+      (some_zones_of_point w r a points.even_is) (some_zones_of_point w r b points.odd_is)
+      (turn_of_circle b.zones r t.1) pair in
       record {
         of_pair = record {
           even_lat = a.lat_index;
@@ -117,24 +132,39 @@ module _ (w r : ℕ) (some : 0 < w) (even odd : CodeNumbers) (lat lon : Fraction
   found Even = found_even
   found Odd = found_odd
 
-pub close_points_are_answered : (w r : ℕ) → w * r ≡ 360 → (even odd : CodeNumbers) (newest : Parity) (lat lon : Fraction) (answer : Result Point PairFault) (a b : Point) → 0 < lat.den → 0 < lon.den →
-    PairAnswer w r even odd newest lat lon answer → ArePointsOf w r even odd a b → AreClosePoints w a b → ArePointsAt w r lat lon a b → answer ≡ Ok (of_parity newest a b)
+pub close_points_are_answered : (w r : ℕ) → w * r ≡ 360
+    → (even odd : CodeNumbers) (newest : Parity) (lat lon : Fraction) (answer : Result Point PairFault) (a b : Point)
+    → 0 < lat.den → 0 < lon.den →
+    PairAnswer w r even odd newest lat lon answer → ArePointsOf w r even odd a b → AreClosePoints w a b
+    → ArePointsAt w r lat lon a b → answer ≡ Ok (of_parity newest a b)
 close_points_are_answered w r e even odd newest lat lon answer a b d f answered points close there =
-    one_pair_answer w r e even odd newest lat lon answer (Ok (of_parity newest a b)) d f answered (found w r (span_bounds w r e).0 even odd lat lon a b points close there newest)
+    one_pair_answer w r e even odd newest lat lon answer (Ok (of_parity newest a b)) d f answered
+    (found w r (span_bounds w r e).0 even odd lat lon a b points close there newest)
 
-pub tame_points_are_answered : (w r : ℕ) → w * r ≡ 360 → (even odd : CodeNumbers) (newest : Parity) (lat lon : Fraction) (answer : Result Point PairFault) (a b : Point) → 0 < lat.den → 0 < lon.den →
-    PairAnswer w r even odd newest lat lon answer → ArePointsOf w r even odd a b → AreTamePoints w a b → ArePointsAt w r lat lon a b → TameAnswer w newest a b answer
+pub tame_points_are_answered : (w r : ℕ) → w * r ≡ 360
+    → (even odd : CodeNumbers) (newest : Parity) (lat lon : Fraction) (answer : Result Point PairFault) (a b : Point)
+    → 0 < lat.den → 0 < lon.den →
+    PairAnswer w r even odd newest lat lon answer → ArePointsOf w r even odd a b → AreTamePoints w a b
+    → ArePointsAt w r lat lon a b → TameAnswer w newest a b answer
 tame_points_are_answered w r e even odd newest lat lon (Ok p) a b d f k points tame there =
-    let same = same_latitudes w even odd lat k.of_pair.even_lat k.of_pair.odd_lat a.lat_index b.lat_index (span_bounds w r e).0 d k.of_pair.latitudes k.lat_at
+    let same = same_latitudes w even odd lat k.of_pair.even_lat k.of_pair.odd_lat a.lat_index b.lat_index
+    (span_bounds w r e).0 d k.of_pair.latitudes k.lat_at
     (latitudes_of w r even odd a b points tame.latitudes) (lat_at_of w r lat lon a b tame.even tame.odd there) in
     let counts : HaveOneCount w a.lat_index b.lat_index = rw (same.0, same.1) at k.of_pair.counts in
     let equal : Ok p ≡ Ok (of_parity newest a b) =
     close_points_are_answered w r e even odd newest lat lon (Ok p) a b d f k points
-    (record { even = tame.even; odd = tame.odd; latitudes = tame.latitudes; counts = counts; longitudes = tame.longitudes counts }) there in
+    (record {
+      even = tame.even;
+      odd = tame.odd;
+      latitudes = tame.latitudes;
+      counts = counts;
+      longitudes = tame.longitudes counts;
+    }) there in
     cc
 tame_points_are_answered w r e even odd newest lat lon (Err OutOfRange) a b d f k points tame there =
     out_and_in w even odd lat k.0 k.1 a.lat_index b.lat_index (span_bounds w r e).0 d k.2 k.3 k.4
-    (latitudes_of w r even odd a b points tame.latitudes) (lat_at_of w r lat lon a b tame.even tame.odd there) (in_range_of w r even odd a b tame.even tame.odd points)
+    (latitudes_of w r even odd a b points tame.latitudes) (lat_at_of w r lat lon a b tame.even tame.odd there)
+    (in_range_of w r even odd a b tame.even tame.odd points)
 tame_points_are_answered w r e even odd newest lat lon (Err (ZoneCounts m n)) a b d f k points tame there =
     let same = same_latitudes w even odd lat k.0 k.1 a.lat_index b.lat_index (span_bounds w r e).0 d k.2 k.3
     (latitudes_of w r even odd a b points tame.latitudes) (lat_at_of w r lat lon a b tame.even tame.odd there) in
@@ -143,7 +173,8 @@ tame_points_are_answered w r e even odd newest lat lon (Err (ZoneCounts m n)) a 
 -- in the air each point is its own representative at 0
 at_origin : (p : Point) → IsGridPoint 360 1 p → IsPointAt 360 1 (whole 0) (whole 0) p
 at_origin p h =
-    let one = one_representative 360 p.zones (pos p.lon_index) (whole 0) (omega arith) (some_zones_of_point 360 1 p h) (omega arith) in
+    let one = one_representative 360 p.zones (pos p.lon_index) (whole 0) (omega arith) (some_zones_of_point 360 1 p h)
+    (omega arith) in
     let full : circle p.zones 1 ≡ p.zones * codes_of_zone = omega arith in
     record {
       north_south = at_zero (lat_zones p.parity) p.lat_index (some_lat_zones p.parity) h.north_south;
@@ -151,22 +182,28 @@ at_origin p h =
     }
 
 -- on the ground a point less than 45 degrees from the site is the representative there
-site_low : (xd rd : ℕ) (xn rn : ℤ) → pos xd *ℤ (pos 2 *ℤ rn -ℤ pos rd *ℤ pos 90) -ℤ pos (rd * 2) *ℤ xn ≡ pos 2 *ℤ (pos (xd * rd) *ℤ neg_ℤ (pos 45) -ℤ pos 1 *ℤ (pos rd *ℤ xn -ℤ pos xd *ℤ rn))
+site_low : (xd rd : ℕ) (xn rn : ℤ)
+    → pos xd *ℤ (pos 2 *ℤ rn -ℤ pos rd *ℤ pos 90) -ℤ pos (rd * 2) *ℤ xn
+    ≡ pos 2 *ℤ (pos (xd * rd) *ℤ neg_ℤ (pos 45) -ℤ pos 1 *ℤ (pos rd *ℤ xn -ℤ pos xd *ℤ rn))
 site_low xd rd xn rn = simp scales (omega (arith, ints))
 
-site_high : (xd rd : ℕ) (xn rn : ℤ) → pos (rd * 2) *ℤ xn -ℤ pos xd *ℤ (pos 2 *ℤ rn +ℤ pos rd *ℤ pos 90) ≡ pos 2 *ℤ (pos 1 *ℤ (pos rd *ℤ xn -ℤ pos xd *ℤ rn) -ℤ pos (xd * rd) *ℤ pos 45)
+site_high : (xd rd : ℕ) (xn rn : ℤ)
+    → pos (rd * 2) *ℤ xn -ℤ pos xd *ℤ (pos 2 *ℤ rn +ℤ pos rd *ℤ pos 90)
+    ≡ pos 2 *ℤ (pos 1 *ℤ (pos rd *ℤ xn -ℤ pos xd *ℤ rn) -ℤ pos (xd * rd) *ℤ pos 45)
 site_high xd rd xn rn = simp scales (omega (arith, ints))
 
 near_site : (r x : Fraction) → IsSmallerThan (whole 45) (minus x r) → IsRepresentative 90 r x
 near_site r x h =
-    let low : (pos (x.den * r.den) *ℤ neg_ℤ (pos 45)) <ℤ (pos 1 *ℤ (pos r.den *ℤ x.num -ℤ pos x.den *ℤ r.num)) = h.above in
+    let low : (pos (x.den * r.den) *ℤ neg_ℤ (pos 45)) <ℤ (pos 1 *ℤ (pos r.den *ℤ x.num -ℤ pos x.den *ℤ r.num)) =
+    h.above in
     let high : (pos 1 *ℤ (pos r.den *ℤ x.num -ℤ pos x.den *ℤ r.num)) <ℤ (pos (x.den * r.den) *ℤ pos 45) = h.below in
     record {
       above = omega (arith, ints, site_low x.den r.den x.num r.num, low);
       at_most = omega (arith, ints, site_high x.den r.den x.num r.num, high);
     }
 
-at_site : (p : Point) (site : Position) → IsPointWithin 45 90 4 p site → IsPointAt 90 4 (degrees_of (lat_of site)) (degrees_of (lon_of site)) p
+at_site : (p : Point) (site : Position) → IsPointWithin 45 90 4 p site
+    → IsPointAt 90 4 (degrees_of (lat_of site)) (degrees_of (lon_of site)) p
 at_site p site h = record {
   north_south = near_site _ _ h.latitudes;
   east_west = let t = h.longitudes in (t.0, t.1, near_site _ _ t.2);
@@ -174,40 +211,53 @@ at_site p site h = record {
 
 pub close_air_points_are_answered : CloseAirPointsAreAnswered
 close_air_points_are_answered even odd newest answer a b k a_is b_is a_code b_code close =
-    close_points_are_answered 360 1 refl even odd newest (whole 0) (whole 0) answer a b (omega arith) (omega arith) (air_is_at_origin even odd newest answer k)
-    (record { even_is = a_is; odd_is = b_is; even_code = a_code; odd_code = b_code }) close (record { first = at_origin a a_is; second = at_origin b b_is })
+    close_points_are_answered 360 1 refl even odd newest (whole 0) (whole 0) answer a b (omega arith) (omega arith)
+    (air_is_at_origin even odd newest answer k)
+    (record { even_is = a_is; odd_is = b_is; even_code = a_code; odd_code = b_code }) close
+    (record { first = at_origin a a_is; second = at_origin b b_is })
 
 pub close_ground_points_are_answered : CloseGroundPointsAreAnswered
 close_ground_points_are_answered even odd newest site answer a b k a_is b_is a_code b_code close a_at b_at =
-    close_points_are_answered 90 4 refl even odd newest _ _ answer a b site.lat.in_range.positive site.lon.in_range.positive k
-    (record { even_is = a_is; odd_is = b_is; even_code = a_code; odd_code = b_code }) close (record { first = at_site a site a_at; second = at_site b site b_at })
+    close_points_are_answered 90 4 refl even odd newest _ _ answer a b site.lat.in_range.positive
+    site.lon.in_range.positive k
+    (record { even_is = a_is; odd_is = b_is; even_code = a_code; odd_code = b_code }) close
+    (record { first = at_site a site a_at; second = at_site b site b_at })
 
 pub tame_air_points_are_answered : TameAirPointsAreAnswered
 tame_air_points_are_answered even odd newest answer a b k a_is b_is a_code b_code tame =
-    tame_points_are_answered 360 1 refl even odd newest (whole 0) (whole 0) answer a b (omega arith) (omega arith) (air_is_at_origin even odd newest answer k)
-    (record { even_is = a_is; odd_is = b_is; even_code = a_code; odd_code = b_code }) tame (record { first = at_origin a a_is; second = at_origin b b_is })
+    tame_points_are_answered 360 1 refl even odd newest (whole 0) (whole 0) answer a b (omega arith) (omega arith)
+    (air_is_at_origin even odd newest answer k)
+    (record { even_is = a_is; odd_is = b_is; even_code = a_code; odd_code = b_code }) tame
+    (record { first = at_origin a a_is; second = at_origin b b_is })
 
 pub tame_ground_points_are_answered : TameGroundPointsAreAnswered
 tame_ground_points_are_answered even odd newest site answer a b k a_is b_is a_code b_code tame a_at b_at =
-    tame_points_are_answered 90 4 refl even odd newest _ _ answer a b site.lat.in_range.positive site.lon.in_range.positive k
-    (record { even_is = a_is; odd_is = b_is; even_code = a_code; odd_code = b_code }) tame (record { first = at_site a site a_at; second = at_site b site b_at })
+    tame_points_are_answered 90 4 refl even odd newest _ _ answer a b site.lat.in_range.positive
+    site.lon.in_range.positive k
+    (record { even_is = a_is; odd_is = b_is; even_code = a_code; odd_code = b_code }) tame
+    (record { first = at_site a site a_at; second = at_site b site b_at })
 
-code_of_newest : (w n m even odd : ℕ) (newest : Parity) (p q : ℤ) → IsClosePair w n m even odd p q → IsCongruent codes_of_zone (of_parity newest p q) (pos (of_parity newest even odd))
+code_of_newest : (w n m even odd : ℕ) (newest : Parity) (p q : ℤ) → IsClosePair w n m even odd p q
+    → IsCongruent codes_of_zone (of_parity newest p q) (pos (of_parity newest even odd))
 code_of_newest w n m even odd Even p q h = h.even_code
 code_of_newest w n m even odd Odd p q h = h.odd_code
 
-newest_code : (newest : Parity) (even odd : CodeNumbers) (p : Point) → IsCongruent codes_of_zone p.lat_index (pos (of_parity newest even.lat odd.lat)) →
-    IsCongruent codes_of_zone (pos p.lon_index) (pos (of_parity newest even.lon odd.lon)) → HasCode p (of_parity newest even odd)
+newest_code : (newest : Parity) (even odd : CodeNumbers) (p : Point)
+    → IsCongruent codes_of_zone p.lat_index (pos (of_parity newest even.lat odd.lat)) →
+    IsCongruent codes_of_zone (pos p.lon_index) (pos (of_parity newest even.lon odd.lon))
+    → HasCode p (of_parity newest even odd)
 newest_code Even even odd p h k = record { latitude = h; longitude = k }
 newest_code Odd even odd p h k = record { latitude = h; longitude = k }
 
-keeps_code : (w r : ℕ) (even odd : CodeNumbers) (newest : Parity) (p : Point) → IsPointOfPair w r even odd newest p → (p.parity ≡ newest) × HasCode p (of_parity newest even odd)
+keeps_code : (w r : ℕ) (even odd : CodeNumbers) (newest : Parity) (p : Point) → IsPointOfPair w r even odd newest p
+    → (p.parity ≡ newest) × HasCode p (of_parity newest even odd)
 keeps_code w r even odd newest p k = (
   k.parity,
   newest_code newest even odd p
       (rw k.lat_index (code_of_newest w 60 59 even.lat odd.lat newest k.even_lat k.odd_lat k.latitudes))
       (congruent_trans (code_of_circle p.zones r k.lon_index)
-      (code_of_newest w (zones_of Even (count_at w Even k.even_lat)) (zones_of Odd (count_at w Even k.even_lat)) even.lon odd.lon newest k.even_lon k.odd_lon k.longitudes)),
+      (code_of_newest w (zones_of Even (count_at w Even k.even_lat))
+      (zones_of Odd (count_at w Even k.even_lat)) even.lon odd.lon newest k.even_lon k.odd_lon k.longitudes)),
 )
 
 pub pair_keeps_code : (w r : ℕ) → PairKeepsCode w r

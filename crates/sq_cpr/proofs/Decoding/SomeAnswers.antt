@@ -51,7 +51,8 @@ some_local_answer w r e code parity lat lon s t =
       | inr out ↦ (Err locals.OutOfRange, (one.0, one.1, out))
       | inl inside ↦
           let zones : ℕ = lon_zones_at parity (grid_latitude w parity one.0) in
-          let lons = one_near_longitude w r e zones lon code.lon (lon_zones_at-least parity (grid_latitude w parity one.0)) t in
+          let lons = one_near_longitude w r e zones lon code.lon
+          (lon_zones_at-least parity (grid_latitude w parity one.0)) t in
           let point : Point = record { parity = parity; lat_index = one.0; zones = zones; lon_index = lons.0 } in (
             Ok point,
             record {
@@ -64,17 +65,26 @@ some_local_answer w r e code parity lat lon s t =
     ]
 
 -- the newest point of close latitudes with one zone count
-some_point : (w r : ℕ) → w * r ≡ 360 → (even odd : CodeNumbers) (newest : Parity) (lat lon : Fraction) (p q : ℤ) → 0 < lon.den
-    → AreLatitudes w even odd p q → AreAt w lat p q → AreInRange w p q → HaveOneCount w p q → (point : Point) × IsPointOfPairAt w r even odd newest lat lon point
+some_point : (w r : ℕ) → w * r ≡ 360 → (even odd : CodeNumbers) (newest : Parity) (lat lon : Fraction) (p q : ℤ)
+    → 0 < lon.den
+    → AreLatitudes w even odd p q → AreAt w lat p q → AreInRange w p q → HaveOneCount w p q
+    → (point : Point) × IsPointOfPairAt w r even odd newest lat lon point
 some_point w r e even odd newest lat lon p q t pair at inside same =
     let h : 0 < w = (span_bounds w r e).0 in
     let count : ℕ = count_at w Even p in
     let z = zone_exists (zones_of Even count) (zones_of Odd count) even.lon odd.lon in
-    let one = one_representative w (zones_of newest count) (pos (of_parity newest even.lon odd.lon) +ℤ pos codes_of_zone *ℤ z.0) lon h (some_zones newest count) t in
+    let one = one_representative w (zones_of newest count)
+    (pos (of_parity newest even.lon odd.lon) +ℤ pos codes_of_zone *ℤ z.0) lon h (some_zones newest count) t in
     let lons = newest_of_pair w count even.lon odd.lon newest z.0 one.0 h (some_count w Even p) z.1 one.1.0 in
-    let around : 0 < circle (zones_of newest count) r = mul_pos (zones_of newest count * codes_of_zone) r (mul_pos (zones_of newest count) codes_of_zone (some_zones newest count) (omega arith)) (span_bounds w r e).2 in
+    let around : 0 < circle (zones_of newest count) r = mul_pos (zones_of newest count * codes_of_zone) r
+    (mul_pos (zones_of newest count) codes_of_zone (some_zones newest count) (omega arith)) (span_bounds w r e).2 in
     let b = residue (circle (zones_of newest count) r) one.0 around in
-    let point : Point = record { parity = newest; lat_index = of_parity newest p q; zones = zones_of newest count; lon_index = b.0 } in (
+    let point : Point = record {
+      parity = newest;
+      lat_index = of_parity newest p q;
+      zones = zones_of newest count;
+      lon_index = b.0;
+    } in (
       point,
       record {
         of_pair = record {
@@ -102,7 +112,10 @@ some_pair_answer w r e even odd newest lat lon s t =
     elim (both_latitudes w p q) [
       | inr out ↦ (Err pairs.OutOfRange, (p, q, pair, at, out))
       | inl inside ↦ elim (cases_eq (count_at w Even p) (count_at w Odd q)) [
-        | inr differ ↦ (Err (pairs.ZoneCounts (count_at w Even p) (count_at w Odd q)), (p, q, pair, at, record { in_range = inside; even = refl; odd = refl; differ = differ }))
+        | inr differ ↦ (
+          Err (pairs.ZoneCounts (count_at w Even p) (count_at w Odd q)),
+          (p, q, pair, at, record { in_range = inside; even = refl; odd = refl; differ = differ }),
+        )
         | inl same ↦
             let found = some_point w r e even odd newest lat lon p q t pair at inside same in
             (Ok found.0, found.1)

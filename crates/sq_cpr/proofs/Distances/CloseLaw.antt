@@ -26,14 +26,19 @@ residue m z h =
 one_close : (w n m : ℕ) → 0 < w → 0 < n → 0 < m → Paired n m → HaveOneClosePair w n m
 one_close w n m d p q e even odd =
     let z = zone_exists n m even odd in
-    let r = residue (n * codes_of_zone) (pos even +ℤ pos codes_of_zone *ℤ z.0) (mul_pos n codes_of_zone p (omega arith)) in
-    let s = residue (m * codes_of_zone) (pos odd +ℤ pos codes_of_zone *ℤ z.0) (mul_pos m codes_of_zone q (omega arith)) in (
+    let r = residue (n * codes_of_zone) (pos even +ℤ pos codes_of_zone *ℤ z.0)
+    (mul_pos n codes_of_zone p (omega arith)) in
+    let s = residue (m * codes_of_zone) (pos odd +ℤ pos codes_of_zone *ℤ z.0)
+    (mul_pos m codes_of_zone q (omega arith)) in (
       record { even = r.0; odd = s.0 },
       (r.1, s.1, close_pair w n m even odd z.0 (pos r.0) (pos s.0) d p q e z.1 r.2 s.2),
-      λ (pair : IndexPair) (h : (pair.even < n * codes_of_zone) × (pair.odd < m * codes_of_zone) × IsClosePair w n m even odd (pos pair.even) (pos pair.odd)).
+      λ (pair : IndexPair) (h : (pair.even < n * codes_of_zone) × (pair.odd < m * codes_of_zone)
+          × IsClosePair w n m even odd (pos pair.even) (pos pair.odd)).
           let both = pair_at w n m even odd z.0 (pos pair.even) (pos pair.odd) d p q e z.1 h.2 in
-          let first : pair.even ≡ r.0 = same_below (n * codes_of_zone) pair.even r.0 h.0 r.1 (congruent_trans both.0 (congruent_sym r.2)) in
-          let second : pair.odd ≡ s.0 = same_below (m * codes_of_zone) pair.odd s.0 h.1 s.1 (congruent_trans both.1 (congruent_sym s.2)) in
+          let first : pair.even ≡ r.0 =
+          same_below (n * codes_of_zone) pair.even r.0 h.0 r.1 (congruent_trans both.0 (congruent_sym r.2)) in
+          let second : pair.odd ≡ s.0 =
+          same_below (m * codes_of_zone) pair.odd s.0 h.1 s.1 (congruent_trans both.1 (congruent_sym s.2)) in
           λ i. record { even = first i; odd = second i },
     )
 
@@ -41,7 +46,8 @@ pub one_close_latitudes : (w r : ℕ) → w * r ≡ 360 → OneCloseLatitudes w
 one_close_latitudes w r e = one_close w 60 59 (span_bounds w r e).0 (omega arith) (omega arith) paired_latitudes
 
 pub one_close_longitudes : (w r : ℕ) → w * r ≡ 360 → OneCloseLongitudes w
-one_close_longitudes w r e count h k = one_close w (zones_of Even count) (zones_of Odd count) (span_bounds w r e).0 (some_zones Even count) (some_zones Odd count) (paired_longitudes count h)
+one_close_longitudes w r e count h k = one_close w (zones_of Even count) (zones_of Odd count) (span_bounds w r e).0
+    (some_zones Even count) (some_zones Odd count) (paired_longitudes count h)
 
 -- in one zone any two are close
 any_close : (p q : ℤ) → LiesClose 1 1 p q
@@ -50,4 +56,5 @@ any_close p q =
     (one.0, (omega (arith, ints, one.1), omega (arith, ints, one.1)))
 
 pub one_zone_is_close : (w r : ℕ) → w * r ≡ 360 → OneZoneIsClose w
-one_zone_is_close w r e p q = close_from_lies w 1 1 p q (span_bounds w r e).0 (omega arith) (omega arith) (any_close p q)
+one_zone_is_close w r e p q =
+    close_from_lies w 1 1 p q (span_bounds w r e).0 (omega arith) (omega arith) (any_close p q)

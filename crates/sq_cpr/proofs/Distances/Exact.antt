@@ -18,10 +18,14 @@ same_fraction : (x y : Fraction) → x.num ≡ y.num → x.den ≡ y.den → x �
 same_fraction x y num den = λ i. record { num = num i; den = den i }
 
 -- the same inequalities, multiplied out
-over_is : (xd yd ld : ℕ) (xn yn ln : ℤ) → (pos ld *ℤ (pos yd *ℤ xn -ℤ pos xd *ℤ yn)) -ℤ (pos (xd * yd) *ℤ ln) ≡ (pos (yd * ld) *ℤ xn) -ℤ (pos xd *ℤ (pos ld *ℤ yn +ℤ pos yd *ℤ ln))
+over_is : (xd yd ld : ℕ) (xn yn ln : ℤ)
+    → (pos ld *ℤ (pos yd *ℤ xn -ℤ pos xd *ℤ yn)) -ℤ (pos (xd * yd) *ℤ ln)
+    ≡ (pos (yd * ld) *ℤ xn) -ℤ (pos xd *ℤ (pos ld *ℤ yn +ℤ pos yd *ℤ ln))
 over_is xd yd ld xn yn ln = simp scales (omega (arith, ints))
 
-under_is : (xd yd ld : ℕ) (xn yn ln : ℤ) → (pos (xd * yd) *ℤ neg_ℤ ln) -ℤ (pos ld *ℤ (pos yd *ℤ xn -ℤ pos xd *ℤ yn)) ≡ (pos (xd * ld) *ℤ yn) -ℤ (pos yd *ℤ (pos ld *ℤ xn +ℤ pos xd *ℤ ln))
+under_is : (xd yd ld : ℕ) (xn yn ln : ℤ)
+    → (pos (xd * yd) *ℤ neg_ℤ ln) -ℤ (pos ld *ℤ (pos yd *ℤ xn -ℤ pos xd *ℤ yn))
+    ≡ (pos (xd * ld) *ℤ yn) -ℤ (pos yd *ℤ (pos ld *ℤ xn +ℤ pos xd *ℤ ln))
 under_is xd yd ld xn yn ln = simp scales (omega (arith, ints))
 
 -- a below b where c is below d, and a - b and c - d are one
@@ -36,12 +40,15 @@ differ_exactly limit x y =
       λ h. record { above = below_as _ _ _ _ (sym under) h.1; below = below_as _ _ _ _ (sym over) h.0 },
     )
 
-turn_num : (xd yd : ℕ) (xn yn turns : ℤ) → pos 1 *ℤ (pos yd *ℤ xn -ℤ pos xd *ℤ yn) +ℤ pos (xd * yd) *ℤ (pos 360 *ℤ turns) ≡ pos yd *ℤ (xn +ℤ pos (360 * xd) *ℤ turns) -ℤ pos xd *ℤ yn
+turn_num : (xd yd : ℕ) (xn yn turns : ℤ)
+    → pos 1 *ℤ (pos yd *ℤ xn -ℤ pos xd *ℤ yn) +ℤ pos (xd * yd) *ℤ (pos 360 *ℤ turns)
+    ≡ pos yd *ℤ (xn +ℤ pos (360 * xd) *ℤ turns) -ℤ pos xd *ℤ yn
 turn_num xd yd xn yn turns = simp scales (omega (arith, ints))
 
 -- the difference, so many turns on, is that of the angle so many turns on
 turned_is : (x y : Fraction) (turns : ℤ) → difference 360 x y turns ≡ minus (turned x turns) y
-turned_is x y turns = same_fraction (difference 360 x y turns) (minus (turned x turns) y) (turn_num x.den y.den x.num y.num turns) (omega arith)
+turned_is x y turns = same_fraction (difference 360 x y turns) (minus (turned x turns) y)
+    (turn_num x.den y.den x.num y.num turns) (omega arith)
 
 pub differ_around_exactly : DifferAroundExactly
 differ_around_exactly limit x y = (
@@ -61,10 +68,18 @@ second_num xd yd xn yn t s = simp scales (omega (arith, ints))
 
 pub turns_change_nothing : TurnsChangeNothing
 turns_change_nothing = record {
-  first = λ limit x y s h.
-      (h.0 -ℤ s, subst (IsSmallerThan limit) (same_fraction (difference 360 x y h.0) (difference 360 (turned x s) y (h.0 -ℤ s)) (first_num x.den y.den x.num y.num h.0 s) refl) h.1);
-  second = λ limit x y s h.
-      (h.0 +ℤ s, subst (IsSmallerThan limit) (same_fraction (difference 360 x y h.0) (difference 360 x (turned y s) (h.0 +ℤ s)) (second_num x.den y.den x.num y.num h.0 s) refl) h.1);
+  first = λ limit x y s h. (
+    h.0 -ℤ s,
+    subst (IsSmallerThan limit)
+        (same_fraction (difference 360 x y h.0) (difference 360 (turned x s) y (h.0 -ℤ s))
+        (first_num x.den y.den x.num y.num h.0 s) refl) h.1,
+  );
+  second = λ limit x y s h. (
+    h.0 +ℤ s,
+    subst (IsSmallerThan limit)
+        (same_fraction (difference 360 x y h.0) (difference 360 x (turned y s) (h.0 +ℤ s))
+        (second_num x.den y.den x.num y.num h.0 s) refl) h.1,
+  );
 }
 
 pub across_180_degrees : Across180Degrees
@@ -86,49 +101,69 @@ at_the_limits = record {
 -- a longitude of the circle, east of Greenwich or less 360 degrees, and its index some turns on
 east_num : (w r z b xd : ℕ) (xn t : ℤ) →
     pos xd *ℤ (pos w *ℤ (pos b +ℤ pos (z * codes_of_zone * r) *ℤ t)) -ℤ pos (z * codes_of_zone) *ℤ xn
-    ≡ pos 1 *ℤ (pos xd *ℤ pos (w * b) -ℤ pos (z * codes_of_zone) *ℤ xn) +ℤ pos (z * codes_of_zone * xd) *ℤ (pos (w * r) *ℤ t)
+    ≡ pos 1 *ℤ (pos xd *ℤ pos (w * b) -ℤ pos (z * codes_of_zone) *ℤ xn) +ℤ pos (z * codes_of_zone * xd) *ℤ
+    (pos (w * r) *ℤ t)
 east_num w r z b xd xn t = simp scales (omega (arith, ints))
 
 west_num : (w z b xd : ℕ) (xn t : ℤ) →
     pos 1 *ℤ (pos xd *ℤ pos (w * b) -ℤ pos (z * codes_of_zone) *ℤ xn) +ℤ pos (z * codes_of_zone * xd) *ℤ (pos 360 *ℤ t)
-    ≡ pos 1 *ℤ (pos xd *ℤ (pos (w * b) -ℤ pos (360 * (z * codes_of_zone))) -ℤ pos (z * codes_of_zone) *ℤ xn) +ℤ pos (z * codes_of_zone * xd) *ℤ (pos 360 *ℤ (t +ℤ pos 1))
+    ≡ pos 1 *ℤ (pos xd *ℤ (pos (w * b) -ℤ pos (360 * (z * codes_of_zone))) -ℤ pos (z * codes_of_zone) *ℤ xn) +ℤ pos
+    (z * codes_of_zone * xd) *ℤ (pos 360 *ℤ (t +ℤ pos 1))
 west_num w z b xd xn t = simp scales (omega (arith, ints))
 
 -- the longitude by which half of the circle it lies on
 lon_on : (east : Bool) → (w z b : ℕ) → Fraction
-lon_on east w z b = record { num = if east then pos (w * b) else (pos (w * b) -ℤ pos (360 * (z * codes_of_zone))); den = z * codes_of_zone }
+lon_on east w z b = record {
+  num = if east then pos (w * b) else (pos (w * b) -ℤ pos (360 * (z * codes_of_zone)));
+  den = z * codes_of_zone;
+}
 
 IsNearTurn : (w r z b : ℕ) (limit x : Fraction) → Type 0
 IsNearTurn w r z b limit x = OnSomeTurn (circle z r) b (λ i. DifferByLess limit (angle_at w z i) x)
 
-east_is : (w r z b : ℕ) (x : Fraction) (t : ℤ) → w * r ≡ 360 → minus (angle_at w z (pos b +ℤ pos (circle z r) *ℤ t)) x ≡ difference 360 (lon_on true w z b) x t
+east_is : (w r z b : ℕ) (x : Fraction) (t : ℤ) → w * r ≡ 360
+    → minus (angle_at w z (pos b +ℤ pos (circle z r) *ℤ t)) x ≡ difference 360 (lon_on true w z b) x t
 unfolding lon_on
 east_is w r z b x t full =
-    let e : (minus (angle_at w z (pos b +ℤ pos (circle z r) *ℤ t)) x).num ≡ (difference 360 (lon_on true w z b) x t).num = rw full at (east_num w r z b x.den x.num t) in
+    let e : (minus (angle_at w z (pos b +ℤ pos (circle z r) *ℤ t)) x).num
+    ≡ (difference 360 (lon_on true w z b) x t).num = rw full at (east_num w r z b x.den x.num t) in
     same_fraction _ _ e (omega arith)
 
-west_is : (w z b : ℕ) (x : Fraction) (t : ℤ) → difference 360 (lon_on true w z b) x t ≡ difference 360 (lon_on false w z b) x (t +ℤ pos 1)
+west_is : (w z b : ℕ) (x : Fraction) (t : ℤ)
+    → difference 360 (lon_on true w z b) x t ≡ difference 360 (lon_on false w z b) x (t +ℤ pos 1)
 unfolding lon_on
 west_is w z b x t = same_fraction _ _ (west_num w z b x.den x.num t) refl
 
-around_east : (w r z b : ℕ) (limit x : Fraction) → w * r ≡ 360 → IsNearTurn w r z b limit x ↔ DifferByLessAround limit (lon_on true w z b) x
+around_east : (w r z b : ℕ) (limit x : Fraction) → w * r ≡ 360 → IsNearTurn w r z b limit x
+    ↔ DifferByLessAround limit (lon_on true w z b) x
 unfolding IsNearTurn
 around_east w r z b limit x full = (
-  λ h. (h.1.times, subst (IsSmallerThan limit) (east_is w r z b x h.1.times full) (subst (λ (i : ℤ). IsSmallerThan limit (minus (angle_at w z i) x)) h.1.apart h.2)),
-  λ k. (pos b +ℤ pos (circle z r) *ℤ k.0, record { times = k.0; apart = refl }, subst (IsSmallerThan limit) (sym (east_is w r z b x k.0 full)) k.1),
+  λ h. (
+    h.1.times,
+    subst (IsSmallerThan limit) (east_is w r z b x h.1.times full)
+        (subst (λ (i : ℤ). IsSmallerThan limit (minus (angle_at w z i) x)) h.1.apart h.2),
+  ),
+  λ k. (
+    pos b +ℤ pos (circle z r) *ℤ k.0,
+    record { times = k.0; apart = refl },
+    subst (IsSmallerThan limit) (sym (east_is w r z b x k.0 full)) k.1,
+  ),
 )
 
 less_one_more : (t : ℤ) → (t -ℤ pos 1) +ℤ pos 1 ≡ t
 less_one_more t = omega (arith, ints)
 
-around_by : (east : Bool) (w r z b : ℕ) (limit x : Fraction) → w * r ≡ 360 → IsNearTurn w r z b limit x ↔ DifferByLessAround limit (lon_on east w z b) x
+around_by : (east : Bool) (w r z b : ℕ) (limit x : Fraction) → w * r ≡ 360 → IsNearTurn w r z b limit x
+    ↔ DifferByLessAround limit (lon_on east w z b) x
 around_by true w r z b limit x full = around_east w r z b limit x full
 around_by false w r z b limit x full = (
-  λ h. let k = (around_east w r z b limit x full).0 h in (k.0 +ℤ pos 1, subst (IsSmallerThan limit) (west_is w z b x k.0) k.1),
+  λ h. let k = (around_east w r z b limit x full).0 h in
+      (k.0 +ℤ pos 1, subst (IsSmallerThan limit) (west_is w z b x k.0) k.1),
   λ k.
       let there : IsSmallerThan limit (difference 360 (lon_on false w z b) x ((k.0 -ℤ pos 1) +ℤ pos 1)) =
       subst (λ (t : ℤ). IsSmallerThan limit (difference 360 (lon_on false w z b) x t)) (sym (less_one_more k.0)) k.1 in
-      (around_east w r z b limit x full).1 (k.0 -ℤ pos 1, subst (IsSmallerThan limit) (sym (west_is w z b x (k.0 -ℤ pos 1))) there),
+      (around_east w r z b limit x full).1
+      (k.0 -ℤ pos 1, subst (IsSmallerThan limit) (sym (west_is w z b x (k.0 -ℤ pos 1))) there),
 )
 
 pub point_within_exactly : (w r : ℕ) → w * r ≡ 360 → PointWithinExactly w r

@@ -22,15 +22,18 @@ abs_at_most : (a : ℤ) (n : ℕ) → a ≤ℤ pos n → neg_ℤ (pos n) ≤ℤ 
 abs_at_most (pos a) n h k = omega (arith, ints)
 abs_at_most (negsuc a) n h k = omega (arith, ints)
 
-pub index_small : (count degrees zones : ℕ) (index : ℤ) (r : Fraction) → count ≤ 60 → zones ≤ 60 → 0 < degrees → 0 < r.den → IsWithin 180 r →
+pub index_small : (count degrees zones : ℕ) (index : ℤ) (r : Fraction) → count ≤ 60 → zones ≤ 60 → 0 < degrees
+    → 0 < r.den → IsWithin 180 r →
     LiesWithin count degrees zones index r → unsigned_abs index < 2 ^ 31
 index_small count degrees zones index r c z d p w h =
     let unit : ℕ = degrees * r.den in
     let positive : 0 < unit = mul_pos degrees r.den d p in
-    let steps : unsigned_abs (pos (zones * codes_of_zone) *ℤ r.num) ≤ 60 * codes_of_zone * (180 * r.den) = scaled_size (zones * codes_of_zone) (60 * codes_of_zone) (180 * r.den) r.num (omega arith) w in
+    let steps : unsigned_abs (pos (zones * codes_of_zone) *ℤ r.num) ≤ 60 * codes_of_zone * (180 * r.den) =
+    scaled_size (zones * codes_of_zone) (60 * codes_of_zone) (180 * r.den) r.num (omega arith) w in
     let more : 1 * r.den ≤ degrees * r.den = mul-le-mul_right r.den d in
     let width : count * codes_of_zone * unit ≤ 60 * codes_of_zone * unit = mul-le-mul_right unit (omega arith) in
-    let size : unsigned_abs (pos unit *ℤ index) ≤ 1422000000 * unit = abs_at_most (pos unit *ℤ index) (1422000000 * unit) (omega (arith, ints, h.0, h.1)) (omega (arith, ints, h.0, h.1)) in
+    let size : unsigned_abs (pos unit *ℤ index) ≤ 1422000000 * unit = abs_at_most (pos unit *ℤ index)
+    (1422000000 * unit) (omega (arith, ints, h.0, h.1)) (omega (arith, ints, h.0, h.1)) in
     let product : unsigned_abs index * unit ≤ 1422000000 * unit = omega (arith, unsigned_abs-mul (pos unit) index) in
     let small : unsigned_abs index ≤ 1422000000 = le_of_mul-le-mul_right product positive in
     omega arith
@@ -40,13 +43,17 @@ pub quotient_parts : (value q divisor : ℤ) → pos 0 <ℤ divisor → q ≡ in
     ((divisor *ℤ q) ≤ℤ value) × (value <ℤ (divisor *ℤ q +ℤ divisor)) × (unsigned_abs q ≤ unsigned_abs value)
 quotient_parts value q divisor some e =
     let positive : pos (unsigned_abs divisor) ≡ divisor = omega (arith, ints) in
-    subst (λ d. q ≡ int_div_euclid value d → ((d *ℤ q) ≤ℤ value) × (value <ℤ (d *ℤ q +ℤ d)) × (unsigned_abs q ≤ unsigned_abs value)) positive
+    subst (λ d. q ≡ int_div_euclid value d
+    → ((d *ℤ q) ≤ℤ value) × (value <ℤ (d *ℤ q +ℤ d)) × (unsigned_abs q ≤ unsigned_abs value)) positive
     (quotient_down_parts value q (unsigned_abs divisor) (omega (arith, ints))) e
 
 -- The nearest whole number to v over 2 e is small where v is.
-pub rounded_small : (v q : ℤ) (e : ℕ) → 0 < e → unsigned_abs v ≤ 5662310400 * e → IsRounded v e q → unsigned_abs q < 2 ^ 40
+pub rounded_small : (v q : ℤ) (e : ℕ) → 0 < e → unsigned_abs v ≤ 5662310400 * e → IsRounded v e q
+    → unsigned_abs q < 2 ^ 40
 rounded_small v q e some size r =
-    let wide : unsigned_abs (pos (2 * e) *ℤ q) ≤ 5662310403 * e = abs_at_most (pos (2 * e) *ℤ q) (5662310403 * e) (omega (arith, ints, r.from, size)) (omega (arith, ints, r.below, size)) in
-    let product : unsigned_abs q * (2 * e) ≤ 2831155202 * (2 * e) = omega (arith, wide, unsigned_abs-mul (pos (2 * e)) q) in
+    let wide : unsigned_abs (pos (2 * e) *ℤ q) ≤ 5662310403 * e = abs_at_most (pos (2 * e) *ℤ q) (5662310403 * e)
+    (omega (arith, ints, r.from, size)) (omega (arith, ints, r.below, size)) in
+    let product : unsigned_abs q * (2 * e) ≤ 2831155202 * (2 * e) =
+    omega (arith, wide, unsigned_abs-mul (pos (2 * e)) q) in
     let small : unsigned_abs q ≤ 2831155202 = le_of_mul-le-mul_right product (omega arith) in
     omega arith

@@ -21,42 +21,52 @@ use Rattle.sq_cpr.proofs.Grids.SpanBounds.{nearest_within_90, lat_zones_at-least
 
 -- a point of these parts
 abbrev made : Parity → ℤ → ℕ → ℕ → Point
-made parity lat_index zones lon_index = record { parity = parity; lat_index = lat_index; zones = zones; lon_index = lon_index }
+made parity lat_index zones lon_index =
+    record { parity = parity; lat_index = lat_index; zones = zones; lon_index = lon_index }
 
 -- points of the same parts are one
-pub point_same : (p q : Point) → p.parity ≡ q.parity → p.lat_index ≡ q.lat_index → p.zones ≡ q.zones → p.lon_index ≡ q.lon_index → p ≡ q
+pub point_same : (p q : Point) → p.parity ≡ q.parity → p.lat_index ≡ q.lat_index → p.zones ≡ q.zones
+    → p.lon_index ≡ q.lon_index → p ≡ q
 point_same p q a b c d =
     ap (λ x. made x p.lat_index p.zones p.lon_index) a ∙ ap (λ x. made q.parity x p.zones p.lon_index) b
     ∙ ap (λ x. made q.parity q.lat_index x p.lon_index) c ∙ ap (λ x. made q.parity q.lat_index q.zones x) d
 
 -- the zones of a grid's point follow from its parity and its latitude index
-pub zones_same : (w r : ℕ) (p q : Point) → IsGridPoint w r p → IsGridPoint w r q → p.parity ≡ q.parity → p.lat_index ≡ q.lat_index → p.zones ≡ q.zones
+pub zones_same : (w r : ℕ) (p q : Point) → IsGridPoint w r p → IsGridPoint w r q → p.parity ≡ q.parity
+    → p.lat_index ≡ q.lat_index → p.zones ≡ q.zones
 zones_same w r p q g h e f =
     g.zones ∙ ap₂ (λ (parity : Parity) (a : ℤ). lon_zones_at parity (grid_latitude w parity a)) e f ∙ sym h.zones
 
 pub same_points : (w r : ℕ) → SamePoints w r
 same_points w r p q g h = (
   λ (e : p ≡ q). (ap (λ (x : Point). x.parity) e, ap (λ (x : Point). x.lat_index) e, ap (λ (x : Point). x.lon_index) e),
-  λ (e : (p.parity ≡ q.parity) × (p.lat_index ≡ q.lat_index) × (p.lon_index ≡ q.lon_index)). point_same p q e.0 e.1 (zones_same w r p q g h e.0 e.1) e.2,
+  λ (e : (p.parity ≡ q.parity) × (p.lat_index ≡ q.lat_index) × (p.lon_index ≡ q.lon_index)). point_same p q e.0 e.1
+      (zones_same w r p q g h e.0 e.1) e.2,
 )
 
 -- a position rounds to at most one point of a parity's grid
-pub rounds_once : (w r : ℕ) (lat lon : Fraction) (p q : Point) → p.parity ≡ q.parity → RoundsTo w r lat lon p → RoundsTo w r lat lon q → p ≡ q
+pub rounds_once : (w r : ℕ) (lat lon : Fraction) (p q : Point) → p.parity ≡ q.parity → RoundsTo w r lat lon p
+    → RoundsTo w r lat lon q → p ≡ q
 rounds_once w r lat lon p q same a b =
     let z = lat_zones q.parity in
-    let a' : IsNearest lat (step w z) p.lat_index = subst (λ parity. IsNearest lat (step w (lat_zones parity)) p.lat_index) same a.north_south in
+    let a' : IsNearest lat (step w z) p.lat_index =
+    subst (λ parity. IsNearest lat (step w (lat_zones parity)) p.lat_index) same a.north_south in
     let lat_same = nearest_once lat w (z * 131072) p.lat_index q.lat_index a' b.north_south in
     let zone_same = zones_same w r p q a.of_grid b.of_grid same lat_same in
-    let east : IsNearest lon (step w q.zones) a.east_west.0 = subst (λ n. IsNearest lon (step w n) a.east_west.0) zone_same a.east_west.1 in
+    let east : IsNearest lon (step w q.zones) a.east_west.0 =
+    subst (λ n. IsNearest lon (step w n) a.east_west.0) zone_same a.east_west.1 in
     let index_same = nearest_once lon w (q.zones * 131072) a.east_west.0 b.east_west.0 east b.east_west.1 in
     let within : p.lon_index < circle q.zones r = subst (λ n. p.lon_index < circle n r) zone_same a.of_grid.east_west in
     let congruent : IsCongruent (circle q.zones r) b.east_west.0 (pos p.lon_index)
-    = subst (λ k. IsCongruent (circle q.zones r) k (pos p.lon_index)) index_same (subst (λ n. IsCongruent (circle n r) a.east_west.0 (pos p.lon_index)) zone_same a.east_west.2) in
-    let lon_same = same_below (circle q.zones r) p.lon_index q.lon_index within b.of_grid.east_west (congruent_trans (congruent_sym congruent) b.east_west.2) in
+    = subst (λ k. IsCongruent (circle q.zones r) k (pos p.lon_index)) index_same
+    (subst (λ n. IsCongruent (circle n r) a.east_west.0 (pos p.lon_index)) zone_same a.east_west.2) in
+    let lon_same = same_below (circle q.zones r) p.lon_index q.lon_index within b.of_grid.east_west
+    (congruent_trans (congruent_sym congruent) b.east_west.2) in
     point_same p q same lat_same zone_same lon_same
 
 -- and to one, which the nearest indices make
-pub rounds_somewhere : (w r : ℕ) → w * r ≡ 360 → (parity : Parity) (lat lon : Fraction) → 0 < lat.den → 0 < lon.den → IsPosition lat lon
+pub rounds_somewhere : (w r : ℕ) → w * r ≡ 360 → (parity : Parity) (lat lon : Fraction) → 0 < lat.den → 0 < lon.den
+    → IsPosition lat lon
     → (point : Point) × (point.parity ≡ parity) × RoundsTo w r lat lon point
 rounds_somewhere w r e parity lat lon some_lat some_lon is =
     let wide = (span_bounds w r e).0 in
@@ -66,23 +76,39 @@ rounds_somewhere w r e parity lat lon some_lat some_lon is =
     let columns = lon_zones_at-least parity (grid_latitude w parity a) in
     let east = one_nearest lon w (zones * 131072) some_lon wide in
     let left = rem_is_pos east.0 (circle zones r) (circle_positive w r zones e columns) in
-    let congruent : IsCongruent (circle zones r) east.0 (pos left.0) = rw left.1 at (congruent_rem east.0 (circle zones r) (circle_positive w r zones e columns)) in
+    let congruent : IsCongruent (circle zones r) east.0 (pos left.0) =
+    rw left.1 at (congruent_rem east.0 (circle zones r) (circle_positive w r zones e columns)) in
     let of_grid : IsGridPoint w r (made parity a zones left.0)
-    = record { north_south = nearest_within_90 lat w r (lat_zones parity) a e some_lat is.latitude north.1; zones = refl; east_west = left.2 } in
-    (made parity a zones left.0, refl, record { of_grid = of_grid; north_south = north.1; east_west = (east.0, east.1, congruent) })
+    = record {
+      north_south = nearest_within_90 lat w r (lat_zones parity) a e some_lat is.latitude north.1;
+      zones = refl;
+      east_west = left.2;
+    } in (
+      made parity a zones left.0,
+      refl,
+      record { of_grid = of_grid; north_south = north.1; east_west = (east.0, east.1, congruent) },
+    )
 
 pub rounds_to_one : (w r : ℕ) → w * r ≡ 360 → RoundsToOne w r
 rounds_to_one w r e parity lat lon some_lat some_lon is =
-    let one = rounds_somewhere w r e parity lat lon some_lat some_lon is in
-    (one.0, (one.1, one.2), λ (q : Point) (h : (q.parity ≡ parity) × RoundsTo w r lat lon q). rounds_once w r lat lon q one.0 (h.0 ∙ sym one.1) h.1 one.2)
+    let one = rounds_somewhere w r e parity lat lon some_lat some_lon is in (
+      one.0,
+      (one.1, one.2),
+      λ (q : Point)
+          (h : (q.parity ≡ parity) × RoundsTo w r lat lon q). rounds_once w r lat lon q one.0 (h.0 ∙ sym one.1) h.1
+          one.2,
+    )
 
 -- the index of a longitude east of the prime meridian is its own, and of one west a circle less
 own_longitude : (w r z b : ℕ) (east : Bool) → w * r ≡ 360 → 1 ≤ z →
     let d = z * 131072 in
     let x : Fraction = record { num = if east then pos (w * b) else (pos (w * b) -ℤ pos (360 * d)); den = d } in
     (index : ℤ) × IsNearest x (step w z) index × IsCongruent (circle z r) index (pos b)
-own_longitude w r z b true e p =
-    (pos b, nearest_itself (pos b) w (z * 131072) (span_bounds w r e).0 (omega arith), record { times = pos 0; apart = omega (arith, ints) })
+own_longitude w r z b true e p = (
+  pos b,
+  nearest_itself (pos b) w (z * 131072) (span_bounds w r e).0 (omega arith),
+  record { times = pos 0; apart = omega (arith, ints) },
+)
 own_longitude w r z b false e p =
     let C = z * 131072 * r in
     let west = pos b +ℤ neg_ℤ (pos C) in
@@ -91,7 +117,8 @@ own_longitude w r z b false e p =
     let h = scale-neg w (pos C) in
     let num_is : pos w *ℤ west ≡ pos (w * b) -ℤ pos (360 * (z * 131072)) = omega (arith, ints) in (
       west,
-      subst (λ num. IsNearest (record { num = num; den = z * 131072 }) (step w z) west) num_is (nearest_itself west w (z * 131072) (span_bounds w r e).0 (omega arith)),
+      subst (λ num. IsNearest (record { num = num; den = z * 131072 }) (step w z) west) num_is
+          (nearest_itself west w (z * 131072) (span_bounds w r e).0 (omega arith)),
       record { times = negsuc 0; apart = omega (arith, ints) },
     )
 

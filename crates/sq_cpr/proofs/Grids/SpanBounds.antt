@@ -18,7 +18,8 @@ quarter w r z xd e =
     omega arith
 
 -- what is nearest to a latitude within 90 degrees stands for one within 90 degrees
-pub nearest_within_90 : (x : Fraction) (w r z : ℕ) (a : ℤ) → w * r ≡ 360 → 1 ≤ x.den → IsWithin 90 x → IsNearest x (step w z) a → IsWithin 90 (record { num = pos w *ℤ a; den = z * 131072 })
+pub nearest_within_90 : (x : Fraction) (w r z : ℕ) (a : ℤ) → w * r ≡ 360 → 1 ≤ x.den → IsWithin 90 x
+    → IsNearest x (step w z) a → IsWithin 90 (record { num = pos w *ℤ a; den = z * 131072 })
 nearest_within_90 x w r z a e p h n =
     let E = 2 * (x.den * w) in
     let D = 2 * (z * 131072) in
@@ -34,7 +35,8 @@ nearest_within_90 x w r z a e p h n =
     let n3 = scale-neg w (pos B) in
     let wide = (span_bounds w r e).0 in
     let east : a <ℤ (pos B +ℤ pos 1) = quotient_below a (pos B) m E rounded.from (omega (arith, ints)) in
-    let west : neg_ℤ (pos B) <ℤ (a +ℤ pos 1) = quotient_below (neg_ℤ (pos B)) a m E (omega (arith, ints)) rounded.below in
+    let west : neg_ℤ (pos B) <ℤ (a +ℤ pos 1) =
+    quotient_below (neg_ℤ (pos B)) a m E (omega (arith, ints)) rounded.below in
     let east' = scale-le w a (pos B) (omega (arith, ints)) in
     let west' = scale-le w (neg_ℤ (pos B)) a (omega (arith, ints)) in
     omega (arith, ints)

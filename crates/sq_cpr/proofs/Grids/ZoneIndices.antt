@@ -19,7 +19,8 @@ module _ (x : Fraction) (w d : ℕ) (a j : ℤ) (n : IsNearest x (step_of w d) a
       let r = rounded_from_nearest x w d a n in
       let from = zone.from in
       let edge = scale-scale x.den w (pos 2 *ℤ (pos 131072 *ℤ j) -ℤ pos 1) ∙ odd_below (pos 131072 *ℤ j) e in
-      let h : (pos 131072 *ℤ j) <ℤ (a +ℤ pos 1) = quotient_below (pos 131072 *ℤ j) a m (2 * e) (omega (arith, ints)) r.below in
+      let h : (pos 131072 *ℤ j) <ℤ (a +ℤ pos 1) =
+      quotient_below (pos 131072 *ℤ j) a m (2 * e) (omega (arith, ints)) r.below in
       omega (arith, ints)
 
   -- and below the next zone's first
@@ -59,7 +60,8 @@ circle_of_degrees w r z xd e =
     omega arith
 
 -- a whole turn moves the nearest index by a circle of steps
-pub nearest_turned : (x : Fraction) (w r z : ℕ) (k turns : ℤ) → w * r ≡ 360 → IsNearest x (step w z) k → IsNearest (turned x turns) (step w z) (k +ℤ pos (circle z r) *ℤ turns)
+pub nearest_turned : (x : Fraction) (w r z : ℕ) (k turns : ℤ) → w * r ≡ 360 → IsNearest x (step w z) k
+    → IsNearest (turned x turns) (step w z) (k +ℤ pos (circle z r) *ℤ turns)
 nearest_turned x w r z k turns e n =
     let E = 2 * (x.den * w) in
     let D = 2 * (z * 131072) in
@@ -68,19 +70,25 @@ nearest_turned x w r z k turns e n =
     let from = rounded.from in
     let below = rounded.below in
     let sides : pos E *ℤ (pos C *ℤ turns) ≡ pos D *ℤ (pos (360 * x.den) *ℤ turns)
-    = scale-scale E C turns ∙ ap (λ (m : ℕ). pos m *ℤ turns) (circle_of_degrees w r z x.den e) ∙ sym (scale-scale D (360 * x.den) turns) in
+    = scale-scale E C turns ∙ ap (λ (m : ℕ). pos m *ℤ turns) (circle_of_degrees w r z x.den e)
+    ∙ sym (scale-scale D (360 * x.den) turns) in
     let left = scale-sum E k (pos C *ℤ turns) in
     let right = scale-sum D x.num (pos (360 * x.den) *ℤ turns) in
-    nearest_from_rounded (turned x turns) w (z * 131072) (k +ℤ pos C *ℤ turns) (record { from = omega (arith, ints); below = omega (arith, ints) })
+    nearest_from_rounded (turned x turns) w (z * 131072) (k +ℤ pos C *ℤ turns)
+    (record { from = omega (arith, ints); below = omega (arith, ints) })
 
 -- where b is below c, and so is b with c some times more, that is no times
-still : (b c : ℕ) (turns : ℤ) → b < c → pos 0 ≤ℤ (pos b +ℤ pos c *ℤ turns) → (pos b +ℤ pos c *ℤ turns) <ℤ pos c → turns ≡ pos 0
+still : (b c : ℕ) (turns : ℤ) → b < c → pos 0 ≤ℤ (pos b +ℤ pos c *ℤ turns) → (pos b +ℤ pos c *ℤ turns) <ℤ pos c
+    → turns ≡ pos 0
 still b c turns h low high =
-    block_once turns (pos 0) (pos b +ℤ pos c *ℤ turns) c (omega (arith, ints)) (omega (arith, ints)) (omega (arith, ints)) (omega (arith, ints))
+    block_once turns (pos 0) (pos b +ℤ pos c *ℤ turns) c (omega (arith, ints)) (omega (arith, ints))
+    (omega (arith, ints)) (omega (arith, ints))
 
 -- the longitude index of a position's point is one of the position's longitude zone
-pub lon_zone_index : (x : Fraction) (w r z b l : ℕ) (k turns : ℤ) → w * r ≡ 360 → IsNearest x (step w z) k → IsCongruent (circle z r) k (pos b) → b < circle z r → l < z * r
-    → IsInZone (turned x turns) (step w z) (pos l) → ((pos 131072 *ℤ pos l) ≤ℤ pos b) × (pos b <ℤ (pos 131072 *ℤ pos l +ℤ pos 131072))
+pub lon_zone_index : (x : Fraction) (w r z b l : ℕ) (k turns : ℤ) → w * r ≡ 360 → IsNearest x (step w z) k
+    → IsCongruent (circle z r) k (pos b) → b < circle z r → l < z * r
+    → IsInZone (turned x turns) (step w z) (pos l)
+    → ((pos 131072 *ℤ pos l) ≤ℤ pos b) × (pos b <ℤ (pos 131072 *ℤ pos l +ℤ pos 131072))
 lon_zone_index x w r z b l k turns e n c h few zone =
     let C = z * 131072 * r in
     let k' = k +ℤ pos C *ℤ turns in
@@ -89,12 +97,15 @@ lon_zone_index x w r z b l k turns e n c h few zone =
     let below = zone_below (turned x turns) w (z * 131072) k' (pos l) n' zone in
     let total = scale-sum C c.times turns in
     let room : (l + 1) * 131072 ≤ z * r * 131072 = mul-le-mul_right 131072 (omega arith) in
-    let none = ap (λ s. pos C *ℤ s) (still b C (c.times +ℤ turns) h (omega (arith, ints, c.apart)) (omega (arith, ints, c.apart))) in
+    let none = ap (λ s. pos C *ℤ s)
+    (still b C (c.times +ℤ turns) h (omega (arith, ints, c.apart)) (omega (arith, ints, c.apart))) in
     (omega (arith, ints, c.apart), omega (arith, ints, c.apart))
 
 -- the zone of a longitude index is the position's, turned as the index was
-pub lon_index_zone : (x : Fraction) (w r z b l : ℕ) (k : ℤ) → w * r ≡ 360 → IsNearest x (step w z) k → (c : IsCongruent (circle z r) k (pos b))
-    → (pos 131072 *ℤ pos l) ≤ℤ pos b → pos b <ℤ (pos 131072 *ℤ pos l +ℤ pos 131072) → IsInZone (turned x (neg_ℤ c.times)) (step w z) (pos l)
+pub lon_index_zone : (x : Fraction) (w r z b l : ℕ) (k : ℤ) → w * r ≡ 360 → IsNearest x (step w z) k
+    → (c : IsCongruent (circle z r) k (pos b))
+    → (pos 131072 *ℤ pos l) ≤ℤ pos b → pos b <ℤ (pos 131072 *ℤ pos l +ℤ pos 131072)
+    → IsInZone (turned x (neg_ℤ c.times)) (step w z) (pos l)
 lon_index_zone x w r z b l k e n c low high =
     let C = z * 131072 * r in
     let turns = neg_ℤ c.times in

@@ -38,22 +38,26 @@ use Rattle.sq_track.proofs.Listing.Found.{found, none_is_some}
 use Rattle.sq_track.proofs.Histories.Entries.{recent_is}
 
 -- a fault is no place
-fault_is_place : {A : Type 0} (place : Place) (fault : PlaceFault) → ◌≡◌ {A = Result Place PlaceFault} (Ok place) (Err fault) → A
+fault_is_place : {A : Type 0} (place : Place) (fault : PlaceFault)
+    → ◌≡◌ {A = Result Place PlaceFault} (Ok place) (Err fault) → A
 fault_is_place place fault e = absurd (cc e)
 
 -- ---- decoding has an answer
 
 some_local : (me : Me) (reference : Position) → (answer : Result Place PlaceFault) × IsLocalPlace me reference answer
 some_local (kinds.Airborne a) r =
-    let found = some_local_answer 360 1 refl (numbers_of a.code) a.parity (degrees (lat_of r)) (degrees (lon_of r)) r.lat.in_range.positive r.lon.in_range.positive in
+    let found = some_local_answer 360 1 refl (numbers_of a.code) a.parity (degrees (lat_of r))
+    (degrees (lon_of r)) r.lat.in_range.positive r.lon.in_range.positive in
     (place_of Air of_local found.0, (found.0, found.1, refl))
 some_local (kinds.Surface s) r =
-    let found = some_local_answer 90 4 refl (numbers_of s.code) s.parity (degrees (lat_of r)) (degrees (lon_of r)) r.lat.in_range.positive r.lon.in_range.positive in
+    let found = some_local_answer 90 4 refl (numbers_of s.code) s.parity (degrees (lat_of r))
+    (degrees (lon_of r)) r.lat.in_range.positive r.lon.in_range.positive in
     (place_of Ground of_local found.0, (found.0, found.1, refl))
 some_local (kinds.Other o) r = (Err faults.NotPosition, refl)
 
 -- of one parity, or of two
-some_of_parities : (p q : Parity) (Rest : Result Place PlaceFault → Type 0) → (answer : Result Place PlaceFault) × Rest answer
+some_of_parities : (p q : Parity) (Rest : Result Place PlaceFault → Type 0)
+    → (answer : Result Place PlaceFault) × Rest answer
     → (answer : Result Place PlaceFault) × NeedsTwoParities p q answer (Rest answer)
 some_of_parities Even Even Rest some = (Err faults.SameParity, (λ e. refl, λ differ. absurd (differ refl)))
 some_of_parities Odd Odd Rest some = (Err faults.SameParity, (λ e. refl, λ differ. absurd (differ refl)))
@@ -62,19 +66,25 @@ some_of_parities Odd Even Rest some = (some.0, (λ (e : ◌≡◌ {A = Parity} O
 
 some_in_air : (o n : Airborne) → (answer : Result Place PlaceFault) × IsAirPairPlace o n answer
 some_in_air o n =
-    let found = some_air_pair_answer (even_of n.parity (numbers_of o.code) (numbers_of n.code)) (odd_of n.parity (numbers_of o.code) (numbers_of n.code)) n.parity in
+    let found = some_air_pair_answer (even_of n.parity (numbers_of o.code) (numbers_of n.code))
+    (odd_of n.parity (numbers_of o.code) (numbers_of n.code)) n.parity in
     (place_of Air of_pair found.0, (found.0, found.1, refl))
 
-some_on_ground : (o n : Surface) (site : Option Position) → (answer : Result Place PlaceFault) × IsGroundPairPlace o n site answer
+some_on_ground : (o n : Surface) (site : Option Position)
+    → (answer : Result Place PlaceFault) × IsGroundPairPlace o n site answer
 some_on_ground o n None = (Err faults.NoSite, refl)
 some_on_ground o n (Some s) =
-    let found = some_pair_answer 90 4 refl (even_of n.parity (numbers_of o.code) (numbers_of n.code)) (odd_of n.parity (numbers_of o.code) (numbers_of n.code)) n.parity
+    let found = some_pair_answer 90 4 refl (even_of n.parity (numbers_of o.code) (numbers_of n.code))
+    (odd_of n.parity (numbers_of o.code) (numbers_of n.code)) n.parity
     (degrees (lat_of s)) (degrees (lon_of s)) s.lat.in_range.positive s.lon.in_range.positive in
     (place_of Ground of_pair found.0, (found.0, found.1, refl))
 
-some_kindred : (m n : Me) (site : Option Position) → IsPosition m × IsPosition n → (answer : Result Place PlaceFault) × IsKindredPlace m n site answer
-some_kindred (kinds.Airborne o) (kinds.Airborne n) site h = some_of_parities o.parity n.parity (IsAirPairPlace o n) (some_in_air o n)
-some_kindred (kinds.Surface o) (kinds.Surface n) site h = some_of_parities o.parity n.parity (IsGroundPairPlace o n site) (some_on_ground o n site)
+some_kindred : (m n : Me) (site : Option Position) → IsPosition m × IsPosition n
+    → (answer : Result Place PlaceFault) × IsKindredPlace m n site answer
+some_kindred (kinds.Airborne o) (kinds.Airborne n) site h =
+    some_of_parities o.parity n.parity (IsAirPairPlace o n) (some_in_air o n)
+some_kindred (kinds.Surface o) (kinds.Surface n) site h =
+    some_of_parities o.parity n.parity (IsGroundPairPlace o n site) (some_on_ground o n site)
 some_kindred (kinds.Airborne o) (kinds.Surface n) site h = (Err faults.OtherKind, refl)
 some_kindred (kinds.Surface o) (kinds.Airborne n) site h = (Err faults.OtherKind, refl)
 some_kindred (kinds.Airborne o) (kinds.Other n) site h = absurd h.1
@@ -95,14 +105,31 @@ both m n = elim (positions m) [
   | inr never ↦ inr (λ h. never h.0)
 ]
 
-pub some_pair : (older newer : SquitterParts) (site : Option Position) → (answer : Result Place PlaceFault) × IsPairPlace older newer site answer
+pub some_pair : (older newer : SquitterParts) (site : Option Position)
+    → (answer : Result Place PlaceFault) × IsPairPlace older newer site answer
 some_pair older newer site = elim (both older.me newer.me) [
-  | inr never ↦ (Err faults.NotPosition, record { other = λ h. refl; strangers = λ h differ. absurd (never h); kindred = λ h same. absurd (never h) })
+  | inr never ↦ (
+    Err faults.NotPosition,
+    record { other = λ h. refl; strangers = λ h differ. absurd (never h); kindred = λ h same. absurd (never h) },
+  )
   | inl two ↦ elim (cases_eq older.address newer.address) [
-    | inr differ ↦ (Err faults.OtherAddress, record { other = λ never. absurd (never two); strangers = λ h d. refl; kindred = λ h same. absurd (differ same) })
+    | inr differ ↦ (
+      Err faults.OtherAddress,
+      record {
+        other = λ never. absurd (never two);
+        strangers = λ h d. refl;
+        kindred = λ h same. absurd (differ same);
+      },
+    )
     | inl same ↦
-        let some = some_kindred older.me newer.me site two in
-        (some.0, record { other = λ never. absurd (never two); strangers = λ h differ. absurd (differ same); kindred = λ h s. some.1 })
+        let some = some_kindred older.me newer.me site two in (
+          some.0,
+          record {
+            other = λ never. absurd (never two);
+            strangers = λ h differ. absurd (differ same);
+            kindred = λ h s. some.1;
+          },
+        )
   ]
 ]
 
@@ -116,11 +143,13 @@ abbrev IfPlace : Result Place PlaceFault → Type 0
 IfPlace (Ok place) = IsOnGrid place
 IfPlace (Err fault) = Unit {0}
 
-found_in_air : {F : Type 0} (name : F → PlaceFault) (answer : Result Place PlaceFault) (found : Result Point F) → ((p : Point) → found ≡ Ok p → IsGridPoint 360 1 p) → answer ≡ place_of Air name found → IfPlace answer
+found_in_air : {F : Type 0} (name : F → PlaceFault) (answer : Result Place PlaceFault) (found : Result Point F)
+    → ((p : Point) → found ≡ Ok p → IsGridPoint 360 1 p) → answer ≡ place_of Air name found → IfPlace answer
 found_in_air name answer (Ok p) h is = subst IfPlace (sym is) (h p refl)
 found_in_air name answer (Err fault) h is = subst IfPlace (sym is) tt
 
-found_on_ground : {F : Type 0} (name : F → PlaceFault) (answer : Result Place PlaceFault) (found : Result Point F) → ((p : Point) → found ≡ Ok p → IsGridPoint 90 4 p) → answer ≡ place_of Ground name found → IfPlace answer
+found_on_ground : {F : Type 0} (name : F → PlaceFault) (answer : Result Place PlaceFault) (found : Result Point F)
+    → ((p : Point) → found ≡ Ok p → IsGridPoint 90 4 p) → answer ≡ place_of Ground name found → IfPlace answer
 found_on_ground name answer (Ok p) h is = subst IfPlace (sym is) (h p refl)
 found_on_ground name answer (Err fault) h is = subst IfPlace (sym is) tt
 
@@ -131,7 +160,8 @@ local_on_grid (kinds.Surface s) r answer (Ok p, h, is) = subst IfPlace (sym is) 
 local_on_grid (kinds.Surface s) r answer (Err fault, h, is) = subst IfPlace (sym is) tt
 local_on_grid (kinds.Other o) r answer is = subst IfPlace (sym is) tt
 
-parities_on_grid : (p q : Parity) (answer : Result Place PlaceFault) (Rest : Type 0) → (Rest → IfPlace answer) → NeedsTwoParities p q answer Rest → IfPlace answer
+parities_on_grid : (p q : Parity) (answer : Result Place PlaceFault) (Rest : Type 0) → (Rest → IfPlace answer)
+    → NeedsTwoParities p q answer Rest → IfPlace answer
 parities_on_grid Even Even answer Rest rest h = subst IfPlace (sym (h.0 refl)) tt
 parities_on_grid Odd Odd answer Rest rest h = subst IfPlace (sym (h.0 refl)) tt
 parities_on_grid Even Odd answer Rest rest h = rest (h.1 (λ (e : ◌≡◌ {A = Parity} Even Odd). absurd (cc e)))
@@ -141,21 +171,26 @@ air_on_grid : (o n : Airborne) (answer : Result Place PlaceFault) → IsAirPairP
 air_on_grid o n answer (Ok p, h, is) = subst IfPlace (sym is) h.of_grid
 air_on_grid o n answer (Err fault, h, is) = subst IfPlace (sym is) tt
 
-ground_on_grid : (o n : Surface) (site : Option Position) (answer : Result Place PlaceFault) → IsGroundPairPlace o n site answer → IfPlace answer
+ground_on_grid : (o n : Surface) (site : Option Position) (answer : Result Place PlaceFault)
+    → IsGroundPairPlace o n site answer → IfPlace answer
 ground_on_grid o n None answer is = subst IfPlace (sym is) tt
 ground_on_grid o n (Some s) answer (Ok p, h, is) = subst IfPlace (sym is) h.of_pair.of_grid
 ground_on_grid o n (Some s) answer (Err fault, h, is) = subst IfPlace (sym is) tt
 
-kindred_on_grid : (m n : Me) (site : Option Position) (answer : Result Place PlaceFault) → IsKindredPlace m n site answer → IfPlace answer
-kindred_on_grid (kinds.Airborne o) (kinds.Airborne n) site answer h = parities_on_grid o.parity n.parity answer (IsAirPairPlace o n answer) (air_on_grid o n answer) h
-kindred_on_grid (kinds.Surface o) (kinds.Surface n) site answer h = parities_on_grid o.parity n.parity answer (IsGroundPairPlace o n site answer) (ground_on_grid o n site answer) h
+kindred_on_grid : (m n : Me) (site : Option Position) (answer : Result Place PlaceFault)
+    → IsKindredPlace m n site answer → IfPlace answer
+kindred_on_grid (kinds.Airborne o) (kinds.Airborne n) site answer h =
+    parities_on_grid o.parity n.parity answer (IsAirPairPlace o n answer) (air_on_grid o n answer) h
+kindred_on_grid (kinds.Surface o) (kinds.Surface n) site answer h =
+    parities_on_grid o.parity n.parity answer (IsGroundPairPlace o n site answer) (ground_on_grid o n site answer) h
 kindred_on_grid (kinds.Airborne o) (kinds.Surface n) site answer is = subst IfPlace (sym is) tt
 kindred_on_grid (kinds.Surface o) (kinds.Airborne n) site answer is = subst IfPlace (sym is) tt
 kindred_on_grid (kinds.Airborne o) (kinds.Other n) site answer h = absurd h
 kindred_on_grid (kinds.Surface o) (kinds.Other n) site answer h = absurd h
 kindred_on_grid (kinds.Other o) n site answer h = absurd h
 
-pair_on_grid : (older newer : SquitterParts) (site : Option Position) (answer : Result Place PlaceFault) → IsPairPlace older newer site answer → IfPlace answer
+pair_on_grid : (older newer : SquitterParts) (site : Option Position) (answer : Result Place PlaceFault)
+    → IsPairPlace older newer site answer → IfPlace answer
 pair_on_grid older newer site answer h = elim (both older.me newer.me) [
   | inr never ↦ subst IfPlace (sym (h.other never)) tt
   | inl two ↦ elim (cases_eq older.address newer.address) [
@@ -184,21 +219,26 @@ alone_on_grid (kinds.Airborne a) = tt
 alone_on_grid (kinds.Surface s) = tt
 alone_on_grid (kinds.Other o) = tt
 
-of_pair_on_grid : (site : Option Position) (older : Option Squitter) (q : Squitter) (heard : Heard) → IsHeardOfPair site older q heard → IfHeardPlace heard
+of_pair_on_grid : (site : Option Position) (older : Option Squitter) (q : Squitter) (heard : Heard)
+    → IsHeardOfPair site older q heard → IfHeardPlace heard
 of_pair_on_grid site None q heard is = subst IfHeardPlace (sym is) (alone_on_grid (squitter_parts q).me)
 of_pair_on_grid site (Some older) q heard (answer, h, is) =
-    subst IfHeardPlace (sym is) (of_answer answer (pair_on_grid (squitter_parts older) (squitter_parts q) site answer h))
+    subst IfHeardPlace (sym is) (of_answer answer
+    (pair_on_grid (squitter_parts older) (squitter_parts q) site answer h))
 
-of_near : (of_pair : Heard) (answer : Result Place PlaceFault) → IfHeardPlace of_pair → IfPlace answer → IfHeardPlace (heard_near of_pair answer)
+of_near : (of_pair : Heard) (answer : Result Place PlaceFault) → IfHeardPlace of_pair → IfPlace answer
+    → IfHeardPlace (heard_near of_pair answer)
 of_near of_pair (Ok place) h k = k
 of_near of_pair (Err fault) h k = h
 
-near_on_grid : (fix : Option Place) (q : Squitter) (of_pair heard : Heard) → IfHeardPlace of_pair → IsHeardNear fix q of_pair heard → IfHeardPlace heard
+near_on_grid : (fix : Option Place) (q : Squitter) (of_pair heard : Heard) → IfHeardPlace of_pair
+    → IsHeardNear fix q of_pair heard → IfHeardPlace heard
 near_on_grid None q of_pair heard h is = subst IfHeardPlace (sym is) h
 near_on_grid (Some fix) q of_pair heard h (answer, (r, at, local), is) =
     subst IfHeardPlace (sym is) (of_near of_pair answer h (local_on_grid (squitter_parts q).me r answer local))
 
-after_on_grid : (fix : Option Place) (q : Squitter) (of_pair heard : Heard) → IfHeardPlace of_pair → IsHeardAfter fix q of_pair heard → IfHeardPlace heard
+after_on_grid : (fix : Option Place) (q : Squitter) (of_pair heard : Heard) → IfHeardPlace of_pair
+    → IsHeardAfter fix q of_pair heard → IfHeardPlace heard
 after_on_grid fix q (Fix place) heard h is = subst IfHeardPlace (sym is) h
 after_on_grid fix q (Followed place) heard h is = subst IfHeardPlace (sym is) h
 after_on_grid fix q Waiting heard h is = near_on_grid fix q Waiting heard h is
@@ -207,11 +247,13 @@ after_on_grid fix q Far heard h is = subst IfHeardPlace (sym is) h
 after_on_grid fix q NoSite heard h is = subst IfHeardPlace (sym is) h
 after_on_grid fix q NotPosition heard h is = subst IfHeardPlace (sym is) h
 
-each_on_grid : (s : Settings) (history : History) → IsHistory s history → AllByRecursion (λ entry. IfHeardPlace entry.heard) history
+each_on_grid : (s : Settings) (history : History) → IsHistory s history
+    → AllByRecursion (λ entry. IfHeardPlace entry.heard) history
 each_on_grid s [] h = tt
 each_on_grid s (entry ∷ earlier) h = (
   after_on_grid (last_fix s.window earlier entry.moment entry.squitter) entry.squitter h.0.1.of_pair entry.heard
-      (of_pair_on_grid s.site (counterpart s.window earlier entry.moment entry.squitter) entry.squitter h.0.1.of_pair h.0.1.pair) h.0.1.after,
+      (of_pair_on_grid s.site (counterpart s.window earlier entry.moment entry.squitter) entry.squitter h.0.1.of_pair
+      h.0.1.pair) h.0.1.after,
   each_on_grid s earlier h.1,
 )
 
@@ -228,11 +270,14 @@ last_on_grid : (s : Settings) (history : History) (moment : ℕ) (q : Squitter) 
     → last_fix s.window history moment q ≡ Some place → IsOnGrid place
 last_on_grid s history moment q place accepted = by (if_recent s.window moment (find (is_fix_of q) history)) refl
   where
-    by : (o : Option Entry) → if_recent s.window moment (find (is_fix_of q) history) ≡ o → past.place_of o ≡ Some place → IsOnGrid place
+    by : (o : Option Entry) → if_recent s.window moment (find (is_fix_of q) history) ≡ o → past.place_of o ≡ Some place
+        → IsOnGrid place
     by None e f = none_is_some place f
     by (Some c) e f =
         let here = recent_is s.window moment (find (is_fix_of q) history) c e in
-        heard_on_grid c.heard place f (found (is_fix_of q) (λ entry. IfHeardPlace entry.heard) history c here.0 (each_on_grid s history accepted)).0
+        heard_on_grid c.heard place f
+        (found (is_fix_of q) (λ entry. IfHeardPlace entry.heard) history c here.0
+        (each_on_grid s history accepted)).0
 
 -- the position of fractions within their limits
 made : (lat lon : Fraction) → IsAngle lat.num lat.den → IsAngle lon.num lon.den → IsOnGlobe lat lon
@@ -242,8 +287,10 @@ made lat lon a b h =
     let east : Angle = record { num = lon.num; den = lon.den; in_range = b } in
     (record { lat = north; lon = east; in_range = h }, refl, refl)
 
-lat_angle : (w : ℕ) (parity : Parity) (a : ℤ) → IsWithin 90 (latitude w (record { parity = parity; lat_index = a; zones = 1; lon_index = 0 }))
-    → IsAngle (latitude w (record { parity = parity; lat_index = a; zones = 1; lon_index = 0 })).num (latitude w (record { parity = parity; lat_index = a; zones = 1; lon_index = 0 })).den
+lat_angle : (w : ℕ) (parity : Parity) (a : ℤ)
+    → IsWithin 90 (latitude w (record { parity = parity; lat_index = a; zones = 1; lon_index = 0 }))
+    → IsAngle (latitude w (record { parity = parity; lat_index = a; zones = 1; lon_index = 0 })).num
+    (latitude w (record { parity = parity; lat_index = a; zones = 1; lon_index = 0 })).den
 lat_angle w Even a h = record { positive = omega arith; at_most = omega arith; within = omega (arith, h) }
 lat_angle w Odd a h = record { positive = omega arith; at_most = omega arith; within = omega (arith, h) }
 
@@ -252,12 +299,17 @@ lon_within : (w zones b : ℕ) → w * b < 360 * (zones * 2 ^ 17) → IsWithin 1
 lon_within w zones b small = by (ltb (w * b) (180 * (zones * 2 ^ 17))) refl
   where
     by : (east : Bool) → ltb (w * b) (180 * (zones * 2 ^ 17)) ≡ east
-        → IsWithin 180 (record { num = cond east (pos (w * b)) (pos (w * b) -ℤ pos (360 * (zones * 2 ^ 17))); den = zones * 2 ^ 17 })
+        → IsWithin 180 (record {
+          num = cond east (pos (w * b)) (pos (w * b) -ℤ pos (360 * (zones * 2 ^ 17)));
+          den = zones * 2 ^ 17;
+        })
     by true e = let l = ltb-true (w * b) (180 * (zones * 2 ^ 17)) e in omega (arith, l)
     by false e = let l = ltb-false (w * b) (180 * (zones * 2 ^ 17)) e in omega (arith, ints, l, small)
 
-lon_angle : (w zones b : ℕ) → 1 ≤ zones → zones ≤ 59 → IsWithin 180 (grid_longitude w zones b) → IsAngle (grid_longitude w zones b).num (grid_longitude w zones b).den
-lon_angle w zones b some few h = record { positive = omega (arith, some); at_most = omega (arith, few); within = omega (arith, h) }
+lon_angle : (w zones b : ℕ) → 1 ≤ zones → zones ≤ 59 → IsWithin 180 (grid_longitude w zones b)
+    → IsAngle (grid_longitude w zones b).num (grid_longitude w zones b).den
+lon_angle w zones b some few h =
+    record { positive = omega (arith, some); at_most = omega (arith, few); within = omega (arith, h) }
 
 zones_within : (w r : ℕ) (p : Point) → IsGridPoint w r p → (1 ≤ p.zones) × (p.zones ≤ 59)
 zones_within w r p h =
@@ -267,32 +319,37 @@ position_of_place : (place : Place) → IsOnGrid place → (x : Position) × IsP
 position_of_place (Air p) h =
     let z = zones_within 360 1 p h in
     let east = lon_within 360 p.zones p.lon_index (omega (arith, h.east_west)) in
-    let x = made (latitude 360 p) (longitude 360 p) (lat_angle 360 p.parity p.lat_index h.north_south) (lon_angle 360 p.zones p.lon_index z.0 z.1 east)
+    let x = made (latitude 360 p) (longitude 360 p) (lat_angle 360 p.parity p.lat_index h.north_south)
+    (lon_angle 360 p.zones p.lon_index z.0 z.1 east)
     (record { latitude = h.north_south; longitude = east }) in
     (x.0, record { lat = x.1; lon = x.2 })
 position_of_place (Ground p) h =
     let z = zones_within 90 4 p h in
     let east = lon_within 90 p.zones p.lon_index (omega (arith, h.east_west)) in
-    let x = made (latitude 90 p) (longitude 90 p) (lat_angle 90 p.parity p.lat_index h.north_south) (lon_angle 90 p.zones p.lon_index z.0 z.1 east)
+    let x = made (latitude 90 p) (longitude 90 p) (lat_angle 90 p.parity p.lat_index h.north_south)
+    (lon_angle 90 p.zones p.lon_index z.0 z.1 east)
     (record { latitude = h.north_south; longitude = east }) in
     (x.0, record { lat = x.1; lon = x.2 })
 
 -- ---- the answer
 
-some_of_pair : (site : Option Position) (older : Option Squitter) (q : Squitter) → (heard : Heard) × IsHeardOfPair site older q heard
+some_of_pair : (site : Option Position) (older : Option Squitter) (q : Squitter)
+    → (heard : Heard) × IsHeardOfPair site older q heard
 some_of_pair site None q = (heard_alone (squitter_parts q).me, refl)
 some_of_pair site (Some older) q =
     let some = some_pair (squitter_parts older) (squitter_parts q) site in
     (heard_of_pair some.0, (some.0, some.1, refl))
 
-some_near : (fix : Option Place) (q : Squitter) (of_pair : Heard) → ((place : Place) → fix ≡ Some place → IsOnGrid place) → (heard : Heard) × IsHeardNear fix q of_pair heard
+some_near : (fix : Option Place) (q : Squitter) (of_pair : Heard)
+    → ((place : Place) → fix ≡ Some place → IsOnGrid place) → (heard : Heard) × IsHeardNear fix q of_pair heard
 some_near None q of_pair h = (of_pair, refl)
 some_near (Some fix) q of_pair h =
     let at = position_of_place fix (h fix refl) in
     let local = some_local (squitter_parts q).me at.0 in
     (heard_near of_pair local.0, (local.0, (at.0, at.1, local.1), refl))
 
-some_after : (fix : Option Place) (q : Squitter) (of_pair : Heard) → ((place : Place) → fix ≡ Some place → IsOnGrid place) → (heard : Heard) × IsHeardAfter fix q of_pair heard
+some_after : (fix : Option Place) (q : Squitter) (of_pair : Heard)
+    → ((place : Place) → fix ≡ Some place → IsOnGrid place) → (heard : Heard) × IsHeardAfter fix q of_pair heard
 some_after fix q (Fix place) h = (Fix place, refl)
 some_after fix q (Followed place) h = (Followed place, refl)
 some_after fix q Waiting h = some_near fix q Waiting h
@@ -304,26 +361,31 @@ some_after fix q NotPosition h = (NotPosition, refl)
 pub some_answer : SomeAnswer
 some_answer s history moment q accepted =
     let pair = some_of_pair s.site (counterpart s.window history moment q) q in
-    let after = some_after (last_fix s.window history moment q) q pair.0 (λ place e. last_on_grid s history moment q place accepted e) in
+    let after = some_after (last_fix s.window history moment q) q pair.0
+    (λ place e. last_on_grid s history moment q place accepted e) in
     (after.0, record { of_pair = pair.0; pair = pair.1; after = after.1 })
 
 -- ---- the reply
 
 -- a moment is in time, or below the last one
-in_time_or_back : (o : Option ℕ) (moment : ℕ) → IfSome o (λ last. last ≤ moment) ⊎ ((last : ℕ) × (o ≡ Some last) × (moment < last))
+in_time_or_back : (o : Option ℕ) (moment : ℕ)
+    → IfSome o (λ last. last ≤ moment) ⊎ ((last : ℕ) × (o ≡ Some last) × (moment < last))
 in_time_or_back None moment = inl tt
 in_time_or_back (Some last) moment = elim (cases_lt moment last) [
   | inl back ↦ inr (last, refl, back)
   | inr at_least ↦ inl at_least
 ]
 
-full_or_room : (s : Settings) (history : History) (moment : ℕ) (q : Squitter) → IsFull s history moment q ⊎ (¬ (IsFull s history moment q))
+full_or_room : (s : Settings) (history : History) (moment : ℕ) (q : Squitter)
+    → IsFull s history moment q ⊎ (¬ (IsFull s history moment q))
 full_or_room s history moment q = by (is_position (squitter_parts q).me) refl (leb s.limit others) refl
   where
     others : ℕ
-    others = length (filter (λ entry. not (is_of_address (squitter_parts q).address entry)) (present s.window moment history))
+    others = length (filter (λ entry. not (is_of_address (squitter_parts q).address entry))
+        (present s.window moment history))
 
-    by : (b : Bool) → is_position (squitter_parts q).me ≡ b → (c : Bool) → leb s.limit others ≡ c → IsFull s history moment q ⊎ (¬ (IsFull s history moment q))
+    by : (b : Bool) → is_position (squitter_parts q).me ≡ b → (c : Bool) → leb s.limit others ≡ c
+        → IsFull s history moment q ⊎ (¬ (IsFull s history moment q))
     by true e true f = inl (record { position = e; others = leb-true s.limit others f })
     by true e false f = inr (λ full. let l = leb-false s.limit others f in absurd (omega (arith, l, full.others)))
     by false e c f = inr (λ full. let bad : ◌≡◌ {A = Bool} true false = sym full.position ∙ e in absurd (cc bad))

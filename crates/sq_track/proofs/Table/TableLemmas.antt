@@ -14,59 +14,76 @@ abbrev Entries : Type 0
 Entries = List (ℕ × Contact)
 
 -- from a fresh entry on all are fresh
-pub all_fresh : (w m from to : ℕ) (es : Entries) → IsOrdered from to es → m ≤ from + w → filter (fresh_entry w m) es ≡ es
+pub all_fresh : (w m from to : ℕ) (es : Entries) → IsOrdered from to es → m ≤ from + w
+    → filter (fresh_entry w m) es ≡ es
 all_fresh w m from to [] o le = refl
 all_fresh w m from to (e ∷ es) o le =
     let later : m ≤ e.1.moment + w = omega (arith, o.0) in
-    filter-cons_yes (fresh_entry w m) e es (le-leb m (e.1.moment + w) later) ∙ ap (λ l. e ∷ l) (all_fresh w m e.1.moment to es o.1 later)
+    filter-cons_yes (fresh_entry w m) e es (le-leb m (e.1.moment + w) later)
+    ∙ ap (λ l. e ∷ l) (all_fresh w m e.1.moment to es o.1 later)
 
 same_entry : (e f : ℕ × Contact) → Some e ≡ Some f → e ≡ f
 same_entry e f h = ap (λ o. unwrap_or o e) h
 
 -- where the first is fresh all are
-pub all_kept : (w m from to : ℕ) (es : Entries) (e : ℕ × Contact) → IsOrdered from to es → Some e ≡ slice_get es 0 → is_fresh w m e.1 ≡ true
+pub all_kept : (w m from to : ℕ) (es : Entries) (e : ℕ × Contact) → IsOrdered from to es → Some e ≡ slice_get es 0
+    → is_fresh w m e.1 ≡ true
     → filter (fresh_entry w m) es ≡ es
 all_kept w m from to [] e o at f = refl
 all_kept w m from to (x ∷ es) e o at f =
     let here : is_fresh w m x.1 ≡ true = ap (λ (y : ℕ × Contact). is_fresh w m y.1) (sym (same_entry e x at)) ∙ f in
-    filter-cons_yes (fresh_entry w m) x es here ∙ ap (λ l. x ∷ l) (all_fresh w m x.1.moment to es o.1 (leb-true m (x.1.moment + w) here))
+    filter-cons_yes (fresh_entry w m) x es here
+    ∙ ap (λ l. x ∷ l) (all_fresh w m x.1.moment to es o.1 (leb-true m (x.1.moment + w) here))
 
-others_in-apart : (a k : ℕ) (es : Entries) → eqb a k ≡ true → AllByRecursion (λ j. eqb k j ≡ false) (keys_of es) → others_in a es ≡ es
+others_in-apart : (a k : ℕ) (es : Entries) → eqb a k ≡ true → AllByRecursion (λ j. eqb k j ≡ false) (keys_of es)
+    → others_in a es ≡ es
 others_in-apart a k [] e all = refl
 others_in-apart a k (x ∷ es) e all = grind (arith, nat_tests, others_in-apart a k es e all.1, all.0)
 
-others_in-first : (e : ℕ × Contact) (es : Entries) → AllByRecursion (λ j. eqb e.0 j ≡ false) (keys_of es) → others_in e.0 (e ∷ es) ≡ es
+others_in-first : (e : ℕ × Contact) (es : Entries) → AllByRecursion (λ j. eqb e.0 j ≡ false) (keys_of es)
+    → others_in e.0 (e ∷ es) ≡ es
 others_in-first e es all =
     let same : eqb e.0 e.0 ≡ true = grind (arith, nat_tests) in
     filter-cons_no (λ x. not (eqb x.0 e.0)) e es (ap not same) ∙ others_in-apart e.0 e.0 es same all
 
 -- the first, where it is stale, may go
-pub first_stale : (w m : ℕ) (es : Entries) (e : ℕ × Contact) → IsDistinct eqb (keys_of es) → Some e ≡ slice_get es 0 → is_fresh w m e.1 ≡ false
-    → (filter (fresh_entry w m) (others_in e.0 es) ≡ filter (fresh_entry w m) es) × (length (others_in e.0 es) < length es)
+pub first_stale : (w m : ℕ) (es : Entries) (e : ℕ × Contact) → IsDistinct eqb (keys_of es) → Some e ≡ slice_get es 0
+    → is_fresh w m e.1 ≡ false
+    → (filter (fresh_entry w m) (others_in e.0 es) ≡ filter (fresh_entry w m) es)
+    × (length (others_in e.0 es) < length es)
 unfolding IsDistinct
 first_stale w m [] e d at f = absurd (false≢true (sym (ap is_some at)))
 first_stale w m (x ∷ es) e d at f =
     let same : e ≡ x = same_entry e x at in
-    let gone : others_in e.0 (x ∷ es) ≡ es = ap (λ (y : ℕ × Contact). others_in y.0 (x ∷ es)) same ∙ others_in-first x es d.0 in (
-      ap (filter (fresh_entry w m)) gone ∙ sym (filter-cons_no (fresh_entry w m) x es (ap (λ (y : ℕ × Contact). is_fresh w m y.1) (sym same) ∙ f)),
+    let gone : others_in e.0 (x ∷ es) ≡ es =
+    ap (λ (y : ℕ × Contact). others_in y.0 (x ∷ es)) same ∙ others_in-first x es d.0 in (
+      ap (filter (fresh_entry w m)) gone
+          ∙ sym (filter-cons_no (fresh_entry w m) x es (ap (λ (y : ℕ × Contact). is_fresh w m y.1) (sym same) ∙ f)),
       omega (arith, ap length gone),
     )
 
 -- where one is stale the fresh ones are fewer
-fewer_fresh : (w m a : ℕ) (es : Entries) (c : Contact) → Some c ≡ lookup (eqb a) es → is_fresh w m c ≡ false → length (filter (fresh_entry w m) es) < length es
+fewer_fresh : (w m a : ℕ) (es : Entries) (c : Contact) → Some c ≡ lookup (eqb a) es → is_fresh w m c ≡ false
+    → length (filter (fresh_entry w m) es) < length es
 fewer_fresh w m a [] c at f = absurd (false≢true (sym (ap is_some at)))
 fewer_fresh w m a (x ∷ es) c at f = by (eqb a x.0) refl (fewer_fresh w m a es c)
   where
-    by : (b : Bool) → eqb a x.0 ≡ b → (Some c ≡ lookup (eqb a) es → is_fresh w m c ≡ false → length (filter (fresh_entry w m) es) < length es)
+    by : (b : Bool) → eqb a x.0 ≡ b → (Some c ≡ lookup (eqb a) es → is_fresh w m c ≡ false
+        → length (filter (fresh_entry w m) es) < length es)
         → length (filter (fresh_entry w m) (x ∷ es)) < length (x ∷ es)
     by true t rest =
         let same : c ≡ x.1 = ap (λ o. unwrap_or o c) (at ∙ ap (λ b. cond b (Some x.1) (lookup (eqb a) es)) t) in
-        omega (arith, ap length (filter-cons_no (fresh_entry w m) x es (ap (is_fresh w m) (sym same) ∙ f)), length-filter_le (fresh_entry w m) es)
+        omega (
+          arith,
+          ap length (filter-cons_no (fresh_entry w m) x es (ap (is_fresh w m) (sym same) ∙ f)),
+          length-filter_le (fresh_entry w m) es,
+        )
     by false t rest =
         let less = rest (at ∙ ap (λ b. cond b (Some x.1) (lookup (eqb a) es)) t) f in
         at_head (fresh_entry w m x) refl less
       where
-        at_head : (b : Bool) → fresh_entry w m x ≡ b → length (filter (fresh_entry w m) es) < length es → length (filter (fresh_entry w m) (x ∷ es)) < length (x ∷ es)
+        at_head : (b : Bool) → fresh_entry w m x ≡ b → length (filter (fresh_entry w m) es) < length es
+            → length (filter (fresh_entry w m) (x ∷ es)) < length (x ∷ es)
         at_head true h less = omega (arith, less, ap length (filter-cons_yes (fresh_entry w m) x es h))
         at_head false h less = omega (arith, less, ap length (filter-cons_no (fresh_entry w m) x es h))
 
@@ -75,14 +92,16 @@ module _ (w m a limit : ℕ) (es : Entries) (d : IsDistinct eqb (keys_of es)) (f
   n = length (others_in a (filter (fresh_entry w m) es))
 
   pub room_short : length es < limit → leb limit n ≡ false
-  room_short short = lt-leb limit n (omega (arith, short, count_fresh w m a es d, length-filter_le (fresh_entry w m) es))
+  room_short short = lt-leb limit n
+      (omega (arith, short, count_fresh w m a es d, length-filter_le (fresh_entry w m) es))
 
   pub room_known : (c : Contact) → Some c ≡ lookup (eqb a) es → leb limit n ≡ false
   room_known c at = by (is_fresh w m c) refl
     where
       by : (b : Bool) → is_fresh w m c ≡ b → leb limit n ≡ false
       by true f =
-          let one : one_if (fresh w m (lookup (eqb a) es)) ≡ 1 = ap (λ o. one_if (fresh w m o)) (sym at) ∙ ap (λ b. one_if (cond b (Some c) None)) f in
+          let one : one_if (fresh w m (lookup (eqb a) es)) ≡ 1 =
+          ap (λ o. one_if (fresh w m o)) (sym at) ∙ ap (λ b. one_if (cond b (Some c) None)) f in
           lt-leb limit n (omega (arith, few, one, count_fresh w m a es d, length-filter_le (fresh_entry w m) es))
       by false f = lt-leb limit n (omega (arith, few, count_fresh w m a es d, fewer_fresh w m a es c at f))
 
@@ -92,12 +111,22 @@ module _ (w m a limit : ℕ) (es : Entries) (d : IsDistinct eqb (keys_of es)) (f
       le-leb limit n (omega (arith, long, zero_one, ap length all, count_fresh w m a es d))
 
   pub room_stale : (e : ℕ × Contact) → Some e ≡ slice_get es 0 → is_fresh w m e.1 ≡ false → leb limit n ≡ false
-  room_stale e at f = lt-leb limit n (omega (arith, few, count_fresh w m a es d, ap length (first_stale w m es e d at f).0, length-filter_le (fresh_entry w m) (others_in e.0 es), (first_stale w m es e d at f).1))
+  room_stale e at f = lt-leb limit n
+      (omega (
+        arith,
+        few,
+        count_fresh w m a es d,
+        ap length (first_stale w m es e d at f).0,
+        length-filter_le (fresh_entry w m) (others_in e.0 es),
+        (first_stale w m es e d at f).1,
+      ))
 
 -- in order from the first on
-pub from_first : (from to : ℕ) (es : Entries) (e : ℕ × Contact) → IsOrdered from to es → Some e ≡ slice_get es 0 → IsOrdered e.1.moment to es
+pub from_first : (from to : ℕ) (es : Entries) (e : ℕ × Contact) → IsOrdered from to es → Some e ≡ slice_get es 0
+    → IsOrdered e.1.moment to es
 from_first from to [] e o at = absurd (false≢true (sym (ap is_some at)))
-from_first from to (x ∷ es) e o at = subst (λ (y : ℕ × Contact). IsOrdered y.1.moment to (x ∷ es)) (sym (same_entry e x at)) (omega arith, o.1)
+from_first from to (x ∷ es) e o at =
+    subst (λ (y : ℕ × Contact). IsOrdered y.1.moment to (x ∷ es)) (sym (same_entry e x at)) (omega arith, o.1)
 
 -- nothing is in order from any moment on
 pub from_none : (m : ℕ) (es : Entries) → None ≡ slice_get es 0 → IsOrdered m m es

@@ -28,20 +28,23 @@ is_one_of a b c there = each_of_pair (λ x. (x ≡ a) ⊎ (x ≡ b)) a b c (inl 
 
 pub slow_by_pairs : SlowByPairs
 slow_by_pairs window site world = (
-  λ slow a b a_in b_in c d c_in d_in. slow c d (each_of_pair (Contains world) a b c a_in b_in c_in) (each_of_pair (Contains world) a b d a_in b_in d_in),
+  λ slow a b a_in b_in c d c_in d_in. slow c d (each_of_pair (Contains world) a b c a_in b_in c_in)
+      (each_of_pair (Contains world) a b d a_in b_in d_in),
   λ each a b a_in b_in. each a b a_in b_in a b (in_pair a b).0 (in_pair a b).1.0,
 )
 
 pub slow_for_following_by_pairs : SlowForFollowingByPairs
 slow_for_following_by_pairs window world = (
-  λ slow a b a_in b_in c d c_in d_in. slow c d (each_of_pair (Contains world) a b c a_in b_in c_in) (each_of_pair (Contains world) a b d a_in b_in d_in),
+  λ slow a b a_in b_in c d c_in d_in. slow c d (each_of_pair (Contains world) a b c a_in b_in c_in)
+      (each_of_pair (Contains world) a b d a_in b_in d_in),
   λ each a b a_in b_in. each a b a_in b_in a b (in_pair a b).0 (in_pair a b).1.0,
 )
 
 odd_is_even : {A : Type 0} (o : Option Parity) → o ≡ Some Even → o ≡ Some Odd → A
 odd_is_even o even odd = let bad : ◌≡◌ {A = Parity} Even Odd = same_some Even Odd (sym even ∙ odd) in absurd (cc bad)
 
-parity_at : {a c : Arrival} {p : Option Parity} → c ≡ a → parity_of (squitter_parts c.squitter).me ≡ p → parity_of (squitter_parts a.squitter).me ≡ p
+parity_at : {a c : Arrival} {p : Option Parity} → c ≡ a → parity_of (squitter_parts c.squitter).me ≡ p
+    → parity_of (squitter_parts a.squitter).me ≡ p
 parity_at same e = sym (ap (λ (x : Arrival). parity_of (squitter_parts x.squitter).me) same) ∙ e
 
 pub slow_pair_exactly : SlowPairExactly
@@ -50,10 +53,13 @@ slow_pair_exactly window site a b p q pair h k = (
   λ slow c d c_in d_in other p' q' h' k'. by slow c d other p' q' h' k' (is_one_of a b c c_in) (is_one_of a b d d_in),
 )
   where
-    by : AreSlowPlaces site p q a.position b.position → (c d : Arrival) → ArePairTogether window c d → (p' q' : Place) → IsTruePlace c p' → IsTruePlace d q'
+    by : AreSlowPlaces site p q a.position b.position → (c d : Arrival) → ArePairTogether window c d → (p' q' : Place)
+        → IsTruePlace c p' → IsTruePlace d q'
         → (c ≡ a) ⊎ (c ≡ b) → (d ≡ a) ⊎ (d ≡ b) → AreSlowPlaces site p' q' c.position d.position
-    by slow c d other p' q' h' k' (inr c_is) d_is = odd_is_even (parity_of (squitter_parts b.squitter).me) (parity_at c_is other.even) pair.odd
-    by slow c d other p' q' h' k' (inl c_is) (inl d_is) = odd_is_even (parity_of (squitter_parts a.squitter).me) pair.even (parity_at d_is other.odd)
+    by slow c d other p' q' h' k' (inr c_is) d_is =
+        odd_is_even (parity_of (squitter_parts b.squitter).me) (parity_at c_is other.even) pair.odd
+    by slow c d other p' q' h' k' (inl c_is) (inl d_is) =
+        odd_is_even (parity_of (squitter_parts a.squitter).me) pair.even (parity_at d_is other.odd)
     by slow c d other p' q' h' k' (inl c_is) (inr d_is) =
         let p_same : p ≡ p' = one_true_place a p p' h (subst (λ x. IsTruePlace x p') c_is h') in
         let q_same : q ≡ q' = one_true_place b q q' k (subst (λ x. IsTruePlace x q') d_is k') in
@@ -63,13 +69,15 @@ slow_pair_exactly window site a b p q pair h k = (
         (subst (λ x. AreSlowPlaces site x q a.position b.position) p_same slow)))
 
 -- an arrival that comes with another of its address and kind, or with itself, at its own place
-with_itself : (a : Arrival) (p q : Place) → IsTruePlace a p → IsTruePlace a q → AreSlowToFollow p q a.position a.position
+with_itself : (a : Arrival) (p q : Place) → IsTruePlace a p → IsTruePlace a q
+    → AreSlowToFollow p q a.position a.position
 with_itself a p q h k =
     let m = (squitter_parts a.squitter).me in
     followed_still m m a.position a.position p q (own_kind m a.position p h) h k (one_with_itself a.position)
 
 -- what holds of each two of a pair
-each_two : (P : Arrival → Arrival → Type 0) (a b c d : Arrival) → P a a → P a b → P b a → P b b → (c ≡ a) ⊎ (c ≡ b) → (d ≡ a) ⊎ (d ≡ b) → P c d
+each_two : (P : Arrival → Arrival → Type 0) (a b c d : Arrival) → P a a → P a b → P b a → P b b → (c ≡ a) ⊎ (c ≡ b)
+    → (d ≡ a) ⊎ (d ≡ b) → P c d
 each_two P a b c d aa ab ba bb (inl e) (inl f) = subst (λ x. P x d) (sym e) (subst (P a) (sym f) aa)
 each_two P a b c d aa ab ba bb (inl e) (inr f) = subst (λ x. P x d) (sym e) (subst (P a) (sym f) ab)
 each_two P a b c d aa ab ba bb (inr e) (inl f) = subst (λ x. P x d) (sym e) (subst (P b) (sym f) ba)
@@ -77,10 +85,12 @@ each_two P a b c d aa ab ba bb (inr e) (inr f) = subst (λ x. P x d) (sym e) (su
 
 -- two arrivals, in this order, are slow to follow wherever they come together
 abbrev Follows : ℕ → Arrival → Arrival → Type 0
-Follows window c d = AreTogether window c d → (p q : Place) → IsTruePlace c p → IsTruePlace d q → AreSlowToFollow p q c.position d.position
+Follows window c d = AreTogether window c d → (p q : Place) → IsTruePlace c p → IsTruePlace d q
+    → AreSlowToFollow p q c.position d.position
 
 abbrev Pairs : ℕ → Option Position → Arrival → Arrival → Type 0
-Pairs window site c d = ArePairTogether window c d → (p q : Place) → IsTruePlace c p → IsTruePlace d q → AreSlowPlaces site p q c.position d.position
+Pairs window site c d = ArePairTogether window c d → (p q : Place) → IsTruePlace c p → IsTruePlace d q
+    → AreSlowPlaces site p q c.position d.position
 
 follows_itself : (window : ℕ) (a : Arrival) → Follows window a a
 follows_itself window a together p q h k = with_itself a p q h k
@@ -105,26 +115,34 @@ slow_for_following_pair_exactly window a b p q together h k = (
 
 -- arrivals further apart than the window, or of two addresses, do not come together
 never_together : {A : Type 0} (window : ℕ) (a b : Arrival)
-    → (a.moment + window < b.moment) ⊎ ((squitter_parts a.squitter).address ≢ (squitter_parts b.squitter).address) → AreTogether window a b → A
+    → (a.moment + window < b.moment) ⊎ ((squitter_parts a.squitter).address ≢ (squitter_parts b.squitter).address)
+    → AreTogether window a b → A
 never_together window a b (inl apart) together = absurd (omega (arith, apart, together.not_after))
 never_together window a b (inr differ) together = absurd (differ (sender_parts a.squitter b.squitter together.sender).0)
 
 pub apart_is_slow : ApartIsSlow
 apart_is_slow window site a b apart = (
   λ c d c_in d_in.
-      each_two (Pairs window site) a b c d (pairs_itself window site a) (λ pair. never_together window a b apart pair.together)
-      (λ pair. never_together window a b apart (together_sym window b a pair.together)) (pairs_itself window site b) (is_one_of a b c c_in) (is_one_of a b d d_in),
+      each_two (Pairs window site) a b c d (pairs_itself window site a)
+      (λ pair. never_together window a b apart pair.together)
+      (λ pair. never_together window a b apart (together_sym window b a pair.together)) (pairs_itself window site b)
+      (is_one_of a b c c_in) (is_one_of a b d d_in),
   λ c d c_in d_in.
       each_two (Follows window) a b c d (follows_itself window a) (λ t. never_together window a b apart t)
-      (λ t. never_together window a b apart (together_sym window b a t)) (follows_itself window b) (is_one_of a b c c_in) (is_one_of a b d d_in),
+      (λ t. never_together window a b apart (together_sym window b a t)) (follows_itself window b)
+      (is_one_of a b c c_in) (is_one_of a b d d_in),
 )
 
 pub arises_by_arrivals : ArisesByArrivals
 arises_by_arrivals world = (
-  λ entry there. All-contains (λ (e : Entry). (arrival : Arrival) × Contains world arrival × IsEntryOf arrival e) [] entry (All-from_recursion (λ (e : Entry). (arrival : Arrival) × Contains world arrival × IsEntryOf arrival e) [] tt) there,
+  λ entry there. All-contains (λ (e : Entry). (arrival : Arrival) × Contains world arrival
+      × IsEntryOf arrival e) [] entry
+      (All-from_recursion (λ (e : Entry). (arrival : Arrival) × Contains world arrival
+      × IsEntryOf arrival e) [] tt) there,
   λ history arrival heard a_in arises entry there.
       let P = λ (e : Entry). (x : Arrival) × Contains world x × IsEntryOf x e in
       let now : Entry = record { moment = arrival.moment; squitter = arrival.squitter; heard = heard } in
       All-contains P (now ∷ history) entry
-      (All-from_recursion P (now ∷ history) ((arrival, a_in, record { moment = refl; squitter = refl }), each_arrived world history arises)) there,
+      (All-from_recursion P (now ∷ history)
+      ((arrival, a_in, record { moment = refl; squitter = refl }), each_arrived world history arises)) there,
 )

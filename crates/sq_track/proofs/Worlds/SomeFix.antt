@@ -38,69 +38,95 @@ use Rattle.sq_track.proofs.Worlds.Places.{one_place}
 use Rattle.sq_track.proofs.Histories.SomeAnswer.{some_pair}
 
 -- what was found of tame points with one zone count is the newer
-one_count : (a b : Point) (found : Result Point PairFault) → HaveOneCount 360 a.lat_index b.lat_index → TameAnswer 360 Odd a b found → place_of Air of_pair found ≡ Ok (Air b)
+one_count : (a b : Point) (found : Result Point PairFault) → HaveOneCount 360 a.lat_index b.lat_index
+    → TameAnswer 360 Odd a b found → place_of Air of_pair found ≡ Ok (Air b)
 one_count a b (Ok p) same h = ap (λ x. Ok (Air x)) h
 one_count a b (Err pairs.OutOfRange) same h = absurd h
 one_count a b (Err (pairs.ZoneCounts even odd)) same h = absurd (h.differ (h.even ∙ same ∙ sym h.odd))
 
 -- an even and an odd message that were encoded from slow positions
 slow_pair : (m n : Me) (x y : Position) (p q : Point) (site : Option Position) (answer : Result Place PlaceFault)
-    → IsEncodedFrom m x → IsEncodedFrom n y → parity_of m ≡ Some Even → parity_of n ≡ Some Odd → IsPlaceOf m x (Air p) → IsPlaceOf n y (Air q)
-    → AreSlow 360 p q x y → HaveOneCount 360 p.lat_index q.lat_index → IsKindredPlace m n site answer → answer ≡ Ok (Air q)
-slow_pair (kinds.Airborne o) (kinds.Airborne n) x y p q site answer (Air a, h, h_code) (Air b, k, k_code) even odd p_is q_is slow same here =
+    → IsEncodedFrom m x → IsEncodedFrom n y → parity_of m ≡ Some Even → parity_of n ≡ Some Odd → IsPlaceOf m x (Air p)
+    → IsPlaceOf n y (Air q)
+    → AreSlow 360 p q x y → HaveOneCount 360 p.lat_index q.lat_index → IsKindredPlace m n site answer
+    → answer ≡ Ok (Air q)
+slow_pair (kinds.Airborne o) (kinds.Airborne n) x y p q site answer (Air a, h, h_code)
+    (Air b, k, k_code) even odd p_is q_is slow same here =
     let o_even : o.parity ≡ Even = same_some o.parity Even even in
     let n_odd : n.parity ≡ Odd = same_some n.parity Odd odd in
-    let differ : o.parity ≢ n.parity = λ e. let bad : ◌≡◌ {A = Parity} Even Odd = sym o_even ∙ e ∙ n_odd in absurd (cc bad) in
+    let differ : o.parity ≢ n.parity =
+    λ e. let bad : ◌≡◌ {A = Parity} Even Odd = sym o_even ∙ e ∙ n_odd in absurd (cc bad) in
     let (found, decoded, is) = here.1 differ in
     let a_is : ◌≡◌ {A = Place} (Air a) (Air p) = one_place (kinds.Airborne o) x (Air a) (Air p) h p_is in
     let b_is : ◌≡◌ {A = Place} (Air b) (Air q) = one_place (kinds.Airborne n) y (Air b) (Air q) k q_is in
     let p_code : HasCodeOf (kinds.Airborne o) (Air p) = subst (HasCodeOf (kinds.Airborne o)) a_is h_code in
     let q_code : HasCodeOf (kinds.Airborne n) (Air q) = subst (HasCodeOf (kinds.Airborne n)) b_is k_code in
-    let there = subst (λ r. AirPairAnswer (even_of r (numbers_of o.code) (numbers_of n.code)) (odd_of r (numbers_of o.code) (numbers_of n.code)) r found) n_odd decoded in
+    let there = subst (λ r. AirPairAnswer (even_of r (numbers_of o.code) (numbers_of n.code))
+    (odd_of r (numbers_of o.code) (numbers_of n.code)) r found) n_odd decoded in
     let tame = slow_is_tame 360 1 refl x y p q p_is.1 q_is.1 (p_is.0 ∙ o_even) (q_is.0 ∙ n_odd) slow in
-    let law = tame_air_points_are_answered (numbers_of o.code) (numbers_of n.code) Odd found p q there p_is.1.of_grid q_is.1.of_grid (has_code p o.code p_code) (has_code q n.code q_code) tame in
+    let law = tame_air_points_are_answered (numbers_of o.code)
+    (numbers_of n.code) Odd found p q there p_is.1.of_grid q_is.1.of_grid (has_code p o.code p_code)
+    (has_code q n.code q_code) tame in
     is ∙ one_count p q found same law
-slow_pair (kinds.Airborne o) (kinds.Airborne n) x y p q site answer (Air a, h, h_code) (Ground b, k, k_code) even odd p_is q_is slow same here = absurd k
-slow_pair (kinds.Airborne o) (kinds.Airborne n) x y p q site answer (Ground a, h, h_code) second even odd p_is q_is slow same here = absurd h
-slow_pair (kinds.Airborne o) (kinds.Surface n) x y p q site answer first second even odd p_is q_is slow same here = absurd q_is
-slow_pair (kinds.Airborne o) (kinds.Other n) x y p q site answer first second even odd p_is q_is slow same here = absurd q_is
+slow_pair (kinds.Airborne o) (kinds.Airborne n) x y p q site answer (Air a, h, h_code)
+    (Ground b, k, k_code) even odd p_is q_is slow same here = absurd k
+slow_pair (kinds.Airborne o) (kinds.Airborne n) x y p q site answer
+    (Ground a, h, h_code) second even odd p_is q_is slow same here = absurd h
+slow_pair (kinds.Airborne o) (kinds.Surface n) x y p q site answer first second even odd p_is q_is slow same here =
+    absurd q_is
+slow_pair (kinds.Airborne o) (kinds.Other n) x y p q site answer first second even odd p_is q_is slow same here =
+    absurd q_is
 slow_pair (kinds.Surface o) n x y p q site answer first second even odd p_is q_is slow same here = absurd p_is
 slow_pair (kinds.Other o) n x y p q site answer first second even odd p_is q_is slow same here = absurd p_is
 
 -- what was found of tame points on the ground with one zone count is the newer
-one_count_on_ground : (a b : Point) (found : Result Point PairFault) → HaveOneCount 90 a.lat_index b.lat_index → TameAnswer 90 Odd a b found → place_of Ground of_pair found ≡ Ok (Ground b)
+one_count_on_ground : (a b : Point) (found : Result Point PairFault) → HaveOneCount 90 a.lat_index b.lat_index
+    → TameAnswer 90 Odd a b found → place_of Ground of_pair found ≡ Ok (Ground b)
 one_count_on_ground a b (Ok p) same h = ap (λ x. Ok (Ground x)) h
 one_count_on_ground a b (Err pairs.OutOfRange) same h = absurd h
 one_count_on_ground a b (Err (pairs.ZoneCounts even odd)) same h = absurd (h.differ (h.even ∙ same ∙ sym h.odd))
 
 -- an even and an odd message that were encoded on the ground from slow positions near the site
 slow_ground_pair : (m n : Me) (x y : Position) (p q : Point) (site : Position) (answer : Result Place PlaceFault)
-    → IsEncodedFrom m x → IsEncodedFrom n y → parity_of m ≡ Some Even → parity_of n ≡ Some Odd → IsPlaceOf m x (Ground p) → IsPlaceOf n y (Ground q)
-    → AreSlowPlaces (Some site) (Ground p) (Ground q) x y → HaveOneCount 90 p.lat_index q.lat_index → IsKindredPlace m n (Some site) answer → answer ≡ Ok (Ground q)
-slow_ground_pair (kinds.Surface o) (kinds.Surface n) x y p q site answer (Ground a, h, h_code) (Ground b, k, k_code) even odd p_is q_is slow same here =
+    → IsEncodedFrom m x → IsEncodedFrom n y → parity_of m ≡ Some Even → parity_of n ≡ Some Odd
+    → IsPlaceOf m x (Ground p) → IsPlaceOf n y (Ground q)
+    → AreSlowPlaces (Some site) (Ground p) (Ground q) x y → HaveOneCount 90 p.lat_index q.lat_index
+    → IsKindredPlace m n (Some site) answer → answer ≡ Ok (Ground q)
+slow_ground_pair (kinds.Surface o) (kinds.Surface n) x y p q site answer (Ground a, h, h_code)
+    (Ground b, k, k_code) even odd p_is q_is slow same here =
     let o_even : o.parity ≡ Even = same_some o.parity Even even in
     let n_odd : n.parity ≡ Odd = same_some n.parity Odd odd in
-    let differ : o.parity ≢ n.parity = λ e. let bad : ◌≡◌ {A = Parity} Even Odd = sym o_even ∙ e ∙ n_odd in absurd (cc bad) in
+    let differ : o.parity ≢ n.parity =
+    λ e. let bad : ◌≡◌ {A = Parity} Even Odd = sym o_even ∙ e ∙ n_odd in absurd (cc bad) in
     let (found, decoded, is) = here.1 differ in
     let a_is : ◌≡◌ {A = Place} (Ground a) (Ground p) = one_place (kinds.Surface o) x (Ground a) (Ground p) h p_is in
     let b_is : ◌≡◌ {A = Place} (Ground b) (Ground q) = one_place (kinds.Surface n) y (Ground b) (Ground q) k q_is in
     let p_code : HasCodeOf (kinds.Surface o) (Ground p) = subst (HasCodeOf (kinds.Surface o)) a_is h_code in
     let q_code : HasCodeOf (kinds.Surface n) (Ground q) = subst (HasCodeOf (kinds.Surface n)) b_is k_code in
-    let there = subst (λ r. PairAnswer 90 4 (even_of r (numbers_of o.code) (numbers_of n.code)) (odd_of r (numbers_of o.code) (numbers_of n.code)) r (degrees_of (lat_of site)) (degrees_of (lon_of site)) found) n_odd decoded in
+    let there = subst (λ r. PairAnswer 90 4 (even_of r (numbers_of o.code) (numbers_of n.code))
+    (odd_of r (numbers_of o.code) (numbers_of n.code)) r (degrees_of (lat_of site))
+    (degrees_of (lon_of site)) found) n_odd decoded in
     let tame = slow_is_tame 90 4 refl x y p q p_is.1 q_is.1 (p_is.0 ∙ o_even) (q_is.0 ∙ n_odd) slow.0 in
     let p_near = rounds_near_site 90 4 refl x site p p_is.1 slow.1 in
     let q_near = rounds_near_site 90 4 refl y site q q_is.1 slow.2 in
-    let law = tame_ground_points_are_answered (numbers_of o.code) (numbers_of n.code) Odd site found p q there p_is.1.of_grid q_is.1.of_grid (has_code p o.code p_code) (has_code q n.code q_code) tame p_near q_near in
+    let law = tame_ground_points_are_answered (numbers_of o.code)
+    (numbers_of n.code) Odd site found p q there p_is.1.of_grid q_is.1.of_grid (has_code p o.code p_code)
+    (has_code q n.code q_code) tame p_near q_near in
     is ∙ one_count_on_ground p q found same law
-slow_ground_pair (kinds.Surface o) (kinds.Surface n) x y p q site answer (Ground a, h, h_code) (Air b, k, k_code) even odd p_is q_is slow same here = absurd k
-slow_ground_pair (kinds.Surface o) (kinds.Surface n) x y p q site answer (Air a, h, h_code) second even odd p_is q_is slow same here = absurd h
-slow_ground_pair (kinds.Surface o) (kinds.Airborne n) x y p q site answer first second even odd p_is q_is slow same here = absurd q_is
-slow_ground_pair (kinds.Surface o) (kinds.Other n) x y p q site answer first second even odd p_is q_is slow same here = absurd q_is
+slow_ground_pair (kinds.Surface o) (kinds.Surface n) x y p q site answer (Ground a, h, h_code)
+    (Air b, k, k_code) even odd p_is q_is slow same here = absurd k
+slow_ground_pair (kinds.Surface o) (kinds.Surface n) x y p q site answer
+    (Air a, h, h_code) second even odd p_is q_is slow same here = absurd h
+slow_ground_pair (kinds.Surface o)
+    (kinds.Airborne n) x y p q site answer first second even odd p_is q_is slow same here = absurd q_is
+slow_ground_pair (kinds.Surface o) (kinds.Other n) x y p q site answer first second even odd p_is q_is slow same here =
+    absurd q_is
 slow_ground_pair (kinds.Airborne o) n x y p q site answer first second even odd p_is q_is slow same here = absurd p_is
 slow_ground_pair (kinds.Other o) n x y p q site answer first second even odd p_is q_is slow same here = absurd p_is
 
 -- two messages with places are positions
-positions_of : (m n : Me) (x y : Position) (p q : Place) → IsPlaceOf m x p → IsPlaceOf n y q → IsPosition m × IsPosition n
+positions_of : (m n : Me) (x y : Position) (p q : Place) → IsPlaceOf m x p → IsPlaceOf n y q
+    → IsPosition m × IsPosition n
 positions_of (kinds.Airborne a) (kinds.Airborne b) x y p q h k = (tt, tt)
 positions_of (kinds.Airborne a) (kinds.Surface b) x y p q h k = (tt, tt)
 positions_of (kinds.Airborne a) (kinds.Other b) x y p q h k = absurd k
@@ -110,33 +136,48 @@ positions_of (kinds.Surface a) (kinds.Other b) x y p q h k = absurd k
 positions_of (kinds.Other a) n x y p q h k = absurd h
 
 -- the odd arrival of a pair is heard as the fix of a place where the two are decoded to nothing else
-fixed : (window : ℕ) (site : Option Position) (a b : Arrival) (p q : Place) → ArePairTogether window a b → IsTruePlace a p → IsTruePlace b q
-    → ((answer : Result Place PlaceFault) → IsKindredPlace (squitter_parts a.squitter).me (squitter_parts b.squitter).me site answer → answer ≡ Ok q)
-    → IsHeard window site (record { moment = a.moment; squitter = a.squitter; heard = Waiting } ∷ []) b.moment b.squitter (Fix q)
+fixed : (window : ℕ) (site : Option Position) (a b : Arrival) (p q : Place) → ArePairTogether window a b
+    → IsTruePlace a p → IsTruePlace b q
+    → ((answer : Result Place PlaceFault)
+    → IsKindredPlace (squitter_parts a.squitter).me (squitter_parts b.squitter).me site answer → answer ≡ Ok q)
+    → IsHeard window site (record { moment = a.moment; squitter = a.squitter; heard = Waiting }
+    ∷ []) b.moment b.squitter (Fix q)
 fixed window site a b p q pair h k decoded =
     let m = (squitter_parts a.squitter).me in
     let n = (squitter_parts b.squitter).me in
     let entry : Entry = record { moment = a.moment; squitter = a.squitter; heard = Waiting } in
-    let two : are_even_and_odd (parity_of m) (parity_of n) ≡ true = ap (λ o. are_even_and_odd o (parity_of n)) pair.even ∙ ap (are_even_and_odd (Some Even)) pair.odd in
-    let pairs_up : are_a_pair a.squitter b.squitter ≡ true = and_from (are_of_one_sender a.squitter b.squitter) (are_even_and_odd (parity_of m) (parity_of n)) pair.together.sender two in
-    let recent : leb b.moment (a.moment + window) ≡ true = le-leb b.moment (a.moment + window) pair.together.not_after in
+    let two : are_even_and_odd (parity_of m) (parity_of n) ≡ true =
+    ap (λ o. are_even_and_odd o (parity_of n)) pair.even ∙ ap (are_even_and_odd (Some Even)) pair.odd in
+    let pairs_up : are_a_pair a.squitter b.squitter
+    ≡ true = and_from (are_of_one_sender a.squitter b.squitter)
+    (are_even_and_odd (parity_of m) (parity_of n)) pair.together.sender two in
+    let recent : leb b.moment (a.moment + window) ≡ true =
+    le-leb b.moment (a.moment + window) pair.together.not_after in
     let older : counterpart window (entry ∷ []) b.moment b.squitter ≡ Some a.squitter =
-    ap (λ t. squitter_of (if_recent window b.moment (cond t (Some entry) None))) pairs_up ∙ ap (λ t. squitter_of (cond t (Some entry) None)) recent in
+    ap (λ t. squitter_of (if_recent window b.moment (cond t (Some entry) None))) pairs_up
+    ∙ ap (λ t. squitter_of (cond t (Some entry) None)) recent in
     let some = some_pair (squitter_parts a.squitter) (squitter_parts b.squitter) site in
-    let here = some.1.kindred (positions_of m n a.position b.position p q h k) (sender_parts a.squitter b.squitter pair.together.sender).0 in
+    let here = some.1.kindred (positions_of m n a.position b.position p q h k)
+    (sender_parts a.squitter b.squitter pair.together.sender).0 in
     record {
       of_pair = Fix q;
-      pair = subst (λ o. IsHeardOfPair site o b.squitter (Fix q)) (sym older) (some.0, some.1, sym (ap heard_of_pair (decoded some.0 here)));
+      pair = subst (λ o. IsHeardOfPair site o b.squitter (Fix q)) (sym older)
+          (some.0, some.1, sym (ap heard_of_pair (decoded some.0 here)));
       after = refl;
     }
 
 pub slow_pair_is_fixed : SlowPairIsFixed
 slow_pair_is_fixed window site a b p q pair h k slow same =
     fixed window site a b (Air p) (Air q) pair h k
-    (λ answer. slow_pair (squitter_parts a.squitter).me (squitter_parts b.squitter).me a.position b.position p q site answer a.encoded b.encoded pair.even pair.odd h k slow same)
+    (λ answer. slow_pair (squitter_parts a.squitter).me
+    (squitter_parts b.squitter).me a.position b.position p q site answer a.encoded b.encoded pair.even pair.odd h k
+    slow same)
 
 pub slow_pair_is_fixed_on_ground : SlowPairIsFixedOnGround
 slow_pair_is_fixed_on_ground window site a b p q pair h k slow same =
-    let places : AreSlowPlaces (Some site) (Ground p) (Ground q) a.position b.position = (slow_pair_exactly window (Some site) a b (Ground p) (Ground q) pair h k).0 slow in
+    let places : AreSlowPlaces (Some site) (Ground p) (Ground q) a.position b.position =
+    (slow_pair_exactly window (Some site) a b (Ground p) (Ground q) pair h k).0 slow in
     fixed window (Some site) a b (Ground p) (Ground q) pair h k
-    (λ answer. slow_ground_pair (squitter_parts a.squitter).me (squitter_parts b.squitter).me a.position b.position p q site answer a.encoded b.encoded pair.even pair.odd h k places same)
+    (λ answer. slow_ground_pair (squitter_parts a.squitter).me
+    (squitter_parts b.squitter).me a.position b.position p q site answer a.encoded b.encoded pair.even pair.odd h k
+    places same)

@@ -50,30 +50,38 @@ some_den : (a b : ℕ) → 1 ≤ a → 1 ≤ b → 0 < a * b
 some_den a b p q = let one : 1 * 1 ≤ a * b = mul-le-mul p q in omega (arith, one)
 
 -- one latitude differs by nothing, and so does one longitude, after its turns
-latitudes_still : (limit : Fraction) (x y : Position) → pos 0 <ℤ limit.num → AreOnePlace x y → DifferByLess limit (degrees (lat_of x)) (degrees (lat_of y))
+latitudes_still : (limit : Fraction) (x y : Position) → pos 0 <ℤ limit.num → AreOnePlace x y
+    → DifferByLess limit (degrees (lat_of x)) (degrees (lat_of y))
 latitudes_still limit x y positive one =
     nothing_smaller limit (minus (degrees (lat_of x)) (degrees (lat_of y))) positive
     (some_den x.lat.den y.lat.den x.lat.in_range.positive y.lat.in_range.positive)
     (omega (arith, ints, one.latitudes))
 
-longitudes_still : (limit : Fraction) (x y : Position) → pos 0 <ℤ limit.num → AreOnePlace x y → DifferByLessAround limit (degrees (lon_of x)) (degrees (lon_of y))
+longitudes_still : (limit : Fraction) (x y : Position) → pos 0 <ℤ limit.num → AreOnePlace x y
+    → DifferByLessAround limit (degrees (lon_of x)) (degrees (lon_of y))
 longitudes_still limit x y positive one =
-    let some = some_den x.lon.den y.lon.den x.lon.in_range.positive y.lon.in_range.positive in
-    (one.turns, nothing_smaller limit (difference 360 (degrees (lon_of x)) (degrees (lon_of y)) one.turns) positive (omega (arith, some)) one.longitudes)
+    let some = some_den x.lon.den y.lon.den x.lon.in_range.positive y.lon.in_range.positive in (
+      one.turns,
+      nothing_smaller limit (difference 360 (degrees (lon_of x)) (degrees (lon_of y)) one.turns) positive
+          (omega (arith, some)) one.longitudes,
+    )
 
 -- the zones of a point are from 1 to 59
 zones_within : (w r : ℕ) (p : Point) → IsGridPoint w r p → (1 ≤ p.zones) × (p.zones ≤ 59)
 zones_within w r p h =
     (rw h.zones (lon_zones_at-least p.parity (latitude w p)), rw h.zones (lon_zones_at-most p.parity (latitude w p)))
 
-module _ (w r : ℕ) (some : 1 ≤ w) (p q : Point) (p_is : IsGridPoint w r p) (q_is : IsGridPoint w r q) (x y : Position) (one : AreOnePlace x y) where
+module _ (w r : ℕ) (some : 1 ≤ w) (p q : Point) (p_is : IsGridPoint w r p) (q_is : IsGridPoint w r q) (x y : Position)
+    (one : AreOnePlace x y) where
   slow_still : AreSlow w p q x y
   slow_still =
       let a = zones_within w r p p_is in
       let b = zones_within w r q q_is in
       record {
-        latitudes = latitudes_still (slow_limit w 60 59) x y (slow_positive w 60 59 some (omega arith) (omega arith)) one;
-        longitudes = λ counts more. longitudes_still (slow_limit w p.zones q.zones) x y (slow_positive w p.zones q.zones some b.0 (omega (arith, a.1))) one;
+        latitudes = latitudes_still (slow_limit w 60 59) x y
+            (slow_positive w 60 59 some (omega arith) (omega arith)) one;
+        longitudes = λ counts more. longitudes_still (slow_limit w p.zones q.zones) x y
+            (slow_positive w p.zones q.zones some b.0 (omega (arith, a.1))) one;
       }
 
   follows_still : AreSlowForFollowing w p q x y
@@ -83,16 +91,21 @@ module _ (w r : ℕ) (some : 1 ≤ w) (p q : Point) (p_is : IsGridPoint w r p) (
       let least : 1 ≤ min p.zones q.zones = omega (arith, a.0, b.0) in
       let most : max p.zones q.zones ≤ 60 = omega (arith, a.1, b.1) in
       record {
-        latitudes = latitudes_still (following_limit w 60 59) x y (following_positive w 60 59 some (omega arith) (omega arith)) one;
-        longitudes = longitudes_still (following_limit w (max p.zones q.zones) (min p.zones q.zones)) x y (following_positive w (max p.zones q.zones) (min p.zones q.zones) some least most) one;
+        latitudes = latitudes_still (following_limit w 60 59) x y
+            (following_positive w 60 59 some (omega arith) (omega arith)) one;
+        longitudes = longitudes_still (following_limit w (max p.zones q.zones) (min p.zones q.zones)) x y
+            (following_positive w (max p.zones q.zones) (min p.zones q.zones) some least most) one;
       }
 
-places_still : (m n : Me) (site : Option Position) (x y : Position) (p q : Place) → are_of_one_kind m n ≡ true → IsPlaceOf m x p → IsPlaceOf n y q
+places_still : (m n : Me) (site : Option Position) (x y : Position) (p q : Place) → are_of_one_kind m n ≡ true
+    → IsPlaceOf m x p → IsPlaceOf n y q
     → AreOnePlace x y → IsPositionNearSite site x → IsPositionNearSite site y → AreSlowPlaces site p q x y
-places_still (kinds.Airborne a) (kinds.Airborne b) site x y (Air p) (Air q) kind h k one near_x near_y = slow_still 360 1 (omega arith) p q h.1.of_grid k.1.of_grid x y one
+places_still (kinds.Airborne a) (kinds.Airborne b) site x y (Air p) (Air q) kind h k one near_x near_y =
+    slow_still 360 1 (omega arith) p q h.1.of_grid k.1.of_grid x y one
 places_still (kinds.Airborne a) (kinds.Airborne b) site x y (Air p) (Ground q) kind h k one near_x near_y = absurd k
 places_still (kinds.Airborne a) (kinds.Airborne b) site x y (Ground p) q kind h k one near_x near_y = absurd h
-places_still (kinds.Surface a) (kinds.Surface b) site x y (Ground p) (Ground q) kind h k one near_x near_y = (slow_still 90 4 (omega arith) p q h.1.of_grid k.1.of_grid x y one, near_x, near_y)
+places_still (kinds.Surface a) (kinds.Surface b) site x y (Ground p) (Ground q) kind h k one near_x near_y =
+    (slow_still 90 4 (omega arith) p q h.1.of_grid k.1.of_grid x y one, near_x, near_y)
 places_still (kinds.Surface a) (kinds.Surface b) site x y (Ground p) (Air q) kind h k one near_x near_y = absurd k
 places_still (kinds.Surface a) (kinds.Surface b) site x y (Air p) q kind h k one near_x near_y = absurd h
 places_still (kinds.Airborne a) (kinds.Surface b) site x y p q kind h k one near_x near_y = absurd (false≢true kind)
@@ -101,11 +114,14 @@ places_still (kinds.Surface a) (kinds.Airborne b) site x y p q kind h k one near
 places_still (kinds.Surface a) (kinds.Other b) site x y p q kind h k one near_x near_y = absurd (false≢true kind)
 places_still (kinds.Other a) n site x y p q kind h k one near_x near_y = absurd h
 
-pub followed_still : (m n : Me) (x y : Position) (p q : Place) → are_of_one_kind m n ≡ true → IsPlaceOf m x p → IsPlaceOf n y q → AreOnePlace x y → AreSlowToFollow p q x y
-followed_still (kinds.Airborne a) (kinds.Airborne b) x y (Air p) (Air q) kind h k one = follows_still 360 1 (omega arith) p q h.1.of_grid k.1.of_grid x y one
+pub followed_still : (m n : Me) (x y : Position) (p q : Place) → are_of_one_kind m n ≡ true → IsPlaceOf m x p
+    → IsPlaceOf n y q → AreOnePlace x y → AreSlowToFollow p q x y
+followed_still (kinds.Airborne a) (kinds.Airborne b) x y (Air p) (Air q) kind h k one =
+    follows_still 360 1 (omega arith) p q h.1.of_grid k.1.of_grid x y one
 followed_still (kinds.Airborne a) (kinds.Airborne b) x y (Air p) (Ground q) kind h k one = absurd k
 followed_still (kinds.Airborne a) (kinds.Airborne b) x y (Ground p) q kind h k one = absurd h
-followed_still (kinds.Surface a) (kinds.Surface b) x y (Ground p) (Ground q) kind h k one = follows_still 90 4 (omega arith) p q h.1.of_grid k.1.of_grid x y one
+followed_still (kinds.Surface a) (kinds.Surface b) x y (Ground p) (Ground q) kind h k one =
+    follows_still 90 4 (omega arith) p q h.1.of_grid k.1.of_grid x y one
 followed_still (kinds.Surface a) (kinds.Surface b) x y (Ground p) (Air q) kind h k one = absurd k
 followed_still (kinds.Surface a) (kinds.Surface b) x y (Air p) q kind h k one = absurd h
 followed_still (kinds.Airborne a) (kinds.Surface b) x y p q kind h k one = absurd (false≢true kind)
@@ -116,12 +132,14 @@ followed_still (kinds.Other a) n x y p q kind h k one = absurd h
 
 pub standing_is_slow : StandingIsSlow
 standing_is_slow window site world standing near a b a_in b_in pair p q h k =
-    places_still (squitter_parts a.squitter).me (squitter_parts b.squitter).me site a.position b.position p q (sender_parts a.squitter b.squitter pair.together.sender).1 h k
+    places_still (squitter_parts a.squitter).me (squitter_parts b.squitter).me site a.position b.position p q
+    (sender_parts a.squitter b.squitter pair.together.sender).1 h k
     (standing a b a_in b_in pair.together.sender) (near a a_in) (near b b_in)
 
 pub standing_is_slow_for_following : StandingIsSlowForFollowing
 standing_is_slow_for_following window world standing a b a_in b_in together p q h k =
-    followed_still (squitter_parts a.squitter).me (squitter_parts b.squitter).me a.position b.position p q (sender_parts a.squitter b.squitter together.sender).1 h k
+    followed_still (squitter_parts a.squitter).me (squitter_parts b.squitter).me a.position b.position p q
+    (sender_parts a.squitter b.squitter together.sender).1 h k
     (standing a b a_in b_in together.sender)
 
 -- a position is one place with itself
@@ -136,4 +154,5 @@ own_kind (kinds.Other a) x p h = absurd h
 pub near_itself : NearItself
 near_itself a p h =
     let m = (squitter_parts a.squitter).me in
-    slow_to_follow m m a.position a.position p p h h (followed_still m m a.position a.position p p (own_kind m a.position p h) h h (one_with_itself a.position))
+    slow_to_follow m m a.position a.position p p h h
+    (followed_still m m a.position a.position p p (own_kind m a.position p h) h h (one_with_itself a.position))

@@ -15,10 +15,12 @@ loop-y-preserved c =
     elim c.if-x-eq0.branch [
       | then-x-eq0 w ↦
           subst₂ left (sym w.x-is) (sym w.twos-is)
-          (left_of_both c.args.a c.args.b c.loop-y.x c.loop-y.y c.loop-y.twos w.if-x-eq0.true c.loop-y-test.true c.loop-y.invariant)
+          (left_of_both c.args.a c.args.b c.loop-y.x c.loop-y.y c.loop-y.twos w.if-x-eq0.true c.loop-y-test.true
+          c.loop-y.invariant)
       | else-x-eq0 w ↦
           subst₂ left (sym w.x-is) (sym w.twos-is)
-          (left_of_second c.args.a c.args.b c.loop-y.x c.loop-y.y c.loop-y.twos (omega (arith, w.if-x-eq0.false)) c.loop-y-test.true c.loop-y.invariant)
+          (left_of_second c.args.a c.args.b c.loop-y.x c.loop-y.y c.loop-y.twos
+          (omega (arith, w.if-x-eq0.false)) c.loop-y-test.true c.loop-y.invariant)
     ]
 
 pub overflow_mul-result : goal.overflow_mul-result

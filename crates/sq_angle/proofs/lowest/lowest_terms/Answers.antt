@@ -13,7 +13,9 @@ returns-clause-positive c = quotient_positive c.args.den c.gcd-divisor.result c.
 
 pub returns-clause-coprime : goal.returns-clause-coprime
 returns-clause-coprime c =
-    coprime_after c.args.num c.args.den c.gcd-divisor.result (pos_of_dvd_of_pos c.gcd-divisor.ensures.1 c.requires) c.gcd-divisor.ensures
+    coprime_after c.args.num c.args.den c.gcd-divisor.result
+    (pos_of_dvd_of_pos c.gcd-divisor.ensures.1 c.requires) c.gcd-divisor.ensures
 
 pub returns-clause-value : goal.returns-clause-value
-returns-clause-value c = same_value c.args.num c.args.den c.gcd-divisor.result c.gcd-divisor.ensures.0 c.gcd-divisor.ensures.1
+returns-clause-value c = same_value c.args.num c.args.den c.gcd-divisor.result c.gcd-divisor.ensures.0
+    c.gcd-divisor.ensures.1

@@ -10,5 +10,7 @@ returns c =
     let z = c.args.zones in
     let r : ℕ = get_or RECIPROCALS z 0 in
     let near = entry z c.requires.some c.requires.few in
-    let size : x * z ≤ 2 ^ 39 * 127 = mul-le x z (2 ^ 39) 127 (omega (arith, c.requires.value)) (omega (arith, c.requires.few)) in
-    ap₂ (λ (v : ℕ) (f : ℕ). v * f / 2 ^ 48) c.from.ensures c.from-2.ensures ∙ by_reciprocal x z r c.requires.some near.0 near.1 (omega (arith, size))
+    let size : x * z ≤ 2 ^ 39 * 127 =
+    mul-le x z (2 ^ 39) 127 (omega (arith, c.requires.value)) (omega (arith, c.requires.few)) in
+    ap₂ (λ (v : ℕ) (f : ℕ). v * f / 2 ^ 48) c.from.ensures c.from-2.ensures
+    ∙ by_reciprocal x z r c.requires.some near.0 near.1 (omega (arith, size))

@@ -6,7 +6,8 @@ use Rattle.sq_bits.proofs.Remainders.{upper_kept, upper_field}
 use Rattle.sq_bits.proofs.parity.sealed.Goals as goal
 
 pub from_number-requires : goal.from_number-requires
-from_number-requires c = xor_lt 112 c.number.result c.from.result c.number.ensures.small (omega (arith, c.remainder.ensures.0))
+from_number-requires c = xor_lt 112 c.number.result c.from.result c.number.ensures.small
+    (omega (arith, c.remainder.ensures.0))
 
 pub returns-clause-kept : goal.returns-clause-kept
 unfolding quotient_of

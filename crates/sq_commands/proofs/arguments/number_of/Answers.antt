@@ -7,7 +7,8 @@ use Rattle.sq_text.specs.Timed.{IsMomentText}
 use Rattle.sq_angle.proofs.Texts.{digits_small}
 use Rattle.sq_commands.proofs.arguments.number_of.Goals as goal
 
-five_small : (digits : List ℕ) → AllByRecursion IsAsciiDigit digits → length digits ≤ 5 → digits_value 10 digits < 10 ^ 5
+five_small : (digits : List ℕ) → AllByRecursion IsAsciiDigit digits → length digits ≤ 5
+    → digits_value 10 digits < 10 ^ 5
 five_small digits each five =
     let wide : 10 ^ length digits ≤ 10 ^ 5 = pow-le-pow_right (omega arith) five in
     omega (arith, wide, digits_small digits each)

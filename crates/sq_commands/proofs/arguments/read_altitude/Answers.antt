@@ -1,4 +1,4 @@
-use Rattle.std.specs.Prelude.{ℕ, OnErr, option_map}
+use Rattle.std.specs.Prelude.{ℕ, OnErr, option_copied}
 use Rattle.std.proofs.Common.{subst, sym}
 use Rattle.sq_commands.specs.Encode.{IsAltitudeOf}
 use Rattle.sq_commands.specs.declared.arguments.Kind.TheVariants.{Air}
@@ -6,7 +6,7 @@ use Rattle.sq_commands.proofs.arguments.read_altitude.Goals as goal
 
 pub returns-in-Air-Some-clause-err : goal.returns-in-Air-Some-clause-err
 returns-in-Air-Some-clause-err c =
-    let here = subst (λ feet. OnErr c.read_feet.result ((a : ℕ) → ¬ IsAltitudeOf Air (option_map (λ word. word.now) feet) a))
+    let here = subst (λ feet. OnErr c.read_feet.result ((a : ℕ) → ¬ IsAltitudeOf Air (option_copied feet) a))
     (sym c.in-Air-Some.is-1) c.read_feet.ensures.err in
-    subst (λ kind. OnErr c.read_feet.result ((a : ℕ) → ¬ IsAltitudeOf kind (option_map (λ word. word.now) c.args.feet) a))
+    subst (λ kind. OnErr c.read_feet.result ((a : ℕ) → ¬ IsAltitudeOf kind (option_copied c.args.feet) a))
     (sym c.in-Air-Some.is-0) here

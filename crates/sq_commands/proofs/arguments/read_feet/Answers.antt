@@ -9,7 +9,8 @@ returns-in-None-field_of_feet-clause-err c field is =
     let f : FitsSigned w32 c.in-Some.feet = search rules in
     let back : to_z w32 (of_z w32 c.in-Some.feet) ≡ c.in-Some.feet = to_z-of_z {w = w32} f in
     let variant = subst (λ (z : ℤ). IsSome c.field_of_feet.result ↔ HasField z) back c.field_of_feet.ensures.variant in
-    no_feet c.args.word.now c.in-Some.feet c.field_of_feet.result field variant c.in-None-field_of_feet.is c.in-Some.ensures is
+    no_feet c.args.word.now c.in-Some.feet c.field_of_feet.result field variant c.in-None-field_of_feet.is
+    c.in-Some.ensures is
 
 pub returns-in-None-clause-err : goal.returns-in-None-clause-err
 returns-in-None-clause-err c field (feet, text, means) = c.in-None.ensures feet text

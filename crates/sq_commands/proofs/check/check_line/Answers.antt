@@ -6,5 +6,6 @@ use Rattle.sq_commands.proofs.check.check_line.Goals as goal
 pub returns-in-Text : goal.returns-in-Text
 returns-in-Text c line reader holds =
     let text = c.in-Text.text.now in
-    let read = one_squitter_reading text c.read_squitter.result (reader.read text) c.read_squitter.ensures (reader.reads text) in
+    let read = one_squitter_reading text c.read_squitter.result (reader.read text) c.read_squitter.ensures
+    (reader.reads text) in
     ap Some read ∙ ap (answer_content reader.read) (c.in-Text.ensures line holds)

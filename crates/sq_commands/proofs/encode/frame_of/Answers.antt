@@ -1,4 +1,4 @@
-use Rattle.std.specs.Prelude.{option_map}
+use Rattle.std.specs.Prelude.{option_copied}
 use Rattle.std.proofs.Common.{◌∙◌, ap, inl, inr, subst, sym}
 use Rattle.std.proofs.lemmas.Result.{err_from_is_err_and}
 use Rattle.sq_commands.specs.Arguments.{IsPositionFault, kind_name}
@@ -19,7 +19,8 @@ returns-in-Air c = (
     kind = c.in_ok-kind.ensures.ok ∙ ap kind_name c.in-Air.is;
     parity = c.in_ok-parity.ensures.ok;
     address = c.in_ok-address.ensures.ok;
-    altitude = subst (λ kind. IsAltitudeOf kind (option_map (λ s. s.now) c.args.words.now.feet) c.in_ok-altitude.altitude) c.in-Air.is c.in_ok-altitude.ensures.ok;
+    altitude = subst (λ kind. IsAltitudeOf kind
+        (option_copied c.args.words.now.feet) c.in_ok-altitude.altitude) c.in-Air.is c.in_ok-altitude.ensures.ok;
     position = c.in_ok-position.ensures;
   },
   c.air_frame.ensures,
@@ -38,7 +39,8 @@ returns-in-Ground c = (
     kind = c.in_ok-kind.ensures.ok ∙ ap kind_name c.in-Ground.is;
     parity = c.in_ok-parity.ensures.ok;
     address = c.in_ok-address.ensures.ok;
-    altitude = subst (λ kind. IsAltitudeOf kind (option_map (λ s. s.now) c.args.words.now.feet) c.in_ok-altitude.altitude) c.in-Ground.is c.in_ok-altitude.ensures.ok;
+    altitude = subst (λ kind. IsAltitudeOf kind
+        (option_copied c.args.words.now.feet) c.in_ok-altitude.altitude) c.in-Ground.is c.in_ok-altitude.ensures.ok;
     position = c.in_ok-position.ensures;
   },
   c.ground_frame.ensures,
@@ -59,7 +61,8 @@ returns-in_err-address c =
 pub returns-in_err-position : goal.returns-in_err-position
 returns-in_err-position c =
     let p = err_from_is_err_and c.from_residual-in_err-position.result c.from_residual-in_err-position.ensures.1 in
-    let why = subst (IsPositionFault c.args.words.now.lat.now c.args.words.now.lon.now) (sym p.2) c.in_err-position.ensures in
+    let why = subst (IsPositionFault c.args.words.now.lat.now c.args.words.now.lon.now)
+    (sym p.2) c.in_err-position.ensures in
     rw p.1
     (inr (
       (c.in_ok-kind.kind, c.in_ok-kind.ensures.ok),
@@ -67,7 +70,10 @@ returns-in_err-position c =
         (c.in_ok-parity.parity, c.in_ok-parity.ensures.ok),
         inr (
           (c.in_ok-address.address, c.in_ok-address.ensures.ok),
-          inr ((c.in_ok-kind.kind, c.in_ok-kind.ensures.ok, (c.in_ok-altitude.altitude, c.in_ok-altitude.ensures.ok)), why),
+          inr (
+            (c.in_ok-kind.kind, c.in_ok-kind.ensures.ok, (c.in_ok-altitude.altitude, c.in_ok-altitude.ensures.ok)),
+            why,
+          ),
         ),
       ),
     ))

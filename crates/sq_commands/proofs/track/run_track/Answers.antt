@@ -7,4 +7,5 @@ returns g c =
     let input = taken_from g.S.Source c.args.source.now c.run_lines.new.source in
     let output = written_on g.K.Sink c.args.sink.now c.run_lines.new.sink in
     let ran = c.run_lines.ensures in
-    tracked c.run_lines.result input output c.args.tracker.now c.run_lines.new.state ran.whole ran.unread ran.unanswered ran.unwritten
+    tracked c.run_lines.result input output c.args.tracker.now c.run_lines.new.state ran.whole ran.unread
+    ran.unanswered ran.unwritten

@@ -15,44 +15,59 @@ use Rattle.sq_cpr.proofs.decode_local.local.Given.{Over}
 
 pub returns-in_default : goal.returns-in_default
 returns-in_default g c =
-    let base_is : to_z w128 c.lat.result ≡ pos c.args.code.lat = rw c.lat.ensures.value (omega (arith, ints, c.args.code.lat_below)) in
+    let base_is : to_z w128 c.lat.result ≡ pos c.args.code.lat =
+    rw c.lat.ensures.value (omega (arith, ints, c.args.code.lat_below)) in
     let near =
-    near_latitude c.degrees_of-span.result c.lat_zones.result c.args.code.lat c.args.parity (degrees (lat_of c.args.reference.now)) _ c.index_within-lat_index.result c.lat_zones.ensures base_is
+    near_latitude c.degrees_of-span.result c.lat_zones.result c.args.code.lat c.args.parity
+    (degrees (lat_of c.args.reference.now)) _ c.index_within-lat_index.result c.lat_zones.ensures base_is
     c.index_within-lat_index.ensures.congruent (rw c.lat-2.ensures at c.index_within-lat_index.ensures.within) in (
       c.index_within-lat_index.result,
       rw c.degrees_of-span.ensures.value at near,
       λ inside.
-          let some = c.angle_at.ensures.variant.1 (rw (back32 c.index_within-lat_index.result c.index_within-lat_index.type_inv) inside) in
+          let some = c.angle_at.ensures.variant.1
+          (rw (back32 c.index_within-lat_index.result c.index_within-lat_index.type_inv) inside) in
           let none : false ≡ true = rw c.in_default.is at some in
           absurd cc,
     )
 
 module _ (g : Over) (c : goal.After-of_parts g) where
   index_is : c.of_parts.result.lat_index ≡ c.index_within-lat_index.result
-  index_is = ap (λ (p : Point). p.lat_index) c.of_parts.ensures.value ∙ back32 c.index_within-lat_index.result c.index_within-lat_index.type_inv
+  index_is = ap (λ (p : Point). p.lat_index) c.of_parts.ensures.value
+      ∙ back32 c.index_within-lat_index.result c.index_within-lat_index.type_inv
 
   zones_are : c.of_parts.result.zones ≡ c.lon_zones-zones.result
   zones_are = ap (λ (p : Point). p.zones) c.of_parts.ensures.value
 
-  near : IsNearLatitude g.S.Span.DEGREES c.args.parity (degrees (lat_of c.args.reference.now)) c.args.code.lat c.of_parts.result.lat_index
+  near : IsNearLatitude g.S.Span.DEGREES c.args.parity
+      (degrees (lat_of c.args.reference.now)) c.args.code.lat c.of_parts.result.lat_index
   near =
-      let base_is : to_z w128 c.lat.result ≡ pos c.args.code.lat = rw c.lat.ensures.value (omega (arith, ints, c.args.code.lat_below)) in
+      let base_is : to_z w128 c.lat.result ≡ pos c.args.code.lat =
+      rw c.lat.ensures.value (omega (arith, ints, c.args.code.lat_below)) in
       rw (index_is, ← c.degrees_of-span.ensures.value)
-      (near_latitude c.degrees_of-span.result c.lat_zones.result c.args.code.lat c.args.parity (degrees (lat_of c.args.reference.now)) _ c.index_within-lat_index.result c.lat_zones.ensures base_is
+      (near_latitude c.degrees_of-span.result c.lat_zones.result c.args.code.lat c.args.parity
+      (degrees (lat_of c.args.reference.now)) _ c.index_within-lat_index.result c.lat_zones.ensures base_is
       c.index_within-lat_index.ensures.congruent (rw c.lat-2.ensures at c.index_within-lat_index.ensures.within))
 
-  within : LiesWithin 1 g.S.Span.DEGREES c.of_parts.result.zones c.index_within-turned.result (degrees (lon_of c.args.reference.now))
+  within : LiesWithin 1 g.S.Span.DEGREES c.of_parts.result.zones c.index_within-turned.result
+      (degrees (lon_of c.args.reference.now))
   within = rw zones_are (rw (c.lon-2.ensures, c.degrees_of-span.ensures.value) at c.index_within-turned.ensures.within)
 
-  around : IsCongruent (circle c.of_parts.result.zones g.S.Span.REPEATS) (pos c.of_parts.result.lon_index) c.index_within-turned.result
+  around : IsCongruent (circle c.of_parts.result.zones g.S.Span.REPEATS)
+      (pos c.of_parts.result.lon_index) c.index_within-turned.result
   around =
-      let lon_is : c.of_parts.result.lon_index ≡ c.on_circle-lon_index.result = ap (λ (p : Point). p.lon_index) c.of_parts.ensures.value in
-      let widened : to_z w64 (of_z w64 c.from.result) ≡ c.index_within-turned.result = omega (arith, ints, c.from.ensures, c.index_within-turned.type_inv) in
+      let lon_is : c.of_parts.result.lon_index ≡ c.on_circle-lon_index.result =
+      ap (λ (p : Point). p.lon_index) c.of_parts.ensures.value in
+      let widened : to_z w64 (of_z w64 c.from.result) ≡ c.index_within-turned.result =
+      omega (arith, ints, c.from.ensures, c.index_within-turned.type_inv) in
       rw (zones_are, lon_is) (rw (widened, c.repeats_of.ensures.value) at c.on_circle-lon_index.ensures.congruent)
 
 pub returns : goal.returns
 returns g c =
-    let base_is : to_z w128 c.lon.result ≡ pos c.args.code.lon = rw c.lon.ensures.value (omega (arith, ints, c.args.code.lon_below)) in
+    let base_is : to_z w128 c.lon.result ≡ pos c.args.code.lon =
+    rw c.lon.ensures.value (omega (arith, ints, c.args.code.lon_below)) in
     let parity_is = ap (λ (p : Point). p.parity) c.of_parts.ensures.value in
-    local_point g.S.Span.DEGREES g.S.Span.REPEATS (numbers_of c.args.code) c.args.parity (degrees (lat_of c.args.reference.now)) (degrees (lon_of c.args.reference.now)) c.of_parts.result _ c.index_within-turned.result
-    c.of_parts.ensures.of_grid parity_is (near g c) base_is c.index_within-turned.ensures.congruent (within g c) (around g c)
+    local_point g.S.Span.DEGREES g.S.Span.REPEATS (numbers_of c.args.code) c.args.parity
+    (degrees (lat_of c.args.reference.now))
+    (degrees (lon_of c.args.reference.now)) c.of_parts.result _ c.index_within-turned.result
+    c.of_parts.ensures.of_grid parity_is (near g c) base_is c.index_within-turned.ensures.congruent (within g c)
+    (around g c)

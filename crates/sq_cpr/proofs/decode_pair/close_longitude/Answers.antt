@@ -13,21 +13,38 @@ use Rattle.sq_cpr.proofs.Grids.Bits32.{back32}
 use Rattle.sq_cpr.proofs.Decoding.Pairs.{newest_of_pair}
 use Rattle.sq_cpr.proofs.decode_pair.close_longitude.Goals as goal
 
-base : (c : goal.After-index_within) → to_z w128 (of_z w128 c.index_of.result) ≡ pos (of_parity c.args.newest c.args.even.lon c.args.odd.lon) +ℤ pos codes_of_zone *ℤ c.pair_zone-zone.result
-base c = back c.index_of.result c.index_of.type_inv ∙ (rw (back c.pair_zone-zone.result c.pair_zone-zone.type_inv, c.lon_of_newest.ensures.value) at c.index_of.ensures.value)
+base : (c : goal.After-index_within)
+    → to_z w128 (of_z w128 c.index_of.result)
+    ≡ pos (of_parity c.args.newest c.args.even.lon c.args.odd.lon) +ℤ pos codes_of_zone *ℤ c.pair_zone-zone.result
+base c = back c.index_of.result c.index_of.type_inv
+    ∙ (rw (
+      back c.pair_zone-zone.result c.pair_zone-zone.type_inv,
+      c.lon_of_newest.ensures.value,
+    ) at c.index_of.ensures.value)
 
-zone : (c : goal.After-index_within) → IsZone (zones_of Even c.args.count) (zones_of Odd c.args.count) c.args.even.lon c.args.odd.lon c.pair_zone-zone.result
-zone c = rw (c.zones_of.ensures.value, c.zones_of-2.ensures.value, c.lon.ensures.value, c.lon-2.ensures.value) at c.pair_zone-zone.ensures.zone
+zone : (c : goal.After-index_within)
+    → IsZone (zones_of Even c.args.count)
+    (zones_of Odd c.args.count) c.args.even.lon c.args.odd.lon c.pair_zone-zone.result
+zone c = rw (
+  c.zones_of.ensures.value,
+  c.zones_of-2.ensures.value,
+  c.lon.ensures.value,
+  c.lon-2.ensures.value,
+) at c.pair_zone-zone.ensures.zone
 
-congruent : (c : goal.After-index_within) → IsCongruent (zones_of c.args.newest c.args.count * codes_of_zone) c.index_within.result (pos (of_parity c.args.newest c.args.even.lon c.args.odd.lon) +ℤ pos codes_of_zone *ℤ c.pair_zone-zone.result)
+congruent : (c : goal.After-index_within)
+    → IsCongruent (zones_of c.args.newest c.args.count * codes_of_zone) c.index_within.result
+    (pos (of_parity c.args.newest c.args.even.lon c.args.odd.lon) +ℤ pos codes_of_zone *ℤ c.pair_zone-zone.result)
 congruent c = rw (base c, c.zones_of-zones.ensures.value) at c.index_within.ensures.congruent
 
 pub returns-clause-longitudes : goal.returns-clause-longitudes
 returns-clause-longitudes c =
     rw (back32 c.index_within.result c.index_within.type_inv)
-    (newest_of_pair c.args.span c.args.count c.args.even.lon c.args.odd.lon c.args.newest c.pair_zone-zone.result c.index_within.result c.requires.span_some c.requires.count_some (zone c) (congruent c))
+    (newest_of_pair c.args.span c.args.count c.args.even.lon c.args.odd.lon c.args.newest c.pair_zone-zone.result
+    c.index_within.result c.requires.span_some c.requires.count_some (zone c) (congruent c))
 
 pub returns-clause-at : goal.returns-clause-at
 returns-clause-at c =
     rw (back32 c.index_within.result c.index_within.type_inv)
-    (representative_from_within c.args.span (zones_of c.args.newest c.args.count) c.index_within.result (degrees c.args.reference.now) (rw c.zones_of-zones.ensures.value at c.index_within.ensures.within))
+    (representative_from_within c.args.span (zones_of c.args.newest c.args.count) c.index_within.result
+    (degrees c.args.reference.now) (rw c.zones_of-zones.ensures.value at c.index_within.ensures.within))

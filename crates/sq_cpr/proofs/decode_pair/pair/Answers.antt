@@ -15,9 +15,14 @@ pub of_parts-requires : goal.of_parts-requires
 of_parts-requires g c =
     let even_fits : FitsSigned w32 c.close_latitudes-lats.result.even = search rules in
     let odd_fits : FitsSigned w32 c.close_latitudes-lats.result.odd = search rules in
-    let found = found_pair g.S.Span.DEGREES c.close_latitudes-lats.result.even c.close_latitudes-lats.result.odd c.in-Some.even_lat c.in-Some-angle_at.odd_lat c.zone_count-count.result c.zone_count-odd_count.result even_fits odd_fits
-    (c.in-Some.ensures.variant.0 refl) (c.in-Some-angle_at.ensures.variant.0 refl) c.in-Some.ensures.value c.in-Some-angle_at.ensures.value c.zone_count-count.ensures.value c.zone_count-odd_count.ensures.value c.if-count-odd_count.false in
-    point_of_pair g.S.Span.DEGREES g.S.Span.REPEATS c.args.newest _ c.close_latitudes-lats.result.even c.close_latitudes-lats.result.odd found.inside found.counts refl
+    let found = found_pair g.S.Span.DEGREES c.close_latitudes-lats.result.even c.close_latitudes-lats.result.odd
+    c.in-Some.even_lat c.in-Some-angle_at.odd_lat c.zone_count-count.result c.zone_count-odd_count.result even_fits
+    odd_fits
+    (c.in-Some.ensures.variant.0 refl)
+    (c.in-Some-angle_at.ensures.variant.0 refl) c.in-Some.ensures.value c.in-Some-angle_at.ensures.value
+    c.zone_count-count.ensures.value c.zone_count-odd_count.ensures.value c.if-count-odd_count.false in
+    point_of_pair g.S.Span.DEGREES g.S.Span.REPEATS c.args.newest _ c.close_latitudes-lats.result.even
+    c.close_latitudes-lats.result.odd found.inside found.counts refl
     (back32 c.of.result c.of.type_inv ∙ c.of.ensures)
     (c.zones_of-zones.ensures.value ∙ ap (λ (n : ℕ). zones_of c.args.newest n) found.counted)
     (rw c.repeats_of.ensures.value at c.on_circle-lon_index.ensures.below)
@@ -26,14 +31,21 @@ pub returns : goal.returns
 returns g c =
     let even_fits : FitsSigned w32 c.close_latitudes-lats.result.even = search rules in
     let odd_fits : FitsSigned w32 c.close_latitudes-lats.result.odd = search rules in
-    let found = found_pair g.S.Span.DEGREES c.close_latitudes-lats.result.even c.close_latitudes-lats.result.odd c.in-Some.even_lat c.in-Some-angle_at.odd_lat c.zone_count-count.result c.zone_count-odd_count.result even_fits odd_fits
-    (c.in-Some.ensures.variant.0 refl) (c.in-Some-angle_at.ensures.variant.0 refl) c.in-Some.ensures.value c.in-Some-angle_at.ensures.value c.zone_count-count.ensures.value c.zone_count-odd_count.ensures.value c.if-count-odd_count.false in
+    let found = found_pair g.S.Span.DEGREES c.close_latitudes-lats.result.even c.close_latitudes-lats.result.odd
+    c.in-Some.even_lat c.in-Some-angle_at.odd_lat c.zone_count-count.result c.zone_count-odd_count.result even_fits
+    odd_fits
+    (c.in-Some.ensures.variant.0 refl)
+    (c.in-Some-angle_at.ensures.variant.0 refl) c.in-Some.ensures.value c.in-Some-angle_at.ensures.value
+    c.zone_count-count.ensures.value c.zone_count-odd_count.ensures.value c.if-count-odd_count.false in
     let value = c.of_parts.ensures.value in
     let w = c.degrees_of-span.ensures.value in
     let lon = c.close_longitude-turned.ensures.longitudes in
-    let turned : to_z w64 (of_z w64 c.from.result) ≡ c.close_longitude-turned.result = omega (arith, ints, c.from.ensures, c.close_longitude-turned.type_inv) in
+    let turned : to_z w64 (of_z w64 c.from.result) ≡ c.close_longitude-turned.result =
+    omega (arith, ints, c.from.ensures, c.close_longitude-turned.type_inv) in
     let zones = ap (λ (p : Point). p.zones) value in
-    let lon_at : IsRepresentative c.degrees_of-span.result (degrees (lon_of c.args.place.now)) (angle_at c.degrees_of-span.result (zones_of c.args.newest c.zone_count-count.result) (of_parity c.args.newest lon.0 lon.1)) =
+    let lon_at : IsRepresentative c.degrees_of-span.result (degrees (lon_of c.args.place.now))
+    (angle_at c.degrees_of-span.result (zones_of c.args.newest c.zone_count-count.result)
+    (of_parity c.args.newest lon.0 lon.1)) =
     rw (c.lon.ensures, lon.3) at c.close_longitude-turned.ensures.at in
     record {
       of_pair = record {
@@ -48,9 +60,12 @@ returns g c =
         of_grid = c.of_parts.ensures.of_grid;
         parity = ap (λ (p : Point). p.parity) value;
         lat_index = ap (λ (p : Point). p.lat_index) value ∙ back32 c.of.result c.of.type_inv ∙ c.of.ensures;
-        lon_index = rw (zones, ap (λ (p : Point). p.lon_index) value) (rw (turned, lon.3, c.repeats_of.ensures.value) at c.on_circle-lon_index.ensures.congruent);
+        lon_index = rw (zones, ap (λ (p : Point). p.lon_index) value)
+            (rw (turned, lon.3, c.repeats_of.ensures.value) at c.on_circle-lon_index.ensures.congruent);
       };
       lat_at = rw (w, c.lat.ensures) at c.close_latitudes-lats.ensures.at;
       lon_at = rw (zones, c.zones_of-zones.ensures.value)
-          (subst (λ (n : ℕ). IsRepresentative n (degrees (lon_of c.args.place.now)) (angle_at n (zones_of c.args.newest c.zone_count-count.result) (of_parity c.args.newest lon.0 lon.1))) w lon_at);
+          (subst (λ (n : ℕ). IsRepresentative n (degrees (lon_of c.args.place.now))
+          (angle_at n (zones_of c.args.newest c.zone_count-count.result)
+          (of_parity c.args.newest lon.0 lon.1))) w lon_at);
     }

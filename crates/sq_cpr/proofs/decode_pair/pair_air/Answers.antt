@@ -5,4 +5,5 @@ use Rattle.sq_cpr.proofs.Decoding.AirLaw.{air_answer}
 use Rattle.sq_cpr.proofs.decode_pair.pair_air.Goals as goal
 
 pub returns : goal.returns
-returns c = air_answer (numbers_of c.args.even) (numbers_of c.args.odd) c.args.newest (degrees (lon_of c.origin.result)) _ (rw c.origin.ensures.lat at c.pair.ensures)
+returns c = air_answer (numbers_of c.args.even) (numbers_of c.args.odd) c.args.newest
+    (degrees (lon_of c.origin.result)) _ (rw c.origin.ensures.lat at c.pair.ensures)

@@ -11,12 +11,15 @@ returns-clause-only g c = λ point parity rounds.
     let s = g.S.Span in
     let found = c.rounded.ensures in
     let at = c.args.position.now in
-    rounds_once s.DEGREES s.REPEATS (degrees (lat_of at)) (degrees (lon_of at)) point c.rounded.result (parity ∙ sym found.parity) rounds found.rounds
+    rounds_once s.DEGREES s.REPEATS (degrees (lat_of at)) (degrees (lon_of at)) point c.rounded.result
+    (parity ∙ sym found.parity) rounds found.rounds
 
 pub returns-clause-itself : goal.returns-clause-itself
 returns-clause-itself g c = λ point of_grid parity lat lon.
     let s = g.S.Span in
     let found = c.rounded.ensures in
     let at = c.args.position.now in
-    let rounds = subst₂ (λ (x y : Fraction). RoundsTo s.DEGREES s.REPEATS x y point) (sym lat) (sym lon) (rounds_to_itself s.DEGREES s.REPEATS s.full_circle point of_grid) in
-    rounds_once s.DEGREES s.REPEATS (degrees (lat_of at)) (degrees (lon_of at)) point c.rounded.result (parity ∙ sym found.parity) rounds found.rounds
+    let rounds = subst₂ (λ (x y : Fraction). RoundsTo s.DEGREES s.REPEATS x y point) (sym lat) (sym lon)
+    (rounds_to_itself s.DEGREES s.REPEATS s.full_circle point of_grid) in
+    rounds_once s.DEGREES s.REPEATS (degrees (lat_of at)) (degrees (lon_of at)) point c.rounded.result
+    (parity ∙ sym found.parity) rounds found.rounds

@@ -16,10 +16,13 @@ fits_narrow a h = omega (arith, ints)
 
 module _ (g : Over) (c : goal.After-nearest_index g) where
   nearest : IsNearest (degrees c.args.lat.now) (step g.S.Span.DEGREES (lat_zones c.args.parity)) c.nearest_index.result
-  nearest = subst₂ (λ (w z : ℕ). IsNearest (degrees c.args.lat.now) (step w z) c.nearest_index.result) c.degrees_of.ensures.value c.lat_zones.ensures c.nearest_index.ensures.nearest
+  nearest = subst₂ (λ (w z : ℕ). IsNearest (degrees c.args.lat.now)
+      (step w z) c.nearest_index.result) c.degrees_of.ensures.value c.lat_zones.ensures c.nearest_index.ensures.nearest
 
   within : IsLatitude g.S.Span.DEGREES c.args.parity c.nearest_index.result
-  within = nearest_within_90 (degrees c.args.lat.now) g.S.Span.DEGREES g.S.Span.REPEATS (lat_zones c.args.parity) c.nearest_index.result g.S.Span.full_circle c.args.lat.now.in_range.positive c.requires nearest
+  within = nearest_within_90 (degrees c.args.lat.now) g.S.Span.DEGREES g.S.Span.REPEATS
+      (lat_zones c.args.parity) c.nearest_index.result g.S.Span.full_circle c.args.lat.now.in_range.positive c.requires
+      nearest
 
   small : unsigned_abs c.nearest_index.result ≤ 707788800
   small = index_small g.S.Span.DEGREES g.S.Span.REPEATS c.args.parity c.nearest_index.result g.S.Span.full_circle within
@@ -29,7 +32,9 @@ overflow_cast-result g c = fits_narrow c.nearest_index.result (small g c)
 
 pub returns-clause-nearest : goal.returns-clause-nearest
 returns-clause-nearest g c =
-    subst (λ b. IsNearest (degrees c.args.lat.now) (step g.S.Span.DEGREES (lat_zones c.args.parity)) b) (sym (narrowed c.nearest_index.result (small g c))) (nearest g c)
+    subst (λ b. IsNearest (degrees c.args.lat.now) (step g.S.Span.DEGREES (lat_zones c.args.parity)) b)
+    (sym (narrowed c.nearest_index.result (small g c))) (nearest g c)
 
 pub returns-clause-within : goal.returns-clause-within
-returns-clause-within g c = subst (λ b. IsLatitude g.S.Span.DEGREES c.args.parity b) (sym (narrowed c.nearest_index.result (small g c))) (within g c)
+returns-clause-within g c = subst (λ b. IsLatitude g.S.Span.DEGREES c.args.parity b)
+    (sym (narrowed c.nearest_index.result (small g c))) (within g c)

@@ -20,11 +20,14 @@ module _ (c : goal.After-quotient_down) where
 
   scaled_small : unsigned_abs scaled ≤ 2 * (60 * 131072) * (360 * c.args.angle.now.den)
   unfolding scaled num
-  scaled_small = scaled_size (2 * (c.args.zones * 131072)) (2 * (60 * 131072)) (360 * c.args.angle.now.den) c.args.angle.now.num (omega (arith, c.requires.zones_small)) c.args.angle.now.in_range.within
+  scaled_small = scaled_size (2 * (c.args.zones * 131072)) (2 * (60 * 131072))
+      (360 * c.args.angle.now.den) c.args.angle.now.num
+      (omega (arith, c.requires.zones_small)) c.args.angle.now.in_range.within
 
   half_small : half ≤ 1000000000000 * 360
   unfolding half
-  half_small = mul-le c.args.angle.now.den c.args.span 1000000000000 360 c.args.angle.now.in_range.at_most c.requires.span_small
+  half_small = mul-le c.args.angle.now.den c.args.span 1000000000000 360 c.args.angle.now.in_range.at_most
+      c.requires.span_small
 
   half_is : c.den.result * c.from.result ≡ half
   unfolding half
@@ -33,10 +36,12 @@ module _ (c : goal.After-quotient_down) where
   steps_is : c.scaled-steps.result ≡ scaled
   unfolding scaled num
   steps_is =
-      let value : to_z w128 (of_z w128 c.from-3.result) ≡ c.args.angle.now.num = omega (arith, ints, c.args.angle.now.in_range.within, c.args.angle.now.in_range.at_most) in
+      let value : to_z w128 (of_z w128 c.from-3.result) ≡ c.args.angle.now.num =
+      omega (arith, ints, c.args.angle.now.in_range.within, c.args.angle.now.in_range.at_most) in
       c.scaled-steps.ensures ∙ ap₂ (λ (n : ℕ) (z : ℤ). pos n *ℤ z) (ap (λ n. 2 * (n * 131072)) c.from-2.ensures) value
 
-  sum_is : to_z w128 (of_z w128 (to_z w128 (of_z w128 c.scaled-steps.result) +ℤ to_z w128 (of_z w128 c.from-4.result))) ≡ scaled +ℤ pos half
+  sum_is : to_z w128 (of_z w128 (to_z w128 (of_z w128 c.scaled-steps.result) +ℤ to_z w128 (of_z w128 c.from-4.result)))
+      ≡ scaled +ℤ pos half
   sum_is = omega (arith, ints, steps_is, half_is, half_small, scaled_small, c.args.angle.now.in_range.at_most)
 
   divisor_is : c.from-5.result ≡ half
@@ -46,26 +51,32 @@ module _ (c : goal.After-quotient_down) where
   rounded =
       let q = c.quotient_down.result in record {
         from = subst₂ (λ (e : ℕ) (v : ℤ). (pos (2 * e) *ℤ q) ≤ℤ v) divisor_is sum_is c.quotient_down.ensures.reached;
-        below = subst₂ (λ (e : ℕ) (v : ℤ). v <ℤ (pos (2 * e) *ℤ q +ℤ pos (2 * e))) divisor_is sum_is c.quotient_down.ensures.next;
+        below = subst₂ (λ (e : ℕ) (v : ℤ). v <ℤ
+            (pos (2 * e) *ℤ q +ℤ pos (2 * e))) divisor_is sum_is c.quotient_down.ensures.next;
       }
 
   small : unsigned_abs c.quotient_down.result < 2 ^ 40
   unfolding half
   small =
-      let some : 0 < c.args.angle.now.den * c.args.span = mul_pos c.args.angle.now.den c.args.span c.args.angle.now.in_range.positive c.requires.span_some in
-      let wide : 1 * c.args.angle.now.den ≤ c.args.span * c.args.angle.now.den = mul-le-mul_right c.args.angle.now.den c.requires.span_some in
-      rounded_small scaled c.quotient_down.result (c.args.angle.now.den * c.args.span) some (omega (arith, scaled_small, wide)) rounded
+      let some : 0 < c.args.angle.now.den * c.args.span =
+      mul_pos c.args.angle.now.den c.args.span c.args.angle.now.in_range.positive c.requires.span_some in
+      let wide : 1 * c.args.angle.now.den ≤ c.args.span * c.args.angle.now.den =
+      mul-le-mul_right c.args.angle.now.den c.requires.span_some in
+      rounded_small scaled c.quotient_down.result (c.args.angle.now.den * c.args.span) some
+      (omega (arith, scaled_small, wide)) rounded
 
 pub overflow_cast-result : goal.overflow_cast-result
 overflow_cast-result c = omega (arith, ints, small c)
 
-narrowed : (c : goal.After-quotient_down) → to_z w64 (of_z w64 (to_z w128 (of_z w128 c.quotient_down.result))) ≡ c.quotient_down.result
+narrowed : (c : goal.After-quotient_down)
+    → to_z w64 (of_z w64 (to_z w128 (of_z w128 c.quotient_down.result))) ≡ c.quotient_down.result
 narrowed c = omega (arith, ints, small c)
 
 pub returns-clause-nearest : goal.returns-clause-nearest
 unfolding scaled half num
 returns-clause-nearest c =
-    rw (narrowed c) (nearest_from_rounded (degrees c.args.angle.now) c.args.span (c.args.zones * 131072) c.quotient_down.result (rounded c))
+    rw (narrowed c) (nearest_from_rounded (degrees c.args.angle.now) c.args.span
+    (c.args.zones * 131072) c.quotient_down.result (rounded c))
 
 pub returns-clause-small : goal.returns-clause-small
 returns-clause-small c = rw (narrowed c) (small c)

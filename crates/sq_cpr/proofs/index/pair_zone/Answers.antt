@@ -12,7 +12,8 @@ above_size c = mul-le c.args.odd_zones c.args.even 60 codes_of_zone c.requires.o
 below_size : (c : goal.After-quotient_down) → c.args.even_zones * c.args.odd ≤ 60 * codes_of_zone
 below_size c = mul-le c.args.even_zones c.args.odd 60 codes_of_zone c.requires.even_zones_small (omega arith)
 
-zone : (c : goal.After-quotient_down) → IsZone c.args.even_zones c.args.odd_zones c.args.even c.args.odd c.quotient_down.result
+zone : (c : goal.After-quotient_down)
+    → IsZone c.args.even_zones c.args.odd_zones c.args.even c.args.odd c.quotient_down.result
 zone c = record {
   from = omega (arith, ints, above_size c, below_size c, c.quotient_down.ensures.reached);
   below = omega (arith, ints, above_size c, below_size c, c.quotient_down.ensures.next);
@@ -22,4 +23,5 @@ pub returns-clause-zone : goal.returns-clause-zone
 returns-clause-zone c = rw (back c.quotient_down.result c.quotient_down.type_inv) (zone c)
 
 pub returns-clause-small : goal.returns-clause-small
-returns-clause-small c = rw (back c.quotient_down.result c.quotient_down.type_inv) (omega (arith, ints, above_size c, below_size c, c.quotient_down.ensures.small))
+returns-clause-small c = rw (back c.quotient_down.result c.quotient_down.type_inv)
+    (omega (arith, ints, above_size c, below_size c, c.quotient_down.ensures.small))

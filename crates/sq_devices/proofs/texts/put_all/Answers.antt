@@ -9,7 +9,8 @@ loop-at-preserved g c =
     let fits : c.in_ok-at.field-0 ≤ length c.args.text.now - c.loop-at.at = search rules in
     record {
       within = omega arith;
-      put = puts_more _ _ _ c.args.text.now c.loop-at.at c.in_ok-at.field-0 fits c.loop-at.invariant.put c.in_ok-at.ensures.appended;
+      put = puts_more _ _ _ c.args.text.now c.loop-at.at c.in_ok-at.field-0 fits c.loop-at.invariant.put
+          c.in_ok-at.ensures.appended;
       unmarked = search rules;
     }
 

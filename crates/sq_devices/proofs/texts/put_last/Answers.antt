@@ -8,6 +8,9 @@ use Rattle.sq_devices.proofs.texts.put_last.Goals as goal
 pub returns-clause-part : goal.returns-clause-part
 returns-clause-part g c =
     on_err_weaker c.finish.result
-    (λ (kept : KeepsOrHides (g.K.Sink.written c.put_all.new.sink) (g.K.Sink.written c.finish.new.self)).
-    (c.args.text.now, ([], sym (append-nil c.args.text.now)), Appends-hidden _ _ _ c.args.text.now c.in_ok-put_all.ensures.appended kept))
+    (λ (kept : KeepsOrHides (g.K.Sink.written c.put_all.new.sink) (g.K.Sink.written c.finish.new.self)). (
+      c.args.text.now,
+      ([], sym (append-nil c.args.text.now)),
+      Appends-hidden _ _ _ c.args.text.now c.in_ok-put_all.ensures.appended kept,
+    ))
     c.finish.ensures.kept

@@ -7,4 +7,5 @@ use Rattle.sq_lines.proofs.marks.feeds_of.Goals as goal
 pub returns : goal.returns
 returns c =
     let bytes = c.args.bytes.now in
-    subst (λ m. MarksFeeds m bytes) (sym (bitmask_splat w8 eqb bytes 64 10 c.told-bytes (omega arith))) (marks_lanes bytes)
+    subst (λ m. MarksFeeds m bytes) (sym (bitmask_splat w8 eqb bytes 64 10 c.told-bytes (omega arith)))
+    (marks_lanes bytes)

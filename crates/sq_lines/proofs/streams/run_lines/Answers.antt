@@ -15,7 +15,8 @@ pieces-init g c = record {
   answered = record {
     read = [];
     consumed = Consumes-nil _;
-    answered = starts g.A.Answering.stands_for g.A.Answering.way _ _ _ c.new-run.ensures.number c.new-run.ensures.cutter c.new-run.ensures.tally;
+    answered = starts g.A.Answering.stands_for g.A.Answering.way _ _ _ c.new-run.ensures.number
+        c.new-run.ensures.cutter c.new-run.ensures.tally;
   };
 }
 
@@ -40,8 +41,11 @@ returns-in_err-has_more-clause-unread g c =
       (
         h.read,
         consumes_hidden _ _ _ h.read h.consumed unread.1,
-        subst (λ now. HasTold g.A.Answering.stands_for g.A.Answering.way start now before (g.K.Sink.written c.answer_next.new.sink) (ended_lines h.read)) (sym unread.3)
-            (subst (λ (after : Option (List ℕ)). HasTold g.A.Answering.stands_for g.A.Answering.way start c.pieces.state before after (ended_lines h.read)) (sym unread.4) told),
+        subst (λ now. HasTold g.A.Answering.stands_for g.A.Answering.way start now before
+            (g.K.Sink.written c.answer_next.new.sink) (ended_lines h.read)) (sym unread.3)
+            (subst (λ (after : Option (List ℕ)).
+            HasTold g.A.Answering.stands_for g.A.Answering.way start c.pieces.state before after
+            (ended_lines h.read)) (sym unread.4) told),
       ),
     ))
 
@@ -71,7 +75,9 @@ returns-in-Err-Write-clause-unwritten g c = λ is.
         on.consumed,
         inr (
           c.in_ok-has_more.ensures.end c.if-not-has_more.true,
-          subst (λ (fault : Unanswered). StoppedIn fault g.A.Answering.stands_for g.A.Answering.way c.args.state.now c.answer_last.new.state (g.K.Sink.written c.args.sink.now) (g.K.Sink.written c.answer_last.new.sink) (lines_of on.read))
+          subst (λ (fault : Unanswered).
+              StoppedIn fault g.A.Answering.stands_for g.A.Answering.way c.args.state.now c.answer_last.new.state
+              (g.K.Sink.written c.args.sink.now) (g.K.Sink.written c.answer_last.new.sink) (lines_of on.read))
               c.in-Err-Write.field-0-is (c.in-Err-Write.ensures.stopped _ _ on.read on.answered),
         ),
       ),
@@ -85,7 +91,9 @@ returns-in-Err-Memory-clause-unanswered g c = λ is.
       on.consumed,
       inr (
         c.in_ok-has_more.ensures.end c.if-not-has_more.true,
-        subst (λ (fault : Unanswered). StoppedIn fault g.A.Answering.stands_for g.A.Answering.way c.args.state.now c.answer_last.new.state (g.K.Sink.written c.args.sink.now) (g.K.Sink.written c.answer_last.new.sink) (lines_of on.read))
+        subst (λ (fault : Unanswered).
+            StoppedIn fault g.A.Answering.stands_for g.A.Answering.way c.args.state.now c.answer_last.new.state
+            (g.K.Sink.written c.args.sink.now) (g.K.Sink.written c.answer_last.new.sink) (lines_of on.read))
             c.in-Err-Memory.field-0-is (c.in-Err-Memory.ensures.stopped _ _ on.read on.answered),
       ),
     )
@@ -112,8 +120,10 @@ returns-in-Ok-finish-clause-whole g c =
     let on = read_on h (c.in_ok-has_more.ensures.answered _ _ h.read h.answered) in
     let done = c.in-Ok.ensures.answered _ _ on.read on.answered in
     whole_input _ _ on.read
-    (λ input. HasTold g.A.Answering.stands_for g.A.Answering.way c.args.state.now c.answer_last.new.state (g.K.Sink.written c.args.sink.now) (g.K.Sink.written c.finish.new.self) (lines_of input))
-    (λ input. (past : g.A.Answering.Past) → g.A.Answering.stands_for c.args.state.now past → c.tally.result ≡ tally_of (answers_to g.A.Answering.way past (lines_of input)))
+    (λ input. HasTold g.A.Answering.stands_for g.A.Answering.way c.args.state.now c.answer_last.new.state
+    (g.K.Sink.written c.args.sink.now) (g.K.Sink.written c.finish.new.self) (lines_of input))
+    (λ input. (past : g.A.Answering.Past) → g.A.Answering.stands_for c.args.state.now past
+    → c.tally.result ≡ tally_of (answers_to g.A.Answering.way past (lines_of input)))
     on.consumed (c.in_ok-has_more.ensures.end c.if-not-has_more.true)
     (told_kept g.A.Answering.stands_for g.A.Answering.way _ _ _ _ _ _ done.0 c.in-Ok-finish.ensures.bytes)
     (λ past st. c.tally.ensures ∙ done.1 past st)

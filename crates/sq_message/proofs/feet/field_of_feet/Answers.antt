@@ -12,7 +12,8 @@ not_some o none some = absurd (cc (sym none, some))
 means : (c : In_ok-steps) → IsFieldOfFeet (c.in_ok-steps.steps / 16 * 32 + 16 + c.in_ok-steps.steps % 16) c.args.feet
 means c =
     let steps = c.in_ok-steps.steps in
-    let same : c.args.feet +ℤ pos 1000 ≡ pos (25 * (steps / 16 * 2 ^ 4 + steps % 16)) = omega (arith, ints, c.in_ok-steps.ensures.steps) in
+    let same : c.args.feet +ℤ pos 1000 ≡ pos (25 * (steps / 16 * 2 ^ 4 + steps % 16)) =
+    omega (arith, ints, c.in_ok-steps.ensures.steps) in
     (steps / 16, steps % 16, joined steps c.in_ok-steps.ensures.small, same)
 
 pub returns-clause-field : goal.returns-clause-field

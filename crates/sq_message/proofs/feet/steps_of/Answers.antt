@@ -7,5 +7,6 @@ pub returns-clause-variant : goal.returns-clause-variant
 returns-clause-variant c =
     let least : negsuc 999 ≤ℤ c.args.feet = omega (arith, ints) in
     let most : c.args.feet ≤ℤ pos 50175 = omega (arith, ints) in
-    let multiple : c.args.feet ≡ pos 25 *ℤ int_div c.args.feet (pos 25) = omega (arith, ints, quot-rem c.args.feet (pos 25)) in
+    let multiple : c.args.feet ≡ pos 25 *ℤ int_div c.args.feet (pos 25) =
+    omega (arith, ints, quot-rem c.args.feet (pos 25)) in
     (λ some. record { least = least; most = most; multiple = (int_div c.args.feet (pos 25), multiple) }, λ has. refl)

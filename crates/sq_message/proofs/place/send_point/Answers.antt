@@ -13,10 +13,12 @@ use Rattle.sq_message.proofs.place.send_point.Goals.{in-Airborne-Air, in-Surface
 use Rattle.sq_message.proofs.place.send_point.Goals as goal
 
 -- a place in the air does not fit a position on the ground, and the other way round
-no_fit_of_air : (me : Me) (place : Place) (a : Airborne) (p : Point) → me ≡ kinds.Airborne a → place ≡ Ground p → Fits me place → ⊥
+no_fit_of_air : (me : Me) (place : Place) (a : Airborne) (p : Point) → me ≡ kinds.Airborne a → place ≡ Ground p
+    → Fits me place → ⊥
 no_fit_of_air me place a p is at fits = subst (λ m. Fits m (Ground p)) is (subst (Fits me) at fits)
 
-no_fit_of_ground : (me : Me) (place : Place) (s : Surface) (p : Point) → me ≡ kinds.Surface s → place ≡ Air p → Fits me place → ⊥
+no_fit_of_ground : (me : Me) (place : Place) (s : Surface) (p : Point) → me ≡ kinds.Surface s → place ≡ Air p
+    → Fits me place → ⊥
 no_fit_of_ground me place s p is at fits = subst (λ m. Fits m (Air p)) is (subst (Fits me) at fits)
 
 no_fit_of_other : (me : Me) (place : Place) (o : Other) → me ≡ kinds.Other o → Fits me place → ⊥
@@ -25,13 +27,19 @@ no_fit_of_other me place o is fits = subst (λ m. Fits m place) is fits
 pub returns : goal.returns
 returns c = elim c.match-squitter.branch [
   | in-Airborne-Air w ↦
-      subst (λ place. IsSentAt (squitter_parts c.args.squitter.now) place (record { ca = c.args.squitter.now.ca; address = c.args.squitter.now.address; me = c.match-squitter.me })) (sym w.in-Airborne-Air.is-1) (
+      subst (λ place. IsSentAt (squitter_parts c.args.squitter.now) place
+      (record { ca = c.args.squitter.now.ca; address = c.args.squitter.now.address; me = c.match-squitter.me }))
+      (sym w.in-Airborne-Air.is-1) (
         w.in-Airborne-Air.airborne,
         w.in-Airborne-Air.is-0,
         record {
           ca = refl;
           address = refl;
-          airborne = record { fields = w.in-Airborne-Air.airborne.fields; parity = w.parity.result; code = w.code.result };
+          airborne = record {
+            fields = w.in-Airborne-Air.airborne.fields;
+            parity = w.parity.result;
+            code = w.code.result;
+          };
           me = w.me-is;
           fields = refl;
           parity = w.parity.ensures.value;
@@ -39,13 +47,19 @@ returns c = elim c.match-squitter.branch [
         },
       )
   | in-Surface-Ground w ↦
-      subst (λ place. IsSentAt (squitter_parts c.args.squitter.now) place (record { ca = c.args.squitter.now.ca; address = c.args.squitter.now.address; me = c.match-squitter.me })) (sym w.in-Surface-Ground.is-1) (
+      subst (λ place. IsSentAt (squitter_parts c.args.squitter.now) place
+      (record { ca = c.args.squitter.now.ca; address = c.args.squitter.now.address; me = c.match-squitter.me }))
+      (sym w.in-Surface-Ground.is-1) (
         w.in-Surface-Ground.surface,
         w.in-Surface-Ground.is-0,
         record {
           ca = refl;
           address = refl;
-          surface = record { fields = w.in-Surface-Ground.surface.fields; parity = w.parity-in-Surface-Ground.result; code = w.code-in-Surface-Ground.result };
+          surface = record {
+            fields = w.in-Surface-Ground.surface.fields;
+            parity = w.parity-in-Surface-Ground.result;
+            code = w.code-in-Surface-Ground.result;
+          };
           me = w.me-is;
           fields = refl;
           parity = w.parity-in-Surface-Ground.ensures.value;
@@ -54,9 +68,13 @@ returns c = elim c.match-squitter.branch [
       )
   | in_default w ↦ elim w.in_default.branch [
     | in_default-via-in-Airborne+in_default w' ↦
-        absurd (no_fit_of_air c.args.squitter.now.me c.args.place.now w'.in_default.field-0-0 w'.in_default.field-0-1 w'.in_default.is-0 w'.in_default.is-1 c.requires)
+        absurd (no_fit_of_air c.args.squitter.now.me c.args.place.now w'.in_default.field-0-0 w'.in_default.field-0-1
+        w'.in_default.is-0 w'.in_default.is-1 c.requires)
     | in_default-via-in-Surface+in_default w' ↦
-        absurd (no_fit_of_ground c.args.squitter.now.me c.args.place.now w'.in_default.field-0-0 w'.in_default.field-0-1 w'.in_default.is-0 w'.in_default.is-1 c.requires)
-    | in_default-via-in_default w' ↦ absurd (no_fit_of_other c.args.squitter.now.me c.args.place.now w'.in_default.field-0-0 w'.in_default.is-0 c.requires)
+        absurd (no_fit_of_ground c.args.squitter.now.me c.args.place.now w'.in_default.field-0-0
+        w'.in_default.field-0-1 w'.in_default.is-0 w'.in_default.is-1 c.requires)
+    | in_default-via-in_default w' ↦
+        absurd (no_fit_of_other c.args.squitter.now.me c.args.place.now w'.in_default.field-0-0 w'.in_default.is-0
+        c.requires)
   ]
 ]

@@ -6,12 +6,15 @@ use Rattle.sq_text.proofs.digit_values.digit_value.Goals as goal
 
 pub returns-clause-value : goal.returns-clause-value
 returns-clause-value c =
-    subst (λ i. get_or VALUES i 0 < 2 ^ 24 → hex_digit_value c.args.byte ≡ Some (get_or VALUES i 0)) (sym c.from.ensures)
+    subst (λ i. get_or VALUES i 0 < 2 ^ 24 → hex_digit_value c.args.byte ≡ Some (get_or VALUES i 0))
+    (sym c.from.ensures)
     (digit_entry c.args.byte (omega arith))
 
 pub returns-clause-digit : goal.returns-clause-digit
 returns-clause-digit c =
-    subst (λ i. get_or VALUES i 0 < 2 ^ 24 → get_or VALUES i 0 < 16) (sym c.from.ensures) (entry_bounds c.args.byte (omega arith)).0
+    subst (λ i. get_or VALUES i 0 < 2 ^ 24 → get_or VALUES i 0 < 16) (sym c.from.ensures)
+    (entry_bounds c.args.byte (omega arith)).0
 
 pub returns-clause-bound : goal.returns-clause-bound
-returns-clause-bound c = subst (λ i. get_or VALUES i 0 ≤ 2 ^ 24) (sym c.from.ensures) (entry_bounds c.args.byte (omega arith)).1
+returns-clause-bound c = subst (λ i. get_or VALUES i 0 ≤ 2 ^ 24) (sym c.from.ensures)
+    (entry_bounds c.args.byte (omega arith)).1

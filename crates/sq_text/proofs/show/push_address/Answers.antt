@@ -5,4 +5,5 @@ use Rattle.sq_text.proofs.show.push_address.Goals as goal
 pub returns-clause-bytes : goal.returns-clause-bytes
 unfolding line
 returns-clause-bytes c =
-    rw (c.push_str-2.ensures.bytes, c.push_hexadecimal.ensures.bytes, c.push_str.ensures.bytes, c.from.ensures) (simp append_assoc refl)
+    rw (c.push_str-2.ensures.bytes, c.push_hexadecimal.ensures.bytes, c.push_str.ensures.bytes, c.from.ensures)
+    (simp append_assoc refl)

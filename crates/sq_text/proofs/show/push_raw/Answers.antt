@@ -4,4 +4,5 @@ use Rattle.sq_text.proofs.show.push_raw.Goals as goal
 
 pub returns : goal.returns
 unfolding line
-returns c = rw (c.push_str-2.ensures.bytes, c.push_hexadecimal.ensures.bytes, c.push_str.ensures.bytes) (simp append_assoc refl)
+returns c = rw (c.push_str-2.ensures.bytes, c.push_hexadecimal.ensures.bytes, c.push_str.ensures.bytes)
+    (simp append_assoc refl)

@@ -10,6 +10,7 @@ returns-in-None-clause-none c rest moment line =
 pub returns-in-None-read_moment-clause-none : goal.returns-in-None-read_moment-clause-none
 returns-in-None-read_moment-clause-none c rest moment line =
     let digits = c.in-Some.digits.now in
-    let same = one_front line.digits digits rest c.in-Some.rest.now (digits_without_space line.digits line.of_moment.each) c.in-Some.ensures.first
+    let same = one_front line.digits digits rest c.in-Some.rest.now
+    (digits_without_space line.digits line.of_moment.each) c.in-Some.ensures.first
     (sym line.whole ∙ c.in-Some.ensures.some) in
     c.in-None-read_moment.ensures.none moment (subst (λ ds. IsMomentText ds moment) same.0 line.of_moment)

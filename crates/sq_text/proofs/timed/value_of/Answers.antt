@@ -11,9 +11,11 @@ loop-digit-preserved c =
     let ds = c.args.digits.now in
     let i : ℕ = c.loop-digit.digit-index in
     let within : i < length ds = omega arith in
-    let value : digit_value (get_or ds i 0) + 48 ≡ get_or ds i 0 = digit_value_digit (get_or ds i 0) (digit_at ds i c.requires.digits within) in
+    let value : digit_value (get_or ds i 0) + 48 ≡ get_or ds i 0 =
+    digit_value_digit (get_or ds i 0) (digit_at ds i c.requires.digits within) in
     let digit : c.from.result ≡ digit_value (get_or ds i 0) = omega (arith, c.from.ensures, value) in
-    let more : digits_value 10 (take (i + 1) ds) ≡ digits_value 10 (take i ds) * 10 + digit_value (get_or ds i 0) = digits_value_more 10 ds i within in (
+    let more : digits_value 10 (take (i + 1) ds) ≡ digits_value 10 (take i ds) * 10 + digit_value (get_or ds i 0) =
+    digits_value_more 10 ds i within in (
       omega (arith, more, digit, c.loop-digit.invariant.0),
       omega (arith, digit, value, pow_ten i, c.loop-digit.invariant.1, digit_at ds i c.requires.digits within),
     )

@@ -15,7 +15,8 @@ loop-at-preserved c =
     let r = c.hear_into.new.slot in
     let i = c.loop-at.invariant in
     let below : at < length xs = search rules in
-    let one_more : take (at + 1) xs ≡ take at xs ++ x ∷ [] = take_more xs at x below ∙ ap (λ y. take at xs ++ y ∷ []) (sym c.index-received-at.is) in
+    let one_more : take (at + 1) xs ≡ take at xs ++ x ∷ [] =
+    take_more xs at x below ∙ ap (λ y. take at xs ++ y ∷ []) (sym c.index-received-at.is) in
     let one_reply = take_more_set rs at r (omega (arith, below, i.1)) in (
       search rules,
       search rules,
@@ -23,9 +24,11 @@ loop-at-preserved c =
       λ h st.
           let before = i.3 h st in
           let H = history_after_all h (take at xs) (take at rs) in
-          let reply = subst (λ (o : Settings). IsReply o H x.moment x.squitter r) i.2 (c.hear_into.ensures.reply H before.1) in (
+          let reply = subst (λ (o : Settings). IsReply o H x.moment x.squitter r) i.2
+          (c.hear_into.ensures.reply H before.1) in (
             replies_next s h (take at xs) _ (take at rs) _ x r one_more one_reply before.0 reply,
-            stands_next s c.hear_into.new.tracker h (take at xs) _ (take at rs) _ x r one_more one_reply before.0 (c.hear_into.ensures.after H before.1),
+            stands_next s c.hear_into.new.tracker h (take at xs) _ (take at rs) _ x r one_more one_reply before.0
+                (c.hear_into.ensures.after H before.1),
           ),
     )
 

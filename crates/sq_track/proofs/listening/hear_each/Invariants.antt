@@ -7,8 +7,10 @@ use Rattle.sq_track.proofs.listening.hear_each.Given as goal
 -- the first squitters have their replies, and the tracker stands for the history after them
 abbrev pub invariant-loop-at : goal.invariant-loop-at
 invariant-loop-at l =
-    (l.at ≤ length l.received) × (length l.heard ≡ length l.received) × (settings l.tracker ≡ settings l.initial.tracker)
-    × ((h : History) → StandsFor l.initial.tracker h → AreReplies (settings l.initial.tracker) h (take l.at l.received) (take l.at l.heard)
+    (l.at ≤ length l.received) × (length l.heard ≡ length l.received)
+    × (settings l.tracker ≡ settings l.initial.tracker)
+    × ((h : History) → StandsFor l.initial.tracker h
+    → AreReplies (settings l.initial.tracker) h (take l.at l.received) (take l.at l.heard)
     × StandsFor l.tracker (history_after_all h (take l.at l.received) (take l.at l.heard)))
 
 abbrev pub decreases-loop-at : goal.decreases-loop-at

@@ -10,7 +10,8 @@ drop_stale-requires c = let o = c.requires in (o.0, c.args.moment, o.1)
 pub returns-in-Some-clause-since : goal.returns-in-Some-clause-since
 returns-in-Some-clause-since c =
     let o = c.requires in
-    let kept = subst (IsOrdered o.0 c.args.moment) (sym c.drop_stale.ensures) (IsOrdered-filter o.0 c.args.moment (fresh_entry c.args.window c.args.moment) c.args.contacts.now o.1) in
+    let kept = subst (IsOrdered o.0 c.args.moment) (sym c.drop_stale.ensures)
+    (IsOrdered-filter o.0 c.args.moment (fresh_entry c.args.window c.args.moment) c.args.contacts.now o.1) in
     from_first o.0 c.args.moment c.drop_stale.new.contacts (_, c.in-Some.oldest) kept c.in-Some.ensures
 
 pub returns-in-None-clause-since : goal.returns-in-None-clause-since

@@ -5,7 +5,8 @@ use Rattle.sq_words.proofs.command_line.track_command.Goals as goal
 
 pub returns-clause-app : goal.returns-clause-app
 returns-clause-app c =
-    let one = c.in_ok-arg.ensures.shape c.option.ensures.here ∙ ap₂ with_rule c.command.ensures.app c.option.ensures.rule in
+    let one = c.in_ok-arg.ensures.shape c.option.ensures.here
+    ∙ ap₂ with_rule c.command.ensures.app c.option.ensures.rule in
     let two = c.in_ok-arg-2.ensures.shape c.option-2.ensures.here ∙ ap₂ with_rule one c.option-2.ensures.rule in
     let three = c.in_ok-arg-3.ensures.shape c.option-3.ensures.here ∙ ap₂ with_rule two c.option-3.ensures.rule in
     added _ _ c.arg-4.result c.arg-4.ensures three c.option-4.ensures.rule c.option-4.ensures.here

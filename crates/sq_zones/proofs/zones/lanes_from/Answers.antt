@@ -8,4 +8,9 @@ returns-clause-value c = count_lanes c.args.scaled c.args.limits c.ranges.scaled
 
 pub returns-clause-at_most : goal.returns-clause-at_most
 returns-clause-at_most c =
-    omega (arith, count_lanes c.args.scaled c.args.limits c.ranges.scaled c.requires.fit c.requires.whole, count_by-le-length (λ limit. int_le c.args.scaled limit) c.args.limits, c.requires.whole)
+    omega (
+      arith,
+      count_lanes c.args.scaled c.args.limits c.ranges.scaled c.requires.fit c.requires.whole,
+      count_by-le-length (λ limit. int_le c.args.scaled limit) c.args.limits,
+      c.requires.whole,
+    )

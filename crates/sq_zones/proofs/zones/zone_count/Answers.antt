@@ -14,10 +14,13 @@ value c =
     let s = c.scaled_up-scaled.result in
     let n = unsigned_abs x.num * 10 ^ 8 in
     let fits : SFits w64 x.num = search rules in
-    let num_is : c.unsigned_abs.result ≡ unsigned_abs x.num = c.unsigned_abs.ensures.value ∙ ap unsigned_abs (ap (λ z. to_z w64 (of_z w64 z)) c.num.ensures ∙ to_z-of_z fits) in
+    let num_is : c.unsigned_abs.result ≡ unsigned_abs x.num = c.unsigned_abs.ensures.value
+    ∙ ap unsigned_abs (ap (λ z. to_z w64 (of_z w64 z)) c.num.ensures ∙ to_z-of_z fits) in
     let scaled_is : to_z w64 s ≡ pos s = omega (arith, ints) in
-    let quotient_is : s ≡ div_ceil n x.den = c.scaled_up-scaled.ensures.value ∙ ap₂ (λ m d. div_ceil (m * 10 ^ 8) d) num_is c.den.ensures in
-    ap (λ m. 1 + m) (c.limits_from.ensures.value ∙ ap (counted (padded 6 zone_limits)) (scaled_is ∙ ap pos quotient_is) ∙ count_padded 6 n x.den zone_limits x.in_range.positive)
+    let quotient_is : s ≡ div_ceil n x.den =
+    c.scaled_up-scaled.ensures.value ∙ ap₂ (λ m d. div_ceil (m * 10 ^ 8) d) num_is c.den.ensures in
+    ap (λ m. 1 + m) (c.limits_from.ensures.value ∙ ap (counted (padded 6 zone_limits)) (scaled_is ∙ ap pos quotient_is)
+    ∙ count_padded 6 n x.den zone_limits x.in_range.positive)
 
 pub returns-clause-value : goal.returns-clause-value
 returns-clause-value c = value c

@@ -6,4 +6,5 @@ use Rattle.squitter_c.proofs.entry.plain_received.Goals as goal
 
 pub returns-in-None : goal.returns-in-None
 returns-in-None c =
-    subst (λ (kept : Option Received). IsReceivedOf (record { moment = 0; frame = no_bytes }) kept) (sym c.in-None.is) nothing_spelled
+    subst (λ (kept : Option Received). IsReceivedOf (record { moment = 0; frame = no_bytes }) kept)
+    (sym c.in-None.is) nothing_spelled

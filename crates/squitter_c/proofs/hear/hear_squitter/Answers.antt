@@ -9,8 +9,10 @@ pub returns : goal.returns
 returns c = (
   c.step-heard.ensures.0,
   λ history keeps.
-      let same = one_contact c.args.entry.now keeps.contact c.contact_of-contact.result keeps.stands c.contact_of-contact.ensures in
-      let remembers = subst (λ (x : Contact). Remembers c.args.window (squitter_parts c.args.squitter.now).address history x) same keeps.remembers in
+      let same = one_contact c.args.entry.now keeps.contact c.contact_of-contact.result keeps.stands
+      c.contact_of-contact.ensures in
+      let remembers = subst (λ (x : Contact). Remembers c.args.window
+      (squitter_parts c.args.squitter.now).address history x) same keeps.remembers in
       let later = in_time history c.args.entry.now.last c.args.moment keeps.last c.requires in (
         c.step-heard.ensures.1.answers history remembers later,
         record {

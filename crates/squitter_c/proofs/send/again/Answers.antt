@@ -10,7 +10,11 @@ returns-in-Some-rounded c = (
   (
     c.in-Some-position_of.position,
     c.in-Some-position_of.ensures.value,
-    (c.in-Ok.squitter, c.in-Ok.ensures.read, (c.in-Some-rounded.place, c.in-Some-rounded.ensures.1, c.frame_from.ensures)),
+    (
+      c.in-Ok.squitter,
+      c.in-Ok.ensures.read,
+      (c.in-Some-rounded.place, c.in-Some-rounded.ensures.1, c.frame_from.ensures),
+    ),
   ),
 )
 

@@ -13,7 +13,17 @@ returns c =
         (
           c.in-Some-position_of.position,
           c.in-Some-position_of.ensures.value,
-          (sent.0, record { of_parity = sent.1; rounds = sent.2; squitter = c.send_air.result; sent = sent.3; is_frame = c.each_frame.ensures; spelled = c.write_frame-frame.ensures.written }),
+          (
+            sent.0,
+            record {
+              of_parity = sent.1;
+              rounds = sent.2;
+              squitter = c.send_air.result;
+              sent = sent.3;
+              is_frame = c.each_frame.ensures;
+              spelled = c.write_frame-frame.ensures.written;
+            },
+          ),
         ),
       ),
     )

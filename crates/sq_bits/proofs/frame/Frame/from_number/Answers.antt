@@ -8,8 +8,11 @@ loop-place-preserved c =
     record {
       long = search rules;
       value =
-          digit_written c.loop-place.bytes c.loop-place.place (bit_and (c.args.number / 2 ^ (104 - 8 * c.loop-place.place)) 255) within
-          ∙ ap (λ n. n * 256 + bit_and (c.args.number / 2 ^ (104 - 8 * c.loop-place.place)) 255) c.loop-place.invariant.value
+          digit_written c.loop-place.bytes c.loop-place.place
+          (bit_and (c.args.number / 2 ^ (104 - 8 * c.loop-place.place)) 255) within
+          ∙ ap (λ n. n * 256 + bit_and (c.args.number / 2 ^
+          (104 - 8 * c.loop-place.place)) 255) c.loop-place.invariant.value
           ∙ byte_below c.args.number c.loop-place.place (omega arith);
-      bytes = AllBelowBase-written c.loop-place.bytes c.loop-place.place (c.args.number / 2 ^ (104 - 8 * c.loop-place.place)) within c.loop-place.invariant.bytes;
+      bytes = AllBelowBase-written c.loop-place.bytes c.loop-place.place
+          (c.args.number / 2 ^ (104 - 8 * c.loop-place.place)) within c.loop-place.invariant.bytes;
     }

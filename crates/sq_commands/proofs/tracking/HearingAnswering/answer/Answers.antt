@@ -10,9 +10,12 @@ use Rattle.sq_commands.proofs.tracking.HearingAnswering.answer.Goals as goal
 pub returns-in-Ok-clause-answer : goal.returns-in-Ok-clause-answer
 returns-in-Ok-clause-answer c line past holds (stands, same) =
     let timed = c.in-Some-Ok.timed in
-    let read : Some (Ok timed) ≡ answer_by past.reader.read line = ap Some (sym c.in-Some-Ok.field-0-is) ∙ sym c.in-Some-Ok.is ∙ c.timed_in.ensures line past.reader holds in
+    let read : Some (Ok timed) ≡ answer_by past.reader.read line =
+    ap Some (sym c.in-Some-Ok.field-0-is) ∙ sym c.in-Some-Ok.is ∙ c.timed_in.ensures line past.reader holds in
     let heard = c.in-Ok.ensures.heard past.history stands in
     let is = subst (λ s. IsReply s past.history timed.moment timed.squitter heard.0) same heard.1 in
     let verdict : Answer HeardFrom = Some c.in-Ok.verdict in
-    subst (λ (r : Answer TimedSquitter). (verdict ≡ answer_heard past r) × IsTracking c.hear.new.tracker (past_heard past r)) read
-    (heard_line past timed c.in-Ok.verdict c.hear.new.tracker heard.0 is heard.2 heard.3 heard.4 (c.in-Ok.ensures.settings ∙ same))
+    subst (λ (r : Answer TimedSquitter). (verdict ≡ answer_heard past r)
+    × IsTracking c.hear.new.tracker (past_heard past r)) read
+    (heard_line past timed c.in-Ok.verdict c.hear.new.tracker heard.0 is heard.2 heard.3 heard.4
+    (c.in-Ok.ensures.settings ∙ same))

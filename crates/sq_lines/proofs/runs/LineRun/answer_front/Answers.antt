@@ -14,7 +14,8 @@ returns-in_err-answer_line-clause-stopped g c = λ start before read h.
     let there = ltb-true _ _ (sym c.take_marked-count.ensures.complete ∙ c.if-is_complete.true) in
     let holds = c.take_marked-count.ensures.held h.rest h.held in
     let p = err_from_is_err_and c.from_residual.result c.from_residual.ensures.1 in
-    rw (p.1, p.2) (stopped_line g.A.Answering.stands_for g.A.Answering.way start before _ _ c.args.self.now c.answer_line.new.self c.args.state.now c.answer_line.new.state read h
+    rw (p.1, p.2) (stopped_line g.A.Answering.stands_for g.A.Answering.way start before _ _ c.args.self.now
+    c.answer_line.new.self c.args.state.now c.answer_line.new.state read h
     (line_in h piece) _ _ c.in_err-answer_line.ensures.memory
     (λ past first st. c.in_err-answer_line.ensures.part (line_in h piece) past first holds st)
     (prefix_through h piece there))
@@ -22,7 +23,8 @@ returns-in_err-answer_line-clause-stopped g c = λ start before read h.
 pub returns-in_ok-answer_line-clause-answered : goal.returns-in_ok-answer_line-clause-answered
 returns-in_ok-answer_line-clause-answered g c = λ start before read h.
     let piece = c.args.piece.now in
-    let feed : nat_lt (position_or_len is_feed piece) (length piece) ≡ true = sym c.take_marked-count.ensures.complete ∙ c.if-is_complete.true in
+    let feed : nat_lt (position_or_len is_feed piece) (length piece) ≡ true =
+    sym c.take_marked-count.ensures.complete ∙ c.if-is_complete.true in
     let there = ltb-true _ _ feed in
     let holds = c.take_marked-count.ensures.held h.rest h.held in
     let count : c.take_marked-count.result.0 ≡ position_or_len is_feed piece + 1 =
@@ -34,9 +36,11 @@ returns-in_ok-answer_line-clause-answered g c = λ start before read h.
 pub returns-else-is_complete-clause-answered : goal.returns-else-is_complete-clause-answered
 returns-else-is_complete-clause-answered g c = λ start before read h.
     let piece = c.args.piece.now in
-    let unended : nat_lt (position_or_len is_feed piece) (length piece) ≡ false = sym c.take_marked-count.ensures.complete ∙ c.if-is_complete.false in
+    let unended : nat_lt (position_or_len is_feed piece) (length piece) ≡ false =
+    sym c.take_marked-count.ensures.complete ∙ c.if-is_complete.false in
     let past = ltb-false _ _ unended in
     let count : c.take_marked-count.result.0 ≡ length piece =
     c.take_marked-count.ensures.count ∙ ap (λ b. cond b (position_or_len is_feed piece + 1) (length piece)) unended in
     rw (count, take_all (length piece) piece (omega (arith, past)))
-    (answered_no_feed h _ piece past refl refl (c.take_marked-count.ensures.noted ∙ unended) (c.take_marked-count.ensures.held h.rest h.held))
+    (answered_no_feed h _ piece past refl refl (c.take_marked-count.ensures.noted ∙ unended)
+    (c.take_marked-count.ensures.held h.rest h.held))

@@ -9,7 +9,9 @@ returns-in-Err-Write-clause-unwritten g c = λ is start before read h.
     let piece : List ℕ = take c.in-Ok.count c.get.new.into in (
       piece,
       c.in-Ok.ensures.moved,
-      subst (λ (fault : Unanswered). StoppedIn fault g.A.Answering.stands_for g.A.Answering.way start c.answer_piece.new.state before (g.K.Sink.written c.answer_piece.new.sink) (ended_lines (read ++ piece)))
+      subst (λ (fault : Unanswered).
+          StoppedIn fault g.A.Answering.stands_for g.A.Answering.way start c.answer_piece.new.state before
+          (g.K.Sink.written c.answer_piece.new.sink) (ended_lines (read ++ piece)))
           c.in-Err-Write.field-0-is (c.in-Err-Write.ensures.stopped start before read h),
     )
 
@@ -18,6 +20,8 @@ returns-in-Err-Memory-clause-unanswered g c = λ is start before read h.
     let piece : List ℕ = take c.in-Ok.count c.get.new.into in (
       piece,
       c.in-Ok.ensures.moved,
-      subst (λ (fault : Unanswered). StoppedIn fault g.A.Answering.stands_for g.A.Answering.way start c.answer_piece.new.state before (g.K.Sink.written c.answer_piece.new.sink) (ended_lines (read ++ piece)))
+      subst (λ (fault : Unanswered).
+          StoppedIn fault g.A.Answering.stands_for g.A.Answering.way start c.answer_piece.new.state before
+          (g.K.Sink.written c.answer_piece.new.sink) (ended_lines (read ++ piece)))
           c.in-Err-Memory.field-0-is (c.in-Err-Memory.ensures.stopped start before read h),
     )

@@ -20,8 +20,10 @@ loop-at-preserved g c =
       within = omega arith;
       number = omega (arith, c.in_ok-at.ensures.some);
       answered = λ start before read h.
-          let next = c.in_ok-at.ensures.answered start before (read ++ take at piece) (c.loop-at.invariant.answered start before read h) in
-          let all : (read ++ take at piece) ++ take n (take (length piece - at) (drop at piece)) ≡ read ++ take (at + n) piece =
+          let next = c.in_ok-at.ensures.answered start before (read ++ take at piece)
+          (c.loop-at.invariant.answered start before read h) in
+          let all : (read ++ take at piece) ++ take n (take (length piece - at) (drop at piece)) ≡ read
+          ++ take (at + n) piece =
           append_assoc read _ _ ∙ ap (λ l. read ++ l) (take_front piece at n fits) in
           subst (HasAnswered g.A.Answering.stands_for g.A.Answering.way start before _ _ _) all next;
     }
@@ -31,7 +33,11 @@ returns-in_err-at-clause-stopped g c = λ start before read h.
     let piece : List ℕ = c.args.piece.now in
     let at : ℕ = c.loop-at.at in
     let p = err_from_is_err_and c.from_residual.result c.from_residual.ensures.1 in
-    let part = c.in_err-at.ensures.stopped start before (read ++ take at piece) (c.loop-at.invariant.answered start before read h) in
+    let part = c.in_err-at.ensures.stopped start before (read ++ take at piece)
+    (c.loop-at.invariant.answered start before read h) in
     let all : (read ++ take at piece) ++ take (length piece - at) (drop at piece) ≡ read ++ piece =
-    append_assoc read _ _ ∙ ap (λ l. read ++ l) (ap (λ l. take at piece ++ l) (take_rest piece at) ∙ take-append-drop at piece) in
-    rw (p.1, p.2) (subst (λ (l : List ℕ). StoppedIn c.in_err-at.field-0.0 g.A.Answering.stands_for g.A.Answering.way start c.answer_front.new.state before (g.K.Sink.written c.answer_front.new.sink) (ended_lines l)) all part)
+    append_assoc read _ _ ∙ ap (λ l. read ++ l)
+    (ap (λ l. take at piece ++ l) (take_rest piece at) ∙ take-append-drop at piece) in
+    rw (p.1, p.2) (subst (λ (l : List ℕ).
+    StoppedIn c.in_err-at.field-0.0 g.A.Answering.stands_for g.A.Answering.way start c.answer_front.new.state before
+    (g.K.Sink.written c.answer_front.new.sink) (ended_lines l)) all part)

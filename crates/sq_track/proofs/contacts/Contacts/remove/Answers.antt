@@ -11,7 +11,8 @@ invariant_of-self c =
     let es = c.self.inside.table.entries in
     let fs = c.swap_remove.new.self.entries in
     let tied = removed_tied es (heard_order c.self.inside.order) c.self.invariant.0 a fs c.swap_remove.ensures.updates.0
-    (counted_out c.swap_remove.result (lookup (eqb a) es) (length fs) (length es) c.swap_remove.ensures.value c.swap_remove.ensures.len) in
+    (counted_out c.swap_remove.result (lookup (eqb a) es) (length fs)
+    (length es) c.swap_remove.ensures.value c.swap_remove.ensures.len) in
     (subst (IsTied fs) (sym c.forget.ensures.order) tied, c.forget.ensures.unbounded)
 
 pub returns : goal.returns

@@ -1,4 +1,4 @@
-use Rattle.std.proofs.Common.{◌≡◌, ◌∙◌, option_map, refl, leb, eqb, ◌∷◌, ◌++◌, [], length, filter, find, Option, None, Ok, Err, Some, sym, ap, subst}
+use Rattle.std.proofs.Common.{◌≡◌, ◌∙◌, option_copied, refl, leb, eqb, ◌∷◌, ◌++◌, [], length, filter, find, Option, None, Ok, Err, Some, sym, ap, subst}
 use Rattle.std.proofs.lemmas.Bool.{false≢true}
 use Rattle.std.specs.Map.{lookup}
 use Rattle.sq_angle.specs.declared.position.Position.{Position}
@@ -26,7 +26,9 @@ keep_recent-self-inside-requires c =
 pub invariant_of-self : goal.invariant_of-self
 invariant_of-self c =
     let t : Held = the_view c.self.inside in (
-      subst (IsSound t.limit (Some c.args.moment)) (sym c.keep_recent-self-inside.ensures.kept) (sound_silent t c.args.moment c.args.squitter.now NotPosition c.in_ok-check_moment.ensures.ok c.self.invariant.0),
+      subst (IsSound t.limit (Some c.args.moment)) (sym c.keep_recent-self-inside.ensures.kept)
+          (sound_silent t c.args.moment c.args.squitter.now NotPosition c.in_ok-check_moment.ensures.ok
+          c.self.invariant.0),
       c.keep_recent-self-inside.ensures.since,
     )
 
@@ -35,9 +37,11 @@ returns-then-not-is_position-clause-reply c =
     let t : Held = the_view c.self.inside in
     let m = c.args.moment in
     let q = c.args.squitter.now in
-    let silent = silent_of (squitter_parts q).me (λ p. false≢true (sym c.if-not-is_position.true ∙ c.is_position.ensures.1 p)) in
+    let silent = silent_of (squitter_parts q).me
+    (λ p. false≢true (sym c.if-not-is_position.true ∙ c.is_position.ensures.1 p)) in
     subst (λ (v : Held). (h : History) → StandsFor v h → IsReply (settings v) h m q (Ok NotPosition)) c.self.view_is
-    (λ h st. let in_time = in_time_of t h m st c.in_ok-check_moment.ensures.ok in (silent_is t h m q in_time silent, heard_silent t h m q st in_time silent))
+    (λ h st. let in_time = in_time_of t h m st c.in_ok-check_moment.ensures.ok in
+    (silent_is t h m q in_time silent, heard_silent t h m q st in_time silent))
 
 pub returns-then-not-is_position-clause-ok : goal.returns-then-not-is_position-clause-ok
 returns-then-not-is_position-clause-ok c =
@@ -45,13 +49,24 @@ returns-then-not-is_position-clause-ok c =
     let m = c.args.moment in
     let q = c.args.squitter.now in
     let le = c.in_ok-check_moment.ensures.ok in
-    let silent = silent_of (squitter_parts q).me (λ p. false≢true (sym c.if-not-is_position.true ∙ c.is_position.ensures.1 p)) in
+    let silent = silent_of (squitter_parts q).me
+    (λ p. false≢true (sym c.if-not-is_position.true ∙ c.is_position.ensures.1 p)) in
     subst (λ (v : Held). (h : History) → StandsFor v h
-    → StandsFor (record { limit = t.limit; window = t.window; site = t.site; last = Some m; contacts = c.keep_recent-self-inside.new.contacts }) (record { moment = m; squitter = q; heard = NotPosition } ∷ h)) c.self.view_is
+    → StandsFor (record {
+      limit = t.limit;
+      window = t.window;
+      site = t.site;
+      last = Some m;
+      contacts = c.keep_recent-self-inside.new.contacts;
+    })
+    (record { moment = m; squitter = q; heard = NotPosition } ∷ h)) c.self.view_is
     (λ h st.
     let in_time = in_time_of t h m st le in
-    subst (λ (es : Entries). StandsFor (record { limit = t.limit; window = t.window; site = t.site; last = Some m; contacts = es }) (record { moment = m; squitter = q; heard = NotPosition } ∷ h)) (sym c.keep_recent-self-inside.ensures.kept)
-    (stands_silent t m q NotPosition h st le silent c.len-len.ensures.unique c.self.invariant.0.within (silent_is t h m q in_time silent, heard_silent t h m q st in_time silent)))
+    subst (λ (es : Entries). StandsFor
+    (record { limit = t.limit; window = t.window; site = t.site; last = Some m; contacts = es })
+    (record { moment = m; squitter = q; heard = NotPosition } ∷ h)) (sym c.keep_recent-self-inside.ensures.kept)
+    (stands_silent t m q NotPosition h st le silent c.len-len.ensures.unique c.self.invariant.0.within
+    (silent_is t h m q in_time silent, heard_silent t h m q st in_time silent)))
 
 pub returns-then-is_full-clause-reply : goal.returns-then-is_full-clause-reply
 returns-then-is_full-clause-reply c =
@@ -59,9 +74,12 @@ returns-then-is_full-clause-reply c =
     let m = c.args.moment in
     let q = c.args.squitter.now in
     let here = position_of (squitter_parts q).me (c.is_position.ensures.0 c.if-not-is_position.false) in
-    let full = subst (λ a. c.is_full.result ≡ leb t.limit (length (others_in a (filter (fresh_entry t.window m) t.contacts)))) c.address-address.ensures.value c.is_full.ensures in
+    let full = subst (λ a. c.is_full.result
+    ≡ leb t.limit (length (others_in a
+    (filter (fresh_entry t.window m) t.contacts)))) c.address-address.ensures.value c.is_full.ensures in
     subst (λ (v : Held). (h : History) → StandsFor v h → IsReply (settings v) h m q (Err Full)) c.self.view_is
-    (λ h st. let in_time = in_time_of t h m st c.in_ok-check_moment.ensures.ok in (in_time, full_is t h m q st in_time here (sym full ∙ c.if-is_full.true)))
+    (λ h st. let in_time = in_time_of t h m st c.in_ok-check_moment.ensures.ok in
+    (in_time, full_is t h m q st in_time here (sym full ∙ c.if-is_full.true)))
 
 pub keep_recent-self-inside-requires-in-Ok : goal.keep_recent-self-inside-requires-in-Ok
 keep_recent-self-inside-requires-in-Ok c =
@@ -71,10 +89,14 @@ keep_recent-self-inside-requires-in-Ok c =
     let a = (squitter_parts q).address in
     let here = position_of (squitter_parts q).me (c.is_position.ensures.0 c.if-not-is_position.false) in
     let (new, step_at, put_at) = c.in-Ok.ensures.ok in
-    let step = subst (λ a. IsStep t.window (option_map (λ s. s.now) c.as_ref-site.result) m q (contact_of t.contacts a) c.in-Ok.heard new) c.address-address.ensures.value step_at in
+    let step = subst (λ a. IsStep t.window (option_copied c.as_ref-site.result) m q
+    (contact_of t.contacts a) c.in-Ok.heard new) c.address-address.ensures.value step_at in
     let moment = moment_after m q c.in-Ok.heard (contact_of t.contacts a) new here step.kept in
-    let put = subst (λ x. c.hear_last.new.self ≡ others_in x t.contacts ++ (x, new) ∷ []) c.address-address.ensures.value put_at in
-    subst (IsOrdered c.self.inside.since m) (sym put) (ordered_put t m q c.in-Ok.heard here new moment c.self.inside.since c.in_ok-check_moment.ensures.ok c.self.invariant.1)
+    let put = subst (λ x. c.hear_last.new.self ≡ others_in x t.contacts
+    ++ (x, new) ∷ []) c.address-address.ensures.value put_at in
+    subst (IsOrdered c.self.inside.since m) (sym put)
+    (ordered_put t m q c.in-Ok.heard here new moment c.self.inside.since c.in_ok-check_moment.ensures.ok
+    c.self.invariant.1)
 
 pub invariant_of-self-in-Ok : goal.invariant_of-self-in-Ok
 invariant_of-self-in-Ok c =
@@ -84,15 +106,21 @@ invariant_of-self-in-Ok c =
     let heard = c.in-Ok.heard in
     let le = c.in_ok-check_moment.ensures.ok in
     let here = position_of (squitter_parts q).me (c.is_position.ensures.0 c.if-not-is_position.false) in
-    let full = subst (λ a. c.is_full.result ≡ leb t.limit (length (others_in a (filter (fresh_entry t.window m) t.contacts)))) c.address-address.ensures.value c.is_full.ensures in
+    let full = subst (λ a. c.is_full.result
+    ≡ leb t.limit (length (others_in a
+    (filter (fresh_entry t.window m) t.contacts)))) c.address-address.ensures.value c.is_full.ensures in
     let old : Contact = contact_of t.contacts (squitter_parts q).address in
     let (new, step_at, put_at) = c.in-Ok.ensures.ok in
-    let step = subst (λ a. IsStep t.window (option_map (λ s. s.now) c.as_ref-site.result) m q (contact_of t.contacts a) c.in-Ok.heard new) c.address-address.ensures.value step_at in
+    let step = subst (λ a. IsStep t.window (option_copied c.as_ref-site.result) m q
+    (contact_of t.contacts a) c.in-Ok.heard new) c.address-address.ensures.value step_at in
     let moment = moment_after m q heard old new here step.kept in
-    let put = subst (λ x. c.hear_last.new.self ≡ others_in x t.contacts ++ (x, new) ∷ []) c.address-address.ensures.value put_at in
-    let all = c.keep_recent-self-inside-in-Ok.ensures.kept ∙ ap (filter (fresh_entry t.window m)) put ∙ put_is t m q heard here new moment in (
+    let put = subst (λ x. c.hear_last.new.self ≡ others_in x t.contacts
+    ++ (x, new) ∷ []) c.address-address.ensures.value put_at in
+    let all = c.keep_recent-self-inside-in-Ok.ensures.kept ∙ ap (filter (fresh_entry t.window m)) put
+    ∙ put_is t m q heard here new moment in (
       subst (IsSound t.limit (Some m)) (sym all)
-          (sound_put t m q heard here new moment le (sym full ∙ c.if-is_full.false) c.self.invariant.0 (within_after t m q heard old new le c.self.invariant.0 here refl step.kept)),
+          (sound_put t m q heard here new moment le (sym full ∙ c.if-is_full.false) c.self.invariant.0
+          (within_after t m q heard old new le c.self.invariant.0 here refl step.kept)),
       c.keep_recent-self-inside-in-Ok.ensures.since,
     )
 
@@ -103,14 +131,18 @@ returns-in-Ok-clause-reply c =
     let q = c.args.squitter.now in
     let heard = c.in-Ok.heard in
     let (new, step_at, put_at) = c.in-Ok.ensures.ok in
-    let step = subst (λ a. IsStep t.window (option_map (λ s. s.now) c.as_ref-site.result) m q (contact_of t.contacts a) c.in-Ok.heard new) c.address-address.ensures.value step_at in
-    let full = subst (λ a. c.is_full.result ≡ leb t.limit (length (others_in a (filter (fresh_entry t.window m) t.contacts)))) c.address-address.ensures.value c.is_full.ensures in
+    let step = subst (λ a. IsStep t.window (option_copied c.as_ref-site.result) m q
+    (contact_of t.contacts a) c.in-Ok.heard new) c.address-address.ensures.value step_at in
+    let full = subst (λ a. c.is_full.result
+    ≡ leb t.limit (length (others_in a
+    (filter (fresh_entry t.window m) t.contacts)))) c.address-address.ensures.value c.is_full.ensures in
     subst (λ (v : Held). (h : History) → StandsFor v h → IsReply (settings v) h m q (Ok heard)) c.self.view_is
     (λ h st.
     let in_time = in_time_of t h m st c.in_ok-check_moment.ensures.ok in
     let old = st.kept (squitter_parts q).address in (
       not_full t h m q st in_time (sym full ∙ c.if-is_full.false),
-      subst (λ (site : Option Position). IsHeard t.window site h m q heard) c.as_ref-site.ensures.value (step.answers h old in_time),
+      subst (λ (site : Option Position). IsHeard t.window site h m q heard) c.as_ref-site.ensures.value
+          (step.answers h old in_time),
     ))
 
 pub returns-in-Ok-clause-ok : goal.returns-in-Ok-clause-ok
@@ -121,37 +153,58 @@ returns-in-Ok-clause-ok c =
     let heard = c.in-Ok.heard in
     let le = c.in_ok-check_moment.ensures.ok in
     let here = position_of (squitter_parts q).me (c.is_position.ensures.0 c.if-not-is_position.false) in
-    let full = subst (λ a. c.is_full.result ≡ leb t.limit (length (others_in a (filter (fresh_entry t.window m) t.contacts)))) c.address-address.ensures.value c.is_full.ensures in
+    let full = subst (λ a. c.is_full.result
+    ≡ leb t.limit (length (others_in a
+    (filter (fresh_entry t.window m) t.contacts)))) c.address-address.ensures.value c.is_full.ensures in
     let old : Contact = contact_of t.contacts (squitter_parts q).address in
     let (new, step_at, put_at) = c.in-Ok.ensures.ok in
-    let step = subst (λ a. IsStep t.window (option_map (λ s. s.now) c.as_ref-site.result) m q (contact_of t.contacts a) c.in-Ok.heard new) c.address-address.ensures.value step_at in
+    let step = subst (λ a. IsStep t.window (option_copied c.as_ref-site.result) m q
+    (contact_of t.contacts a) c.in-Ok.heard new) c.address-address.ensures.value step_at in
     let moment = moment_after m q heard old new here step.kept in
-    let put = subst (λ x. c.hear_last.new.self ≡ others_in x t.contacts ++ (x, new) ∷ []) c.address-address.ensures.value put_at in
-    let all = c.keep_recent-self-inside-in-Ok.ensures.kept ∙ ap (filter (fresh_entry t.window m)) put ∙ put_is t m q heard here new moment in
+    let put = subst (λ x. c.hear_last.new.self ≡ others_in x t.contacts
+    ++ (x, new) ∷ []) c.address-address.ensures.value put_at in
+    let all = c.keep_recent-self-inside-in-Ok.ensures.kept ∙ ap (filter (fresh_entry t.window m)) put
+    ∙ put_is t m q heard here new moment in
     subst (λ (v : Held). (h : History) → StandsFor v h
-    → StandsFor (record { limit = t.limit; window = t.window; site = t.site; last = Some m; contacts = c.keep_recent-self-inside-in-Ok.new.contacts }) (record { moment = m; squitter = q; heard = heard } ∷ h)) c.self.view_is
+    → StandsFor (record {
+      limit = t.limit;
+      window = t.window;
+      site = t.site;
+      last = Some m;
+      contacts = c.keep_recent-self-inside-in-Ok.new.contacts;
+    })
+    (record { moment = m; squitter = q; heard = heard } ∷ h)) c.self.view_is
     (λ h st.
     let in_time = in_time_of t h m st le in
     let remembered = st.kept (squitter_parts q).address in
     let reply : IsReply (settings t) h m q (Ok heard) = (
       not_full t h m q st in_time (sym full ∙ c.if-is_full.false),
-      subst (λ (site : Option Position). IsHeard t.window site h m q heard) c.as_ref-site.ensures.value (step.answers h remembered in_time),
+      subst (λ (site : Option Position). IsHeard t.window site h m q heard) c.as_ref-site.ensures.value
+          (step.answers h remembered in_time),
     ) in
-    subst (λ (es : Entries). StandsFor (record { limit = t.limit; window = t.window; site = t.site; last = Some m; contacts = es }) (record { moment = m; squitter = q; heard = heard } ∷ h)) (sym all)
-    (stands_position t m q heard here new moment h st le c.len-len.ensures.unique c.self.invariant.0.within reply (step.remembers h remembered in_time)))
+    subst (λ (es : Entries). StandsFor
+    (record { limit = t.limit; window = t.window; site = t.site; last = Some m; contacts = es })
+    (record { moment = m; squitter = q; heard = heard } ∷ h)) (sym all)
+    (stands_position t m q heard here new moment h st le c.len-len.ensures.unique c.self.invariant.0.within reply
+    (step.remembers h remembered in_time)))
 
 pub returns-in-Err-clause-reply : goal.returns-in-Err-clause-reply
 returns-in-Err-clause-reply c =
     let t : Held = the_view c.self.inside in
     let m = c.args.moment in
     let q = c.args.squitter.now in
-    let full = subst (λ a. c.is_full.result ≡ leb t.limit (length (others_in a (filter (fresh_entry t.window m) t.contacts)))) c.address-address.ensures.value c.is_full.ensures in
+    let full = subst (λ a. c.is_full.result
+    ≡ leb t.limit (length (others_in a
+    (filter (fresh_entry t.window m) t.contacts)))) c.address-address.ensures.value c.is_full.ensures in
     subst (λ (v : Held). (h : History) → StandsFor v h → IsReply (settings v) h m q (Err Memory)) c.self.view_is
-    (λ h st. let in_time = in_time_of t h m st c.in_ok-check_moment.ensures.ok in not_full t h m q st in_time (sym full ∙ c.if-is_full.false))
+    (λ h st. let in_time = in_time_of t h m st c.in_ok-check_moment.ensures.ok in not_full t h m q st in_time
+    (sym full ∙ c.if-is_full.false))
 
 pub returns-in-Err-clause-known : goal.returns-in-Err-clause-known
 returns-in-Err-clause-known c = λ _.
     let t : Held = the_view c.self.inside in
     let a = (squitter_parts c.args.squitter.now).address in
-    let absent = subst (λ x. lookup (eqb x) c.self.inside.contacts ≡ None) c.address-address.ensures.value c.in-Err.ensures.absent in
-    sym (ap (λ (v : Held). find (is_shown a) (present_of v)) c.self.view_is) ∙ find-entries a c.self.inside.contacts absent
+    let absent = subst (λ x. lookup (eqb x) c.self.inside.contacts
+    ≡ None) c.address-address.ensures.value c.in-Err.ensures.absent in
+    sym (ap (λ (v : Held). find (is_shown a) (present_of v)) c.self.view_is)
+    ∙ find-entries a c.self.inside.contacts absent
