@@ -61,8 +61,8 @@ fn reads_each_command(rt: HostRuntime) -> Result<(), AllocError> {
     Ok(())
 }
 
-// No command, an unknown one, and help; words too few and too many; an option of another command, with no value, twice, in
-// part of its name, and with a minus but no equals sign.
+// No command, an unknown one, and help; words too few and too many; an option of another command, with no value, twice,
+// in part of its name, and with a minus but no equals sign.
 const REFUSED: &str = "\
 squitter
 squitter fly
