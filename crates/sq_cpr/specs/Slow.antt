@@ -8,7 +8,6 @@ use Rattle.sq_zones.specs.declared.parity.Parity.TheVariants.{Even, Odd}
 use Rattle.sq_cpr.specs.Grid.{Point, step, lat_zones, circle, latitude}
 use Rattle.sq_cpr.specs.Near.{half_zone, angle_at, OnSomeTurn}
 use Rattle.sq_cpr.specs.Close.{difference, closeness, count_at, HaveOneCount}
-use Rattle.sq_cpr.specs.Rounds.{PositionRoundsTo}
 
 -- -limit < d < limit
 pub record IsSmallerThan (limit d : Fraction) : Type 0 where

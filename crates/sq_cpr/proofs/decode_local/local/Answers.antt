@@ -1,9 +1,10 @@
-use Rattle.std.proofs.Common.{◌≡◌, ◌∙◌, pos, to_z, of_z, ap, arith, true, false}
+use Rattle.std.proofs.Common.{◌≡◌, ◌∙◌, pos, to_z, of_z, ap, arith, refl, true, false}
 use Rattle.std.proofs.lemmas.Int.{ints}
 use Rattle.std.specs.Int.{w128, w64}
 use Rattle.sq_angle.specs.Angle.{degrees}
 use Rattle.sq_angle.specs.Position.{lat_of, lon_of}
 use Rattle.sq_angle.specs.Whole.{IsCongruent}
+use Rattle.sq_zones.specs.Zones.{lon_zones_at}
 use Rattle.sq_cpr.specs.Code.{numbers_of}
 use Rattle.sq_cpr.specs.Grid.{Point, circle}
 use Rattle.sq_cpr.specs.Local.{IsNearLatitude}
@@ -29,6 +30,14 @@ returns-in_default g c =
           let none : false ≡ true = rw c.in_default.is at some in
           absurd cc,
     )
+
+pub of_parts-requires : goal.of_parts-requires
+of_parts-requires g c =
+    record {
+      north_south = c.in-Some.ensures.variant.0 refl;
+      zones = c.lon_zones-zones.ensures.value ∙ ap (lon_zones_at c.args.parity) c.in-Some.ensures.value;
+      east_west = rw c.repeats_of.ensures.value at c.on_circle-lon_index.ensures.below;
+    }
 
 module _ (g : Over) (c : goal.After-of_parts g) where
   index_is : c.of_parts.result.lat_index ≡ c.index_within-lat_index.result
