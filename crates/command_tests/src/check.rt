@@ -1,16 +1,17 @@
 //! The command `check` over inputs in pieces, and over devices that fail: the clauses `whole`, `unread` and `unwritten`
-//! of `run_lines`, and `IsCheckRun` at status 3.
-use crate::faulty_devices::{End, lines_in, pieces_of, room_of};
-use crate::outcomes::outcome_on;
-use sq_commands::{Status, answer, run_check};
-use sq_devices::{Reading, Writing};
+//! of `run_lines`, and `IsCheckRun` at status 3. What it answers to odd lines stands in `tests/worked/check.txt`.
+use crate::faulty_devices::{
+    End, Pieces, Room, lines_in, pieces_of, room_of, sink_of, source_of, taken,
+};
+use crate::outcomes::{outcome_on, status_of};
+use sq_commands::{Status, run_check};
+use sq_devices::{Reading, Sink, Source};
 use sq_lines::{RunFault, Tally};
 use sq_requests::Request;
 use std::alloc::Global;
 use std::io;
 use std::io::Read;
 use std::process::Abort;
-use std::test::Fail;
 
 // Ten lines: two frames, an empty line, six refused or other lines, and a frame with no line feed.
 const LINES: &[u8] =
@@ -20,88 +21,44 @@ const LINES: &[u8] =
 const ANSWERS: &[u8] =
     b"1 ok 40621D air even 93000 51372\n2 ok 40621D air odd 74158 50194\n4 short frame\n5 parity 000001\n6 not DF17 18\n7 ok 406B90 other 4\n8 bad digit 28\n9 bad wrapping\n10 ok 484175 ground even 115609 116941\n";
 
+// `run_check` without its clauses.
+fn check(source: &mut impl Source, sink: &mut impl Sink) -> Result<Tally, RunFault> {
+    run_check(source, sink)
+}
+
+const ALL: Tally = Tally {
+    good: 4,
+    refused: 5,
+};
+
 #[test]
 fn checks_lines(rt: HostRuntime) {
     let outcome = outcome_on(rt.alloc(), Request::Check, LINES);
     assert!(rt; outcome.written.as_slice() == ANSWERS);
-    assert_eq!(rt; outcome.status, Status::Refused);
+    assert!(rt; outcome.status == Status::Refused);
     assert!(rt; outcome.reported.is_empty());
-    let nothing = outcome_on(rt.alloc(), Request::Check, b"");
-    assert!(rt; nothing.written.is_empty());
-    assert_eq!(rt; nothing.status, Status::Good);
 }
 
-// Asserts what `check` writes for an input, and its status.
-fn assert_checked(rt: &impl Abort, alloc: Global, input: &[u8], status: Status, text: &str) {
-    let outcome = outcome_on(alloc, Request::Check, input);
-    assert!(rt; outcome.written.as_slice() == text.as_bytes(), "{text}");
-    assert_eq!(rt; outcome.status, status);
-}
-
-#[test]
-fn checks_odd_lines(rt: HostRuntime) {
-    let alloc = rt.alloc();
-    assert_checked(&rt, alloc, &[b'1'; 65], Status::Refused, "1 long line\n");
-    assert_checked(
-        &rt,
-        alloc,
-        &[b'1'; 64],
-        Status::Refused,
-        "1 bad length 64\n",
-    );
-    assert_checked(
-        &rt,
-        alloc,
-        b"8D40621D58C382D690C8AC2863A7\r\r\n",
-        Status::Refused,
-        "1 bad length 29\n",
-    );
-    assert_checked(&rt, alloc, b"\r", Status::Good, "");
-    assert_checked(
-        &rt,
-        alloc,
-        b"123456789012345678901234567890123456789012345678901234567890123\r",
-        Status::Refused,
-        "1 bad length 63\n",
-    );
-    assert_checked(
-        &rt,
-        alloc,
-        b"1234567890123456789012345678901234567890123456789012345678901234\r",
-        Status::Refused,
-        "1 long line\n",
-    );
-    assert_checked(
-        &rt,
-        alloc,
-        b"*8D40621D58C382D690C8AC2863A7;",
-        Status::Good,
-        "1 ok 40621D air even 93000 51372\n",
-    );
-    assert_checked(
-        &rt,
-        alloc,
-        b"*8D40621D58C382D690C8AC2863A7",
-        Status::Refused,
-        "1 bad wrapping\n",
-    );
+// Asserts how a run of pieces ends, and how many bytes of the answers were written.
+fn assert_answered(
+    rt: &impl Abort,
+    alloc: Global,
+    pieces: Pieces,
+    ended: Result<Tally, RunFault>,
+    written: usize,
+) {
+    let mut source = source_of(pieces);
+    let mut sink = sink_of(Vec::new(alloc));
+    assert!(rt; check(&mut source, &mut sink) == ended);
+    let front = ANSWERS.get(..written).unwrap_or(b"");
+    assert!(rt; taken(sink).as_slice() == front);
 }
 
 #[test]
 fn checks_lines_in_pieces(rt: HostRuntime) {
     for size in [1, 2, 3, 63, 64, 65] {
-        let mut source = Reading::new(pieces_of(LINES, size, usize::MAX), 1_000_000);
-        let mut sink = Writing::new(Vec::new(rt.alloc()));
-        let tally = run_check(&mut source, &mut sink);
-        assert!(rt;
-            tally
-                == Ok(Tally {
-                    good: 4,
-                    refused: 5
-                }),
-            "pieces of {size}"
-        );
-        assert!(rt; sink.into_inner().as_slice() == ANSWERS);
+        let pieces = pieces_of(LINES, size, usize::MAX);
+        assert_answered(&rt, rt.alloc(), pieces, Ok(ALL), ANSWERS.len());
     }
 }
 
@@ -112,28 +69,27 @@ const ANSWERED: [usize; 11] = [0, 33, 65, 65, 79, 95, 109, 129, 144, 159, 198];
 fn answers_what_was_read_before_a_fault(rt: HostRuntime) {
     for fails_at in 0..LINES.len() {
         let answered = ANSWERED[lines_in(LINES, fails_at).min(10)].min(ANSWERS.len());
-        let mut source = Reading::new(pieces_of(LINES, 64, fails_at), 1_000_000);
-        let mut sink = Writing::new(Vec::new(rt.alloc()));
-        assert!(rt; run_check(&mut source, &mut sink) == Err(RunFault::Read));
-        assert!(rt;
-            sink.into_inner().as_slice() == &ANSWERS[..answered],
-            "{fails_at}"
-        );
+        let pieces = pieces_of(LINES, 64, fails_at);
+        assert_answered(&rt, rt.alloc(), pieces, Err(RunFault::Read), answered);
     }
+}
+
+// Asserts how a run of the lines into a writer ends, and what the writer took of the answers.
+fn assert_taken(rt: &impl Abort, room: Room, ended: Result<Tally, RunFault>, count: usize) {
+    let mut source = source_of(LINES);
+    let mut sink = sink_of(room);
+    assert!(rt; check(&mut source, &mut sink) == ended);
+    let front = ANSWERS.get(..count).unwrap_or(b"");
+    assert!(rt; taken(sink).taken.as_slice() == front);
 }
 
 #[test]
 fn leaves_what_a_writer_took(rt: HostRuntime) {
     for room in 0..ANSWERS.len() {
-        for end in [End::Error, End::Nothing] {
-            let mut source = Reading::new(LINES, 1_000_000);
-            let mut sink = Writing::new(room_of(rt.alloc(), room, end));
-            assert!(rt; run_check(&mut source, &mut sink) == Err(RunFault::Write));
-            assert!(rt;
-                sink.into_inner().taken.as_slice() == &ANSWERS[..room],
-                "{room}"
-            );
-        }
+        let full = room_of(rt.alloc(), room, End::Error);
+        assert_taken(&rt, full, Err(RunFault::Write), room);
+        let idle = room_of(rt.alloc(), room, End::Nothing);
+        assert_taken(&rt, idle, Err(RunFault::Write), room);
     }
 }
 
@@ -141,26 +97,14 @@ fn leaves_what_a_writer_took(rt: HostRuntime) {
 fn writes_a_byte_a_call(rt: HostRuntime) {
     let mut slow = room_of(rt.alloc(), 1000, End::Error);
     slow.size = 1;
-    let mut source = Reading::new(LINES, 1_000_000);
-    let mut sink = Writing::new(slow);
-    assert!(rt;
-        run_check(&mut source, &mut sink)
-            == Ok(Tally {
-                good: 4,
-                refused: 5
-            })
-    );
-    assert!(rt; sink.into_inner().taken.as_slice() == ANSWERS);
+    assert_taken(&rt, slow, Ok(ALL), ANSWERS.len());
 }
 
 #[test]
 fn reports_a_flush_that_fails(rt: HostRuntime) {
     let mut stuck = room_of(rt.alloc(), 1000, End::Error);
     stuck.flushes = false;
-    let mut source = Reading::new(LINES, 1_000_000);
-    let mut sink = Writing::new(stuck);
-    assert!(rt; run_check(&mut source, &mut sink) == Err(RunFault::Write));
-    assert!(rt; sink.into_inner().taken.as_slice() == ANSWERS);
+    assert_taken(&rt, stuck, Err(RunFault::Write), ANSWERS.len());
 }
 
 // Gives one line feed a read, for ever.
@@ -182,36 +126,32 @@ impl Read for Feeds {
 #[test]
 fn ends_where_the_gets_do(rt: HostRuntime) {
     let mut source = Reading::new(Feeds, 5);
-    let mut sink = Writing::new(Vec::new(rt.alloc()));
-    assert!(rt; run_check(&mut source, &mut sink) == Err(RunFault::Read));
-    assert!(rt; sink.into_inner().is_empty());
+    let mut sink = sink_of(Vec::new(rt.alloc()));
+    assert!(rt; check(&mut source, &mut sink) == Err(RunFault::Read));
+    assert!(rt; taken(sink).is_empty());
+}
+
+// Asserts that a run breaks off, and the line that is reported.
+fn assert_broken(
+    rt: &impl Abort,
+    alloc: Global,
+    source: &mut impl Source,
+    sink: &mut impl Sink,
+    text: &str,
+) {
+    let mut faults = sink_of(Vec::new(alloc));
+    let status = status_of(alloc, Request::Check, source, sink, &mut faults);
+    assert!(rt; status == Status::Broken);
+    assert!(rt; taken(faults).as_slice() == text.as_bytes());
 }
 
 #[test]
-fn reports_what_ended_a_run(rt: HostRuntime) -> Result<(), Fail> {
-    let mut faults = Writing::new(Vec::new(rt.alloc()));
-    let mut source = Reading::new(Feeds, 5);
-    let mut sink = Writing::new(Vec::new(rt.alloc()));
-    let status = answer(
-        rt.alloc(),
-        Request::Check,
-        &mut source,
-        &mut sink,
-        &mut faults,
-    );
-    assert_eq!(rt; status, Status::Broken);
-    assert!(rt; faults.into_inner().as_slice() == b"read failed\n".as_slice());
-    let mut full = Writing::new(room_of(rt.alloc(), 10, End::Error));
-    let mut source = Reading::new(LINES, 1_000_000);
-    let mut faults = Writing::new(Vec::new(rt.alloc()));
-    let status = answer(
-        rt.alloc(),
-        Request::Check,
-        &mut source,
-        &mut full,
-        &mut faults,
-    );
-    assert_eq!(rt; status, Status::Broken);
-    assert!(rt; faults.into_inner().as_slice() == b"write failed\n".as_slice());
-    Ok(())
+fn reports_what_ended_a_run(rt: HostRuntime) {
+    let alloc = rt.alloc();
+    let mut feeds = Reading::new(Feeds, 5);
+    let mut sink = sink_of(Vec::new(alloc));
+    assert_broken(&rt, alloc, &mut feeds, &mut sink, "read failed\n");
+    let mut source = source_of(LINES);
+    let mut full = sink_of(room_of(alloc, 10, End::Error));
+    assert_broken(&rt, alloc, &mut source, &mut full, "write failed\n");
 }

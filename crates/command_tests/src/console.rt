@@ -1,12 +1,14 @@
 //! The devices over readers and writers that keep a log: the clauses of `Source` and `Sink`, and what none says, that
 //! the output is flushed before input is awaited. The words over a made-up command line.
+use crate::faulty_devices::{finish, get, put, sink_of, taken};
 use sq_console::{PromptInput, PromptOutput, SharedOutput, Trouble, arguments};
-use sq_devices::{Failed, Sink, Source, Writing};
+use sq_devices::{Failed, Sink, Source};
+use std::alloc::{AllocError, Global};
 use std::cell::RefCell;
 use std::env::{Env, FillError};
 use std::io;
 use std::io::{ErrorKind, Read, Write};
-use std::test::Fail;
+use std::process::Abort;
 
 /// What was read and written, in turn.
 type Log = RefCell<Vec<u8>>;
@@ -59,65 +61,89 @@ impl Write for Noted<'_> {
     }
 }
 
+// An input over a shared output, without the clauses.
+fn input_of<'a, R: Read + Drop, W: Write + Drop>(
+    alloc: Global,
+    reader: R,
+    shared: &'a SharedOutput<W>,
+) -> Result<PromptInput<'a, R, W>, AllocError> {
+    PromptInput::new(alloc, reader, shared, 10)
+}
+
+// Asserts that each of four bytes is got, and put as its answer, and that an end can follow.
+fn assert_echoed(rt: &impl Abort, input: &mut impl Source, output: &mut impl Sink) {
+    let mut piece = [0; 1];
+    for _ in 0..4 {
+        assert!(rt; get(input, &mut piece) == Ok(1));
+        assert!(rt; put(output, &piece) == Ok(1));
+    }
+    assert!(rt; get(input, &mut piece) == Ok(0));
+    assert!(rt; put(output, b"end") == Ok(3));
+    assert!(rt; finish(output) == Ok(()));
+}
+
 #[test]
-fn lets_each_answer_go_before_it_reads_more(rt: HostRuntime) -> Result<(), Fail> {
+fn lets_each_answer_go_before_it_reads_more(rt: HostRuntime) -> Result<(), AllocError> {
     let log = RefCell::new(Vec::new(rt.alloc()));
-    let shared = SharedOutput::new(
-        rt.alloc(),
-        Noted {
-            log: &log,
-            room: 100,
-        },
-    )?;
+    let writer = Noted {
+        log: &log,
+        room: 100,
+    };
     let lines = Lines {
         log: &log,
         text: b"a\nb\n",
     };
-    let mut input = PromptInput::new(rt.alloc(), lines, &shared, 10)?;
-    let mut output = PromptOutput::new(&shared);
-    let mut piece = [0; 1];
-    for _ in 0..4 {
-        assert_eq!(rt; input.get(&mut piece), Ok(1));
-        assert_eq!(rt; output.put(&piece), Ok(1));
-    }
-    assert_eq!(rt; input.get(&mut piece), Ok(0));
-    assert_eq!(rt; output.put(b"end"), Ok(3));
-    assert_eq!(rt; output.finish(), Ok(()));
+    let shared = SharedOutput::new(rt.alloc(), writer)?;
+    let mut input = input_of(rt.alloc(), lines, &shared)?;
+    assert_echoed(&rt, &mut input, &mut PromptOutput::new(&shared));
     drop(input);
     drop(shared);
-    assert_eq!(rt; log.into_inner().as_slice(), b"<a\n<b\n<end".as_slice());
+    assert!(rt; log.into_inner().as_slice() == b"<a\n<b\n<end".as_slice());
     Ok(())
 }
 
+// Asserts that the flush of a text fails at a get, and that the next put and the finish tell it.
+fn assert_told_at_the_put(rt: &impl Abort, input: &mut impl Source, output: &mut impl Sink) {
+    assert!(rt; put(output, b"abc") == Ok(3));
+    assert!(rt; get(input, &mut [0; 2]) == Ok(2));
+    assert!(rt; put(output, b"d") == Err(Failed));
+    assert!(rt; finish(output) == Err(Failed));
+}
+
 #[test]
-fn tells_a_failed_flush_at_the_next_put(rt: HostRuntime) -> Result<(), Fail> {
+fn tells_a_failed_flush_at_the_next_put(rt: HostRuntime) -> Result<(), AllocError> {
     let log = RefCell::new(Vec::new(rt.alloc()));
     let shared = SharedOutput::new(rt.alloc(), Noted { log: &log, room: 2 })?;
-    let mut input = PromptInput::new(rt.alloc(), b"ab".as_slice(), &shared, 10)?;
-    let mut output = PromptOutput::new(&shared);
-    assert_eq!(rt; output.put(b"abc"), Ok(3));
-    assert_eq!(rt; input.get(&mut [0; 2]), Ok(2));
-    assert_eq!(rt; output.put(b"d"), Err(Failed));
-    assert_eq!(rt; output.finish(), Err(Failed));
+    let mut input = input_of(rt.alloc(), b"ab".as_slice(), &shared)?;
+    assert_told_at_the_put(&rt, &mut input, &mut PromptOutput::new(&shared));
     Ok(())
 }
 
+// Asserts that the flush of a text fails at the finish.
+fn assert_told_at_the_finish(rt: &impl Abort, output: &mut impl Sink) {
+    assert!(rt; put(output, b"abc") == Ok(3));
+    assert!(rt; finish(output) == Err(Failed));
+}
+
 #[test]
-fn tells_a_failed_flush_at_the_finish(rt: HostRuntime) -> Result<(), Fail> {
+fn tells_a_failed_flush_at_the_finish(rt: HostRuntime) -> Result<(), AllocError> {
     let log = RefCell::new(Vec::new(rt.alloc()));
     let shared = SharedOutput::new(rt.alloc(), Noted { log: &log, room: 2 })?;
-    let mut output = PromptOutput::new(&shared);
-    assert_eq!(rt; output.put(b"abc"), Ok(3));
-    assert_eq!(rt; output.finish(), Err(Failed));
+    assert_told_at_the_finish(&rt, &mut PromptOutput::new(&shared));
     Ok(())
 }
 
+// Asserts that two bytes are got, and then no more.
+fn assert_one_get(rt: &impl Abort, input: &mut impl Source) {
+    assert!(rt; get(input, &mut [0; 2]) == Ok(2));
+    assert!(rt; get(input, &mut [0; 2]) == Err(Failed));
+}
+
 #[test]
-fn refuses_the_get_after_the_last(rt: HostRuntime) -> Result<(), Fail> {
+fn refuses_the_get_after_the_last(rt: HostRuntime) -> Result<(), AllocError> {
     let shared = SharedOutput::new(rt.alloc(), Vec::new(rt.alloc()))?;
     let mut input = PromptInput::new(rt.alloc(), b"abc".as_slice(), &shared, 1)?;
-    assert_eq!(rt; input.get(&mut [0; 2]), Ok(2));
-    assert_eq!(rt; input.get(&mut [0; 2]), Err(Failed));
+    assert_one_get(&rt, &mut input);
     Ok(())
 }
 
@@ -150,17 +176,31 @@ impl Env for CommandLine {
     }
 }
 
+// The words of a command line.
+fn words_of(alloc: Global, env: impl Env + Drop) -> Result<Vec<String>, Trouble> {
+    arguments(&(env, alloc))
+}
+
+// Whether these are the program's name and one more word.
+fn are_words(words: &[String], word: &str) -> bool {
+    match words {
+        [name, given] => name.as_str() == "squitter" && given.as_str() == word,
+        _ => false,
+    }
+}
+
 #[test]
-fn reads_the_words(rt: HostRuntime) -> Result<(), Fail> {
-    let Ok(words) = arguments(&(CommandLine { word: b"check" }, rt.alloc())) else {
-        return Err(Fail::from("no words"));
+fn reads_the_words(rt: HostRuntime) {
+    let Ok(words) = words_of(rt.alloc(), CommandLine { word: b"check" }) else {
+        panic!(rt; "no words");
     };
-    assert_eq!(rt; words.len(), 2);
-    assert_eq!(rt; words[0].as_str(), "squitter");
-    assert_eq!(rt; words[1].as_str(), "check");
-    let bad = arguments(&(CommandLine { word: b"\xFF" }, rt.alloc()));
+    assert!(rt; are_words(words.as_slice(), "check"));
+}
+
+#[test]
+fn refuses_a_word_that_is_no_text(rt: HostRuntime) {
+    let bad = words_of(rt.alloc(), CommandLine { word: b"\xFF" });
     assert!(rt; matches!(bad, Err(Trouble::Words)));
-    Ok(())
 }
 
 /// A command line of an empty name and `count` more words, each a letter longer than the one before.
@@ -193,20 +233,21 @@ impl Env for LongLine {
     }
 }
 
+// Whether each word is a letter longer than the one before.
+fn are_letters(words: &[String]) -> bool {
+    words.iter().enumerate().all(|(i, word)| word.as_bytes() == &LETTERS[..i.min(LETTERS.len())])
+}
+
 // All words of a long command line, whole and in order, the last one too.
 #[test]
-fn reads_a_long_command_line(rt: HostRuntime) -> Result<(), Fail> {
+fn reads_a_long_command_line(rt: HostRuntime) {
     for count in [0, 1, 2, 3, 4, 11, 40] {
-        let Ok(words) = arguments(&(LongLine { count }, rt.alloc())) else {
-            return Err(Fail::from("no words"));
+        let Ok(words) = words_of(rt.alloc(), LongLine { count }) else {
+            panic!(rt; "no words");
         };
-        assert_eq!(rt; words.len(), count.saturating_add(1));
-        for (i, word) in words.iter().enumerate() {
-            let want = &LETTERS[..i.min(LETTERS.len())];
-            assert!(rt; word.as_bytes() == want, "{i}");
-        }
+        assert!(rt; words.len() == count.saturating_add(1));
+        assert!(rt; are_letters(words.as_slice()));
     }
-    Ok(())
 }
 
 /// Fails at its first read or write and then works, and notes each read as `<`, a failed write as `!` and a flush as
@@ -246,50 +287,53 @@ impl Write for Once<'_> {
     }
 }
 
+fn once_of(log: &Log) -> Once<'_> {
+    Once { log, failed: false }
+}
+
+// Asserts that the first get fails, and the next one gets two bytes.
+fn assert_second_get(rt: &impl Abort, input: &mut impl Source) {
+    let mut piece = [0; 2];
+    assert!(rt; get(input, &mut piece) == Err(Failed));
+    assert!(rt; get(input, &mut piece) == Ok(2));
+    assert!(rt; &piece[..] == b"ab".as_slice());
+}
+
 // A failed read is reported, and not tried again.
 #[test]
-fn tells_a_failed_read(rt: HostRuntime) -> Result<(), Fail> {
+fn tells_a_failed_read(rt: HostRuntime) -> Result<(), AllocError> {
     let log = RefCell::new(Vec::new(rt.alloc()));
     let shared = SharedOutput::new(rt.alloc(), Vec::new(rt.alloc()))?;
-    let once = Once {
-        log: &log,
-        failed: false,
-    };
-    let mut input = PromptInput::new(rt.alloc(), once, &shared, 10)?;
-    let mut piece = [0; 2];
-    assert_eq!(rt; input.get(&mut piece), Err(Failed));
-    assert_eq!(rt; input.get(&mut piece), Ok(2));
-    assert_eq!(rt; &piece[..], b"ab".as_slice());
+    let mut input = input_of(rt.alloc(), once_of(&log), &shared)?;
+    assert_second_get(&rt, &mut input);
     drop(input);
-    assert_eq!(rt; log.into_inner().as_slice(), b"<<".as_slice());
+    assert!(rt; log.into_inner().as_slice() == b"<<".as_slice());
     Ok(())
+}
+
+// Asserts that the first finish fails, and the next one does not.
+fn assert_second_finish(rt: &impl Abort, output: &mut impl Sink) {
+    assert!(rt; put(output, b"end") == Ok(3));
+    assert!(rt; finish(output) == Err(Failed));
+    assert!(rt; finish(output) == Ok(()));
 }
 
 // A failed write at the finish is reported, and the finish reaches the writer.
 #[test]
-fn tells_a_failed_write_and_finishes(rt: HostRuntime) -> Result<(), Fail> {
+fn tells_a_failed_write_and_finishes(rt: HostRuntime) -> Result<(), AllocError> {
     let log = RefCell::new(Vec::new(rt.alloc()));
-    let once = Once {
-        log: &log,
-        failed: false,
-    };
-    let shared = SharedOutput::new(rt.alloc(), once)?;
-    let mut output = PromptOutput::new(&shared);
-    assert_eq!(rt; output.put(b"end"), Ok(3));
-    assert_eq!(rt; output.finish(), Err(Failed));
-    assert_eq!(rt; output.finish(), Ok(()));
+    let shared = SharedOutput::new(rt.alloc(), once_of(&log))?;
+    assert_second_finish(&rt, &mut PromptOutput::new(&shared));
     drop(shared);
-    assert_eq!(rt; log.into_inner().as_slice(), b"!end|".as_slice());
+    assert!(rt; log.into_inner().as_slice() == b"!end|".as_slice());
     Ok(())
 }
 
 #[test]
 fn tells_its_troubles(rt: HostRuntime) {
-    let mut faults = Writing::new(Vec::new(rt.alloc()));
-    assert_eq!(rt; Trouble::Words.tell(&mut faults), 2);
-    assert_eq!(rt; Trouble::Memory.tell(&mut faults), 3);
-    assert_eq!(rt;
-        faults.into_inner().as_slice(),
-        b"bad words\nout of memory\n".as_slice()
-    );
+    let mut faults = sink_of(Vec::new(rt.alloc()));
+    assert!(rt; Trouble::Words.tell(&mut faults) == 2);
+    assert!(rt; Trouble::Memory.tell(&mut faults) == 3);
+    let told = b"bad words\nout of memory\n".as_slice();
+    assert!(rt; taken(faults).as_slice() == told);
 }

@@ -1,11 +1,12 @@
 //! What is reported of faults is what their `Display` shows: of an angle after its name, and of what breaks a run off.
+use crate::faulty_devices::{sink_of, taken};
 use crate::outcomes::assert_reported;
 use sq_angle::AngleFault;
 use sq_commands::{RunFault, Status, break_off};
-use sq_devices::Writing;
 use sq_requests::Request;
 use std::alloc::Global;
 use std::fmt;
+use std::process::Abort;
 
 // What a fault's Display writes after a name, as a line.
 fn line_of(alloc: Global, name: &str, fault: impl fmt::Display + Drop) -> String {
@@ -46,12 +47,17 @@ fn reports_faults_of_angles_by_name(rt: HostRuntime) {
     }
 }
 
+// Asserts what is reported of a run that breaks off.
+fn assert_broken_off(rt: &impl Abort, alloc: Global, fault: RunFault) {
+    let mut faults = sink_of(Vec::new(alloc));
+    break_off(fault, &mut faults);
+    let line = line_of(alloc, "", fault);
+    assert!(rt; taken(faults).as_slice() == line.as_bytes());
+}
+
 #[test]
 fn reports_what_breaks_a_run_off(rt: HostRuntime) {
     for fault in [RunFault::Read, RunFault::Write, RunFault::Memory] {
-        let mut faults = Writing::new(Vec::new(rt.alloc()));
-        break_off(fault, &mut faults);
-        let line = line_of(rt.alloc(), "", fault);
-        assert!(rt; faults.into_inner().as_slice() == line.as_bytes(), "{line}");
+        assert_broken_off(&rt, rt.alloc(), fault);
     }
 }

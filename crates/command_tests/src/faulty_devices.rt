@@ -1,4 +1,5 @@
-//! Readers and writers for tests, which move few bytes at a time and fail at a known place.
+//! Readers and writers for tests, which move few bytes at a time and fail at a known place, and the calls of devices.
+use sq_devices::{Failed, Reading, Sink, Source, Writing};
 use std::alloc::Global;
 use std::io;
 use std::io::{ErrorKind, Read, Write};
@@ -91,4 +92,30 @@ pub(crate) fn lines_in(text: &[u8], count: usize) -> usize {
         .take(count)
         .filter(|byte| **byte == b'\n')
         .count()
+}
+
+// Devices and their calls, without the clauses: a test looks at the answers alone, and is proved sooner without.
+pub(crate) fn source_of<R: Read>(reader: R) -> Reading<R> {
+    Reading::new(reader, 1_000_000)
+}
+
+pub(crate) fn sink_of<W: Write>(writer: W) -> Writing<W> {
+    Writing::new(writer)
+}
+
+pub(crate) fn get(source: &mut impl Source, into: &mut [u8]) -> Result<usize, Failed> {
+    source.get(into)
+}
+
+pub(crate) fn put(sink: &mut impl Sink, text: &[u8]) -> Result<usize, Failed> {
+    sink.put(text)
+}
+
+pub(crate) fn finish(sink: &mut impl Sink) -> Result<(), Failed> {
+    sink.finish()
+}
+
+// The writer, with what was put.
+pub(crate) fn taken<W: Write>(sink: Writing<W>) -> W {
+    sink.into_inner()
 }

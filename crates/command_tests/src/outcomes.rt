@@ -1,6 +1,8 @@
-//! The commands on whole requests: `IsRun`, and `WroteOrFailed` of what is reported where the sink for faults fails.
+//! Whole requests: `IsRun`, and `WroteOrFailed` of what is reported where the sink for faults fails; and the command
+//! `show`, of which `tests/worked/show.txt` has more.
+use crate::faulty_devices::{sink_of, source_of, taken};
 use sq_commands::{Status, answer};
-use sq_devices::{Reading, Writing};
+use sq_devices::{Sink, Source};
 use sq_requests::Request;
 use std::alloc::Global;
 use std::io;
@@ -15,29 +17,47 @@ pub(crate) struct Outcome {
     pub(crate) reported: Vec<u8>,
 }
 
-fn outcome_of(alloc: Global, request: Request<'_>) -> Outcome {
-    outcome_on(alloc, request, b"")
+// `answer`, whose clauses no test needs.
+pub(crate) fn status_of(
+    alloc: Global,
+    request: Request<'_>,
+    input: &mut impl Source,
+    output: &mut impl Sink,
+    faults: &mut impl Sink,
+) -> Status {
+    answer(alloc, request, input, output, faults)
 }
 
-// The same with an input.
+// What a request comes to with an input.
 pub(crate) fn outcome_on(alloc: Global, request: Request<'_>, text: &[u8]) -> Outcome {
-    let mut input = Reading::new(text, 1_000_000);
-    let mut output = Writing::new(Vec::new(alloc));
-    let mut faults = Writing::new(Vec::new(alloc));
-    let status = answer(alloc, request, &mut input, &mut output, &mut faults);
+    let mut input = source_of(text);
+    let mut output = sink_of(Vec::new(alloc));
+    let mut faults = sink_of(Vec::new(alloc));
+    let status = status_of(alloc, request, &mut input, &mut output, &mut faults);
     Outcome {
         status,
-        written: output.into_inner(),
-        reported: faults.into_inner(),
+        written: taken(output),
+        reported: taken(faults),
     }
+}
+
+// Asserts the status, the output and what is reported.
+pub(crate) fn assert_outcome(
+    rt: &impl Abort,
+    ran: &Outcome,
+    status: Status,
+    written: &str,
+    reported: &str,
+) {
+    assert!(rt; ran.written.as_slice() == written.as_bytes());
+    assert!(rt; ran.reported.as_slice() == reported.as_bytes());
+    assert!(rt; ran.status == status);
 }
 
 // Asserts the output and the status of a request that is good.
 pub(crate) fn assert_written(rt: &impl Abort, alloc: Global, request: Request<'_>, text: &str) {
-    let ran = outcome_of(alloc, request);
-    assert!(rt; ran.written.as_slice() == text.as_bytes(), "{text}");
-    assert!(rt; ran.reported.is_empty());
-    assert_eq!(rt; ran.status, Status::Good);
+    let ran = outcome_on(alloc, request, b"");
+    assert_outcome(rt, &ran, Status::Good, text, "");
 }
 
 // Asserts the line that a request is refused with, and the status.
@@ -48,70 +68,25 @@ pub(crate) fn assert_reported(
     status: Status,
     text: &str,
 ) {
-    let ran = outcome_of(alloc, request);
-    assert!(rt; ran.reported.as_slice() == text.as_bytes(), "{text}");
-    assert!(rt; ran.written.is_empty());
-    assert_eq!(rt; ran.status, status);
+    let ran = outcome_on(alloc, request, b"");
+    assert_outcome(rt, &ran, status, "", text);
 }
 
 #[test]
-fn shows_an_airborne_position(rt: HostRuntime) {
-    let request = Request::Show {
-        frame: "8D40621D58C382D690C8AC2863A7",
-    };
-    assert_written(
-        &rt,
-        rt.alloc(),
-        request,
-        "address 40621D\nca 5\ntype 11\nkind air\nstatus 0\nflag 0\naltitude 38000 ft\ntime 0\nparity even\nlat 93000\nlon 51372\n",
-    );
-}
-
-#[test]
-fn shows_a_surface_position(rt: HostRuntime) {
-    let request = Request::Show {
-        frame: "8C4841753AAB238733C8CD4020B1",
-    };
-    assert_written(
-        &rt,
-        rt.alloc(),
-        request,
-        "address 484175\nca 4\ntype 7\nkind ground\nmovement 42\ntrack status 1\ntrack 50\ntime 0\nparity even\nlat 115609\nlon 116941\n",
-    );
-}
-
-#[test]
-fn shows_another_message(rt: HostRuntime) {
+fn shows_a_frame(rt: HostRuntime) {
     let request = Request::Show {
         frame: "8D406B902015A678D4D220AA4BDA",
     };
-    assert_written(
-        &rt,
-        rt.alloc(),
-        request,
-        "address 406B90\nca 5\ntype 4\nkind other\nme 2015A678D4D220\n",
-    );
+    let text = "address 406B90\nca 5\ntype 4\nkind other\nme 2015A678D4D220\n";
+    assert_written(&rt, rt.alloc(), request, text);
 }
 
 #[test]
-fn refuses_frames(rt: HostRuntime) {
-    let rows = [
-        ("8D40621D58C382D690C8AC2863A6", "parity 000001\n"),
-        ("90406B902015A678D4D220AA4BDA", "not DF17 18\n"),
-        ("5D40621D000000", "short frame\n"),
-        ("*8D40621D58C382D690C8AC2863A7", "bad wrapping\n"),
-        ("zz", "bad length 2\n"),
-        ("8D40621D58C382D690C8AC2863AG", "bad digit 28\n"),
-    ];
-    for (frame, text) in rows {
-        assert_reported(
-            &rt,
-            rt.alloc(),
-            Request::Show { frame },
-            Status::Refused,
-            text,
-        );
-    }
+fn refuses_a_frame(rt: HostRuntime) {
+    let request = Request::Show {
+        frame: "8D40621D58C382D690C8AC2863A6",
+    };
+    assert_reported(&rt, rt.alloc(), request, Status::Refused, "parity 000001\n");
 }
 
 // Takes no byte.
@@ -130,15 +105,15 @@ impl Write for Full {
 
 // Asserts that an answer which cannot be written is a fault, reported where that can be.
 pub(crate) fn assert_unwritten(rt: &impl Abort, alloc: Global, request: Request<'_>) {
-    let mut input = Reading::new(b"".as_slice(), 10);
-    let mut output = Writing::new(Full);
-    let mut faults = Writing::new(Vec::new(alloc));
-    let status = answer(alloc, request, &mut input, &mut output, &mut faults);
-    assert_eq!(rt; status, Status::Broken);
-    assert!(rt; faults.into_inner().as_slice() == b"write failed\n".as_slice());
-    let mut lost = Writing::new(Full);
-    let status = answer(alloc, request, &mut input, &mut output, &mut lost);
-    assert_eq!(rt; status, Status::Broken);
+    let mut input = source_of(b"".as_slice());
+    let mut output = sink_of(Full);
+    let mut faults = sink_of(Vec::new(alloc));
+    let status = status_of(alloc, request, &mut input, &mut output, &mut faults);
+    assert!(rt; status == Status::Broken);
+    assert!(rt; taken(faults).as_slice() == b"write failed\n".as_slice());
+    let mut lost = sink_of(Full);
+    let status = status_of(alloc, request, &mut input, &mut output, &mut lost);
+    assert!(rt; status == Status::Broken);
 }
 
 // Asserts the status of a request whose fault cannot be reported.
@@ -148,14 +123,12 @@ pub(crate) fn assert_unreported(
     request: Request<'_>,
     status: Status,
 ) {
-    let mut input = Reading::new(b"".as_slice(), 10);
-    let mut output = Writing::new(Vec::new(alloc));
-    let mut lost = Writing::new(Full);
-    assert_eq!(rt;
-        answer(alloc, request, &mut input, &mut output, &mut lost),
-        status
-    );
-    assert!(rt; output.into_inner().is_empty());
+    let mut input = source_of(b"".as_slice());
+    let mut output = sink_of(Vec::new(alloc));
+    let mut lost = sink_of(Full);
+    let ended = status_of(alloc, request, &mut input, &mut output, &mut lost);
+    assert!(rt; ended == status);
+    assert!(rt; taken(output).is_empty());
 }
 
 #[test]
