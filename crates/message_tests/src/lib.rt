@@ -17,6 +17,8 @@ mod place_faults;
 #[cfg(test)]
 mod places;
 #[cfg(test)]
+mod rows;
+#[cfg(test)]
 mod samples;
 #[cfg(test)]
 mod sending;
