@@ -1,7 +1,6 @@
 //! Real frames read and written, damaged frames, limits of fields, and altitudes.
 ghost use Rattle.std.specs.Prelude.{◌≤◌};
 
-use crate::rows::number;
 use crate::samples::{AIR_EVEN, AIR_ODD, GROUND_EVEN, GROUND_ODD, IDENTITY, read};
 use sq_bits::remainder;
 use sq_message::{
@@ -58,12 +57,16 @@ fn code_numbers(code: Code) -> [u32; 2] {
     [code.lat(), code.lon()]
 }
 
+// The capability and the address of who sent a frame.
+fn sender(rt: &impl Abort, frame: &Frame) -> (u8, u32) {
+    let squitter = read(rt, frame);
+    (squitter.ca(), squitter.address())
+}
+
 #[test]
-fn reads_addresses_and_capabilities(rt: HostRuntime) {
-    let squitter = read(&rt, &AIR_EVEN);
-    assert_eq!(rt; squitter.address(), 0x40621D);
-    assert_eq!(rt; squitter.ca(), 5);
-    assert_eq!(rt; read(&rt, &GROUND_EVEN).ca(), 4);
+fn reads_capabilities_and_addresses(rt: HostRuntime) {
+    assert!(rt; sender(&rt, &AIR_EVEN) == (5, 0x40621D));
+    assert!(rt; sender(&rt, &GROUND_EVEN) == (4, 0x484175));
 }
 
 #[test]
@@ -145,19 +148,24 @@ fn refuses_each_flipped_bit(rt: HostRuntime) {
     }
 }
 
-#[derive(Clone, Copy, PartialEq, Eq)]
-enum Kind {
-    Airborne,
-    Surface,
-    Other,
+fn is_airborne(type_code: u8) -> bool {
+    matches!(type_code, 9..=18 | 20..=22)
 }
 
-// The kind of message of a type code.
-fn kind_of(type_code: u8) -> Kind {
-    match type_code {
-        9..=18 | 20..=22 => Kind::Airborne,
-        5..=8 => Kind::Surface,
-        _ => Kind::Other,
+fn is_surface(type_code: u8) -> bool {
+    matches!(type_code, 5..=8)
+}
+
+// Whether this type code is read back, from a message of its kind.
+fn is_read_back(me: &Me, type_code: u8) -> bool {
+    match me {
+        Me::Airborne(position) => {
+            is_airborne(type_code) && position.fields.type_code() == type_code
+        }
+        Me::Surface(position) => is_surface(type_code) && position.fields.type_code() == type_code,
+        Me::Other(other) => {
+            !is_airborne(type_code) && !is_surface(type_code) && other.type_code() == type_code
+        }
     }
 }
 
@@ -166,12 +174,10 @@ fn reads_every_type_code(rt: HostRuntime) {
     for type_code in 0..32u8 {
         let frame = sq_bits::sealed(&AIR_EVEN.with_field(33, 5, u64::from(type_code)));
         let squitter = read_frame(&frame).expect(&rt, "a squitter");
-        let (kind, kept) = match squitter.me() {
-            Me::Airborne(airborne) => (Kind::Airborne, airborne.fields.type_code()),
-            Me::Surface(surface) => (Kind::Surface, surface.fields.type_code()),
-            Me::Other(other) => (Kind::Other, other.type_code()),
-        };
-        assert!(rt; kind == kind_of(type_code) && kept == type_code);
+        assert!(rt;
+            is_read_back(&squitter.me(), type_code),
+            "type code {type_code}"
+        );
     }
 }
 
@@ -187,9 +193,8 @@ fn is_ground(type_code: u8, movement: u8, track_status: bool, track: u8, time: b
 #[test]
 fn limits_type_codes_of_fields(rt: HostRuntime) {
     for type_code in 0..=255u8 {
-        let kind = kind_of(type_code);
-        assert!(rt; is_air(type_code, 3, true, 4095, true) == (kind == Kind::Airborne));
-        assert!(rt; is_ground(type_code, 127, true, 127, true) == (kind == Kind::Surface));
+        assert!(rt; is_air(type_code, 3, true, 4095, true) == is_airborne(type_code));
+        assert!(rt; is_ground(type_code, 127, true, 127, true) == is_surface(type_code));
     }
 }
 
@@ -254,15 +259,20 @@ const FIELDS_OF_FEET: &str = "\
 -1025 none
 50200 none";
 
-fn field(word: &str) -> Option<u16> {
-    u16::try_from(number(word)?).ok()
+fn feet(word: &str) -> Option<i32> {
+    word.parse::<i32>().ok()
 }
 
-// Whether the feet of a row have its field. None where the row is not these.
+fn field(word: &str) -> Option<u16> {
+    let (_, digits) = word.split_once("0x")?;
+    u16::from_str_radix(digits, 16).ok()
+}
+
+// Whether the feet of a row have its field, or none where the row says so.
 fn is_field_of_feet(row: &str) -> Option<bool> {
-    let (feet, word) = row.split_once(' ')?;
-    let feet = feet.parse::<i32>().ok()?;
-    Some(field_of_feet(feet) == field(word))
+    let (first, second) = row.split_once(' ')?;
+    let feet = feet(first)?;
+    Some(field_of_feet(feet) == field(second))
 }
 
 #[test]

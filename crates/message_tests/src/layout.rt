@@ -191,8 +191,18 @@ fn value_of(set: Set<'_>, field: &str, unset: u32) -> u32 {
     if set.0 == field { set.1 } else { unset }
 }
 
+fn byte_of(set: Set<'_>, field: &str, unset: u32) -> Option<u8> {
+    let value = value_of(set, field, unset);
+    u8::try_from(value).ok()
+}
+
+// Whether the row sets a field of one bit.
+fn bit_of(set: Set<'_>, field: &str) -> bool {
+    value_of(set, field, 0) == 1
+}
+
 fn parity_of(set: Set<'_>) -> Parity {
-    if value_of(set, "odd", 0) == 1 {
+    if bit_of(set, "odd") {
         Parity::Odd
     } else {
         Parity::Even
@@ -205,11 +215,11 @@ fn code_of(set: Set<'_>) -> Option<Code> {
 
 // An airborne position, of type code 11 unless the row says otherwise.
 fn airborne(set: Set<'_>) -> Option<Me> {
-    let type_code = u8::try_from(value_of(set, "type-code", 11)).ok()?;
-    let status = u8::try_from(value_of(set, "status", 0)).ok()?;
-    let flag = value_of(set, "flag", 0) == 1;
+    let type_code = byte_of(set, "type-code", 11)?;
+    let status = byte_of(set, "status", 0)?;
+    let flag = bit_of(set, "flag");
     let altitude = u16::try_from(value_of(set, "altitude", 0)).ok()?;
-    let time = value_of(set, "time", 0) == 1;
+    let time = bit_of(set, "time");
     let fields = AirFields::new(type_code, status, flag, altitude, time)?;
     let parity = parity_of(set);
     let code = code_of(set)?;
@@ -222,11 +232,11 @@ fn airborne(set: Set<'_>) -> Option<Me> {
 
 // A surface position, of type code 7 unless the row says otherwise.
 fn surface(set: Set<'_>) -> Option<Me> {
-    let type_code = u8::try_from(value_of(set, "type-code", 7)).ok()?;
-    let movement = u8::try_from(value_of(set, "movement", 0)).ok()?;
-    let track_status = value_of(set, "track-status", 0) == 1;
-    let track = u8::try_from(value_of(set, "track", 0)).ok()?;
-    let time = value_of(set, "time", 0) == 1;
+    let type_code = byte_of(set, "type-code", 7)?;
+    let movement = byte_of(set, "movement", 0)?;
+    let track_status = bit_of(set, "track-status");
+    let track = byte_of(set, "track", 0)?;
+    let time = bit_of(set, "time");
     let fields = GroundFields::new(type_code, movement, track_status, track, time)?;
     let parity = parity_of(set);
     let code = code_of(set)?;
@@ -255,7 +265,7 @@ fn squitter(kind: &str, set: Set<'_>) -> Option<Squitter> {
         "surface" => surface(set)?,
         _ => other(set)?,
     };
-    let capability = u8::try_from(value_of(set, "capability", 0)).ok()?;
+    let capability = byte_of(set, "capability", 0)?;
     Squitter::new(capability, value_of(set, "address", 0), me)
 }
 

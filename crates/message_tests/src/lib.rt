@@ -13,8 +13,6 @@ mod layout;
 #[cfg(test)]
 mod moments;
 #[cfg(test)]
-mod place_faults;
-#[cfg(test)]
 mod places;
 #[cfg(test)]
 mod rows;

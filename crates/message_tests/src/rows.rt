@@ -6,35 +6,68 @@ use crate::samples::{
 use sq_message::{Angle, Frame, Parity, Position, Squitter, read_frame};
 use std::str::SplitWhitespace;
 
+fn hexadecimal(digits: &str) -> Option<u32> {
+    u32::from_str_radix(digits, 16).ok()
+}
+
+fn decimal(digits: &str) -> Option<u32> {
+    digits.parse::<u32>().ok()
+}
+
 // A number in decimal digits, or in hexadecimal ones after `0x`.
-pub fn number(word: &str) -> Option<u64> {
+pub fn number(word: &str) -> Option<u32> {
     match word.split_once("0x") {
-        Some((_, digits)) => u64::from_str_radix(digits, 16).ok(),
-        None => word.parse::<u64>().ok(),
+        Some((_, digits)) => hexadecimal(digits),
+        None => decimal(word),
     }
 }
 
+pub fn moment(word: &str) -> Option<u64> {
+    word.parse::<u64>().ok()
+}
+
 pub fn read_number(words: &mut SplitWhitespace<'_>) -> Option<u32> {
-    let number = number(words.next()?)?;
-    u32::try_from(number).ok()
+    let word = words.next()?;
+    number(word)
+}
+
+pub fn read_moment(words: &mut SplitWhitespace<'_>) -> Option<u64> {
+    let word = words.next()?;
+    moment(word)
+}
+
+fn numerator(digits: &str) -> Option<i64> {
+    digits.parse::<i64>().ok()
+}
+
+fn denominator(digits: &str) -> Option<u64> {
+    digits.parse::<u64>().ok()
 }
 
 // `num/den`, or a whole number.
 fn angle(word: &str) -> Option<Angle> {
     match word.split_once('/') {
         Some((num, den)) => {
-            let num = num.parse::<i64>().ok()?;
-            let den = den.parse::<u64>().ok()?;
+            let num = numerator(num)?;
+            let den = denominator(den)?;
             Angle::new(num, den)
         }
-        None => Angle::new(word.parse::<i64>().ok()?, 1),
+        None => {
+            let num = numerator(word)?;
+            Angle::new(num, 1)
+        }
     }
+}
+
+fn read_angle(words: &mut SplitWhitespace<'_>) -> Option<Angle> {
+    let word = words.next()?;
+    angle(word)
 }
 
 // A latitude and a longitude.
 pub fn read_position(words: &mut SplitWhitespace<'_>) -> Option<Position> {
-    let lat = angle(words.next()?)?;
-    let lon = angle(words.next()?)?;
+    let lat = read_angle(words)?;
+    let lon = read_angle(words)?;
     Position::new(lat, lon)
 }
 

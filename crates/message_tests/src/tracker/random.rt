@@ -60,8 +60,8 @@ fn near(squitter: &Squitter, fix: &Position) -> Option<Position> {
 
 // Whether a table, in which each address stands once, has this one.
 fn knows(table: &[(u32, u64)], address: u32) -> bool {
-    for (known, _) in table {
-        if *known == address {
+    for known in table {
+        if known.0 == address {
             return true;
         }
     }
@@ -257,12 +257,13 @@ impl Tally {
 
 // A step of time: often none or 1, and now and then about the window.
 fn some_step(dice: &mut Dice, window: u64) -> u64 {
-    match dice.roll(8) {
-        0 => window,
-        1 => window.saturating_add(1),
-        2 => window.saturating_add(2),
-        3..=4 => 0,
-        _ => 1,
+    let roll = dice.roll(8);
+    if roll < 3 {
+        window.saturating_add(u64::from(roll))
+    } else if roll < 5 {
+        0
+    } else {
+        1
     }
 }
 

@@ -1,6 +1,6 @@
 //! What a tracker answers, and runs of calls as texts: a call a line, as its moment, what is heard, what is answered, and
 //! where there is an arrow the table afterwards, each address with its moment.
-use crate::rows::{number, read_number, read_position, read_squitter, site};
+use crate::rows::{moment, number, read_moment, read_number, read_position, read_squitter, site};
 use sq_track::{Heard, Position, Squitter, TrackFault, Tracker};
 use std::alloc::Global;
 use std::process::Abort;
@@ -64,7 +64,7 @@ fn read_followed(words: &mut SplitWhitespace<'_>) -> Option<Told> {
 }
 
 fn read_moment_back(words: &mut SplitWhitespace<'_>) -> Option<Told> {
-    let last = number(words.next()?)?;
+    let last = read_moment(words)?;
     Some(Told::Refused(TrackFault::MomentBack(last)))
 }
 
@@ -98,17 +98,17 @@ fn is_told(told: Told, words: &mut SplitWhitespace<'_>) -> Option<bool> {
 // Whether the call of a row is answered as the row says. None where the row is no call.
 fn is_answered(tracker: &mut Tracker, row: &str) -> Option<bool> {
     let mut words = row.split_whitespace();
-    let moment = number(words.next()?)?;
+    let moment = read_moment(&mut words)?;
     let squitter = read_squitter(&mut words)?;
     is_told(hear(tracker, moment, &squitter), &mut words)
 }
 
 // An address and its moment.
 fn entry(text: &str) -> Option<(u32, u64)> {
-    let (address, moment) = text.split_once('@')?;
-    let address = u32::try_from(number(address)?).ok()?;
-    let moment = number(moment)?;
-    Some((address, moment))
+    let (address, last) = text.split_once('@')?;
+    let address = number(address)?;
+    let last = moment(last)?;
+    Some((address, last))
 }
 
 // Asserts that a tracker shows these addresses, each with its moment, and no other.
@@ -144,7 +144,7 @@ fn assert_row(rt: &impl Abort, tracker: &mut Tracker, row: &str) {
 fn limits(line: &str) -> Option<(u32, u64)> {
     let mut words = line.split_whitespace();
     let limit = read_number(&mut words)?;
-    let window = number(words.next()?)?;
+    let window = read_moment(&mut words)?;
     Some((limit, window))
 }
 
