@@ -157,6 +157,12 @@ fn refusal(text: &str) -> Option<AngleFault> {
     Angle::read(text).err()
 }
 
+fn assert_refused(rt: &impl Abort, texts: &[&str], fault: AngleFault) {
+    for text in texts {
+        assert!(rt; refusal(text) == Some(fault), "{text}");
+    }
+}
+
 const NOT_NUMBERS: [&str; 22] = [
     "",
     "-",
@@ -184,9 +190,7 @@ const NOT_NUMBERS: [&str; 22] = [
 
 #[test]
 fn refuses_what_is_no_number(rt: HostRuntime) {
-    for text in NOT_NUMBERS {
-        assert!(rt; refusal(text) == Some(AngleFault::NotANumber), "{text}");
-    }
+    assert_refused(&rt, &NOT_NUMBERS, AngleFault::NotANumber);
 }
 
 const TOO_MANY_DECIMALS: [&str; 4] = [
@@ -198,21 +202,14 @@ const TOO_MANY_DECIMALS: [&str; 4] = [
 
 #[test]
 fn refuses_too_many_decimals(rt: HostRuntime) {
-    for text in TOO_MANY_DECIMALS {
-        assert!(rt;
-            refusal(text) == Some(AngleFault::TooManyDecimals),
-            "{text}"
-        );
-    }
+    assert_refused(&rt, &TOO_MANY_DECIMALS, AngleFault::TooManyDecimals);
 }
 
 const OUT_OF_RANGE: [&str; 4] = ["360.1", "-360.000000000001", "999", "999.1234567890"];
 
 #[test]
 fn refuses_what_is_out_of_range(rt: HostRuntime) {
-    for text in OUT_OF_RANGE {
-        assert!(rt; refusal(text) == Some(AngleFault::OutOfRange), "{text}");
-    }
+    assert_refused(&rt, &OUT_OF_RANGE, AngleFault::OutOfRange);
 }
 
 #[test]
@@ -274,21 +271,25 @@ fn limits_positions(rt: HostRuntime) {
     assert_eq!(rt; position.lon().num(), -180);
 }
 
-// Whether two positions are equal. None where the call of the laws says otherwise than the operators.
-fn are_equal(a: &Position, b: &Position) -> Option<bool> {
-    let equal = equal_positions(a, b);
-    if (a == b) == equal && (a != b) != equal {
-        Some(equal)
-    } else {
-        None
-    }
+fn are_equal(a: &Position, b: &Position) -> bool {
+    a == b
+}
+
+fn are_unequal(a: &Position, b: &Position) -> bool {
+    a != b
+}
+
+fn are_equal_by_call(a: &Position, b: &Position) -> bool {
+    equal_positions(a, b)
 }
 
 // Asserts that two positions are equal, or that they are not.
 fn assert_equal(rt: &impl Abort, a: &str, b: &str, equal: bool) {
     let first = position_of(a).expect(rt, "a position");
     let second = position_of(b).expect(rt, "a position");
-    assert!(rt; are_equal(&first, &second) == Some(equal), "{a}, {b}");
+    assert!(rt; are_equal(&first, &second) == equal, "{a}, {b}");
+    assert!(rt; are_unequal(&first, &second) != equal, "{a}, {b}");
+    assert!(rt; are_equal_by_call(&first, &second) == equal, "{a}, {b}");
 }
 
 #[test]

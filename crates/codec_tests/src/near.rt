@@ -35,20 +35,20 @@ const WORKED_DECIMALS: &str = "\
 38470 117431 2 -90 1.9402542 -90.1587548
 32636 15725 -25 65 -25.1265106 65.1999537";
 
+// Whether the position of a row is shown as the row says. None where the row is not these.
+fn is_shown(row: &str) -> Option<bool> {
+    let mut words = row.split_whitespace();
+    let near = position_near(&mut words)?;
+    let lat = words.next()?;
+    let lon = words.next()?;
+    Some(near.lat().decimal7().as_str() == lat && near.lon().decimal7().as_str() == lon)
+}
+
 #[test]
 fn worked_decimals(rt: HostRuntime) {
     assert_eq!(rt; WORKED_DECIMALS.lines().count(), 2);
     for row in WORKED_DECIMALS.lines() {
-        let mut words = row.split_whitespace();
-        let near = position_near(&mut words).expect(&rt, "a near point");
-        assert!(rt;
-            Some(near.lat().decimal7().as_str()) == words.next(),
-            "{row}"
-        );
-        assert!(rt;
-            Some(near.lon().decimal7().as_str()) == words.next(),
-            "{row}"
-        );
+        assert!(rt; is_shown(row) == Some(true), "{row}");
     }
 }
 
