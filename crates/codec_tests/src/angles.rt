@@ -1,7 +1,9 @@
 //! Worked angles: limits, values, texts read and written, positions.
+use crate::rows::{read_angle, read_fraction, read_position};
 use arrayvec::ArrayString;
 use sq_angle::laws::{equal_angles, equal_positions, is_below};
 use sq_angle::{Angle, AngleFault, Position, push_digit, push_pair, quotient};
+use std::process::Abort;
 
 #[test]
 fn limits(rt: HostRuntime) {
@@ -31,33 +33,80 @@ fn parts_as_given(rt: HostRuntime) {
     assert_eq!(rt; angle.den(), 100);
 }
 
+// How an angle stands to another, by the operators.
+fn order(a: &Angle, b: &Angle) -> &'static str {
+    if a == b {
+        "equals"
+    } else if a < b {
+        "below"
+    } else {
+        "above"
+    }
+}
+
+// The same by the calls of the laws.
+fn order_by_calls(a: &Angle, b: &Angle) -> &'static str {
+    if equal_angles(a, b) {
+        "equals"
+    } else if is_below(a, b) {
+        "below"
+    } else {
+        "above"
+    }
+}
+
+// Two angles, and how the first stands to the second.
+const ORDERED: &str = "\
+1/2 equals 2/4
+2/4 equals 1/2
+1/2 below 500000000001/1000000000000
+1/2 above -50/100
+-50/100 below 2/4
+1/2 above 0
+0 below 1/2";
+
+// The two angles of a row, and the word between them.
+fn ordered(row: &str) -> Option<(Angle, &str, Angle)> {
+    let mut words = row.split_whitespace();
+    let first = read_angle(&mut words)?;
+    let order = words.next()?;
+    let second = read_angle(&mut words)?;
+    Some((first, order, second))
+}
+
 #[test]
 fn equal_and_ordered_by_value(rt: HostRuntime) {
-    let half = Angle::new(1, 2).expect(&rt, "an angle");
-    let quarters = Angle::new(2, 4).expect(&rt, "an angle");
-    let west = Angle::new(-50, 100).expect(&rt, "an angle");
-    let more = Angle::new(500_000_000_001, 1_000_000_000_000).expect(&rt, "an angle");
-    assert!(rt; half == quarters);
-    assert!(rt; half != more);
-    assert!(rt; half != west);
-    assert!(rt; half < more);
-    assert!(rt; west < quarters);
-    assert!(rt; !(quarters < half));
+    assert_eq!(rt; ORDERED.lines().count(), 7);
+    for row in ORDERED.lines() {
+        let (first, expected, second) = ordered(row).expect(&rt, "two angles");
+        assert!(rt; order(&first, &second) == expected, "{row}");
+        assert!(rt; order_by_calls(&first, &second) == expected, "{row}");
+        assert!(rt; (first != second) == (expected != "equals"), "{row}");
+    }
+}
+
+// A fraction, and its lowest terms.
+const LOWEST_TERMS: &str = "\
+1/2 1/2
+2/4 1/2
+-50/100 -1/2
+0/7 0/1
+360000000000000/1000000000000 360/1
+-21060000/1966080 -43875/4096";
+
+// Whether a row's second fraction is the first one in lowest terms. None where the row is not these.
+fn is_reduced(row: &str) -> Option<bool> {
+    let mut words = row.split_whitespace();
+    let angle = read_angle(&mut words)?;
+    let lowest = read_fraction(&mut words)?;
+    Some(angle.reduced() == lowest)
 }
 
 #[test]
 fn lowest_terms(rt: HostRuntime) {
-    let rows = [
-        (1, 2, 1, 2),
-        (2, 4, 1, 2),
-        (-50, 100, -1, 2),
-        (0, 7, 0, 1),
-        (360_000_000_000_000, 1_000_000_000_000, 360, 1),
-        (-21_060_000, 1_966_080, -43_875, 4_096),
-    ];
-    for (num, den, lowest_num, lowest_den) in rows {
-        let angle = Angle::new(num, den).expect(&rt, "an angle");
-        assert_eq!(rt; angle.reduced(), (lowest_num, lowest_den), "{num} / {den}");
+    assert_eq!(rt; LOWEST_TERMS.lines().count(), 6);
+    for row in LOWEST_TERMS.lines() {
+        assert!(rt; is_reduced(row) == Some(true), "{row}");
     }
 }
 
@@ -78,6 +127,12 @@ fn within(rt: HostRuntime) {
     }
 }
 
+// The numerator and the denominator that are read from a text.
+fn parts_of(text: &str) -> Option<(i64, u64)> {
+    let angle = Angle::read(text).ok()?;
+    Some((angle.num(), angle.den()))
+}
+
 #[test]
 fn reads(rt: HostRuntime) {
     let rows = [
@@ -93,61 +148,68 @@ fn reads(rt: HostRuntime) {
         ("0.000000000001", 1, 1_000_000_000_000),
     ];
     for (text, num, den) in rows {
-        let Ok(angle) = Angle::read(text) else {
-            panic!(rt; "{text} is an angle");
-        };
-        assert_eq!(rt; (angle.num(), angle.den()), (num, den), "{text}");
+        assert!(rt; parts_of(text) == Some((num, den)), "{text}");
     }
 }
 
-// Texts that are no angle.
-const REFUSED: [(&str, AngleFault); 30] = [
-    ("", AngleFault::NotANumber),
-    ("-", AngleFault::NotANumber),
-    ("+1", AngleFault::NotANumber),
-    ("--1", AngleFault::NotANumber),
-    ("1-", AngleFault::NotANumber),
-    ("1.", AngleFault::NotANumber),
-    (".5", AngleFault::NotANumber),
-    ("-.5", AngleFault::NotANumber),
-    (".", AngleFault::NotANumber),
-    ("1.2.3", AngleFault::NotANumber),
-    ("1.2.", AngleFault::NotANumber),
-    ("1.-5", AngleFault::NotANumber),
-    ("1.+5", AngleFault::NotANumber),
-    ("1,5", AngleFault::NotANumber),
-    ("1e2", AngleFault::NotANumber),
-    (" 1", AngleFault::NotANumber),
-    ("1\n", AngleFault::NotANumber),
-    ("٣", AngleFault::NotANumber),
-    ("1234", AngleFault::NotANumber),
-    ("1234.1234567890", AngleFault::NotANumber),
-    (
-        "11111111111111111111111111111111111111111111111111111111111111111",
-        AngleFault::NotANumber,
-    ),
-    (
-        "1.1111111111111111111111111111111111111111111111111111111111111x",
-        AngleFault::NotANumber,
-    ),
-    (
-        "1.1111111111111111111111111111111111111111111111111111111111111",
-        AngleFault::TooManyDecimals,
-    ),
-    ("0.1234567890123", AngleFault::TooManyDecimals),
-    ("999.1234567890123", AngleFault::TooManyDecimals),
-    ("0.0000000000000", AngleFault::TooManyDecimals),
-    ("360.1", AngleFault::OutOfRange),
-    ("-360.000000000001", AngleFault::OutOfRange),
-    ("999", AngleFault::OutOfRange),
-    ("999.1234567890", AngleFault::OutOfRange),
+// Why a text is refused.
+fn refusal(text: &str) -> Option<AngleFault> {
+    Angle::read(text).err()
+}
+
+fn assert_refused(rt: &impl Abort, texts: &[&str], fault: AngleFault) {
+    for text in texts {
+        assert!(rt; refusal(text) == Some(fault), "{text}");
+    }
+}
+
+const NOT_NUMBERS: [&str; 22] = [
+    "",
+    "-",
+    "+1",
+    "--1",
+    "1-",
+    "1.",
+    ".5",
+    "-.5",
+    ".",
+    "1.2.3",
+    "1.2.",
+    "1.-5",
+    "1.+5",
+    "1,5",
+    "1e2",
+    " 1",
+    "1\n",
+    "٣",
+    "1234",
+    "1234.1234567890",
+    "11111111111111111111111111111111111111111111111111111111111111111",
+    "1.1111111111111111111111111111111111111111111111111111111111111x",
 ];
 
 #[test]
-fn refuses(rt: HostRuntime) {
-    for (text, fault) in REFUSED {
-        assert!(rt; Angle::read(text) == Err(fault), "{text}");
-    }
+fn refuses_what_is_no_number(rt: HostRuntime) {
+    assert_refused(&rt, &NOT_NUMBERS, AngleFault::NotANumber);
+}
+
+const TOO_MANY_DECIMALS: [&str; 4] = [
+    "1.1111111111111111111111111111111111111111111111111111111111111",
+    "0.1234567890123",
+    "999.1234567890123",
+    "0.0000000000000",
+];
+
+#[test]
+fn refuses_too_many_decimals(rt: HostRuntime) {
+    assert_refused(&rt, &TOO_MANY_DECIMALS, AngleFault::TooManyDecimals);
+}
+
+const OUT_OF_RANGE: [&str; 4] = ["360.1", "-360.000000000001", "999", "999.1234567890"];
+
+#[test]
+fn refuses_what_is_out_of_range(rt: HostRuntime) {
+    assert_refused(&rt, &OUT_OF_RANGE, AngleFault::OutOfRange);
 }
 
 #[test]
@@ -163,59 +225,80 @@ fn tells_faults(rt: HostRuntime) {
     }
 }
 
+// A fraction, and its text of seven decimals.
+const SEVEN_DECIMALS: &str = "\
+-50/100 -0.5000000
+0/1 0.0000000
+1/20000000 0.0000001
+-1/20000000 -0.0000001
+3/20000000 0.0000002
+5/20000000 0.0000003
+-5/20000000 -0.0000003
+-1/100000000 0.0000000
+49999/1000000000000 0.0000000
+5/100000000 0.0000001
+25261515/483328 52.2657802
+225873/57344 3.9389125
+-360/1 -360.0000000
+99999999999999/1000000000000 100.0000000";
+
+fn is_written(row: &str) -> Option<bool> {
+    let mut words = row.split_whitespace();
+    let angle = read_angle(&mut words)?;
+    let text = words.next()?;
+    Some(angle.decimal7().as_str() == text)
+}
+
 #[test]
 fn seven_decimals(rt: HostRuntime) {
-    let rows = [
-        (-50, 100, "-0.5000000"),
-        (0, 1, "0.0000000"),
-        (1, 20_000_000, "0.0000001"),
-        (-1, 20_000_000, "-0.0000001"),
-        (3, 20_000_000, "0.0000002"),
-        (5, 20_000_000, "0.0000003"),
-        (-5, 20_000_000, "-0.0000003"),
-        (-1, 100_000_000, "0.0000000"),
-        (49_999, 1_000_000_000_000, "0.0000000"),
-        (5, 100_000_000, "0.0000001"),
-        (25_261_515, 483_328, "52.2657802"),
-        (225_873, 57_344, "3.9389125"),
-        (-360, 1, "-360.0000000"),
-        (99_999_999_999_999, 1_000_000_000_000, "100.0000000"),
-    ];
-    for (num, den, text) in rows {
-        let angle = Angle::new(num, den).expect(&rt, "an angle");
-        assert!(rt; angle.decimal7().as_str() == text, "{num} / {den}");
+    assert_eq!(rt; SEVEN_DECIMALS.lines().count(), 14);
+    for row in SEVEN_DECIMALS.lines() {
+        assert!(rt; is_written(row) == Some(true), "{row}");
     }
 }
 
-#[test]
-fn positions(rt: HostRuntime) {
-    let pole = Angle::new(90, 1).expect(&rt, "an angle");
-    let over = Angle::new(90_000_000_001, 1_000_000_000).expect(&rt, "an angle");
-    let west = Angle::new(-180, 1).expect(&rt, "an angle");
-    let west_in_halves = Angle::new(-360, 2).expect(&rt, "an angle");
-    let further = Angle::new(-180_000_000_001, 1_000_000_000).expect(&rt, "an angle");
-    assert!(rt; Position::new(over, west).is_none());
-    assert!(rt; Position::new(pole, further).is_none());
-    let position = Position::new(pole, west).expect(&rt, "a position");
-    assert_eq!(rt; position.lat().num(), 90);
-    assert_eq!(rt; position.lon().num(), -180);
-    assert!(rt; Position::new(pole, west_in_halves) == Some(position));
-    assert!(rt; Position::new(pole, pole) != Some(position));
+// The position of a latitude and a longitude, each a numerator over a denominator. None where they are none.
+fn position_of(text: &str) -> Option<Position> {
+    read_position(&mut text.split_whitespace())
 }
 
 #[test]
-fn calls_of_equality_and_order(rt: HostRuntime) {
-    let zero = Angle::new(0, 1).expect(&rt, "an angle");
-    let half = Angle::new(1, 2).expect(&rt, "an angle");
-    let quarters = Angle::new(2, 4).expect(&rt, "an angle");
-    assert!(rt; equal_angles(&half, &quarters) && !equal_angles(&half, &zero));
-    assert!(rt; is_below(&zero, &half) && !is_below(&half, &zero) && !is_below(&half, &quarters));
-    let here = Position::new(zero, half).expect(&rt, "a position");
-    let same = Position::new(zero, quarters).expect(&rt, "a position");
-    let north = Position::new(half, half).expect(&rt, "a position");
-    let west = Position::new(zero, zero).expect(&rt, "a position");
-    assert!(rt; equal_positions(&here, &same));
-    assert!(rt; !equal_positions(&here, &north) && !equal_positions(&here, &west));
+fn limits_positions(rt: HostRuntime) {
+    assert!(rt; position_of("90000000001/1000000000 -180").is_none());
+    assert!(rt; position_of("90 -180000000001/1000000000").is_none());
+    let position = position_of("90 -180").expect(&rt, "a position");
+    assert_eq!(rt; position.lat().num(), 90);
+    assert_eq!(rt; position.lon().num(), -180);
+}
+
+fn are_equal(a: &Position, b: &Position) -> bool {
+    a == b
+}
+
+fn are_unequal(a: &Position, b: &Position) -> bool {
+    a != b
+}
+
+fn are_equal_by_call(a: &Position, b: &Position) -> bool {
+    equal_positions(a, b)
+}
+
+// Asserts that two positions are equal, or that they are not.
+fn assert_equal(rt: &impl Abort, a: &str, b: &str, equal: bool) {
+    let first = position_of(a).expect(rt, "a position");
+    let second = position_of(b).expect(rt, "a position");
+    assert!(rt; are_equal(&first, &second) == equal, "{a}, {b}");
+    assert!(rt; are_unequal(&first, &second) != equal, "{a}, {b}");
+    assert!(rt; are_equal_by_call(&first, &second) == equal, "{a}, {b}");
+}
+
+#[test]
+fn equal_positions_by_value(rt: HostRuntime) {
+    assert_equal(&rt, "90 -360/2", "90 -180", true);
+    assert_equal(&rt, "90 90", "90 -180", false);
+    assert_equal(&rt, "0 1/2", "0 2/4", true);
+    assert_equal(&rt, "0 1/2", "1/2 1/2", false);
+    assert_equal(&rt, "0 1/2", "0 0", false);
 }
 
 #[test]

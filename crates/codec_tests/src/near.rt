@@ -1,47 +1,54 @@
 //! Worked codes decoded near a reference: exact places, at whole degrees, zone borders, poles and 180 degrees.
-use crate::rows::{assert_near, position};
+use crate::rows::{assert_near, position, read_code, read_position};
 use sq_cpr::Parity::Even;
-use sq_cpr::{Air, Code, GridPoint, Ground, Position, local};
+use sq_cpr::{Air, Code, Ground, Position, local};
+use std::str::SplitWhitespace;
 
-// The point of the even code (0, 65536) near a reference.
-fn point_near(lat: (i64, u64), lon: (i64, u64)) -> Option<GridPoint<Air>> {
+// The indices of the point of the even code (0, 65536) near a reference, with its zones between them.
+fn indices_near(lat: (i64, u64), lon: (i64, u64)) -> Option<(i32, u8, u32)> {
     let code = Code::new(0, 65_536)?;
     let reference = position(lat, lon)?;
-    local::<Air>(code, Even, &reference).ok()
+    let near = local::<Air>(code, Even, &reference).ok()?;
+    if near.parity() == Even {
+        Some((near.lat_index(), near.zones(), near.lon_index()))
+    } else {
+        None
+    }
 }
 
 #[test]
 fn worked_parts(rt: HostRuntime) {
-    let near = point_near((10, 1), (100, 1)).expect(&rt, "a near point");
-    assert_eq!(rt; near.parity(), Even);
-    assert_eq!(rt; near.lat_index(), 262_144);
-    assert_eq!(rt; near.zones(), 58);
-    assert_eq!(rt; near.lon_index(), 2_162_688);
-    let west = point_near((0, 1), (359, 2)).expect(&rt, "a near point");
-    assert_eq!(rt; west.lat_index(), 0);
-    assert_eq!(rt; west.zones(), 59);
-    assert_eq!(rt; west.lon_index(), 3_866_624);
+    assert!(rt; indices_near((10, 1), (100, 1)) == Some((262_144, 58, 2_162_688)));
+    assert!(rt; indices_near((0, 1), (359, 2)) == Some((0, 59, 3_866_624)));
 }
 
 // The position on the ground of an even code near whole degrees.
-fn position_near(numbers: (u32, u32), lat: i64, lon: i64) -> Option<Position> {
-    let code = Code::new(numbers.0, numbers.1)?;
-    let reference = position((lat, 1), (lon, 1))?;
+fn position_near(words: &mut SplitWhitespace<'_>) -> Option<Position> {
+    let code = read_code(words)?;
+    let reference = read_position(words)?;
     let point = local::<Ground>(code, Even, &reference).ok()?;
     Some(point.position())
 }
 
-// On the ground, at whole degrees, as they are shown.
+// On the ground, at whole degrees, as they are shown: a code, the reference, and the position.
+const WORKED_DECIMALS: &str = "\
+38470 117431 2 -90 1.9402542 -90.1587548
+32636 15725 -25 65 -25.1265106 65.1999537";
+
+// Whether the position of a row is shown as the row says. None where the row is not these.
+fn is_shown(row: &str) -> Option<bool> {
+    let mut words = row.split_whitespace();
+    let near = position_near(&mut words)?;
+    let lat = words.next()?;
+    let lon = words.next()?;
+    Some(near.lat().decimal7().as_str() == lat && near.lon().decimal7().as_str() == lon)
+}
+
 #[test]
 fn worked_decimals(rt: HostRuntime) {
-    let rows = [
-        ((38_470, 117_431), 2, -90, "1.9402542", "-90.1587548"),
-        ((32_636, 15_725), -25, 65, "-25.1265106", "65.1999537"),
-    ];
-    for (numbers, lat, lon, lat_text, lon_text) in rows {
-        let near = position_near(numbers, lat, lon).expect(&rt, "a near point");
-        assert!(rt; near.lat().decimal7().as_str() == lat_text, "{lat_text}");
-        assert!(rt; near.lon().decimal7().as_str() == lon_text, "{lon_text}");
+    assert_eq!(rt; WORKED_DECIMALS.lines().count(), 2);
+    for row in WORKED_DECIMALS.lines() {
+        assert!(rt; is_shown(row) == Some(true), "{row}");
     }
 }
 

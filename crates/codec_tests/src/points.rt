@@ -135,6 +135,10 @@ fn encodes_worked_positions(rt: HostRuntime) {
     assert!(rt; Some(encode::<Ground>(&ground, Parity::Even)) == Code::new(109_856, 74_416));
 }
 
+fn is_point<S: Span>(lat_index: i32, lon_index: u32) -> bool {
+    GridPoint::<S>::new(Parity::Even, lat_index, lon_index).is_some()
+}
+
 #[test]
 fn makes_points_within_the_limits_of_their_grid(rt: HostRuntime) {
     let rows = [
@@ -146,12 +150,18 @@ fn makes_points_within_the_limits_of_their_grid(rt: HostRuntime) {
         (0, 7_733_247, true),
         (0, 7_733_248, false),
     ];
-    for (lat_index, lon_index, is_point) in rows {
-        let point = GridPoint::<Air>::new(Parity::Even, lat_index, lon_index);
-        assert_eq!(rt; point.is_some(), is_point, "{lat_index} {lon_index}");
+    for (lat_index, lon_index, expected) in rows {
+        assert!(rt;
+            is_point::<Air>(lat_index, lon_index) == expected,
+            "{lat_index} {lon_index}"
+        );
     }
-    assert!(rt; GridPoint::<Ground>::new(Parity::Even, 0, 30_932_991).is_some());
-    assert!(rt; GridPoint::<Ground>::new(Parity::Even, 0, 30_932_992).is_none());
+    assert!(rt; is_point::<Ground>(0, 30_932_991));
+    assert!(rt; !is_point::<Ground>(0, 30_932_992));
+}
+
+#[test]
+fn the_last_point_of_a_latitude_has_a_position(rt: HostRuntime) {
     let last = GridPoint::<Air>::new(Parity::Even, 0, 7_733_247).expect(&rt, "a point");
     assert!(rt; Some(last.position().lon()) == Angle::new(-45, 966_656));
     assert!(rt; last.position().lat() == Angle::new(0, 1).expect(&rt, "an angle"));

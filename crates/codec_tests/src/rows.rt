@@ -5,7 +5,7 @@ use std::process::Abort;
 use std::str::SplitWhitespace;
 
 // A fraction in lowest terms.
-type Fraction = (i64, u64);
+pub type Fraction = (i64, u64);
 
 // What two codes, or a code near a reference, are decoded to.
 #[derive(Clone, Copy, PartialEq, Eq)]
@@ -23,23 +23,53 @@ pub fn position(lat: Fraction, lon: Fraction) -> Option<Position> {
     Position::new(lat, lon)
 }
 
+fn numerator(digits: &str) -> Option<i64> {
+    digits.parse::<i64>().ok()
+}
+
+fn denominator(digits: &str) -> Option<u64> {
+    digits.parse::<u64>().ok()
+}
+
 // `num/den`, or a whole number.
 fn fraction(word: &str) -> Option<Fraction> {
     match word.split_once('/') {
-        Some((num, den)) => Some((num.parse::<i64>().ok()?, den.parse::<u64>().ok()?)),
-        None => Some((word.parse::<i64>().ok()?, 1)),
+        Some((num, den)) => {
+            let num = numerator(num)?;
+            let den = denominator(den)?;
+            Some((num, den))
+        }
+        None => {
+            let num = numerator(word)?;
+            Some((num, 1))
+        }
     }
 }
 
-fn read_position(words: &mut SplitWhitespace<'_>) -> Option<Position> {
-    let lat = fraction(words.next()?)?;
-    let lon = fraction(words.next()?)?;
-    position(lat, lon)
+pub fn read_fraction(words: &mut SplitWhitespace<'_>) -> Option<Fraction> {
+    let word = words.next()?;
+    fraction(word)
 }
 
-fn read_code(words: &mut SplitWhitespace<'_>) -> Option<Code> {
-    let lat = words.next()?.parse::<u32>().ok()?;
-    let lon = words.next()?.parse::<u32>().ok()?;
+pub fn read_angle(words: &mut SplitWhitespace<'_>) -> Option<Angle> {
+    let (num, den) = read_fraction(words)?;
+    Angle::new(num, den)
+}
+
+pub fn read_position(words: &mut SplitWhitespace<'_>) -> Option<Position> {
+    let lat = read_angle(words)?;
+    let lon = read_angle(words)?;
+    Position::new(lat, lon)
+}
+
+fn read_number(words: &mut SplitWhitespace<'_>) -> Option<u32> {
+    let word = words.next()?;
+    word.parse::<u32>().ok()
+}
+
+pub fn read_code(words: &mut SplitWhitespace<'_>) -> Option<Code> {
+    let lat = read_number(words)?;
+    let lon = read_number(words)?;
     Code::new(lat, lon)
 }
 
@@ -51,16 +81,22 @@ fn read_parity(words: &mut SplitWhitespace<'_>) -> Option<Parity> {
     }
 }
 
+fn read_zone_counts(words: &mut SplitWhitespace<'_>) -> Option<Decoded> {
+    let even = words.next()?.parse::<u8>().ok()?;
+    let odd = words.next()?.parse::<u8>().ok()?;
+    Some(Decoded::ZoneCounts(even, odd))
+}
+
 fn read_decoded(text: &str) -> Option<Decoded> {
     let mut words = text.split_whitespace();
     match words.next()? {
         "out" => Some(Decoded::OutOfRange),
-        "zones" => {
-            let even = words.next()?.parse::<u8>().ok()?;
-            let odd = words.next()?.parse::<u8>().ok()?;
-            Some(Decoded::ZoneCounts(even, odd))
+        "zones" => read_zone_counts(&mut words),
+        lat => {
+            let lat = fraction(lat)?;
+            let lon = read_fraction(&mut words)?;
+            Some(Decoded::Place(lat, lon))
         }
-        lat => Some(Decoded::Place(fraction(lat)?, fraction(words.next()?)?)),
     }
 }
 

@@ -1,5 +1,6 @@
 //! Worked zone counts, at and beside each limit, and the lanes against a plain loop.
 use sq_zones::{Angle, Parity, lon_zones, zone_count};
+use std::process::Abort;
 
 // The 58 limits in units of 10^-8 degree, each with the zone count up to and including it, apart from the table of the
 // code.
@@ -71,28 +72,37 @@ fn limit_of(line: &str) -> Option<(i64, u8)> {
     Some((limit, zones))
 }
 
+// The zone count of a latitude. None where the angle is none.
+fn count_of(lat: &Angle) -> Option<u8> {
+    if lat.is_within(90) {
+        Some(zone_count(lat))
+    } else {
+        None
+    }
+}
+
 // The zone count of `num / den` degrees. None where that is no latitude.
 fn count_at(num: i64, den: u64) -> Option<u8> {
     let lat = Angle::new(num, den)?;
-    if !lat.is_within(90) {
-        return None;
-    }
-    Some(zone_count(&lat))
+    count_of(&lat)
 }
 
-// The same by a plain loop: 1, and one more for each of the 58 limits that the latitude does not pass.
-fn count_by_loop(num: i64, den: u64) -> usize {
+// Whether `num / den` degrees do not pass the limit of a line.
+fn is_at_most(num: i64, den: u64, line: &str) -> Option<bool> {
+    let (limit, _) = limit_of(line)?;
     let scaled = u128::from(num.unsigned_abs()) * 100_000_000;
-    LIMITS
-        .lines()
-        .filter_map(limit_of)
-        .filter(|(limit, _)| is_at_most(scaled, *limit, den))
-        .count()
-        .saturating_add(1)
+    Some(scaled <= u128::from(limit.unsigned_abs()) * u128::from(den))
 }
 
-fn is_at_most(scaled: u128, limit: i64, den: u64) -> bool {
-    scaled <= u128::from(limit.unsigned_abs()) * u128::from(den)
+// The zone count by a plain loop: 1, and one more for each of the 58 limits that the latitude does not pass.
+fn count_by_loop(num: i64, den: u64) -> u8 {
+    let mut zones = 1_u8;
+    for line in LIMITS.lines() {
+        if is_at_most(num, den, line) == Some(true) {
+            zones = zones.saturating_add(1);
+        }
+    }
+    zones
 }
 
 #[test]
@@ -137,33 +147,51 @@ fn parity_indices(rt: HostRuntime) {
     assert_eq!(rt; Parity::Odd.index(), 1);
 }
 
-// Both latitudes beside a limit, which is a whole number of `1 / den` degrees, north and south.
-#[test]
-fn at_and_past_each_limit(rt: HostRuntime) {
-    assert_eq!(rt; LIMITS.lines().filter_map(limit_of).count(), 58);
-    for (limit, zones) in LIMITS.lines().filter_map(limit_of) {
-        for (den, scale) in [
-            (100_000_000, 1),
-            (1_000_000_000, 10),
-            (1_000_000_000_000, 10_000),
-        ] {
-            let at = limit.checked_mul(scale).expect(&rt, "a limit");
-            let past = at.checked_add(1).expect(&rt, "past a limit");
-            let before = at.checked_sub(1).expect(&rt, "before a limit");
-            let south = at.checked_neg().expect(&rt, "a limit in the south");
-            let past_south = past.checked_neg().expect(&rt, "past a limit in the south");
-            assert_eq!(rt; count_at(before, den), Some(zones), "{before} / {den}");
-            assert_eq!(rt; count_at(at, den), Some(zones), "{at} / {den}");
-            assert_eq!(rt; count_at(south, den), Some(zones), "{south} / {den}");
-            assert_eq!(rt; count_at(past, den), zones.checked_sub(1), "{past} / {den}");
-            let fewer = zones.checked_sub(1);
-            assert_eq!(rt; count_at(past_south, den), fewer, "{past_south} / {den}");
-        }
-    }
+// Asserts the zone counts beside a limit, which is `limit * scale / den` degrees, north and south.
+fn assert_limit(rt: &impl Abort, line: &str, den: u64, scale: i64) {
+    let (limit, zones) = limit_of(line).expect(rt, "a limit");
+    let at = limit.saturating_mul(scale);
+    let past = at.saturating_add(1);
+    let fewer = zones.checked_sub(1);
+    assert!(rt;
+        count_at(at.saturating_sub(1), den) == Some(zones),
+        "before {line} by {den}"
+    );
+    assert!(rt; count_at(at, den) == Some(zones), "{line} by {den}");
+    assert!(rt;
+        count_at(at.saturating_neg(), den) == Some(zones),
+        "south, {line} by {den}"
+    );
+    assert!(rt; count_at(past, den) == fewer, "past {line} by {den}");
+    assert!(rt;
+        count_at(past.saturating_neg(), den) == fewer,
+        "south, past {line} by {den}"
+    );
 }
 
 #[test]
-fn lanes_as_the_loop(rt: HostRuntime) {
+fn at_and_past_each_limit(rt: HostRuntime) {
+    assert_eq!(rt; LIMITS.lines().count(), 58);
+    for line in LIMITS.lines() {
+        assert_limit(&rt, line, 100_000_000, 1);
+        assert_limit(&rt, line, 1_000_000_000, 10);
+        assert_limit(&rt, line, 1_000_000_000_000, 10_000);
+    }
+}
+
+// Asserts the lanes against the loop at so many tenths of a degree, as a fraction of this denominator.
+fn assert_tenths(rt: &impl Abort, tenths: u64, den: u64) {
+    let num = i64::try_from(tenths.saturating_mul(den / 10)).expect(rt, "a latitude");
+    let zones = Some(count_by_loop(num, den));
+    assert!(rt; count_at(num, den) == zones, "{num} / {den}");
+    assert!(rt;
+        count_at(num.saturating_neg(), den) == zones,
+        "south, {num} / {den}"
+    );
+}
+
+// The same with denominators of few and of many digits.
+fn assert_lanes(rt: &impl Abort, tenths: u64) {
     let dens = [
         10,
         70,
@@ -173,13 +201,14 @@ fn lanes_as_the_loop(rt: HostRuntime) {
         999_999_999_990,
         1_000_000_000_000,
     ];
+    for den in dens {
+        assert_tenths(rt, tenths, den);
+    }
+}
+
+#[test]
+fn lanes_as_the_loop(rt: HostRuntime) {
     for tenths in 0..901u64 {
-        for den in dens {
-            let num = i64::try_from(tenths.saturating_mul(den / 10)).expect(&rt, "a latitude");
-            let south = num.checked_neg().expect(&rt, "a latitude in the south");
-            let zones = u8::try_from(count_by_loop(num, den)).expect(&rt, "a zone count");
-            assert_eq!(rt; count_at(num, den), Some(zones), "{num} / {den}");
-            assert_eq!(rt; count_at(south, den), Some(zones), "{south} / {den}");
-        }
+        assert_lanes(&rt, tenths);
     }
 }

@@ -1,13 +1,15 @@
-//! Faults of the crates below show themselves as they are reported.
+//! Texts of faults: as they are pushed, and as the faults of the crates below show themselves.
 use arrayvec::ArrayString;
 use sq_cpr::{LocalFault, PairFault};
 use sq_text::{FrameFault, LineFault, PlaceFault, TextFault, push_fault, push_place_fault};
-use std::alloc::Global;
 use std::fmt;
+use std::fmt::Write;
 
 // What a fault's Display writes.
-fn shown(alloc: Global, fault: impl fmt::Display + Drop) -> String {
-    format!(in alloc; "{fault}").unwrap_or(String::new(alloc))
+fn shown(fault: impl fmt::Display + Drop) -> ArrayString<32> {
+    let mut text = ArrayString::new();
+    write!(text, "{fault}").unwrap_or(());
+    text
 }
 
 fn line_text(fault: LineFault) -> ArrayString<32> {
@@ -22,47 +24,70 @@ fn place_text(fault: PlaceFault) -> ArrayString<32> {
     text
 }
 
+// Whether this text of a fault is pushed, and is what its Display writes.
+fn is_line_text(fault: LineFault, text: &str) -> bool {
+    line_text(fault).as_str() == text && shown(fault).as_str() == text
+}
+
+fn is_place_text(fault: PlaceFault, text: &str) -> bool {
+    place_text(fault).as_str() == text && shown(fault).as_str() == text
+}
+
+const LINE_FAULTS: [(LineFault, &str); 11] = [
+    (LineFault::LongLine, "long line"),
+    (LineFault::Moment, "bad moment"),
+    (LineFault::Wrap, "bad wrapping"),
+    (LineFault::Short, "short frame"),
+    (LineFault::Length(64), "bad length 64"),
+    (LineFault::Digit(28), "bad digit 28"),
+    (LineFault::NotDf17(18), "not DF17 18"),
+    (LineFault::Parity(1), "parity 000001"),
+    (LineFault::Parity(0xFFF409), "parity FFF409"),
+    (
+        LineFault::MomentBack(u64::MAX),
+        "moment back 18446744073709551615",
+    ),
+    (LineFault::Full, "table full"),
+];
+
 #[test]
-fn shows_faults_of_lines(rt: HostRuntime) {
-    let rows = [
-        (LineFault::LongLine, "long line"),
-        (LineFault::Moment, "bad moment"),
-        (LineFault::Digit(28), "bad digit 28"),
-        (LineFault::Parity(1), "parity 000001"),
-        (
-            LineFault::MomentBack(18_446_744_073_709_551_615),
-            "moment back 18446744073709551615",
-        ),
-    ];
-    for (fault, text) in rows {
-        assert!(rt; shown(rt.alloc(), fault).as_str() == text, "{text}");
+fn tells_faults_of_lines(rt: HostRuntime) {
+    for (fault, text) in LINE_FAULTS {
+        assert!(rt; is_line_text(fault, text), "{text}");
     }
-    assert!(rt; shown(rt.alloc(), TextFault::Length(29)).as_str() == "bad length 29");
+}
+
+const PLACE_FAULTS: [(PlaceFault, &str); 9] = [
+    (PlaceFault::NotPosition, "not a position"),
+    (PlaceFault::OtherAddress, "other address"),
+    (PlaceFault::OtherKind, "other kind"),
+    (PlaceFault::SameParity, "same parity"),
+    (PlaceFault::NoSite, "no site"),
+    (PlaceFault::OutOfRange, "latitude out of range"),
+    (PlaceFault::ZoneCounts(58, 59), "zone counts 58 59"),
+    (PlaceFault::ZoneCounts(2, 1), "zone counts 2 1"),
+    (PlaceFault::ZoneCounts(2, 59), "zone counts 2 59"),
+];
+
+#[test]
+fn tells_faults_of_places(rt: HostRuntime) {
+    for (fault, text) in PLACE_FAULTS {
+        assert!(rt; is_place_text(fault, text), "{text}");
+    }
 }
 
 #[test]
-fn shows_faults_of_frames_and_places(rt: HostRuntime) {
+fn shows_faults_of_frames_as_those_of_lines(rt: HostRuntime) {
+    assert!(rt; shown(TextFault::Length(29)).as_str() == "bad length 29");
     for fault in [FrameFault::NotDf17(18), FrameFault::Parity(0xABC)] {
-        assert!(rt;
-            shown(rt.alloc(), fault).as_str() == line_text(LineFault::from(fault)).as_str()
-        );
+        assert!(rt; shown(fault).as_str() == line_text(LineFault::from(fault)).as_str());
     }
-    let faults = [
-        PlaceFault::NotPosition,
-        PlaceFault::OtherAddress,
-        PlaceFault::OtherKind,
-        PlaceFault::SameParity,
-        PlaceFault::NoSite,
-        PlaceFault::OutOfRange,
-        PlaceFault::ZoneCounts(2, 59),
-    ];
-    for fault in faults {
-        assert!(rt; shown(rt.alloc(), fault).as_str() == place_text(fault).as_str());
-    }
+}
+
+#[test]
+fn shows_faults_of_codes_as_those_of_places(rt: HostRuntime) {
     let counts = PairFault::ZoneCounts(58, 59);
-    assert!(rt;
-        shown(rt.alloc(), counts).as_str() == place_text(PlaceFault::from(counts)).as_str()
-    );
+    assert!(rt; shown(counts).as_str() == place_text(PlaceFault::from(counts)).as_str());
     let range = LocalFault::OutOfRange;
-    assert!(rt; shown(rt.alloc(), range).as_str() == place_text(PlaceFault::from(range)).as_str());
+    assert!(rt; shown(range).as_str() == place_text(PlaceFault::from(range)).as_str());
 }

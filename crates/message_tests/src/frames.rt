@@ -1,7 +1,7 @@
 //! Real frames read and written, damaged frames, limits of fields, and altitudes.
 ghost use Rattle.std.specs.Prelude.{◌≤◌};
 
-use crate::samples::{AIR_EVEN, AIR_ODD, GROUND_EVEN, GROUND_ODD, IDENTITY};
+use crate::samples::{AIR_EVEN, AIR_ODD, GROUND_EVEN, GROUND_ODD, IDENTITY, read};
 use sq_bits::remainder;
 use sq_message::{
     AirFields, Airborne, Altitude, Code, Frame, FrameFault, GroundFields, Me, Other, Parity,
@@ -17,71 +17,88 @@ fn flipped(frame: &Frame, bit: u8) -> Frame
     frame.with_field(bit, 1, frame.field(bit, 1) ^ 1)
 }
 
-fn airborne_of(rt: &impl Abort, squitter: &Squitter) -> Airborne {
-    let Me::Airborne(airborne) = squitter.me() else {
+fn airborne_of(rt: &impl Abort, frame: &Frame) -> Airborne {
+    let Me::Airborne(airborne) = read(rt, frame).me() else {
         panic!(rt; "an airborne position");
     };
     airborne
 }
 
-fn surface_of(rt: &impl Abort, squitter: &Squitter) -> Surface {
-    let Me::Surface(surface) = squitter.me() else {
+fn surface_of(rt: &impl Abort, frame: &Frame) -> Surface {
+    let Me::Surface(surface) = read(rt, frame).me() else {
         panic!(rt; "a surface position");
     };
     surface
 }
 
+// The type code, the surveillance status, the flag, the altitude and the time bit.
+fn air_numbers(fields: &AirFields) -> [u16; 5] {
+    [
+        u16::from(fields.type_code()),
+        u16::from(fields.status()),
+        u16::from(fields.flag()),
+        fields.altitude(),
+        u16::from(fields.time()),
+    ]
+}
+
+// The type code, the movement, the track's status, the track and the time bit.
+fn ground_numbers(fields: &GroundFields) -> [u8; 5] {
+    [
+        fields.type_code(),
+        fields.movement(),
+        u8::from(fields.track_status()),
+        fields.track(),
+        u8::from(fields.time()),
+    ]
+}
+
+fn code_numbers(code: Code) -> [u32; 2] {
+    [code.lat(), code.lon()]
+}
+
+// The capability and the address of who sent a frame.
+fn sender(rt: &impl Abort, frame: &Frame) -> (u8, u32) {
+    let squitter = read(rt, frame);
+    (squitter.ca(), squitter.address())
+}
+
+#[test]
+fn reads_capabilities_and_addresses(rt: HostRuntime) {
+    assert!(rt; sender(&rt, &AIR_EVEN) == (5, 0x40621D));
+    assert!(rt; sender(&rt, &GROUND_EVEN) == (4, 0x484175));
+}
+
 #[test]
 fn reads_an_airborne_position(rt: HostRuntime) {
-    let squitter = read_frame(&AIR_EVEN).expect(&rt, "a squitter");
-    assert_eq!(rt; squitter.address(), 0x40621D);
-    assert_eq!(rt; squitter.ca(), 5);
-    let airborne = airborne_of(&rt, &squitter);
-    let fields = airborne.fields();
-    assert_eq!(rt; fields.type_code(), 11);
-    assert_eq!(rt; fields.status(), 0);
-    assert!(rt; !fields.flag());
-    assert_eq!(rt; fields.altitude(), 0xC38);
-    assert!(rt; !fields.time());
+    let airborne = airborne_of(&rt, &AIR_EVEN);
+    assert!(rt; air_numbers(&airborne.fields()) == [11, 0, 0, 0xC38, 0]);
     assert!(rt; airborne.parity() == Parity::Even);
-    assert_eq!(rt; airborne.code().lat(), 93_000);
-    assert_eq!(rt; airborne.code().lon(), 51_372);
+    assert!(rt; code_numbers(airborne.code()) == [93_000, 51_372]);
 }
 
 #[test]
 fn reads_an_odd_airborne_position(rt: HostRuntime) {
-    let squitter = read_frame(&AIR_ODD).expect(&rt, "a squitter");
-    let airborne = airborne_of(&rt, &squitter);
+    let airborne = airborne_of(&rt, &AIR_ODD);
     assert!(rt; airborne.parity == Parity::Odd);
-    assert_eq!(rt; airborne.code.lat(), 74_158);
-    assert_eq!(rt; airborne.code.lon(), 50_194);
+    assert!(rt; code_numbers(airborne.code) == [74_158, 50_194]);
 }
 
 #[test]
 fn reads_a_surface_position(rt: HostRuntime) {
-    let squitter = read_frame(&GROUND_EVEN).expect(&rt, "a squitter");
-    assert_eq!(rt; squitter.ca(), 4);
-    let surface = surface_of(&rt, &squitter);
-    let fields = surface.fields();
-    assert_eq!(rt; fields.type_code(), 7);
-    assert_eq!(rt; fields.movement(), 42);
-    assert!(rt; fields.track_status());
-    assert_eq!(rt; fields.track(), 50);
-    assert!(rt; !fields.time());
+    let surface = surface_of(&rt, &GROUND_EVEN);
+    assert!(rt; ground_numbers(&surface.fields()) == [7, 42, 1, 50, 0]);
     assert!(rt; surface.parity() == Parity::Even);
-    assert_eq!(rt; surface.code().lat(), 115_609);
-    assert_eq!(rt; surface.code().lon(), 116_941);
+    assert!(rt; code_numbers(surface.code()) == [115_609, 116_941]);
 }
 
 #[test]
 fn reads_an_odd_surface_position(rt: HostRuntime) {
-    let squitter = read_frame(&GROUND_ODD).expect(&rt, "a squitter");
-    let surface = surface_of(&rt, &squitter);
+    let surface = surface_of(&rt, &GROUND_ODD);
     assert_eq!(rt; surface.fields.movement(), 40);
     assert_eq!(rt; surface.fields.track(), 35);
     assert!(rt; surface.parity == Parity::Odd);
-    assert_eq!(rt; surface.code.lat(), 39_199);
-    assert_eq!(rt; surface.code.lon(), 110_269);
+    assert!(rt; code_numbers(surface.code) == [39_199, 110_269]);
 }
 
 #[test]
@@ -131,37 +148,62 @@ fn refuses_each_flipped_bit(rt: HostRuntime) {
     }
 }
 
+fn is_airborne(type_code: u8) -> bool {
+    matches!(type_code, 9..=18 | 20..=22)
+}
+
+fn is_surface(type_code: u8) -> bool {
+    matches!(type_code, 5..=8)
+}
+
+// Whether this type code is read back, from a message of its kind.
+fn is_read_back(me: &Me, type_code: u8) -> bool {
+    match me {
+        Me::Airborne(position) => {
+            is_airborne(type_code) && position.fields.type_code() == type_code
+        }
+        Me::Surface(position) => is_surface(type_code) && position.fields.type_code() == type_code,
+        Me::Other(other) => {
+            !is_airborne(type_code) && !is_surface(type_code) && other.type_code() == type_code
+        }
+    }
+}
+
 #[test]
 fn reads_every_type_code(rt: HostRuntime) {
     for type_code in 0..32u8 {
         let frame = sq_bits::sealed(&AIR_EVEN.with_field(33, 5, u64::from(type_code)));
         let squitter = read_frame(&frame).expect(&rt, "a squitter");
-        let kind = match squitter.me() {
-            Me::Airborne(airborne) => (1, airborne.fields.type_code()),
-            Me::Surface(surface) => (2, surface.fields.type_code()),
-            Me::Other(other) => (3, other.type_code()),
-        };
-        let want = match type_code {
-            9..=18 | 20..=22 => 1,
-            5..=8 => 2,
-            _ => 3,
-        };
-        assert!(rt; kind == (want, type_code));
+        assert!(rt;
+            is_read_back(&squitter.me(), type_code),
+            "type code {type_code}"
+        );
+    }
+}
+
+// Whether there are fields of these values.
+fn is_air(type_code: u8, status: u8, flag: bool, altitude: u16, time: bool) -> bool {
+    AirFields::new(type_code, status, flag, altitude, time).is_some()
+}
+
+fn is_ground(type_code: u8, movement: u8, track_status: bool, track: u8, time: bool) -> bool {
+    GroundFields::new(type_code, movement, track_status, track, time).is_some()
+}
+
+#[test]
+fn limits_type_codes_of_fields(rt: HostRuntime) {
+    for type_code in 0..=255u8 {
+        assert!(rt; is_air(type_code, 3, true, 4095, true) == is_airborne(type_code));
+        assert!(rt; is_ground(type_code, 127, true, 127, true) == is_surface(type_code));
     }
 }
 
 #[test]
 fn limits_fields(rt: HostRuntime) {
-    for type_code in 0..=255u8 {
-        let air = matches!(type_code, 9..=18 | 20..=22);
-        let ground = matches!(type_code, 5..=8);
-        assert!(rt; AirFields::new(type_code, 3, true, 4095, true).is_some() == air);
-        assert!(rt; GroundFields::new(type_code, 127, true, 127, true).is_some() == ground);
-    }
-    assert!(rt; AirFields::new(9, 4, false, 0, false).is_none());
-    assert!(rt; AirFields::new(9, 0, false, 4096, false).is_none());
-    assert!(rt; GroundFields::new(5, 128, false, 0, false).is_none());
-    assert!(rt; GroundFields::new(5, 0, false, 128, false).is_none());
+    assert!(rt; !is_air(9, 4, false, 0, false));
+    assert!(rt; !is_air(9, 0, false, 4096, false));
+    assert!(rt; !is_ground(5, 128, false, 0, false));
+    assert!(rt; !is_ground(5, 0, false, 128, false));
 }
 
 #[test]
@@ -207,20 +249,42 @@ fn means_altitudes(rt: HostRuntime) {
     }
 }
 
+// Feet and their field.
+const FIELDS_OF_FEET: &str = "\
+38000 0xC38
+-1000 0x010
+2175 0x0FF
+50175 0xFFF
+38010 none
+-1025 none
+50200 none";
+
+fn feet(word: &str) -> Option<i32> {
+    word.parse::<i32>().ok()
+}
+
+fn field(word: &str) -> Option<u16> {
+    let (_, digits) = word.split_once("0x")?;
+    u16::from_str_radix(digits, 16).ok()
+}
+
+// Whether the feet of a row have its field, or none where the row says so.
+fn is_field_of_feet(row: &str) -> Option<bool> {
+    let (first, second) = row.split_once(' ')?;
+    let feet = feet(first)?;
+    Some(field_of_feet(feet) == field(second))
+}
+
 #[test]
 fn finds_fields_of_feet(rt: HostRuntime) {
-    let rows = [
-        (38_000, Some(0xC38)),
-        (-1000, Some(0x010)),
-        (2175, Some(0x0FF)),
-        (50_175, Some(0xFFF)),
-        (38_010, None),
-        (-1025, None),
-        (50_200, None),
-    ];
-    for (feet, field) in rows {
-        assert!(rt; field_of_feet(feet) == field, "{feet} feet");
+    assert_eq!(rt; FIELDS_OF_FEET.lines().count(), 7);
+    for row in FIELDS_OF_FEET.lines() {
+        assert!(rt; is_field_of_feet(row) == Some(true), "{row}");
     }
+}
+
+#[test]
+fn finds_each_field_of_feet(rt: HostRuntime) {
     for field in 0..4096u16 {
         if let Altitude::Feet(feet) = altitude_of(&rt, 11, field) {
             assert!(rt; field_of_feet(feet) == Some(field), "field {field}");

@@ -1,7 +1,8 @@
 //! Worked positions sent, read and sent again: the calls that the headline speaks of, one after the other.
-use crate::samples::{AIR_EVEN, AIR_ODD, GROUND_EVEN, GROUND_ODD, IDENTITY, position};
+use crate::samples::{AIR_EVEN, AIR_ODD, GROUND_EVEN, GROUND_ODD, IDENTITY, position, read};
 use crate::sending::{air_head, ground_head};
-use sq_message::{Frame, Parity, laws, place_local, place_pair, read_frame};
+use sq_message::{Frame, Parity, Position, laws, place_local, place_pair, read_frame};
+use std::process::Abort;
 
 // The even position on the ground with this head: 8C4841753800038733C8CDE5B7BB.
 const GROUND_WITHOUT_MOVEMENT: Frame = Frame([
@@ -54,34 +55,38 @@ fn reads_pairs_that_were_sent(rt: HostRuntime) {
     }
 }
 
+fn assert_sent_again_near(rt: &impl Abort, frame: &Frame, reference: &Position) {
+    let sent = laws::sent_again_near(frame, reference);
+    let (squitter, place, again) = sent.expect(rt, "a place");
+    assert!(rt; read_frame(frame) == Ok(squitter));
+    assert!(rt; place_local(&squitter, reference) == Ok(place));
+    assert!(rt; again == *frame);
+}
+
+fn assert_sent_again_of_pair(rt: &impl Abort, older: &Frame, newer: &Frame, reference: &Position) {
+    let sent = laws::sent_again_of_pair(older, newer, Some(reference));
+    let (squitter, place, again) = sent.expect(rt, "a place");
+    let earlier = read(rt, older);
+    assert!(rt; read_frame(newer) == Ok(squitter));
+    assert!(rt; place_pair(&earlier, &squitter, Some(reference)) == Ok(place));
+    assert!(rt; again == *newer);
+}
+
 #[test]
 fn sends_read_frames_again(rt: HostRuntime) {
     let reference = position(&rt, (52_258, 1000), (3918, 1000));
     for frame in [AIR_EVEN, AIR_ODD, GROUND_EVEN, GROUND_ODD] {
-        let (squitter, place, again) = laws::sent_again_near(&frame, &reference).expect(
-            &rt, "a place",
-        );
-        assert!(rt; read_frame(&frame) == Ok(squitter));
-        assert!(rt; place_local(&squitter, &reference) == Ok(place));
-        assert!(rt; again == frame);
+        assert_sent_again_near(&rt, &frame, &reference);
     }
-    let rows = [
-        (AIR_EVEN, AIR_ODD),
-        (AIR_ODD, AIR_EVEN),
-        (GROUND_EVEN, GROUND_ODD),
-        (GROUND_ODD, GROUND_EVEN),
-    ];
-    for (older, newer) in rows {
-        let (squitter, place, again) = laws::sent_again_of_pair(
-            &older,
-            &newer,
-            Some(&reference),
-        ).expect(&rt, "a place");
-        let earlier = read_frame(&older).expect(&rt, "a squitter");
-        assert!(rt; read_frame(&newer) == Ok(squitter));
-        assert!(rt; place_pair(&earlier, &squitter, Some(&reference)) == Ok(place));
-        assert!(rt; again == newer);
-    }
+    assert_sent_again_of_pair(&rt, &AIR_EVEN, &AIR_ODD, &reference);
+    assert_sent_again_of_pair(&rt, &AIR_ODD, &AIR_EVEN, &reference);
+    assert_sent_again_of_pair(&rt, &GROUND_EVEN, &GROUND_ODD, &reference);
+    assert_sent_again_of_pair(&rt, &GROUND_ODD, &GROUND_EVEN, &reference);
+}
+
+#[test]
+fn sends_nothing_again_where_there_is_no_place(rt: HostRuntime) {
+    let reference = position(&rt, (52_258, 1000), (3918, 1000));
     assert!(rt; laws::sent_again_near(&IDENTITY, &reference).is_none());
     assert!(rt; laws::sent_again_near(&Frame([0; 14]), &reference).is_none());
     assert!(rt; laws::sent_again_of_pair(&AIR_EVEN, &AIR_EVEN, None).is_none());

@@ -13,9 +13,9 @@ mod layout;
 #[cfg(test)]
 mod moments;
 #[cfg(test)]
-mod place_faults;
-#[cfg(test)]
 mod places;
+#[cfg(test)]
+mod rows;
 #[cfg(test)]
 mod samples;
 #[cfg(test)]

@@ -1,7 +1,7 @@
 //! What the tests share: worked frames, and squitters and positions that are made.
 use sq_message::{
-    AirFields, Airborne, Angle, Code, Frame, GroundFields, Me, Other, Parity, Position, Squitter,
-    Surface, read_frame,
+    AirFields, AirHead, Airborne, Angle, Code, Frame, GroundFields, GroundHead, Me, Other, Parity,
+    Position, Squitter, Surface, read_frame, send_air, send_ground,
 };
 use std::process::Abort;
 
@@ -25,39 +25,56 @@ pub const GROUND_ODD: Frame = Frame([
     0x8C, 0x48, 0x41, 0x75, 0x3A, 0x8A, 0x35, 0x32, 0x3F, 0xAE, 0xBD, 0xAC, 0x70, 0x2D,
 ]);
 
+// The address of the airborne frames.
+pub const AIR: u32 = 0x40621D;
+
 // The squitter of a frame.
 pub fn read(rt: &impl Abort, frame: &Frame) -> Squitter {
     read_frame(frame).expect(rt, "a squitter")
 }
 
 // An airborne squitter of this parity and code.
-pub fn airborne(rt: &impl Abort, address: u32, parity: Parity, lat: u32, lon: u32) -> Squitter {
-    let fields = AirFields::new(11, 0, false, 0xC38, false).expect(rt, "fields");
-    let code = Code::new(lat, lon).expect(rt, "a code");
+pub fn airborne(address: u32, parity: Parity, lat: u32, lon: u32) -> Option<Squitter> {
+    let fields = AirFields::new(11, 0, false, 0xC38, false)?;
+    let code = Code::new(lat, lon)?;
     let me = Me::Airborne(Airborne {
         fields,
         parity,
         code,
     });
-    Squitter::new(5, address, me).expect(rt, "a squitter")
+    Squitter::new(5, address, me)
 }
 
 // A surface squitter of this parity and code.
-pub fn surface(rt: &impl Abort, address: u32, parity: Parity, lat: u32, lon: u32) -> Squitter {
-    let fields = GroundFields::new(7, 0, false, 0, false).expect(rt, "fields");
-    let code = Code::new(lat, lon).expect(rt, "a code");
+pub fn surface(address: u32, parity: Parity, lat: u32, lon: u32) -> Option<Squitter> {
+    let fields = GroundFields::new(7, 0, false, 0, false)?;
+    let code = Code::new(lat, lon)?;
     let me = Me::Surface(Surface {
         fields,
         parity,
         code,
     });
-    Squitter::new(4, address, me).expect(rt, "a squitter")
+    Squitter::new(4, address, me)
 }
 
 // A squitter without a position.
-pub fn other(rt: &impl Abort, address: u32) -> Squitter {
-    let raw = Other::new(0).expect(rt, "type code 0");
-    Squitter::new(5, address, Me::Other(raw)).expect(rt, "a squitter")
+pub fn other(address: u32) -> Option<Squitter> {
+    let raw = Other::new(0)?;
+    Squitter::new(5, address, Me::Other(raw))
+}
+
+// What is sent in the air from a position.
+pub fn sent_in_air(address: u32, from: &Position, parity: Parity) -> Option<Squitter> {
+    let fields = AirFields::new(11, 0, false, 0, false)?;
+    let head = AirHead::new(5, address, fields)?;
+    Some(send_air(head, from, parity))
+}
+
+// What is sent on the ground from a position.
+pub fn sent_on_ground(address: u32, from: &Position, parity: Parity) -> Option<Squitter> {
+    let fields = GroundFields::new(7, 0, false, 0, false)?;
+    let head = GroundHead::new(4, address, fields)?;
+    Some(send_ground(head, from, parity))
 }
 
 // The position of two fractions, each a numerator over a denominator.

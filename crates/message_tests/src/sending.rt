@@ -20,21 +20,36 @@ pub fn ground_head(rt: &impl Abort) -> GroundHead {
 }
 
 #[test]
+fn keeps_what_a_head_in_the_air_is_made_of(rt: HostRuntime) {
+    let head = air_head(&rt);
+    assert!(rt; (head.ca(), head.address()) == (5, 0x40621D));
+    assert!(rt; head.fields().altitude() == 0xC38);
+}
+
+#[test]
+fn keeps_what_a_head_on_the_ground_is_made_of(rt: HostRuntime) {
+    let head = ground_head(&rt);
+    assert!(rt; (head.ca(), head.address()) == (4, 0x484175));
+    assert!(rt; head.fields().type_code() == 7);
+}
+
+// Whether there is a head of the same fields.
+fn is_air_head(rt: &impl Abort, ca: u8, address: u32) -> bool {
+    AirHead::new(ca, address, air_head(rt).fields()).is_some()
+}
+
+fn is_ground_head(rt: &impl Abort, ca: u8, address: u32) -> bool {
+    GroundHead::new(ca, address, ground_head(rt).fields()).is_some()
+}
+
+#[test]
 fn limits_heads(rt: HostRuntime) {
-    let air = air_head(&rt);
-    assert_eq!(rt; air.ca(), 5);
-    assert_eq!(rt; air.address(), 0x40621D);
-    assert_eq!(rt; air.fields().altitude(), 0xC38);
-    assert!(rt; AirHead::new(7, 0xFFFFFF, air.fields()).is_some());
-    assert!(rt; AirHead::new(8, 0xFFFFFF, air.fields()).is_none());
-    assert!(rt; AirHead::new(7, 0x1000000, air.fields()).is_none());
-    let ground = ground_head(&rt);
-    assert_eq!(rt; ground.ca(), 4);
-    assert_eq!(rt; ground.address(), 0x484175);
-    assert_eq!(rt; ground.fields().type_code(), 7);
-    assert!(rt; GroundHead::new(7, 0xFFFFFF, ground.fields()).is_some());
-    assert!(rt; GroundHead::new(8, 0xFFFFFF, ground.fields()).is_none());
-    assert!(rt; GroundHead::new(7, 0x1000000, ground.fields()).is_none());
+    assert!(rt; is_air_head(&rt, 7, 0xFFFFFF));
+    assert!(rt; !is_air_head(&rt, 8, 0xFFFFFF));
+    assert!(rt; !is_air_head(&rt, 7, 0x1000000));
+    assert!(rt; is_ground_head(&rt, 7, 0xFFFFFF));
+    assert!(rt; !is_ground_head(&rt, 8, 0xFFFFFF));
+    assert!(rt; !is_ground_head(&rt, 7, 0x1000000));
 }
 
 #[test]

@@ -2,18 +2,12 @@
 use sq_angle::{Angle, Position};
 use sq_message::{AirFields, Airborne, Code, Frame, FrameFault, Me, Parity, Squitter, write_frame};
 use sq_text::{
-    ArrayString, LineFault, ShowText, TextFault, place_text, push_decimal, push_fault,
-    push_hexadecimal, push_summary, read_squitter, read_text, show_text,
+    ArrayString, LineFault, ShowText, TextFault, place_text, push_decimal, push_hexadecimal,
+    push_summary, read_squitter, read_text, show_text,
 };
 use std::process::Abort;
 
 const AIR_EVEN: &str = "8D40621D58C382D690C8AC2863A7";
-
-fn fault_text(fault: LineFault) -> arrayvec::ArrayString<32> {
-    let mut text = arrayvec::ArrayString::new();
-    push_fault(&mut text, fault);
-    text
-}
 
 #[test]
 fn reads_frame_texts(rt: HostRuntime) {
@@ -64,29 +58,6 @@ fn converts_faults(rt: HostRuntime) {
 }
 
 #[test]
-fn tells_faults(rt: HostRuntime) {
-    let rows = [
-        (LineFault::LongLine, "long line"),
-        (LineFault::Moment, "bad moment"),
-        (LineFault::Wrap, "bad wrapping"),
-        (LineFault::Short, "short frame"),
-        (LineFault::Length(64), "bad length 64"),
-        (LineFault::Digit(28), "bad digit 28"),
-        (LineFault::NotDf17(18), "not DF17 18"),
-        (LineFault::Parity(1), "parity 000001"),
-        (LineFault::Parity(0xFFF409), "parity FFF409"),
-        (
-            LineFault::MomentBack(u64::MAX),
-            "moment back 18446744073709551615",
-        ),
-        (LineFault::Full, "table full"),
-    ];
-    for (fault, text) in rows {
-        assert!(rt; fault_text(fault).as_str() == text, "{text}");
-    }
-}
-
-#[test]
 fn writes_numbers(rt: HostRuntime) {
     let mut text = arrayvec::ArrayString::<64>::new();
     push_decimal(&mut text, 0);
@@ -101,30 +72,6 @@ fn writes_numbers(rt: HostRuntime) {
 fn shown(rt: &impl Abort, text: &str) -> ShowText {
     let squitter = read_squitter(text.as_bytes()).expect(rt, "a squitter");
     show_text(&squitter)
-}
-
-#[test]
-fn shows_an_airborne_position(rt: HostRuntime) {
-    let text = shown(&rt, AIR_EVEN);
-    assert!(rt;
-        text.as_str()
-            == "address 40621D\nca 5\ntype 11\nkind air\nstatus 0\nflag 0\naltitude 38000 ft\ntime 0\nparity even\nlat 93000\nlon 51372\n"
-    );
-}
-
-#[test]
-fn shows_a_surface_position(rt: HostRuntime) {
-    let text = shown(&rt, "8C4841753AAB238733C8CD4020B1");
-    assert!(rt;
-        text.as_str()
-            == "address 484175\nca 4\ntype 7\nkind ground\nmovement 42\ntrack status 1\ntrack 50\ntime 0\nparity even\nlat 115609\nlon 116941\n"
-    );
-}
-
-#[test]
-fn shows_another_message(rt: HostRuntime) {
-    let text = shown(&rt, "8D406B902015A678D4D220AA4BDA");
-    assert!(rt; text.as_str() == "address 406B90\nca 5\ntype 4\nkind other\nme 2015A678D4D220\n");
 }
 
 // What is shown of an odd airborne position with this altitude field.
@@ -167,26 +114,24 @@ fn summary_of(rt: &impl Abort, text: &str) -> arrayvec::ArrayString<72> {
     summary
 }
 
+// A frame and its summary.
+const SUMMARIES: &str = "\
+8D40621D58C382D690C8AC2863A7 ok 40621D air even 93000 51372
+8D40621D58C386435CC412692AD6 ok 40621D air odd 74158 50194
+8D406B902015A678D4D220AA4BDA ok 406B90 other 4
+8C4841753AAB238733C8CD4020B1 ok 484175 ground even 115609 116941
+8C4841753A8A35323FAEBDAC702D ok 484175 ground odd 39199 110269";
+
+fn is_summary(rt: &impl Abort, frame: &str, text: &str) -> bool {
+    summary_of(rt, frame).as_str() == text
+}
+
 #[test]
 fn sums_squitters_up(rt: HostRuntime) {
-    let rows = [
-        (AIR_EVEN, "ok 40621D air even 93000 51372"),
-        (
-            "8D40621D58C386435CC412692AD6",
-            "ok 40621D air odd 74158 50194",
-        ),
-        ("8D406B902015A678D4D220AA4BDA", "ok 406B90 other 4"),
-        (
-            "8C4841753AAB238733C8CD4020B1",
-            "ok 484175 ground even 115609 116941",
-        ),
-        (
-            "8C4841753A8A35323FAEBDAC702D",
-            "ok 484175 ground odd 39199 110269",
-        ),
-    ];
-    for (frame, want) in rows {
-        assert!(rt; summary_of(&rt, frame).as_str() == want, "{want}");
+    assert_eq!(rt; SUMMARIES.lines().count(), 5);
+    for row in SUMMARIES.lines() {
+        let (frame, text) = row.split_once(' ').expect(&rt, "a frame and a text");
+        assert!(rt; is_summary(&rt, frame, text), "{row}");
     }
 }
 
@@ -233,32 +178,49 @@ fn assert_place(rt: &impl Abort, lat: (i64, u64), lon: (i64, u64), text: &str) {
     assert!(rt; place_text(&position).as_str() == text, "{text}");
 }
 
-// Frames whose fields all differ, written out by hand from the register tables, and what is shown of them.
+fn is_shown(rt: &impl Abort, frame: &str, text: &str) -> bool {
+    shown(rt, frame).as_str() == text
+}
+
+const SHOWN: [(&str, &str); 8] = [
+    (
+        AIR_EVEN,
+        "address 40621D\nca 5\ntype 11\nkind air\nstatus 0\nflag 0\naltitude 38000 ft\ntime 0\nparity even\nlat 93000\nlon 51372\n",
+    ),
+    (
+        "8C4841753AAB238733C8CD4020B1",
+        "address 484175\nca 4\ntype 7\nkind ground\nmovement 42\ntrack status 1\ntrack 50\ntime 0\nparity even\nlat 115609\nlon 116941\n",
+    ),
+    (
+        "8D406B902015A678D4D220AA4BDA",
+        "address 406B90\nca 5\ntype 4\nkind other\nme 2015A678D4D220\n",
+    ),
+    // frames whose fields all differ, written out by hand from the register tables
+    (
+        "8BABCDEF6312360003800091B9A6",
+        "address ABCDEF\nca 3\ntype 12\nkind air\nstatus 1\nflag 1\naltitude raw 123\ntime 0\nparity odd\nlat 65537\nlon 98304\n",
+    ),
+    (
+        "8E012345AC9A080003FFFE13ADDC",
+        "address 012345\nca 6\ntype 21\nkind air\nstatus 2\nflag 0\naltitude raw 9A0\ntime 1\nparity even\nlat 1\nlon 131070\n",
+    ),
+    (
+        "89FEDCBA2FF01D00020010BAB6C8",
+        "address FEDCBA\nca 1\ntype 5\nkind ground\nmovement 127\ntrack status 0\ntrack 1\ntime 1\nparity odd\nlat 32769\nlon 16\n",
+    ),
+    (
+        "8A100001401FF3FFFF0000F71BBB",
+        "address 100001\nca 2\ntype 8\nkind ground\nmovement 1\ntrack status 1\ntrack 127\ntime 0\nparity even\nlat 131071\nlon 65536\n",
+    ),
+    (
+        "8F000001FFFFFFFFFFFFFF276C6C",
+        "address 000001\nca 7\ntype 31\nkind other\nme FFFFFFFFFFFFFF\n",
+    ),
+];
+
 #[test]
-fn shows_each_field_by_its_name(rt: HostRuntime) {
-    let rows = [
-        (
-            "8BABCDEF6312360003800091B9A6",
-            "address ABCDEF\nca 3\ntype 12\nkind air\nstatus 1\nflag 1\naltitude raw 123\ntime 0\nparity odd\nlat 65537\nlon 98304\n",
-        ),
-        (
-            "8E012345AC9A080003FFFE13ADDC",
-            "address 012345\nca 6\ntype 21\nkind air\nstatus 2\nflag 0\naltitude raw 9A0\ntime 1\nparity even\nlat 1\nlon 131070\n",
-        ),
-        (
-            "89FEDCBA2FF01D00020010BAB6C8",
-            "address FEDCBA\nca 1\ntype 5\nkind ground\nmovement 127\ntrack status 0\ntrack 1\ntime 1\nparity odd\nlat 32769\nlon 16\n",
-        ),
-        (
-            "8A100001401FF3FFFF0000F71BBB",
-            "address 100001\nca 2\ntype 8\nkind ground\nmovement 1\ntrack status 1\ntrack 127\ntime 0\nparity even\nlat 131071\nlon 65536\n",
-        ),
-        (
-            "8F000001FFFFFFFFFFFFFF276C6C",
-            "address 000001\nca 7\ntype 31\nkind other\nme FFFFFFFFFFFFFF\n",
-        ),
-    ];
-    for (frame, text) in rows {
-        assert!(rt; shown(&rt, frame).as_str() == text, "{frame}");
+fn shows_squitters(rt: HostRuntime) {
+    for (frame, text) in SHOWN {
+        assert!(rt; is_shown(&rt, frame, text), "{frame}");
     }
 }

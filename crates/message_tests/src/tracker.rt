@@ -3,4 +3,5 @@ mod memory;
 mod random;
 mod runs;
 mod tables;
+mod told;
 mod worlds;

@@ -1,25 +1,29 @@
 //! Allocations that fail: the clauses `memory`, `known` and `err` of `Tracker::hear`. Each run goes through as it
 //! stands, and also where any one allocation fails, as under `rt try --test --fail-alloc N`: the call that was refused
 //! then changes nothing, and goes through when it is made again.
-use super::runs::{AIR, GROUND, Told, even, hear};
-use crate::samples::{AIR_EVEN, GROUND_EVEN, GROUND_ODD, other, read};
+use super::told::{Told, assert_table, hear};
+use crate::samples::{AIR, AIR_EVEN, GROUND_EVEN, GROUND_ODD, airborne, other, read};
+use sq_message::Parity;
 use sq_track::{Squitter, TrackFault, Tracker};
 use std::process::Abort;
 use std::test::Fail;
 
 const WAITING: Told = Told::Waiting;
 
+// An even airborne squitter.
+fn even(rt: &impl Abort, address: u32) -> Squitter {
+    airborne(address, Parity::Even, 0, 0).expect(rt, "a squitter")
+}
+
 // Asserts that a tracker shows these addresses, and that its last moment is this.
 fn assert_shown(rt: &impl Abort, tracker: &mut Tracker, last: u64, table: &[(u32, u64)]) {
-    assert_eq!(rt; tracker.len(), table.len());
-    for index in 0..=table.len() {
-        assert!(rt; tracker.get(index) == table.get(index).copied());
-    }
+    assert_table(rt, tracker, table);
     // at its last moment a tracker still hears, and before it the tracker names it
-    assert!(rt; hear(tracker, last, &other(rt, 1)) == Told::NotPosition);
+    let other = other(1).expect(rt, "a squitter");
+    assert!(rt; hear(tracker, last, &other) == Told::NotPosition);
     if last > 0 {
         let back = Told::Refused(TrackFault::MomentBack(last));
-        assert!(rt; hear(tracker, last - 1, &other(rt, 1)) == back);
+        assert!(rt; hear(tracker, last - 1, &other) == back);
     }
 }
 
@@ -53,7 +57,7 @@ fn refused_growth_changes_nothing(rt: HostRuntime) -> Result<(), Fail> {
     assert!(rt; told == WAITING);
     // an address that is present takes no memory
     assert!(rt; hear(&mut tracker, 10_001, &ground_odd) == Told::NoSite);
-    assert_shown(&rt, &mut tracker, 10_001, &[(GROUND, 10_001)]);
+    assert_shown(&rt, &mut tracker, 10_001, &[(0x484175, 10_001)]);
     Ok(())
 }
 
