@@ -70,16 +70,35 @@ fn input_of<'a, R: Read + Drop, W: Write + Drop>(
     PromptInput::new(alloc, reader, shared, 10)
 }
 
-// Asserts that each of four bytes is got, and put as its answer, and that an end can follow.
+// Asserts that each of four bytes is got, and put as its answer.
 fn assert_echoed(rt: &impl Abort, input: &mut impl Source, output: &mut impl Sink) {
     let mut piece = [0; 1];
     for _ in 0..4 {
         assert!(rt; get(input, &mut piece) == Ok(1));
         assert!(rt; put(output, &piece) == Ok(1));
     }
-    assert!(rt; get(input, &mut piece) == Ok(0));
+}
+
+// Asserts that the input has ended, and puts an end.
+fn assert_ended(rt: &impl Abort, input: &mut impl Source, output: &mut impl Sink) {
+    assert!(rt; get(input, &mut [0; 1]) == Ok(0));
     assert!(rt; put(output, b"end") == Ok(3));
     assert!(rt; finish(output) == Ok(()));
+}
+
+// Echoes four bytes from a reader to a writer, and puts an end.
+fn echo(
+    rt: &impl Abort,
+    alloc: Global,
+    reader: impl Read + Drop,
+    writer: impl Write + Drop,
+) -> Result<(), AllocError> {
+    let shared = SharedOutput::new(alloc, writer)?;
+    let mut input = input_of(alloc, reader, &shared)?;
+    let mut output = PromptOutput::new(&shared);
+    assert_echoed(rt, &mut input, &mut output);
+    assert_ended(rt, &mut input, &mut output);
+    Ok(())
 }
 
 #[test]
@@ -93,11 +112,7 @@ fn lets_each_answer_go_before_it_reads_more(rt: HostRuntime) -> Result<(), Alloc
         log: &log,
         text: b"a\nb\n",
     };
-    let shared = SharedOutput::new(rt.alloc(), writer)?;
-    let mut input = input_of(rt.alloc(), lines, &shared)?;
-    assert_echoed(&rt, &mut input, &mut PromptOutput::new(&shared));
-    drop(input);
-    drop(shared);
+    echo(&rt, rt.alloc(), lines, writer)?;
     assert!(rt; log.into_inner().as_slice() == b"<a\n<b\n<end".as_slice());
     Ok(())
 }
@@ -110,13 +125,22 @@ fn assert_told_at_the_put(rt: &impl Abort, input: &mut impl Source, output: &mut
     assert!(rt; finish(output) == Err(Failed));
 }
 
+// Asserts the same over a writer.
+fn assert_told_over(
+    rt: &impl Abort,
+    alloc: Global,
+    writer: impl Write + Drop,
+) -> Result<(), AllocError> {
+    let shared = SharedOutput::new(alloc, writer)?;
+    let mut input = input_of(alloc, b"ab".as_slice(), &shared)?;
+    assert_told_at_the_put(rt, &mut input, &mut PromptOutput::new(&shared));
+    Ok(())
+}
+
 #[test]
 fn tells_a_failed_flush_at_the_next_put(rt: HostRuntime) -> Result<(), AllocError> {
     let log = RefCell::new(Vec::new(rt.alloc()));
-    let shared = SharedOutput::new(rt.alloc(), Noted { log: &log, room: 2 })?;
-    let mut input = input_of(rt.alloc(), b"ab".as_slice(), &shared)?;
-    assert_told_at_the_put(&rt, &mut input, &mut PromptOutput::new(&shared));
-    Ok(())
+    assert_told_over(&rt, rt.alloc(), Noted { log: &log, room: 2 })
 }
 
 // Asserts that the flush of a text fails at the finish.
@@ -299,14 +323,22 @@ fn assert_second_get(rt: &impl Abort, input: &mut impl Source) {
     assert!(rt; &piece[..] == b"ab".as_slice());
 }
 
+// Asserts the same over a reader.
+fn assert_second_get_over(
+    rt: &impl Abort,
+    alloc: Global,
+    reader: impl Read + Drop,
+) -> Result<(), AllocError> {
+    let shared = SharedOutput::new(alloc, Vec::new(alloc))?;
+    assert_second_get(rt, &mut input_of(alloc, reader, &shared)?);
+    Ok(())
+}
+
 // A failed read is reported, and not tried again.
 #[test]
 fn tells_a_failed_read(rt: HostRuntime) -> Result<(), AllocError> {
     let log = RefCell::new(Vec::new(rt.alloc()));
-    let shared = SharedOutput::new(rt.alloc(), Vec::new(rt.alloc()))?;
-    let mut input = input_of(rt.alloc(), once_of(&log), &shared)?;
-    assert_second_get(&rt, &mut input);
-    drop(input);
+    assert_second_get_over(&rt, rt.alloc(), once_of(&log))?;
     assert!(rt; log.into_inner().as_slice() == b"<<".as_slice());
     Ok(())
 }

@@ -1,7 +1,7 @@
 //! Devices over memory, and over readers and writers that fail: the clauses of `Source` and `Sink`, `part` of `put_all`
 //! and `put_last`, and what none says, that a sink is finished once and nothing is tried again.
 use crate::faulty_devices::{finish, get, put, sink_of, source_of, taken};
-use sq_devices::{Failed, Reading, Sink, put_all, put_last};
+use sq_devices::{Failed, Reading, Sink, Source, put_all, put_last};
 use std::alloc::Global;
 use std::io;
 use std::io::{ErrorKind, Read, Write};
@@ -146,42 +146,46 @@ fn end_with(sink: &mut impl Sink, text: &[u8]) -> Result<(), Failed> {
     put_last(sink, text)
 }
 
+// Asserts which text is got into a piece.
+fn assert_got(rt: &impl Abort, source: &mut impl Source, piece: &mut [u8], text: &[u8]) {
+    assert!(rt; get(source, piece) == Ok(text.len()));
+    assert!(rt; piece.starts_with(text));
+}
+
 #[test]
 fn gets_the_bytes_of_a_slice(rt: HostRuntime) {
     let mut source = source_of(&b"squitter"[..]);
-    let mut piece = [0; 5];
-    assert!(rt; get(&mut source, &mut piece) == Ok(5));
-    assert!(rt; &piece[..] == b"squit".as_slice());
-    assert!(rt; get(&mut source, &mut piece) == Ok(3));
-    assert!(rt; &piece[..3] == b"ter".as_slice());
-    assert!(rt; get(&mut source, &mut piece) == Ok(0));
+    assert_got(&rt, &mut source, &mut [0; 5], b"squit");
+    assert_got(&rt, &mut source, &mut [0; 5], b"ter");
+    assert_got(&rt, &mut source, &mut [0; 5], b"");
 }
 
 #[test]
 fn refuses_the_get_after_the_last(rt: HostRuntime) {
     let mut source = Reading::new(&b"squitter"[..], 2);
-    let mut piece = [0; 2];
-    assert!(rt; get(&mut source, &mut piece) == Ok(2));
-    assert!(rt; get(&mut source, &mut piece) == Ok(2));
-    assert!(rt; get(&mut source, &mut piece) == Err(Failed));
-    assert!(rt; get(&mut source, &mut piece) == Err(Failed));
+    for answer in [Ok(2), Ok(2), Err(Failed), Err(Failed)] {
+        assert!(rt; get(&mut source, &mut [0; 2]) == answer);
+    }
     assert!(rt; source.into_inner() == b"tter".as_slice());
 }
 
 #[test]
 fn puts_into_a_vector(rt: HostRuntime) {
     let mut sink = sink_of(Vec::new(rt.alloc()));
-    assert!(rt; put(&mut sink, b"8D40") == Ok(4));
-    assert!(rt; put(&mut sink, b"") == Ok(0));
-    assert!(rt; put(&mut sink, b"621D") == Ok(4));
+    for part in [b"8D40".as_slice(), b"", b"621D"] {
+        assert!(rt; put(&mut sink, part) == Ok(part.len()));
+    }
     assert!(rt; finish(&mut sink) == Ok(()));
     assert!(rt; taken(sink).as_slice() == b"8D40621D".as_slice());
 }
 
 #[test]
-fn fails_where_the_reader_or_the_writer_does(rt: HostRuntime) {
-    let mut source = source_of(Broken);
-    assert!(rt; get(&mut source, &mut [0; 4]) == Err(Failed));
+fn fails_where_the_reader_does(rt: HostRuntime) {
+    assert!(rt; get(&mut source_of(Broken), &mut [0; 4]) == Err(Failed));
+}
+
+#[test]
+fn fails_where_the_writer_does(rt: HostRuntime) {
     let mut sink = sink_of(Broken);
     assert!(rt; put(&mut sink, b"8D40") == Err(Failed));
     assert!(rt; finish(&mut sink) == Err(Failed));
@@ -227,9 +231,21 @@ fn tries_no_read_again(rt: HostRuntime) {
     let mut source = source_of(once_of(rt.alloc(), b"8D40"));
     let mut piece = [0; 4];
     assert!(rt; get(&mut source, &mut piece) == Err(Failed));
-    assert!(rt; get(&mut source, &mut piece) == Ok(4));
-    assert!(rt; &piece[..] == b"8D40".as_slice());
+    assert_got(&rt, &mut source, &mut piece, b"8D40");
     assert!(rt; source.into_inner().reads == 2);
+}
+
+// Asserts how many writes and flushes there were, and what was taken.
+fn assert_once(rt: &impl Abort, once: &Once, writes: u32, flushes: u32, text: &[u8]) {
+    assert!(rt; once.writes == writes);
+    assert!(rt; once.flushes == flushes);
+    assert!(rt; once.taken.as_slice() == text);
+}
+
+// Asserts that a finish fails, and the next one does not.
+fn assert_second_finish(rt: &impl Abort, sink: &mut impl Sink) {
+    assert!(rt; finish(sink) == Err(Failed));
+    assert!(rt; finish(sink) == Ok(()));
 }
 
 #[test]
@@ -237,45 +253,50 @@ fn tries_no_write_again(rt: HostRuntime) {
     let mut sink = sink_of(once_of(rt.alloc(), b""));
     assert!(rt; put(&mut sink, b"8D40") == Err(Failed));
     assert!(rt; put(&mut sink, b"621D") == Ok(4));
-    assert!(rt; finish(&mut sink) == Err(Failed));
-    assert!(rt; finish(&mut sink) == Ok(()));
-    let once = taken(sink);
-    assert!(rt; once.writes == 2);
-    assert!(rt; once.flushes == 2);
-    assert!(rt; once.taken.as_slice() == b"621D".as_slice());
+    assert_second_finish(&rt, &mut sink);
+    assert_once(&rt, &taken(sink), 2, 2, b"621D");
 }
 
 #[test]
 fn puts_no_text_again(rt: HostRuntime) {
     let mut sink = sink_of(once_of(rt.alloc(), b""));
     assert!(rt; put_whole(&mut sink, b"8D40") == Err(Failed));
-    assert!(rt; end_with(&mut sink, b"621D") == Err(Failed));
-    assert!(rt; end_with(&mut sink, b"58C3") == Ok(()));
-    let once = taken(sink);
-    assert!(rt; once.writes == 3);
-    assert!(rt; once.flushes == 2);
-    assert!(rt; once.taken.as_slice() == b"621D58C3".as_slice());
+    for (text, answer) in [(b"621D", Err(Failed)), (b"58C3", Ok(()))] {
+        assert!(rt; end_with(&mut sink, text) == answer);
+    }
+    assert_once(&rt, &taken(sink), 3, 2, b"621D58C3");
+}
+
+fn counting_of(alloc: Global) -> Counting {
+    Counting {
+        writes: 0,
+        flushes: 0,
+        taken: Vec::new(alloc),
+    }
+}
+
+// Asserts how many writes and flushes were counted, and what was taken.
+fn assert_counted(rt: &impl Abort, counted: &Counting, writes: u32, flushes: u32, text: &[u8]) {
+    assert!(rt; counted.writes == writes);
+    assert!(rt; counted.flushes == flushes);
+    assert!(rt; counted.taken.as_slice() == text);
 }
 
 // The last text is finished once, an empty one too; another is not, and neither is one whose put failed.
 #[test]
-fn finishes_the_last_text_once(rt: HostRuntime) {
-    let mut sink = sink_of(Counting {
-        writes: 0,
-        flushes: 0,
-        taken: Vec::new(rt.alloc()),
-    });
+fn finishes_no_other_text(rt: HostRuntime) {
+    let mut sink = sink_of(counting_of(rt.alloc()));
     assert!(rt; put_whole(&mut sink, b"8D40") == Ok(()));
-    let counting = taken(sink);
-    assert!(rt; counting.writes == 1);
-    assert!(rt; counting.flushes == 0);
-    let mut sink = sink_of(counting);
+    assert_counted(&rt, &taken(sink), 1, 0, b"8D40");
+}
+
+#[test]
+fn finishes_the_last_text_once(rt: HostRuntime) {
+    let mut sink = sink_of(counting_of(rt.alloc()));
+    assert!(rt; put_whole(&mut sink, b"8D40") == Ok(()));
     assert!(rt; end_with(&mut sink, b"621D") == Ok(()));
     assert!(rt; end_with(&mut sink, b"") == Ok(()));
-    let counting = taken(sink);
-    assert!(rt; counting.writes == 2);
-    assert!(rt; counting.flushes == 2);
-    assert!(rt; counting.taken.as_slice() == b"8D40621D".as_slice());
+    assert_counted(&rt, &taken(sink), 2, 2, b"8D40621D");
 }
 
 // Asserts how much of a text of ten bytes is left in so much room, and that only the whole one is no failure.

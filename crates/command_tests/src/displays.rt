@@ -21,30 +21,25 @@ fn near<'a>(lat: &'a str, lon: &'a str) -> Request<'a> {
     }
 }
 
+// Asserts what is reported of a word that is no latitude and no longitude.
+fn assert_named(rt: &impl Abort, alloc: Global, word: &str, fault: AngleFault) {
+    let lat = line_of(alloc, "lat ", fault);
+    let lon = line_of(alloc, "lon ", fault);
+    let status = Status::Misused;
+    assert_reported(rt, alloc, near(word, "0"), status, lat.as_str());
+    assert_reported(rt, alloc, near("0", word), status, lon.as_str());
+}
+
 #[test]
 fn reports_faults_of_angles_by_name(rt: HostRuntime) {
-    for (word, fault) in [
-        ("x", AngleFault::NotANumber),
-        ("0.0000000000001", AngleFault::TooManyDecimals),
-        ("361", AngleFault::OutOfRange),
-    ] {
-        let lat = line_of(rt.alloc(), "lat ", fault);
-        let lon = line_of(rt.alloc(), "lon ", fault);
-        assert_reported(
-            &rt,
-            rt.alloc(),
-            near(word, "0"),
-            Status::Misused,
-            lat.as_str(),
-        );
-        assert_reported(
-            &rt,
-            rt.alloc(),
-            near("0", word),
-            Status::Misused,
-            lon.as_str(),
-        );
-    }
+    assert_named(&rt, rt.alloc(), "x", AngleFault::NotANumber);
+    assert_named(
+        &rt,
+        rt.alloc(),
+        "0.0000000000001",
+        AngleFault::TooManyDecimals,
+    );
+    assert_named(&rt, rt.alloc(), "361", AngleFault::OutOfRange);
 }
 
 // Asserts what is reported of a run that breaks off.

@@ -1,25 +1,40 @@
 //! Lines cut out of pieces, and runs over memory and over devices that fail.
 use sq_lines::laws::one_take;
 use sq_lines::{Cutter, Line, content_of};
+use std::process::Abort;
 
 // A piece taken, without the clauses.
 fn take(cutter: &mut Cutter, piece: &[u8]) -> (usize, bool) {
     cutter.take(piece)
 }
 
+// Asserts how many bytes of a piece are taken and whether they end a line, and what is held of the line.
+fn assert_taken(
+    rt: &impl Abort,
+    cutter: &mut Cutter,
+    piece: &[u8],
+    answer: (usize, bool),
+    line: &[u8],
+) {
+    assert!(rt; take(cutter, piece) == answer);
+    assert!(rt; cutter.line() == line);
+}
+
 #[test]
 fn cuts_at_line_feeds(rt: HostRuntime) {
     let mut cutter = Cutter::new();
     assert!(rt; cutter.line().is_empty());
-    assert!(rt; take(&mut cutter, b"ab\ncd") == (3, true));
-    assert!(rt; cutter.line() == b"ab".as_slice());
-    assert!(rt; take(&mut cutter, b"cd") == (2, false));
-    assert!(rt; cutter.line() == b"cd".as_slice());
-    assert!(rt; take(&mut cutter, b"e\r\n") == (3, true));
-    assert!(rt; cutter.line() == b"cde\r".as_slice());
-    assert!(rt; take(&mut cutter, b"") == (0, false));
-    assert!(rt; cutter.line().is_empty());
+    assert_taken(&rt, &mut cutter, b"ab\ncd", (3, true), b"ab");
+    assert_taken(&rt, &mut cutter, b"cd", (2, false), b"cd");
+    assert_taken(&rt, &mut cutter, b"e\r\n", (3, true), b"cde\r");
+    assert_taken(&rt, &mut cutter, b"", (0, false), b"");
     assert!(rt; !cutter.long());
+}
+
+// Asserts whether the line is too long, and how many bytes of it are held.
+fn assert_holds(rt: &impl Abort, cutter: &Cutter, long: bool, count: usize) {
+    assert!(rt; cutter.long() == long);
+    assert!(rt; cutter.line().len() == count);
 }
 
 #[test]
@@ -27,16 +42,14 @@ fn holds_64_bytes(rt: HostRuntime) {
     let mut cutter = Cutter::new();
     take(&mut cutter, &[b'x'; 40]);
     take(&mut cutter, &[b'y'; 24]);
-    assert!(rt; !cutter.long());
-    assert_eq!(rt; cutter.line().len(), 64);
+    assert_holds(&rt, &cutter, false, 64);
     take(&mut cutter, b"\n");
-    assert!(rt; !cutter.long());
+    assert_holds(&rt, &cutter, false, 64);
     take(&mut cutter, &[b'x'; 65]);
-    assert!(rt; cutter.long());
-    assert_eq!(rt; cutter.line().len(), 64);
+    assert_holds(&rt, &cutter, true, 64);
     take(&mut cutter, b"\n");
     take(&mut cutter, b"z");
-    assert!(rt; !cutter.long());
+    assert_holds(&rt, &cutter, false, 1);
     assert!(rt; cutter.line() == b"z".as_slice());
 }
 

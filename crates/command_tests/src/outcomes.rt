@@ -103,17 +103,20 @@ impl Write for Full {
     }
 }
 
-// Asserts that an answer which cannot be written is a fault, reported where that can be.
-pub(crate) fn assert_unwritten(rt: &impl Abort, alloc: Global, request: Request<'_>) {
+// The status of a request where the output takes no byte.
+fn status_on_full(alloc: Global, request: Request<'_>, faults: &mut impl Sink) -> Status {
     let mut input = source_of(b"".as_slice());
     let mut output = sink_of(Full);
+    status_of(alloc, request, &mut input, &mut output, faults)
+}
+
+// Asserts that an answer which cannot be written is a fault, reported where that can be.
+pub(crate) fn assert_unwritten(rt: &impl Abort, alloc: Global, request: Request<'_>) {
     let mut faults = sink_of(Vec::new(alloc));
-    let status = status_of(alloc, request, &mut input, &mut output, &mut faults);
-    assert!(rt; status == Status::Broken);
+    assert!(rt; status_on_full(alloc, request, &mut faults) == Status::Broken);
     assert!(rt; taken(faults).as_slice() == b"write failed\n".as_slice());
     let mut lost = sink_of(Full);
-    let status = status_of(alloc, request, &mut input, &mut output, &mut lost);
-    assert!(rt; status == Status::Broken);
+    assert!(rt; status_on_full(alloc, request, &mut lost) == Status::Broken);
 }
 
 // Asserts the status of a request whose fault cannot be reported.

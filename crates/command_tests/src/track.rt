@@ -64,19 +64,37 @@ fn tracker_of(alloc: Global) -> Option<Tracker> {
     }
 }
 
-// `run_track` without its clauses.
-fn track(
-    source: &mut impl Source,
-    sink: &mut impl Sink,
-    tracker: &mut Tracker,
-) -> Result<Tally, RunFault> {
-    run_track(source, sink, tracker)
+// How a log was heard: how that ended, how many addresses are kept, and the moment of the one that was heard last.
+#[derive(Drop)]
+struct Hearing {
+    ended: Result<Tally, RunFault>,
+    addresses: usize,
+    newest: Option<u64>,
 }
 
-// Asserts how many addresses a tracker keeps, and the moment of the one that was heard last.
-fn assert_heard(rt: &impl Abort, tracker: &Tracker, addresses: usize, moment: Option<u64>) {
-    assert!(rt; tracker.len() == addresses);
-    assert!(rt; newest(tracker) == moment);
+// `run_track` with a new tracker, without the clauses.
+fn hear_log(alloc: Global, source: &mut impl Source, sink: &mut impl Sink) -> Option<Hearing> {
+    let mut tracker = tracker_of(alloc)?;
+    let ended = run_track(source, sink, &mut tracker);
+    Some(Hearing {
+        ended,
+        addresses: tracker.len(),
+        newest: newest(&tracker),
+    })
+}
+
+// Asserts how the log was heard.
+fn assert_heard(
+    rt: &impl Abort,
+    hearing: Option<Hearing>,
+    ended: Result<Tally, RunFault>,
+    addresses: usize,
+    moment: Option<u64>,
+) {
+    let heard = hearing.expect(rt, "a limit");
+    assert!(rt; heard.ended == ended);
+    assert!(rt; heard.addresses == addresses);
+    assert!(rt; heard.newest == moment);
 }
 
 const ALL: Tally = Tally {
@@ -85,28 +103,30 @@ const ALL: Tally = Tally {
 };
 
 // Asserts how a log in pieces ends, and that so many of its lines were heard and answered.
-fn assert_heard_of(
+fn assert_lines_heard(
     rt: &impl Abort,
     alloc: Global,
     pieces: Pieces,
     ended: Result<Tally, RunFault>,
     lines: usize,
 ) {
-    let mut tracker = tracker_of(alloc).expect(rt, "a limit");
-    let mut source = source_of(pieces);
     let mut sink = sink_of(Vec::new(alloc));
-    assert!(rt; track(&mut source, &mut sink, &mut tracker) == ended);
+    let hearing = hear_log(alloc, &mut source_of(pieces), &mut sink);
     let (written, addresses, moment) = after(lines);
-    let front = ANSWERS.get(..written).unwrap_or(b"");
-    assert!(rt; taken(sink).as_slice() == front);
-    assert_heard(rt, &tracker, addresses, moment);
+    assert_heard(rt, hearing, ended, addresses, moment);
+    assert!(rt; taken(sink).as_slice() == front_of(written));
+}
+
+// So many bytes of the answers.
+fn front_of(count: usize) -> &'static [u8] {
+    ANSWERS.get(..count).unwrap_or(b"")
 }
 
 #[test]
 fn tracks_lines_in_pieces(rt: HostRuntime) {
     for size in [1, 2, 3, 63, 64, 65] {
         let pieces = pieces_of(LOG, size, usize::MAX);
-        assert_heard_of(&rt, rt.alloc(), pieces, Ok(ALL), 3);
+        assert_lines_heard(&rt, rt.alloc(), pieces, Ok(ALL), 3);
     }
 }
 
@@ -115,20 +135,17 @@ fn hears_what_was_read_before_a_fault(rt: HostRuntime) {
     for fails_at in 0..LOG.len() {
         let pieces = pieces_of(LOG, 64, fails_at);
         let lines = lines_in(LOG, fails_at);
-        assert_heard_of(&rt, rt.alloc(), pieces, Err(RunFault::Read), lines);
+        assert_lines_heard(&rt, rt.alloc(), pieces, Err(RunFault::Read), lines);
     }
 }
 
 // Asserts what a tracker has heard where so many bytes of the answers can be written.
 fn assert_heard_in(rt: &impl Abort, alloc: Global, room: usize, addresses: usize, moment: u64) {
-    let mut tracker = tracker_of(alloc).expect(rt, "a limit");
-    let mut source = source_of(LOG);
     let mut sink = sink_of(room_of(alloc, room, End::Error));
-    let ended = track(&mut source, &mut sink, &mut tracker);
-    assert!(rt; ended == Err(RunFault::Write));
-    let front = ANSWERS.get(..room).unwrap_or(b"");
-    assert!(rt; taken(sink).taken.as_slice() == front);
-    assert_heard(rt, &tracker, addresses, Some(moment));
+    let hearing = hear_log(alloc, &mut source_of(LOG), &mut sink);
+    let fault = Err(RunFault::Write);
+    assert_heard(rt, hearing, fault, addresses, Some(moment));
+    assert!(rt; taken(sink).taken.as_slice() == front_of(room));
 }
 
 // The first byte of each answer fails, and then its last.

@@ -27,7 +27,7 @@ fn assert_asked(rt: &impl Abort, alloc: Global, line: &str, request: &str) {
     let Ok(text) = asked(alloc, line) else {
         panic!(rt; "memory");
     };
-    assert!(rt; text.as_str() == request, "{line}");
+    assert!(rt; text.as_str() == request);
 }
 
 // Each command line, and what it asks for.
