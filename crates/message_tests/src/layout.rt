@@ -1,7 +1,7 @@
 //! Frames whose bits are set one at a time, against the register tables of ICAO Doc 9871 (0,5 airborne, 0,6 surface).
 //!
-//! Each frame is written out: DF 17, one bit of one field, and its parity, made by hand and apart from the code. A row is
-//! the field, its value, and the digits of the header, of the message and of the parity.
+//! Each frame is written out: DF 17, one bit of one field, and its parity, made by hand and apart from the code. A row
+//! is the field, its value, and the digits of the header, of the message and of the parity.
 use crate::rows::read_number;
 use sq_message::{
     AirFields, Airborne, Code, Frame, GroundFields, Me, Other, Parity, Squitter, Surface,

@@ -1,33 +1,23 @@
 //! Squitters with their moments.
-use crate::rows::moment;
-use sq_text::{LineFault, TimedSquitter, read_squitter, read_timed};
+use sq_text::{LineFault, read_squitter, read_timed};
 
 const FRAME: &[u8] = b"8D40621D58C382D690C8AC2863A7";
 
-// A moment, and a text of it.
-const MOMENTS: &str = "\
-0: 0 8D40621D58C382D690C8AC2863A7
-7: 00000000000000000007 *8D40621D58C382D690C8AC2863A7;
-18446744073709551615: 18446744073709551615 8d40621d58c382d690c8ac2863a7";
-
-fn timed(text: &str) -> Option<TimedSquitter> {
-    read_timed(text.as_bytes()).ok()
-}
-
-// The frame's squitter at this moment.
-fn frame_at(word: &str) -> Option<TimedSquitter> {
-    let moment = moment(word)?;
-    let squitter = read_squitter(FRAME).ok()?;
-    Some(TimedSquitter { moment, squitter })
-}
-
 #[test]
 fn reads_moments(rt: HostRuntime) {
-    assert_eq!(rt; MOMENTS.lines().count(), 3);
-    for row in MOMENTS.lines() {
-        let (moment, text) = row.split_once(": ").expect(&rt, "a moment and a text");
-        let expected = frame_at(moment).expect(&rt, "a squitter");
-        assert!(rt; timed(text) == Some(expected), "{row}");
+    let squitter = read_squitter(FRAME);
+    let rows = [
+        (b"0 8D40621D58C382D690C8AC2863A7".as_slice(), 0),
+        (b"00000000000000000007 *8D40621D58C382D690C8AC2863A7;", 7),
+        (
+            b"18446744073709551615 8d40621d58c382d690c8ac2863a7",
+            u64::MAX,
+        ),
+    ];
+    for (text, moment) in rows {
+        let timed = read_timed(text);
+        assert!(rt; timed.map(|t| t.moment) == Ok(moment));
+        assert!(rt; timed.map(|t| t.squitter) == squitter);
     }
 }
 

@@ -1,5 +1,5 @@
-//! What a tracker answers, and runs of calls as texts: a call a line, as its moment, what is heard, what is answered, and
-//! where there is an arrow the table afterwards, each address with its moment.
+//! What a tracker answers, and runs of calls as texts. A call is a line: its moment, what is heard, what is answered,
+//! and after an arrow the table, each address with its moment.
 use crate::rows::{moment, number, read_moment, read_number, read_position, read_squitter, site};
 use sq_track::{Heard, Position, Squitter, TrackFault, Tracker};
 use std::alloc::Global;
@@ -100,7 +100,8 @@ fn is_answered(tracker: &mut Tracker, row: &str) -> Option<bool> {
     let mut words = row.split_whitespace();
     let moment = read_moment(&mut words)?;
     let squitter = read_squitter(&mut words)?;
-    is_told(hear(tracker, moment, &squitter), &mut words)
+    let told = is_told(hear(tracker, moment, &squitter), &mut words)?;
+    Some(told && words.next().is_none())
 }
 
 // An address and its moment.

@@ -28,18 +28,12 @@ fn told_of_odd(tracker: &mut Tracker, even: Squitter, odd: Squitter) -> Told {
 }
 
 // Where a sender stands, the site, and the point of the fix.
-struct World {
-    from: Position,
-    site: Position,
-    point: Position,
-}
-
-fn read_world(row: &str) -> Option<World> {
+fn read_world(row: &str) -> Option<(Position, Position, Position)> {
     let mut words = row.split_whitespace();
     let from = read_position(&mut words)?;
     let site = read_position(&mut words)?;
     let point = read_position(&mut words)?;
-    Some(World { from, site, point })
+    Some((from, site, point))
 }
 
 fn told_in_air(tracker: &mut Tracker, from: &Position) -> Option<Told> {
@@ -55,14 +49,14 @@ fn told_on_ground(tracker: &mut Tracker, from: &Position) -> Option<Told> {
 }
 
 fn assert_fixed_in_air(rt: &impl Abort, alloc: Global, row: &str) -> Result<(), Fail> {
-    let World { from, site, point } = read_world(row).expect(rt, "a world");
+    let (from, site, point) = read_world(row).expect(rt, "a world");
     let mut tracker = Tracker::new(alloc, 1, 10, Some(site))?;
     assert!(rt; told_in_air(&mut tracker, &from) == Some(Told::Fix(point)));
     Ok(())
 }
 
 fn assert_fixed_on_ground(rt: &impl Abort, alloc: Global, row: &str) -> Result<(), Fail> {
-    let World { from, site, point } = read_world(row).expect(rt, "a world");
+    let (from, site, point) = read_world(row).expect(rt, "a world");
     let mut tracker = Tracker::new(alloc, 1, 10, Some(site))?;
     assert!(rt; told_on_ground(&mut tracker, &from) == Some(Told::Fix(point)));
     Ok(())
