@@ -1,26 +1,59 @@
-# make builds the proved program, and make install puts it with its man page and its completions below DESTDIR and PREFIX.
+# make            builds the program: from dist/ with a C compiler, or, where a source is not as dist/ has it, by rt, which proves it first
+# make prove      proves and builds it from nothing, with rt of the Rattle toolchain
+# make check      tries all that can be tried here, a line for each part, and the sum last
+# make dist       makes dist/ of what rt proves, and what the page of web/ takes from it
+# make install    puts the program with its page and completions below DESTDIR and PREFIX; PROGRAM= names another file to install
+# make uninstall  takes them away
 PREFIX = /usr/local
 DESTDIR =
 
-program = crates/squitter/out/squitter
-share = $(DESTDIR)$(PREFIX)/share
+.DEFAULT_GOAL = all
+PROGRAM = $$(dist/program)
+share = $(PREFIX)/share
+# Where zsh looks below PREFIX, as it says itself; Debian's looks for what is not of the system in site-functions.
+ZSHDIR = $(shell zsh -fc 'print -l $$fpath' 2> /dev/null | grep -m 1 -x '$(share)/zsh/\(site-functions\|vendor-completions\)' || echo '$(share)/zsh/site-functions')
+FISHDIR = $(share)/fish/vendor_completions.d
 
-.PHONY: all check install uninstall
+# The program from dist/ alone, not run: for another processor too (CC=aarch64-linux-gnu-gcc), and for packages.
+PROCESSOR = $(firstword $(subst -, ,$(shell $(CC) -dumpmachine)))
+dist/out/$(PROCESSOR)/squitter: dist/squitter-$(PROCESSOR).s dist/os.c
+	mkdir -p $(@D)
+	$(CC) $(CPPFLAGS) $(or $(CFLAGS),-O2) $(LDFLAGS) -Wl,--gc-sections,-z,relro,-z,now -o $@ dist/squitter-$(PROCESSOR).s dist/os.c
 
+.PHONY: all prove check dist install uninstall
 all:
-	./squitter show 8D40621D58C382D690C8AC2863A7
+	@test -x "$(PROGRAM)"
 
-check: all
-	tests/run
+prove:
+	rm -rf crates/*/out
+	cd crates/squitter && rt run --cpu=x86-64 -- show 8D40621D58C382D690C8AC2863A7
+
+check:
+	@tests/check
+
+dist:
+	dist/make
+	web/embed
 
 install: all
-	install -D -m 755 $(program) $(DESTDIR)$(PREFIX)/bin/squitter
-	install -D -m 644 man/squitter.1 $(share)/man/man1/squitter.1
-	install -D -m 644 completions/squitter.bash $(share)/bash-completion/completions/squitter
-	install -D -m 644 completions/_squitter $(share)/zsh/site-functions/_squitter
-	install -D -m 644 completions/squitter.fish $(share)/fish/vendor_completions.d/squitter.fish
+	install -D -m 755 "$(PROGRAM)" $(DESTDIR)$(PREFIX)/bin/squitter
+	install -D -m 755 -t $(DESTDIR)$(PREFIX)/bin feeds/squitter-feed feeds/squitter-geojson
+	install -D -m 644 feeds/squitter_feed.py $(DESTDIR)$(share)/squitter/squitter_feed.py
+	for name in squitter squitter-feed squitter-geojson; do \
+	  install -D -m 644 man/$$name.1 $(DESTDIR)$(share)/man/man1/$$name.1 && \
+	  install -D -m 644 completions/$$name.bash $(DESTDIR)$(share)/bash-completion/completions/$$name && \
+	  install -D -m 644 completions/_$$name $(DESTDIR)$(ZSHDIR)/_$$name && \
+	  install -D -m 644 completions/$$name.fish $(DESTDIR)$(FISHDIR)/$$name.fish || exit; \
+	done
+	@test -n "$(DESTDIR)" || ! command -v zsh > /dev/null || zsh -fc 'print -l $$fpath' | grep -qx '$(ZSHDIR)' || \
+	  echo 'zsh finds the completion by this line of ~/.zshrc, before compinit: fpath=($(ZSHDIR) $$fpath)'
+	@test -n "$(DESTDIR)" || ! command -v fish > /dev/null || fish -c 'printf "%s\n" $$fish_complete_path' | grep -qx '$(FISHDIR)' || \
+	  echo 'fish finds the completion by this line of ~/.config/fish/config.fish: set -p fish_complete_path $(FISHDIR)'
 
 uninstall:
-	rm -f $(DESTDIR)$(PREFIX)/bin/squitter $(share)/man/man1/squitter.1
-	rm -f $(share)/bash-completion/completions/squitter $(share)/zsh/site-functions/_squitter
-	rm -f $(share)/fish/vendor_completions.d/squitter.fish
+	for name in squitter squitter-feed squitter-geojson; do \
+	  rm -f $(DESTDIR)$(PREFIX)/bin/$$name $(DESTDIR)$(share)/man/man1/$$name.1 $(DESTDIR)$(FISHDIR)/$$name.fish \
+	    $(DESTDIR)$(share)/bash-completion/completions/$$name $(DESTDIR)$(ZSHDIR)/_$$name || exit; \
+	done
+	rm -f $(DESTDIR)$(share)/squitter/squitter_feed.py
+	rmdir $(DESTDIR)$(share)/squitter 2> /dev/null || true
