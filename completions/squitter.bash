@@ -1,7 +1,7 @@
 # Completion of squitter for bash.
 
 _squitter() {
-    local word=${COMP_WORDS[COMP_CWORD]} before=${COMP_WORDS[COMP_CWORD-1]} names
+    local word=${COMP_WORDS[COMP_CWORD]} before=${COMP_WORDS[COMP_CWORD-1]} names=
     # bash takes the equals sign of --name=VALUE for a word of its own
     if [ "$word" = = ]; then
         word=
@@ -9,9 +9,11 @@ _squitter() {
         before=${COMP_WORDS[COMP_CWORD-2]}
     fi
     case $before in
+        # a file, which bash completes where this answers nothing
+        *[\<\>]) COMPREPLY=(); return ;;
         --kind) names="air ground" ;;
         --parity) names="even odd" ;;
-        --address | --feet | --lat | --lon | --limit | --window) names= ;;
+        --address | --feet | --lat | --lon | --limit | --window) compopt +o default 2>/dev/null ;;
         *)
             case ${COMP_WORDS[1]} in
                 show) names="--help" ;;
@@ -29,4 +31,4 @@ _squitter() {
     COMPREPLY=($(compgen -W "$names" -- "$word"))
 }
 
-complete -F _squitter squitter
+complete -o default -F _squitter squitter
