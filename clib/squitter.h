@@ -102,7 +102,7 @@ enum {
 };
 
 /* num / den degrees. An angle has a den from 1 to 10^12 and a magnitude of at most 360 degrees. What a call writes is in
- * lowest terms, with 0 as 0/1. */
+ * lowest terms, with 0 as 0/1, but for the fix of an entry, which is a place as it was worked out. */
 typedef struct squitter_angle {
   int64_t num;
   uint64_t den;
@@ -169,7 +169,8 @@ typedef struct squitter_altitude {
 
 /* What is kept of one address, for squitter_hear. The caller holds it, in an array, a map or a file: it is plain data, may be
  * copied, and is empty where all its bytes are 0, as calloc and memset leave it. Each value of each field is allowed: a frame
- * that spells no squitter, and a position that is none, count as nothing kept. */
+ * that spells no squitter, and a position that is none, count as nothing kept. One thread at a time may let an entry hear. Its
+ * numbers have the byte order of the machine, also in a file. */
 typedef struct squitter_received { /* a frame, and its moment */
   uint64_t moment;
   uint8_t frame[14];

@@ -15,6 +15,7 @@ from __future__ import annotations
 
 import ctypes
 import enum
+import operator
 import os
 from ctypes.util import find_library
 from dataclasses import dataclass
@@ -103,6 +104,10 @@ class Fault(ValueError):
         self.first = first
         self.second = second
         super().__init__(fault_text(code, first, second))
+
+    def __reduce__(self) -> Tuple[type, Tuple[int, int, int]]:
+        """What a copy, or another process of a pool, makes the fault of."""
+        return type(self), (int(self.code), self.first, self.second)
 
 
 class Position(NamedTuple):
@@ -271,11 +276,15 @@ _CALLS = {
 }
 
 
+# The folder of the library, where `make install` put it: the loader may not look there by itself.
+_LIBDIR = ""
+
+
 def _load() -> ctypes.CDLL:
-    """The library: that of LIBSQUITTER, that beside this file, or the system's."""
-    beside = os.path.join(os.path.dirname(os.path.abspath(__file__)), "libsquitter.so.0")
-    path = os.environ.get("LIBSQUITTER") or (beside if os.path.exists(beside) else None) or find_library("squitter")
-    library = ctypes.CDLL(path or "libsquitter.so.0")
+    """The library: that of LIBSQUITTER, that beside this file, the one installed with it, or the system's."""
+    places = [os.path.join(folder, "libsquitter.so.0") for folder in (os.path.dirname(os.path.abspath(__file__)), _LIBDIR) if folder]
+    installed = next((place for place in places if os.path.exists(place)), None)
+    library = ctypes.CDLL(os.environ.get("LIBSQUITTER") or installed or find_library("squitter") or "libsquitter.so.0")
     for name, arguments in _CALLS.items():
         call = getattr(library, f"squitter_{name}")
         call.argtypes, call.restype = arguments, _Fault
@@ -297,7 +306,8 @@ def _done(fault: _Fault) -> None:
 
 
 def _fits(value: int, bits: int) -> bool:
-    return 0 <= value < 1 << bits
+    """Whether a whole number fits so many bits. What is no whole number, as a float, is a TypeError."""
+    return 0 <= operator.index(value) < 1 << bits
 
 
 def _angle(degrees: Degrees, code: Code) -> _Angle:
@@ -352,22 +362,27 @@ def _read_position(position: _Position) -> Position:
 
 
 def _text(text: str) -> bytes:
-    """The bytes of a text, as the operating system hands them over: what is no UTF-8 comes as it was."""
-    return text.encode("utf-8", "surrogateescape")
+    """The bytes of a text, as the operating system hands them over: what is no UTF-8 comes as it was. Of other halves of
+    surrogate pairs, which no text has, the bytes are three that no frame and no angle has."""
+    try:
+        return text.encode("utf-8", "surrogateescape")
+    except UnicodeEncodeError:
+        return text.encode("utf-8", "surrogatepass")
 
 
 # ---- texts and frames ----
 
 
 def frame(source: Frame) -> bytes:
-    """The 14 bytes of a frame, or of a frame text. Other bytes raise ValueError."""
+    """The 14 bytes of a frame, or of a frame text. Another number of bytes, or items that are wider, raise ValueError."""
     if isinstance(source, str):
         out, text = _FRAME(), _text(source)
         _done(_lib.squitter_frame_of_text(text, len(text), ctypes.byref(out)))
         return bytes(out)
-    if len(source) != 14:
+    view = memoryview(source)
+    if view.itemsize != 1 or view.nbytes != 14:
         raise ValueError("a frame has 14 bytes")
-    return bytes(source)
+    return view.tobytes()
 
 
 def frame_text(source: Frame) -> str:
@@ -419,7 +434,8 @@ class Contact:
     """What is kept of one address, and what is heard of one frame more of it.
 
     The caller finds the contact of a frame's address; a frame of another address is not looked for. Moments and the window
-    are whole numbers below 2**64 of milliseconds, or of any other unit.
+    are whole numbers below 2**64 of milliseconds, or of any other unit. One thread at a time may let a contact hear. A copy,
+    or what is made of a pickle on a machine of the same byte order, has heard what the contact has, and goes its own way.
     """
 
     __slots__ = ("_entry", "_site", "_window")
@@ -428,13 +444,23 @@ class Contact:
         """A contact of which nothing was heard. The site is for pairs on the ground."""
         if not _fits(window, 64):
             raise ValueError("a window is a whole number below 2**64")
-        self._entry, self._window = _Entry(), window
+        self._entry, self._window = _Entry(), operator.index(window)
         self._site = None if site is None else _position(site)
+
+    def __copy__(self) -> Contact:
+        other = Contact(self._window)
+        other._entry = _Entry.from_buffer_copy(self._entry)
+        other._site = None if self._site is None else _Position.from_buffer_copy(self._site)
+        return other
+
+    def __deepcopy__(self, memo: object) -> Contact:
+        return self.__copy__()
 
     def hear(self, moment: int, source: Frame) -> Heard:
         """What is heard of a frame, by those that were heard before. A Fault leaves the contact as it was."""
         if not _fits(moment, 64):
             raise ValueError("a moment is a whole number below 2**64")
+        moment = operator.index(moment)
         out, entry = _Heard(), ctypes.byref(self._entry)
         heard = _frame_near(source, self._site)
         if self._site is None:
@@ -469,9 +495,15 @@ def encode(head: Union[AirHead, GroundHead], position: Position) -> bytes:
         name, value = field[0], getattr(head, field[0])
         if not _fits(value, 8 * ctypes.sizeof(field[1])):
             raise Fault(Code.BAD_FIELDS)
-        setattr(plain, name, value)
+        setattr(plain, name, operator.index(value))
     call = _lib.squitter_encode_air if kind is _AirHead else _lib.squitter_encode_ground
-    here, out = _position(position), _FRAME()
+    out = _FRAME()
+    try:
+        here = _position(position)
+    except Fault:
+        # what is wrong with the head comes first, as in the library's call
+        _done(call(ctypes.byref(plain), ctypes.byref(_position(Position(0, 0))), ctypes.byref(out)))
+        raise
     _done(call(ctypes.byref(plain), ctypes.byref(here), ctypes.byref(out)))
     return bytes(out)
 
@@ -520,7 +552,7 @@ def feet_of_field(type_code: int, field: int) -> Altitude:
 
 def field_of_feet(feet: int) -> int:
     """The altitude field that means so many feet: a multiple of 25 from -1000 to 50175."""
-    if not -1 << 31 <= feet < 1 << 31:
+    if not -1 << 31 <= operator.index(feet) < 1 << 31:
         raise Fault(Code.BAD_FEET)
     out = ctypes.c_uint16()
     _done(_lib.squitter_field_of_feet(feet, ctypes.byref(out)))
@@ -528,7 +560,10 @@ def field_of_feet(feet: int) -> int:
 
 
 def fault_text(code: int, first: int = 0, second: int = 0) -> str:
-    """The words of a fault, those of the program ``squitter`` where it has some."""
+    """The words of a fault, those of the program ``squitter`` where it has some. A number that is too large for C is a
+    ValueError."""
+    if not (_fits(code, 32) and _fits(first, 64) and _fits(second, 32)):
+        raise ValueError("a fault has a code below 2**32, a first number below 2**64 and a second below 2**32")
     plain, out = _Fault(code, second, first), ctypes.create_string_buffer(64)
     _lib.squitter_text_of_fault(ctypes.byref(plain), out)
     return out.value.decode("ascii")

@@ -1,7 +1,10 @@
 #!/usr/bin/env python3
 """The module squitter: each call on a worked row, each fault as it is raised, and what Python alone adds."""
+import array
+import copy
 import doctest
 import os
+import pickle
 import sys
 import unittest
 from fractions import Fraction
@@ -37,8 +40,15 @@ class Calls(unittest.TestCase):
         self.refused(Code.LENGTH, squitter.frame, "", first=0)
         self.refused(Code.DIGIT, squitter.frame, EVEN[:-1] + "G", first=28)
         self.refused(Code.LENGTH, squitter.frame, EVEN[:-1] + "\u00e9", first=29)
-        with self.assertRaises(ValueError):
-            squitter.frame(b"\0" * 13)
+        for other in (b"\0" * 13, b"", array.array("H", range(14)), array.array("H", range(7))):
+            with self.assertRaises(ValueError):
+                squitter.frame(other)
+        for other in (14, [0] * 14, None):
+            with self.assertRaises(TypeError):
+                squitter.frame(other)
+        self.assertEqual(squitter.frame(memoryview(b"-" + frame)[1:]), frame)
+        self.refused(Code.DIGIT, squitter.frame, "\ud800" + EVEN[3:], first=1)
+        self.refused(Code.DIGIT, squitter.frame, "\udc80" + EVEN[1:], first=1)
 
     def test_fields(self):
         fields = squitter.read(EVEN)
@@ -83,6 +93,13 @@ class Calls(unittest.TestCase):
         self.assertEqual(squitter.send_again(ODD, 0, PLACE), bytes.fromhex(EVEN))
         self.refused(Code.BAD_FIELDS, squitter.encode, AirHead(1 << 24), PLACE)
         self.refused(Code.BAD_FIELDS, squitter.encode, AirHead(1 << 32), PLACE)
+        nowhere = Position(Fraction(1, 1 << 64), 0)
+        self.refused(Code.BAD_FIELDS, squitter.encode, AirHead(1 << 24), nowhere)
+        self.refused(Code.BAD_FIELDS, squitter.encode, AirHead(1, type_code=99), nowhere)
+        self.refused(Code.BAD_FIELDS, squitter.encode, GroundHead(1, type_code=99), nowhere)
+        self.refused(Code.BAD_POSITION, squitter.encode, AirHead(1), nowhere)
+        with self.assertRaises(TypeError):
+            squitter.encode(AirHead(1.0), PLACE)
         self.refused(Code.BAD_PARITY, squitter.send_again, ODD, 2, PLACE)
         self.refused(Code.BAD_PARITY, squitter.send_again, ODD, -1, PLACE)
 
@@ -114,6 +131,26 @@ class Calls(unittest.TestCase):
         ground.hear(1, GROUND_OLDER)
         self.assertEqual(ground.hear(2, GROUND_NEWER), (What.FIX, GROUND_PLACE, 0, 0))
         self.refused(Code.BAD_POSITION, Contact(10, Position(91, 0)).hear, 1, EVEN)
+        for window, moment in ((10.0, 1), (10, 1.0), ("10", 1)):
+            with self.assertRaises(TypeError):
+                Contact(window).hear(moment, EVEN)
+        for window, moment in ((-1, 1), (1 << 64, 1), (10, -1), (10, 1 << 64)):
+            with self.assertRaises(ValueError):
+                Contact(window).hear(moment, EVEN)
+
+    def test_copies(self):
+        contact = Contact(10_000, SITE)
+        contact.hear(5, ODD)
+        for other in (copy.copy(contact), copy.deepcopy(contact), pickle.loads(pickle.dumps(contact))):
+            self.assertEqual(other.hear(6, EVEN), (What.FIX, PLACE, 0, 0))
+            self.assertEqual((contact.last, other.last), (5, 6))
+            other.hear(7, GROUND_OLDER)
+            self.assertEqual(other.hear(8, GROUND_NEWER).position, GROUND_PLACE)
+        self.assertEqual(contact.hear(6, EVEN).what, What.FIX)
+        fault = Fault(Code.ZONE_COUNTS, 45, 44)
+        for other in (copy.copy(fault), copy.deepcopy(fault), pickle.loads(pickle.dumps(fault))):
+            self.assertEqual((other.code, other.first, other.second), (Code.ZONE_COUNTS, 45, 44))
+            self.assertEqual(str(other), "zone counts 45 44")
 
     def test_faults(self):
         self.assertEqual(squitter.fault_text(Code.ZONE_COUNTS, 45, 44), "zone counts 45 44")
@@ -121,6 +158,9 @@ class Calls(unittest.TestCase):
         self.assertEqual(squitter.fault_text(77), "unknown fault")
         texts = [squitter.fault_text(code) for code in Code]
         self.assertNotIn("unknown fault", texts)
+        for code, first, second in ((1 << 32, 0, 0), (-1, 0, 0), (6, 1 << 64, 0), (16, 45, 1 << 32)):
+            with self.assertRaises(ValueError):
+                squitter.fault_text(code, first, second)
 
 
 def load_tests(loader, tests, pattern):
