@@ -1,5 +1,6 @@
 //! The devices over readers and writers that keep a log: the clauses of `Source` and `Sink`, and what none says, that
 //! the output is flushed before input is awaited. The words over a made-up command line.
+use crate::devices::end_with;
 use crate::faulty_devices::{finish, get, put, sink_of, taken};
 use sq_console::{PromptInput, PromptOutput, SharedOutput, Trouble, arguments};
 use sq_devices::{Failed, Sink, Source};
@@ -114,6 +115,67 @@ fn lets_each_answer_go_before_it_reads_more(rt: HostRuntime) -> Result<(), Alloc
     };
     echo(&rt, rt.alloc(), lines, writer)?;
     assert!(rt; log.into_inner().as_slice() == b"<a\n<b\n<end".as_slice());
+    Ok(())
+}
+
+/// Notes each write in parentheses, and takes no more than `size` bytes a call.
+#[derive(Drop)]
+struct Marked<'a> {
+    log: &'a Log,
+    size: usize,
+}
+
+impl Write for Marked<'_> {
+    fn write(&mut self, buf: &[u8]) -> io::Result<usize> {
+        let count = buf.len().min(self.size);
+        note(self.log, b"(")?;
+        note(self.log, &buf[..count])?;
+        note(self.log, b")")?;
+        Ok(count)
+    }
+
+    fn flush(&mut self) -> io::Result<()> {
+        Ok(())
+    }
+}
+
+// The output goes where a read follows, and not at each get: what two gets out of one read are answered is one write.
+#[test]
+fn writes_once_for_each_read(rt: HostRuntime) -> Result<(), AllocError> {
+    let log = RefCell::new(Vec::new(rt.alloc()));
+    let writer = Marked {
+        log: &log,
+        size: 100,
+    };
+    let lines = Lines {
+        log: &log,
+        text: b"a\nb\n",
+    };
+    echo(&rt, rt.alloc(), lines, writer)?;
+    assert!(rt; log.into_inner().as_slice() == b"<(a\n)<(b\n)<(end)".as_slice());
+    Ok(())
+}
+
+// Asserts that a text goes whole to a sink, which is then finished.
+fn assert_put_last(rt: &impl Abort, output: &mut impl Sink, text: &[u8]) {
+    assert!(rt; end_with(output, text) == Ok(()));
+}
+
+// How many bytes of these letters stand in the log.
+fn letters_in(log: &[u8]) -> usize {
+    log.iter().filter(|byte| **byte == b'a').count()
+}
+
+// A text that is larger than the output's buffer goes through, three bytes a write.
+#[test]
+fn writes_a_text_larger_than_its_buffer(rt: HostRuntime) -> Result<(), AllocError> {
+    let log = RefCell::new(Vec::new(rt.alloc()));
+    let text = vec![in rt.alloc(); b'a'; 140_000]?;
+    let writer = Marked { log: &log, size: 3 };
+    let shared = SharedOutput::new(rt.alloc(), writer)?;
+    assert_put_last(&rt, &mut PromptOutput::new(&shared), text.as_slice());
+    drop(shared);
+    assert!(rt; letters_in(log.into_inner().as_slice()) == 140_000);
     Ok(())
 }
 
@@ -340,6 +402,22 @@ fn tells_a_failed_read(rt: HostRuntime) -> Result<(), AllocError> {
     let log = RefCell::new(Vec::new(rt.alloc()));
     assert_second_get_over(&rt, rt.alloc(), once_of(&log))?;
     assert!(rt; log.into_inner().as_slice() == b"<<".as_slice());
+    Ok(())
+}
+
+// Asserts that a flush which failed at a get is told at the finish, though the writer would take the text by then.
+fn assert_told_late(rt: &impl Abort, input: &mut impl Source, output: &mut impl Sink) {
+    assert!(rt; put(output, b"end") == Ok(3));
+    assert!(rt; get(input, &mut [0; 2]) == Ok(2));
+    assert!(rt; finish(output) == Err(Failed));
+}
+
+#[test]
+fn tells_a_flush_that_failed_before_the_finish(rt: HostRuntime) -> Result<(), AllocError> {
+    let log = RefCell::new(Vec::new(rt.alloc()));
+    let shared = SharedOutput::new(rt.alloc(), once_of(&log))?;
+    let mut input = input_of(rt.alloc(), b"ab".as_slice(), &shared)?;
+    assert_told_late(&rt, &mut input, &mut PromptOutput::new(&shared));
     Ok(())
 }
 

@@ -142,7 +142,7 @@ fn put_whole(sink: &mut impl Sink, text: &[u8]) -> Result<(), Failed> {
 }
 
 // `put_last` without its clauses.
-fn end_with(sink: &mut impl Sink, text: &[u8]) -> Result<(), Failed> {
+pub(crate) fn end_with(sink: &mut impl Sink, text: &[u8]) -> Result<(), Failed> {
     put_last(sink, text)
 }
 

@@ -1,5 +1,6 @@
 -- What the devices of the console hold.
-use Rattle.std.specs.Prelude.{ℕ, Bool, List, Option}
+use Rattle.std.specs.Prelude.{◌≡◌, ◌+◌, ℕ, Bool, List, Option}
+use Rattle.std.specs.Io.KnownBytes.{Consumes}
 use Rattle.std.specs.Io.Buffered.{reader_remaining}
 use Rattle.std.specs.declared.io.traits.Write.{Ghosts}
 use Rattle.sq_console.specs.declared.prompt.PromptInput.{PromptInput}
@@ -20,3 +21,22 @@ get_failed s = s.failed
 -- whether a put or a finish has failed
 abbrev pub put_failed : {W : Type 0} → PromptOutput W → Bool
 put_failed s = s.failed
+
+-- how often the output was finished
+abbrev pub finishes_of : {W : Type 0} → PromptOutput W → ℕ
+finishes_of s = s.finishes
+
+-- one get gave the bytes: they are the next ones of the buffer and the reader, where it reports its bytes, and one get
+-- was used up
+abbrev pub IsGiven : {R W : Type 0} {g : Ghosts W} → (R → Option (List ℕ)) → PromptInput R W g → List ℕ
+    → PromptInput R W g → Type 0
+IsGiven remaining old bytes new =
+    Consumes (to_come_of remaining old) (to_come_of remaining new) bytes × (new.gets + 1 ≡ old.gets)
+
+-- one put took the bytes, and no finish was counted; what the writer has of them, the output does not report
+abbrev pub IsTaken : {W : Type 0} → PromptOutput W → List ℕ → PromptOutput W → Type 0
+IsTaken old bytes new = new.finishes ≡ old.finishes
+
+-- one finish was counted
+abbrev pub IsFinish : {W : Type 0} → PromptOutput W → PromptOutput W → Type 0
+IsFinish old new = new.finishes ≡ old.finishes + 1

@@ -92,13 +92,15 @@ impl<'a, R: Read + Drop, W: Write + Drop> PromptInput<'a, R, W> {
 }
 
 impl<R: Read, W: Write + Drop> Source for PromptInput<'_, R, W> {
-    ghost use Rattle.sq_console.specs.Prompt.{get_failed, gets_of, to_come_of};
+    ghost use Rattle.sq_console.specs.Prompt.{IsGiven, get_failed, gets_of, to_come_of};
 
     ghost to_come = { λ s. to_come_of R.remaining s };
 
     ghost has_failed = { λ s. get_failed s };
 
     ghost gets_left = { λ s. gets_of s };
+
+    ghost Gave = { IsGiven R.remaining };
 
     ghost few_gets = { λ s. s.few };
 
@@ -128,6 +130,7 @@ impl<R: Read, W: Write + Drop> Source for PromptInput<'_, R, W> {
 pub struct PromptOutput<'a, W: Write + Drop> {
     output: &'a SharedOutput<W>,
     failed: bool,
+    finishes: u64,
 }
 
 impl<'a, W: Write + Drop> PromptOutput<'a, W> {
@@ -136,21 +139,29 @@ impl<'a, W: Write + Drop> PromptOutput<'a, W> {
     /// A put fails where the writer does, where it takes none of a text that has bytes, or where a
     /// flush has failed before. `finish` flushes, and fails likewise.
     pub fn new(output: &'a SharedOutput<W>) -> Self
-        ensures { ⟦<PromptOutput<'a, W> as Sink>⟧.has_failed result ≡ false }
+        ensures unfailed { ⟦<PromptOutput<'a, W> as Sink>⟧.has_failed result ≡ false }
+        ensures finishes { ⟦<PromptOutput<'a, W> as Sink>⟧.finishes result ≡ 0 }
     {
         PromptOutput {
             output,
             failed: false,
+            finishes: 0,
         }
     }
 }
 
 impl<W: Write + Drop> Sink for PromptOutput<'_, W> {
-    ghost use Rattle.sq_console.specs.Prompt.{put_failed};
+    ghost use Rattle.sq_console.specs.Prompt.{IsFinish, IsTaken, finishes_of, put_failed};
 
     ghost written = { λ _. None };
 
     ghost has_failed = { λ s. put_failed s };
+
+    ghost finishes = { λ s. finishes_of s };
+
+    ghost Took = { IsTaken };
+
+    ghost Finished = { IsFinish };
 
     fn put(&mut self, from: &[u8]) -> Result<usize, Failed> {
         if let Ok(mut buffered) = self.output.buffered.try_borrow_mut() {
@@ -167,7 +178,11 @@ impl<W: Write + Drop> Sink for PromptOutput<'_, W> {
 
     fn finish(&mut self) -> Result<(), Failed> {
         if let Ok(mut buffered) = self.output.buffered.try_borrow_mut() {
-            if !buffered.flush_failed && buffered.writer.flush().is_ok() {
+            if self.finishes < u64::MAX
+                && !buffered.flush_failed
+                && buffered.writer.flush().is_ok()
+            {
+                self.finishes += 1;
                 return Ok(());
             }
         }

@@ -1,23 +1,20 @@
 -- A text that is put in several parts.
-use Rattle.std.proofs.Common.{◌≡◌, ◌+◌, ◌-◌, ◌≤◌, ◌++◌, ◌∙◌, ℕ, List, Option, None, Some, length, take, drop, ap, sym, subst, take-append-drop}
+use Rattle.std.proofs.Common.{◌≡◌, ◌+◌, ◌-◌, ◌≤◌, ◌++◌, ◌∙◌, ℕ, List, [], ◌∷◌, Option, None, Some, length, take, drop, ap, ap₂, sym, subst, refl, append-nil, take-append-drop}
+use Rattle.std.proofs.lemmas.List.Folds.{concat-append}
 use Rattle.std.proofs.Math.Seq.{take-add}
 use Rattle.std.proofs.lemmas.List.{take-take}
+use Rattle.std.specs.Prelude.{◌↔◌}
 use Rattle.std.specs.Io.KnownBytes.{Appends}
-use Rattle.std.proofs.KnownBytes.{Appends-trans}
+use Rattle.std.proofs.KnownBytes.{Appends-nil, Appends-trans}
+use Rattle.sq_devices.specs.Calls.{Calls, HasPut}
 use Rattle.sq_devices.specs.Device.{AppendsOrHides, KeepsOrHides, IsPrefixOf}
+use Rattle.sq_devices.specs.declared.device.Sink.{Ghosts as SinkGhosts}
 
 -- a prefix of the text, and then the first n bytes of the rest
 pub take_front : (text : List ℕ) (at n : ℕ) → n ≤ length text - at
     → take at text ++ take n (take (length text - at) (drop at text)) ≡ take (at + n) text
 take_front text at n fits =
     ap (λ part. take at text ++ part) (take-take n (length text - at) (drop at text) fits) ∙ sym (take-add at n text)
-
--- one more put makes the front longer
-pub puts_more : (a b c : Option (List ℕ)) (text : List ℕ) (at n : ℕ) → n ≤ length text - at
-    → Appends a b (take at text) → Appends b c (take n (take (length text - at) (drop at text)))
-    → Appends a c (take (at + n) text)
-puts_more a b c text at n fits front part =
-    subst (Appends a c) (take_front text at n fits) (Appends-trans a b c _ _ front part)
 
 -- bytes that grew and then were kept or hidden
 pub Appends-hidden : (a b c : Option (List ℕ)) (bs : List ℕ) → Appends a b bs → KeepsOrHides b c → AppendsOrHides a c bs
@@ -31,3 +28,51 @@ pub puts_part : (a b c : Option (List ℕ)) (text : List ℕ) (at : ℕ) → App
     → (part : List ℕ) × IsPrefixOf part text × AppendsOrHides a c part
 puts_part a b c text at front kept =
     (take at text, (drop at text, sym (take-append-drop at text)), Appends-hidden a b c _ front kept)
+
+-- ---- calls, one after the other
+
+pub calls_append : {D : Type 0} (One : D → List ℕ → D → Type 0) (a b c : D) (xs ys : List (List ℕ)) → Calls One a b xs
+    → Calls One b c ys → Calls One a c (xs ++ ys)
+calls_append One a b c [] ys first second = subst (λ d. Calls One d c ys) first second
+calls_append One a b c (x ∷ xs) ys (next, one, first) second = (next, one, calls_append One next b c xs ys first second)
+
+-- one call more
+pub calls_more : {D : Type 0} (One : D → List ℕ → D → Type 0) (a b c : D) (xs : List (List ℕ)) (x : List ℕ)
+    → Calls One a b xs → One b x c → Calls One a c (xs ++ x ∷ [])
+calls_more One a b c xs x first one = calls_append One a b c xs (x ∷ []) first (c, one, refl)
+
+-- nothing was put
+pub HasPut-nil : {K : Type 0} (k : SinkGhosts K) (sink : K) → HasPut k sink sink []
+HasPut-nil k sink = (Appends-nil (k.written sink), ([], refl, refl))
+
+-- one text after the other
+pub HasPut-trans : {K : Type 0} (k : SinkGhosts K) (a b c : K) (x y : List ℕ) → HasPut k a b x → HasPut k b c y
+    → HasPut k a c (x ++ y)
+HasPut-trans k a b c x y (first, (xs, put_x, is_x)) (second, (ys, put_y, is_y)) = (
+  Appends-trans (k.written a) (k.written b) (k.written c) x y first second,
+  (
+    xs ++ ys,
+    calls_append k.Took a b c xs ys put_x put_y,
+    concat-append xs ys ∙ ap₂ (λ l m. l ++ m) is_x is_y,
+  ),
+)
+
+-- one put
+pub HasPut-one : {K : Type 0} (k : SinkGhosts K) (a b : K) (x : List ℕ) → Appends (k.written a) (k.written b) x
+    → k.Took a x b → HasPut k a b x
+HasPut-one k a b x grown took = (grown, (x ∷ [], (b, took, refl), append-nil x))
+
+-- one more put makes the front longer
+pub HasPut-more : {K : Type 0} (k : SinkGhosts K) (a b c : K) (text : List ℕ) (at n : ℕ) → n ≤ length text - at
+    → HasPut k a b (take at text) → HasPut k b c (take n (take (length text - at) (drop at text)))
+    → HasPut k a c (take (at + n) text)
+HasPut-more k a b c text at n fits front part =
+    subst (HasPut k a c) (take_front text at n fits) (HasPut-trans k a b c _ _ front part)
+
+-- calls of two parts are one of each
+pub two_calls : {D : Type 0} (One : D → List ℕ → D → Type 0) (a c : D) (x y : List ℕ)
+    → Calls One a c (x ∷ y ∷ []) ↔ ((b : D) × One a x b × One b y c)
+two_calls One a c x y = (
+  λ calls. (calls.0, calls.1, subst (One calls.0 y) (sym calls.2.2) calls.2.1),
+  λ both. (both.0, both.1, (c, both.2, refl)),
+)

@@ -1,5 +1,6 @@
 -- What the devices over a reader and a writer hold.
-use Rattle.std.specs.Prelude.{ℕ, Bool}
+use Rattle.std.specs.Prelude.{◌≡◌, ◌+◌, ℕ, Bool, List, Option}
+use Rattle.std.specs.Io.KnownBytes.{Appends, Consumes, Keeps}
 use Rattle.sq_devices.specs.declared.readers.Reading.{Reading}
 use Rattle.sq_devices.specs.declared.writers.Writing.{Writing}
 
@@ -22,3 +23,22 @@ writer_of s = s.writer
 -- whether a put or a finish has failed
 abbrev pub put_failed : {W : Type 0} → Writing W → Bool
 put_failed s = s.failed
+
+-- how often a sink was finished
+abbrev pub finishes_of : {W : Type 0} → Writing W → ℕ
+finishes_of s = s.finishes
+
+-- one get gave the bytes: the reader lost them from its front, where it reports its bytes, and one get was used up
+abbrev pub IsGiven : {R : Type 0} → (R → Option (List ℕ)) → Reading R → List ℕ → Reading R → Type 0
+IsGiven remaining old bytes new =
+    Consumes (remaining old.reader) (remaining new.reader) bytes × (new.gets + 1 ≡ old.gets)
+
+-- one put took the bytes: the writer got them, where it reports its bytes, and no finish was counted
+abbrev pub IsTaken : {W : Type 0} → (W → Option (List ℕ)) → Writing W → List ℕ → Writing W → Type 0
+IsTaken contents old bytes new =
+    Appends (contents old.writer) (contents new.writer) bytes × (new.finishes ≡ old.finishes)
+
+-- one finish was counted, and the writer has the bytes that it had, where it reports them
+abbrev pub IsFinish : {W : Type 0} → (W → Option (List ℕ)) → Writing W → Writing W → Type 0
+IsFinish contents old new =
+    Keeps (contents old.writer) (contents new.writer) × (new.finishes ≡ old.finishes + 1)

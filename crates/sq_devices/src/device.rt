@@ -21,6 +21,10 @@ pub trait Source {
     /// How many more gets the source answers.
     ghost gets_left: { Self → ℕ };
 
+    /// Whether one get answered these bytes, of a source as it was before it and as it is after it. What that tells is
+    /// the source's to say; that a get was answered so, none but a get can show of any source.
+    ghost Gave: { Self → List ℕ → Self → Type 0 };
+
     /// Moves the first bytes to come to the front of `into`, and answers how many: 0 into a buffer
     /// that has room only where no more bytes come. An answer uses up one get.
     ///
@@ -28,6 +32,7 @@ pub trait Source {
     /// them, and no get is used up.
     fn get(&mut self, into: &mut [u8]) -> Result<usize, Failed>
         ensures fits { IfOk result (λ n. n ≤ length into.new) }
+        ensures gave { IfOk result (λ n. Gave self.old (take n into.new) self.new) }
         ensures moved { IfOk result (λ n. Consumes (to_come self.old) (to_come self.new) (take n into.new)) }
         ensures end { IfOk result (λ n. n ≡ 0 → 0 < length into.new → IsAtEnd (to_come self.new)) }
         ensures used { OnOk result (gets_left self.new + 1 ≡ gets_left self.old) }
@@ -47,23 +52,39 @@ pub trait Sink {
     /// Whether a put or a finish has failed.
     ghost has_failed: { Self → Bool };
 
+    /// How often the sink was finished.
+    ghost finishes: { Self → ℕ };
+
+    /// Whether one put took these bytes, of a sink as it was before it and as it is after it. What that tells is the
+    /// sink's to say; that a put took them, none but a put can show of any sink.
+    ghost Took: { Self → List ℕ → Self → Type 0 };
+
+    /// Whether one finish led from the one sink to the other.
+    ghost Finished: { Self → Self → Type 0 };
+
     /// Appends the first bytes of `from`, at least one if there is one, and answers how many.
     ///
     /// `Err` marks the sink as failed. Its bytes stay as they were, or the sink does not report them.
     fn put(&mut self, from: &[u8]) -> Result<usize, Failed>
         ensures fits { IfOk result (λ n. n ≤ length from.now) }
+        ensures took { IfOk result (λ n. Took self.old (take n from.now) self.new) }
         ensures some { IfOk result (λ n. 0 < length from.now → 0 < n) }
         ensures appended { IfOk result (λ n. Appends (written self.old) (written self.new) (take n from.now)) }
         ensures unmarked { OnOk result (has_failed self.new ≡ has_failed self.old) }
         ensures failed { OnErr result (has_failed self.new ≡ true) }
-        ensures kept { OnErr result (KeepsOrHides (written self.old) (written self.new)) };
+        ensures kept { OnErr result (KeepsOrHides (written self.old) (written self.new)) }
+        ensures uncounted { finishes self.new ≡ finishes self.old };
 
     /// Sends what was put on its way, since no more comes. It changes no bytes.
     ///
-    /// `Err` marks the sink as failed. Its bytes stay as they were, or the sink does not report them.
+    /// `Err` marks the sink as failed, and counts as no finish. Its bytes stay as they were, or the sink does not
+    /// report them.
     fn finish(&mut self) -> Result<(), Failed>
         ensures bytes { OnOk result (Keeps (written self.old) (written self.new)) }
         ensures unmarked { OnOk result (has_failed self.new ≡ has_failed self.old) }
         ensures failed { OnErr result (has_failed self.new ≡ true) }
-        ensures kept { OnErr result (KeepsOrHides (written self.old) (written self.new)) };
+        ensures kept { OnErr result (KeepsOrHides (written self.old) (written self.new)) }
+        ensures sent { OnOk result (Finished self.old self.new) }
+        ensures counted { OnOk result (finishes self.new ≡ finishes self.old + 1) }
+        ensures uncounted { OnErr result (finishes self.new ≡ finishes self.old) };
 }

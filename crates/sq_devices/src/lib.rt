@@ -7,6 +7,7 @@
 #![tactic(auto)]
 
 mod device;
+pub mod laws;
 mod readers;
 mod texts;
 mod writers;

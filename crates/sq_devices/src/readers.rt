@@ -43,13 +43,15 @@ impl<R: Read> Reading<R> {
 }
 
 impl<R: Read> Source for Reading<R> {
-    ghost use Rattle.sq_devices.specs.Streams.{get_failed, gets_of, reader_of};
+    ghost use Rattle.sq_devices.specs.Streams.{IsGiven, get_failed, gets_of, reader_of};
 
     ghost to_come = { λ s. R.remaining (reader_of s) };
 
     ghost has_failed = { λ s. get_failed s };
 
     ghost gets_left = { λ s. gets_of s };
+
+    ghost Gave = { IsGiven R.remaining };
 
     ghost few_gets = { λ s. s.few };
 

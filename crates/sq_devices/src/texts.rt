@@ -1,6 +1,8 @@
 //! Whole texts to a sink.
 ghost use Rattle.std.specs.Prelude.{◌≡◌, List, ℕ, OnOk, OnErr, true};
 ghost use Rattle.std.specs.Io.KnownBytes.{Appends};
+ghost use Rattle.sq_devices.specs.Calls.{HasPut, HasSent};
+ghost use Rattle.sq_devices.specs.Changes.{FinishedOnce, Unfinished, written_on};
 ghost use Rattle.sq_devices.specs.Device.{AppendsOrHides, IsPrefixOf};
 
 use crate::{Failed, Sink};
@@ -15,6 +17,8 @@ pub fn put_all<K: Sink>(sink: &mut K, text: &[u8]) -> Result<(), Failed>
     ensures failed { OnErr result (K.has_failed sink.new ≡ true) }
     ensures part { OnErr result ((part : List ℕ) × IsPrefixOf part text.now
         × AppendsOrHides (K.written sink.old) (K.written sink.new) part) }
+    ensures uncounted { K.finishes sink.new ≡ K.finishes sink.old }
+    ensures put { OnOk result (HasPut K.Sink sink.old sink.new text.now) }
 {
     let mut at = 0;
     while at < text.len() {
@@ -23,7 +27,7 @@ pub fn put_all<K: Sink>(sink: &mut K, text: &[u8]) -> Result<(), Failed>
     Ok(())
 }
 
-/// Appends the whole text, and finishes the sink, since no more comes.
+/// Appends the whole text, and then finishes the sink once, since no more comes.
 ///
 /// `Err` comes where one of the puts or the finish failed. The sink is then marked as failed, and
 /// what was appended is a prefix of the text.
@@ -33,6 +37,9 @@ pub fn put_last<K: Sink>(sink: &mut K, text: &[u8]) -> Result<(), Failed>
     ensures failed { OnErr result (K.has_failed sink.new ≡ true) }
     ensures part { OnErr result ((part : List ℕ) × IsPrefixOf part text.now
         × AppendsOrHides (K.written sink.old) (K.written sink.new) part) }
+    ensures finished { OnOk result (FinishedOnce (written_on K.Sink sink.old sink.new)) }
+    ensures unfinished { OnErr result (Unfinished (written_on K.Sink sink.old sink.new)) }
+    ensures sent { OnOk result (HasSent K.Sink sink.old sink.new text.now) }
 {
     put_all(sink, text)?;
     sink.finish()

@@ -9,6 +9,7 @@ use std::io::Write;
 pub struct Writing<W> {
     writer: W,
     failed: bool,
+    finishes: u64,
 }
 
 impl<W: Write> Writing<W> {
@@ -17,15 +18,17 @@ impl<W: Write> Writing<W> {
     /// A sink, not failed.
     ///
     /// A put fails whose write answers an error, or 0 for a text that has bytes. `finish` flushes
-    /// the writer, and fails where that does.
+    /// the writer, and fails where that does, and after 2^64 - 1 finishes.
     pub fn new(writer: W) -> Self
         ensures writer { writer_of result ≡ writer }
         ensures written { ⟦<Writing<W> as Sink>⟧.written result ≡ W.contents writer }
         ensures unfailed { ⟦<Writing<W> as Sink>⟧.has_failed result ≡ false }
+        ensures finishes { ⟦<Writing<W> as Sink>⟧.finishes result ≡ 0 }
     {
         Writing {
             writer,
             failed: false,
+            finishes: 0,
         }
     }
 
@@ -39,11 +42,17 @@ impl<W: Write> Writing<W> {
 }
 
 impl<W: Write> Sink for Writing<W> {
-    ghost use Rattle.sq_devices.specs.Streams.{put_failed, writer_of};
+    ghost use Rattle.sq_devices.specs.Streams.{IsFinish, IsTaken, finishes_of, put_failed, writer_of};
 
     ghost written = { λ s. W.contents (writer_of s) };
 
     ghost has_failed = { λ s. put_failed s };
+
+    ghost finishes = { λ s. finishes_of s };
+
+    ghost Took = { IsTaken W.contents };
+
+    ghost Finished = { IsFinish W.contents };
 
     fn put(&mut self, from: &[u8]) -> Result<usize, Failed> {
         match self.writer.write(from) {
@@ -56,12 +65,11 @@ impl<W: Write> Sink for Writing<W> {
     }
 
     fn finish(&mut self) -> Result<(), Failed> {
-        match self.writer.flush() {
-            Ok(()) => Ok(()),
-            Err(_) => {
-                self.failed = true;
-                Err(Failed)
-            }
+        if self.finishes < u64::MAX && self.writer.flush().is_ok() {
+            self.finishes += 1;
+            return Ok(());
         }
+        self.failed = true;
+        Err(Failed)
     }
 }

@@ -5,12 +5,13 @@ use Rattle.std.proofs.lemmas.Bool.{cases_lt, eq-eqb, ne_eqb, eqb-true, eqb-false
 use Rattle.std.proofs.lemmas.List.{length_push}
 use Rattle.std.specs.List.{position_or_len, before_first}
 use Rattle.std.specs.Io.KnownBytes.{Appends}
-use Rattle.std.proofs.KnownBytes.{Appends-nil, Appends-trans}
 use Rattle.sq_devices.specs.Device.{AppendsOrHides, IsPrefixOf, KeepsOrHides, WroteFront}
-use Rattle.sq_devices.proofs.Puts.{Appends-hidden}
+use Rattle.sq_devices.proofs.Puts.{Appends-hidden, HasPut-nil, HasPut-trans}
+use Rattle.sq_devices.specs.Calls.{HasPut}
+use Rattle.sq_devices.specs.declared.device.Sink.{Ghosts as SinkGhosts}
 use Rattle.sq_lines.specs.Lines.{is_feed, HasNoFeed, Cuts, ended_lines, lines_of, as_last_line}
 use Rattle.sq_lines.specs.Held.{Held, Holds, GoesOn, empty_line}
-use Rattle.sq_lines.specs.Answers.{answers_to, Answerer, past_after, answer_text, output_of, tally_of, noted}
+use Rattle.sq_lines.specs.Answers.{answers_to, Manner, past_after, answer_text, output_of, tally_of, noted}
 use Rattle.sq_lines.specs.Runs.{HasAnswered, HasTold, HasToldPart, StoppedIn}
 use Rattle.sq_lines.specs.declared.faults.Unanswered.{Unanswered}
 use Rattle.sq_lines.specs.declared.faults.Unanswered.TheVariants.{Write, Memory}
@@ -32,122 +33,121 @@ AppendsOrHides-after (Some x) (Some y) (Some z) bs cs p q = q ∙ ap (λ l. l ++
 pub prefix_trans : {X : Type 0} (xs ys zs : List X) → IsPrefixOf xs ys → IsPrefixOf ys zs → IsPrefixOf xs zs
 prefix_trans xs ys zs p q = (p.0 ++ q.0, q.1 ∙ ap (λ l. l ++ q.0) p.1 ∙ append_assoc xs p.0 q.0)
 
-pub stopped_longer : {State Past Found : Type 0} (stands_for : State → Past → Type 0) (way : Answerer Past Found)
-    (fault : Unanswered) (start now : State)
-    (before after : Option (List ℕ)) (lines more : List (List ℕ))
-    → StoppedIn fault stands_for way start now before after lines → IsPrefixOf lines more
-    → StoppedIn fault stands_for way start now before after more
-stopped_longer stands_for way fault start now before after lines more (told, first, rest) longer =
-    (told, prefix_trans told lines more first longer, rest)
-
 -- ---- the start
 
-pub starts : {State Past Found : Type 0} (stands_for : State → Past → Type 0) (way : Answerer Past Found)
-    (start : State) (sink : Option (List ℕ)) (run : LineRun)
+pub starts : {State Past Found : Type 0} (how : Manner State Past Found)
+    {K : Type 0} (k : SinkGhosts K) (start : State) (sink : K) (run : LineRun)
     → run.number ≡ 0 → run.cutter ≡ empty_line
     → (let none : Tally = record { good = 0; refused = 0 } in run.tally ≡ none)
-    → HasAnswered stands_for way start sink run start sink []
-starts stands_for way start sink run number cutter tally = record {
+    → HasAnswered how start (HasPut k sink sink) run start []
+starts how k start sink run number cutter tally = record {
   lines = [];
   rest = [];
   cut = cuts_nothing;
   number = number;
   held = subst (λ h. GoesOn h []) (sym cutter) (record { front = refl; more = refl });
-  tally = λ past st. tally ∙ sym (tally_nothing way past);
-  told = λ past st. (st, subst (Appends sink sink) (sym (output_none way past)) (Appends-nil sink));
+  tally = λ past st. tally ∙ sym (tally_nothing how.way past);
+  told = λ past st. (st, subst (HasPut k sink sink) (sym (output_none how.way past)) (HasPut-nil k sink));
 }
 
 -- ---- one more line
 
 -- from each past, the line was answered
-abbrev pub LineTold : {State Past Found : Type 0} → (State → Past → Type 0) → Answerer Past Found → (old new : LineRun)
-    → (now next : State) → (a b : Option (List ℕ)) → List ℕ → Type 0
-LineTold {Past = Past} stands_for way old new now next a b line = (past first : Past) → stands_for now past
-    → stands_for next (way.after past line) × (new.tally ≡ noted old.tally (way.answer past line))
-    × Appends a b (answer_text (way.text first) (old.number + 1) (way.answer past line))
+abbrev pub LineTold : {State Past Found : Type 0} → Manner State Past Found → (old new : LineRun)
+    → (now next : State) → (List ℕ → Type 0) → List ℕ → Type 0
+LineTold {Past = Past} how old new now next Wrote line = (past first : Past) → how.stands_for now past
+    → how.stands_for next (how.way.after past line) × (new.tally ≡ noted old.tally (how.way.answer past line))
+    × Wrote (answer_text (how.way.text first) (old.number + 1) (how.way.answer past line))
 
 -- the same, with a prefix of the text
-abbrev pub LineToldPart : {State Past Found : Type 0} → (State → Past → Type 0) → Answerer Past Found → (old : LineRun)
+abbrev pub LineToldPart : {State Past Found : Type 0} → Manner State Past Found → (old : LineRun)
     → (now next : State) → (a b : Option (List ℕ)) → List ℕ → Type 0
-LineToldPart {Past = Past} stands_for way old now next a b line = (past first : Past) → stands_for now past
-    → stands_for next (way.after past line)
-    × WroteFront a b (answer_text (way.text first) (old.number + 1) (way.answer past line))
+LineToldPart {Past = Past} how old now next a b line = (past first : Past) → how.stands_for now past
+    → how.stands_for next (how.way.after past line)
+    × WroteFront a b (answer_text (how.way.text first) (old.number + 1) (how.way.answer past line))
 
-module _ {State Past Found : Type 0} (stands_for : State → Past → Type 0) (way : Answerer Past Found) (start : State)
-    (before a b : Option (List ℕ))
+module _ {State Past Found : Type 0} (how : Manner State Past Found) {K : Type 0} (k : SinkGhosts K) (start : State)
+    (before a b : K)
     (old new : LineRun) (now next : State) (read : List ℕ)
-    (h : HasAnswered stands_for way start before old now a read) where
+    (h : HasAnswered how start (HasPut k before a) old now read) where
   output_through : (past : Past) (line : List ℕ)
-      → output_of way past h.lines ++ answer_text (way.text past) (old.number + 1)
-      (way.answer (past_after way past h.lines) line) ≡ output_of way past (h.lines ++ line ∷ [])
+      → output_of how.way past h.lines ++ answer_text (how.way.text past) (old.number + 1)
+      (how.way.answer (past_after how.way past h.lines) line) ≡ output_of how.way past (h.lines ++ line ∷ [])
   output_through past line =
-      ap (λ (n : ℕ). output_of way past h.lines
-      ++ answer_text (way.text past) (n + 1) (way.answer (past_after way past h.lines) line)) h.number
-      ∙ sym (output_push way past h.lines line)
+      ap (λ (n : ℕ). output_of how.way past h.lines
+      ++ answer_text (how.way.text past) (n + 1) (how.way.answer (past_after how.way past h.lines) line)) h.number
+      ∙ sym (output_push how.way past h.lines line)
 
-  pub told_line : (line : List ℕ) → LineTold stands_for way old new now next a b line
-      → HasTold stands_for way start next before b (h.lines ++ line ∷ [])
+  pub told_line : (line : List ℕ) → LineTold how old new now next (HasPut k a b) line
+      → HasTold how start next (HasPut k before b) (h.lines ++ line ∷ [])
   told_line line more = λ past st.
       let told = h.told past st in
-      let one = more (past_after way past h.lines) past told.0 in (
-        subst (stands_for next) (sym (past_push way past h.lines line)) one.0,
-        subst (Appends before b) (output_through past line) (Appends-trans before a b _ _ told.1 one.2),
+      let one = more (past_after how.way past h.lines) past told.0 in (
+        subst (how.stands_for next) (sym (past_push how.way past h.lines line)) one.0,
+        subst (HasPut k before b) (output_through past line) (HasPut-trans k before a b _ _ told.1 one.2),
       )
 
-  pub tally_line : (line : List ℕ) → LineTold stands_for way old new now next a b line
-      → (past : Past) → stands_for start past → new.tally ≡ tally_of (answers_to way past (h.lines ++ line ∷ []))
+  pub tally_line : (line : List ℕ) → LineTold how old new now next (HasPut k a b) line
+      → (past : Past) → how.stands_for start past
+      → new.tally ≡ tally_of (answers_to how.way past (h.lines ++ line ∷ []))
   tally_line line more past st =
-      let one = more (past_after way past h.lines) past (h.told past st).0 in
-      one.1 ∙ ap (λ t. noted t (way.answer (past_after way past h.lines) line)) (h.tally past st)
-      ∙ sym (tally_push way past h.lines line)
+      let one = more (past_after how.way past h.lines) past (h.told past st).0 in
+      one.1 ∙ ap (λ t. noted t (how.way.answer (past_after how.way past h.lines) line)) (h.tally past st)
+      ∙ sym (tally_push how.way past h.lines line)
 
-  told_part : (line : List ℕ) → LineToldPart stands_for way old now next a b line
-      → HasToldPart stands_for way start next before b (h.lines ++ line ∷ [])
+  told_part : (line : List ℕ) → LineToldPart how old now next (k.written a) (k.written b) line
+      → HasToldPart how start next (k.written before) (k.written b) (h.lines ++ line ∷ [])
   told_part line more = λ past st.
       let told = h.told past st in
-      let one = more (past_after way past h.lines) past told.0 in
+      let one = more (past_after how.way past h.lines) past told.0 in
       let front = one.1 in
-      let done = output_of way past h.lines in (
-        subst (stands_for next) (sym (past_push way past h.lines line)) one.0,
+      let done = output_of how.way past h.lines in (
+        subst (how.stands_for next) (sym (past_push how.way past h.lines line)) one.0,
         (
           done ++ front.0,
-          (front.0, ap (λ ls. output_of way past ls ++ front.0) (sym (but_last-push h.lines line))),
+          (front.0, ap (λ ls. output_of how.way past ls ++ front.0) (sym (but_last-push h.lines line))),
           (
             front.1.0,
             sym (output_through past line) ∙ ap (λ l. done ++ l) front.1.1
                 ∙ sym (append_assoc done front.0 front.1.0),
           ),
-          AppendsOrHides-after before a b done front.0 told.1 front.2,
+          AppendsOrHides-after (k.written before) (k.written a) (k.written b) done front.0 told.1.0 front.2,
         ),
       )
 
   -- the line was not answered, or not all of its text was written
   pub stopped_line : (line : List ℕ) (complete : List (List ℕ)) (fault : Unanswered)
-      → (fault ≡ Memory → (next ≡ now) × (b ≡ a))
-      → ((past first : Past) → stands_for now past → fault ≡ Write
-      → stands_for next (way.after past line)
-      × WroteFront a b (answer_text (way.text first) (old.number + 1) (way.answer past line)))
-      → IsPrefixOf (h.lines ++ line ∷ []) complete → StoppedIn fault stands_for way start next before b complete
+      → (fault ≡ Memory → (next ≡ now) × (k.written b ≡ k.written a) × how.wants now line)
+      → ((past first : Past) → how.stands_for now past → fault ≡ Write
+      → how.stands_for next (how.way.after past line)
+      × WroteFront (k.written a) (k.written b)
+      (answer_text (how.way.text first) (old.number + 1) (how.way.answer past line)))
+      → IsPrefixOf (h.lines ++ line ∷ []) complete
+      → StoppedIn fault how start next (k.written before) (k.written b) complete
   stopped_line line complete Memory memory part first =
       let same = memory refl in (
         h.lines,
-        prefix_trans h.lines (h.lines ++ line ∷ []) complete (line ∷ [], refl) first,
+        line,
+        first,
+        subst (λ (s : State). how.wants s line) (sym same.0) same.2,
         λ past st.
             let told = h.told past st in (
-              subst (λ (s : State). stands_for s (past_after way past h.lines)) (sym same.0) told.0,
-              subst (λ (w : Option (List ℕ)). Appends before w (output_of way past h.lines)) (sym same.1) told.1,
+              subst (λ (s : State). how.stands_for s (past_after how.way past h.lines)) (sym same.0) told.0,
+              subst (λ (w : Option (List ℕ)). Appends (k.written before) w (output_of how.way past h.lines))
+                  (sym same.1) told.1.0,
             ),
       )
   stopped_line line complete Write memory part first =
       (h.lines ++ line ∷ [], first, told_part line (λ past first st. part past first st refl))
 
   pub stopped_result : (line : List ℕ) (complete : List (List ℕ)) (result : Result (Unit {0}) Unanswered)
-      → IfErr result (λ fault. fault ≡ Memory → (next ≡ now) × (b ≡ a))
-      → ((past first : Past) → stands_for now past → IfErr result (λ fault. fault ≡ Write
-      → stands_for next (way.after past line)
-      × WroteFront a b (answer_text (way.text first) (old.number + 1) (way.answer past line))))
+      → IfErr result (λ fault. fault ≡ Memory → (next ≡ now) × (k.written b ≡ k.written a) × how.wants now line)
+      → ((past first : Past) → how.stands_for now past → IfErr result (λ fault. fault ≡ Write
+      → how.stands_for next (how.way.after past line)
+      × WroteFront (k.written a) (k.written b)
+      (answer_text (how.way.text first) (old.number + 1) (how.way.answer past line))))
       → IsPrefixOf (h.lines ++ line ∷ []) complete
-      → IfErr result (λ fault. StoppedIn fault stands_for way start next before b complete)
+      → IfErr result (λ fault. StoppedIn fault how start next (k.written before) (k.written b) complete)
   stopped_result line complete (Ok u) memory part first = tt
   stopped_result line complete (Err fault) memory part first = stopped_line line complete fault memory part first
 
@@ -156,9 +156,9 @@ module _ {State Past Found : Type 0} (stands_for : State → Past → Type 0) (w
 abbrev place : List ℕ → ℕ
 place piece = position_or_len is_feed piece
 
-module _ {State Past Found : Type 0} {stands_for : State → Past
-    → Type 0} {way : Answerer Past Found} {start : State} {before a : Option (List ℕ)}
-    {old : LineRun} {now : State} {read : List ℕ} (h : HasAnswered stands_for way start before old now a read) where
+module _ {State Past Found : Type 0} {how : Manner State Past Found} {K : Type 0} (k : SinkGhosts K) {start : State}
+    {before a : K} {old : LineRun} {now : State} {read : List ℕ}
+    (h : HasAnswered how start (HasPut k before a) old now read) where
   abbrev pub line_in : List ℕ → List ℕ
   line_in piece = h.rest ++ before_first is_feed piece
 
@@ -183,24 +183,24 @@ module _ {State Past Found : Type 0} {stands_for : State → Past
       )
 
   -- the piece completes the line, and it was answered
-  pub answered_feed : (new : LineRun) (next : State) (b : Option (List ℕ)) (piece : List ℕ)
+  pub answered_feed : (new : LineRun) (next : State) (b : K) (piece : List ℕ)
       → place piece < length piece → new.number ≡ old.number + 1 → new.cutter.is_complete ≡ true
-      → LineTold stands_for way old new now next a b (line_in piece)
-      → HasAnswered stands_for way start before new next b (read ++ take (place piece + 1) piece)
+      → LineTold how old new now next (HasPut k a b) (line_in piece)
+      → HasAnswered how start (HasPut k before b) new next (read ++ take (place piece + 1) piece)
   answered_feed new next b piece there number complete more = record {
     lines = h.lines ++ line_in piece ∷ [];
     rest = [];
     cut = cut_through piece there;
     number = number ∙ ap (λ n. n + 1) h.number ∙ sym (length_push h.lines (line_in piece));
     held = subst (λ t. MatchBool t (◌≡◌ {A = List ℕ} [] []) (Holds new.cutter [])) (sym complete) refl;
-    tally = tally_line stands_for way start before a b old new now next read h (line_in piece) more;
-    told = told_line stands_for way start before a b old new now next read h (line_in piece) more;
+    tally = tally_line how k start before a b old new now next read h (line_in piece) more;
+    told = told_line how k start before a b old new now next read h (line_in piece) more;
   }
 
   -- the piece goes on with the line
   pub answered_no_feed : (new : LineRun) (piece : List ℕ)
       → length piece ≤ place piece → new.number ≡ old.number → new.tally ≡ old.tally → new.cutter.is_complete ≡ false
-      → Holds new.cutter (line_in piece) → HasAnswered stands_for way start before new now a (read ++ piece)
+      → Holds new.cutter (line_in piece) → HasAnswered how start (HasPut k before a) new now (read ++ piece)
   answered_no_feed new piece past number tally unended held =
       let all = all_before piece past in
       record {
@@ -234,28 +234,28 @@ module _ {State Past Found : Type 0} {stands_for : State → Past
   pub prefix_last : 0 < length h.rest → IsPrefixOf (h.lines ++ h.rest ∷ []) (lines_of read)
   prefix_last some = ([], sym (append-nil (h.lines ++ h.rest ∷ []) ∙ a_last some))
 
-  pub finished_empty : length h.rest ≡ 0 → HasTold stands_for way start now before a (lines_of read)
-      × ((past : Past) → stands_for start past → old.tally ≡ tally_of (answers_to way past (lines_of read)))
+  pub finished_empty : length h.rest ≡ 0 → HasTold how start now (HasPut k before a) (lines_of read)
+      × ((past : Past) → how.stands_for start past → old.tally ≡ tally_of (answers_to how.way past (lines_of read)))
   finished_empty none =
       let same = no_last none in (
-        subst (λ (ls : List (List ℕ)). HasTold stands_for way start now before a ls) same h.told,
-        λ past st. h.tally past st ∙ ap (λ (ls : List (List ℕ)). tally_of (answers_to way past ls)) same,
+        subst (λ (ls : List (List ℕ)). HasTold how start now (HasPut k before a) ls) same h.told,
+        λ past st. h.tally past st ∙ ap (λ (ls : List (List ℕ)). tally_of (answers_to how.way past ls)) same,
       )
 
-  pub finished_line : (new : LineRun) (next : State) (b : Option (List ℕ)) (result : Result (Unit {0}) Unanswered)
+  pub finished_line : (new : LineRun) (next : State) (b : K) (result : Result (Unit {0}) Unanswered)
       → 0 < length h.rest
-      → ((past first : Past) → stands_for now past → OnOk result (
-      stands_for next (way.after past h.rest) × (new.tally ≡ noted old.tally (way.answer past h.rest))
-      × Appends a b (answer_text (way.text first) (old.number + 1) (way.answer past h.rest))))
-      → OnOk result (HasTold stands_for way start next before b (lines_of read)
-      × ((past : Past) → stands_for start past → new.tally ≡ tally_of (answers_to way past (lines_of read))))
+      → ((past first : Past) → how.stands_for now past → OnOk result (
+      how.stands_for next (how.way.after past h.rest) × (new.tally ≡ noted old.tally (how.way.answer past h.rest))
+      × HasPut k a b (answer_text (how.way.text first) (old.number + 1) (how.way.answer past h.rest))))
+      → OnOk result (HasTold how start next (HasPut k before b) (lines_of read)
+      × ((past : Past) → how.stands_for start past → new.tally ≡ tally_of (answers_to how.way past (lines_of read))))
   finished_line new next b (Err fault) some more = tt
   finished_line new next b (Ok u) some more =
       let same = a_last some in (
-        subst (λ (ls : List (List ℕ)). HasTold stands_for way start next before b ls) same
-            (told_line stands_for way start before a b old new now next read h h.rest more),
-        λ past st. tally_line stands_for way start before a b old new now next read h h.rest more past st
-            ∙ ap (λ (ls : List (List ℕ)). tally_of (answers_to way past ls)) same,
+        subst (λ (ls : List (List ℕ)). HasTold how start next (HasPut k before b) ls) same
+            (told_line how k start before a b old new now next read h h.rest more),
+        λ past st. tally_line how k start before a b old new now next read h h.rest more past st
+            ∙ ap (λ (ls : List (List ℕ)). tally_of (answers_to how.way past ls)) same,
       )
 
 pub held_rest : (held : Held) (rest : List ℕ) → Holds held (rest ++ []) → Holds held rest
@@ -272,22 +272,22 @@ some_rest held rest h some =
     ]
 
 -- ---- all was written, and then the sink failed
-pub told_unfinished : {State Past Found : Type 0} (stands_for : State → Past → Type 0) (way : Answerer Past Found)
-    (start now : State) (before a b : Option (List ℕ)) (lines : List (List ℕ))
-    → HasTold stands_for way start now before a lines → KeepsOrHides a b
-    → StoppedIn Write stands_for way start now before b lines
-told_unfinished stands_for way start now before a b lines told kept = (
+pub told_unfinished : {State Past Found : Type 0} (how : Manner State Past Found)
+    {K : Type 0} (k : SinkGhosts K) (start now : State) (before a b : K) (lines : List (List ℕ))
+    → HasTold how start now (HasPut k before a) lines → KeepsOrHides (k.written a) (k.written b)
+    → StoppedIn Write how start now (k.written before) (k.written b) lines
+told_unfinished how k start now before a b lines told kept = (
   lines,
   ([], sym (append-nil lines)),
   λ past st.
       let one = told past st in
-      let output = output_of way past lines in (
+      let output = output_of how.way past lines in (
         one.0,
         (
           output,
-          output_but_last way past lines,
+          output_but_last how.way past lines,
           ([], sym (append-nil output)),
-          Appends-hidden before a b output one.1 kept,
+          Appends-hidden (k.written before) (k.written a) (k.written b) output one.1.0 kept,
         ),
       ),
 )

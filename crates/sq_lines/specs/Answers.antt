@@ -13,6 +13,13 @@ pub record Answerer (Past Found : Type 0) : Type 0 where
   pub after : Past → List ℕ → Past
   pub text : Past → Found → List ℕ
 
+-- how a state answers lines: what pasts it stands for, how lines are answered by these, and at which lines it may want
+-- memory
+pub record Manner (State Past Found : Type 0) : Type 1 where
+  pub stands_for : State → Past → Type 0
+  pub way : Answerer Past Found
+  pub wants : State → List ℕ → Type 0
+
 -- the past after these lines
 abbrev pub past_after : {Past Found : Type 0} → Answerer Past Found → Past → List (List ℕ) → Past
 past_after way past [] = past

@@ -1,16 +1,22 @@
 -- What a run over an input has come to.
-use Rattle.std.specs.Prelude.{◌≡◌, ◌-◌, ℕ, List, Option, length, take}
-use Rattle.std.specs.Io.KnownBytes.{Appends, Consumes}
+use Rattle.std.specs.Prelude.{◌≡◌, ◌-◌, ◌++◌, ◌+◌, ◌<◌, ◌≤◌, ◌⊎◌, ℕ, List, [], ◌∷◌, Option, length, take}
+use Rattle.std.specs.List.{All, concat}
+use Rattle.std.specs.Io.KnownBytes.{Appends, Consumes, IsAtEnd}
+use Rattle.sq_devices.specs.Changes.{GotAtMost, Taken}
 use Rattle.sq_devices.specs.Device.{AppendsOrHides, IsPrefixOf}
-use Rattle.sq_lines.specs.Lines.{Cuts}
+use Rattle.sq_lines.specs.Lines.{Cuts, ended_lines, lines_of}
 use Rattle.sq_lines.specs.Held.{GoesOn}
-use Rattle.sq_lines.specs.Answers.{answers_to, Answerer, past_after, output_of, tally_of}
+use Rattle.sq_lines.specs.Answers.{answers_to, Answerer, Manner, past_after, output_of, tally_of}
 use Rattle.sq_lines.specs.declared.faults.Unanswered.{Unanswered}
 use Rattle.sq_lines.specs.declared.faults.Unanswered.TheVariants.{Write, Memory}
 use Rattle.sq_lines.specs.declared.runs.LineRun.{LineRun}
+use Rattle.sq_lines.specs.declared.tallies.Tally.{Tally}
 
 abbrev pub but_last : List (List ℕ) → List (List ℕ)
 but_last lines = take (length lines - 1) lines
+
+abbrev pub with_next : List (List ℕ) → List ℕ → List (List ℕ)
+with_next lines next = lines ++ next ∷ []
 
 -- the output for these lines was written up to some place in the last one's text, or the sink does not report
 abbrev pub WroteIntoLast : {Past Found : Type 0} → Answerer Past Found → Past → List (List ℕ) → Option (List ℕ)
@@ -18,47 +24,64 @@ abbrev pub WroteIntoLast : {Past Found : Type 0} → Answerer Past Found → Pas
 WroteIntoLast way past lines before after = (part : List ℕ) × IsPrefixOf (output_of way past (but_last lines)) part
     × IsPrefixOf part (output_of way past lines) × AppendsOrHides before after part
 
--- from each past that the start stood for, the state stands for the past after these lines, and their output was
--- written
-abbrev pub HasTold : {State Past Found : Type 0} → (State → Past → Type 0) → Answerer Past Found → (start now : State)
-    → (before after : Option (List ℕ)) → List (List ℕ) → Type 0
-HasTold {Past = Past} stands_for way start now before after lines = (past : Past) → stands_for start past
-    → stands_for now (past_after way past lines) × Appends before after (output_of way past lines)
+-- from each past that the start stood for, the state stands for the past after these lines, and this was done with
+-- their output
+abbrev pub HasTold : {State Past Found : Type 0} → Manner State Past Found → (start now : State)
+    → (List ℕ → Type 0) → List (List ℕ) → Type 0
+HasTold {Past = Past} how start now Wrote lines = (past : Past) → how.stands_for start past
+    → how.stands_for now (past_after how.way past lines) × Wrote (output_of how.way past lines)
+
+-- the lines of this input were told, and counted
+abbrev pub HasRun : {State Past Found : Type 0} → Manner State Past Found → (start now : State)
+    → (List ℕ → Type 0) → Tally → (input : List ℕ) → Type 0
+HasRun {Past = Past} how start now Wrote tally input =
+    HasTold how start now Wrote (lines_of input)
+    × ((past : Past) → how.stands_for start past → tally ≡ tally_of (answers_to how.way past (lines_of input)))
 
 -- the same, but that of the last line's text only a prefix was written
-abbrev pub HasToldPart : {State Past Found : Type 0} → (State → Past → Type 0) → Answerer Past Found
-    → (start now : State) → (before after : Option (List ℕ)) → List (List ℕ) → Type 0
-HasToldPart {Past = Past} stands_for way start now before after lines = (past : Past) → stands_for start past
-    → stands_for now (past_after way past lines) × WroteIntoLast way past lines before after
+abbrev pub HasToldPart : {State Past Found : Type 0} → Manner State Past Found → (start now : State)
+    → (before after : Option (List ℕ)) → List (List ℕ) → Type 0
+HasToldPart {Past = Past} how start now before after lines = (past : Past) → how.stands_for start past
+    → how.stands_for now (past_after how.way past lines) × WroteIntoLast how.way past lines before after
 
--- what was reported where an answer failed
-abbrev pub HasToldAt : {State Past Found : Type 0} → Unanswered → (State → Past → Type 0) → Answerer Past Found
-    → (start now : State) → (before after : Option (List ℕ)) → List (List ℕ) → Type 0
-HasToldAt Memory stands_for way start now before after lines = HasTold stands_for way start now before after lines
-HasToldAt Write stands_for way start now before after lines = HasToldPart stands_for way start now before after lines
-
--- an answer failed at some of these lines
-abbrev pub StoppedIn : {State Past Found : Type 0} → Unanswered → (State → Past → Type 0) → Answerer Past Found
-    → (start now : State) → (before after : Option (List ℕ)) → List (List ℕ) → Type 0
-StoppedIn fault stands_for way start now before after complete =
-    (lines : List (List ℕ)) × IsPrefixOf lines complete × HasToldAt fault stands_for way start now before after lines
+-- an answer failed at some of these lines: at its write, or where this state wants memory for the next line
+abbrev pub StoppedIn : {State Past Found : Type 0} → Unanswered → Manner State Past Found → (start now : State)
+    → (before after : Option (List ℕ)) → List (List ℕ) → Type 0
+StoppedIn Write how start now before after complete =
+    (lines : List (List ℕ)) × IsPrefixOf lines complete × HasToldPart how start now before after lines
+StoppedIn Memory how start now before after complete =
+    (lines : List (List ℕ)) × (next : List ℕ) × IsPrefixOf (with_next lines next) complete × how.wants now next
+    × HasTold how start now (Appends before after) lines
 
 -- the run has read these bytes, and the lines that they end were answered
-pub record HasAnswered {State Past Found : Type 0} (stands_for : State → Past → Type 0) (way : Answerer Past Found)
-    (start : State) (before : Option (List ℕ))
-    (run : LineRun) (now : State) (after : Option (List ℕ)) (read : List ℕ) : Type 0 where
+pub record HasAnswered {State Past Found : Type 0} (how : Manner State Past Found)
+    (start : State) (Wrote : List ℕ → Type 0)
+    (run : LineRun) (now : State) (read : List ℕ) : Type 0 where
   pub lines : List (List ℕ)
   pub rest : List ℕ
   pub cut : Cuts read lines rest
   pub number : run.number ≡ length lines
   pub held : GoesOn run.cutter rest
-  pub tally : (past : Past) → stands_for start past → run.tally ≡ tally_of (answers_to way past lines)
-  pub told : HasTold stands_for way start now before after lines
+  pub tally : (past : Past) → how.stands_for start past → run.tally ≡ tally_of (answers_to how.way past lines)
+  pub told : HasTold how start now Wrote lines
 
--- the source gave these bytes, and the run answered the lines that they end
-pub record HasRead {State Past Found : Type 0} (stands_for : State → Past → Type 0) (way : Answerer Past Found)
-    (start : State) (to_come_before to_come_after written_before : Option (List ℕ))
-    (run : LineRun) (now : State) (written_after : Option (List ℕ)) : Type 0 where
-  pub read : List ℕ
-  pub consumed : Consumes to_come_before to_come_after read
-  pub answered : HasAnswered stands_for way start written_before run now written_after read
+-- the source gave these bytes, by at most one get a byte and some more, and the run answered the lines that they end
+pub record HasRead {State Past Found : Type 0} (how : Manner State Past Found)
+    (start : State) (input : Taken) (more : ℕ) (Wrote : List ℕ → Type 0)
+    (run : LineRun) (now : State) (read : List ℕ) : Type 0 where
+  pub consumed : Consumes input.before input.after read
+  pub few : GotAtMost input (length read + more)
+  pub back : input.gets ≤ input.gets_before
+  pub answered : HasAnswered how start Wrote run now read
+
+-- the pieces that the gets answered so far, none of them empty, are what was read
+pub record IsMadeOf (input : Taken) (read : List ℕ) : Type 0 where
+  pub pieces : List (List ℕ)
+  pub whole : read ≡ concat pieces
+  pub gave : input.gave pieces
+  pub some : All (λ piece. 0 < length piece) pieces
+  pub each : input.gets_before ≡ input.gets + length pieces
+
+-- this holds of the lines that these bytes end, or, at the end of the input, of the last part as well
+abbrev pub OfLines : Taken → (List (List ℕ) → Type 0) → List ℕ → Type 0
+OfLines input Of read = Of (ended_lines read) ⊎ (IsAtEnd input.after × Of (lines_of read))

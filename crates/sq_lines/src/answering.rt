@@ -2,7 +2,7 @@
 ghost use Rattle.std.specs.Prelude.{◌≡◌, ◌+◌, ◌≤◌, ◌++◌, [], List, ℕ, IfOk, OnErr, Some};
 ghost use Rattle.arrayvec.specs.ArrayString.{array_string_len};
 ghost use Rattle.sq_lines.specs.Held.{Holds};
-ghost use Rattle.sq_lines.specs.Answers.{Answerer, answer_text, verdict_text};
+ghost use Rattle.sq_lines.specs.Answers.{Manner, answer_text, verdict_text};
 
 use crate::cutter::Cutter;
 use crate::faults::OutOfMemory;
@@ -23,14 +23,9 @@ pub trait Answering {
     /// What came before.
     ghost Past: { Type 0 };
 
-    /// That the state stands for this past.
-    ghost stands_for: { Self.State → Self.Past → Type 0 };
-
-    /// The answer to a line by the past, the past after it, and the text of what was found.
-    ghost way: { Answerer Self.Past Self.Found };
-
-    /// That an answer may run out of memory.
-    ghost MayWantMemory: { Type 0 };
+    /// What pasts a state stands for; the answer to a line by the past, the past after it and the text of what was
+    /// found; and the lines that a state may want memory for.
+    ghost how: { Manner Self.State Self.Past Self.Found };
 
     /// The answer to the held line, `None` for an empty one. At `OutOfMemory` the line was not heard.
     fn answer(
@@ -38,15 +33,15 @@ pub trait Answering {
         cutter: &Cutter,
     ) -> Result<Option<Result<Self::Found, LineFault>>, OutOfMemory>
         ensures answer { IfOk result (λ answer. (line : List ℕ) (past : Self.Past) → Holds cutter.now line
-            → stands_for state.old past
-            → (answer ≡ way.answer past line) × stands_for state.new (way.after past line)) }
+            → how.stands_for state.old past
+            → (answer ≡ how.way.answer past line) × how.stands_for state.new (how.way.after past line)) }
         ensures unheard { OnErr result (state.new ≡ state.old) }
-        ensures memory { OnErr result MayWantMemory };
+        ensures memory { (line : List ℕ) → Holds cutter.now line → OnErr result (how.wants state.old line) };
 
     /// Appends the text of what was found, of at most 72 bytes: the same by every past.
     fn push_text(found: Self::Found, text: &mut LineText)
         requires { array_string_len text.old ≤ 21 }
-        ensures bytes { (past : Self.Past) → text.new.bytes ≡ text.old.bytes ++ way.text past found }
+        ensures bytes { (past : Self.Past) → text.new.bytes ≡ text.old.bytes ++ how.way.text past found }
         ensures len { array_string_len text.new ≤ array_string_len text.old + 72 };
 }
 
@@ -57,7 +52,7 @@ pub(crate) fn push_answer<A: Answering>(
     verdict: Result<A::Found, LineFault>,
 )
     requires { text.old.bytes ≡ [] }
-    ensures { (past : A.Past) → text.new.bytes ≡ answer_text (A.way.text past) number (Some verdict) }
+    ensures { (past : A.Past) → text.new.bytes ≡ answer_text (A.how.way.text past) number (Some verdict) }
 {
     push_decimal(text, number);
     text.push(' ');
@@ -68,7 +63,7 @@ pub(crate) fn push_answer<A: Answering>(
 // Appends the text of what was found, or of the fault.
 fn push_verdict<A: Answering>(verdict: Result<A::Found, LineFault>, text: &mut LineText)
     requires { array_string_len text.old ≤ 21 }
-    ensures bytes { (past : A.Past) → text.new.bytes ≡ text.old.bytes ++ verdict_text (A.way.text past) verdict }
+    ensures bytes { (past : A.Past) → text.new.bytes ≡ text.old.bytes ++ verdict_text (A.how.way.text past) verdict }
     ensures len { array_string_len text.new ≤ array_string_len text.old + 72 }
 {
     match verdict {

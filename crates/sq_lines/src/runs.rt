@@ -1,6 +1,6 @@
 //! A run over an input: each line is answered once its line feed was read.
 ghost use Rattle.std.specs.Prelude.{◌≡◌, ◌+◌, ◌^◌, ◌<◌, ◌≤◌, ◌++◌, ◌∷◌, [], List, ℕ, Option, IfErr, IfOk, OnOk, OnErr, false, length, take, true};
-ghost use Rattle.std.specs.Io.KnownBytes.{Appends, Consumes, IsAtEnd};
+ghost use Rattle.std.specs.Io.KnownBytes.{Consumes, IsAtEnd};
 ghost use Rattle.sq_devices.specs.Device.{KeepsOrHides};
 
 use crate::answering::{Answering, LineText, push_answer};
@@ -23,6 +23,7 @@ impl LineRun {
     ghost use Rattle.sq_lines.specs.Lines.{MarksFeeds, ended_lines, lines_of};
     ghost use Rattle.sq_lines.specs.Held.{Holds, empty_line};
     ghost use Rattle.sq_lines.specs.Answers.{answers_to, Answerer, answer_text, noted, tally_of};
+    ghost use Rattle.sq_devices.specs.Calls.{HasPut};
     ghost use Rattle.sq_devices.specs.Device.{WroteFront};
     ghost use Rattle.sq_lines.specs.Runs.{HasAnswered, HasTold, StoppedIn};
 
@@ -51,20 +52,21 @@ impl LineRun {
         ensures number { self.new.number ≡ self.old.number + 1 }
         ensures cutter { self.new.cutter ≡ self.old.cutter }
         ensures answered { (line : List ℕ) (past first : A.Past) → Holds self.old.cutter line
-            → A.stands_for state.old past → OnOk result (
-            A.stands_for state.new (A.way.after past line)
-            × (self.new.tally ≡ noted self.old.tally (A.way.answer past line))
-            × Appends (K.written sink.old) (K.written sink.new)
-            (answer_text (A.way.text first) (self.old.number + 1) (A.way.answer past line))) }
-        ensures memory { IfErr result (λ fault. fault ≡ Unanswered.Memory
-            → (state.new ≡ state.old) × (K.written sink.new ≡ K.written sink.old)) }
-        ensures wanting { IfErr result (λ fault. fault ≡ Unanswered.Memory → A.MayWantMemory) }
-        ensures part { (line : List ℕ) (past first : A.Past) → Holds self.old.cutter line → A.stands_for state.old past
-            → IfErr result (λ fault. fault ≡ Unanswered.Write →
-            A.stands_for state.new (A.way.after past line)
+            → A.how.stands_for state.old past → OnOk result (
+            A.how.stands_for state.new (A.how.way.after past line)
+            × (self.new.tally ≡ noted self.old.tally (A.how.way.answer past line))
+            × HasPut K.Sink sink.old sink.new
+            (answer_text (A.how.way.text first) (self.old.number + 1) (A.how.way.answer past line))) }
+        ensures memory { (line : List ℕ) → Holds self.old.cutter line → IfErr result (λ fault.
+            fault ≡ Unanswered.Memory → (state.new ≡ state.old) × (K.written sink.new ≡ K.written sink.old)
+            × A.how.wants state.old line) }
+        ensures part { (line : List ℕ) (past first : A.Past) → Holds self.old.cutter line
+            → A.how.stands_for state.old past → IfErr result (λ fault. fault ≡ Unanswered.Write →
+            A.how.stands_for state.new (A.how.way.after past line)
             × WroteFront (K.written sink.old) (K.written sink.new)
-            (answer_text (A.way.text first) (self.old.number + 1) (A.way.answer past line))) }
+            (answer_text (A.how.way.text first) (self.old.number + 1) (A.how.way.answer past line))) }
         ensures failed { IfErr result (λ fault. fault ≡ Unanswered.Write → K.has_failed sink.new ≡ true) }
+        ensures unfinished { K.finishes sink.new ≡ K.finishes sink.old }
     {
         self.number += 1;
         match A::answer(state, &self.cutter) {
@@ -98,16 +100,16 @@ impl LineRun {
         ensures number { self.new.number ≤ self.old.number + 1 }
         ensures some { IfOk result (λ n. 0 < n) }
         ensures within { IfOk result (λ n. n ≤ length piece.now) }
-        ensures answered { (start : A.State) (before : Option (List ℕ)) (read : List ℕ)
-            → HasAnswered A.stands_for A.way start before self.old state.old (K.written sink.old) read
-            → IfOk result (λ n. HasAnswered A.stands_for A.way start before self.new state.new (K.written sink.new)
+        ensures answered { (start : A.State) (first : K) (read : List ℕ)
+            → HasAnswered A.how start (HasPut K.Sink first sink.old) self.old state.old read
+            → IfOk result (λ n. HasAnswered A.how start (HasPut K.Sink first sink.new) self.new state.new
             (read ++ take n piece.now)) }
-        ensures stopped { (start : A.State) (before : Option (List ℕ)) (read : List ℕ)
-            → HasAnswered A.stands_for A.way start before self.old state.old (K.written sink.old) read
-            → IfErr result (λ fault. StoppedIn fault A.stands_for A.way start state.new before (K.written sink.new)
+        ensures stopped { (start : A.State) (first : K) (read : List ℕ)
+            → HasAnswered A.how start (HasPut K.Sink first sink.old) self.old state.old read
+            → IfErr result (λ fault. StoppedIn fault A.how start state.new (K.written first) (K.written sink.new)
             (ended_lines (read ++ piece.now))) }
-        ensures wanting { IfErr result (λ fault. fault ≡ Unanswered.Memory → A.MayWantMemory) }
         ensures failed { IfErr result (λ fault. fault ≡ Unanswered.Write → K.has_failed sink.new ≡ true) }
+        ensures unfinished { K.finishes sink.new ≡ K.finishes sink.old }
     {
         let (count, is_complete) = self.cutter.take_marked(piece, feeds);
         if is_complete {
@@ -128,16 +130,16 @@ impl LineRun {
         requires short { length piece.now ≤ 64 }
         requires marked { MarksFeeds feeds piece.now }
         ensures number { self.new.number ≤ self.old.number + length piece.now }
-        ensures answered { (start : A.State) (before : Option (List ℕ)) (read : List ℕ)
-            → HasAnswered A.stands_for A.way start before self.old state.old (K.written sink.old) read
-            → OnOk result (HasAnswered A.stands_for A.way start before self.new state.new (K.written sink.new)
+        ensures answered { (start : A.State) (first : K) (read : List ℕ)
+            → HasAnswered A.how start (HasPut K.Sink first sink.old) self.old state.old read
+            → OnOk result (HasAnswered A.how start (HasPut K.Sink first sink.new) self.new state.new
             (read ++ piece.now)) }
-        ensures stopped { (start : A.State) (before : Option (List ℕ)) (read : List ℕ)
-            → HasAnswered A.stands_for A.way start before self.old state.old (K.written sink.old) read
-            → IfErr result (λ fault. StoppedIn fault A.stands_for A.way start state.new before (K.written sink.new)
+        ensures stopped { (start : A.State) (first : K) (read : List ℕ)
+            → HasAnswered A.how start (HasPut K.Sink first sink.old) self.old state.old read
+            → IfErr result (λ fault. StoppedIn fault A.how start state.new (K.written first) (K.written sink.new)
             (ended_lines (read ++ piece.now))) }
-        ensures wanting { IfErr result (λ fault. fault ≡ Unanswered.Memory → A.MayWantMemory) }
         ensures failed { IfErr result (λ fault. fault ≡ Unanswered.Write → K.has_failed sink.new ≡ true) }
+        ensures unfinished { K.finishes sink.new ≡ K.finishes sink.old }
     {
         let mut at = 0;
         while at < piece.len() {
@@ -156,28 +158,32 @@ impl LineRun {
         requires { self.old.number + 64 < 2 ^ 64 }
         ensures number { self.new.number ≤ self.old.number + 64 }
         ensures used { OnOk result (S.gets_left source.new + 1 ≡ S.gets_left source.old) }
+        ensures few { S.gets_left source.old ≤ S.gets_left source.new + 1 }
         ensures end { IfOk result (λ more. more ≡ false → IsAtEnd (S.to_come source.new)) }
-        ensures answered { (start : A.State) (before : Option (List ℕ)) (read : List ℕ)
-            → HasAnswered A.stands_for A.way start before self.old state.old (K.written sink.old) read
-            → OnOk result ((piece : List ℕ) × Consumes (S.to_come source.old) (S.to_come source.new) piece
-            × HasAnswered A.stands_for A.way start before self.new state.new (K.written sink.new) (read ++ piece)) }
+        ensures answered { (start : A.State) (first : K) (read : List ℕ)
+            → HasAnswered A.how start (HasPut K.Sink first sink.old) self.old state.old read
+            → IfOk result (λ more. (piece : List ℕ) × Consumes (S.to_come source.old) (S.to_come source.new) piece
+            × S.Gave source.old piece source.new
+            × HasAnswered A.how start (HasPut K.Sink first sink.new) self.new state.new (read ++ piece)
+            × (more ≡ true → 0 < length piece) × (more ≡ false → length piece ≡ 0)) }
         ensures unread { IfErr result (λ fault. fault ≡ RunFault.Read → (S.has_failed source.new ≡ true)
+            × (S.gets_left source.new ≡ S.gets_left source.old)
             × KeepsOrHides (S.to_come source.old) (S.to_come source.new)
             × (self.new ≡ self.old) × (state.new ≡ state.old) × (K.written sink.new ≡ K.written sink.old)) }
         ensures unanswered { IfErr result (λ fault. fault ≡ RunFault.Memory
-            → (start : A.State) (before : Option (List ℕ)) (read : List ℕ)
-            → HasAnswered A.stands_for A.way start before self.old state.old (K.written sink.old) read
+            → (start : A.State) (first : K) (read : List ℕ)
+            → HasAnswered A.how start (HasPut K.Sink first sink.old) self.old state.old read
             → (piece : List ℕ) × Consumes (S.to_come source.old) (S.to_come source.new) piece
-            × StoppedIn Unanswered.Memory A.stands_for A.way start state.new before (K.written sink.new)
+            × StoppedIn Unanswered.Memory A.how start state.new (K.written first) (K.written sink.new)
             (ended_lines (read ++ piece))) }
         ensures unwritten { IfErr result (λ fault. fault ≡ RunFault.Write
-            → (start : A.State) (before : Option (List ℕ)) (read : List ℕ)
-            → HasAnswered A.stands_for A.way start before self.old state.old (K.written sink.old) read
+            → (start : A.State) (first : K) (read : List ℕ)
+            → HasAnswered A.how start (HasPut K.Sink first sink.old) self.old state.old read
             → (piece : List ℕ) × Consumes (S.to_come source.old) (S.to_come source.new) piece
-            × StoppedIn Unanswered.Write A.stands_for A.way start state.new before (K.written sink.new)
+            × StoppedIn Unanswered.Write A.how start state.new (K.written first) (K.written sink.new)
             (ended_lines (read ++ piece))) }
-        ensures wanting { IfErr result (λ fault. fault ≡ RunFault.Memory → A.MayWantMemory) }
         ensures failed { IfErr result (λ fault. fault ≡ RunFault.Write → K.has_failed sink.new ≡ true) }
+        ensures unfinished { K.finishes sink.new ≡ K.finishes sink.old }
     {
         let mut buffer = [0; 64];
         let Ok(count) = source.get(&mut buffer) else {
@@ -197,17 +203,17 @@ impl LineRun {
         sink: &mut K,
     ) -> Result<(), Unanswered>
         requires { self.old.number + 1 < 2 ^ 64 }
-        ensures answered { (start : A.State) (before : Option (List ℕ)) (read : List ℕ)
-            → HasAnswered A.stands_for A.way start before self.old state.old (K.written sink.old) read
-            → OnOk result (HasTold A.stands_for A.way start state.new before (K.written sink.new) (lines_of read)
-            × ((past : A.Past) → A.stands_for start past
-            → self.new.tally ≡ tally_of (answers_to A.way past (lines_of read)))) }
-        ensures stopped { (start : A.State) (before : Option (List ℕ)) (read : List ℕ)
-            → HasAnswered A.stands_for A.way start before self.old state.old (K.written sink.old) read
-            → IfErr result (λ fault. StoppedIn fault A.stands_for A.way start state.new before (K.written sink.new)
+        ensures answered { (start : A.State) (first : K) (read : List ℕ)
+            → HasAnswered A.how start (HasPut K.Sink first sink.old) self.old state.old read
+            → OnOk result (HasTold A.how start state.new (HasPut K.Sink first sink.new) (lines_of read)
+            × ((past : A.Past) → A.how.stands_for start past
+            → self.new.tally ≡ tally_of (answers_to A.how.way past (lines_of read)))) }
+        ensures stopped { (start : A.State) (first : K) (read : List ℕ)
+            → HasAnswered A.how start (HasPut K.Sink first sink.old) self.old state.old read
+            → IfErr result (λ fault. StoppedIn fault A.how start state.new (K.written first) (K.written sink.new)
             (lines_of read)) }
-        ensures wanting { IfErr result (λ fault. fault ≡ Unanswered.Memory → A.MayWantMemory) }
         ensures failed { IfErr result (λ fault. fault ≡ Unanswered.Write → K.has_failed sink.new ≡ true) }
+        ensures unfinished { K.finishes sink.new ≡ K.finishes sink.old }
     {
         self.cutter.take(&[]);
         if self.cutter.line().is_empty() {

@@ -1,10 +1,9 @@
 //! Runs over a whole input.
-ghost use Rattle.std.specs.Prelude.{◌≡◌, ◌++◌, ◌⊎◌, [], List, ℕ, IfErr, IfOk, IfSome, Some, true};
-ghost use Rattle.std.specs.Io.KnownBytes.{Appends, Consumes, IsAtEnd};
-ghost use Rattle.sq_devices.specs.Device.{ConsumesOrHides};
-ghost use Rattle.sq_lines.specs.Lines.{ended_lines, lines_of};
-ghost use Rattle.sq_lines.specs.Answers.{answers_to, tally_of};
-ghost use Rattle.sq_lines.specs.Runs.{HasTold, StoppedIn};
+ghost use Rattle.std.specs.Prelude.{◌≡◌, ◌++◌, [], List, ℕ, IfErr, IfOk, OnErr, OnOk, true};
+ghost use Rattle.std.specs.Io.KnownBytes.{Appends};
+ghost use Rattle.sq_devices.specs.Changes.{FinishedOnce, Sent, TookAll, TookPart, TookReported, TookSome, Unfinished, taken_from, written_on};
+ghost use Rattle.sq_lines.specs.Lines.{ended_lines};
+ghost use Rattle.sq_lines.specs.Runs.{HasRun, HasTold, OfLines, StoppedIn};
 
 use crate::answering::Answering;
 use crate::faults::{RunFault, Unanswered};
@@ -18,36 +17,32 @@ pub fn run_lines<S: Source, K: Sink, A: Answering>(
     sink: &mut K,
     state: &mut A::State,
 ) -> Result<Tally, RunFault>
-    // At the end of the input, all of its lines have been answered.
-    ensures whole { IfOk result (λ tally. IfSome (S.to_come source.old) (λ input. (S.to_come source.new ≡ Some [])
-        × HasTold A.stands_for A.way state.old state.new (K.written sink.old) (K.written sink.new) (lines_of input)
-        × ((past : A.Past) → A.stands_for state.old past
-        → tally ≡ tally_of (answers_to A.way past (lines_of input))))) }
+    // The bytes up to the end of the input were taken, and their lines have been answered and counted.
+    ensures whole { IfOk result (λ tally. TookAll (taken_from S.Source source.old source.new)
+        (HasRun A.how state.old state.new (Sent (written_on K.Sink sink.old sink.new)) tally)) }
+
+    // Where the source reports its bytes, these are all of them.
+    ensures reported { IfOk result (λ tally. TookReported (taken_from S.Source source.old source.new)
+        (HasRun A.how state.old state.new (Sent (written_on K.Sink sink.old sink.new)) tally)) }
+
+    // Then the sink was finished, once.
+    ensures finished { OnOk result (FinishedOnce (written_on K.Sink sink.old sink.new)) }
+    ensures unfinished { OnErr result (Unfinished (written_on K.Sink sink.old sink.new)) }
 
     // Where the source failed, the lines that were read whole have been answered.
-    ensures unread { IfErr result (λ fault. fault ≡ RunFault.Read → (S.has_failed source.new ≡ true)
-        × ((read : List ℕ) × ConsumesOrHides (S.to_come source.old) (S.to_come source.new) read
-        × HasTold A.stands_for A.way state.old state.new (K.written sink.old) (K.written sink.new)
-        (ended_lines read))) }
+    ensures unread { IfErr result (λ fault. fault ≡ RunFault.Read
+        → TookPart (taken_from S.Source source.old source.new) (λ read.
+        HasTold A.how state.old state.new (Appends (K.written sink.old) (K.written sink.new)) (ended_lines read))) }
 
-    // Where there was no memory for a line, those before it have been answered; the last part is a line at the end of
-    // the input.
+    // Where there was no memory for a line, the state may want some for it, and those before it have been answered.
     ensures unanswered { IfErr result (λ fault. fault ≡ RunFault.Memory
-        → (read : List ℕ) × Consumes (S.to_come source.old) (S.to_come source.new) read
-        × (StoppedIn Unanswered.Memory A.stands_for A.way state.old state.new (K.written sink.old) (K.written sink.new)
-        (ended_lines read)
-        ⊎ (IsAtEnd (S.to_come source.new) × StoppedIn Unanswered.Memory A.stands_for A.way state.old state.new
-        (K.written sink.old) (K.written sink.new) (lines_of read)))) }
-
-    ensures wanting { IfErr result (λ fault. fault ≡ RunFault.Memory → A.MayWantMemory) }
+        → TookSome (taken_from S.Source source.old source.new) (OfLines (taken_from S.Source source.old source.new)
+        (StoppedIn Unanswered.Memory A.how state.old state.new (K.written sink.old) (K.written sink.new)))) }
 
     // Where the sink failed at a line's answer, that line was heard and those before it have been answered.
     ensures unwritten { IfErr result (λ fault. fault ≡ RunFault.Write → (K.has_failed sink.new ≡ true)
-        × ((read : List ℕ) × Consumes (S.to_come source.old) (S.to_come source.new) read
-        × (StoppedIn Unanswered.Write A.stands_for A.way state.old state.new (K.written sink.old) (K.written sink.new)
-        (ended_lines read)
-        ⊎ (IsAtEnd (S.to_come source.new) × StoppedIn Unanswered.Write A.stands_for A.way state.old state.new
-        (K.written sink.old) (K.written sink.new) (lines_of read))))) }
+        × TookSome (taken_from S.Source source.old source.new) (OfLines (taken_from S.Source source.old source.new)
+        (StoppedIn Unanswered.Write A.how state.old state.new (K.written sink.old) (K.written sink.new)))) }
 {
     let mut run = LineRun::new();
     'pieces: loop {

@@ -1,5 +1,5 @@
 -- What the program does with a command line.
-use Rattle.std.specs.Prelude.{◌≡◌, ◌⊎◌, ℕ, List}
+use Rattle.std.specs.Prelude.{◌≡◌, ◌⊎◌, List}
 use Rattle.sq_devices.specs.Changes.{TookNothing, WroteNothing}
 use Rattle.sq_requests.specs.Requests.{Asked, Text}
 use Rattle.sq_words.specs.Requests.{Asks, IsFaulty}

@@ -1,13 +1,17 @@
-use Rattle.std.proofs.Common.{◌+◌, ◌*◌, ◌≤◌}
-use Rattle.sq_lines.specs.Runs.{HasRead}
+use Rattle.std.proofs.Common.{◌≡◌, ◌+◌, ◌*◌, ◌≤◌, List, ℕ}
+use Rattle.sq_devices.specs.Changes.{taken_from}
+use Rattle.sq_devices.specs.Calls.{HasPut}
+use Rattle.sq_lines.specs.Runs.{HasRead, IsMadeOf}
 use Rattle.sq_lines.proofs.streams.run_lines.Given as goal
 
 abbrev pub invariant-pieces : goal.invariant-pieces
 invariant-pieces g l = record {
   room : l.run.number + 64 * g.S.Source.gets_left l.source ≤ 64000000000000;
-  answered : HasRead g.A.Answering.stands_for g.A.Answering.way l.initial.state (g.S.Source.to_come l.initial.source)
-      (g.S.Source.to_come l.source)
-      (g.K.Sink.written l.initial.sink) l.run l.state (g.K.Sink.written l.sink);
+  unfinished : g.K.Sink.finishes l.sink ≡ g.K.Sink.finishes l.initial.sink;
+  read : List ℕ;
+  answered : HasRead g.A.Answering.how l.initial.state (taken_from g.S.Source l.initial.source l.source) 0
+      (HasPut g.K.Sink l.initial.sink l.sink) l.run l.state read;
+  made : IsMadeOf (taken_from g.S.Source l.initial.source l.source) read;
 }
 
 abbrev pub decreases-pieces : goal.decreases-pieces

@@ -9,19 +9,19 @@ use Rattle.sq_lines.proofs.Running.{line_in, answered_feed, answered_no_feed, st
 use Rattle.sq_lines.proofs.runs.LineRun.answer_front.Goals as goal
 
 pub returns-in_err-answer_line-clause-stopped : goal.returns-in_err-answer_line-clause-stopped
-returns-in_err-answer_line-clause-stopped g c = λ start before read h.
+returns-in_err-answer_line-clause-stopped g c = λ start first read h.
     let piece = c.args.piece.now in
     let there = ltb-true _ _ (sym c.take_marked-count.ensures.complete ∙ c.if-is_complete.true) in
     let holds = c.take_marked-count.ensures.held h.rest h.held in
     let p = err_from_is_err_and c.from_residual.result c.from_residual.ensures.1 in
-    rw (p.1, p.2) (stopped_line g.A.Answering.stands_for g.A.Answering.way start before _ _ c.args.self.now
+    rw (p.1, p.2) (stopped_line g.A.Answering.how g.K.Sink start first _ _ c.args.self.now
     c.answer_line.new.self c.args.state.now c.answer_line.new.state read h
-    (line_in h piece) _ _ c.in_err-answer_line.ensures.memory
-    (λ past first st. c.in_err-answer_line.ensures.part (line_in h piece) past first holds st)
-    (prefix_through h piece there))
+    (line_in g.K.Sink h piece) _ _ (c.in_err-answer_line.ensures.memory (line_in g.K.Sink h piece) holds)
+    (λ past first st. c.in_err-answer_line.ensures.part (line_in g.K.Sink h piece) past first holds st)
+    (prefix_through g.K.Sink h piece there))
 
 pub returns-in_ok-answer_line-clause-answered : goal.returns-in_ok-answer_line-clause-answered
-returns-in_ok-answer_line-clause-answered g c = λ start before read h.
+returns-in_ok-answer_line-clause-answered g c = λ start first read h.
     let piece = c.args.piece.now in
     let feed : nat_lt (position_or_len is_feed piece) (length piece) ≡ true =
     sym c.take_marked-count.ensures.complete ∙ c.if-is_complete.true in
@@ -29,12 +29,12 @@ returns-in_ok-answer_line-clause-answered g c = λ start before read h.
     let holds = c.take_marked-count.ensures.held h.rest h.held in
     let count : c.take_marked-count.result.0 ≡ position_or_len is_feed piece + 1 =
     c.take_marked-count.ensures.count ∙ ap (λ b. cond b (position_or_len is_feed piece + 1) (length piece)) feed in
-    rw count (answered_feed h _ _ _ piece there c.in_ok-answer_line.ensures.number
+    rw count (answered_feed g.K.Sink h _ _ _ piece there c.in_ok-answer_line.ensures.number
     (ap (λ held. held.is_complete) c.answer_line.ensures.cutter ∙ c.take_marked-count.ensures.noted ∙ feed)
-    (λ past first st. c.in_ok-answer_line.ensures.answered (line_in h piece) past first holds st))
+    (λ past first st. c.in_ok-answer_line.ensures.answered (line_in g.K.Sink h piece) past first holds st))
 
 pub returns-else-is_complete-clause-answered : goal.returns-else-is_complete-clause-answered
-returns-else-is_complete-clause-answered g c = λ start before read h.
+returns-else-is_complete-clause-answered g c = λ start first read h.
     let piece = c.args.piece.now in
     let unended : nat_lt (position_or_len is_feed piece) (length piece) ≡ false =
     sym c.take_marked-count.ensures.complete ∙ c.if-is_complete.false in
@@ -42,5 +42,5 @@ returns-else-is_complete-clause-answered g c = λ start before read h.
     let count : c.take_marked-count.result.0 ≡ length piece =
     c.take_marked-count.ensures.count ∙ ap (λ b. cond b (position_or_len is_feed piece + 1) (length piece)) unended in
     rw (count, take_all (length piece) piece (omega (arith, past)))
-    (answered_no_feed h _ piece past refl refl (c.take_marked-count.ensures.noted ∙ unended)
+    (answered_no_feed g.K.Sink h _ piece past refl refl (c.take_marked-count.ensures.noted ∙ unended)
     (c.take_marked-count.ensures.held h.rest h.held))

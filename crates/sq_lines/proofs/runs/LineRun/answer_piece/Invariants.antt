@@ -1,15 +1,16 @@
-use Rattle.std.proofs.Common.{◌+◌, ◌≤◌, ◌-◌, ◌++◌, List, ℕ, Option, length, take}
+use Rattle.std.proofs.Common.{◌≡◌, ◌+◌, ◌≤◌, ◌-◌, ◌++◌, List, ℕ, length, take}
+use Rattle.sq_devices.specs.Calls.{HasPut}
 use Rattle.sq_lines.specs.Runs.{HasAnswered}
 use Rattle.sq_lines.proofs.runs.LineRun.answer_piece.Given as goal
 
 abbrev pub invariant-loop-at : goal.invariant-loop-at
 invariant-loop-at g l = record {
   within : l.at ≤ length l.piece;
+  unfinished : g.K.Sink.finishes l.sink ≡ g.K.Sink.finishes l.initial.sink;
   number : l.self.number ≤ l.initial.self.number + l.at;
-  answered : (start : g.row.A-State.Denot) (before : Option (List ℕ)) (read : List ℕ)
-      → HasAnswered g.A.Answering.stands_for g.A.Answering.way start before l.initial.self l.initial.state
-      (g.K.Sink.written l.initial.sink) read
-      → HasAnswered g.A.Answering.stands_for g.A.Answering.way start before l.self l.state (g.K.Sink.written l.sink)
+  answered : (start : g.row.A-State.Denot) (first : g.row.K.Denot) (read : List ℕ)
+      → HasAnswered g.A.Answering.how start (HasPut g.K.Sink first l.initial.sink) l.initial.self l.initial.state read
+      → HasAnswered g.A.Answering.how start (HasPut g.K.Sink first l.sink) l.self l.state
       (read ++ take l.at l.piece);
 }
 

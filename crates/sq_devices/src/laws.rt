@@ -1,0 +1,19 @@
+//! Laws over the definitions that the contracts name.
+ghost use Rattle.std.specs.Prelude.{◌≡◌, ◌↔◌, ◌∷◌, [], List, ℕ};
+ghost use Rattle.sq_devices.specs.Calls.{Calls};
+
+use crate::{Sink, Source};
+
+/// No gets at all leave a source as it was, and gets of two pieces are one of each, the second of what the first left.
+pub fn gets_in_turn<S: Source>()
+    ensures none { (old new : S) → Calls S.Gave old new [] ↔ (new ≡ old) }
+    ensures two { (old new : S) (x y : List ℕ) → Calls S.Gave old new (x ∷ y ∷ [])
+        ↔ ((between : S) × S.Gave old x between × S.Gave between y new) }
+{}
+
+/// The same of puts.
+pub fn puts_in_turn<K: Sink>()
+    ensures none { (old new : K) → Calls K.Took old new [] ↔ (new ≡ old) }
+    ensures two { (old new : K) (x y : List ℕ) → Calls K.Took old new (x ∷ y ∷ [])
+        ↔ ((between : K) × K.Took old x between × K.Took between y new) }
+{}
