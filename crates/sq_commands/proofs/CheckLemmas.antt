@@ -1,24 +1,27 @@
 -- From a run of any lines to one of `check`.
-use Rattle.std.proofs.Common.{◌≡◌, ◌∙◌, ℕ, List, [], ◌∷◌, Option, None, Some, Result, Ok, Err, IfOk, IfErr, IfSome, ap, subst, refl, inl, inr, true}
-use Rattle.std.specs.Prelude.{◌⊎◌, map}
-use Rattle.std.specs.Io.KnownBytes.{Appends, Consumes, IsAtEnd}
-use Rattle.sq_devices.specs.Changes.{Taken, Written}
-use Rattle.sq_devices.specs.Device.{ConsumesOrHides, WroteFront}
+use Rattle.std.proofs.Common.{◌≡◌, ◌∙◌, ℕ, List, [], ◌∷◌, Option, Result, Ok, Err, IfOk, IfErr, OnOk, OnErr, ap, subst, refl, inl, inr, true}
+use Rattle.std.specs.Prelude.{map}
+use Rattle.std.specs.Io.KnownBytes.{Appends}
+use Rattle.std.specs.List.{concat}
+use Rattle.sq_devices.specs.Changes.{FinishedOnce, Sent, Taken, TookAll, TookPart, TookReported, TookSome, Unfinished, Written}
+use Rattle.sq_devices.specs.Device.{WroteFront}
 use Rattle.sq_message.specs.declared.squitter.Squitter.{Squitter}
 use Rattle.sq_text.specs.Reading.{SquitterReader}
 use Rattle.sq_text.specs.Summary.{summary}
 use Rattle.sq_lines.specs.Lines.{ended_lines, lines_of}
 use Rattle.sq_lines.specs.Content.{Answer, answer_by}
 use Rattle.sq_lines.specs.Answers.{answers_to, texts_of, tally_of}
-use Rattle.sq_lines.specs.Runs.{HasTold, StoppedIn}
+use Rattle.sq_lines.specs.Runs.{HasRun, HasTold, OfLines, StoppedIn}
 use Rattle.sq_lines.specs.declared.faults.Unanswered.TheVariants.{Write}
+use Rattle.sq_lines.specs.declared.faults.Unanswered.TheVariants as unanswereds
 use Rattle.sq_lines.specs.declared.faults.RunFault.{RunFault}
 use Rattle.sq_lines.specs.declared.faults.RunFault.TheVariants.{Read, Memory}
 use Rattle.sq_lines.specs.declared.faults.RunFault.TheVariants as RunFaults
 use Rattle.sq_lines.specs.declared.tallies.Tally.{Tally}
+use Rattle.sq_devices.proofs.Ends.{took_reported}
 use Rattle.sq_lines.proofs.Running.{prefix_trans}
 use Rattle.sq_lines.proofs.Tallying.{output_prefix}
-use Rattle.sq_commands.specs.Check.{IsChecked, IsChecking, WroteChecks, check_output, check_tally, check_way}
+use Rattle.sq_commands.specs.Check.{HasChecked, IsChecked, check_manner, check_output, check_tally, check_way}
 
 -- the answers of a fold that remembers nothing are a map
 answers-check : (reader : SquitterReader) (lines : List (List ℕ))
@@ -28,17 +31,23 @@ answers-check reader (line ∷ lines) = ap (λ answers. answer_by reader.read li
 
 -- `check` keeps no state
 abbrev HasToldChecks : (before after : Option (List ℕ)) → List (List ℕ) → Type 0
-HasToldChecks before after lines = HasTold (IsChecking {State = Unit {0}}) check_way tt tt before after lines
+HasToldChecks before after lines = HasTold (check_manner {State = Unit {0}}) tt tt (Appends before after) lines
 
 -- a write failed
 abbrev StoppedInChecks : (before after : Option (List ℕ)) → List (List ℕ) → Type 0
 StoppedInChecks before after complete =
-    StoppedIn Write (IsChecking {State = Unit {0}}) check_way tt tt before after complete
+    StoppedIn Write (check_manner {State = Unit {0}}) tt tt before after complete
 
-pub told-check : (before after : Option (List ℕ)) (lines : List (List ℕ)) → HasToldChecks before after lines
-    → (reader : SquitterReader) → Appends before after (check_output reader lines)
-told-check before after lines told reader =
-    subst (λ (answers : List (Answer Squitter)). Appends before after (texts_of summary answers))
+-- there was no memory
+abbrev NoMemoryInChecks : (before after : Option (List ℕ)) → List (List ℕ) → Type 0
+NoMemoryInChecks before after complete =
+    StoppedIn unanswereds.Memory (check_manner {State = Unit {0}}) tt tt before after complete
+
+pub told-check : (Wrote : List ℕ → Type 0) (lines : List (List ℕ))
+    → HasTold (check_manner {State = Unit {0}}) tt tt Wrote lines
+    → (reader : SquitterReader) → Wrote (check_output reader lines)
+told-check Wrote lines told reader =
+    subst (λ (answers : List (Answer Squitter)). Wrote (texts_of summary answers))
     (answers-check reader lines) (told reader tt).1
 
 tally-check : (tally : Tally) (reader : SquitterReader) (lines : List (List ℕ))
@@ -57,43 +66,59 @@ stopped-check before after complete (lines, first, told) reader =
 
 -- what a run of any lines came to, of `check`
 pub checked : (result : Result Tally RunFault) (input : Taken) (output : Written)
-    → IfOk result (λ tally. IfSome input.before
-    (λ bytes. (input.after ≡ Some []) × HasToldChecks output.before output.after (lines_of bytes)
-    × ((past : SquitterReader) → Unit {0} → tally ≡ tally_of (answers_to check_way past (lines_of bytes)))))
+    → IfOk result (λ tally. TookAll input
+    (HasRun (check_manner {State = Unit {0}}) tt tt (Sent output) tally))
+    → OnOk result (FinishedOnce output) → OnErr result (Unfinished output)
     → IfErr result (λ fault. fault ≡ Read
-    → (input.failed ≡ true) × ((bytes : List ℕ) × ConsumesOrHides input.before input.after bytes
-    × HasToldChecks output.before output.after (ended_lines bytes)))
-    → IfErr result (λ fault. fault ≡ RunFaults.Write
-    → (output.failed ≡ true) × ((bytes : List ℕ) × Consumes input.before input.after bytes
-    × (StoppedInChecks output.before output.after (ended_lines bytes)
-    ⊎ (IsAtEnd input.after × StoppedInChecks output.before output.after (lines_of bytes)))))
-    → IfErr result (λ fault. fault ≡ Memory → ⊥) → IsChecked result input output
-checked (Ok tally) input output whole unread unwritten wanting = at_end input.before whole
-  where
-    at_end : (before : Option (List ℕ))
-        → IfSome before (λ bytes. (input.after ≡ Some []) × HasToldChecks output.before output.after (lines_of bytes)
-        × ((past : SquitterReader) → Unit {0} → tally ≡ tally_of (answers_to check_way past (lines_of bytes))))
-        → IfSome before (λ bytes. (input.after ≡ Some []) × WroteChecks output (lines_of bytes)
-        × ((reader : SquitterReader) → tally ≡ check_tally reader (lines_of bytes)))
-    at_end None whole = tt
-    at_end (Some bytes) whole = (
-      whole.0,
-      told-check output.before output.after (lines_of bytes) whole.1,
-      λ reader. tally-check tally reader (lines_of bytes) (whole.2 reader tt),
+    → TookPart input (λ bytes. HasToldChecks output.before output.after (ended_lines bytes)))
+    → IfErr result (λ fault. fault ≡ RunFaults.Write → (output.failed ≡ true)
+    × TookSome input (OfLines input (StoppedInChecks output.before output.after)))
+    → IfErr result (λ fault. fault ≡ Memory
+    → TookSome input (OfLines input (NoMemoryInChecks output.before output.after)))
+    → IsChecked result input output
+checked (Ok tally) input output (pieces, got, consumed, end, run) finished _ _ _ _ = (
+  finished,
+  (
+    pieces,
+    got,
+    consumed,
+    end,
+    (
+      told-check (Sent output) (lines_of (concat pieces)) run.0,
+      λ reader. tally-check tally reader (lines_of (concat pieces)) (run.1 reader tt),
+    ),
+  ),
+)
+checked (Err Read) input output whole finished unfinished unread unwritten unanswered =
+    let u = unread refl in (
+      unfinished,
+      (u.0, (u.1.0, u.1.1, u.1.2, told-check (Appends output.before output.after) (ended_lines u.1.0) u.1.3)),
     )
-checked (Err Read) input output whole unread unwritten wanting =
-    let u = unread refl in (u.0, (u.1.0, u.1.1, told-check output.before output.after (ended_lines u.1.0) u.1.2))
-checked (Err RunFaults.Write) input output whole unread unwritten wanting =
+checked (Err RunFaults.Write) input output whole finished unfinished unread unwritten unanswered =
     let u = unwritten refl in (
       u.1.0,
       u.1.1,
-      elim u.1.2 [
-        | inl ended ↦ inl (λ reader. (u.0, stopped-check output.before output.after (ended_lines u.1.0) ended reader))
+      u.1.2,
+      elim u.1.3 [
+        | inl ended ↦ inl (λ reader. (
+          u.0,
+          stopped-check output.before output.after (ended_lines u.1.0) ended reader,
+          unfinished,
+        ))
         | inr last ↦ inr (
           last.0,
-          λ reader.
-              (u.0, stopped-check output.before output.after (lines_of u.1.0) last.1 reader),
+          λ reader. (u.0, stopped-check output.before output.after (lines_of u.1.0) last.1 reader, unfinished),
         )
       ],
     )
-checked (Err Memory) input output whole unread unwritten wanting = absurd (wanting refl)
+checked (Err Memory) input output whole finished unfinished unread unwritten unanswered =
+    elim (unanswered refl).3 [
+      | inl ended ↦ absurd ended.3
+      | inr last ↦ absurd last.1.3
+    ]
+
+-- where the source reports its bytes, the answers are those to all of them
+pub checked_reported : (result : Result Tally RunFault) (input : Taken) (output : Written)
+    → IsChecked result input output → IfOk result (λ tally. TookReported input (HasChecked tally output))
+checked_reported (Ok tally) input output (finished, took) = took_reported input (HasChecked tally output) took
+checked_reported (Err fault) input output is = tt

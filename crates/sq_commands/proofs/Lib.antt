@@ -1,4 +1,5 @@
 pub mod ArgumentLemmas
 pub mod CheckLemmas
+pub mod FaultLemmas
 pub mod HeardLemmas
 pub mod TrackLemmas

@@ -1,16 +1,18 @@
 -- What is answered to the lines of a log.
-use Rattle.std.proofs.Common.{◌≡◌, ◌≢◌, ◌∙◌, ◌⊎◌, ◌-◌, ◌∷◌, [], ℕ, zero, suc, List, Option, None, Some, Result, Ok, Err, IfErr, IfOk, IfSome, length, take, ap, sym, subst, subst₂, refl, inl, inr, arith, true}
-use Rattle.std.specs.Io.KnownBytes.{Appends, Consumes, IsAtEnd}
+use Rattle.std.proofs.Common.{◌≡◌, ◌≢◌, ◌∙◌, ◌-◌, ◌∷◌, [], ℕ, zero, suc, List, Option, None, Some, Result, Ok, Err, IfErr, IfOk, OnErr, OnOk, length, take, ap, sym, subst, subst₂, refl, inl, inr, arith, true}
+use Rattle.std.specs.Io.KnownBytes.{Appends}
+use Rattle.std.specs.List.{concat}
 use Rattle.sq_angle.specs.Decimal.{DecimalWriter}
-use Rattle.sq_devices.specs.Changes.{Taken, Wrote, Written}
-use Rattle.sq_devices.specs.Device.{ConsumesOrHides, IsPrefixOf}
+use Rattle.sq_devices.specs.Changes.{FinishedOnce, Sent, Taken, TookAll, TookPart, TookReported, TookSome, Unfinished, Written}
+use Rattle.sq_devices.specs.Device.{IsPrefixOf}
+use Rattle.sq_devices.proofs.Ends.{took_reported}
 use Rattle.sq_text.specs.declared.faults.LineFault.{LineFault}
 use Rattle.sq_text.specs.declared.timed.TimedSquitter.{TimedSquitter}
-use Rattle.sq_text.specs.Timed.{TimedReader}
+use Rattle.sq_text.specs.Timed.{IsTimedReading, TimedReader}
 use Rattle.sq_lines.specs.Answers.{answers_to, past_after, tally_of, texts_of}
-use Rattle.sq_lines.specs.Content.{Answer, answer_by}
+use Rattle.sq_lines.specs.Content.{Answer, Content, Text, answer_by, content}
 use Rattle.sq_lines.specs.Lines.{ended_lines, lines_of}
-use Rattle.sq_lines.specs.Runs.{HasTold, HasToldPart, StoppedIn, but_last}
+use Rattle.sq_lines.specs.Runs.{HasRun, HasTold, HasToldPart, OfLines, StoppedIn, but_last}
 use Rattle.sq_lines.specs.declared.faults.RunFault.{RunFault}
 use Rattle.sq_lines.specs.declared.faults.RunFault.TheVariants.{Read}
 use Rattle.sq_lines.specs.declared.faults.RunFault.TheVariants as run_faults
@@ -27,8 +29,8 @@ use Rattle.sq_track.proofs.Histories.OneReply.{one_reply}
 use Rattle.sq_track.proofs.Histories.SomeAnswer.{some_reply}
 use Rattle.sq_commands.specs.declared.heard.HeardFrom.{HeardFrom}
 use Rattle.sq_commands.specs.Heard.{heard_text}
-use Rattle.sq_commands.specs.Track.{IsTracked}
-use Rattle.sq_commands.specs.Tracking.{AreHeardLines, HasHeard, IsHeardLine, IsTracking, Replier, Tracking, WroteIntoLast, answer_heard, found_of, past_heard, past_with, reply_by, track_way}
+use Rattle.sq_commands.specs.Track.{HasTracked, IsTracked}
+use Rattle.sq_commands.specs.Tracking.{AreHeardLines, HasHeard, IsHeardLine, IsTimedLine, IsTracking, Replier, Tracking, WroteIntoLast, answer_heard, found_of, past_heard, past_with, reply_by, track_manner, track_way}
 
 history_with : (past : Tracking) (timed : TimedSquitter) (reply : Result Heard TrackFault)
     (is : IsReply past.settings past.history timed.moment timed.squitter reply)
@@ -62,6 +64,13 @@ heard_line past timed verdict new reply is remembers found stands same =
       ap Some (found ∙ ap (found_of timed) one),
       (subst (StandsFor new) after stands, same ∙ sym (settings_with past timed (reply_by past timed) by)),
     )
+
+-- a text that is read as a squitter with its moment spells it
+pub spelled : (text line : List ℕ) (read : Result TimedSquitter LineFault)
+    → (let stands : Content = Text text in stands ≡ content line)
+    → IsTimedReading text read → IfOk read (λ timed. IsTimedLine line timed)
+spelled text line (Ok timed) stands is = (text, sym stands, is)
+spelled text line (Err fault) stands is = tt
 
 -- ---- many lines
 
@@ -159,13 +168,13 @@ answers-length past (line ∷ lines) =
     omega (arith, answers-length (past_heard past read) lines)
 
 pub told-track : (old new : Held) (before after : Option (List ℕ)) (lines : List (List ℕ))
-    → HasTold IsTracking track_way old new before after lines
+    → HasTold track_manner old new (Appends before after) lines
     → HasHeard old new lines (λ text answers. Appends before after (text answers))
 told-track old new before after lines told =
     heard_from old new before after lines (λ text answers. Appends before after (text answers)) told
 
 pub told_part-track : (old new : Held) (output : Written) (lines : List (List ℕ))
-    → HasToldPart IsTracking track_way old new output.before output.after lines
+    → HasToldPart track_manner old new output.before output.after lines
     → HasHeard old new lines (λ text answers. WroteIntoLast output text answers)
 told_part-track old new output lines told = heard_from old new output.before output.after lines
     (λ text answers. WroteIntoLast output text answers) (λ past st.
@@ -186,73 +195,94 @@ told_part-track old new output lines told = heard_from old new output.before out
     ))
 
 pub whole-track : (input : Taken) (output : Written) (old new : Held) (tally : Tally)
-    → IfSome input.before (λ bytes. (input.after ≡ Some [])
-    × HasTold IsTracking track_way old new output.before output.after (lines_of bytes)
-    × ((past : Tracking) → IsTracking old past → tally ≡ tally_of (answers_to track_way past (lines_of bytes))))
-    → IsTracked (Ok tally) input output old new
-whole-track input output old new tally whole = at_end input.before whole
-  where
-    at_end : (before : Option (List ℕ))
-        → IfSome before (λ bytes. (input.after ≡ Some [])
-        × HasTold IsTracking track_way old new output.before output.after (lines_of bytes)
-        × ((past : Tracking) → IsTracking old past → tally ≡ tally_of (answers_to track_way past (lines_of bytes))))
-        → IfSome before (λ bytes. (input.after ≡ Some [])
-        × HasHeard old new (lines_of bytes) (λ text answers. Wrote output (text answers) × (tally ≡ tally_of answers)))
-    at_end None whole = tt
-    at_end (Some bytes) whole = (
-      whole.0,
-      heard_from old new output.before output.after (lines_of bytes)
-          (λ text answers. Wrote output (text answers) × (tally ≡ tally_of answers)) (λ past st.
-          let one = whole.1 past st in (one.0, (one.1, whole.2 past st))),
-    )
+    → TookAll input (HasRun track_manner old new (Sent output) tally)
+    → TookAll input (HasTracked tally output old new)
+whole-track input output old new tally (pieces, got, consumed, end, run) = (
+  pieces,
+  got,
+  consumed,
+  end,
+  heard_from old new output.before output.after (lines_of (concat pieces))
+      (λ text answers. Sent output (text answers) × (tally ≡ tally_of answers)) (λ past st.
+      let one = run.0 past st in (one.0, (one.1, run.1 past st))),
+)
 
 abbrev StoppedInLog : Unanswered → (old new : Held) → (before after : Option (List ℕ)) → List (List ℕ) → Type 0
-StoppedInLog fault old new before after complete = StoppedIn fault IsTracking track_way old new before after complete
+StoppedInLog fault old new before after complete = StoppedIn fault track_manner old new before after complete
 
 -- what a run of any lines came to, of `track`
 pub tracked : (result : Result Tally RunFault) (input : Taken) (output : Written) (old new : Held)
-    → IfOk result (λ tally. IfSome input.before
-    (λ bytes. (input.after ≡ Some [])
-    × HasTold IsTracking track_way old new output.before output.after (lines_of bytes)
-    × ((past : Tracking) → IsTracking old past → tally ≡ tally_of (answers_to track_way past (lines_of bytes)))))
+    → IfOk result (λ tally. TookAll input (HasRun track_manner old new (Sent output) tally))
+    → OnOk result (FinishedOnce output) → OnErr result (Unfinished output)
     → IfErr result (λ fault. fault ≡ Read
-    → (input.failed ≡ true) × ((bytes : List ℕ) × ConsumesOrHides input.before input.after bytes
-    × HasTold IsTracking track_way old new output.before output.after (ended_lines bytes)))
-    → IfErr result (λ fault. fault ≡ run_faults.Memory → (bytes : List ℕ) × Consumes input.before input.after bytes
-    × (StoppedInLog Memory old new output.before output.after (ended_lines bytes)
-    ⊎ (IsAtEnd input.after × StoppedInLog Memory old new output.before output.after (lines_of bytes))))
-    → IfErr result (λ fault. fault ≡ run_faults.Write
-    → (output.failed ≡ true) × ((bytes : List ℕ) × Consumes input.before input.after bytes
-    × (StoppedInLog Write old new output.before output.after (ended_lines bytes)
-    ⊎ (IsAtEnd input.after × StoppedInLog Write old new output.before output.after (lines_of bytes)))))
+    → TookPart input (λ bytes. HasTold track_manner old new (Appends output.before output.after) (ended_lines bytes)))
+    → IfErr result (λ fault. fault ≡ run_faults.Memory
+    → TookSome input (OfLines input (StoppedInLog Memory old new output.before output.after)))
+    → IfErr result (λ fault. fault ≡ run_faults.Write → (output.failed ≡ true)
+    × TookSome input (OfLines input (StoppedInLog Write old new output.before output.after)))
     → IsTracked result input output old new
-tracked (Ok tally) input output old new whole unread unanswered unwritten = whole-track input output old new tally whole
-tracked (Err Read) input output old new whole unread unanswered unwritten =
+tracked (Ok tally) input output old new whole finished unfinished unread unanswered unwritten =
+    (finished, whole-track input output old new tally whole)
+tracked (Err Read) input output old new whole finished unfinished unread unanswered unwritten =
     let u = unread refl in (
+      unfinished,
+      (
+        u.0,
+        (
+          u.1.0,
+          u.1.1,
+          u.1.2,
+          told-track old new output.before output.after (ended_lines u.1.0) u.1.3,
+        ),
+      ),
+    )
+tracked (Err run_faults.Memory) input output old new whole finished unfinished unread unanswered unwritten =
+    let u = unanswered refl in (
+      unfinished,
+      (
+        u.0,
+        u.1,
+        u.2,
+        elim u.3 [
+          | inl ended ↦ inl (
+            ended.0,
+            ended.1,
+            ended.2,
+            ended.3,
+            told-track old new output.before output.after ended.0 ended.4,
+          )
+          | inr last ↦ inr (
+            last.0,
+            (
+              last.1.0,
+              last.1.1,
+              last.1.2,
+              last.1.3,
+              told-track old new output.before output.after last.1.0 last.1.4,
+            ),
+          )
+        ],
+      ),
+    )
+tracked (Err run_faults.Write) input output old new whole finished unfinished unread unanswered unwritten =
+    let u = unwritten refl in (
       u.0,
+      unfinished,
       (
         u.1.0,
         u.1.1,
-        told-track old new output.before output.after (ended_lines u.1.0) u.1.2,
+        u.1.2,
+        elim u.1.3 [
+          | inl ended ↦ inl (ended.0, ended.1, told_part-track old new output ended.0 ended.2)
+          | inr last ↦ inr (last.0, (last.1.0, last.1.1, told_part-track old new output last.1.0 last.1.2))
+        ],
       ),
     )
-tracked (Err run_faults.Memory) input output old new whole unread unanswered unwritten =
-    let u = unanswered refl in
-    elim u.2 [
-      | inl ended ↦ (u.0, ended.0, u.1, inl ended.1, told-track old new output.before output.after ended.0 ended.2)
-      | inr last ↦ (
-        u.0,
-        last.1.0,
-        u.1,
-        inr (last.0, last.1.1),
-        told-track old new output.before output.after last.1.0 last.1.2,
-      )
-    ]
-tracked (Err run_faults.Write) input output old new whole unread unanswered unwritten =
-    let u = unwritten refl in (
-      u.0,
-      elim u.1.2 [
-        | inl ended ↦ (u.1.0, ended.0, u.1.1, inl ended.1, told_part-track old new output ended.0 ended.2)
-        | inr last ↦ (u.1.0, last.1.0, u.1.1, inr (last.0, last.1.1), told_part-track old new output last.1.0 last.1.2)
-      ],
-    )
+
+-- where the source reports its bytes, the answers are those to all of them
+pub tracked_reported : (result : Result Tally RunFault) (input : Taken) (output : Written) (old new : Held)
+    → IsTracked result input output old new
+    → IfOk result (λ tally. TookReported input (HasTracked tally output old new))
+tracked_reported (Ok tally) input output old new (finished, took) =
+    took_reported input (HasTracked tally output old new) took
+tracked_reported (Err fault) input output old new is = tt

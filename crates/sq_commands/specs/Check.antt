@@ -1,14 +1,13 @@
 -- What `check` does.
-use Rattle.std.specs.Prelude.{◌≡◌, ◌==◌, ◌⊎◌, ℕ, List, [], Result, Ok, Err, MatchResult, IfSome, Some, map, true, if◌then◌else◌}
-use Rattle.std.specs.Io.KnownBytes.{Consumes, IsAtEnd}
-use Rattle.sq_devices.specs.Changes.{FailedWithin, Taken, Written, Wrote, WroteNothing}
-use Rattle.sq_devices.specs.Device.{ConsumesOrHides}
+use Rattle.std.specs.Prelude.{◌≡◌, ◌==◌, ℕ, List, Result, Ok, Err, MatchResult, map, if◌then◌else◌}
+use Rattle.sq_devices.specs.Changes.{FailedWithin, FinishedOnce, Sent, Taken, TookAll, TookPart, TookSome, Unfinished, Written, Wrote, WroteNothing}
 use Rattle.sq_message.specs.declared.squitter.Squitter.{Squitter}
 use Rattle.sq_text.specs.Reading.{SquitterReader}
 use Rattle.sq_text.specs.Summary.{summary}
 use Rattle.sq_lines.specs.Content.{answer_by}
-use Rattle.sq_lines.specs.Answers.{Answerer, texts_of, tally_of}
+use Rattle.sq_lines.specs.Answers.{Answerer, Manner, texts_of, tally_of}
 use Rattle.sq_lines.specs.Lines.{ended_lines, lines_of}
+use Rattle.sq_lines.specs.Runs.{OfLines}
 use Rattle.sq_lines.specs.declared.faults.RunFault.{RunFault}
 use Rattle.sq_lines.specs.declared.faults.RunFault.TheVariants.{Read, Write, Memory}
 use Rattle.sq_lines.specs.declared.tallies.Tally.{Tally}
@@ -37,6 +36,10 @@ check_way =
 abbrev pub IsChecking : {State : Type 0} → State → SquitterReader → Type 0
 IsChecking state reader = Unit {0}
 
+-- the same, of states that want no memory
+abbrev pub check_manner : {State : Type 0} → Manner State SquitterReader Squitter
+check_manner = record { stands_for = IsChecking; way = check_way; wants = λ state line. ⊥ }
+
 -- the answers to these lines were written
 abbrev pub WroteChecks : Written → List (List ℕ) → Type 0
 WroteChecks output lines = (reader : SquitterReader) → Wrote output (check_output reader lines)
@@ -45,19 +48,22 @@ WroteChecks output lines = (reader : SquitterReader) → Wrote output (check_out
 abbrev pub FailedWithinChecks : Written → List (List ℕ) → Type 0
 FailedWithinChecks output lines = (reader : SquitterReader) → FailedWithin output (check_output reader lines)
 
+-- the lines of these bytes were answered and counted, and the output finished after that
+abbrev pub HasChecked : Tally → Written → List ℕ → Type 0
+HasChecked tally output bytes =
+    ((reader : SquitterReader) → Sent output (check_output reader (lines_of bytes)))
+    × ((reader : SquitterReader) → tally ≡ check_tally reader (lines_of bytes))
+
 -- what a run over an input came to
 abbrev pub IsChecked : Result Tally RunFault → Taken → Written → Type 0
--- at the end of the input, all of its lines were answered and counted
-IsChecked (Ok tally) input output = IfSome input.before (λ bytes. (input.after ≡ Some [])
-    × WroteChecks output (lines_of bytes) × ((reader : SquitterReader) → tally ≡ check_tally reader (lines_of bytes)))
+-- the bytes up to the end of the input were taken, their lines were answered and counted, and the output was finished
+IsChecked (Ok tally) input output = FinishedOnce output × TookAll input (HasChecked tally output)
 -- where the source failed, the lines that were read whole were answered
-IsChecked (Err Read) input output = (input.failed ≡ true)
-    × ((bytes : List ℕ) × ConsumesOrHides input.before input.after bytes × WroteChecks output (ended_lines bytes))
+IsChecked (Err Read) input output =
+    Unfinished output × TookPart input (λ bytes. WroteChecks output (ended_lines bytes))
 -- where the sink failed, it did so within the answers to the lines that were read whole; the last part is a line at the
 -- end of the input
-IsChecked (Err Write) input output = (bytes : List ℕ) × Consumes input.before input.after bytes
-    × (FailedWithinChecks output (ended_lines bytes)
-    ⊎ (IsAtEnd input.after × FailedWithinChecks output (lines_of bytes)))
+IsChecked (Err Write) input output = TookSome input (OfLines input (FailedWithinChecks output))
 -- no memory is wanted
 IsChecked (Err Memory) input output = ⊥
 

@@ -12,3 +12,4 @@ pub mod Heard
 pub mod Tracking
 pub mod Track
 pub mod Runs
+pub mod Laws

@@ -2,14 +2,14 @@
 use Rattle.std.specs.Prelude.{◌≡◌, ◌++◌, ℕ, List, codes}
 use Rattle.sq_devices.specs.declared.device.Sink.{Ghosts as SinkGhosts}
 use Rattle.sq_devices.specs.declared.device.Source.{Ghosts as SourceGhosts}
-use Rattle.sq_devices.specs.Changes.{FailedWithin, Taken, Wrote, WroteNothing, WroteOrFailed, Written, taken_from, written_on}
+use Rattle.sq_devices.specs.Changes.{FailedWithin, Taken, WroteLast, WroteNothing, WroteOrFailed, Written, taken_from, written_on}
 use Rattle.sq_lines.specs.declared.faults.RunFault.{RunFault}
 use Rattle.sq_lines.specs.declared.faults.RunFault.TheVariants as faults
 use Rattle.sq_commands.specs.declared.status.Status.{Status}
 use Rattle.sq_commands.specs.declared.status.Status.TheVariants.{Good, Refused, Misused, Broken}
 
 -- what was written on the output, and what was reported on the sink for faults
-pub record Outputs : Type 0 where
+pub record Outputs : Type 1 where
   pub output : Written
   pub reports : Written
 
@@ -19,7 +19,7 @@ outputs k f output output' faults faults' =
     record { output = written_on k output output'; reports = written_on f faults faults' }
 
 -- the same, and what was read of the input
-pub record Effects : Type 0 where
+pub record Effects : Type 1 where
   pub input : Taken
   pub outputs : Outputs
 
@@ -40,9 +40,10 @@ broken_text faults.Read = codes "read failed"
 broken_text faults.Write = codes "write failed"
 broken_text faults.Memory = codes "out of memory"
 
--- all is good: the text was written, and nothing reported; or the output has failed within it, and that is reported
+-- all is good: the text was written and the output finished, and nothing reported; or the output has failed within it,
+-- and that is reported
 abbrev pub IsAnswer : List ℕ → Status → Outputs → Type 0
-IsAnswer text Good o = Wrote o.output text × WroteNothing o.reports
+IsAnswer text Good o = WroteLast o.output text × WroteNothing o.reports
 IsAnswer text Refused o = ⊥
 IsAnswer text Misused o = ⊥
 IsAnswer text Broken o = FailedWithin o.output text × Reported o (broken_text faults.Write)

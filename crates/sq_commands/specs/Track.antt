@@ -1,11 +1,11 @@
 -- What `track` does.
-use Rattle.std.specs.Prelude.{◌≡◌, ◌≤◌, ◌<◌, ◌^◌, ◌⊎◌, ℕ, List, [], Option, None, Some, Result, Ok, Err, MatchResult, IfSome, length, true}
-use Rattle.std.specs.Io.KnownBytes.{Consumes, IsAtEnd}
-use Rattle.sq_devices.specs.Changes.{Taken, TookNothing, Written, Wrote, WroteNothing}
-use Rattle.sq_devices.specs.Device.{ConsumesOrHides, IsPrefixOf}
+use Rattle.std.specs.Prelude.{◌≡◌, ◌≤◌, ◌<◌, ◌^◌, ◌⊎◌, ℕ, List, [], Option, None, Some, Result, Ok, Err, MatchResult, length, true}
+use Rattle.sq_devices.specs.Changes.{FinishedOnce, Sent, Taken, TookAll, TookNothing, TookPart, TookSome, Unfinished, Written, Wrote, WroteNothing}
+use Rattle.sq_devices.specs.Device.{IsPrefixOf}
 use Rattle.sq_text.specs.Timed.{IsMomentText}
 use Rattle.sq_lines.specs.Answers.{tally_of}
 use Rattle.sq_lines.specs.Lines.{ended_lines, lines_of}
+use Rattle.sq_lines.specs.Runs.{OfLines, with_next}
 use Rattle.sq_lines.specs.declared.faults.RunFault.{RunFault}
 use Rattle.sq_lines.specs.declared.faults.RunFault.TheVariants.{Read, Write, Memory}
 use Rattle.sq_lines.specs.declared.tallies.Tally.{Tally}
@@ -19,7 +19,7 @@ use Rattle.sq_commands.specs.Arguments.{IsFaultUnless, IsSiteFault, IsSiteWords}
 use Rattle.sq_commands.specs.Check.{status_of}
 use Rattle.sq_commands.specs.Faults.{IsMisuse}
 use Rattle.sq_commands.specs.Outputs.{Effects, Reported, broken_text}
-use Rattle.sq_commands.specs.Tracking.{HasHeard, WroteIntoLast}
+use Rattle.sq_commands.specs.Tracking.{HasHeard, WantsMemory, WroteIntoLast}
 
 -- ---- a run over a log
 
@@ -27,25 +27,34 @@ use Rattle.sq_commands.specs.Tracking.{HasHeard, WroteIntoLast}
 abbrev pub HasAnswered : Written → (old new : Held) → List (List ℕ) → Type 0
 HasAnswered output old new lines = HasHeard old new lines (λ text answers. Wrote output (text answers))
 
--- some of the lines that were read have been heard; the last part is a line at the end of the input
-abbrev pub SomeLines : Taken → (List (List ℕ) → Type 0) → Type 0
-SomeLines input Heard = (bytes : List ℕ) × (lines : List (List ℕ)) × Consumes input.before input.after bytes
-    × (IsPrefixOf lines (ended_lines bytes) ⊎ (IsAtEnd input.after × IsPrefixOf lines (lines_of bytes))) × Heard lines
+-- these lines have been heard, and they are the first of the lines that were read
+abbrev pub SomeOf : (List (List ℕ) → Type 0) → List (List ℕ) → Type 0
+SomeOf Heard complete = (lines : List (List ℕ)) × IsPrefixOf lines complete × Heard lines
+
+-- these lines have been heard, and this holds of the next of the lines that were read
+abbrev pub BeforeOneOf : (List ℕ → Type 0) → (List (List ℕ) → Type 0) → List (List ℕ) → Type 0
+BeforeOneOf OfNext Heard complete =
+    (lines : List (List ℕ)) × (next : List ℕ) × IsPrefixOf (with_next lines next) complete × OfNext next × Heard lines
+
+-- the lines of these bytes were heard, answered and counted, and the output finished after that
+abbrev pub HasTracked : Tally → Written → (old new : Held) → List ℕ → Type 0
+HasTracked tally output old new bytes =
+    HasHeard old new (lines_of bytes) (λ text answers. Sent output (text answers) × (tally ≡ tally_of answers))
 
 -- what a run over an input came to, for a tracker as it was and as it is
 abbrev pub IsTracked : Result Tally RunFault → Taken → Written → (old new : Held) → Type 0
--- at the end of the input, all of its lines were heard, answered and counted
-IsTracked (Ok tally) input output old new = IfSome input.before (λ bytes. (input.after ≡ Some [])
-    × HasHeard old new (lines_of bytes) (λ text answers. Wrote output (text answers) × (tally ≡ tally_of answers)))
+-- the bytes up to the end of the input were taken, their lines were heard, answered and counted, and the output was
+-- finished
+IsTracked (Ok tally) input output old new = FinishedOnce output × TookAll input (HasTracked tally output old new)
 -- where the source failed, the lines that were read whole were heard and answered
-IsTracked (Err Read) input output old new = (input.failed ≡ true)
-    × ((bytes : List ℕ) × ConsumesOrHides input.before input.after bytes
-    × HasAnswered output old new (ended_lines bytes))
--- where the program was out of memory for a line, those before it were heard and answered
-IsTracked (Err Memory) input output old new = SomeLines input (HasAnswered output old new)
+IsTracked (Err Read) input output old new =
+    Unfinished output × TookPart input (λ bytes. HasAnswered output old new (ended_lines bytes))
+-- where there was no memory for a line, the tracker may want some for it, and those before it were heard and answered
+IsTracked (Err Memory) input output old new = Unfinished output
+    × TookSome input (OfLines input (BeforeOneOf (WantsMemory new) (HasAnswered output old new)))
 -- where the sink failed, some lines were heard, and all their answers written but for the end of the last one's
-IsTracked (Err Write) input output old new = (output.failed ≡ true)
-    × SomeLines input (λ lines. HasHeard old new lines (λ text answers. WroteIntoLast output text answers))
+IsTracked (Err Write) input output old new = (output.failed ≡ true) × Unfinished output × TookSome input (OfLines input
+    (SomeOf (λ lines. HasHeard old new lines (λ text answers. WroteIntoLast output text answers))))
 
 -- ---- the arguments
 

@@ -1,22 +1,23 @@
 -- What is answered to the lines of a log, each by the squitters that were heard before it.
-use Rattle.std.specs.Prelude.{◌≡◌, ◌≢◌, ℕ, List, [], ◌∷◌, length, take, ◌-◌, None, Some, Result, Ok, Err}
+use Rattle.std.specs.Prelude.{◌≡◌, ◌≢◌, ◌==◌, ℕ, List, [], ◌∷◌, find, length, take, ◌-◌, None, Some, Result, Ok, Err}
 use Rattle.sq_angle.specs.Decimal.{DecimalWriter}
 use Rattle.sq_devices.specs.Changes.{Written}
 use Rattle.sq_devices.specs.Device.{AppendsOrHides, IsPrefixOf}
 use Rattle.sq_message.specs.declared.squitter.Squitter.{Squitter}
 use Rattle.sq_message.specs.Parts.{squitter_parts}
+use Rattle.sq_message.specs.Places.{IsPosition}
 use Rattle.sq_text.specs.declared.faults.LineFault.{LineFault}
 use Rattle.sq_text.specs.declared.faults.LineFault.TheVariants as line_faults
 use Rattle.sq_text.specs.declared.timed.TimedSquitter.{TimedSquitter}
-use Rattle.sq_text.specs.Timed.{TimedReader}
-use Rattle.sq_lines.specs.Content.{Answer, answer_by}
-use Rattle.sq_lines.specs.Answers.{Answerer, texts_of}
+use Rattle.sq_text.specs.Timed.{IsTimedText, TimedReader}
+use Rattle.sq_lines.specs.Content.{Answer, Text, answer_by, content}
+use Rattle.sq_lines.specs.Answers.{Answerer, Manner, texts_of}
 use Rattle.sq_track.specs.declared.heard.Heard.{Heard}
 use Rattle.sq_track.specs.declared.heard.TrackFault.{TrackFault}
 use Rattle.sq_track.specs.declared.heard.TrackFault.TheVariants.{Memory, MomentBack}
-use Rattle.sq_track.specs.Held.{Held, StandsFor, settings}
+use Rattle.sq_track.specs.Held.{Held, StandsFor, present_of, settings}
 use Rattle.sq_track.specs.History.{History}
-use Rattle.sq_track.specs.Replies.{Settings, IsHistory, IsReply, history_after}
+use Rattle.sq_track.specs.Replies.{Settings, IsAcceptable, IsHistory, IsReply, history_after}
 use Rattle.sq_commands.specs.declared.heard.HeardFrom.{HeardFrom}
 use Rattle.sq_commands.specs.Heard.{heard_text}
 
@@ -112,3 +113,26 @@ track_way = record {
 -- the tracker stands for the history, under the settings
 abbrev pub IsTracking : Held → Tracking → Type 0
 IsTracking t past = StandsFor t past.history × (settings t ≡ past.settings)
+
+-- the line is a text that spells the squitter with its moment
+abbrev pub IsTimedLine : List ℕ → TimedSquitter → Type 0
+IsTimedLine line timed = (text : List ℕ) × (content line ≡ Text text) × IsTimedText text timed
+
+-- the squitter is a position, of an address that is not present
+abbrev pub IsNewPosition : Held → Squitter → Type 0
+IsNewPosition t squitter = IsPosition (squitter_parts squitter).me
+    × (find (λ entry. entry.0 == (squitter_parts squitter).address) (present_of t) ≡ None)
+
+-- it would be accepted, by each history that the tracker stands for
+abbrev pub IsWelcome : Held → TimedSquitter → Type 0
+IsWelcome t timed = (h : History) → StandsFor t h → IsAcceptable (settings t) h timed.moment timed.squitter
+
+-- the tracker may want memory for the line: it spells a position of an address that is not present, and that would be
+-- accepted
+abbrev pub WantsMemory : Held → List ℕ → Type 0
+WantsMemory t line =
+    (timed : TimedSquitter) × IsTimedLine line timed × IsNewPosition t timed.squitter × IsWelcome t timed
+
+-- how `track` answers lines, by its tracker
+abbrev pub track_manner : Manner Held Tracking HeardFrom
+track_manner = record { stands_for = IsTracking; way = track_way; wants = WantsMemory }

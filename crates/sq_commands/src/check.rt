@@ -1,10 +1,10 @@
 //! The command `check`: an answer to each line that is not empty.
-ghost use Rattle.std.specs.Prelude.{◌≡◌, List, ℕ};
-ghost use Rattle.sq_devices.specs.Changes.{taken_from, written_on};
+ghost use Rattle.std.specs.Prelude.{◌≡◌, List, ℕ, IfOk};
+ghost use Rattle.sq_devices.specs.Changes.{TookReported, taken_from, written_on};
 ghost use Rattle.sq_lines.specs.Held.{Holds};
 ghost use Rattle.sq_lines.specs.Content.{answer_by};
 ghost use Rattle.sq_text.specs.Reading.{SquitterReader};
-ghost use Rattle.sq_commands.specs.Check.{IsCheckRun, IsChecked, IsChecking, check_way, status_of};
+ghost use Rattle.sq_commands.specs.Check.{HasChecked, IsCheckRun, IsChecked, check_manner, status_of};
 ghost use Rattle.sq_commands.specs.Outputs.{effects, outputs};
 
 use crate::reports::break_off;
@@ -27,11 +27,7 @@ impl Answering for Checking {
 
     ghost Past = { SquitterReader };
 
-    ghost stands_for = { IsChecking };
-
-    ghost way = { check_way };
-
-    ghost MayWantMemory = { ⊥ };
+    ghost how = { check_manner };
 
     fn answer(
         _state: &mut Checking,
@@ -63,7 +59,11 @@ fn check_line(cutter: &Cutter) -> Option<Result<Squitter, LineFault>>
 /// failed, after the answers to the lines that were read whole; `Write` where a put or the finish at the end did,
 /// within these answers; `Memory` never comes.
 pub fn run_check<S: Source, K: Sink>(source: &mut S, sink: &mut K) -> Result<Tally, RunFault>
-    ensures { IsChecked result (taken_from S.Source source.old source.new) (written_on K.Sink sink.old sink.new) }
+    ensures ran { IsChecked result (taken_from S.Source source.old source.new) (written_on K.Sink sink.old sink.new) }
+
+    // Where the source reports its bytes, the answers are those to all of them.
+    ensures reported { IfOk result (λ tally. TookReported (taken_from S.Source source.old source.new)
+        (HasChecked tally (written_on K.Sink sink.old sink.new))) }
 {
     run_lines::<S, K, Checking>(source, sink, &mut Checking)
 }

@@ -8,6 +8,7 @@ mod arguments;
 mod check;
 mod encode;
 mod heard;
+pub mod laws;
 mod local;
 mod pair;
 mod program;

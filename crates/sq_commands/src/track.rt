@@ -1,8 +1,8 @@
 //! The command `track`: each line of a log is heard by a tracker.
-ghost use Rattle.std.specs.Prelude.{◌≤◌, option_copied};
-ghost use Rattle.sq_devices.specs.Changes.{taken_from, written_on};
+ghost use Rattle.std.specs.Prelude.{◌≤◌, IfOk, option_copied};
+ghost use Rattle.sq_devices.specs.Changes.{TookReported, taken_from, written_on};
 ghost use Rattle.sq_commands.specs.Outputs.{effects, outputs};
-ghost use Rattle.sq_commands.specs.Track.{IsLogRun, IsTrackRun, IsTracked};
+ghost use Rattle.sq_commands.specs.Track.{HasTracked, IsLogRun, IsTrackRun, IsTracked};
 
 use crate::arguments::{TrackOptions, read_options};
 use crate::check::end_of;
@@ -25,8 +25,12 @@ pub fn run_track<S: Source, K: Sink>(
     sink: &mut K,
     tracker: &mut Tracker,
 ) -> Result<Tally, RunFault>
-    ensures { IsTracked result (taken_from S.Source source.old source.new)
+    ensures ran { IsTracked result (taken_from S.Source source.old source.new)
         (written_on K.Sink sink.old sink.new) tracker.old tracker.new }
+
+    // Where the source reports its bytes, the answers are those to all of them.
+    ensures reported { IfOk result (λ tally. TookReported (taken_from S.Source source.old source.new)
+        (HasTracked tally (written_on K.Sink sink.old sink.new) tracker.old tracker.new)) }
 {
     run_lines::<S, K, Hearing>(source, sink, tracker)
 }

@@ -1,5 +1,5 @@
 //! What is answered to the lines of a log, by the squitters that were heard before.
-ghost use Rattle.std.specs.Prelude.{◌≡◌, ◌≢◌, List, ℕ, Err, IfOk, OnErr, Result};
+ghost use Rattle.std.specs.Prelude.{◌≡◌, ◌≢◌, List, ℕ, Err, IfOk, IfSome, OnErr, Result};
 ghost use Rattle.sq_lines.specs.Content.{answer_by};
 ghost use Rattle.sq_lines.specs.Held.{Holds};
 ghost use Rattle.sq_text.specs.Timed.{TimedReader};
@@ -8,7 +8,7 @@ ghost use Rattle.sq_track.specs.History.{History};
 ghost use Rattle.sq_track.specs.Replies.{IsReply, history_after};
 ghost use Rattle.sq_track.specs.declared.heard.Heard.{Heard};
 ghost use Rattle.sq_track.specs.declared.heard.TrackFault.{TrackFault};
-ghost use Rattle.sq_commands.specs.Tracking.{IsTracking, Tracking, found_of, track_way};
+ghost use Rattle.sq_commands.specs.Tracking.{IsNewPosition, IsTimedLine, IsWelcome, Tracking, found_of, track_manner};
 
 use crate::heard::{HeardFrom, push_heard};
 use sq_lines::{Answering, Cutter, Line, LineText, OutOfMemory, content_of};
@@ -26,11 +26,7 @@ impl Answering for Hearing {
 
     ghost Past = { Tracking };
 
-    ghost stands_for = { IsTracking };
-
-    ghost way = { track_way };
-
-    ghost MayWantMemory = { Unit {0} };
+    ghost how = { track_manner };
 
     fn answer(
         tracker: &mut Tracker,
@@ -53,7 +49,10 @@ impl Answering for Hearing {
 
 // The squitter of the held line with its moment, or the line's fault.
 fn timed_in(cutter: &Cutter) -> Option<Result<TimedSquitter, LineFault>>
-    ensures { (line : List ℕ) (reader : TimedReader) → Holds cutter.now line → result ≡ answer_by reader.read line }
+    ensures read { (line : List ℕ) (reader : TimedReader) → Holds cutter.now line
+        → result ≡ answer_by reader.read line }
+    ensures spelled { (line : List ℕ) → Holds cutter.now line
+        → IfSome result (λ read. IfOk read (λ timed. IsTimedLine line timed)) }
 {
     match content_of(cutter) {
         Line::Long => Some(Err(LineFault::LongLine)),
@@ -73,6 +72,8 @@ fn hear(
         × StandsFor tracker.new (history_after h timed.now.moment timed.now.squitter reply)) }
     ensures settings { settings tracker.new ≡ settings tracker.old }
     ensures unheard { OnErr result (tracker.new ≡ tracker.old) }
+    ensures memory { OnErr result (IsNewPosition tracker.old timed.now.squitter) }
+    ensures welcome { OnErr result (IsWelcome tracker.old timed.now) }
 {
     match tracker.hear(timed.moment, &timed.squitter) {
         Ok(heard) => Ok(Ok(HeardFrom {

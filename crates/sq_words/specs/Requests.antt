@@ -41,6 +41,10 @@ IsFaulty words = fault_of squitter words ≢ []
 abbrev pub OneRequest : Type 0
 OneRequest = (words : List Text) (a b : Asked) → Asks words a → Asks words b → a ≡ b
 
+-- words in which clap finds a fault ask for nothing
+abbrev pub RefusedWordsAskNothing : Type 0
+RefusedWordsAskNothing = (words : List Text) → IsFaulty words → (asked : Asked) → ¬ Asks words asked
+
 -- words in which clap finds no fault ask for a command with its values
 abbrev pub AcceptedWordsAsk : Type 0
 AcceptedWordsAsk = (words : List Text) → fault_of squitter words ≡ [] → (asked : Asked) × Asks words asked

@@ -1,5 +1,5 @@
 //! Laws over the definitions that the contracts name.
-ghost use Rattle.sq_words.specs.Requests.{AcceptedWordsAsk, OneRequest};
+ghost use Rattle.sq_words.specs.Requests.{AcceptedWordsAsk, OneRequest, RefusedWordsAskNothing};
 
 /// Words ask for one thing: two readings of them are the same command with the same values.
 pub fn one_request()
@@ -10,4 +10,10 @@ pub fn one_request()
 /// needs.
 pub fn accepted_words_ask()
     ensures { AcceptedWordsAsk }
+{}
+
+/// Words in which clap finds a fault, or that ask for its help, ask for no command: what the program does with words is
+/// one of the two.
+pub fn refused_words_ask_nothing()
+    ensures { RefusedWordsAskNothing }
 {}

@@ -1,10 +1,14 @@
 use Rattle.sq_devices.specs.Changes.{taken_from, written_on}
-use Rattle.sq_commands.proofs.CheckLemmas.{checked}
+use Rattle.sq_commands.proofs.CheckLemmas.{checked, checked_reported}
 use Rattle.sq_commands.proofs.check.run_check.Goals as goal
 
-pub returns : goal.returns
-returns g c =
+pub returns-clause-ran : goal.returns-clause-ran
+returns-clause-ran g c =
     let input = taken_from g.S.Source c.args.source.now c.run_lines.new.source in
     let output = written_on g.K.Sink c.args.sink.now c.run_lines.new.sink in
     let ran = c.run_lines.ensures in
-    checked c.run_lines.result input output ran.whole ran.unread ran.unwritten ran.wanting
+    checked c.run_lines.result input output ran.whole ran.finished ran.unfinished ran.unread ran.unwritten
+    ran.unanswered
+
+pub returns-clause-reported : goal.returns-clause-reported
+returns-clause-reported g c = checked_reported c.run_lines.result _ _ (returns-clause-ran g c)

@@ -1,4 +1,5 @@
-use Rattle.std.proofs.Common.{Ok, subst}
+use Rattle.std.proofs.Common.{Err, Ok, refl, subst}
+use Rattle.std.proofs.KnownBytes.{Appends-nil}
 use Rattle.sq_text.specs.Reading.{IsSquitterReading}
 use Rattle.sq_commands.specs.Outputs.{IsAnswer, outputs}
 use Rattle.sq_commands.proofs.show.show.Goals as goal
@@ -15,3 +16,10 @@ returns-in-Ok g c =
         subst (λ text. IsAnswer text c.write_text.result o) c.as_str.ensures.value c.write_text.ensures,
       ),
     )
+
+pub returns-in-Err : goal.returns-in-Err
+returns-in-Err g c = (
+  Err c.in-Err.fault,
+  subst (λ text. IsSquitterReading text (Err c.in-Err.fault)) c.as_bytes.ensures.value c.in-Err.ensures,
+  (c.report_frame.ensures.status, (Appends-nil _, refl), c.report_frame.ensures.reported),
+)

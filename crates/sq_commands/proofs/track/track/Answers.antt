@@ -8,6 +8,6 @@ returns-in-Err g c = inr (
   (
     c.in-Err.fault,
     c.in-Err.ensures,
-    (c.report_argument.ensures.status, Appends-nil _, c.report_argument.ensures.reported),
+    (c.report_argument.ensures.status, (Appends-nil _, refl), c.report_argument.ensures.reported),
   ),
 )
