@@ -1,13 +1,14 @@
 -- Laws that say what the premises on true positions are, and no more: what a law asks of positions cannot shrink
 -- unseen.
-use Rattle.std.specs.Prelude.{◌≡◌, ◌↔◌, ◌≤◌, ◌*◌, ℕ, max, min, ℤ, pos, neg_ℤ}
+use Rattle.std.specs.Prelude.{◌≡◌, ◌↔◌, ◌≤◌, ◌+◌, ◌*◌, ℕ, max, min, ℤ, pos, neg_ℤ}
 use Rattle.sq_angle.specs.Angle.{degrees as degrees_of}
 use Rattle.sq_angle.specs.Fraction.{Fraction, ◌≺◌, ◌≃◌, minus, plus, whole}
 use Rattle.sq_angle.specs.Position.{lat_of, lon_of}
 use Rattle.sq_angle.specs.declared.position.Position.{Position}
-use Rattle.sq_zones.specs.declared.parity.Parity.TheVariants.{Even}
-use Rattle.sq_cpr.specs.Grid.{Point, latitude, longitude, codes_of_zone}
-use Rattle.sq_cpr.specs.Close.{AreClosePoints, AreTamePoints, HaveOneCount, count_at}
+use Rattle.sq_zones.specs.declared.parity.Parity.TheVariants.{Even, Odd}
+use Rattle.sq_cpr.specs.Grid.{Point, latitude, lat_zones, longitude, codes_of_zone}
+use Rattle.sq_cpr.specs.Near.{IsStrictlyNear, IsStrictlyNearLongitude, IsStrictlyNearPoint, half_zone}
+use Rattle.sq_cpr.specs.Close.{AreCloseLatitudes, AreClosePoints, AreTamePoints, HaveOneCount, IsClose, count_at}
 use Rattle.sq_cpr.specs.Slow.{AreSlow, AreSlowForFollowing, AreWithin, DifferByLess, DifferByLessAround, IsPointWithin, following_limit, slow_limit}
 use Rattle.sq_cpr.specs.Zones.{turned}
 
@@ -103,3 +104,45 @@ PointWithinExactly degrees repeats =
 abbrev pub CloseExactly : ℕ → Type 0
 CloseExactly degrees = (a b : Point) → AreClosePoints degrees a b
     ↔ (AreTamePoints degrees a b × HaveOneCount degrees a.lat_index b.lat_index)
+
+-- A point is strictly near a place exactly where its latitude differs from the place's by less than half a zone, and
+-- its longitude, some turns on, does.
+abbrev pub StrictlyNearExactly : ℕ → ℕ → Type 0
+StrictlyNearExactly degrees repeats =
+    (lat lon : Fraction) (point : Point) → IsStrictlyNearPoint degrees repeats lat lon point
+    ↔ (IsStrictlyNear (half_zone degrees (lat_zones point.parity)) lat (latitude degrees point)
+    × IsStrictlyNearLongitude degrees repeats point.zones lon point.lon_index)
+
+-- strictly near is above one end of the window and below the other
+abbrev pub WindowExactly : Type 0
+WindowExactly = (h r x : Fraction) → IsStrictlyNear h r x ↔ ((minus r h ≺ x) × (x ≺ plus r h))
+
+-- points are tame exactly where the first is even and the second odd, their latitudes are close and, where these have
+-- one zone count, their longitudes
+abbrev pub TameExactly : ℕ → Type 0
+TameExactly degrees =
+    (a b : Point) → AreTamePoints degrees a b
+    ↔ ((a.parity ≡ Even) × (b.parity ≡ Odd) × AreCloseLatitudes degrees a.lat_index b.lat_index
+    × (HaveOneCount degrees a.lat_index b.lat_index → IsClose degrees a.zones b.zones (pos a.lon_index)
+    (pos b.lon_index)))
+
+-- so many thousandths of a degree
+abbrev pub thousandths : ℕ → Fraction
+thousandths n = record { num = pos n; den = 1000 }
+
+-- an even point of the air at 52.2572 degrees north and 3.9194 east
+abbrev pub even_point : Point
+even_point = record { parity = Even; lat_index = pos (8 * 131072 + 93000); zones = 36; lon_index = 51372 }
+
+-- an odd point of the air at 52.2658 degrees north and 3.9389 east
+abbrev pub odd_point : Point
+odd_point = record { parity = Odd; lat_index = pos (8 * 131072 + 74158); zones = 35; lon_index = 50194 }
+
+-- References of three decimals, which are no points of a grid: both points are strictly near 52.258 3.918, the even
+-- one not near 55.258 3.918, and both are close.
+pub record NearThreeDecimals : Type 0 where
+  pub even : IsStrictlyNearPoint 360 1 (thousandths 52258) (thousandths 3918) even_point
+  pub odd : IsStrictlyNearPoint 360 1 (thousandths 52258) (thousandths 3918) odd_point
+  pub not_near : ¬ IsStrictlyNearPoint 360 1 (thousandths 55258) (thousandths 3918) even_point
+  pub latitudes : AreCloseLatitudes 360 even_point.lat_index odd_point.lat_index
+  pub longitudes : IsClose 360 36 35 (pos even_point.lon_index) (pos odd_point.lon_index)

@@ -8,6 +8,7 @@ ghost use Rattle.sq_cpr.specs.DecodeLaws.{FractionsAgree, OneNearLatitude, OneNe
 ghost use Rattle.sq_cpr.specs.DecodeLaws.{OneCloseLatitudes, OneCloseLongitudes, OneZoneIsClose, OnePairAnswer, OneAirPairAnswer, PairKeepsCode, AirPairKeepsCode, CloseAirPointsAreAnswered, CloseGroundPointsAreAnswered};
 ghost use Rattle.sq_cpr.specs.DecodeLaws.{TameAirPointsAreAnswered, TameGroundPointsAreAnswered, SlowIsTame, RoundsNearSite, FollowingIsNear, SomeLocalAnswer, SomePairAnswer, SomeAirPairAnswer};
 ghost use Rattle.sq_cpr.specs.Exactly.{Across180Degrees, AtTheLimits, CloseExactly, DifferAroundExactly, DifferExactly, FollowingExactly, LimitsAsNumbers, LimitsInWords, PointWithinExactly, SlowExactly, TurnsChangeNothing, WithinExactly};
+ghost use Rattle.sq_cpr.specs.Exactly.{NearThreeDecimals, StrictlyNearExactly, TameExactly, WindowExactly};
 
 use crate::code::Code;
 use crate::grid::GridPoint;
@@ -198,6 +199,22 @@ pub fn following_exactly<S: Span>()
 pub fn within_exactly<S: Span>()
     ensures positions { WithinExactly }
     ensures points { PointWithinExactly S.DEGREES S.REPEATS }
+{}
+
+/// Strictly near a place is this and no more, for points and for each coordinate.
+pub fn strictly_near_exactly<S: Span>()
+    ensures points { StrictlyNearExactly S.DEGREES S.REPEATS }
+    ensures window { WindowExactly }
+{}
+
+/// Points next to a reference of three decimals, and of one even and one odd frame.
+pub fn near_three_decimals()
+    ensures { NearThreeDecimals }
+{}
+
+/// Tame is this and no more.
+pub fn tame_exactly<S: Span>()
+    ensures { TameExactly S.DEGREES }
 {}
 
 /// Points are close exactly where they are tame and have one zone count.

@@ -9,7 +9,8 @@ use Rattle.sq_angle.specs.Angle.{degrees as degrees_of}
 use Rattle.sq_angle.specs.Position.{lon_of}
 use Rattle.sq_cpr.specs.Grid.{circle, codes_of_zone}
 use Rattle.sq_cpr.specs.Near.{OnSomeTurn, angle_at}
-use Rattle.sq_cpr.specs.Exactly.{Across180Degrees, AtTheLimits, DifferAroundExactly, DifferExactly, PointWithinExactly, TurnsChangeNothing}
+use Rattle.sq_cpr.specs.Exactly.{Across180Degrees, AtTheLimits, DifferAroundExactly, DifferExactly, NearThreeDecimals, PointWithinExactly, TurnsChangeNothing}
+use Rattle.sq_angle.proofs.Congruence.{congruent_refl}
 use Rattle.sq_cpr.specs.Slow.{DifferByLess, DifferByLessAround, IsSmallerThan}
 use Rattle.sq_cpr.specs.Zones.{turned}
 
@@ -174,3 +175,26 @@ point_within_exactly w r full limit point x =
       λ h. (h.latitudes, both.0 h.longitudes),
       λ h. record { latitudes = h.0; longitudes = both.1 h.1 },
     )
+
+pub near_three_decimals : NearThreeDecimals
+near_three_decimals = record {
+  even = record {
+    north_south = record { above = omega (arith, ints); below = omega (arith, ints) };
+    east_west = (
+      pos 51372,
+      congruent_refl (circle 36 1) (pos 51372),
+      record { above = omega (arith, ints); below = omega (arith, ints) },
+    );
+  };
+  odd = record {
+    north_south = record { above = omega (arith, ints); below = omega (arith, ints) };
+    east_west = (
+      pos 50194,
+      congruent_refl (circle 35 1) (pos 50194),
+      record { above = omega (arith, ints); below = omega (arith, ints) },
+    );
+  };
+  not_near = λ h. absurd (omega (arith, ints, h.north_south.above));
+  latitudes = record { turns = pos 0; from = omega (arith, ints); below = omega (arith, ints) };
+  longitudes = record { turns = pos 0; from = omega (arith, ints); below = omega (arith, ints) };
+}
