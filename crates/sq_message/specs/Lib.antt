@@ -8,3 +8,4 @@ pub mod Places
 pub mod Headline
 pub mod Calls
 pub mod Faults
+pub mod Pinned

@@ -2,7 +2,7 @@
 //!
 //! A function with an empty body does nothing: its contract is the law. The others make the calls that they speak of,
 //! and answer what each of them answered.
-ghost use Rattle.std.specs.Prelude.{◌≡◌, ◌≤◌, ◌↔◌, ℕ, ℤ, None, Some, Result, Ok, Err, IfErr, IfOk, IfSome, option_copied};
+ghost use Rattle.std.specs.Prelude.{◌≡◌, ◌≤◌, ◌↔◌, IsTrue, ℕ, ℤ, None, Some, Result, Ok, Err, IfErr, IfOk, IfSome, option_copied};
 ghost use Rattle.sq_bits.specs.declared.frame.Frame.{Frame};
 ghost use Rattle.sq_bits.specs.Frames.{IsFrame};
 ghost use Rattle.sq_message.specs.declared.air.Altitude.{Altitude};
@@ -21,6 +21,7 @@ ghost use Rattle.sq_message.specs.Calls.{DecodedIsSentAgain, HasNoPlaceNear, Hav
 ghost use Rattle.sq_message.specs.Heads.{air_head_parts, ground_head_parts};
 ghost use Rattle.sq_message.specs.Headline.{ClosePairInAir, ClosePairOnGround, NearReferenceInAir, NearReferenceOnGround, OneLocalPlace, OnePairPlace, SentAgainInAir, SentAgainOnGround, SomeLocalPlace, SomePairPlace, WrittenAgain};
 ghost use Rattle.sq_message.specs.Parts.{squitter_parts};
+ghost use Rattle.sq_message.specs.Pinned.{DecodedByCalls, EachHasItsZones, NearReferenceExactly};
 ghost use Rattle.sq_message.specs.Places.{IsLocalPlace, IsSentAt};
 ghost use Rattle.sq_message.specs.Sending.{IsFrameInAir, IsFrameOnGround, IsInAirZones, IsInGroundZones, RoundsInAir, RoundsOnGround, SameZonesInAir, SameZonesOnGround};
 ghost use Rattle.sq_message.specs.Spelling.{IsReading, Spells};
@@ -203,6 +204,50 @@ pub fn pair_again(
     let again = send_point(newer, &place);
     Ok((place, again))
 }
+
+/// Whether two squitters are equal by `==`: exactly if they are one.
+pub fn equal_squitters(squitter: &Squitter, other: &Squitter) -> bool
+    ensures { IsTrue result ↔ (squitter.now ≡ other.now) }
+{
+    squitter == other
+}
+
+/// Whether two places are equal by `==`: exactly if they are one.
+pub fn equal_places(place: &Place, other: &Place) -> bool
+    ensures { IsTrue result ↔ (place.now ≡ other.now) }
+{
+    place == other
+}
+
+/// Whether two faults of frames are equal by `==`: exactly if they are one.
+pub fn equal_frame_faults(fault: &FrameFault, other: &FrameFault) -> bool
+    ensures { IsTrue result ↔ (fault.now ≡ other.now) }
+{
+    fault == other
+}
+
+/// Whether two faults of places are equal by `==`: exactly if they are one.
+pub fn equal_place_faults(place_fault: &PlaceFault, other: &PlaceFault) -> bool
+    ensures { IsTrue result ↔ (place_fault.now ≡ other.now) }
+{
+    place_fault == other
+}
+
+/// What a squitter is decoded to near a reference, or as the newer of a pair, is a place that it is decoded to, as the
+/// headline says it.
+pub fn decoded_by_calls()
+    ensures { DecodedByCalls }
+{}
+
+/// A position lies in exactly one pair of zones of each parity's grid, in the air and on the ground.
+pub fn each_has_its_zones()
+    ensures { EachHasItsZones }
+{}
+
+/// Strictly near a reference is strictly near its latitude and its longitude, and no less.
+pub fn near_reference_exactly()
+    ensures { NearReferenceExactly }
+{}
 
 /// What frames of positions say, whole.
 ///
