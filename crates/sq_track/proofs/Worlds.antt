@@ -1,10 +1,13 @@
 -- Places, slow and tame worlds, and what is heard in them.
 pub mod ByPairs
 pub mod Encoded
+pub mod Followed
 pub mod Nearby
 pub mod Pairs
+pub mod Pinned
 pub mod Places
 pub mod SlowWorlds
+pub mod OddFirst
 pub mod SomeFix
 pub mod Standing
 pub mod TrueWorlds

@@ -44,7 +44,8 @@ fault_is_place place fault e = absurd (cc e)
 
 -- ---- decoding has an answer
 
-some_local : (me : Me) (reference : Position) → (answer : Result Place PlaceFault) × IsLocalPlace me reference answer
+pub some_local : (me : Me) (reference : Position) → (answer : Result Place PlaceFault)
+    × IsLocalPlace me reference answer
 some_local (kinds.Airborne a) r =
     let found = some_local_answer 360 1 refl (numbers_of a.code) a.parity (degrees (lat_of r))
     (degrees (lon_of r)) r.lat.in_range.positive r.lon.in_range.positive in
@@ -135,7 +136,7 @@ some_pair older newer site = elim (both older.me newer.me) [
 
 -- ---- what was heard lies on a grid, so it has a position
 
-abbrev IsOnGrid : Place → Type 0
+abbrev pub IsOnGrid : Place → Type 0
 IsOnGrid (Air p) = IsGridPoint 360 1 p
 IsOnGrid (Ground p) = IsGridPoint 90 4 p
 
@@ -315,7 +316,7 @@ zones_within : (w r : ℕ) (p : Point) → IsGridPoint w r p → (1 ≤ p.zones)
 zones_within w r p h =
     (rw h.zones (lon_zones_at-least p.parity (latitude w p)), rw h.zones (lon_zones_at-most p.parity (latitude w p)))
 
-position_of_place : (place : Place) → IsOnGrid place → (x : Position) × IsPositionOf place x
+pub position_of_place : (place : Place) → IsOnGrid place → (x : Position) × IsPositionOf place x
 position_of_place (Air p) h =
     let z = zones_within 360 1 p h in
     let east = lon_within 360 p.zones p.lon_index (omega (arith, h.east_west)) in

@@ -17,13 +17,13 @@ use Rattle.sq_track.proofs.Worlds.Standing.{followed_still, one_with_itself, own
 use Rattle.sq_track.proofs.Worlds.Places.{one_true_place}
 
 -- the arrivals of a pair
-in_pair : (a b : Arrival) → AllByRecursion (Contains (a ∷ b ∷ [])) (a ∷ b ∷ [])
+pub in_pair : (a b : Arrival) → AllByRecursion (Contains (a ∷ b ∷ [])) (a ∷ b ∷ [])
 in_pair a b = recursion_from_All (Contains (a ∷ b ∷ [])) (a ∷ b ∷ []) (All-contains_itself (a ∷ b ∷ []))
 
 each_of_pair : (P : Arrival → Type 0) (a b c : Arrival) → P a → P b → Contains (a ∷ b ∷ []) c → P c
 each_of_pair P a b c h k there = All-contains P (a ∷ b ∷ []) c (All-from_recursion P (a ∷ b ∷ []) (h, (k, tt))) there
 
-is_one_of : (a b c : Arrival) → Contains (a ∷ b ∷ []) c → (c ≡ a) ⊎ (c ≡ b)
+pub is_one_of : (a b c : Arrival) → Contains (a ∷ b ∷ []) c → (c ≡ a) ⊎ (c ≡ b)
 is_one_of a b c there = each_of_pair (λ x. (x ≡ a) ⊎ (x ≡ b)) a b c (inl refl) (inr refl) there
 
 pub slow_by_pairs : SlowByPairs
@@ -40,10 +40,10 @@ slow_for_following_by_pairs window world = (
   λ each a b a_in b_in. each a b a_in b_in a b (in_pair a b).0 (in_pair a b).1.0,
 )
 
-odd_is_even : {A : Type 0} (o : Option Parity) → o ≡ Some Even → o ≡ Some Odd → A
+pub odd_is_even : {A : Type 0} (o : Option Parity) → o ≡ Some Even → o ≡ Some Odd → A
 odd_is_even o even odd = let bad : ◌≡◌ {A = Parity} Even Odd = same_some Even Odd (sym even ∙ odd) in absurd (cc bad)
 
-parity_at : {a c : Arrival} {p : Option Parity} → c ≡ a → parity_of (squitter_parts c.squitter).me ≡ p
+pub parity_at : {a c : Arrival} {p : Option Parity} → c ≡ a → parity_of (squitter_parts c.squitter).me ≡ p
     → parity_of (squitter_parts a.squitter).me ≡ p
 parity_at same e = sym (ap (λ (x : Arrival). parity_of (squitter_parts x.squitter).me) same) ∙ e
 
@@ -76,7 +76,7 @@ with_itself a p q h k =
     followed_still m m a.position a.position p q (own_kind m a.position p h) h k (one_with_itself a.position)
 
 -- what holds of each two of a pair
-each_two : (P : Arrival → Arrival → Type 0) (a b c d : Arrival) → P a a → P a b → P b a → P b b → (c ≡ a) ⊎ (c ≡ b)
+pub each_two : (P : Arrival → Arrival → Type 0) (a b c d : Arrival) → P a a → P a b → P b a → P b b → (c ≡ a) ⊎ (c ≡ b)
     → (d ≡ a) ⊎ (d ≡ b) → P c d
 each_two P a b c d aa ab ba bb (inl e) (inl f) = subst (λ x. P x d) (sym e) (subst (P a) (sym f) aa)
 each_two P a b c d aa ab ba bb (inl e) (inr f) = subst (λ x. P x d) (sym e) (subst (P a) (sym f) ab)
@@ -88,14 +88,14 @@ abbrev Follows : ℕ → Arrival → Arrival → Type 0
 Follows window c d = AreTogether window c d → (p q : Place) → IsTruePlace c p → IsTruePlace d q
     → AreSlowToFollow p q c.position d.position
 
-abbrev Pairs : ℕ → Option Position → Arrival → Arrival → Type 0
+abbrev pub Pairs : ℕ → Option Position → Arrival → Arrival → Type 0
 Pairs window site c d = ArePairTogether window c d → (p q : Place) → IsTruePlace c p → IsTruePlace d q
     → AreSlowPlaces site p q c.position d.position
 
 follows_itself : (window : ℕ) (a : Arrival) → Follows window a a
 follows_itself window a together p q h k = with_itself a p q h k
 
-pairs_itself : (window : ℕ) (site : Option Position) (a : Arrival) → Pairs window site a a
+pub pairs_itself : (window : ℕ) (site : Option Position) (a : Arrival) → Pairs window site a a
 pairs_itself window site a pair = odd_is_even (parity_of (squitter_parts a.squitter).me) pair.even pair.odd
 
 pub slow_for_following_pair_exactly : SlowForFollowingPairExactly

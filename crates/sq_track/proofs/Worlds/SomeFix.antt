@@ -29,7 +29,7 @@ use Rattle.sq_track.specs.declared.heard.Heard.TheVariants.{Fix, Waiting}
 use Rattle.sq_track.specs.History.{Entry, are_of_one_sender, are_even_and_odd, are_a_pair, parity_of, if_recent, counterpart, squitter_of}
 use Rattle.sq_track.specs.Worlds.{Arrival, IsPlaceOf, HasCodeOf, IsEncodedFrom, IsTruePlace}
 use Rattle.sq_track.specs.Answers.{heard_of_pair, IsHeard, IsHeardOfPair}
-use Rattle.sq_track.specs.Tame.{ArePairTogether, AreSlowPlaces}
+use Rattle.sq_track.specs.Tame.{AreTogether, AreSlowPlaces}
 use Rattle.sq_track.specs.Laws.{SlowPairIsFixed, SlowPairIsFixedOnGround}
 use Rattle.sq_track.proofs.Histories.Entries.{sender_parts}
 use Rattle.sq_track.proofs.Listing.Found.{same_some}
@@ -135,30 +135,36 @@ positions_of (kinds.Surface a) (kinds.Surface b) x y p q h k = (tt, tt)
 positions_of (kinds.Surface a) (kinds.Other b) x y p q h k = absurd k
 positions_of (kinds.Other a) n x y p q h k = absurd h
 
--- the odd arrival of a pair is heard as the fix of a place where the two are decoded to nothing else
-fixed : (window : ℕ) (site : Option Position) (a b : Arrival) (p q : Place) → ArePairTogether window a b
+-- an even parity and an odd one, in both orders
+even_then_odd : (o n : Option Parity) → o ≡ Some Even → n ≡ Some Odd → are_even_and_odd o n ≡ true
+even_then_odd o n even odd = ap (λ x. are_even_and_odd x n) even ∙ ap (are_even_and_odd (Some Even)) odd
+
+pub odd_then_even : (o n : Option Parity) → o ≡ Some Odd → n ≡ Some Even → are_even_and_odd o n ≡ true
+odd_then_even o n odd even = ap (λ x. are_even_and_odd x n) odd ∙ ap (are_even_and_odd (Some Odd)) even
+
+-- the newer arrival of a pair is heard as the fix of a place where the two are decoded to nothing else
+pub fixed : (window : ℕ) (site : Option Position) (a b : Arrival) (p q : Place) → AreTogether window a b
+    → are_even_and_odd (parity_of (squitter_parts a.squitter).me) (parity_of (squitter_parts b.squitter).me) ≡ true
     → IsTruePlace a p → IsTruePlace b q
     → ((answer : Result Place PlaceFault)
     → IsKindredPlace (squitter_parts a.squitter).me (squitter_parts b.squitter).me site answer → answer ≡ Ok q)
     → IsHeard window site (record { moment = a.moment; squitter = a.squitter; heard = Waiting }
     ∷ []) b.moment b.squitter (Fix q)
-fixed window site a b p q pair h k decoded =
+fixed window site a b p q together two h k decoded =
     let m = (squitter_parts a.squitter).me in
     let n = (squitter_parts b.squitter).me in
     let entry : Entry = record { moment = a.moment; squitter = a.squitter; heard = Waiting } in
-    let two : are_even_and_odd (parity_of m) (parity_of n) ≡ true =
-    ap (λ o. are_even_and_odd o (parity_of n)) pair.even ∙ ap (are_even_and_odd (Some Even)) pair.odd in
     let pairs_up : are_a_pair a.squitter b.squitter
     ≡ true = and_from (are_of_one_sender a.squitter b.squitter)
-    (are_even_and_odd (parity_of m) (parity_of n)) pair.together.sender two in
+    (are_even_and_odd (parity_of m) (parity_of n)) together.sender two in
     let recent : leb b.moment (a.moment + window) ≡ true =
-    le-leb b.moment (a.moment + window) pair.together.not_after in
+    le-leb b.moment (a.moment + window) together.not_after in
     let older : counterpart window (entry ∷ []) b.moment b.squitter ≡ Some a.squitter =
     ap (λ t. squitter_of (if_recent window b.moment (cond t (Some entry) None))) pairs_up
     ∙ ap (λ t. squitter_of (cond t (Some entry) None)) recent in
     let some = some_pair (squitter_parts a.squitter) (squitter_parts b.squitter) site in
     let here = some.1.kindred (positions_of m n a.position b.position p q h k)
-    (sender_parts a.squitter b.squitter pair.together.sender).0 in
+    (sender_parts a.squitter b.squitter together.sender).0 in
     record {
       of_pair = Fix q;
       pair = subst (λ o. IsHeardOfPair site o b.squitter (Fix q)) (sym older)
@@ -168,7 +174,7 @@ fixed window site a b p q pair h k decoded =
 
 pub slow_pair_is_fixed : SlowPairIsFixed
 slow_pair_is_fixed window site a b p q pair h k slow same =
-    fixed window site a b (Air p) (Air q) pair h k
+    fixed window site a b (Air p) (Air q) pair.together (even_then_odd _ _ pair.even pair.odd) h k
     (λ answer. slow_pair (squitter_parts a.squitter).me
     (squitter_parts b.squitter).me a.position b.position p q site answer a.encoded b.encoded pair.even pair.odd h k
     slow same)
@@ -177,7 +183,7 @@ pub slow_pair_is_fixed_on_ground : SlowPairIsFixedOnGround
 slow_pair_is_fixed_on_ground window site a b p q pair h k slow same =
     let places : AreSlowPlaces (Some site) (Ground p) (Ground q) a.position b.position =
     (slow_pair_exactly window (Some site) a b (Ground p) (Ground q) pair h k).0 slow in
-    fixed window (Some site) a b (Ground p) (Ground q) pair h k
+    fixed window (Some site) a b (Ground p) (Ground q) pair.together (even_then_odd _ _ pair.even pair.odd) h k
     (λ answer. slow_ground_pair (squitter_parts a.squitter).me
     (squitter_parts b.squitter).me a.position b.position p q site answer a.encoded b.encoded pair.even pair.odd h k
     places same)

@@ -1,0 +1,107 @@
+-- What worlds are, and what is said of them.
+use Rattle.std.proofs.Common.{◌≡◌, ◌≢◌, ◌∙◌, ◌⊎◌, inl, inr, ℕ, Bool, true, false, [], ◌∷◌, Option, refl, sym, subst}
+use Rattle.std.proofs.lemmas.Bool.{eq-eqb, eqb-true}
+use Rattle.sq_angle.specs.declared.position.Position.{Position}
+use Rattle.sq_message.specs.declared.place.Place.{Place}
+use Rattle.sq_message.specs.declared.squitter.Me.TheVariants as kinds
+use Rattle.sq_message.specs.Parts.{squitter_parts}
+use Rattle.sq_track.specs.History.{Entry, parity_of}
+use Rattle.sq_track.specs.Replies.{is_of_address}
+use Rattle.sq_track.specs.Worlds.{Arrival, IsTruePlace}
+use Rattle.sq_track.specs.Tame.{ArePairTogether, AreTamePlaces, IsTame}
+use Rattle.sq_track.specs.Standing.{AreOnePlace}
+use Rattle.sq_track.specs.Pinned.{SomeArrival, OtherIsEncoded, PlacesExactly, OneParityIsSlow, TamePairExactly, OnePositionStands, OfAddressExactly, SaidExactly, MemoryExactly}
+use Rattle.sq_track.proofs.Listing.Filters.{filter-cons_yes, filter-cons_no}
+use Rattle.sq_track.proofs.Worlds.ByPairs.{Pairs, each_two, in_pair, is_one_of, odd_is_even, parity_at, pairs_itself}
+use Rattle.sq_track.proofs.Worlds.Standing.{one_with_itself}
+use Rattle.sq_track.proofs.Worlds.Places.{one_true_place}
+
+pub some_arrival : SomeArrival
+some_arrival moment squitter position encoded =
+    (record { moment = moment; squitter = squitter; position = position; encoded = encoded }, refl, refl, refl)
+
+pub other_is_encoded : OtherIsEncoded
+other_is_encoded (kinds.Airborne a) x none = absurd (none tt)
+other_is_encoded (kinds.Surface a) x none = absurd (none tt)
+other_is_encoded (kinds.Other a) x none = tt
+
+pub places_exactly : PlacesExactly
+places_exactly = record {
+  near_no_site = λ x. tt;
+  near_a_site = λ site x. (λ h. h, λ h. h);
+  point_near_no_site = λ p. tt;
+  point_near_a_site = λ site p. (λ h. h, λ h. h);
+  near_in_air = λ p q. (λ h. h, λ h. h);
+  near_on_ground = λ p q. (λ h. h, λ h. h);
+  slow_in_air = λ site p q x y. (λ h. h, λ h. h);
+  slow_on_ground = λ p q x y. (λ h. h.0, λ h. (h, tt, tt));
+  slow_at_a_site = λ site p q x y. (λ h. h, λ h. h);
+  following_in_air = λ p q x y. (λ h. h, λ h. h);
+  following_on_ground = λ p q x y. (λ h. h, λ h. h);
+  tame_in_air = λ site p q. (λ h. h, λ h. h);
+  tame_on_ground = λ p q. (λ h. h.0, λ h. (h, tt, tt));
+  tame_at_a_site = λ site p q. (λ h. h, λ h. h);
+}
+
+pub one_parity_is_slow : OneParityIsSlow
+one_parity_is_slow window site a b same c d c_in d_in =
+    each_two (Pairs window site) a b c d (pairs_itself window site a)
+    (λ pair. odd_is_even (parity_of (squitter_parts b.squitter).me) (sym same ∙ pair.even) pair.odd)
+    (λ pair. odd_is_even (parity_of (squitter_parts b.squitter).me) pair.even (sym same ∙ pair.odd))
+    (pairs_itself window site b) (is_one_of a b c c_in) (is_one_of a b d d_in)
+
+-- two tame places make a tame world of two arrivals
+tame_pair : (window : ℕ) (site : Option Position) (a b : Arrival) (p q : Place) → ArePairTogether window a b
+    → IsTruePlace a p → IsTruePlace b q → AreTamePlaces site p q → IsTame window site (a ∷ b ∷ [])
+tame_pair window site a b p q pair h k tame c d c_in d_in other p' q' h' k' =
+    by other p' q' h' k' (is_one_of a b c c_in) (is_one_of a b d d_in)
+  where
+    by : ArePairTogether window c d → (p' q' : Place) → IsTruePlace c p' → IsTruePlace d q'
+        → (c ≡ a) ⊎ (c ≡ b) → (d ≡ a) ⊎ (d ≡ b) → AreTamePlaces site p' q'
+    by other p' q' h' k' (inr c_is) d_is =
+        odd_is_even (parity_of (squitter_parts b.squitter).me) (parity_at c_is other.even) pair.odd
+    by other p' q' h' k' (inl c_is) (inl d_is) =
+        odd_is_even (parity_of (squitter_parts a.squitter).me) pair.even (parity_at d_is other.odd)
+    by other p' q' h' k' (inl c_is) (inr d_is) =
+        let p_same : p ≡ p' = one_true_place a p p' h (subst (λ x. IsTruePlace x p') c_is h') in
+        let q_same : q ≡ q' = one_true_place b q q' k (subst (λ x. IsTruePlace x q') d_is k') in
+        subst (λ x. AreTamePlaces site p' x) q_same (subst (λ x. AreTamePlaces site x q) p_same tame)
+
+pub tame_pair_exactly : TamePairExactly
+tame_pair_exactly window site a b p q pair h k =
+    (λ tame. tame a b (in_pair a b).0 (in_pair a b).1.0 pair p q h k, tame_pair window site a b p q pair h k)
+
+pub one_position_stands : OnePositionStands
+one_position_stands world one a b a_in b_in sender =
+    subst (AreOnePlace a.position) (one a b a_in b_in sender) (one_with_itself a.position)
+
+not_own : (address : ℕ) (entry : Entry) → (squitter_parts entry.squitter).address ≢ address
+    → is_of_address address entry ≡ false
+not_own address entry differ = by (is_of_address address entry) refl
+  where
+    by : (b : Bool) → is_of_address address entry ≡ b → b ≡ false
+    by true e = absurd (differ (eqb-true (squitter_parts entry.squitter).address address e))
+    by false e = refl
+
+pub of_address_exactly : OfAddressExactly
+of_address_exactly = record {
+  none = λ address. refl;
+  own = λ address entry history same. filter-cons_yes (is_of_address address) entry history
+      (eq-eqb (squitter_parts entry.squitter).address address same);
+  other = λ address entry history differ. filter-cons_no (is_of_address address) entry history
+      (not_own address entry differ);
+}
+
+pub said_exactly : SaidExactly
+said_exactly = record {
+  fix = λ a place. (λ h. h, λ h. h);
+  far = λ a h. h;
+  fix_too = λ a place. (λ h. h, λ h. h);
+  followed = λ a place. (λ h. h, λ h. h);
+  far_too = λ a h. h;
+  heard = λ a heard. (λ h. h, λ h. h);
+  heard_too = λ a heard. (λ h. h, λ h. h);
+}
+
+pub memory_exactly : MemoryExactly
+memory_exactly s h m q = (λ k. k, λ k. k)

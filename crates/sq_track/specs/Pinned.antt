@@ -1,0 +1,105 @@
+-- Laws that say what worlds and what is said of them are, and no less and no more.
+use Rattle.std.specs.Prelude.{◌≡◌, ◌≢◌, ◌↔◌, [], ◌∷◌, ℕ, IsTrue, Contains, Option, Some, None, Ok, Err}
+use Rattle.sq_angle.specs.declared.position.Position.{Position}
+use Rattle.sq_cpr.specs.Grid.{Point, latitude, longitude}
+use Rattle.sq_cpr.specs.Near.{IsStrictlyNearPoint}
+use Rattle.sq_cpr.specs.Close.{AreTamePoints}
+use Rattle.sq_cpr.specs.Slow.{AreSlow, AreSlowForFollowing, AreWithin, IsPointWithin}
+use Rattle.sq_message.specs.declared.place.Place.{Place}
+use Rattle.sq_message.specs.declared.place.Place.TheVariants.{Air, Ground}
+use Rattle.sq_message.specs.declared.squitter.Me.{Me}
+use Rattle.sq_message.specs.declared.squitter.Squitter.{Squitter}
+use Rattle.sq_message.specs.Parts.{squitter_parts}
+use Rattle.sq_message.specs.Places.{IsPosition}
+use Rattle.sq_track.specs.declared.heard.Heard.{Heard}
+use Rattle.sq_track.specs.declared.heard.Heard.TheVariants.{Fix, Followed, Far}
+use Rattle.sq_track.specs.declared.heard.TrackFault.TheVariants.{Memory}
+use Rattle.sq_track.specs.History.{Entry, History, are_of_one_sender, parity_of}
+use Rattle.sq_track.specs.Replies.{Settings, IsAcceptable, IsReply, of_address}
+use Rattle.sq_track.specs.Worlds.{Arrival, World, IsEncodedFrom, IsTruePlace, IsTrueFix, IsTruePlaceHeard, IfHeard}
+use Rattle.sq_track.specs.Tame.{AreTamePlaces, AreSlowPlaces, AreNearPlaces, AreSlowToFollow, ArePairTogether, IsTame, IsSlow, IsNearSite, IsPositionNearSite}
+use Rattle.sq_track.specs.Standing.{IsStanding}
+
+-- any squitter may arrive at any moment, from each position that its code was encoded from
+abbrev pub SomeArrival : Type 0
+SomeArrival =
+    (moment : ℕ) (squitter : Squitter) (position : Position) → IsEncodedFrom (squitter_parts squitter).me position
+    → (arrival : Arrival) × (arrival.moment ≡ moment) × (arrival.squitter ≡ squitter) × (arrival.position ≡ position)
+
+-- a message without a position may come from anywhere
+abbrev pub OtherIsEncoded : Type 0
+OtherIsEncoded = (me : Me) (position : Position) → ¬ IsPosition me → IsEncodedFrom me position
+
+-- slow, tame and near places of one kind are these and no more, and what lies near a site
+pub record PlacesExactly : Type 0 where
+  pub near_no_site : (x : Position) → IsPositionNearSite None x
+  pub near_a_site : (site x : Position) → IsPositionNearSite (Some site) x ↔ AreWithin 44 x site
+  pub point_near_no_site : (p : Point) → IsNearSite None p
+  pub point_near_a_site : (site : Position) (p : Point) → IsNearSite (Some site) p ↔ IsPointWithin 45 90 4 p site
+  pub near_in_air : (p q : Point) → AreNearPlaces (Air p) (Air q)
+      ↔ (IsStrictlyNearPoint 360 1 (latitude 360 q) (longitude 360 q) p
+      × IsStrictlyNearPoint 360 1 (latitude 360 p) (longitude 360 p) q)
+  pub near_on_ground : (p q : Point) → AreNearPlaces (Ground p) (Ground q)
+      ↔ (IsStrictlyNearPoint 90 4 (latitude 90 q) (longitude 90 q) p
+      × IsStrictlyNearPoint 90 4 (latitude 90 p) (longitude 90 p) q)
+  pub slow_in_air : (site : Option Position) (p q : Point) (x y : Position)
+      → AreSlowPlaces site (Air p) (Air q) x y ↔ AreSlow 360 p q x y
+  pub slow_on_ground : (p q : Point) (x y : Position)
+      → AreSlowPlaces None (Ground p) (Ground q) x y ↔ AreSlow 90 p q x y
+  pub slow_at_a_site : (site : Position) (p q : Point) (x y : Position)
+      → AreSlowPlaces (Some site) (Ground p) (Ground q) x y
+      ↔ (AreSlow 90 p q x y × AreWithin 44 x site × AreWithin 44 y site)
+  pub following_in_air : (p q : Point) (x y : Position)
+      → AreSlowToFollow (Air p) (Air q) x y ↔ AreSlowForFollowing 360 p q x y
+  pub following_on_ground : (p q : Point) (x y : Position)
+      → AreSlowToFollow (Ground p) (Ground q) x y ↔ AreSlowForFollowing 90 p q x y
+  pub tame_in_air : (site : Option Position) (p q : Point) → AreTamePlaces site (Air p) (Air q) ↔ AreTamePoints 360 p q
+  pub tame_on_ground : (p q : Point) → AreTamePlaces None (Ground p) (Ground q) ↔ AreTamePoints 90 p q
+  pub tame_at_a_site : (site : Position) (p q : Point) → AreTamePlaces (Some site) (Ground p) (Ground q)
+      ↔ (AreTamePoints 90 p q × IsPointWithin 45 90 4 p site × IsPointWithin 45 90 4 q site)
+
+-- two of one parity are slow wherever they come from
+abbrev pub OneParityIsSlow : Type 0
+OneParityIsSlow =
+    (window : ℕ) (site : Option Position) (a b : Arrival)
+    → parity_of (squitter_parts a.squitter).me ≡ parity_of (squitter_parts b.squitter).me
+    → IsSlow window site (a ∷ b ∷ [])
+
+-- an even and an odd arrival that come together are tame exactly if their true places are
+abbrev pub TamePairExactly : Type 0
+TamePairExactly =
+    (window : ℕ) (site : Option Position) (a b : Arrival) (p q : Place) → ArePairTogether window a b
+    → IsTruePlace a p → IsTruePlace b q
+    → IsTame window site (a ∷ b ∷ []) ↔ AreTamePlaces site p q
+
+-- a world whose senders keep one position stands
+abbrev pub OnePositionStands : Type 0
+OnePositionStands =
+    (world : World)
+    → ((a b : Arrival) → Contains world a → Contains world b → IsTrue (are_of_one_sender a.squitter b.squitter)
+    → a.position ≡ b.position)
+    → IsStanding world
+
+-- the entries of an address are those that have it, in their order
+pub record OfAddressExactly : Type 0 where
+  pub none : (address : ℕ) → of_address address [] ≡ []
+  pub own : (address : ℕ) (entry : Entry) (history : History) → (squitter_parts entry.squitter).address ≡ address
+      → of_address address (entry ∷ history) ≡ entry ∷ of_address address history
+  pub other : (address : ℕ) (entry : Entry) (history : History) → (squitter_parts entry.squitter).address ≢ address
+      → of_address address (entry ∷ history) ≡ of_address address history
+
+-- what is said of what was heard
+pub record SaidExactly : Type 0 where
+  pub fix : (a : Arrival) (place : Place) → IsTrueFix a (Fix place) ↔ IsTruePlace a place
+  pub far : (a : Arrival) → ¬ IsTrueFix a Far
+  pub fix_too : (a : Arrival) (place : Place) → IsTruePlaceHeard a (Fix place) ↔ IsTruePlace a place
+  pub followed : (a : Arrival) (place : Place) → IsTruePlaceHeard a (Followed place) ↔ IsTruePlace a place
+  pub far_too : (a : Arrival) → ¬ IsTruePlaceHeard a Far
+  pub heard : (a : Arrival) (heard : Heard) → IfHeard IsTrueFix a (Ok heard) ↔ IsTrueFix a heard
+  pub heard_too : (a : Arrival) (heard : Heard) → IfHeard IsTruePlaceHeard a (Ok heard) ↔ IsTruePlaceHeard a heard
+
+-- out of memory is a reply where the call may be accepted, and nowhere else
+abbrev pub MemoryExactly : Type 0
+MemoryExactly =
+    (settings : Settings) (history : History) (moment : ℕ) (squitter : Squitter)
+    → IsReply settings history moment squitter (Err Memory) ↔ IsAcceptable settings history moment squitter
