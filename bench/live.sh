@@ -5,8 +5,7 @@
 set -eu
 here=$(cd "$(dirname "$0")" && pwd)
 frame=8D40621D58C382D690C8AC2863A7
-"$here/../squitter" show "$frame" > /dev/null
-program="$here/../crates/squitter/out/squitter"
+program=$("$here/../dist/program")
 work=$(mktemp -d)
 trap 'rm -rf "$work"' EXIT
 shown=0

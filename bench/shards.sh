@@ -7,8 +7,7 @@ set -eu
 here=$(cd "$(dirname "$0")" && pwd)
 lines=${1:-10000000}
 shards=${2:-$(nproc)}
-"$here/../squitter" show 8D40621D58C382D690C8AC2863A7 > /dev/null
-program="$here/../crates/squitter/out/squitter"
+program=$("$here/../dist/program")
 work=$(mktemp -d)
 trap 'rm -rf "$work"' EXIT
 cc -O2 -o "$work/gen" "$here/gen.c" -lm

@@ -7,8 +7,7 @@ set -eu
 here=$(cd "$(dirname "$0")" && pwd)
 lines=${1:-1000000}
 rounds=${2:-3}
-[ -n "${PROGRAM:-}" ] || "$here/../squitter" show 8D40621D58C382D690C8AC2863A7 > /dev/null
-program=${PROGRAM:-$here/../crates/squitter/out/squitter}
+program=${PROGRAM:-$("$here/../dist/program")}
 work=$(mktemp -d)
 trap 'rm -rf "$work"' EXIT
 cc -O3 -march=native -o "$work/gen" "$here/gen.c" -lm
