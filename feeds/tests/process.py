@@ -1,0 +1,261 @@
+"""squitter-feed as a process: what it prints, saves, refuses, how it ends, and how it connects again."""
+from __future__ import annotations
+
+import os
+import re
+import signal
+import socket
+import subprocess
+import tempfile
+import threading
+import time
+from contextlib import contextmanager
+from typing import Iterator, List, Sequence, Tuple
+
+from trying import AIR_EVEN, AIR_ODD, beast, clocked, expect, row, same
+
+TOP = os.path.dirname(os.path.dirname(os.path.dirname(os.path.abspath(__file__))))
+FEED = f"{TOP}/feeds/squitter-feed"
+SITE = ["--lat=52.31", "--lon=4.76"]
+
+
+def program() -> str:
+    return subprocess.run([f"{TOP}/dist/program"], check=True, stdout=subprocess.PIPE, text=True).stdout.strip()
+
+
+def ran(words: List[str], data: bytes = b"") -> Tuple[int, str, str]:
+    done = subprocess.run([FEED, *words], input=data, capture_output=True, timeout=30)
+    return done.returncode, done.stdout.decode(), done.stderr.decode()
+
+
+def track(log: str, *words: str) -> str:
+    heard = subprocess.run([program(), "track", *SITE, *words], input=log.encode(), stdout=subprocess.PIPE, timeout=60)
+    return heard.stdout.decode()
+
+
+def flights() -> List[Tuple[int, str]]:
+    """The lines of the log that give a frame whose moment does not go back: read here, and not by the program."""
+    kept: List[Tuple[int, str]] = []
+    with open(f"{TOP}/examples/flights.log") as log:
+        for line in log:
+            found = re.fullmatch(r"(\d+) \*?([0-9A-Fa-f]{28});?\n", line)
+            if found and int(found[2][:2], 16) >> 3 == 17 and (not kept or int(found[1]) >= kept[-1][0]):
+                kept.append((int(found[1]), found[2].upper()))
+    expect(len(kept) > 1900, "examples/flights.log has", len(kept), "lines")
+    return kept
+
+
+def is_whole(frame: str) -> bool:
+    """Whether its parity is right: the daemon passes no other on."""
+    bits = int(frame, 16)
+    for place in range(111, 23, -1):
+        if bits >> place & 1:
+            bits ^= 0x1FFF409 << place - 24
+    return bits == 0
+
+
+def whole_flights() -> List[Tuple[int, str]]:
+    return [(moment, frame) for moment, frame in flights() if is_whole(frame)]
+
+
+def log_of(rows: Sequence[Tuple[int, str]]) -> str:
+    return "".join(f"{moment} {frame}\n" for moment, frame in rows)
+
+
+def files() -> None:
+    """A log as each format, in a file and by a pipe: its lines again, and the answers of track to them."""
+    rows = flights()
+    log = log_of(rows)
+    wanted = track(log)
+    expect(wanted.count(" fix ") > 1000, "there are few places")
+    # (a clock of 0 is none)
+    forms = {
+        "avr": b"".join(clocked(frame, 12_000 * moment + 1) for moment, frame in rows),
+        "beast": b"".join(beast(frame, 12_000 * moment + 1) for moment, frame in rows),
+        "csv": b"time,icao24,rawmsg\n" + b"".join(row(f"{moment / 1000:.3f}", frame) for moment, frame in rows),
+        "log": log.encode(),
+    }
+    with tempfile.TemporaryDirectory() as work:
+        for name, data in forms.items():
+            with open(f"{work}/{name}", "wb") as file:
+                file.write(data)
+            status, printed, said = ran([f"{work}/{name}"])
+            same((status, printed), (0, log), name, "in a file")
+            same(said, f"squitter-feed: {len(rows)} printed\n", name)
+            status, printed, _ = ran(["-"], data)
+            same(status, 0)
+            same(track(printed), wanted, name, "by a pipe")
+
+
+def refusals() -> None:
+    """Statuses and texts: SBS, what is no feed, files that are not there, devices that are full, bad command lines."""
+    status, printed, said = ran(["-"], b"MSG,3,1,1,4B1001,1,2026/11/23,22:00:00.000,,,,38000,,,52.1,4.2,,,0,0,0,0\n")
+    expect((status, printed) == (1, "") and "SBS" in said and "30005" in said, said)
+    rows: List[Tuple[List[str], int, str]] = [
+        (["/nonesuch"], 3, "No such file"),
+        (["/"], 3, "Is a directory"),
+        ([], 2, "SOURCE"),
+        (["a", "b"], 2, "usage"),
+        (["-", "--reorder=-1"], 2, "milliseconds"),
+        (["-", "--leap=1.5"], 2, "milliseconds"),
+        (["-", "--lea=5"], 2, "usage"),
+        (["-", "--save=/nonesuch/log"], 3, "/nonesuch/log"),
+    ]
+    for words, wanted, part in rows:
+        status, printed, said = ran(words)
+        expect((status, printed) == (wanted, "") and part in said and "Traceback" not in said, words, status, said)
+    same(ran(["-"])[:2], (0, ""), "nothing")
+    same(ran(["--help"])[0], 0, "help")
+    frame = b"*%s;\n" % AIR_EVEN.encode()
+    same(ran(["-", "--save=/dev/full"], frame)[0], 3, "a full disk")
+    with open("/dev/full", "wb") as full:
+        done = subprocess.run([FEED, "-"], input=frame, stdout=full, stderr=subprocess.PIPE)
+    expect(done.returncode == 3 and b"No space" in done.stderr, done)
+    for closed, wanted in ((">&-", 3), ("<&-", 3), ("2>&-", 0)):
+        done = subprocess.run(["sh", "-c", f'"$0" - {closed}', FEED], input=frame, capture_output=True)
+        expect(done.returncode == wanted and done.stdout.count(b"\n") == (wanted == 0), closed, done)
+
+
+@contextmanager
+def started(words: List[str]) -> Iterator[subprocess.Popen[bytes]]:
+    pipe = subprocess.PIPE
+    run = subprocess.Popen([FEED, *words], stdin=pipe, stdout=pipe, stderr=pipe)
+    too_long = threading.Timer(40, run.kill)
+    too_long.start()
+    try:
+        yield run
+    finally:
+        too_long.cancel()
+        if run.poll() is None:
+            run.kill()
+        run.communicate()
+
+
+def put(run: subprocess.Popen[bytes], data: bytes) -> None:
+    if run.stdin:
+        run.stdin.write(data)
+        run.stdin.flush()
+
+
+def line_of(run: subprocess.Popen[bytes]) -> bytes:
+    return run.stdout.readline() if run.stdout else b""
+
+
+def fault_of(run: subprocess.Popen[bytes]) -> str:
+    return run.stderr.readline().decode() if run.stderr else ""
+
+
+def reported(run: subprocess.Popen[bytes]) -> str:
+    return run.stderr.read().decode() if run.stderr else ""
+
+
+def at_once() -> None:
+    """A line is there before the next one comes; a run ends well on SIGINT, SIGTERM and SIGHUP."""
+    frame = b"*%s;\n" % AIR_EVEN.encode()
+    for number in (signal.SIGINT, signal.SIGTERM, signal.SIGHUP):
+        with tempfile.TemporaryDirectory() as work, started(["-", f"--save={work}/log"]) as run:
+            put(run, frame)
+            line = line_of(run)
+            put(run, frame[:12])
+            time.sleep(0.1)
+            run.send_signal(number)
+            rest, said = run.communicate(timeout=10)
+            same((run.returncode, rest, said), (0, b"", b"squitter-feed: 1 printed, 1 damaged\n"), number)
+            with open(f"{work}/log", "rb") as log:
+                same(log.read(), line)
+            now = time.time_ns() // 1_000_000
+            expect(now - 60_000 < int(line.split()[0]) <= now, "the moment", line)
+
+
+def ends_well() -> None:
+    """A closed pipe is seen while nothing comes, an ignored interrupt stays so, what is held comes in time."""
+    frame = b"*%s;\n" % AIR_EVEN.encode()
+    with started(["-"]) as run:
+        put(run, frame)
+        line_of(run)
+        if run.stdout:
+            run.stdout.close()
+        same(
+            (run.wait(timeout=10), reported(run)),
+            (0, "squitter-feed: 1 printed\n"),
+            "a closed pipe while it waits",
+        )
+    ignoring = subprocess.Popen(
+        ["sh", "-c", 'trap "" INT; exec "$0" -', FEED],
+        stdin=subprocess.PIPE,
+        stdout=subprocess.PIPE,
+        stderr=subprocess.PIPE,
+    )
+    put(ignoring, frame)
+    first = line_of(ignoring)
+    ignoring.send_signal(signal.SIGINT)
+    same(
+        (first.count(b"\n"), ignoring.communicate(frame, timeout=10)[0].count(b"\n")), (1, 1), "an interrupt is ignored"
+    )
+    with started(["-", "--reorder=300"]) as run:
+        put(run, frame)
+        begun = time.monotonic()
+        expect(line_of(run) and 0.2 < time.monotonic() - begun < 5, "a line that is held comes when its time is up")
+    done = subprocess.run(
+        ["sh", "-c", '"$0" "$1" | head -n 1', FEED, f"{TOP}/examples/flights.log"], capture_output=True
+    )
+    expect(done.stdout.count(b"\n") == 1 and b"Traceback" not in done.stderr, done)
+
+
+def saved() -> None:
+    """--save adds to a file, ends a half line of an earlier run, and has whole lines where the run is killed."""
+    frame = AIR_EVEN.encode()
+    with tempfile.TemporaryDirectory() as work:
+        path = f"{work}/log"
+        with open(path, "wb") as log:
+            log.write(b"5 8D40")
+        printed = ran(["-", f"--save={path}"], b"7 %s\n" % frame)[1]
+        same(printed, f"7 {AIR_EVEN}\n")
+        printed += ran(["-", "--save", path], b"8 %s\n" % frame)[1]
+        with open(path) as log:
+            same(log.read(), f"5 8D40\n{printed}")
+        with started(["-", f"--save={path}"]) as run:
+            put(run, b"*%s;\n" % frame * 1000)
+            for _ in range(1000):
+                line_of(run)
+            run.kill()
+        with open(path) as log:
+            lines = log.read().splitlines(True)
+        expect(len(lines) == 1003 and all(line.endswith(f" {AIR_EVEN}\n") for line in lines[1:]), lines[-2:])
+
+
+def listening(port: int = 0) -> socket.socket:
+    listener = socket.socket()
+    listener.setsockopt(socket.SOL_SOCKET, socket.SO_REUSEADDR, 1)
+    listener.bind(("127.0.0.1", port))
+    listener.listen()
+    return listener
+
+
+def connects_again() -> None:
+    """A port that is not there yet, that closes and comes back: pauses of 1 and 2 seconds, and 1 after success."""
+    with listening() as listener:
+        port = listener.getsockname()[1]
+    with started([f"127.0.0.1:{port}"]) as run:
+        said = "".join(fault_of(run) for _ in range(2))  # refused at once, and after a second
+        begun = time.monotonic()
+        with listening(port) as listener:
+            listener.settimeout(20)
+            link, _ = listener.accept()
+            expect(1.5 < time.monotonic() - begun < 9, "connected after", time.monotonic() - begun)
+            link.sendall(beast(AIR_EVEN, 12_000_000) + beast(AIR_ODD, 24_000_000)[:5])
+            first = line_of(run).split()
+            link.close()
+            begun = time.monotonic()
+            link, _ = listener.accept()
+            expect(0.7 < time.monotonic() - begun < 8, "connected again after", time.monotonic() - begun)
+            link.sendall(clocked(AIR_ODD, 12_000))
+            second = line_of(run).split()
+            passed = int(second[0]) - int(first[0])
+            expect(700 < passed < 9000, "the moments are", passed, "apart")
+            run.send_signal(signal.SIGINT)
+            same(run.wait(timeout=10), 0)
+            said += reported(run)
+            link.close()
+    same(re.findall(r"again in (\d+) s", said), ["1", "2", "1"], said)
+    expect("2 printed, 1 damaged" in said, said)
