@@ -1,0 +1,122 @@
+/* page.js: the start of the page: the library, the tabs, and what the panels share. */
+"use strict";
+
+/** The element of a name. @returns {any} */
+const byId = (id) => document.getElementById(id);
+
+/**
+ * An element with attributes and children, which may be texts.
+ * @param {string} name
+ * @param {Record<string, any>} [attributes]
+ * @param {...(Node | string)} children
+ */
+function element(name, attributes = {}, ...children) {
+  const made = document.createElement(name);
+  for (const [key, value] of Object.entries(attributes)) made.setAttribute(key, String(value));
+  made.append(...children);
+  return made;
+}
+
+/** A cell of a table: the first of a row is its head, and numbers stand in digits of one width. */
+function cellOf(cell, index) {
+  if (!index) return element("th", { scope: "row" }, cell);
+  return element("td", typeof cell === "string" && /^[-0-9A-F/. ]+$/.test(cell) ? { class: "number" } : {}, cell);
+}
+
+/** A table: a caption, the heads of its columns, and rows of cells. */
+function tableOf(caption, heads, rows) {
+  const head = element("tr", {}, ...heads.map((text) => element("th", { scope: "col" }, text)));
+  const body = rows.map((row) => element("tr", {}, ...row.map(cellOf)));
+  const parts = [element("caption", {}, caption), element("thead", {}, head), element("tbody", {}, ...body)];
+  const table = element("table", {}, ...parts);
+  return element("div", { class: "scroll", tabindex: 0, role: "region", "aria-label": caption }, table);
+}
+
+const hexadecimal = (number, digits) => number.toString(16).toUpperCase().padStart(digits, "0");
+
+/** A fraction as it is written, or a whole number. */
+const fractionText = ({ num, den }) => `${num}/${den}`;
+
+/** A refusal, in a paragraph that says so in words and not by its colour alone. */
+const refusal = (what, error) => element("p", { class: "refusal" }, element("strong", {}, `${what}: `), error.message);
+
+/** The position that two texts spell. A fault says which of them it is of. */
+function positionOf(library, latText, lonText) {
+  const part = (name, text) => {
+    try {
+      return library.angle(text.trim());
+    } catch (error) {
+      throw new Error(`${name} ${error.message}`);
+    }
+  };
+  return { lat: part("latitude", latText), lon: part("longitude", lonText) };
+}
+
+/** Hands a text or its parts to be saved as a file. */
+function save(name, type, parts) {
+  const address = URL.createObjectURL(new Blob(parts, { type }));
+  const link = element("a", { href: address, download: name });
+  document.body.append(link);
+  link.click();
+  link.remove();
+  setTimeout(() => URL.revokeObjectURL(address), 60_000);
+}
+
+/** Runs an answer at each change of a form, and at once. */
+function answerWith(form, answer) {
+  form.addEventListener("submit", (event) => event.preventDefault());
+  form.addEventListener("input", answer);
+  answer();
+}
+
+function moduleBytes() {
+  return Uint8Array.from(atob(SQUITTER_MODULE), (letter) => letter.charCodeAt(0));
+}
+
+/** The tabs: arrows, Home and End move among them, and the address of the page keeps which is open. */
+function startTabs() {
+  const tabs = [...document.querySelectorAll("[role=tab]")];
+  const choose = (chosen, focus) => {
+    for (const tab of tabs) {
+      tab.setAttribute("aria-selected", String(tab === chosen));
+      tab.tabIndex = tab === chosen ? 0 : -1;
+      byId(tab.getAttribute("aria-controls")).hidden = tab !== chosen;
+    }
+    if (focus) chosen.focus();
+    history.replaceState(null, "", `#${chosen.id.slice(4)}`);
+    window.dispatchEvent(new Event("resize"));
+  };
+  tabs.forEach((tab, index) => {
+    const next = { ArrowRight: index + 1, ArrowLeft: index - 1 + tabs.length, Home: 0, End: tabs.length - 1 };
+    tab.addEventListener("click", () => choose(tab, false));
+    tab.addEventListener("keydown", (event) => {
+      if (event.key in next) choose(tabs[next[event.key] % tabs.length], true);
+    });
+  });
+  choose(tabs.find((tab) => `#${tab.id.slice(4)}` === location.hash) ?? tabs[0], false);
+}
+
+/** Says in the place of the panels why there are none. */
+function refuseBrowser(error) {
+  byId("notice").textContent = "This browser cannot run the library: it has no WebAssembly with 64-bit memory. " +
+    `Newer ones of Chromium and Firefox have it. (${error.message})`;
+  byId("notice").hidden = false;
+  document.querySelector("main").hidden = true;
+  byId("tabs").hidden = true;
+}
+
+addEventListener("DOMContentLoaded", async () => {
+  let library;
+  try {
+    library = await squitterLibrary(moduleBytes());
+  } catch (error) {
+    return refuseBrowser(error);
+  }
+  byId("version").textContent = library.version();
+  startFrame(library);
+  startPlace(library);
+  startSend(library);
+  startLog(library);
+  startTabs();
+  document.documentElement.dataset.ready = "yes";
+});
