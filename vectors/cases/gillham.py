@@ -9,6 +9,8 @@ from typing import Any, Dict
 
 from cases import frames
 
+# The pulses of a Mode C reply by the names that Annex 10 gives them: in the order of the field, with the Q bit in place
+# of D1, and the eight that count steps of 500 feet, the highest first.
 ORDER = ("C1", "A1", "C2", "A2", "C4", "A4", "B1", "Q", "B2", "D2", "B4", "D4")
 EIGHT = ("D2", "D4", "A1", "A2", "A4", "B1", "B2", "B4")
 HUNDREDS = ({"C4"}, {"C2", "C4"}, {"C2"}, {"C1", "C2"}, {"C1"})  # from 200 feet below a multiple of 500 to 200 above it
