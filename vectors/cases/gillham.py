@@ -9,20 +9,22 @@ from typing import Any, Dict
 
 from cases import frames
 
-# The pulses of a Mode C reply by the names that Annex 10 gives them: in the order of the field, with the Q bit in place
-# of D1, and the eight that count steps of 500 feet, the highest first.
-ORDER = ("C1", "A1", "C2", "A2", "C4", "A4", "B1", "Q", "B2", "D2", "B4", "D4")
-EIGHT = ("D2", "D4", "A1", "A2", "A4", "B1", "B2", "B4")
-HUNDREDS = ({"C4"}, {"C2", "C4"}, {"C2"}, {"C1", "C2"}, {"C1"})  # from 200 feet below a multiple of 500 to 200 above it
+# A pulse of a Mode C reply has a letter and a weight of 1, 2 or 4. In the order of the field, where the Q bit stands in
+# place of the letter D with weight 1:
+ORDER = tuple(zip("CACACABQBDBD", (1, 1, 2, 2, 4, 4, 1, 0, 2, 2, 4, 4)))
+# Those that count steps of 500 feet, the highest first:
+EIGHT = tuple(zip("DDAAABBB", (2, 4, 1, 2, 4, 1, 2, 4)))
+# The weights of the letter C, from 200 feet below a multiple of 500 to 200 above it:
+HUNDREDS = ({4}, {2, 4}, {2}, {1, 2}, {1})
 
 
 def field_of_feet(feet: int) -> int:
     """The field of an altitude, a multiple of 100 feet: a Gray code of 500 feet, and within these five pulses."""
     five_hundreds, part = divmod(feet + 1200, 500)
     gray = five_hundreds ^ five_hundreds >> 1
-    pulses = {name for place, name in enumerate(EIGHT) if gray >> (7 - place) & 1}
-    pulses |= HUNDREDS[4 - part // 100 if five_hundreds % 2 else part // 100]
-    return int("".join(str(int(name in pulses)) for name in ORDER), 2)
+    pulses = {pulse for place, pulse in enumerate(EIGHT) if gray >> (7 - place) & 1}
+    pulses |= {("C", weight) for weight in HUNDREDS[4 - part // 100 if five_hundreds % 2 else part // 100]}
+    return int("".join(str(int(pulse in pulses)) for pulse in ORDER), 2)
 
 
 FEET_OF_FIELD = {field_of_feet(feet): feet for feet in range(-1200, 126_701, 100)}

@@ -20,7 +20,7 @@ from cases.case import (
 )
 from cases.definitions import CODES, lat_step, lon_step, lon_zones, nearest
 
-BILLIONTH = Fraction(1, 10**9)
+BILLIONTH, TRILLIONTH = Fraction(1, 10**9), Fraction(1, 10**12)
 
 
 def sides(x: Fraction) -> Iterator[Tuple[int, Fraction]]:
@@ -43,13 +43,14 @@ NL_SOURCE = "DO-260B appendix A.1.7.2 and Doc 9871 appendix C, of NL: 59 at 0, 2
 
 
 def add_zone_counts(nl: Collection) -> None:
-    """Each transition on both sides and signs, exactly, a billionth beside it, and at the grid's own latitudes."""
+    """Each transition on both sides and signs, exactly, a billionth and a trillionth beside it, and at the
+    grid's own latitudes."""
     for text in ("0", "87", "-87", "87.1", "-87.1"):
         flags = ["Equator"] if text == "0" else ["Latitude87", "ZoneBorder"]
         nl.add("printed", ["Printed"] + flags, {"lat": text}, source=NL_SOURCE)
     for limit in TRANSITIONS:
         for sign, lat in sides(limit):
-            for offset in (0, BILLIONTH, -BILLIONTH):
+            for offset in (0, BILLIONTH, -BILLIONTH, TRILLIONTH, -TRILLIONTH):
                 nl.add("border", border_flags(limit), {"lat": text_of(lat + offset)})
             index = nearest(lat, lat_step(AIR, 0))
             below = index if index * lat_step(AIR, 0) <= lat else index - 1
