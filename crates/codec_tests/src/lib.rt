@@ -6,11 +6,7 @@ mod angles;
 #[cfg(test)]
 mod bits;
 #[cfg(test)]
-mod borders;
-#[cfg(test)]
-mod near;
-#[cfg(test)]
-mod pairs;
+mod decoding;
 #[cfg(test)]
 mod points;
 #[cfg(test)]

@@ -1,4 +1,4 @@
-//! Worked zone counts, at and beside each limit, and the lanes against a plain loop.
+//! Worked zone counts, and the lanes against a plain loop over the limits.
 use sq_zones::{Angle, Parity, lon_zones, zone_count};
 use std::process::Abort;
 
@@ -145,38 +145,6 @@ fn worked_longitude_zones(rt: HostRuntime) {
 fn parity_indices(rt: HostRuntime) {
     assert_eq!(rt; Parity::Even.index(), 0);
     assert_eq!(rt; Parity::Odd.index(), 1);
-}
-
-// Asserts the zone counts beside a limit, which is `limit * scale / den` degrees, north and south.
-fn assert_limit(rt: &impl Abort, line: &str, den: u64, scale: i64) {
-    let (limit, zones) = limit_of(line).expect(rt, "a limit");
-    let at = limit.saturating_mul(scale);
-    let past = at.saturating_add(1);
-    let fewer = zones.checked_sub(1);
-    assert!(rt;
-        count_at(at.saturating_sub(1), den) == Some(zones),
-        "before {line} by {den}"
-    );
-    assert!(rt; count_at(at, den) == Some(zones), "{line} by {den}");
-    assert!(rt;
-        count_at(at.saturating_neg(), den) == Some(zones),
-        "south, {line} by {den}"
-    );
-    assert!(rt; count_at(past, den) == fewer, "past {line} by {den}");
-    assert!(rt;
-        count_at(past.saturating_neg(), den) == fewer,
-        "south, past {line} by {den}"
-    );
-}
-
-#[test]
-fn at_and_past_each_limit(rt: HostRuntime) {
-    assert_eq!(rt; LIMITS.lines().count(), 58);
-    for line in LIMITS.lines() {
-        assert_limit(&rt, line, 100_000_000, 1);
-        assert_limit(&rt, line, 1_000_000_000, 10);
-        assert_limit(&rt, line, 1_000_000_000_000, 10_000);
-    }
 }
 
 // Asserts the lanes against the loop at so many tenths of a degree, as a fraction of this denominator.

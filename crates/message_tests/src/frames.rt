@@ -178,6 +178,7 @@ fn reads_every_type_code(rt: HostRuntime) {
             is_read_back(&squitter.me(), type_code),
             "type code {type_code}"
         );
+        assert!(rt; write_frame(&squitter) == frame, "type code {type_code}");
     }
 }
 

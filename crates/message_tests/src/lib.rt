@@ -9,13 +9,9 @@ mod frames;
 #[cfg(test)]
 mod headline;
 #[cfg(test)]
-mod layout;
-#[cfg(test)]
 mod moments;
 #[cfg(test)]
 mod places;
-#[cfg(test)]
-mod rows;
 #[cfg(test)]
 mod samples;
 #[cfg(test)]

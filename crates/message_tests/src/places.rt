@@ -1,14 +1,13 @@
-//! Places of worked frames, each fault in its order, and what is sent of a place.
-use crate::rows::{read_position, read_squitter, site};
+//! Places of worked frames, each fault in its order, and what is sent of a place. The tables of worked squitters stand
+//! in `vectors/cases/worked`, which the program and the library run.
 use crate::samples::{
     AIR_EVEN, AIR_ODD, GROUND_EVEN, GROUND_ODD, IDENTITY, airborne, other, position, read, surface,
 };
 use sq_message::{
-    Frame, GridPoint, Parity, Place, PlaceFault, Position, Squitter, laws, place_local, place_pair,
-    send_point, write_frame,
+    Angle, Frame, GridPoint, Parity, Place, PlaceFault, Position, Squitter, laws, place_local,
+    place_pair, send_point, write_frame,
 };
 use std::process::Abort;
-use std::str::SplitWhitespace;
 
 // What is sent of a place of the squitter's kind.
 fn sent(rt: &impl Abort, squitter: &Squitter, place: &Place) -> Squitter {
@@ -19,111 +18,45 @@ fn sent(rt: &impl Abort, squitter: &Squitter, place: &Place) -> Squitter {
     }
 }
 
-// What a squitter or two are decoded to, with a place as its position.
-type Decoded = Result<Position, PlaceFault>;
-
-fn decoded(answer: Result<Place, PlaceFault>) -> Decoded {
+// The position of a place, or the fault.
+fn decoded(answer: Result<Place, PlaceFault>) -> Result<Position, PlaceFault> {
     match answer {
         Ok(place) => Ok(place.position()),
         Err(fault) => Err(fault),
     }
 }
 
-// A position after `at`, or a fault.
-fn read_decoded(text: &str) -> Option<Decoded> {
-    let mut words = text.split_whitespace();
-    match words.next()? {
-        "at" => {
-            let position = read_position(&mut words)?;
-            Some(Ok(position))
-        }
-        "not-position" => Some(Err(PlaceFault::NotPosition)),
-        "other-address" => Some(Err(PlaceFault::OtherAddress)),
-        "other-kind" => Some(Err(PlaceFault::OtherKind)),
-        "same-parity" => Some(Err(PlaceFault::SameParity)),
-        "no-site" => Some(Err(PlaceFault::NoSite)),
-        "out-of-range" => Some(Err(PlaceFault::OutOfRange)),
-        "zone-counts" => read_zone_counts(&mut words),
-        _ => None,
-    }
-}
-
-fn read_zone_counts(words: &mut SplitWhitespace<'_>) -> Option<Decoded> {
-    let even = words.next()?.parse::<u8>().ok()?;
-    let odd = words.next()?.parse::<u8>().ok()?;
-    Some(Err(PlaceFault::ZoneCounts(even, odd)))
-}
-
-// What a squitter near a reference is decoded to.
-fn near(text: &str) -> Option<Decoded> {
-    let mut words = text.split_whitespace();
-    let squitter = read_squitter(&mut words)?;
-    let reference = read_position(&mut words)?;
-    Some(decoded(place_local(&squitter, &reference)))
-}
-
-fn read_pair(text: &str) -> Option<(Squitter, Squitter)> {
-    let mut words = text.split_whitespace();
-    let older = read_squitter(&mut words)?;
-    let newer = read_squitter(&mut words)?;
-    Some((older, newer))
-}
-
-// What an older and a newer squitter are decoded to, with the site of the row where it has one.
-fn pair(text: &str) -> Option<Decoded> {
-    let (older, newer) = read_pair(text)?;
-    Some(decoded(place_pair(&older, &newer, site(text).as_ref())))
-}
-
-// The question of a row, and the answer.
-fn parts<'a>(rt: &impl Abort, row: &'a str) -> (&'a str, Decoded) {
-    let (question, answer) = row.split_once(" -> ").expect(rt, "an arrow");
-    (question, read_decoded(answer).expect(rt, "an answer"))
-}
-
-fn assert_near(rt: &impl Abort, table: &str, rows: usize) {
-    assert_eq!(rt; table.lines().count(), rows);
-    for row in table.lines() {
-        let (question, answer) = parts(rt, row);
-        assert!(rt; near(question) == Some(answer), "{row}");
-    }
-}
-
-fn assert_pairs(rt: &impl Abort, table: &str, rows: usize) {
-    assert_eq!(rt; table.lines().count(), rows);
-    for row in table.lines() {
-        let (question, answer) = parts(rt, row);
-        assert!(rt; pair(question) == Some(answer), "{row}");
-    }
-}
-
-// A squitter, a reference, and the place or the fault.
-const NEAR_A_REFERENCE: &str = "\
-air-even 52258/1000 3918/1000 -> at 428091/8192 64215/16384
-identity 52258/1000 3918/1000 -> not-position
-ground-odd 5199/100 4375/1000 -> at 202304115/3866624 2172069/458752
-airborne 1 even 21845 0 89 0 -> out-of-range
-identity 89 0 -> not-position
-other 1 89 0 -> not-position";
-
 #[test]
 fn decodes_near_a_reference(rt: HostRuntime) {
-    assert_near(&rt, NEAR_A_REFERENCE, 6);
+    let reference = position(&rt, (52_258, 1000), (3918, 1000));
+    let found = decoded(place_local(&read(&rt, &AIR_EVEN), &reference));
+    assert!(rt; found == Ok(position(&rt, (428_091, 8192), (64_215, 16_384))));
+    let found = decoded(place_local(&read(&rt, &GROUND_ODD), &reference));
+    assert!(rt; found == Ok(position(&rt, (202_304_115, 3_866_624), (2_172_069, 458_752))));
+    let found = decoded(place_local(&read(&rt, &IDENTITY), &reference));
+    assert!(rt; found == Err(PlaceFault::NotPosition));
+    let past_the_pole = airborne(1, Parity::Even, 21_845, 0).expect(&rt, "a squitter");
+    let pole = position(&rt, (89, 1), (0, 1));
+    assert!(rt; decoded(place_local(&past_the_pole, &pole)) == Err(PlaceFault::OutOfRange));
 }
 
-// The older and the newer squitter, the site where there is one, and the place.
-const PAIRS: &str = "\
-air-odd air-even -> at 428091/8192 64215/16384
-air-even air-odd -> at 25261515/483328 225873/57344
-ground-even ground-odd site 5199/100 4375/1000 -> at 202304115/3866624 2172069/458752
-ground-even ground-odd site 5199/100 94375/1000 -> at 202304115/3866624 43459749/458752
-ground-even ground-odd site 5199/100 179 -> at 202304115/3866624 -80403291/458752
-ground-even ground-odd site -3801/100 4375/1000 -> at -145692045/3866624 16758585/3014656
-ground-odd ground-even site 5199/100 4375/1000 -> at 13716171/262144 1240065/262144";
+#[test]
+fn decodes_pairs_in_the_air(rt: HostRuntime) {
+    let (even, odd) = (read(&rt, &AIR_EVEN), read(&rt, &AIR_ODD));
+    let found = decoded(place_pair(&odd, &even, None));
+    assert!(rt; found == Ok(position(&rt, (428_091, 8192), (64_215, 16_384))));
+    let found = decoded(place_pair(&even, &odd, None));
+    assert!(rt; found == Ok(position(&rt, (25_261_515, 483_328), (225_873, 57_344))));
+}
 
 #[test]
-fn decodes_pairs(rt: HostRuntime) {
-    assert_pairs(&rt, PAIRS, 7);
+fn decodes_pairs_on_the_ground(rt: HostRuntime) {
+    let site = position(&rt, (5199, 100), (4375, 1000));
+    let (even, odd) = (read(&rt, &GROUND_EVEN), read(&rt, &GROUND_ODD));
+    let found = decoded(place_pair(&even, &odd, Some(&site)));
+    assert!(rt; found == Ok(position(&rt, (202_304_115, 3_866_624), (2_172_069, 458_752))));
+    let found = decoded(place_pair(&odd, &even, Some(&site)));
+    assert!(rt; found == Ok(position(&rt, (13_716_171, 262_144), (1_240_065, 262_144))));
 }
 
 #[test]
@@ -134,50 +67,35 @@ fn needs_no_site_in_the_air(rt: HostRuntime) {
     assert!(rt; place_pair(&even, &odd, Some(&far)) == Ok(place));
 }
 
-// Each pair has each fault after the one that is reported too, as far as two squitters can have them. It is the same at
-// a site, where the site is not what is missing.
-const FIRST_FAULTS: &str = "\
-airborne 1 even 0 0 other 2 -> not-position
-other 2 airborne 1 even 0 0 -> not-position
-other 1 other 1 -> not-position
-airborne 1 even 0 0 surface 2 even 0 0 -> other-address
-airborne 1 even 0 0 airborne 2 odd 0 0 -> other-address
-airborne 1 even 0 0 surface 1 even 0 0 -> other-kind
-surface 1 even 0 0 airborne 1 even 0 0 -> other-kind
-airborne 1 even 0 0 airborne 1 even 0 0 -> same-parity
-surface 1 even 0 0 surface 1 even 0 0 -> same-parity
-surface 1 even 0 0 surface 1 odd 87381 0 -> no-site
-airborne 1 even 0 0 airborne 1 odd 87381 0 -> out-of-range
-other 2 airborne 1 even 0 0 site 0 0 -> not-position
-airborne 1 even 0 0 other 2 site 0 0 -> not-position
-other 1 other 1 site 0 0 -> not-position
-airborne 1 even 0 0 surface 2 even 0 0 site 0 0 -> other-address
-airborne 1 even 0 0 airborne 2 odd 0 0 site 0 0 -> other-address
-airborne 1 even 0 0 surface 1 even 0 0 site 0 0 -> other-kind
-surface 1 even 0 0 airborne 1 even 0 0 site 0 0 -> other-kind
-airborne 1 even 0 0 airborne 1 even 0 0 site 0 0 -> same-parity
-surface 1 even 0 0 surface 1 even 0 0 site 0 0 -> same-parity
-airborne 1 even 0 0 airborne 1 odd 87381 0 site 0 0 -> out-of-range";
-
-#[test]
-fn tells_the_first_fault_of_a_pair(rt: HostRuntime) {
-    assert_pairs(&rt, FIRST_FAULTS, 21);
+// Why two squitters have no place, without a site and with one. None where they have one, or are none.
+fn faults_of(older: Option<Squitter>, newer: Option<Squitter>) -> Option<[PlaceFault; 2]> {
+    let (older, newer) = (older?, newer?);
+    let equator = Position::new(Angle::new(0, 1)?, Angle::new(0, 1)?)?;
+    let without = place_pair(&older, &newer, None).err()?;
+    let with = place_pair(&older, &newer, Some(&equator)).err()?;
+    Some([without, with])
 }
 
-const FAULTS_OF_WORKED_PAIRS: &str = "\
-air-even identity -> not-position
-air-even ground-odd -> other-address
-air-even surface 0x40621D odd 0 0 -> other-kind
-air-even sent-on-ground 0x40621D odd 523230400/10000000 47304726/10000000 -> other-kind
-sent-on-ground 0x40621D odd 523230400/10000000 47304726/10000000 air-even -> other-kind
-air-even air-even -> same-parity
-ground-even ground-odd -> no-site
-airborne 7 even 97659 80100 airborne 7 odd 93846 80100 -> zone-counts 58 59
-airborne 7 odd 93846 80100 airborne 7 even 97659 80100 -> zone-counts 58 59";
-
+// Each pair has each fault after the one that is told too, as far as two squitters can have them.
 #[test]
-fn tells_the_faults_of_worked_pairs(rt: HostRuntime) {
-    assert_pairs(&rt, FAULTS_OF_WORKED_PAIRS, 9);
+fn tells_the_first_fault_of_a_pair(rt: HostRuntime) {
+    let even = airborne(1, Parity::Even, 0, 0);
+    assert!(rt; faults_of(even, other(2)) == Some([PlaceFault::NotPosition; 2]));
+    assert!(rt; faults_of(other(2), even) == Some([PlaceFault::NotPosition; 2]));
+    let elsewhere = surface(2, Parity::Even, 0, 0);
+    assert!(rt; faults_of(even, elsewhere) == Some([PlaceFault::OtherAddress; 2]));
+    let landed = surface(1, Parity::Even, 0, 0);
+    assert!(rt; faults_of(even, landed) == Some([PlaceFault::OtherKind; 2]));
+    assert!(rt; faults_of(even, even) == Some([PlaceFault::SameParity; 2]));
+    assert!(rt; faults_of(landed, landed) == Some([PlaceFault::SameParity; 2]));
+    let past_the_pole = airborne(1, Parity::Odd, 87_381, 0);
+    assert!(rt; faults_of(even, past_the_pole) == Some([PlaceFault::OutOfRange; 2]));
+    let (even, odd) = (
+        airborne(7, Parity::Even, 97_659, 80_100),
+        airborne(7, Parity::Odd, 93_846, 80_100),
+    );
+    assert!(rt; faults_of(even, odd) == Some([PlaceFault::ZoneCounts(58, 59); 2]));
+    assert!(rt; faults_of(odd, even) == Some([PlaceFault::ZoneCounts(58, 59); 2]));
 }
 
 // Asserts that a frame's place is sent as the frame again.

@@ -1,7 +1,6 @@
-//! The tracker: worked runs, tables, random calls, worlds, and allocations that fail.
+//! The tracker: worked runs, its table, worlds, and allocations that fail. Longer runs stand in `vectors/`, which the
+//! program and the library run.
 mod memory;
-mod random;
 mod runs;
-mod tables;
 mod told;
 mod worlds;

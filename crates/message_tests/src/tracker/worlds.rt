@@ -2,8 +2,7 @@
 //! counts, in the air and on the ground. Each has a fix, and it is the point of the odd grid nearest to where the
 //! sender stands.
 use super::told::Told;
-use crate::rows::read_position;
-use crate::samples::{AIR, sent_in_air, sent_on_ground};
+use crate::samples::{AIR, position, sent_in_air, sent_on_ground};
 use sq_message::Parity;
 use sq_track::{Position, Received, Squitter, TrackFault, Tracker, hear_each};
 use std::alloc::Global;
@@ -28,12 +27,11 @@ fn told_of_odd(tracker: &mut Tracker, even: Squitter, odd: Squitter) -> Told {
 }
 
 // Where a sender stands, the site, and the point of the fix.
-fn read_world(row: &str) -> Option<(Position, Position, Position)> {
-    let mut words = row.split_whitespace();
-    let from = read_position(&mut words)?;
-    let site = read_position(&mut words)?;
-    let point = read_position(&mut words)?;
-    Some((from, site, point))
+#[derive(Clone, Copy)]
+struct World {
+    from: Position,
+    site: Position,
+    point: Position,
 }
 
 fn told_in_air(tracker: &mut Tracker, from: &Position) -> Option<Told> {
@@ -48,36 +46,54 @@ fn told_on_ground(tracker: &mut Tracker, from: &Position) -> Option<Told> {
     Some(told_of_odd(tracker, even, odd))
 }
 
-fn assert_fixed_in_air(rt: &impl Abort, alloc: Global, row: &str) -> Result<(), Fail> {
-    let (from, site, point) = read_world(row).expect(rt, "a world");
-    let mut tracker = Tracker::new(alloc, 1, 10, Some(site))?;
-    assert!(rt; told_in_air(&mut tracker, &from) == Some(Told::Fix(point)));
+fn assert_fixed_in_air(rt: &impl Abort, alloc: Global, world: World) -> Result<(), Fail> {
+    let mut tracker = Tracker::new(alloc, 1, 10, Some(world.site))?;
+    assert!(rt; told_in_air(&mut tracker, &world.from) == Some(Told::Fix(world.point)));
     Ok(())
 }
 
-fn assert_fixed_on_ground(rt: &impl Abort, alloc: Global, row: &str) -> Result<(), Fail> {
-    let (from, site, point) = read_world(row).expect(rt, "a world");
-    let mut tracker = Tracker::new(alloc, 1, 10, Some(site))?;
-    assert!(rt; told_on_ground(&mut tracker, &from) == Some(Told::Fix(point)));
+fn assert_fixed_on_ground(rt: &impl Abort, alloc: Global, world: World) -> Result<(), Fail> {
+    let mut tracker = Tracker::new(alloc, 1, 10, Some(world.site))?;
+    assert!(rt; told_on_ground(&mut tracker, &world.from) == Some(Told::Fix(world.point)));
     Ok(())
 }
 
 #[test]
 fn fixes_over_the_180th_meridian(rt: HostRuntime) -> Result<(), Fail> {
-    assert_fixed_in_air(&rt, rt.alloc(), "0 180  1 -179  0 -180")?;
-    assert_fixed_on_ground(&rt, rt.alloc(), "0 180  1 -179  0 -180")
+    let world = World {
+        from: position(&rt, (0, 1), (180, 1)),
+        site: position(&rt, (1, 1), (-179, 1)),
+        point: position(&rt, (0, 1), (-180, 1)),
+    };
+    assert_fixed_in_air(&rt, rt.alloc(), world)?;
+    assert_fixed_on_ground(&rt, rt.alloc(), world)
 }
 
 #[test]
 fn fixes_at_a_pole(rt: HostRuntime) -> Result<(), Fail> {
-    assert_fixed_in_air(&rt, rt.alloc(), "90 0  90 0  90 0")?;
-    assert_fixed_on_ground(&rt, rt.alloc(), "90 0  90 0  90 0")
+    let pole = position(&rt, (90, 1), (0, 1));
+    let world = World {
+        from: pole,
+        site: pole,
+        point: pole,
+    };
+    assert_fixed_in_air(&rt, rt.alloc(), world)?;
+    assert_fixed_on_ground(&rt, rt.alloc(), world)
 }
 
 // At 87 degrees, from which on there is one zone: the nearest odd latitude is the one below it. That is 1,868,868 of 59
 // times 131,072 steps in 360 degrees, and 7,475,473 of as many in 90 degrees.
 #[test]
 fn fixes_on_a_border_of_zone_counts(rt: HostRuntime) -> Result<(), Fail> {
-    assert_fixed_in_air(&rt, rt.alloc(), "87 180  86 179  672792480/7733248 -180")?;
-    assert_fixed_on_ground(&rt, rt.alloc(), "87 180  86 179  672792570/7733248 -180")
+    let in_air = World {
+        from: position(&rt, (87, 1), (180, 1)),
+        site: position(&rt, (86, 1), (179, 1)),
+        point: position(&rt, (672_792_480, 7_733_248), (-180, 1)),
+    };
+    assert_fixed_in_air(&rt, rt.alloc(), in_air)?;
+    let on_ground = World {
+        point: position(&rt, (672_792_570, 7_733_248), (-180, 1)),
+        ..in_air
+    };
+    assert_fixed_on_ground(&rt, rt.alloc(), on_ground)
 }
