@@ -1,16 +1,20 @@
 -- From a run of any lines to one of `check`.
-use Rattle.std.proofs.Common.{◌≡◌, ◌∙◌, ℕ, List, [], ◌∷◌, Option, Result, Ok, Err, IfOk, IfErr, OnOk, OnErr, ap, subst, refl, inl, inr, true}
+use Rattle.std.proofs.Common.{◌≡◌, ◌++◌, ◌∙◌, ℕ, List, [], ◌∷◌, Option, Result, Ok, Err, IfOk, IfErr, OnOk, OnErr, ap, subst, refl, inl, inr, true}
 use Rattle.std.specs.Prelude.{map}
 use Rattle.std.specs.Io.KnownBytes.{Appends}
 use Rattle.std.specs.List.{concat}
 use Rattle.sq_devices.specs.Changes.{FinishedOnce, Sent, Taken, TookAll, TookPart, TookReported, TookSome, Unfinished, Written}
 use Rattle.sq_devices.specs.Device.{WroteFront}
 use Rattle.sq_message.specs.declared.squitter.Squitter.{Squitter}
-use Rattle.sq_text.specs.Reading.{SquitterReader}
+use Rattle.sq_text.specs.Reading.{IsSquitterReading, SquitterReader}
+use Rattle.sq_text.specs.declared.faults.LineFault.{LineFault}
+use Rattle.sq_text.proofs.OneReading.{one_squitter_reading}
 use Rattle.sq_text.specs.Summary.{summary}
 use Rattle.sq_lines.specs.Lines.{ended_lines, lines_of}
-use Rattle.sq_lines.specs.Content.{Answer, answer_by}
-use Rattle.sq_lines.specs.Answers.{answers_to, texts_of, tally_of}
+use Rattle.sq_lines.specs.Content.{Answer, Content, Long, Empty, Text, answer_by, content}
+use Rattle.sq_lines.specs.Answers.{after_content, answers_to, texts_of, tally_of, verdict_text}
+use Rattle.sq_lines.specs.Outcomes.{HasHeardText, outcome_of}
+use Rattle.sq_lines.specs.declared.faults.Outcome.{Outcome}
 use Rattle.sq_lines.specs.Runs.{HasRun, HasTold, OfLines, StoppedIn}
 use Rattle.sq_lines.specs.declared.faults.Unanswered.TheVariants.{Write}
 use Rattle.sq_lines.specs.declared.faults.Unanswered.TheVariants as unanswereds
@@ -23,11 +27,30 @@ use Rattle.sq_lines.proofs.Running.{prefix_trans}
 use Rattle.sq_lines.proofs.Tallying.{output_prefix}
 use Rattle.sq_commands.specs.Check.{HasChecked, IsChecked, check_manner, check_output, check_tally, check_way}
 
+-- what came before stays the reader
+after-check : (reader : SquitterReader) (stands : Content) → after_content (λ text. reader) reader stands ≡ reader
+after-check reader Long = refl
+after-check reader Empty = refl
+after-check reader (Text text) = refl
+
 -- the answers of a fold that remembers nothing are a map
 answers-check : (reader : SquitterReader) (lines : List (List ℕ))
     → answers_to check_way reader lines ≡ map (answer_by reader.read) lines
 answers-check reader [] = refl
-answers-check reader (line ∷ lines) = ap (λ answers. answer_by reader.read line ∷ answers) (answers-check reader lines)
+answers-check reader (line ∷ lines) =
+    ap (λ next. answer_by reader.read line ∷ answers_to check_way next lines) (after-check reader (content line))
+    ∙ ap (λ answers. answer_by reader.read line ∷ answers) (answers-check reader lines)
+
+-- a text that was answered by itself
+pub text_checked : {State : Type 0} (old new : State) (text before after : List ℕ) (found : Result Squitter LineFault)
+    (outcome : Outcome) → IsSquitterReading text found → outcome ≡ outcome_of found
+    → after ≡ before ++ verdict_text summary found → HasHeardText check_manner outcome text old new before after
+text_checked old new text before after found outcome is became grown past first st =
+    let one : found ≡ past.read text = one_squitter_reading text found (past.read text) is (past.reads text) in (
+      became ∙ ap (λ (r : Result Squitter LineFault). outcome_of r) one,
+      tt,
+      grown ∙ ap (λ r. before ++ verdict_text summary r) one,
+    )
 
 -- `check` keeps no state
 abbrev HasToldChecks : (before after : Option (List ℕ)) → List (List ℕ) → Type 0
@@ -113,8 +136,8 @@ checked (Err RunFaults.Write) input output whole finished unfinished unread unwr
     )
 checked (Err Memory) input output whole finished unfinished unread unwritten unanswered =
     elim (unanswered refl).3 [
-      | inl ended ↦ absurd ended.3
-      | inr last ↦ absurd last.1.3
+      | inl ended ↦ absurd ended.3.2
+      | inr last ↦ absurd last.1.3.2
     ]
 
 -- where the source reports its bytes, the answers are those to all of them

@@ -1,5 +1,6 @@
 -- What is answered to the lines of a log.
-use Rattle.std.proofs.Common.{◌≡◌, ◌≢◌, ◌∙◌, ◌-◌, ◌∷◌, [], ℕ, zero, suc, List, Option, None, Some, Result, Ok, Err, IfErr, IfOk, OnErr, OnOk, length, take, ap, sym, subst, subst₂, refl, inl, inr, arith, true}
+use Rattle.std.proofs.Common.{◌≡◌, ◌≢◌, ◌++◌, ◌∙◌, ◌-◌, Bool, MutBor, false, ◌∷◌, [], ℕ, zero, suc, List, Option, None, Some, Result, Ok, Err, IfErr, IfOk, OnErr, OnOk, length, take, ap, sym, subst, subst₂, refl, inl, inr, arith, true}
+use Rattle.std.proofs.lemmas.Bool.{false≢true}
 use Rattle.std.specs.Io.KnownBytes.{Appends}
 use Rattle.std.specs.List.{concat}
 use Rattle.sq_angle.specs.Decimal.{DecimalWriter}
@@ -8,9 +9,14 @@ use Rattle.sq_devices.specs.Device.{IsPrefixOf}
 use Rattle.sq_devices.proofs.Ends.{took_reported}
 use Rattle.sq_text.specs.declared.faults.LineFault.{LineFault}
 use Rattle.sq_text.specs.declared.timed.TimedSquitter.{TimedSquitter}
+use Rattle.sq_text.specs.Faults.{fault_text}
 use Rattle.sq_text.specs.Timed.{IsTimedReading, TimedReader}
-use Rattle.sq_lines.specs.Answers.{answers_to, past_after, tally_of, texts_of}
-use Rattle.sq_lines.specs.Content.{Answer, Content, Text, answer_by, content}
+use Rattle.sq_text.proofs.TimedReadings.{one_timed_reading}
+use Rattle.sq_lines.specs.Answers.{after_content, after_line, answer_line, answers_to, past_after, tally_of, texts_of, verdict_text}
+use Rattle.sq_lines.specs.Outcomes.{HasHeardText, IsTextAnswered, outcome_of}
+use Rattle.sq_lines.specs.declared.faults.Outcome.{Outcome}
+use Rattle.sq_lines.specs.declared.faults.Outcome.TheVariants.{Good, Refused, NoMemory}
+use Rattle.sq_lines.specs.Content.{Answer, Content, Long, Empty, Text, answer_by, answer_content, content}
 use Rattle.sq_lines.specs.Lines.{ended_lines, lines_of}
 use Rattle.sq_lines.specs.Runs.{HasRun, HasTold, HasToldPart, OfLines, StoppedIn, but_last}
 use Rattle.sq_lines.specs.declared.faults.RunFault.{RunFault}
@@ -29,8 +35,9 @@ use Rattle.sq_track.proofs.Histories.OneReply.{one_reply}
 use Rattle.sq_track.proofs.Histories.SomeAnswer.{some_reply}
 use Rattle.sq_commands.specs.declared.heard.HeardFrom.{HeardFrom}
 use Rattle.sq_commands.specs.Heard.{heard_text}
-use Rattle.sq_commands.specs.Track.{HasTracked, IsTracked}
-use Rattle.sq_commands.specs.Tracking.{AreHeardLines, HasHeard, IsHeardLine, IsTimedLine, IsTracking, Replier, Tracking, WroteIntoLast, answer_heard, found_of, past_heard, past_with, reply_by, track_manner, track_way}
+use Rattle.sq_commands.specs.declared.track.Hearing.{Hearing}
+use Rattle.sq_commands.specs.Track.{HasTracked, IsTracked, hearing_manner}
+use Rattle.sq_commands.specs.Tracking.{AreHeardLines, HasHeard, IsHeardAs, IsHeardLine, IsNewPosition, IsTracking, IsWelcome, Replier, Tracking, WroteIntoLast, answer_read, found_of, past_read, past_with, reply_by, track_manner, track_way}
 
 history_with : (past : Tracking) (timed : TimedSquitter) (reply : Result Heard TrackFault)
     (is : IsReply past.settings past.history timed.moment timed.squitter reply)
@@ -45,14 +52,14 @@ settings_with past timed (Ok heard) is = refl
 settings_with past timed (Err fault) is = refl
 
 -- the tracker's reply is the one by what came before
-pub heard_line : (past : Tracking) (timed : TimedSquitter) (verdict : Result HeardFrom LineFault) (new : Held)
+pub timed_heard : (past : Tracking) (timed : TimedSquitter) (outcome : Outcome) (new : Held)
     (reply : Result Heard TrackFault)
     → IsReply past.settings past.history timed.moment timed.squitter reply → reply ≢ Err track_faults.Memory
-    → verdict ≡ found_of timed reply
+    → outcome ≡ outcome_of (found_of timed reply)
     → StandsFor new (history_after past.history timed.moment timed.squitter reply) → settings new ≡ past.settings
-    → (let answer : Answer HeardFrom = Some verdict in answer ≡ answer_heard past (Some (Ok timed)))
-    × IsTracking new (past_heard past (Some (Ok timed)))
-heard_line past timed verdict new reply is remembers found stands same =
+    → (outcome ≡ outcome_of (answer_read past (Ok timed))) × IsTracking new (past_read past (Ok timed))
+    × (found_of timed reply ≡ answer_read past (Ok timed))
+timed_heard past timed outcome new reply is remembers became stands same =
     let by = past.replier.replies past.settings past.history past.accepted timed.moment timed.squitter in
     let one : reply ≡ reply_by past timed =
     one_reply past.settings past.history timed.moment timed.squitter reply (reply_by past timed) remembers
@@ -61,16 +68,65 @@ heard_line past timed verdict new reply is remembers found stands same =
     ≡ (past_with past timed (reply_by past timed) by).history =
     ap (history_after past.history timed.moment timed.squitter) one
     ∙ sym (history_with past timed (reply_by past timed) by) in (
-      ap Some (found ∙ ap (found_of timed) one),
+      became ∙ ap (λ r. outcome_of (found_of timed r)) one,
       (subst (StandsFor new) after stands, same ∙ sym (settings_with past timed (reply_by past timed) by)),
+      ap (found_of timed) one,
     )
 
--- a text that is read as a squitter with its moment spells it
-pub spelled : (text line : List ℕ) (read : Result TimedSquitter LineFault)
-    → (let stands : Content = Text text in stands ≡ content line)
-    → IsTimedReading text read → IfOk read (λ timed. IsTimedLine line timed)
-spelled text line (Ok timed) stands is = (text, sym stands, is)
-spelled text line (Err fault) stands is = tt
+-- ---- texts
+
+is_heard : Outcome → Bool
+is_heard Good = true
+is_heard Refused = true
+is_heard NoMemory = false
+
+good_heard : Good ≢ NoMemory
+unfolding is_heard
+good_heard e = false≢true (sym (ap is_heard e))
+
+refused_heard : Refused ≢ NoMemory
+unfolding is_heard
+refused_heard e = false≢true (sym (ap is_heard e))
+
+-- the same borrow of another tracker
+abbrev with_tracker : MutBor Held → Held → Hearing
+with_tracker lent tracker = record { tracker = record lent { now = tracker } }
+
+module _ (text : List ℕ) (timed : TimedSquitter) (lent : MutBor Held) (new : Held) (before after : List ℕ)
+    (spells : IsTimedReading text (Ok timed)) (same : settings new ≡ settings lent.now) where
+  timed_text : (outcome : Outcome) → IsHeardAs timed outcome lent.now new before after
+      → HasHeardText hearing_manner outcome text (record { tracker = lent }) (with_tracker lent new) before after
+  timed_text outcome heard past first st =
+      let h = heard past.history st.0 in
+      let one : Ok timed ≡ past.reader.read text =
+      one_timed_reading text (Ok timed) (past.reader.read text) spells (past.reader.reads text) in
+      let is = subst (λ (s : Settings). IsReply s past.history timed.moment timed.squitter h.0) st.1 h.1 in
+      let t = timed_heard past timed outcome new h.0 is h.2 h.3 h.4 (same ∙ st.1) in
+      subst (λ (read : Result TimedSquitter LineFault). (outcome ≡ outcome_of (answer_read past read))
+      × IsTracking new (past_read past read)
+      × (after ≡ before ++ verdict_text (heard_text first.decimals) (answer_read past read))) one
+      (t.0, t.1, h.5 first.decimals ∙ ap (λ v. before ++ verdict_text (heard_text first.decimals) v) t.2)
+
+  -- a text that spells a squitter is heard as `hear` says
+  pub text_heard : (outcome : Outcome) → (outcome ≢ NoMemory → IsHeardAs timed outcome lent.now new before after)
+      → (outcome ≡ NoMemory → (new ≡ lent.now) × IsNewPosition lent.now timed.squitter × IsWelcome lent.now timed)
+      → IsTextAnswered hearing_manner outcome text (record { tracker = lent }) (with_tracker lent new) before after
+  text_heard Good heard unheard = timed_text Good (heard good_heard)
+  text_heard Refused heard unheard = timed_text Refused (heard refused_heard)
+  text_heard NoMemory heard unheard =
+      let none = unheard refl in (ap (with_tracker lent) none.0, (timed, spells, none.1, none.2))
+
+-- a text at fault is refused, and the tracker stays
+pub text_refused : (text : List ℕ) (fault : LineFault) (client : Hearing) (before after : List ℕ)
+    → IsTimedReading text (Err fault) → after ≡ before ++ fault_text fault
+    → HasHeardText hearing_manner Refused text client client before after
+text_refused text fault client before after is grown past first st =
+    let one : Err fault ≡ past.reader.read text =
+    one_timed_reading text (Err fault) (past.reader.read text) is (past.reader.reads text) in
+    let refused : Outcome = Refused in
+    subst (λ (read : Result TimedSquitter LineFault). (refused ≡ outcome_of (answer_read past read))
+    × IsTracking client.tracker.now (past_read past read)
+    × (after ≡ before ++ verdict_text (heard_text first.decimals) (answer_read past read))) one (refl, st, grown)
 
 -- ---- many lines
 
@@ -81,6 +137,31 @@ replier = record {
   replies = λ s h accepted m q. (some_reply s h m q accepted).1;
   remembers = λ s h accepted m q. (some_reply s h m q accepted).2;
 }
+
+-- what came before, after what was read of a line
+abbrev past_heard : Tracking → Answer TimedSquitter → Tracking
+past_heard past None = past
+past_heard past (Some read) = past_read past read
+
+-- the answer to what was read of a line
+abbrev answer_heard : Tracking → Answer TimedSquitter → Answer HeardFrom
+answer_heard past None = None
+answer_heard past (Some read) = Some (answer_read past read)
+
+-- by what stands on a line it is the same
+after-heard : (past : Tracking) (stands : Content)
+    → after_content (λ text. past_read past (past.reader.read text)) past stands
+    ≡ past_heard past (answer_content past.reader.read stands)
+after-heard past Long = refl
+after-heard past Empty = refl
+after-heard past (Text text) = refl
+
+answer-heard : (past : Tracking) (stands : Content)
+    → answer_content (λ text. answer_read past (past.reader.read text)) stands
+    ≡ answer_heard past (answer_content past.reader.read stands)
+answer-heard past Long = refl
+answer-heard past Empty = refl
+answer-heard past (Text text) = refl
 
 -- the answer to a line by what came before it is one by the history
 line_heard : (past : Tracking) (read : Answer TimedSquitter)
@@ -123,16 +204,19 @@ pub lines_heard : (past : Tracking) (lines : List (List ℕ))
 lines_heard past [] = (refl, refl)
 lines_heard past (line ∷ lines) =
     let read = answer_by past.reader.read line in
-    let next = past_heard past read in
+    let next = after_line track_way past line in
+    let same : next ≡ past_heard past read = after-heard past (content line) in
     let rest = lines_heard next lines in
     let answers = answers_to track_way next lines in
     let end = (past_after track_way next lines).history in (
-      answer_heard past read,
+      answer_line track_way past line,
       next.history,
       answers,
-      line_heard past read,
+      subst₂ (λ (a : Answer HeardFrom) (h : History). IsHeardLine past.settings past.history read a h)
+          (sym (answer-heard past (content line))) (sym (ap (λ (p : Tracking). p.history) same)) (line_heard past read),
       subst₂ (λ (r : TimedReader) (s : Settings). AreHeardLines r s next.history lines answers end)
-          (reader_heard past read) (settings_heard past read) rest,
+          (ap (λ (p : Tracking). p.reader) same ∙ reader_heard past read)
+          (ap (λ (p : Tracking). p.settings) same ∙ settings_heard past read) rest,
       refl,
     )
 
@@ -158,14 +242,12 @@ answers-take : (past : Tracking) (n : ℕ) (lines : List (List ℕ))
 answers-take past zero lines = refl
 answers-take past (suc n) [] = refl
 answers-take past (suc n) (line ∷ lines) =
-    let read = answer_by past.reader.read line in
-    ap (λ answers. answer_heard past read ∷ answers) (answers-take (past_heard past read) n lines)
+    ap (λ answers. answer_line track_way past line ∷ answers) (answers-take (after_line track_way past line) n lines)
 
 answers-length : (past : Tracking) (lines : List (List ℕ)) → length (answers_to track_way past lines) ≡ length lines
 answers-length past [] = refl
 answers-length past (line ∷ lines) =
-    let read = answer_by past.reader.read line in
-    omega (arith, answers-length (past_heard past read) lines)
+    omega (arith, answers-length (after_line track_way past line) lines)
 
 pub told-track : (old new : Held) (before after : Option (List ℕ)) (lines : List (List ℕ))
     → HasTold track_manner old new (Appends before after) lines

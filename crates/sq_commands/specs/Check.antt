@@ -23,14 +23,9 @@ check_output reader lines = texts_of summary (map (answer_by reader.read) lines)
 abbrev pub check_tally : SquitterReader → List (List ℕ) → Tally
 check_tally reader lines = tally_of (map (answer_by reader.read) lines)
 
--- `check` answers each line by itself: what came before it is nothing but the reader
+-- `check` answers each text by itself: what came before it is nothing but the reader
 abbrev pub check_way : Answerer SquitterReader Squitter
-check_way =
-    record {
-      answer = λ reader line. answer_by reader.read line;
-      after = λ reader line. reader;
-      text = λ reader. summary;
-    }
+check_way = record { answer = λ reader. reader.read; after = λ reader text. reader; text = λ reader. summary }
 
 -- every state of `check` stands for every reader
 abbrev pub IsChecking : {State : Type 0} → State → SquitterReader → Type 0
@@ -38,7 +33,7 @@ IsChecking state reader = Unit {0}
 
 -- the same, of states that want no memory
 abbrev pub check_manner : {State : Type 0} → Manner State SquitterReader Squitter
-check_manner = record { stands_for = IsChecking; way = check_way; wants = λ state line. ⊥ }
+check_manner = record { stands_for = IsChecking; way = check_way; wants = λ state text. ⊥ }
 
 -- the answers to these lines were written
 abbrev pub WroteChecks : Written → List (List ℕ) → Type 0

@@ -3,7 +3,7 @@ use Rattle.std.specs.Prelude.{◌≡◌, ◌≤◌, ◌<◌, ◌^◌, ◌⊎◌,
 use Rattle.sq_devices.specs.Changes.{FinishedOnce, Sent, Taken, TookAll, TookNothing, TookPart, TookSome, Unfinished, Written, Wrote, WroteNothing}
 use Rattle.sq_devices.specs.Device.{IsPrefixOf}
 use Rattle.sq_text.specs.Timed.{IsMomentText}
-use Rattle.sq_lines.specs.Answers.{tally_of}
+use Rattle.sq_lines.specs.Answers.{Manner, WantsAt, tally_of}
 use Rattle.sq_lines.specs.Lines.{ended_lines, lines_of}
 use Rattle.sq_lines.specs.Runs.{OfLines, with_next}
 use Rattle.sq_lines.specs.declared.faults.RunFault.{RunFault}
@@ -19,7 +19,9 @@ use Rattle.sq_commands.specs.Arguments.{IsFaultUnless, IsSiteFault, IsSiteWords}
 use Rattle.sq_commands.specs.Check.{status_of}
 use Rattle.sq_commands.specs.Faults.{IsMisuse}
 use Rattle.sq_commands.specs.Outputs.{Effects, Reported, broken_text}
-use Rattle.sq_commands.specs.Tracking.{HasHeard, WantsMemory, WroteIntoLast}
+use Rattle.sq_commands.specs.declared.heard.HeardFrom.{HeardFrom}
+use Rattle.sq_commands.specs.declared.track.Hearing.{Hearing}
+use Rattle.sq_commands.specs.Tracking.{HasHeard, Tracking, WroteIntoLast, track_manner}
 
 -- ---- a run over a log
 
@@ -51,10 +53,18 @@ IsTracked (Err Read) input output old new =
     Unfinished output × TookPart input (λ bytes. HasAnswered output old new (ended_lines bytes))
 -- where there was no memory for a line, the tracker may want some for it, and those before it were heard and answered
 IsTracked (Err Memory) input output old new = Unfinished output
-    × TookSome input (OfLines input (BeforeOneOf (WantsMemory new) (HasAnswered output old new)))
+    × TookSome input (OfLines input (BeforeOneOf (WantsAt track_manner new) (HasAnswered output old new)))
 -- where the sink failed, some lines were heard, and all their answers written but for the end of the last one's
 IsTracked (Err Write) input output old new = (output.failed ≡ true) × Unfinished output × TookSome input (OfLines input
     (SomeOf (λ lines. HasHeard old new lines (λ text answers. WroteIntoLast output text answers))))
+
+-- how `track` answers texts, by the tracker that it borrows
+abbrev pub hearing_manner : Manner Hearing Tracking HeardFrom
+hearing_manner = record {
+  stands_for = λ client. track_manner.stands_for client.tracker.now;
+  way = track_manner.way;
+  wants = λ client. track_manner.wants client.tracker.now;
+}
 
 -- ---- the arguments
 

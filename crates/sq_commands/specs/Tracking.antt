@@ -1,5 +1,5 @@
 -- What is answered to the lines of a log, each by the squitters that were heard before it.
-use Rattle.std.specs.Prelude.{◌≡◌, ◌≢◌, ◌==◌, ℕ, List, [], ◌∷◌, find, length, take, ◌-◌, None, Some, Result, Ok, Err}
+use Rattle.std.specs.Prelude.{◌≡◌, ◌≢◌, ◌==◌, ◌++◌, ℕ, List, [], ◌∷◌, find, length, take, ◌-◌, None, Some, Result, Ok, Err}
 use Rattle.sq_angle.specs.Decimal.{DecimalWriter}
 use Rattle.sq_devices.specs.Changes.{Written}
 use Rattle.sq_devices.specs.Device.{AppendsOrHides, IsPrefixOf}
@@ -10,8 +10,10 @@ use Rattle.sq_text.specs.declared.faults.LineFault.{LineFault}
 use Rattle.sq_text.specs.declared.faults.LineFault.TheVariants as line_faults
 use Rattle.sq_text.specs.declared.timed.TimedSquitter.{TimedSquitter}
 use Rattle.sq_text.specs.Timed.{IsTimedText, TimedReader}
-use Rattle.sq_lines.specs.Content.{Answer, Text, answer_by, content}
-use Rattle.sq_lines.specs.Answers.{Answerer, Manner, texts_of}
+use Rattle.sq_lines.specs.Content.{Answer, answer_by}
+use Rattle.sq_lines.specs.Answers.{Answerer, Manner, texts_of, verdict_text}
+use Rattle.sq_lines.specs.Outcomes.{outcome_of}
+use Rattle.sq_lines.specs.declared.faults.Outcome.{Outcome}
 use Rattle.sq_track.specs.declared.heard.Heard.{Heard}
 use Rattle.sq_track.specs.declared.heard.TrackFault.{TrackFault}
 use Rattle.sq_track.specs.declared.heard.TrackFault.TheVariants.{Memory, MomentBack}
@@ -80,10 +82,9 @@ pub record Tracking : Type 0 where
 abbrev pub reply_by : Tracking → TimedSquitter → Result Heard TrackFault
 reply_by past timed = past.replier.reply past.settings past.history past.accepted timed.moment timed.squitter
 
-abbrev pub answer_heard : Tracking → Answer TimedSquitter → Answer HeardFrom
-answer_heard past None = None
-answer_heard past (Some (Err fault)) = Some (Err fault)
-answer_heard past (Some (Ok timed)) = Some (found_of timed (reply_by past timed))
+abbrev pub answer_read : Tracking → Result TimedSquitter LineFault → Result HeardFrom LineFault
+answer_read past (Err fault) = Err fault
+answer_read past (Ok timed) = found_of timed (reply_by past timed)
 
 -- an accepted call goes in front
 abbrev pub past_with : (past : Tracking) (timed : TimedSquitter) (reply : Result Heard TrackFault)
@@ -95,28 +96,23 @@ past_with past timed (Ok heard) is =
     }
 past_with past timed (Err fault) is = past
 
-abbrev pub past_heard : Tracking → Answer TimedSquitter → Tracking
-past_heard past None = past
-past_heard past (Some (Err fault)) = past
-past_heard past (Some (Ok timed)) =
+abbrev pub past_read : Tracking → Result TimedSquitter LineFault → Tracking
+past_read past (Err fault) = past
+past_read past (Ok timed) =
     past_with past timed (reply_by past timed)
     (past.replier.replies past.settings past.history past.accepted timed.moment timed.squitter)
 
--- how `track` answers lines
+-- how `track` answers texts
 abbrev pub track_way : Answerer Tracking HeardFrom
 track_way = record {
-  answer = λ past line. answer_heard past (answer_by past.reader.read line);
-  after = λ past line. past_heard past (answer_by past.reader.read line);
+  answer = λ past text. answer_read past (past.reader.read text);
+  after = λ past text. past_read past (past.reader.read text);
   text = λ past. heard_text past.decimals;
 }
 
 -- the tracker stands for the history, under the settings
 abbrev pub IsTracking : Held → Tracking → Type 0
 IsTracking t past = StandsFor t past.history × (settings t ≡ past.settings)
-
--- the line is a text that spells the squitter with its moment
-abbrev pub IsTimedLine : List ℕ → TimedSquitter → Type 0
-IsTimedLine line timed = (text : List ℕ) × (content line ≡ Text text) × IsTimedText text timed
 
 -- the squitter is a position, of an address that is not present
 abbrev pub IsNewPosition : Held → Squitter → Type 0
@@ -127,12 +123,21 @@ IsNewPosition t squitter = IsPosition (squitter_parts squitter).me
 abbrev pub IsWelcome : Held → TimedSquitter → Type 0
 IsWelcome t timed = (h : History) → StandsFor t h → IsAcceptable (settings t) h timed.moment timed.squitter
 
--- the tracker may want memory for the line: it spells a position of an address that is not present, and that would be
+-- the tracker may want memory for the text: it spells a position of an address that is not present, and that would be
 -- accepted
 abbrev pub WantsMemory : Held → List ℕ → Type 0
-WantsMemory t line =
-    (timed : TimedSquitter) × IsTimedLine line timed × IsNewPosition t timed.squitter × IsWelcome t timed
+WantsMemory t text =
+    (timed : TimedSquitter) × IsTimedText text timed × IsNewPosition t timed.squitter × IsWelcome t timed
 
--- how `track` answers lines, by its tracker
+-- how `track` answers texts, by its tracker
 abbrev pub track_manner : Manner Held Tracking HeardFrom
 track_manner = record { stands_for = IsTracking; way = track_way; wants = WantsMemory }
+
+-- a squitter was heard: by each history that the tracker stood for there is a reply, and it is what was told; the
+-- tracker stands for the history after it
+abbrev pub IsHeardAs : TimedSquitter → Outcome → (old new : Held) → (before after : List ℕ) → Type 0
+IsHeardAs timed outcome old new before after = (h : History) → StandsFor old h → (reply : Result Heard TrackFault)
+    × IsReply (settings old) h timed.moment timed.squitter reply × (reply ≢ Err Memory)
+    × (outcome ≡ outcome_of (found_of timed reply))
+    × StandsFor new (history_after h timed.moment timed.squitter reply)
+    × ((decimals : DecimalWriter) → after ≡ before ++ verdict_text (heard_text decimals) (found_of timed reply))

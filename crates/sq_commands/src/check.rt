@@ -1,8 +1,7 @@
 //! The command `check`: an answer to each line that is not empty.
-ghost use Rattle.std.specs.Prelude.{◌≡◌, List, ℕ, IfOk};
+ghost use Rattle.std.specs.Prelude.{◌≡◌, IfOk};
 ghost use Rattle.sq_devices.specs.Changes.{TookReported, taken_from, written_on};
-ghost use Rattle.sq_lines.specs.Held.{Holds};
-ghost use Rattle.sq_lines.specs.Content.{answer_by};
+ghost use Rattle.sq_message.specs.declared.squitter.Squitter.{Squitter};
 ghost use Rattle.sq_text.specs.Reading.{SquitterReader};
 ghost use Rattle.sq_commands.specs.Check.{HasChecked, IsCheckRun, IsChecked, check_manner, status_of};
 ghost use Rattle.sq_commands.specs.Outputs.{effects, outputs};
@@ -10,45 +9,35 @@ ghost use Rattle.sq_commands.specs.Outputs.{effects, outputs};
 use crate::reports::break_off;
 use crate::status::Status;
 use sq_devices::{Sink, Source};
-use sq_lines::{
-    Answering, Cutter, Line, LineText, OutOfMemory, RunFault, Tally, content_of, run_lines,
-};
-use sq_message::Squitter;
-use sq_text::{LineFault, push_summary, read_squitter};
+use sq_lines::{Answering, LineText, Outcome, RunFault, Tally, run_lines};
+use sq_text::{push_fault, push_summary, read_squitter};
 
-// Answers each line by itself.
+// Answers each text by itself.
 #[derive(Drop)]
 struct Checking;
 
 impl Answering for Checking {
-    type State = Checking;
-
-    type Found = Squitter;
-
     ghost Past = { SquitterReader };
+
+    ghost Found = { Squitter };
+
+    ghost Lasting = { Unit {0} };
 
     ghost how = { check_manner };
 
-    fn answer(
-        _state: &mut Checking,
-        cutter: &Cutter,
-    ) -> Result<Option<Result<Squitter, LineFault>>, OutOfMemory> {
-        Ok(check_line(cutter))
-    }
+    ghost lasting = { λ client. tt };
 
-    fn push_text(found: Squitter, text: &mut LineText) {
-        push_summary(text, &found);
-    }
-}
-
-// The squitter of the held line, or its fault.
-fn check_line(cutter: &Cutter) -> Option<Result<Squitter, LineFault>>
-    ensures { (line : List ℕ) (reader : SquitterReader) → Holds cutter.now line → result ≡ answer_by reader.read line }
-{
-    match content_of(cutter) {
-        Line::Long => Some(Err(LineFault::LongLine)),
-        Line::Empty => None,
-        Line::Text(text) => Some(read_squitter(text)),
+    fn answer(&mut self, text: &[u8], into: &mut LineText) -> Outcome {
+        match read_squitter(text) {
+            Ok(squitter) => {
+                push_summary(into, &squitter);
+                Outcome::Good
+            }
+            Err(fault) => {
+                push_fault(into, fault);
+                Outcome::Refused
+            }
+        }
     }
 }
 
@@ -65,7 +54,7 @@ pub fn run_check<S: Source, K: Sink>(source: &mut S, sink: &mut K) -> Result<Tal
     ensures reported { IfOk result (λ tally. TookReported (taken_from S.Source source.old source.new)
         (HasChecked tally (written_on K.Sink sink.old sink.new))) }
 {
-    run_lines::<S, K, Checking>(source, sink, &mut Checking)
+    run_lines(source, sink, &mut Checking)
 }
 
 // Answers each line of the input.

@@ -16,7 +16,6 @@ mod reports;
 mod show;
 mod status;
 mod track;
-mod tracking;
 
 pub use check::run_check;
 pub use program::answer;

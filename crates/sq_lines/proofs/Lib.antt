@@ -7,3 +7,4 @@ pub mod Tallying
 pub mod Running
 pub mod Checking
 pub mod Contents
+pub mod Told

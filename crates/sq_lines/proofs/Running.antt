@@ -11,7 +11,7 @@ use Rattle.sq_devices.specs.Calls.{HasPut}
 use Rattle.sq_devices.specs.declared.device.Sink.{Ghosts as SinkGhosts}
 use Rattle.sq_lines.specs.Lines.{is_feed, HasNoFeed, Cuts, ended_lines, lines_of, as_last_line}
 use Rattle.sq_lines.specs.Held.{Held, Holds, GoesOn, empty_line}
-use Rattle.sq_lines.specs.Answers.{answers_to, Manner, past_after, answer_text, output_of, tally_of, noted}
+use Rattle.sq_lines.specs.Answers.{answers_to, Manner, WantsAt, after_line, answer_line, past_after, answer_text, output_of, tally_of, noted}
 use Rattle.sq_lines.specs.Runs.{HasAnswered, HasTold, HasToldPart, StoppedIn}
 use Rattle.sq_lines.specs.declared.faults.Unanswered.{Unanswered}
 use Rattle.sq_lines.specs.declared.faults.Unanswered.TheVariants.{Write, Memory}
@@ -56,15 +56,15 @@ starts how k start sink run number cutter tally = record {
 abbrev pub LineTold : {State Past Found : Type 0} → Manner State Past Found → (old new : LineRun)
     → (now next : State) → (List ℕ → Type 0) → List ℕ → Type 0
 LineTold {Past = Past} how old new now next Wrote line = (past first : Past) → how.stands_for now past
-    → how.stands_for next (how.way.after past line) × (new.tally ≡ noted old.tally (how.way.answer past line))
-    × Wrote (answer_text (how.way.text first) (old.number + 1) (how.way.answer past line))
+    → how.stands_for next (after_line how.way past line) × (new.tally ≡ noted old.tally (answer_line how.way past line))
+    × Wrote (answer_text (how.way.text first) (old.number + 1) (answer_line how.way past line))
 
 -- the same, with a prefix of the text
 abbrev pub LineToldPart : {State Past Found : Type 0} → Manner State Past Found → (old : LineRun)
     → (now next : State) → (a b : Option (List ℕ)) → List ℕ → Type 0
 LineToldPart {Past = Past} how old now next a b line = (past first : Past) → how.stands_for now past
-    → how.stands_for next (how.way.after past line)
-    × WroteFront a b (answer_text (how.way.text first) (old.number + 1) (how.way.answer past line))
+    → how.stands_for next (after_line how.way past line)
+    × WroteFront a b (answer_text (how.way.text first) (old.number + 1) (answer_line how.way past line))
 
 module _ {State Past Found : Type 0} (how : Manner State Past Found) {K : Type 0} (k : SinkGhosts K) (start : State)
     (before a b : K)
@@ -72,10 +72,10 @@ module _ {State Past Found : Type 0} (how : Manner State Past Found) {K : Type 0
     (h : HasAnswered how start (HasPut k before a) old now read) where
   output_through : (past : Past) (line : List ℕ)
       → output_of how.way past h.lines ++ answer_text (how.way.text past) (old.number + 1)
-      (how.way.answer (past_after how.way past h.lines) line) ≡ output_of how.way past (h.lines ++ line ∷ [])
+      (answer_line how.way (past_after how.way past h.lines) line) ≡ output_of how.way past (h.lines ++ line ∷ [])
   output_through past line =
       ap (λ (n : ℕ). output_of how.way past h.lines
-      ++ answer_text (how.way.text past) (n + 1) (how.way.answer (past_after how.way past h.lines) line)) h.number
+      ++ answer_text (how.way.text past) (n + 1) (answer_line how.way (past_after how.way past h.lines) line)) h.number
       ∙ sym (output_push how.way past h.lines line)
 
   pub told_line : (line : List ℕ) → LineTold how old new now next (HasPut k a b) line
@@ -92,7 +92,7 @@ module _ {State Past Found : Type 0} (how : Manner State Past Found) {K : Type 0
       → new.tally ≡ tally_of (answers_to how.way past (h.lines ++ line ∷ []))
   tally_line line more past st =
       let one = more (past_after how.way past h.lines) past (h.told past st).0 in
-      one.1 ∙ ap (λ t. noted t (how.way.answer (past_after how.way past h.lines) line)) (h.tally past st)
+      one.1 ∙ ap (λ t. noted t (answer_line how.way (past_after how.way past h.lines) line)) (h.tally past st)
       ∙ sym (tally_push how.way past h.lines line)
 
   told_part : (line : List ℕ) → LineToldPart how old now next (k.written a) (k.written b) line
@@ -117,11 +117,11 @@ module _ {State Past Found : Type 0} (how : Manner State Past Found) {K : Type 0
 
   -- the line was not answered, or not all of its text was written
   pub stopped_line : (line : List ℕ) (complete : List (List ℕ)) (fault : Unanswered)
-      → (fault ≡ Memory → (next ≡ now) × (k.written b ≡ k.written a) × how.wants now line)
+      → (fault ≡ Memory → (next ≡ now) × (k.written b ≡ k.written a) × WantsAt how now line)
       → ((past first : Past) → how.stands_for now past → fault ≡ Write
-      → how.stands_for next (how.way.after past line)
+      → how.stands_for next (after_line how.way past line)
       × WroteFront (k.written a) (k.written b)
-      (answer_text (how.way.text first) (old.number + 1) (how.way.answer past line)))
+      (answer_text (how.way.text first) (old.number + 1) (answer_line how.way past line)))
       → IsPrefixOf (h.lines ++ line ∷ []) complete
       → StoppedIn fault how start next (k.written before) (k.written b) complete
   stopped_line line complete Memory memory part first =
@@ -129,7 +129,7 @@ module _ {State Past Found : Type 0} (how : Manner State Past Found) {K : Type 0
         h.lines,
         line,
         first,
-        subst (λ (s : State). how.wants s line) (sym same.0) same.2,
+        subst (λ (s : State). WantsAt how s line) (sym same.0) same.2,
         λ past st.
             let told = h.told past st in (
               subst (λ (s : State). how.stands_for s (past_after how.way past h.lines)) (sym same.0) told.0,
@@ -141,11 +141,11 @@ module _ {State Past Found : Type 0} (how : Manner State Past Found) {K : Type 0
       (h.lines ++ line ∷ [], first, told_part line (λ past first st. part past first st refl))
 
   pub stopped_result : (line : List ℕ) (complete : List (List ℕ)) (result : Result (Unit {0}) Unanswered)
-      → IfErr result (λ fault. fault ≡ Memory → (next ≡ now) × (k.written b ≡ k.written a) × how.wants now line)
+      → IfErr result (λ fault. fault ≡ Memory → (next ≡ now) × (k.written b ≡ k.written a) × WantsAt how now line)
       → ((past first : Past) → how.stands_for now past → IfErr result (λ fault. fault ≡ Write
-      → how.stands_for next (how.way.after past line)
+      → how.stands_for next (after_line how.way past line)
       × WroteFront (k.written a) (k.written b)
-      (answer_text (how.way.text first) (old.number + 1) (how.way.answer past line))))
+      (answer_text (how.way.text first) (old.number + 1) (answer_line how.way past line))))
       → IsPrefixOf (h.lines ++ line ∷ []) complete
       → IfErr result (λ fault. StoppedIn fault how start next (k.written before) (k.written b) complete)
   stopped_result line complete (Ok u) memory part first = tt
@@ -245,8 +245,9 @@ module _ {State Past Found : Type 0} {how : Manner State Past Found} {K : Type 0
   pub finished_line : (new : LineRun) (next : State) (b : K) (result : Result (Unit {0}) Unanswered)
       → 0 < length h.rest
       → ((past first : Past) → how.stands_for now past → OnOk result (
-      how.stands_for next (how.way.after past h.rest) × (new.tally ≡ noted old.tally (how.way.answer past h.rest))
-      × HasPut k a b (answer_text (how.way.text first) (old.number + 1) (how.way.answer past h.rest))))
+      how.stands_for next (after_line how.way past h.rest)
+      × (new.tally ≡ noted old.tally (answer_line how.way past h.rest))
+      × HasPut k a b (answer_text (how.way.text first) (old.number + 1) (answer_line how.way past h.rest))))
       → OnOk result (HasTold how start next (HasPut k before b) (lines_of read)
       × ((past : Past) → how.stands_for start past → new.tally ≡ tally_of (answers_to how.way past (lines_of read))))
   finished_line new next b (Err fault) some more = tt

@@ -6,7 +6,7 @@ use Rattle.std.proofs.lemmas.List.{take_at, length_push}
 use Rattle.std.proofs.lemmas.List.Concat.{flat_map-append}
 use Rattle.std.proofs.lemmas.List.Sums.{sum_by_push}
 use Rattle.sq_devices.specs.Device.{IsPrefixOf}
-use Rattle.sq_lines.specs.Answers.{Answerer, past_after, answers_to, answer_text, output_of, texts_of, tally_of, is_good, is_refused, noted}
+use Rattle.sq_lines.specs.Answers.{Answerer, after_line, answer_line, past_after, answers_to, answer_text, output_of, texts_of, tally_of, is_good, is_refused, noted}
 use Rattle.sq_lines.specs.Content.{Answer}
 use Rattle.sq_lines.specs.Runs.{but_last}
 use Rattle.sq_lines.specs.declared.tallies.Tally.{Tally}
@@ -14,17 +14,18 @@ use Rattle.sq_lines.specs.declared.tallies.Tally.{Tally}
 answers_append : {Past Found : Type 0} (way : Answerer Past Found) (past : Past) (xs ys : List (List ℕ))
     → answers_to way past (xs ++ ys) ≡ answers_to way past xs ++ answers_to way (past_after way past xs) ys
 answers_append way past [] ys = refl
-answers_append way past (x ∷ xs) ys = ap (λ l. way.answer past x ∷ l) (answers_append way (way.after past x) xs ys)
+answers_append way past (x ∷ xs) ys =
+    ap (λ l. answer_line way past x ∷ l) (answers_append way (after_line way past x) xs ys)
 
 pub past_push : {Past Found : Type 0} (way : Answerer Past Found) (past : Past) (lines : List (List ℕ)) (line : List ℕ)
-    → past_after way past (lines ++ line ∷ []) ≡ way.after (past_after way past lines) line
+    → past_after way past (lines ++ line ∷ []) ≡ after_line way (past_after way past lines) line
 past_push way past [] line = refl
-past_push way past (x ∷ xs) line = past_push way (way.after past x) xs line
+past_push way past (x ∷ xs) line = past_push way (after_line way past x) xs line
 
 length_answers : {Past Found : Type 0} (way : Answerer Past Found) (past : Past) (lines : List (List ℕ))
     → length (answers_to way past lines) ≡ length lines
 length_answers way past [] = refl
-length_answers way past (x ∷ xs) = omega (arith, length_answers way (way.after past x) xs)
+length_answers way past (x ∷ xs) = omega (arith, length_answers way (after_line way past x) xs)
 
 enumerate_from_append : {X : Type 0} (n : ℕ) (xs ys : List X)
     → enumerate_from n (xs ++ ys) ≡ enumerate_from n xs ++ enumerate_from (n + length xs) ys
@@ -56,11 +57,11 @@ output_append {Found = Found} way past xs ys =
 pub output_push : {Past Found : Type 0} (way : Answerer Past Found) (past : Past) (lines : List (List ℕ))
     (line : List ℕ)
     → output_of way past (lines ++ line ∷ []) ≡ output_of way past lines
-    ++ answer_text (way.text past) (length lines + 1) (way.answer (past_after way past lines) line)
+    ++ answer_text (way.text past) (length lines + 1) (answer_line way (past_after way past lines) line)
 output_push way past lines line =
     output_append way past lines (line ∷ [])
     ∙ ap (λ l. output_of way past lines ++ l)
-    (append-nil (answer_text (way.text past) (length lines + 1) (way.answer (past_after way past lines) line)))
+    (append-nil (answer_text (way.text past) (length lines + 1) (answer_line way (past_after way past lines) line)))
 
 -- more lines leave the output for the first ones as it is
 pub output_prefix : {Past Found : Type 0} (way : Answerer Past Found) (past : Past) (lines more : List (List ℕ))
@@ -116,12 +117,12 @@ noted_by_counts good refused (Some (Err fault)) =
 
 pub tally_push : {Past Found : Type 0} (way : Answerer Past Found) (past : Past) (lines : List (List ℕ)) (line : List ℕ)
     → tally_of (answers_to way past (lines ++ line ∷ []))
-    ≡ noted (tally_of (answers_to way past lines)) (way.answer (past_after way past lines) line)
+    ≡ noted (tally_of (answers_to way past lines)) (answer_line way (past_after way past lines) line)
 unfolding tally_of
 tally_push {Found = Found} way past lines line =
     let tally : ℕ → ℕ → Tally = λ g r. record { good = g; refused = r } in
     let first : List (Answer Found) = answers_to way past lines in
-    let answer : Answer Found = way.answer (past_after way past lines) line in
+    let answer : Answer Found = answer_line way (past_after way past lines) line in
     ap (λ (answers : List (Answer Found)). tally (count_by is_good answers) (count_by is_refused answers))
     (answers_append way past lines (line ∷ []))
     ∙ ap₂ tally (count_by_more is_good first answer) (count_by_more is_refused first answer)

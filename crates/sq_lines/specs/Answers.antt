@@ -1,34 +1,52 @@
 -- What is answered to lines, each by what came before it.
-use Rattle.std.specs.Prelude.{◌+◌, ◌++◌, ℕ, Bool, List, [], ◌∷◌, None, Some, Result, Ok, Err, codes, decimal, true, false, count_by}
+use Rattle.std.specs.Prelude.{◌≡◌, ◌+◌, ◌++◌, ℕ, Bool, List, [], ◌∷◌, None, Some, Result, Ok, Err, codes, decimal, true, false, count_by}
 use Rattle.std.specs.List.{flat_map, enumerate_from}
 use Rattle.sq_text.specs.declared.faults.LineFault.{LineFault}
 use Rattle.sq_text.specs.Faults.{fault_text}
-use Rattle.sq_lines.specs.Content.{Answer}
+use Rattle.sq_lines.specs.Content.{Answer, Content, Long, Empty, Text, answer_by, content}
 use Rattle.sq_lines.specs.declared.tallies.Tally.{Tally}
 
--- how lines are answered: the answer to a line by the past, the past after it, and the text of what was found; any past
+-- how texts are answered: the answer to a text by the past, the past after it, and the text of what was found; any past
 -- may say how that is spelled
 pub record Answerer (Past Found : Type 0) : Type 0 where
-  pub answer : Past → List ℕ → Answer Found
+  pub answer : Past → List ℕ → Result Found LineFault
   pub after : Past → List ℕ → Past
   pub text : Past → Found → List ℕ
 
--- how a state answers lines: what pasts it stands for, how lines are answered by these, and at which lines it may want
+-- how a state answers texts: what pasts it stands for, how texts are answered by these, and at which texts it may want
 -- memory
 pub record Manner (State Past Found : Type 0) : Type 1 where
   pub stands_for : State → Past → Type 0
   pub way : Answerer Past Found
   pub wants : State → List ℕ → Type 0
 
+-- the answer to a line by the past: a long one is at fault, an empty one is not answered
+abbrev pub answer_line : {Past Found : Type 0} → Answerer Past Found → Past → List ℕ → Answer Found
+answer_line way past line = answer_by (way.answer past) line
+
+-- only a text changes the past
+abbrev pub after_content : {Past : Type 0} → (List ℕ → Past) → Past → Content → Past
+after_content after past Long = past
+after_content after past Empty = past
+after_content after past (Text text) = after text
+
+-- the past after a line
+abbrev pub after_line : {Past Found : Type 0} → Answerer Past Found → Past → List ℕ → Past
+after_line way past line = after_content (way.after past) past (content line)
+
+-- the state may want memory for the text of this line
+abbrev pub WantsAt : {State Past Found : Type 0} → Manner State Past Found → State → List ℕ → Type 0
+WantsAt how state line = (text : List ℕ) × (content line ≡ Text text) × how.wants state text
+
 -- the past after these lines
 abbrev pub past_after : {Past Found : Type 0} → Answerer Past Found → Past → List (List ℕ) → Past
 past_after way past [] = past
-past_after way past (line ∷ lines) = past_after way (way.after past line) lines
+past_after way past (line ∷ lines) = past_after way (after_line way past line) lines
 
 -- the answers to these lines, each by the past before it
 abbrev pub answers_to : {Past Found : Type 0} → Answerer Past Found → Past → List (List ℕ) → List (Answer Found)
 answers_to way past [] = []
-answers_to way past (line ∷ lines) = way.answer past line ∷ answers_to way (way.after past line) lines
+answers_to way past (line ∷ lines) = answer_line way past line ∷ answers_to way (after_line way past line) lines
 
 -- the text of what was found, or of the fault
 abbrev pub verdict_text : {Found : Type 0} → (Found → List ℕ) → Result Found LineFault → List ℕ

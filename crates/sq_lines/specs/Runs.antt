@@ -6,7 +6,7 @@ use Rattle.sq_devices.specs.Changes.{GotAtMost, Taken}
 use Rattle.sq_devices.specs.Device.{AppendsOrHides, IsPrefixOf}
 use Rattle.sq_lines.specs.Lines.{Cuts, ended_lines, lines_of}
 use Rattle.sq_lines.specs.Held.{GoesOn}
-use Rattle.sq_lines.specs.Answers.{answers_to, Answerer, Manner, past_after, output_of, tally_of}
+use Rattle.sq_lines.specs.Answers.{answers_to, Answerer, Manner, WantsAt, past_after, output_of, tally_of}
 use Rattle.sq_lines.specs.declared.faults.Unanswered.{Unanswered}
 use Rattle.sq_lines.specs.declared.faults.Unanswered.TheVariants.{Write, Memory}
 use Rattle.sq_lines.specs.declared.runs.LineRun.{LineRun}
@@ -50,7 +50,7 @@ abbrev pub StoppedIn : {State Past Found : Type 0} → Unanswered → Manner Sta
 StoppedIn Write how start now before after complete =
     (lines : List (List ℕ)) × IsPrefixOf lines complete × HasToldPart how start now before after lines
 StoppedIn Memory how start now before after complete =
-    (lines : List (List ℕ)) × (next : List ℕ) × IsPrefixOf (with_next lines next) complete × how.wants now next
+    (lines : List (List ℕ)) × (next : List ℕ) × IsPrefixOf (with_next lines next) complete × WantsAt how now next
     × HasTold how start now (Appends before after) lines
 
 -- the run has read these bytes, and the lines that they end were answered

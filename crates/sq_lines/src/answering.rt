@@ -1,73 +1,88 @@
-//! What answers lines, one after the other.
-ghost use Rattle.std.specs.Prelude.{◌≡◌, ◌+◌, ◌≤◌, ◌++◌, [], List, ℕ, IfOk, OnErr, Some};
+//! What answers texts, one after the other, and by that lines.
+ghost use Rattle.std.specs.Prelude.{◌≡◌, ◌+◌, ◌≤◌, ◌++◌, [], List, ℕ, codes, decimal};
 ghost use Rattle.arrayvec.specs.ArrayString.{array_string_len};
+ghost use Rattle.sq_lines.specs.Answers.{Manner};
 ghost use Rattle.sq_lines.specs.Held.{Holds};
-ghost use Rattle.sq_lines.specs.Answers.{Manner, answer_text, verdict_text};
+ghost use Rattle.sq_lines.specs.Outcomes.{IsLineAnswered, IsTextAnswered};
 
 use crate::cutter::Cutter;
-use crate::faults::OutOfMemory;
+use crate::faults::Outcome;
+use crate::lines::{Line, content_of};
 use arrayvec::ArrayString;
 use sq_text::{LineFault, push_decimal, push_fault};
 
 /// The text of one line of output.
 pub type LineText = ArrayString<96>;
 
-/// Answers lines: each by the line and by what came before it.
+/// Answers texts: each by itself and by what came before it.
 pub trait Answering {
-    /// What is kept from line to line.
-    type State;
-
-    /// What a good line says.
-    type Found;
-
     /// What came before.
     ghost Past: { Type 0 };
 
-    /// What pasts a state stands for; the answer to a line by the past, the past after it and the text of what was
-    /// found; and the lines that a state may want memory for.
-    ghost how: { Manner Self.State Self.Past Self.Found };
+    /// What a good text says.
+    ghost Found: { Type 0 };
 
-    /// The answer to the held line, `None` for an empty one. At `OutOfMemory` the line was not heard.
-    fn answer(
-        state: &mut Self::State,
-        cutter: &Cutter,
-    ) -> Result<Option<Result<Self::Found, LineFault>>, OutOfMemory>
-        ensures answer { IfOk result (λ answer. (line : List ℕ) (past : Self.Past) → Holds cutter.now line
-            → how.stands_for state.old past
-            → (answer ≡ how.way.answer past line) × how.stands_for state.new (how.way.after past line)) }
-        ensures unheard { OnErr result (state.new ≡ state.old) }
-        ensures memory { (line : List ℕ) → Holds cutter.now line → OnErr result (how.wants state.old line) };
+    /// What no answer changes.
+    ghost Lasting: { Type 0 };
 
-    /// Appends the text of what was found, of at most 72 bytes: the same by every past.
-    fn push_text(found: Self::Found, text: &mut LineText)
-        requires { array_string_len text.old ≤ 21 }
-        ensures bytes { (past : Self.Past) → text.new.bytes ≡ text.old.bytes ++ how.way.text past found }
-        ensures len { array_string_len text.new ≤ array_string_len text.old + 72 };
+    /// What pasts this stands for; the answer to a text by the past, the past after it and the text of what was found;
+    /// and the texts that this may want memory for.
+    ghost how: { Manner Self Past Found };
+
+    ghost lasting: { Self → Lasting };
+
+    /// Answers a text of at most 64 bytes, none of them a line feed: appends what was found or the fault, at most 72
+    /// bytes. At `NoMemory` the text was not heard.
+    fn answer(&mut self, text: &[u8], into: &mut LineText) -> Outcome
+        requires { array_string_len into.old ≤ 21 }
+        ensures answered { IsTextAnswered how result text.now self.old self.new into.old.bytes into.new.bytes }
+        ensures lasting { lasting self.new ≡ lasting self.old }
+        ensures len { array_string_len into.new ≤ array_string_len into.old + 72 };
 }
 
-// Makes the text for the line with this number, in an empty one.
-pub(crate) fn push_answer<A: Answering>(
-    text: &mut LineText,
+// Answers the held line, which has this number, in an empty text; an empty line is not answered.
+pub(crate) fn answer_held<A: Answering>(
+    client: &mut A,
+    cutter: &Cutter,
     number: u64,
-    verdict: Result<A::Found, LineFault>,
-)
+    text: &mut LineText,
+) -> Option<Outcome>
     requires { text.old.bytes ≡ [] }
-    ensures { (past : A.Past) → text.new.bytes ≡ answer_text (A.how.way.text past) number (Some verdict) }
+    ensures answered { (line : List ℕ) → Holds cutter.now line
+        → IsLineAnswered A.how result number line client.old client.new text.new.bytes }
+    ensures lasting { A.lasting client.new ≡ A.lasting client.old }
+{
+    match content_of(cutter) {
+        Line::Empty => None,
+        Line::Long => {
+            push_number(text, number);
+            push_fault(text, LineFault::LongLine);
+            push_end(text);
+            Some(Outcome::Refused)
+        }
+        Line::Text(bytes) => {
+            push_number(text, number);
+            let outcome = client.answer(bytes, text);
+            push_end(text);
+            Some(outcome)
+        }
+    }
+}
+
+// Makes the front of the text for the line with this number, in an empty one.
+fn push_number(text: &mut LineText, number: u64)
+    requires { text.old.bytes ≡ [] }
+    ensures bytes { text.new.bytes ≡ decimal number ++ codes " " }
+    ensures len { array_string_len text.new ≤ 21 }
 {
     push_decimal(text, number);
     text.push(' ');
-    push_verdict::<A>(verdict, text);
-    text.push('\n');
 }
 
-// Appends the text of what was found, or of the fault.
-fn push_verdict<A: Answering>(verdict: Result<A::Found, LineFault>, text: &mut LineText)
-    requires { array_string_len text.old ≤ 21 }
-    ensures bytes { (past : A.Past) → text.new.bytes ≡ text.old.bytes ++ verdict_text (A.how.way.text past) verdict }
-    ensures len { array_string_len text.new ≤ array_string_len text.old + 72 }
+// Ends the text.
+fn push_end(text: &mut LineText)
+    requires { array_string_len text.old ≤ 93 }
+    ensures { text.new.bytes ≡ text.old.bytes ++ codes "\n" }
 {
-    match verdict {
-        Ok(found) => A::push_text(found, text),
-        Err(fault) => push_fault(text, fault),
-    }
+    text.push('\n');
 }

@@ -24,6 +24,13 @@ pub enum Unanswered {
     Memory,
 }
 
-/// There was no memory for an answer.
+/// What became of a text.
 #[derive(Clone, Copy, Debug, PartialEq, Eq)]
-pub struct OutOfMemory;
+pub enum Outcome {
+    /// It was heard, and is good.
+    Good,
+    /// It was heard, and refused.
+    Refused,
+    /// There was no memory to hear it.
+    NoMemory,
+}

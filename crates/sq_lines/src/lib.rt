@@ -1,9 +1,9 @@
 //! The lines of an input, one at a time, and an answer to each.
 //!
 //! A [`Cutter`] cuts an input that comes in pieces into lines of at most 64 bytes. [`run_lines`] answers each line of a
-//! source on a sink, as soon as its line feed was got, by whatever answers lines by what came before them
-//! ([`Answering`]): what was written is a stated function of the lines. A run keeps one line and takes no memory of its
-//! own.
+//! source on a sink, as soon as its line feed was got. Long lines, empty ones, carriage returns and numbers are the
+//! run's; a client answers texts, by what came before them ([`Answering`]). What was written is a stated function of
+//! the lines. A run keeps one line and takes no memory of its own.
 #![tactic(auto)]
 
 mod answering;
@@ -18,7 +18,7 @@ mod tallies;
 
 pub use answering::{Answering, LineText};
 pub use cutter::Cutter;
-pub use faults::{OutOfMemory, RunFault, Unanswered};
+pub use faults::{Outcome, RunFault, Unanswered};
 pub use lines::{Line, content_of};
 pub use sq_devices::{Sink, Source};
 pub use sq_text::LineFault;

@@ -1,14 +1,29 @@
 //! A run over an input: each line is answered once its line feed was read.
 ghost use Rattle.std.specs.Prelude.{◌≡◌, ◌+◌, ◌^◌, ◌<◌, ◌≤◌, ◌++◌, ◌∷◌, [], List, ℕ, Option, IfErr, IfOk, OnOk, OnErr, false, length, take, true};
 ghost use Rattle.std.specs.Io.KnownBytes.{Consumes, IsAtEnd};
-ghost use Rattle.sq_devices.specs.Device.{KeepsOrHides};
+ghost use Rattle.sq_devices.specs.Calls.{HasPut};
+ghost use Rattle.sq_devices.specs.Device.{KeepsOrHides, WroteFront};
 
-use crate::answering::{Answering, LineText, push_answer};
+use crate::answering::{Answering, LineText, answer_held};
 use crate::cutter::Cutter;
-use crate::faults::{OutOfMemory, RunFault, Unanswered};
+use crate::faults::{Outcome, RunFault, Unanswered};
 use crate::marks::feeds_of;
 use crate::tallies::Tally;
 use sq_devices::{Failed, Sink, Source, put_all};
+
+// Puts the text of an answer.
+fn put_text<K: Sink>(sink: &mut K, text: &LineText) -> Result<(), Unanswered>
+    ensures put { OnOk result (HasPut K.Sink sink.old sink.new text.now.bytes) }
+    ensures part { OnErr result (WroteFront (K.written sink.old) (K.written sink.new) text.now.bytes) }
+    ensures write { IfErr result (λ fault. fault ≡ Unanswered.Write) }
+    ensures failed { OnErr result (K.has_failed sink.new ≡ true) }
+    ensures unfinished { K.finishes sink.new ≡ K.finishes sink.old }
+{
+    match put_all(sink, text.as_bytes()) {
+        Ok(()) => Ok(()),
+        Err(Failed) => Err(Unanswered::Write),
+    }
+}
 
 /// A run so far.
 #[derive(Drop)]
@@ -22,9 +37,7 @@ pub(crate) struct LineRun {
 impl LineRun {
     ghost use Rattle.sq_lines.specs.Lines.{MarksFeeds, ended_lines, lines_of};
     ghost use Rattle.sq_lines.specs.Held.{Holds, empty_line};
-    ghost use Rattle.sq_lines.specs.Answers.{answers_to, Answerer, answer_text, noted, tally_of};
-    ghost use Rattle.sq_devices.specs.Calls.{HasPut};
-    ghost use Rattle.sq_devices.specs.Device.{WroteFront};
+    ghost use Rattle.sq_lines.specs.Answers.{WantsAt, after_line, answer_line, answer_text, answers_to, noted, tally_of};
     ghost use Rattle.sq_lines.specs.Runs.{HasAnswered, HasTold, StoppedIn};
 
     pub(crate) fn new() -> Self
@@ -45,42 +58,43 @@ impl LineRun {
     // Answers the held line.
     fn answer_line<A: Answering, K: Sink>(
         &mut self,
-        state: &mut A::State,
+        client: &mut A,
         sink: &mut K,
     ) -> Result<(), Unanswered>
         requires { self.old.number + 1 < 2 ^ 64 }
         ensures number { self.new.number ≡ self.old.number + 1 }
         ensures cutter { self.new.cutter ≡ self.old.cutter }
         ensures answered { (line : List ℕ) (past first : A.Past) → Holds self.old.cutter line
-            → A.how.stands_for state.old past → OnOk result (
-            A.how.stands_for state.new (A.how.way.after past line)
-            × (self.new.tally ≡ noted self.old.tally (A.how.way.answer past line))
+            → A.how.stands_for client.old past → OnOk result (
+            A.how.stands_for client.new (after_line A.how.way past line)
+            × (self.new.tally ≡ noted self.old.tally (answer_line A.how.way past line))
             × HasPut K.Sink sink.old sink.new
-            (answer_text (A.how.way.text first) (self.old.number + 1) (A.how.way.answer past line))) }
+            (answer_text (A.how.way.text first) (self.old.number + 1) (answer_line A.how.way past line))) }
         ensures memory { (line : List ℕ) → Holds self.old.cutter line → IfErr result (λ fault.
-            fault ≡ Unanswered.Memory → (state.new ≡ state.old) × (K.written sink.new ≡ K.written sink.old)
-            × A.how.wants state.old line) }
+            fault ≡ Unanswered.Memory → (client.new ≡ client.old) × (K.written sink.new ≡ K.written sink.old)
+            × WantsAt A.how client.old line) }
         ensures part { (line : List ℕ) (past first : A.Past) → Holds self.old.cutter line
-            → A.how.stands_for state.old past → IfErr result (λ fault. fault ≡ Unanswered.Write →
-            A.how.stands_for state.new (A.how.way.after past line)
+            → A.how.stands_for client.old past → IfErr result (λ fault. fault ≡ Unanswered.Write →
+            A.how.stands_for client.new (after_line A.how.way past line)
             × WroteFront (K.written sink.old) (K.written sink.new)
-            (answer_text (A.how.way.text first) (self.old.number + 1) (A.how.way.answer past line))) }
+            (answer_text (A.how.way.text first) (self.old.number + 1) (answer_line A.how.way past line))) }
         ensures failed { IfErr result (λ fault. fault ≡ Unanswered.Write → K.has_failed sink.new ≡ true) }
         ensures unfinished { K.finishes sink.new ≡ K.finishes sink.old }
+        ensures lasting { A.lasting client.new ≡ A.lasting client.old }
     {
         self.number += 1;
-        match A::answer(state, &self.cutter) {
-            Ok(None) => Ok(()),
-            Ok(Some(verdict)) => {
-                self.tally.note(&verdict);
-                let mut text = LineText::new();
-                push_answer::<A>(&mut text, self.number, verdict);
-                match put_all(sink, text.as_bytes()) {
-                    Ok(()) => Ok(()),
-                    Err(Failed) => Err(Unanswered::Write),
-                }
+        let mut text = LineText::new();
+        match answer_held(client, &self.cutter, self.number, &mut text) {
+            None => Ok(()),
+            Some(Outcome::Good) => {
+                self.tally.good += 1;
+                put_text(sink, &text)
             }
-            Err(OutOfMemory) => Err(Unanswered::Memory),
+            Some(Outcome::Refused) => {
+                self.tally.refused += 1;
+                put_text(sink, &text)
+            }
+            Some(Outcome::NoMemory) => Err(Unanswered::Memory),
         }
     }
 
@@ -88,7 +102,7 @@ impl LineRun {
     // that this completes.
     fn answer_front<A: Answering, K: Sink>(
         &mut self,
-        state: &mut A::State,
+        client: &mut A,
         sink: &mut K,
         piece: &[u8],
         feeds: u64,
@@ -100,20 +114,21 @@ impl LineRun {
         ensures number { self.new.number ≤ self.old.number + 1 }
         ensures some { IfOk result (λ n. 0 < n) }
         ensures within { IfOk result (λ n. n ≤ length piece.now) }
-        ensures answered { (start : A.State) (first : K) (read : List ℕ)
-            → HasAnswered A.how start (HasPut K.Sink first sink.old) self.old state.old read
-            → IfOk result (λ n. HasAnswered A.how start (HasPut K.Sink first sink.new) self.new state.new
+        ensures answered { (start : A) (first : K) (read : List ℕ)
+            → HasAnswered A.how start (HasPut K.Sink first sink.old) self.old client.old read
+            → IfOk result (λ n. HasAnswered A.how start (HasPut K.Sink first sink.new) self.new client.new
             (read ++ take n piece.now)) }
-        ensures stopped { (start : A.State) (first : K) (read : List ℕ)
-            → HasAnswered A.how start (HasPut K.Sink first sink.old) self.old state.old read
-            → IfErr result (λ fault. StoppedIn fault A.how start state.new (K.written first) (K.written sink.new)
+        ensures stopped { (start : A) (first : K) (read : List ℕ)
+            → HasAnswered A.how start (HasPut K.Sink first sink.old) self.old client.old read
+            → IfErr result (λ fault. StoppedIn fault A.how start client.new (K.written first) (K.written sink.new)
             (ended_lines (read ++ piece.now))) }
         ensures failed { IfErr result (λ fault. fault ≡ Unanswered.Write → K.has_failed sink.new ≡ true) }
         ensures unfinished { K.finishes sink.new ≡ K.finishes sink.old }
+        ensures lasting { A.lasting client.new ≡ A.lasting client.old }
     {
         let (count, is_complete) = self.cutter.take_marked(piece, feeds);
         if is_complete {
-            self.answer_line::<A, K>(state, sink)?;
+            self.answer_line(client, sink)?;
         }
         Ok(count)
     }
@@ -121,7 +136,7 @@ impl LineRun {
     // Takes the whole piece, whose line feeds are marked.
     fn answer_piece<A: Answering, K: Sink>(
         &mut self,
-        state: &mut A::State,
+        client: &mut A,
         sink: &mut K,
         piece: &[u8],
         feeds: u64,
@@ -130,20 +145,21 @@ impl LineRun {
         requires short { length piece.now ≤ 64 }
         requires marked { MarksFeeds feeds piece.now }
         ensures number { self.new.number ≤ self.old.number + length piece.now }
-        ensures answered { (start : A.State) (first : K) (read : List ℕ)
-            → HasAnswered A.how start (HasPut K.Sink first sink.old) self.old state.old read
-            → OnOk result (HasAnswered A.how start (HasPut K.Sink first sink.new) self.new state.new
+        ensures answered { (start : A) (first : K) (read : List ℕ)
+            → HasAnswered A.how start (HasPut K.Sink first sink.old) self.old client.old read
+            → OnOk result (HasAnswered A.how start (HasPut K.Sink first sink.new) self.new client.new
             (read ++ piece.now)) }
-        ensures stopped { (start : A.State) (first : K) (read : List ℕ)
-            → HasAnswered A.how start (HasPut K.Sink first sink.old) self.old state.old read
-            → IfErr result (λ fault. StoppedIn fault A.how start state.new (K.written first) (K.written sink.new)
+        ensures stopped { (start : A) (first : K) (read : List ℕ)
+            → HasAnswered A.how start (HasPut K.Sink first sink.old) self.old client.old read
+            → IfErr result (λ fault. StoppedIn fault A.how start client.new (K.written first) (K.written sink.new)
             (ended_lines (read ++ piece.now))) }
         ensures failed { IfErr result (λ fault. fault ≡ Unanswered.Write → K.has_failed sink.new ≡ true) }
         ensures unfinished { K.finishes sink.new ≡ K.finishes sink.old }
+        ensures lasting { A.lasting client.new ≡ A.lasting client.old }
     {
         let mut at = 0;
         while at < piece.len() {
-            at += self.answer_front::<A, K>(state, sink, &piece[at..], feeds >> at)?;
+            at += self.answer_front(client, sink, &piece[at..], feeds >> at)?;
         }
         Ok(())
     }
@@ -151,7 +167,7 @@ impl LineRun {
     /// Takes the next bytes of the source, and says whether there were any.
     pub(crate) fn answer_next<S: Source, K: Sink, A: Answering>(
         &mut self,
-        state: &mut A::State,
+        client: &mut A,
         source: &mut S,
         sink: &mut K,
     ) -> Result<bool, RunFault>
@@ -160,36 +176,37 @@ impl LineRun {
         ensures used { OnOk result (S.gets_left source.new + 1 ≡ S.gets_left source.old) }
         ensures few { S.gets_left source.old ≤ S.gets_left source.new + 1 }
         ensures end { IfOk result (λ more. more ≡ false → IsAtEnd (S.to_come source.new)) }
-        ensures answered { (start : A.State) (first : K) (read : List ℕ)
-            → HasAnswered A.how start (HasPut K.Sink first sink.old) self.old state.old read
+        ensures answered { (start : A) (first : K) (read : List ℕ)
+            → HasAnswered A.how start (HasPut K.Sink first sink.old) self.old client.old read
             → IfOk result (λ more. (piece : List ℕ) × Consumes (S.to_come source.old) (S.to_come source.new) piece
             × S.Gave source.old piece source.new
-            × HasAnswered A.how start (HasPut K.Sink first sink.new) self.new state.new (read ++ piece)
+            × HasAnswered A.how start (HasPut K.Sink first sink.new) self.new client.new (read ++ piece)
             × (more ≡ true → 0 < length piece) × (more ≡ false → length piece ≡ 0)) }
         ensures unread { IfErr result (λ fault. fault ≡ RunFault.Read → (S.has_failed source.new ≡ true)
             × (S.gets_left source.new ≡ S.gets_left source.old)
             × KeepsOrHides (S.to_come source.old) (S.to_come source.new)
-            × (self.new ≡ self.old) × (state.new ≡ state.old) × (K.written sink.new ≡ K.written sink.old)) }
+            × (self.new ≡ self.old) × (client.new ≡ client.old) × (K.written sink.new ≡ K.written sink.old)) }
         ensures unanswered { IfErr result (λ fault. fault ≡ RunFault.Memory
-            → (start : A.State) (first : K) (read : List ℕ)
-            → HasAnswered A.how start (HasPut K.Sink first sink.old) self.old state.old read
+            → (start : A) (first : K) (read : List ℕ)
+            → HasAnswered A.how start (HasPut K.Sink first sink.old) self.old client.old read
             → (piece : List ℕ) × Consumes (S.to_come source.old) (S.to_come source.new) piece
-            × StoppedIn Unanswered.Memory A.how start state.new (K.written first) (K.written sink.new)
+            × StoppedIn Unanswered.Memory A.how start client.new (K.written first) (K.written sink.new)
             (ended_lines (read ++ piece))) }
         ensures unwritten { IfErr result (λ fault. fault ≡ RunFault.Write
-            → (start : A.State) (first : K) (read : List ℕ)
-            → HasAnswered A.how start (HasPut K.Sink first sink.old) self.old state.old read
+            → (start : A) (first : K) (read : List ℕ)
+            → HasAnswered A.how start (HasPut K.Sink first sink.old) self.old client.old read
             → (piece : List ℕ) × Consumes (S.to_come source.old) (S.to_come source.new) piece
-            × StoppedIn Unanswered.Write A.how start state.new (K.written first) (K.written sink.new)
+            × StoppedIn Unanswered.Write A.how start client.new (K.written first) (K.written sink.new)
             (ended_lines (read ++ piece))) }
         ensures failed { IfErr result (λ fault. fault ≡ RunFault.Write → K.has_failed sink.new ≡ true) }
         ensures unfinished { K.finishes sink.new ≡ K.finishes sink.old }
+        ensures lasting { A.lasting client.new ≡ A.lasting client.old }
     {
         let mut buffer = [0; 64];
         let Ok(count) = source.get(&mut buffer) else {
             return Err(RunFault::Read);
         };
-        match self.answer_piece::<A, K>(state, sink, &buffer[..count], feeds_of(&buffer)) {
+        match self.answer_piece(client, sink, &buffer[..count], feeds_of(&buffer)) {
             Ok(()) => Ok(count > 0),
             Err(Unanswered::Write) => Err(RunFault::Write),
             Err(Unanswered::Memory) => Err(RunFault::Memory),
@@ -199,27 +216,28 @@ impl LineRun {
     /// Answers what stands after the last line feed, unless it is empty.
     pub(crate) fn answer_last<A: Answering, K: Sink>(
         &mut self,
-        state: &mut A::State,
+        client: &mut A,
         sink: &mut K,
     ) -> Result<(), Unanswered>
         requires { self.old.number + 1 < 2 ^ 64 }
-        ensures answered { (start : A.State) (first : K) (read : List ℕ)
-            → HasAnswered A.how start (HasPut K.Sink first sink.old) self.old state.old read
-            → OnOk result (HasTold A.how start state.new (HasPut K.Sink first sink.new) (lines_of read)
+        ensures answered { (start : A) (first : K) (read : List ℕ)
+            → HasAnswered A.how start (HasPut K.Sink first sink.old) self.old client.old read
+            → OnOk result (HasTold A.how start client.new (HasPut K.Sink first sink.new) (lines_of read)
             × ((past : A.Past) → A.how.stands_for start past
             → self.new.tally ≡ tally_of (answers_to A.how.way past (lines_of read)))) }
-        ensures stopped { (start : A.State) (first : K) (read : List ℕ)
-            → HasAnswered A.how start (HasPut K.Sink first sink.old) self.old state.old read
-            → IfErr result (λ fault. StoppedIn fault A.how start state.new (K.written first) (K.written sink.new)
+        ensures stopped { (start : A) (first : K) (read : List ℕ)
+            → HasAnswered A.how start (HasPut K.Sink first sink.old) self.old client.old read
+            → IfErr result (λ fault. StoppedIn fault A.how start client.new (K.written first) (K.written sink.new)
             (lines_of read)) }
         ensures failed { IfErr result (λ fault. fault ≡ Unanswered.Write → K.has_failed sink.new ≡ true) }
         ensures unfinished { K.finishes sink.new ≡ K.finishes sink.old }
+        ensures lasting { A.lasting client.new ≡ A.lasting client.old }
     {
         self.cutter.take(&[]);
         if self.cutter.line().is_empty() {
             return Ok(());
         }
-        self.answer_line::<A, K>(state, sink)
+        self.answer_line(client, sink)
     }
 
     pub(crate) fn tally(&self) -> Tally

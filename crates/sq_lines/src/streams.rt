@@ -15,43 +15,44 @@ use sq_devices::{Failed, Sink, Source};
 pub fn run_lines<S: Source, K: Sink, A: Answering>(
     source: &mut S,
     sink: &mut K,
-    state: &mut A::State,
+    client: &mut A,
 ) -> Result<Tally, RunFault>
     // The bytes up to the end of the input were taken, and their lines have been answered and counted.
     ensures whole { IfOk result (λ tally. TookAll (taken_from S.Source source.old source.new)
-        (HasRun A.how state.old state.new (Sent (written_on K.Sink sink.old sink.new)) tally)) }
+        (HasRun A.how client.old client.new (Sent (written_on K.Sink sink.old sink.new)) tally)) }
 
     // Where the source reports its bytes, these are all of them.
     ensures reported { IfOk result (λ tally. TookReported (taken_from S.Source source.old source.new)
-        (HasRun A.how state.old state.new (Sent (written_on K.Sink sink.old sink.new)) tally)) }
+        (HasRun A.how client.old client.new (Sent (written_on K.Sink sink.old sink.new)) tally)) }
 
     // Then the sink was finished, once.
     ensures finished { OnOk result (FinishedOnce (written_on K.Sink sink.old sink.new)) }
     ensures unfinished { OnErr result (Unfinished (written_on K.Sink sink.old sink.new)) }
+    ensures lasting { A.lasting client.new ≡ A.lasting client.old }
 
     // Where the source failed, the lines that were read whole have been answered.
     ensures unread { IfErr result (λ fault. fault ≡ RunFault.Read
         → TookPart (taken_from S.Source source.old source.new) (λ read.
-        HasTold A.how state.old state.new (Appends (K.written sink.old) (K.written sink.new)) (ended_lines read))) }
+        HasTold A.how client.old client.new (Appends (K.written sink.old) (K.written sink.new)) (ended_lines read))) }
 
     // Where there was no memory for a line, the state may want some for it, and those before it have been answered.
     ensures unanswered { IfErr result (λ fault. fault ≡ RunFault.Memory
         → TookSome (taken_from S.Source source.old source.new) (OfLines (taken_from S.Source source.old source.new)
-        (StoppedIn Unanswered.Memory A.how state.old state.new (K.written sink.old) (K.written sink.new)))) }
+        (StoppedIn Unanswered.Memory A.how client.old client.new (K.written sink.old) (K.written sink.new)))) }
 
     // Where the sink failed at a line's answer, that line was heard and those before it have been answered.
     ensures unwritten { IfErr result (λ fault. fault ≡ RunFault.Write → (K.has_failed sink.new ≡ true)
         × TookSome (taken_from S.Source source.old source.new) (OfLines (taken_from S.Source source.old source.new)
-        (StoppedIn Unanswered.Write A.how state.old state.new (K.written sink.old) (K.written sink.new)))) }
+        (StoppedIn Unanswered.Write A.how client.old client.new (K.written sink.old) (K.written sink.new)))) }
 {
     let mut run = LineRun::new();
     'pieces: loop {
-        let has_more = run.answer_next::<S, K, A>(state, source, sink)?;
+        let has_more = run.answer_next(client, source, sink)?;
         if !has_more {
             break;
         }
     }
-    match run.answer_last::<A, K>(state, sink) {
+    match run.answer_last(client, sink) {
         Ok(()) => {}
         Err(Unanswered::Write) => return Err(RunFault::Write),
         Err(Unanswered::Memory) => return Err(RunFault::Memory),

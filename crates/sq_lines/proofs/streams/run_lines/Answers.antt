@@ -17,6 +17,7 @@ pub pieces-init : goal.pieces-init
 pieces-init g c = record {
   room = omega (arith, g.met.S.Source.few_gets c.args.source.now, c.new-run.ensures.number);
   unfinished = refl;
+  lasting = refl;
   read = [];
   answered = record {
     consumed = Consumes-nil _;
@@ -32,6 +33,7 @@ pub pieces-preserved : goal.pieces-preserved
 pieces-preserved g c = record {
   room = omega (arith, c.in_ok-has_more.ensures.used, c.in_ok-has_more.ensures.number, c.pieces.invariant.room);
   unfinished = c.in_ok-has_more.ensures.unfinished ∙ c.pieces.invariant.unfinished;
+  lasting = c.in_ok-has_more.ensures.lasting ∙ c.pieces.invariant.lasting;
   read = (let read = c.pieces.invariant.read in
       read ++ (c.in_ok-has_more.ensures.answered _ _ read c.pieces.invariant.answered.answered).0);
   answered =
@@ -57,14 +59,14 @@ returns-in_err-has_more-clause-unread g c =
     rw (p.1, p.2) (λ is.
     let unread = c.in_err-has_more.ensures.unread is in
     let told = told_read h.answered in
-    let start = c.args.state.now in
+    let start = c.args.client.now in
     let first = c.args.sink.now in (
       unread.0,
       (
         read,
         consumes_hidden _ _ _ read h.consumed unread.2,
         omega (arith, h.few, unread.1),
-        told_as g.A.Answering.how start c.answer_next.new.state (HasPut g.K.Sink first c.pieces.sink)
+        told_as g.A.Answering.how start c.answer_next.new.client (HasPut g.K.Sink first c.pieces.sink)
             (Appends (g.K.Sink.written first) (g.K.Sink.written c.answer_next.new.sink)) (ended_lines read)
             (λ text put. subst (λ (after : Option (List ℕ)). Appends (g.K.Sink.written first) after text)
             (sym unread.5) put.0)
@@ -118,7 +120,7 @@ returns-in-Err-Write-clause-unwritten g c = λ is.
         inr (
           c.in_ok-has_more.ensures.end c.if-not-has_more.true,
           subst (λ (fault : Unanswered).
-              StoppedIn fault g.A.Answering.how c.args.state.now c.answer_last.new.state
+              StoppedIn fault g.A.Answering.how c.args.client.now c.answer_last.new.client
               (g.K.Sink.written c.args.sink.now) (g.K.Sink.written c.answer_last.new.sink) (lines_of (read ++ last.0)))
               c.in-Err-Write.field-0-is (c.in-Err-Write.ensures.stopped _ _ _ on.answered),
         ),
@@ -139,7 +141,7 @@ returns-in-Err-Memory-clause-unanswered g c = λ is.
       inr (
         c.in_ok-has_more.ensures.end c.if-not-has_more.true,
         subst (λ (fault : Unanswered).
-            StoppedIn fault g.A.Answering.how c.args.state.now c.answer_last.new.state
+            StoppedIn fault g.A.Answering.how c.args.client.now c.answer_last.new.client
             (g.K.Sink.written c.args.sink.now) (g.K.Sink.written c.answer_last.new.sink) (lines_of (read ++ last.0)))
             c.in-Err-Memory.field-0-is (c.in-Err-Memory.ensures.stopped _ _ _ on.answered),
       ),
@@ -179,7 +181,7 @@ whole g c =
     let none = last.5 c.if-not-has_more.true in
     let first = c.args.sink.now in
     let sent = written_on g.K.Sink first c.finish.new.self in
-    let Run = HasRun g.A.Answering.how c.args.state.now c.answer_last.new.state (Sent sent) c.tally.result in
+    let Run = HasRun g.A.Answering.how c.args.client.now c.answer_last.new.client (Sent sent) c.tally.result in
     let input = taken_from g.S.Source c.args.source.now c.answer_next.new.source in (
       made.pieces,
       got_up_to_end g.S.Source c.args.source.now c.pieces.source c.answer_next.new.source read last.0 made last.2

@@ -8,9 +8,10 @@ abbrev pub invariant-pieces : goal.invariant-pieces
 invariant-pieces g l = record {
   room : l.run.number + 64 * g.S.Source.gets_left l.source ≤ 64000000000000;
   unfinished : g.K.Sink.finishes l.sink ≡ g.K.Sink.finishes l.initial.sink;
+  lasting : g.A.Answering.lasting l.client ≡ g.A.Answering.lasting l.initial.client;
   read : List ℕ;
-  answered : HasRead g.A.Answering.how l.initial.state (taken_from g.S.Source l.initial.source l.source) 0
-      (HasPut g.K.Sink l.initial.sink l.sink) l.run l.state read;
+  answered : HasRead g.A.Answering.how l.initial.client (taken_from g.S.Source l.initial.source l.source) 0
+      (HasPut g.K.Sink l.initial.sink l.sink) l.run l.client read;
   made : IsMadeOf (taken_from g.S.Source l.initial.source l.source) read;
 }
 

@@ -15,7 +15,7 @@ returns-in_err-answer_line-clause-stopped g c = λ start first read h.
     let holds = c.take_marked-count.ensures.held h.rest h.held in
     let p = err_from_is_err_and c.from_residual.result c.from_residual.ensures.1 in
     rw (p.1, p.2) (stopped_line g.A.Answering.how g.K.Sink start first _ _ c.args.self.now
-    c.answer_line.new.self c.args.state.now c.answer_line.new.state read h
+    c.answer_line.new.self c.args.client.now c.answer_line.new.client read h
     (line_in g.K.Sink h piece) _ _ (c.in_err-answer_line.ensures.memory (line_in g.K.Sink h piece) holds)
     (λ past first st. c.in_err-answer_line.ensures.part (line_in g.K.Sink h piece) past first holds st)
     (prefix_through g.K.Sink h piece there))

@@ -14,7 +14,7 @@ returns-clause-answered g c = λ start first read h.
     let held = held_rest _ h.rest (c.take.ensures.held h.rest h.held) in
     let some = some_rest _ h.rest held
     (ap (λ l. length l == 0) (sym c.line.ensures) ∙ sym c.is_empty.ensures ∙ c.if-is_empty.false) in
-    finished_line g.K.Sink h c.answer_line.new.self c.answer_line.new.state c.answer_line.new.sink
+    finished_line g.K.Sink h c.answer_line.new.self c.answer_line.new.client c.answer_line.new.sink
     c.answer_line.result some
     (λ past first st. c.answer_line.ensures.answered h.rest past first held st)
 
@@ -24,7 +24,7 @@ returns-clause-stopped g c = λ start first read h.
     let some = some_rest _ h.rest held
     (ap (λ l. length l == 0) (sym c.line.ensures) ∙ sym c.is_empty.ensures ∙ c.if-is_empty.false) in
     stopped_result g.A.Answering.how g.K.Sink start first _ _ c.args.self.now c.answer_line.new.self
-    c.args.state.now c.answer_line.new.state read h
+    c.args.client.now c.answer_line.new.client read h
     h.rest _ c.answer_line.result (c.answer_line.ensures.memory h.rest held)
     (λ past first st. c.answer_line.ensures.part h.rest past first held st)
     (prefix_last g.K.Sink h some)

@@ -10,7 +10,7 @@ returns-in-Err-Write-clause-unwritten g c = λ is start first read h.
       piece,
       c.in-Ok.ensures.moved,
       subst (λ (fault : Unanswered).
-          StoppedIn fault g.A.Answering.how start c.answer_piece.new.state (g.K.Sink.written first)
+          StoppedIn fault g.A.Answering.how start c.answer_piece.new.client (g.K.Sink.written first)
           (g.K.Sink.written c.answer_piece.new.sink) (ended_lines (read ++ piece)))
           c.in-Err-Write.field-0-is (c.in-Err-Write.ensures.stopped start first read h),
     )
@@ -21,7 +21,7 @@ returns-in-Err-Memory-clause-unanswered g c = λ is start first read h.
       piece,
       c.in-Ok.ensures.moved,
       subst (λ (fault : Unanswered).
-          StoppedIn fault g.A.Answering.how start c.answer_piece.new.state (g.K.Sink.written first)
+          StoppedIn fault g.A.Answering.how start c.answer_piece.new.client (g.K.Sink.written first)
           (g.K.Sink.written c.answer_piece.new.sink) (ended_lines (read ++ piece)))
           c.in-Err-Memory.field-0-is (c.in-Err-Memory.ensures.stopped start first read h),
     )

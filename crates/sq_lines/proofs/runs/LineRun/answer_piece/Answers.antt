@@ -20,6 +20,7 @@ loop-at-preserved g c =
     record {
       within = omega arith;
       unfinished = search rules;
+      lasting = search rules;
       number = omega (arith, c.in_ok-at.ensures.some);
       answered = λ start first read h.
           let next = c.in_ok-at.ensures.answered start first (read ++ take at piece)
@@ -41,5 +42,5 @@ returns-in_err-at-clause-stopped g c = λ start first read h.
     append_assoc read _ _ ∙ ap (λ l. read ++ l)
     (ap (λ l. take at piece ++ l) (take_rest piece at) ∙ take-append-drop at piece) in
     rw (p.1, p.2) (subst (λ (l : List ℕ).
-    StoppedIn c.in_err-at.field-0.0 g.A.Answering.how start c.answer_front.new.state (g.K.Sink.written first)
+    StoppedIn c.in_err-at.field-0.0 g.A.Answering.how start c.answer_front.new.client (g.K.Sink.written first)
     (g.K.Sink.written c.answer_front.new.sink) (ended_lines l)) all part)

@@ -7,10 +7,11 @@ abbrev pub invariant-loop-at : goal.invariant-loop-at
 invariant-loop-at g l = record {
   within : l.at ≤ length l.piece;
   unfinished : g.K.Sink.finishes l.sink ≡ g.K.Sink.finishes l.initial.sink;
+  lasting : g.A.Answering.lasting l.client ≡ g.A.Answering.lasting l.initial.client;
   number : l.self.number ≤ l.initial.self.number + l.at;
-  answered : (start : g.row.A-State.Denot) (first : g.row.K.Denot) (read : List ℕ)
-      → HasAnswered g.A.Answering.how start (HasPut g.K.Sink first l.initial.sink) l.initial.self l.initial.state read
-      → HasAnswered g.A.Answering.how start (HasPut g.K.Sink first l.sink) l.self l.state
+  answered : (start : g.row.A.Denot) (first : g.row.K.Denot) (read : List ℕ)
+      → HasAnswered g.A.Answering.how start (HasPut g.K.Sink first l.initial.sink) l.initial.self l.initial.client read
+      → HasAnswered g.A.Answering.how start (HasPut g.K.Sink first l.sink) l.self l.client
       (read ++ take l.at l.piece);
 }
 
