@@ -1,2 +1,3 @@
 pub mod AsciiTexts
 pub mod Entries
+pub mod Steps

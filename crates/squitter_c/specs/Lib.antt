@@ -9,3 +9,5 @@ pub mod Angles
 pub mod Altitudes
 pub mod Texts
 pub mod Tracking
+pub mod E7
+pub mod Many

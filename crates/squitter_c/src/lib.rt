@@ -10,12 +10,14 @@
 mod altitudes;
 mod angles;
 mod decode;
+mod e7;
 mod entry;
 mod faults;
 mod fields;
 mod heads;
 mod hear;
 pub mod laws;
+mod many;
 mod plain;
 mod read;
 mod send;

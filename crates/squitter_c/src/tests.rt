@@ -2,11 +2,16 @@
 use crate::altitudes::{PlainAltitude, squitter_feet_of_field, squitter_field_of_feet};
 use crate::angles::{squitter_angle_of_text, squitter_text_of_angle, squitter_zone_count};
 use crate::decode::{squitter_local, squitter_pair, squitter_pair_at};
+use crate::e7::{DegreesE7, squitter_angle_e7, squitter_position_e7};
 use crate::entry::{PlainEntry, PlainFix, PlainReceived, PlainSide};
 use crate::faults::Fault;
 use crate::fields::PlainSquitter;
 use crate::heads::{PlainAirHead, PlainGroundHead};
 use crate::hear::{PlainHeard, squitter_hear, squitter_hear_at};
+use crate::many::{
+    squitter_hear_at_many, squitter_hear_many, squitter_local_many, squitter_pair_at_many,
+    squitter_pair_many, squitter_position_e7_many, squitter_read_many,
+};
 use crate::plain::{PlainAngle, PlainPosition};
 use crate::read::{
     squitter_frame_of_text, squitter_read_frame, squitter_read_text, squitter_text_of_frame,
@@ -415,4 +420,124 @@ fn hears_a_pair_near_a_site(rt: HostRuntime) {
     assert!(rt; entry == waiting && heard.what == 6);
     assert!(rt; squitter_hear_at(&mut entry, 10, &site, 2, &newer, &mut heard) == DONE);
     assert!(rt; heard.what == 1 && heard.position.lat.num == 202_304_115);
+}
+
+const UNTOLD: Fault = Fault {
+    code: 77,
+    second: 7,
+    first: 7,
+};
+
+#[test]
+fn reads_many(rt: HostRuntime) {
+    let mut fields = [NO_FIELDS; 4];
+    let mut faults = [UNTOLD; 4];
+    let frames = [[0; 14], EVEN_BYTES, frame_of(ODD)];
+    assert!(rt; squitter_read_many(&frames, &mut fields, &mut faults) == 3);
+    assert!(rt; faults[0] == coded(5, 0) && fields[0] == NO_FIELDS);
+    assert!(rt; faults[1] == DONE && fields[1].lat == 93_000 && fields[1].odd == 0);
+    assert!(rt; faults[2] == DONE && fields[2].lat == 74_158 && fields[2].odd == 1);
+    assert!(rt; faults[3] == UNTOLD && fields[3] == NO_FIELDS);
+    assert!(rt; squitter_read_many(&[], &mut fields, &mut faults) == 0);
+}
+
+#[test]
+fn decodes_many(rt: HostRuntime) {
+    let mut out = [NO_POSITION; 3];
+    let mut faults = [UNTOLD; 2];
+    let frames = [[0; 14], EVEN_BYTES, EVEN_BYTES];
+    let near = [position(52_258, 3_918, 1000); 3];
+    assert!(rt; squitter_local_many(&frames, &near, &mut out, &mut faults) == 2);
+    assert!(rt; faults[0] == coded(5, 0) && out[0] == NO_POSITION);
+    assert!(rt; faults[1] == DONE && out[1] == PLACE && out[2] == NO_POSITION);
+}
+
+#[test]
+fn decodes_many_pairs(rt: HostRuntime) {
+    let mut out = [NO_POSITION; 2];
+    let mut faults = [UNTOLD; 2];
+    let older = [frame_of(GROUND_OLDER), frame_of(ODD)];
+    let newer = [frame_of(GROUND_NEWER), EVEN_BYTES];
+    assert!(rt; squitter_pair_many(&older, &newer, &mut out, &mut faults) == 2);
+    assert!(rt; faults[0] == coded(14, 0) && out[0] == NO_POSITION);
+    assert!(rt; faults[1] == DONE && out[1] == PLACE);
+    let site = position(51_990, 4_375, 1000);
+    assert!(rt; squitter_pair_at_many(&older, &newer, &site, &mut out, &mut faults) == 2);
+    assert!(rt; faults[0] == DONE && out[0].lat.num == 202_304_115 && out[1] == PLACE);
+}
+
+#[test]
+fn hears_many(rt: HostRuntime) {
+    let mut entry = BLANK;
+    let mut out = [NOTHING; 3];
+    let mut faults = [UNTOLD; 3];
+    let frames = [frame_of(ODD), [0; 14], EVEN_BYTES];
+    assert!(rt;
+        squitter_hear_many(
+            &mut entry,
+            10_000,
+            &[5, 6, 7],
+            &frames,
+            &mut out,
+            &mut faults
+        ) == 3
+    );
+    assert!(rt; faults[0] == DONE && out[0].what == 3);
+    assert!(rt; faults[1] == coded(5, 0) && out[1] == NOTHING);
+    assert!(rt; faults[2] == DONE && out[2].what == 1 && out[2].position == PLACE);
+    let site = position(51_990, 4_375, 1000);
+    let count = squitter_hear_at_many(
+        &mut entry,
+        10_000,
+        &site,
+        &[6, 7],
+        &frames,
+        &mut out,
+        &mut faults,
+    );
+    assert!(rt; count == 2);
+    assert!(rt; faults[0] == coded(42, 7) && out[0].what == 3 && faults[1] == coded(5, 0));
+}
+
+// 428091/8192 is 52.2572021484375, and 64215/16384 is 3.91937255859375.
+#[test]
+fn writes_whole_numbers(rt: HostRuntime) {
+    let mut number = 7;
+    assert!(rt;
+        squitter_angle_e7(
+            &PlainAngle {
+                num: -1,
+                den: 20_000_000
+            },
+            &mut number
+        ) == DONE
+    );
+    assert!(rt; number == -1);
+    assert!(rt; squitter_angle_e7(&PlainAngle { num: 360, den: 1 }, &mut number) == DONE);
+    assert!(rt; number == 3_600_000_000);
+    assert!(rt; squitter_angle_e7(&NO_ANGLE, &mut number) == coded(22, 0));
+    assert!(rt; number == 3_600_000_000);
+    let mut both = DegreesE7 { lat: 9, lon: 9 };
+    assert!(rt; squitter_position_e7(&NO_POSITION, &mut both) == coded(20, 0));
+    assert!(rt; both == DegreesE7 { lat: 9, lon: 9 });
+    assert!(rt; squitter_position_e7(&PLACE, &mut both) == DONE);
+    assert!(rt;
+        both == DegreesE7 {
+            lat: 522_572_021,
+            lon: 39_193_726
+        }
+    );
+    let mut out = [both; 2];
+    let mut faults = [UNTOLD; 2];
+    let places = [position(-90, -180, 1), NO_POSITION];
+    assert!(rt; squitter_position_e7_many(&places, &mut out, &mut faults) == 2);
+    assert!(rt;
+        faults[0] == DONE
+            && out[0]
+                == DegreesE7 {
+                    lat: -900_000_000,
+                    lon: -1_800_000_000
+                }
+    );
+    assert!(rt; faults[1] == coded(20, 0) && out[1] == both);
 }

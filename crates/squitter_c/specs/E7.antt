@@ -1,0 +1,47 @@
+-- Degrees as whole numbers of 10^-7 degree, rounded as the seven decimals of a text are.
+use Rattle.std.specs.Prelude.{◌≡◌, ℕ, ℤ, pos, int_lt, Result, Ok, Err}
+use Rattle.sq_angle.specs.declared.angle.Angle.{Angle}
+use Rattle.sq_angle.specs.declared.position.Position.{Position}
+use Rattle.sq_angle.specs.Angle.{degrees}
+use Rattle.sq_angle.specs.Decimal.{ten_millionth}
+use Rattle.sq_angle.specs.Fraction.{Fraction, magnitude}
+use Rattle.sq_angle.specs.Nearest.{IsNearest}
+use Rattle.sq_angle.specs.Position.{lat_of, lon_of}
+use Rattle.sq_angle.specs.Spelling.{signed}
+use Rattle.squitter_c.specs.declared.e7.DegreesE7.{DegreesE7}
+use Rattle.squitter_c.specs.declared.faults.Fault.{Fault}
+use Rattle.squitter_c.specs.declared.faults.Refusal.{Refusal}
+use Rattle.squitter_c.specs.declared.faults.Refusal.TheVariants as refusals
+use Rattle.squitter_c.specs.declared.plain.PlainAngle.{PlainAngle}
+use Rattle.squitter_c.specs.declared.plain.PlainPosition.{PlainPosition}
+use Rattle.squitter_c.specs.Angles.{IsAngleAnswer}
+use Rattle.squitter_c.specs.Faults.{Tells, as_it_is}
+use Rattle.squitter_c.specs.Plain.{IsOfDegrees, PlainIsPosition}
+
+-- the whole number of ten-millionths nearest to the magnitude of x, with x's sign
+abbrev pub IsE7 : Fraction → ℤ → Type 0
+IsE7 x k = (v : ℕ) × IsNearest (magnitude x) ten_millionth (pos v) × (k ≡ signed (int_lt x.num (pos 0)) v)
+
+-- an angle's
+abbrev pub IsE7Of : Angle → ℤ → Type 0
+IsE7Of angle k = IsE7 (degrees angle) k
+
+-- an angle as such a number, or that the fraction is none
+abbrev pub IsAngleE7 : PlainAngle → (old new : ℤ) → Fault → Type 0
+IsAngleE7 plain old new fault =
+    (answer : Result Angle Refusal) × IsAngleAnswer plain answer × Tells IsE7Of as_it_is answer old new fault
+
+-- both coordinates
+pub record AreE7Of (position : Position) (written : DegreesE7) : Type 0 where
+  pub lat : IsE7 (degrees (lat_of position)) written.lat
+  pub lon : IsE7 (degrees (lon_of position)) written.lon
+
+-- the position of these fractions, or that they are none
+abbrev pub IsPositionAnswer : PlainPosition → Result Position Refusal → Type 0
+IsPositionAnswer plain (Ok position) = IsOfDegrees plain position
+IsPositionAnswer plain (Err reason) = (¬ (PlainIsPosition plain)) × (reason ≡ refusals.NoPosition)
+
+-- a position as two such numbers
+abbrev pub IsPositionE7 : PlainPosition → (old new : DegreesE7) → Fault → Type 0
+IsPositionE7 plain old new fault =
+    (answer : Result Position Refusal) × IsPositionAnswer plain answer × Tells AreE7Of as_it_is answer old new fault

@@ -1,0 +1,163 @@
+//! Many calls in one: at each place what the call by itself answers.
+//!
+//! The shortest of the arrays counts, and the answer is how many places that are. What lies beyond is as it was.
+ghost use Rattle.std.specs.Prelude.{◌≡◌, length, min};
+ghost use Rattle.squitter_c.specs.Many.{AreAnswered, IsBelow, IsE7At, IsHeardAt, IsHeardNear, IsLocalAt};
+ghost use Rattle.squitter_c.specs.Many.{IsPairNear, IsPairThere, IsReadAt, Leads, shortest};
+
+use crate::decode::{squitter_local, squitter_pair, squitter_pair_at};
+use crate::e7::{DegreesE7, squitter_position_e7};
+use crate::entry::PlainEntry;
+use crate::faults::Fault;
+use crate::fields::PlainSquitter;
+use crate::hear::{PlainHeard, squitter_hear, squitter_hear_at};
+use crate::plain::PlainPosition;
+use crate::read::squitter_read_frame;
+
+/// Reads each frame, as [`squitter_read_frame`] does, into its place of `out`.
+#[unsafe(no_mangle)]
+pub extern "C" fn squitter_read_many(
+    frames: &[[u8; 14]],
+    out: &mut [PlainSquitter],
+    faults: &mut [Fault],
+) -> usize
+    ensures count { result ≡ shortest (length frames.now) (length out.old) (length faults.old) }
+    ensures each { AreAnswered (IsReadAt frames.now) out.old out.new faults.old faults.new result }
+{
+    let count = frames.len().min(out.len().min(faults.len()));
+    for at in 0..count {
+        faults[at] = squitter_read_frame(&frames[at], &mut out[at]);
+    }
+    count
+}
+
+/// Decodes each frame near the reference of its place, as [`squitter_local`] does.
+#[unsafe(no_mangle)]
+pub extern "C" fn squitter_local_many(
+    frames: &[[u8; 14]],
+    references: &[PlainPosition],
+    out: &mut [PlainPosition],
+    faults: &mut [Fault],
+) -> usize
+    ensures count { result ≡ min (length frames.now)
+        (shortest (length references.now) (length out.old) (length faults.old)) }
+    ensures each { AreAnswered (IsLocalAt frames.now references.now) out.old out.new faults.old faults.new result }
+{
+    let count = frames
+        .len()
+        .min(references.len().min(out.len().min(faults.len())));
+    for at in 0..count {
+        faults[at] = squitter_local(&frames[at], &references[at], &mut out[at]);
+    }
+    count
+}
+
+/// Decodes the pair of each place, as [`squitter_pair`] does.
+#[unsafe(no_mangle)]
+pub extern "C" fn squitter_pair_many(
+    older: &[[u8; 14]],
+    newer: &[[u8; 14]],
+    out: &mut [PlainPosition],
+    faults: &mut [Fault],
+) -> usize
+    ensures count { result ≡ min (length older.now) (shortest (length newer.now) (length out.old) (length faults.old)) }
+    ensures each { AreAnswered (IsPairThere older.now newer.now) out.old out.new faults.old faults.new result }
+{
+    let count = older
+        .len()
+        .min(newer.len().min(out.len().min(faults.len())));
+    for at in 0..count {
+        faults[at] = squitter_pair(&older[at], &newer[at], &mut out[at]);
+    }
+    count
+}
+
+/// Decodes the pair of each place with one site, as [`squitter_pair_at`] does.
+#[unsafe(no_mangle)]
+pub extern "C" fn squitter_pair_at_many(
+    older: &[[u8; 14]],
+    newer: &[[u8; 14]],
+    site: &PlainPosition,
+    out: &mut [PlainPosition],
+    faults: &mut [Fault],
+) -> usize
+    ensures count { result ≡ min (length older.now) (shortest (length newer.now) (length out.old) (length faults.old)) }
+    ensures each { AreAnswered (IsPairNear older.now newer.now site.now) out.old out.new faults.old faults.new result }
+{
+    let count = older
+        .len()
+        .min(newer.len().min(out.len().min(faults.len())));
+    for at in 0..count {
+        faults[at] = squitter_pair_at(&older[at], &newer[at], site, &mut out[at]);
+    }
+    count
+}
+
+/// Writes each position in whole numbers of 10^-7 degree, as [`squitter_position_e7`] does.
+#[unsafe(no_mangle)]
+pub extern "C" fn squitter_position_e7_many(
+    positions: &[PlainPosition],
+    out: &mut [DegreesE7],
+    faults: &mut [Fault],
+) -> usize
+    ensures count { result ≡ shortest (length positions.now) (length out.old) (length faults.old) }
+    ensures each { AreAnswered (IsE7At positions.now) out.old out.new faults.old faults.new result }
+{
+    let count = positions.len().min(out.len().min(faults.len()));
+    for at in 0..count {
+        faults[at] = squitter_position_e7(&positions[at], &mut out[at]);
+    }
+    count
+}
+
+/// Hears frames of the entry's address one after the other, each at its moment, as [`squitter_hear`] does.
+#[unsafe(no_mangle)]
+pub extern "C" fn squitter_hear_many(
+    entry: &mut PlainEntry,
+    window: u64,
+    moments: &[u64],
+    frames: &[[u8; 14]],
+    out: &mut [PlainHeard],
+    faults: &mut [Fault],
+) -> usize
+    ensures count { result ≡ min (length moments.now)
+        (shortest (length frames.now) (length out.old) (length faults.old)) }
+    ensures each { Leads (IsHeardAt window moments.now frames.now) entry.old out.old out.new faults.new
+        result entry.new }
+    ensures rest { IsBelow out.old out.new faults.old faults.new result }
+{
+    let count = moments
+        .len()
+        .min(frames.len().min(out.len().min(faults.len())));
+    for at in 0..count {
+        faults[at] = squitter_hear(entry, window, moments[at], &frames[at], &mut out[at]);
+    }
+    count
+}
+
+/// Hears frames of the entry's address with a site, as [`squitter_hear_at`] does.
+#[unsafe(no_mangle)]
+pub extern "C" fn squitter_hear_at_many(
+    entry: &mut PlainEntry,
+    window: u64,
+    site: &PlainPosition,
+    moments: &[u64],
+    frames: &[[u8; 14]],
+    out: &mut [PlainHeard],
+    faults: &mut [Fault],
+) -> usize
+    ensures count { result ≡ min (length moments.now)
+        (shortest (length frames.now) (length out.old) (length faults.old)) }
+    ensures each { Leads (IsHeardNear window site.now moments.now frames.now) entry.old out.old out.new faults.new
+        result entry.new }
+    ensures rest { IsBelow out.old out.new faults.old faults.new result }
+{
+    let count = moments
+        .len()
+        .min(frames.len().min(out.len().min(faults.len())));
+    for at in 0..count {
+        let fault = squitter_hear_at(entry, window, site, moments[at], &frames[at], &mut out[at]);
+        faults[at] = fault;
+    }
+    count
+}
