@@ -113,6 +113,11 @@ typedef struct squitter_position {
   squitter_angle lat, lon;
 } squitter_position;
 
+/* A latitude and a longitude in whole numbers of 10^-7 degree. */
+typedef struct squitter_degrees_e7 {
+  int32_t lat, lon;
+} squitter_degrees_e7;
+
 /* The kind of a squitter, by its type code. */
 enum {
   SQUITTER_OTHER = 0,  /* every other type code: kept raw */
@@ -260,6 +265,49 @@ squitter_fault squitter_hear_at(squitter_entry *SQUITTER_RESTRICT entry, uint64_
                                 uint64_t moment, const uint8_t SQUITTER_CONST_BYTES(frame, 14),
                                 squitter_heard *SQUITTER_RESTRICT out) SQUITTER_CALL;
 
+/* ---- Arrays ---- */
+
+/* Many calls in one. At place k of `out` and of `faults` stands what the call by itself answers for place k of the others; at
+ * a fault that place of `out` is as it was. Each array has its number of elements after it; the shortest counts, and the answer
+ * is how many places that are. What lies beyond is as it was. An array may have no element, and then its pointer too points
+ * somewhere. `out` and `faults` overlap no other argument. */
+
+/* squitter_read_frame of each frame. */
+size_t squitter_read_many(const uint8_t (*frames)[14], size_t frames_count, squitter_fields *SQUITTER_RESTRICT out,
+                          size_t out_count, squitter_fault *SQUITTER_RESTRICT faults, size_t faults_count) SQUITTER_CALL;
+
+/* squitter_local of each frame near the reference of its place. */
+size_t squitter_local_many(const uint8_t (*frames)[14], size_t frames_count, const squitter_position *references,
+                           size_t references_count, squitter_position *SQUITTER_RESTRICT out, size_t out_count,
+                           squitter_fault *SQUITTER_RESTRICT faults, size_t faults_count) SQUITTER_CALL;
+
+/* squitter_pair of each older frame and the newer one of its place. */
+size_t squitter_pair_many(const uint8_t (*older)[14], size_t older_count, const uint8_t (*newer)[14], size_t newer_count,
+                          squitter_position *SQUITTER_RESTRICT out, size_t out_count,
+                          squitter_fault *SQUITTER_RESTRICT faults, size_t faults_count) SQUITTER_CALL;
+
+/* squitter_pair_at of the same, with one site. */
+size_t squitter_pair_at_many(const uint8_t (*older)[14], size_t older_count, const uint8_t (*newer)[14], size_t newer_count,
+                             const squitter_position *site, squitter_position *SQUITTER_RESTRICT out, size_t out_count,
+                             squitter_fault *SQUITTER_RESTRICT faults, size_t faults_count) SQUITTER_CALL;
+
+/* squitter_hear of each frame at its moment, one after the other: each call finds the entry as the one before left it. */
+size_t squitter_hear_many(squitter_entry *SQUITTER_RESTRICT entry, uint64_t window, const uint64_t *moments,
+                          size_t moments_count, const uint8_t (*frames)[14], size_t frames_count,
+                          squitter_heard *SQUITTER_RESTRICT out, size_t out_count,
+                          squitter_fault *SQUITTER_RESTRICT faults, size_t faults_count) SQUITTER_CALL;
+
+/* squitter_hear_at of the same. */
+size_t squitter_hear_at_many(squitter_entry *SQUITTER_RESTRICT entry, uint64_t window, const squitter_position *site,
+                             const uint64_t *moments, size_t moments_count, const uint8_t (*frames)[14], size_t frames_count,
+                             squitter_heard *SQUITTER_RESTRICT out, size_t out_count,
+                             squitter_fault *SQUITTER_RESTRICT faults, size_t faults_count) SQUITTER_CALL;
+
+/* squitter_position_e7 of each position. */
+size_t squitter_position_e7_many(const squitter_position *positions, size_t positions_count,
+                                 squitter_degrees_e7 *SQUITTER_RESTRICT out, size_t out_count,
+                                 squitter_fault *SQUITTER_RESTRICT faults, size_t faults_count) SQUITTER_CALL;
+
 /* ---- Sending ---- */
 
 /* The frame that is sent of a position in the air, with the code of the point to which the position rounds.
@@ -284,6 +332,13 @@ squitter_fault squitter_zone_count(const squitter_angle *lat, uint8_t *SQUITTER_
 /* The text of an angle with seven decimals, rounded, ties away from zero: at most 12 bytes, and zeros after them.
  * Fault: BAD_ANGLE. */
 squitter_fault squitter_text_of_angle(const squitter_angle *angle, char SQUITTER_BYTES(out, 16)) SQUITTER_CALL;
+
+/* An angle in whole numbers of 10^-7 degree, rounded, ties away from zero, as the seven decimals of its text are.
+ * Fault: BAD_ANGLE. */
+squitter_fault squitter_angle_e7(const squitter_angle *angle, int64_t *SQUITTER_RESTRICT out) SQUITTER_CALL;
+
+/* The same of both coordinates of a position. Fault: BAD_POSITION. */
+squitter_fault squitter_position_e7(const squitter_position *position, squitter_degrees_e7 *SQUITTER_RESTRICT out) SQUITTER_CALL;
 
 /* The angle that a text spells: an optional `-`, one to three digits, and optionally a point and one to twelve digits.
  * Faults: NOT_A_NUMBER, TOO_MANY_DECIMALS, ANGLE_RANGE. */
@@ -322,6 +377,7 @@ SQUITTER_SIZE(squitter_last_fix, 40);
 SQUITTER_SIZE(squitter_side, 88);
 SQUITTER_SIZE(squitter_entry, 192);
 SQUITTER_SIZE(squitter_heard, 40);
+SQUITTER_SIZE(squitter_degrees_e7, 8);
 
 #ifdef __cplusplus
 }

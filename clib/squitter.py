@@ -21,16 +21,20 @@ from ctypes.util import find_library
 from dataclasses import dataclass
 from fractions import Fraction
 from numbers import Rational
-from typing import NamedTuple, Optional, Tuple, Union
+from typing import Iterable, Iterator, List, NamedTuple, Optional, Sequence, Tuple, Union
 
 __all__ = [
     "AirHead", "Altitude", "AltitudeForm", "Code", "Contact", "Fault", "Fields", "Frame", "GroundHead", "Heard", "Kind",
-    "Position", "What", "angle", "angle_text", "encode", "fault_text", "feet_of_field", "field_of_feet", "frame",
-    "frame_text", "local", "pair", "read", "send_again", "version", "zone_count",
+    "Position", "What", "angle", "angle_e7", "angle_text", "encode", "fault_text", "feet_of_field", "field_of_feet",
+    "frame", "frame_text", "local", "local_many", "pair", "pair_many", "position_e7", "read", "read_many", "send_again",
+    "version", "zone_count",
 ]
 
 Frame = Union[bytes, bytearray, str]
 """A frame: 14 bytes, or a frame text."""
+
+Frames = Union[bytes, bytearray, memoryview]
+"""Frames one after the other, 14 bytes each."""
 
 Degrees = Union[int, Rational]
 """An exact number of degrees: an int or a Fraction. A float is refused."""
@@ -254,6 +258,9 @@ class _Heard(ctypes.Structure):
     ]
 
 
+class _DegreesE7(ctypes.Structure):
+    _fields_ = [("lat", ctypes.c_int32), ("lon", ctypes.c_int32)]
+
 
 # What each call takes.
 _CALLS = {
@@ -273,6 +280,20 @@ _CALLS = {
     "angle_of_text": [ctypes.c_char_p, ctypes.c_size_t, _P(_Angle)],
     "feet_of_field": [ctypes.c_uint8, ctypes.c_uint16, _P(_Altitude)],
     "field_of_feet": [ctypes.c_int32, _P(ctypes.c_uint16)],
+    "angle_e7": [_P(_Angle), _P(ctypes.c_int64)],
+    "position_e7": [_P(_Position), _P(_DegreesE7)],
+}
+
+# And each call of arrays, which are handed over as an address and a number of elements.
+_ARRAY = [ctypes.c_void_p, ctypes.c_size_t]
+_MANY = {
+    "read_many": 3 * _ARRAY,
+    "local_many": 4 * _ARRAY,
+    "pair_many": 4 * _ARRAY,
+    "pair_at_many": [*_ARRAY, *_ARRAY, _P(_Position), *_ARRAY, *_ARRAY],
+    "hear_many": [_P(_Entry), ctypes.c_uint64, *(4 * _ARRAY)],
+    "hear_at_many": [_P(_Entry), ctypes.c_uint64, _P(_Position), *(4 * _ARRAY)],
+    "position_e7_many": 3 * _ARRAY,
 }
 
 
@@ -288,6 +309,9 @@ def _load() -> ctypes.CDLL:
     for name, arguments in _CALLS.items():
         call = getattr(library, f"squitter_{name}")
         call.argtypes, call.restype = arguments, _Fault
+    for name, arguments in _MANY.items():
+        call = getattr(library, f"squitter_{name}")
+        call.argtypes, call.restype = arguments, ctypes.c_size_t
     library.squitter_text_of_frame.argtypes = [ctypes.c_char_p, ctypes.c_char_p]
     library.squitter_text_of_frame.restype = None
     library.squitter_text_of_fault.argtypes = [_P(_Fault), ctypes.c_char_p]
@@ -400,6 +424,10 @@ def read(source: Frame) -> Fields:
         _done(_lib.squitter_read_text(text, len(text), ctypes.byref(out)))
     else:
         _done(_lib.squitter_read_frame(frame(source), ctypes.byref(out)))
+    return _read_fields(out)
+
+
+def _read_fields(out: _Fields) -> Fields:
     return Fields(
         Kind(out.kind), out.address, out.ca, out.type_code, out.odd, out.lat, out.lon, out.time, out.status, out.flag,
         out.altitude, AltitudeForm(out.altitude_form), out.feet, out.movement, out.track_status, out.track, out.raw,
@@ -425,6 +453,57 @@ def pair(older: Frame, newer: Frame, site: Optional[Position] = None) -> Positio
     else:
         _done(_lib.squitter_pair_at(first, second, ctypes.byref(here), ctypes.byref(out)))
     return _read_position(out)
+
+
+# ---- arrays ----
+
+
+def _frames(source: Frames) -> Tuple[bytes, int]:
+    """Frames one after the other, and how many: 14 bytes each, else a ValueError."""
+    view = memoryview(source)
+    if view.itemsize != 1 or view.nbytes % 14:
+        raise ValueError("frames are 14 bytes each")
+    return view.tobytes(), view.nbytes // 14
+
+
+def _many(name: str, kind: type, count: int, *before: object) -> Iterator[Tuple[ctypes.Structure, Optional[Fault]]]:
+    """What a call of arrays answers at each place: what it wrote, and the fault or None."""
+    out, faults = (kind * count)(), (_Fault * count)()
+    getattr(_lib, f"squitter_{name}")(*before, ctypes.addressof(out), count, ctypes.addressof(faults), count)
+    for one, fault in zip(out, faults):
+        yield one, Fault(fault.code, fault.first, fault.second) if fault.code else None
+
+
+def read_many(frames: Frames) -> List[Union[Fields, Fault]]:
+    """The fields of each frame, or its fault, which is not raised."""
+    source, count = _frames(frames)
+    return [fault or _read_fields(out) for out, fault in _many("read_many", _Fields, count, source, count)]
+
+
+def _places(answers: Iterable[Tuple[ctypes.Structure, Optional[Fault]]]) -> List[Union[Position, Fault]]:
+    return [fault or _read_position(out) for out, fault in answers]
+
+
+def local_many(frames: Frames, references: Sequence[Position]) -> List[Union[Position, Fault]]:
+    """The place of each frame near the reference of its place, or its fault. Other than one reference a frame is a
+    ValueError."""
+    source, count = _frames(frames)
+    if len(references) != count:
+        raise ValueError(f"{count} frames and {len(references)} references")
+    here = (_Position * count)(*map(_position, references))
+    return _places(_many("local_many", _Position, count, source, count, ctypes.addressof(here), count))
+
+
+def pair_many(older: Frames, newer: Frames, site: Optional[Position] = None) -> List[Union[Position, Fault]]:
+    """The place of each pair of frames, or its fault; on the ground near the site. Other than one newer frame for each
+    older one is a ValueError."""
+    (first, count), (second, other) = _frames(older), _frames(newer)
+    if count != other:
+        raise ValueError(f"{count} older frames and {other} newer ones")
+    if site is None:
+        return _places(_many("pair_many", _Position, count, first, count, second, count))
+    here = ctypes.byref(_position(site))
+    return _places(_many("pair_at_many", _Position, count, first, count, second, count, here))
 
 
 # ---- hearing ----
@@ -469,9 +548,24 @@ class Contact:
             here = ctypes.byref(self._site)
             fault = _lib.squitter_hear_at(entry, self._window, here, moment, heard, ctypes.byref(out))
         _done(fault)
-        what = What(out.what)
-        place = _read_position(out.position) if what in (What.FIX, What.FOLLOWED) else None
-        return Heard(what, place, out.even, out.odd)
+        return _read_heard(out)
+
+    def hear_many(self, moments: Sequence[int], frames: Frames) -> List[Union[Heard, Fault]]:
+        """What is heard of each frame at its moment, one after the other, or its fault, which is not raised. Other than
+        one moment a frame is a ValueError."""
+        source, count = _frames(frames)
+        if len(moments) != count:
+            raise ValueError(f"{count} frames and {len(moments)} moments")
+        if not all(_fits(moment, 64) for moment in moments):
+            raise ValueError("a moment is a whole number below 2**64")
+        times = (ctypes.c_uint64 * count)(*map(operator.index, moments))
+        arrays = (ctypes.addressof(times), count, source, count)
+        entry = ctypes.byref(self._entry)
+        if self._site is None:
+            answers = _many("hear_many", _Heard, count, entry, self._window, *arrays)
+        else:
+            answers = _many("hear_at_many", _Heard, count, entry, self._window, ctypes.byref(self._site), *arrays)
+        return [fault or _read_heard(out) for out, fault in answers]
 
     @property
     def last(self) -> int:
@@ -482,6 +576,12 @@ class Contact:
     def newest(self) -> int:
         """The moment of the newest position, 0 where none was heard."""
         return int(self._entry.newest)
+
+
+def _read_heard(out: _Heard) -> Heard:
+    what = What(out.what)
+    place = _read_position(out.position) if what in (What.FIX, What.FOLLOWED) else None
+    return Heard(what, place, out.even, out.odd)
 
 
 # ---- sending ----
@@ -532,6 +632,20 @@ def angle_text(degrees: Degrees) -> str:
     plain, out = _angle(degrees, Code.BAD_ANGLE), ctypes.create_string_buffer(16)
     _done(_lib.squitter_text_of_angle(ctypes.byref(plain), out))
     return out.value.decode("ascii")
+
+
+def angle_e7(degrees: Degrees) -> int:
+    """An angle in whole numbers of 10^-7 degree, rounded, ties away from zero."""
+    plain, out = _angle(degrees, Code.BAD_ANGLE), ctypes.c_int64()
+    _done(_lib.squitter_angle_e7(ctypes.byref(plain), ctypes.byref(out)))
+    return out.value
+
+
+def position_e7(position: Position) -> Tuple[int, int]:
+    """A latitude and a longitude in whole numbers of 10^-7 degree, rounded, ties away from zero."""
+    here, out = _position(position), _DegreesE7()
+    _done(_lib.squitter_position_e7(ctypes.byref(here), ctypes.byref(out)))
+    return out.lat, out.lon
 
 
 def angle(text: str) -> Fraction:

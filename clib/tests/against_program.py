@@ -1,5 +1,6 @@
 #!/usr/bin/env python3
 """against_program.py [COUNT]: the module squitter beside the program, on so many random frames, positions and pairs (10000).
+The calls of arrays, and whole numbers of 10^-7 degree, are held to the single calls, which are held to the program.
 
 The frames are nearly good: made of random positions, some damaged. The program reads them as one input of `check` and of
 `track`; `encode`, `local` and `pair`, with a site and without, are called so many times each. PROGRAM is the program (the
@@ -163,14 +164,52 @@ def compare_calls(rng, texts, count):
     return len(asked)
 
 
+def single(call, *arguments):
+    """What a call answers, or its fault, so that two can be compared."""
+    try:
+        return call(*arguments)
+    except Fault as fault:
+        return fault.code, fault.first, fault.second
+
+
+def places_of(answers):
+    return [(one.code, one.first, one.second) if isinstance(one, Fault) else one for one in answers]
+
+
+def compare_arrays(rng, texts):
+    """Each call of arrays beside the single calls, with a frame at each place that is now and then at fault."""
+    frames = [frame for frame in (single(squitter.frame, text) for text in texts) if isinstance(frame, bytes)]
+    older = [rng.choice(frames) for _ in frames]
+    near = [Position(91, 0) if rng.random() < 0.01 else degrees(random_position(rng)) for _ in frames]
+    moments = [rng.randint(at, at + 40) for at in range(len(frames))]
+    one, many, array, site = Contact(10_000), Contact(10_000), b"".join(frames), degrees(random_position(rng))
+    asked = (
+        ("read", squitter.read_many(array), [single(squitter.read, frame) for frame in frames]),
+        ("local", squitter.local_many(array, near), [single(squitter.local, *two) for two in zip(frames, near)]),
+        ("pair", squitter.pair_many(b"".join(older), array), [single(squitter.pair, *two) for two in zip(older, frames)]),
+        ("pair with a site", squitter.pair_many(b"".join(older), array, site),
+         [single(squitter.pair, *two, site) for two in zip(older, frames)]),
+        ("hear", many.hear_many(moments, array), [single(one.hear, *two) for two in zip(moments, frames)]),
+        ("e7", [single(squitter.position_e7, place) for place in near],
+         [(Code.BAD_POSITION, 0, 0) if place.lat > 90 else tuple(int(squitter.angle_text(part).replace(".", ""))
+          for part in place) for place in near]),
+    )
+    for name, ours, theirs in asked:
+        same(f"places of {name}", len(ours), len(theirs))
+        for got, wanted in zip(places_of(ours), theirs):
+            same(f"{name} of arrays", got, wanted)
+    return len(frames)
+
+
 def main():
     count = int(sys.argv[1]) if len(sys.argv) > 1 else 10_000
     rng = random.Random(20261122)
     texts = list(random_frames(rng, count))
     lines = compare_logs(rng, texts)
     calls = compare_calls(rng, texts, count)
+    places = compare_arrays(rng, texts)
     print(f"against the program: {lines} frames by check and by track, {calls} calls of local, pair and encode; "
-          f"{differences} differ")
+          f"{places} places of each call of arrays; {differences} differ")
     sys.exit(differences != 0)
 
 

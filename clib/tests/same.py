@@ -28,6 +28,7 @@ STRUCTS = {
     "PlainAltitude": ("squitter_altitude", "_Altitude"), "PlainReceived": ("squitter_received", "_Received"),
     "PlainFix": ("squitter_last_fix", "_LastFix"), "PlainSide": ("squitter_side", "_Side"),
     "PlainEntry": ("squitter_entry", "_Entry"), "PlainHeard": ("squitter_heard", "_Heard"),
+    "DegreesE7": ("squitter_degrees_e7", "_DegreesE7"),
 }
 # Reasons whose code has another name in C.
 RENAMED = {
@@ -73,13 +74,18 @@ def exports():
     """Each export: its name, its parameters and what it answers."""
     for source in sources():
         for name, parameters, answer in re.findall(r"pub extern \"C\" fn (\w+)\((.*?)\)(?: -> (\w+))?\n", source, re.S):
-            yield name, re.findall(r"(\w+): (&?(?:mut )?(?:\[u8(?:; \d+)?\]|\w+))", parameters), answer
+            yield name, re.findall(r"(\w+): (&?(?:mut )?(?:\[+\w+(?:; \d+)?\]+|\w+))", parameters), answer
 
 
 def c_parameter(name, rust, texts):
     """A parameter as C declares it. The bytes of a text are char in C, those of a frame uint8_t."""
     if rust == "&[u8]":
         return "const char *, size_t"
+    if rust == "&[[u8; 14]]":
+        return "const uint8_t (*)[14], size_t"
+    many = re.fullmatch(r"&(mut )?\[(\w+)\]", rust)
+    if many:
+        return f"{'' if many[1] else 'const '}{c_type(many[2])[0]} *, size_t"
     borrowed = re.fullmatch(r"&(mut )?(.*)", rust)
     if not borrowed:
         return c_type(rust)[0]
@@ -109,7 +115,7 @@ def c_checks():
     for name, parameters, answer in exports():
         texts = name.startswith("squitter_text_of")
         kinds = ", ".join(c_parameter(n, t, texts) for n, t in parameters) or "void"
-        result = {"": "void", "Fault": "squitter_fault"}.get(answer) or NUMBERS[answer]
+        result = {"": "void", "Fault": "squitter_fault", "usize": "size_t"}.get(answer) or NUMBERS[answer]
         yield f'_Static_assert(_Generic(&{name}, {result} (*)({kinds}): 1, default: 0), "type of {name}");'
 
 
@@ -192,7 +198,7 @@ def check_symbols():
         wanted = {row[-1].split("@")[0] for row in symbols(*words, "--undefined-only", path)}
         if wanted - WANTED:
             differ(f"{file} wants {sorted(wanted - WANTED)}")
-    called = {f"squitter_{name}" for name in squitter._CALLS}
+    called = {f"squitter_{name}" for name in {**squitter._CALLS, **squitter._MANY}}
     called |= {"squitter_text_of_frame", "squitter_text_of_fault", "squitter_version"}
     if called != names:
         differ(f"calls of squitter.py: {sorted(called ^ names)}")

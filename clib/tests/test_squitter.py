@@ -50,6 +50,40 @@ class Calls(unittest.TestCase):
         self.refused(Code.DIGIT, squitter.frame, "\ud800" + EVEN[3:], first=1)
         self.refused(Code.DIGIT, squitter.frame, "\udc80" + EVEN[1:], first=1)
 
+    def test_arrays(self):
+        bad, even, odd = bytes(14), bytes.fromhex(EVEN), bytes.fromhex(ODD)
+        near = Position(52, 4)
+        fault, first, second = squitter.read_many(bad + even + odd)
+        self.assertEqual((fault.code, fault.first), (Code.NOT_DF17, 0))
+        self.assertEqual((first, second), (squitter.read(EVEN), squitter.read(ODD)))
+        self.assertEqual(squitter.read_many(b""), [])
+        place, fault = squitter.local_many(even + bad, [near, near])
+        self.assertEqual((place, fault.code), (PLACE, Code.NOT_DF17))
+        self.assertEqual(squitter.local_many(even, [Position(91, 0)])[0].code, Code.BAD_POSITION)
+        older, newer = bytes.fromhex(GROUND_OLDER) + odd, bytes.fromhex(GROUND_NEWER) + even
+        fault, place = squitter.pair_many(older, newer)
+        self.assertEqual((fault.code, place), (Code.NO_SITE, PLACE))
+        self.assertEqual(squitter.pair_many(older, newer, SITE), [GROUND_PLACE, PLACE])
+        for site in (None, SITE):
+            one, many = Contact(10_000, site), Contact(10_000, site)
+            waiting, fault, fix, back = many.hear_many([5, 6, 7, 6], odd + bad + even + odd)
+            self.assertEqual((waiting, fix), (one.hear(5, ODD), one.hear(7, EVEN)))
+            self.assertEqual((fault.code, back.code, back.first), (Code.NOT_DF17, Code.MOMENT_BACK, 7))
+            self.assertEqual((many.last, many.newest), (one.last, one.newest))
+        for call, arguments in (
+            (squitter.read_many, (b"-",)), (squitter.local_many, (even, [])), (squitter.pair_many, (older, even)),
+            (Contact(1).hear_many, ([], even)), (Contact(1).hear_many, ([-1], even)),
+        ):
+            with self.assertRaises(ValueError):
+                call(*arguments)
+
+    def test_whole_numbers(self):
+        self.assertEqual(squitter.position_e7(PLACE), (522572021, 39193726))
+        self.assertEqual(squitter.angle_e7(360), 3600000000)
+        self.assertEqual(squitter.angle_e7(Fraction(-1, 20000000)), -1)
+        self.refused(Code.BAD_ANGLE, squitter.angle_e7, 361)
+        self.refused(Code.BAD_POSITION, squitter.position_e7, Position(91, 0))
+
     def test_fields(self):
         fields = squitter.read(EVEN)
         self.assertEqual(fields, squitter.read(bytes.fromhex(EVEN)))
