@@ -9,13 +9,15 @@
  * squitter.h), the address or -1, the place or NaN, and the moment. */
 
 /**
- * Hears a log that comes in pieces. Like squitterLibrary it uses nothing that stands outside of it.
+ * Hears a log that comes in pieces. Like squitterModule it uses nothing that stands outside of it.
  * @param {Library} library
  * @param {HearingSettings} settings
  */
 function squitterHearing(library, settings) {
-  const { exports, view, bytes, bytesAt, reach, getText, putPosition } = library.inside;
-  const { FAULT, OUT, FIRST, PLACE, TEXT } = library.inside;
+  const { memory } = library, { exports } = memory;
+  const { faultAt: FAULT, outAt: OUT, firstAt: FIRST, placeAt: PLACE, textAt: TEXT } = memory;
+  const view = () => memory.view(), bytes = () => memory.bytes(), bytesAt = (at, count) => memory.bytesAt(at, count);
+  const reach = (at, count) => memory.reach(at, count), getText = (at, room) => memory.getText(at, room);
   const WORDS = ["", "fix", "followed", "waiting", "split", "far", "no site", "no position"];
   const LONG_LINE = 40, BAD_MOMENT = 41, MOMENT_BACK = 42, TABLE_FULL = 43;
   const LONGEST = 64, ENTRY = 192, OTHER = 0, NO_PLACE = 7;
@@ -23,7 +25,7 @@ function squitterHearing(library, settings) {
   const lineAt = TEXT, wordsAt = TEXT + 128, piecesAt = TEXT + 256, pieceBytes = 1 << 20;
   const spareAt = piecesAt + pieceBytes, entriesAt = spareAt + ENTRY;
   reach(spareAt, ENTRY);
-  if (settings.site) putPosition(PLACE, settings.site);
+  if (settings.site) memory.putPosition(PLACE, settings.site);
 
   /**
    * Addresses with a position that is at most the window old, the longest unheard first: where their entries lie, and
@@ -210,7 +212,7 @@ function squitterHearingWorker() {
   const post = (answers) => postMessage({ answers });
   onmessage = async ({ data: { wasm, file, settings } }) => {
     try {
-      const hearing = squitterHearing(await squitterLibrary(wasm), settings);
+      const hearing = squitterHearing(await squitterModule().load(wasm), settings);
       for (let from = 0; from < file.size; from += hearing.pieceBytes) {
         const piece = await file.slice(from, from + hearing.pieceBytes).arrayBuffer();
         post(hearing.take(new Uint8Array(piece)));
@@ -223,5 +225,3 @@ function squitterHearingWorker() {
     }
   };
 }
-
-if (typeof module !== "undefined") module.exports = { squitterHearing };

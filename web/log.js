@@ -4,6 +4,15 @@
 /** @typedef {Answers & {first: number}} Chunk  some answers, with how many came before them */
 
 const ROWS_SHOWN = 100;
+
+/** Nothing but a text that the page has put together itself may become a script, and that only of a worker. */
+const WORKER_POLICY = /** @type {any} */ (window).trustedTypes?.createPolicy("squitter-worker", {
+  createScriptURL(address) {
+    if (!address.startsWith("blob:")) throw new TypeError("a worker starts from a blob");
+    return address;
+  },
+}) ?? { createScriptURL: (address) => address };
+
 const HEARD = ["refused", "fix", "followed", "waiting", "split", "far", "no site", "no position"];
 
 /** The answers to a log so far, and which of them a filter leaves. */
@@ -71,13 +80,16 @@ class LogPanel {
   /** @param {Library} library */
   constructor(library) {
     this.library = library;
-    this.map = new TrackMap(byId("map"), (text) => { byId("map-state").textContent = text; });
+    const saying = (name) => (text) => { byId(name).textContent = text; };
+    this.map = new TrackMap(byId("map"), saying("map-state"), saying("map-spot"));
+    this.playback = new Playback(this.map);
     this.answers = new LogAnswers();
     this.tracks = new Tracks(0);
     /** @type {Worker | null} */
     this.worker = null;
     this.at = 0;
     this.started = 0;
+    this.seconds = 0;
     this.listen();
   }
 
@@ -93,7 +105,7 @@ class LogPanel {
     const lat = byId("log-lat").value, lon = byId("log-lon").value;
     const site = lat.trim() || lon.trim() ? positionOf(this.library, lat, lon) : null;
     // (a site that is no position is refused here, before any line is)
-    if (site) this.library.encode("air", { address: 0, odd: 0 }, site);
+    if (site) this.library.encode(new AirHead({ address: 0 }), site);
     return { window, limit, site };
   }
 
@@ -110,12 +122,13 @@ class LogPanel {
     this.setFilter();
     this.tracks = new Tracks(Number(settings.window));
     this.map.show(this.tracks);
+    this.playback.take(new Tracks(0));
     this.name = name;
     this.size = file.size;
     this.started = performance.now();
-    const text = `"use strict";\n${squitterLibrary}\n${squitterHearing}\n(${squitterHearingWorker})();`;
+    const text = `"use strict";\n${squitterModule}\n${squitterHearing}\n(${squitterHearingWorker})();`;
     const address = URL.createObjectURL(new Blob([text], { type: "text/javascript" }));
-    this.worker = new Worker(address);
+    this.worker = new Worker(WORKER_POLICY.createScriptURL(address));
     URL.revokeObjectURL(address);
     this.worker.onmessage = ({ data }) => this.told(data);
     this.worker.onerror = (event) => this.told({ failed: event.message || "the worker did not start" });
@@ -144,13 +157,15 @@ class LogPanel {
   /** The log is at its end, or was left. */
   end(how) {
     this.stop();
-    const { count, places, refused } = this.answers, seconds = (performance.now() - this.started) / 1000;
+    const { count, places, refused } = this.answers;
+    this.seconds = (performance.now() - this.started) / 1000;
     byId("log-progress").value = how === "heard" ? 1 : byId("log-progress").value;
     const counts = `${count} answers, ${places} places, ${refused} refused`;
-    this.say(`${this.name}: ${how}. ${counts}, in ${seconds.toFixed(1)} seconds.`);
+    this.say(`${this.name}: ${how}. ${counts}, in ${this.seconds.toFixed(1)} seconds.`);
     this.showRows();
     this.nameTracks();
     if (!this.map.moved) this.map.fit();
+    this.playback.take(this.tracks);
     this.able();
   }
 
@@ -228,6 +243,7 @@ class LogPanel {
       button.addEventListener("click", does[/** @type {HTMLElement} */ (button).dataset.map]);
     }
     byId("map-address").addEventListener("change", () => this.fitChosen());
+    byId("map-view").addEventListener("change", () => this.map.want(byId("map-view").value));
     this.listenToDrops();
   }
 

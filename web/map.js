@@ -1,101 +1,32 @@
-/* map.js: tracks on a canvas, over a graticule of degrees. Latitudes and longitudes are drawn as they are, as
- * steps up and to the right. */
+/* map.js: tracks on a canvas, over a graticule of degrees. */
 "use strict";
-
-/** @typedef {{lons: number[], lats: number[], from: number, to: number, west: number, east: number, south: number,
- *   north: number}} Piece  of a track: its places, its first and last line, and its sides */
-/** @typedef {{pieces: Piece[], moment: number, lon: number}} Track */
-
-/** The tracks of a log, cut at 180 degrees and where an address was silent for longer than the window. */
-class Tracks {
-  constructor(windowMilliseconds) {
-    this.window = windowMilliseconds;
-    /** @type {Map<number, Track>} */
-    this.all = new Map();
-  }
-
-  /** Adds the places of some answers. @param {Answers} answers */
-  add(answers) {
-    answers.whats.forEach((what, at) => {
-      if (what !== 1 && what !== 2) return;
-      const { addresses, lons, lats, moments, numbers } = answers;
-      this.addPlace(addresses[at], lons[at], lats[at], Number(moments[at]), numbers[at]);
-    });
-  }
-
-  addPlace(address, lon, lat, moment, line) {
-    let track = this.all.get(address);
-    if (!track) this.all.set(address, (track = { pieces: [], moment: -Infinity, lon: 0 }));
-    if (moment - track.moment > this.window || Math.abs(lon - track.lon) > 180) {
-      track.pieces.push({ lons: [], lats: [], from: line, to: line, west: lon, east: lon, south: lat, north: lat });
-    }
-    const piece = track.pieces[track.pieces.length - 1];
-    piece.lons.push(lon);
-    piece.lats.push(lat);
-    piece.to = line;
-    piece.west = Math.min(piece.west, lon);
-    piece.east = Math.max(piece.east, lon);
-    piece.south = Math.min(piece.south, lat);
-    piece.north = Math.max(piece.north, lat);
-    track.moment = moment;
-    track.lon = lon;
-  }
-
-  /** The pieces of one track, or of all. */
-  pieces(address = NaN) {
-    if (this.all.has(address)) return this.all.get(address)?.pieces ?? [];
-    return [...this.all.values()].flatMap(({ pieces }) => pieces);
-  }
-
-  /** The sides of the places of a track, or of all; of one that is cut at 180 degrees those of its longest piece. */
-  bounds(address = NaN) {
-    const of = (pieces) => {
-      const sides = { west: Infinity, east: -Infinity, south: Infinity, north: -Infinity };
-      for (const piece of pieces) {
-        sides.west = Math.min(sides.west, piece.west);
-        sides.east = Math.max(sides.east, piece.east);
-        sides.south = Math.min(sides.south, piece.south);
-        sides.north = Math.max(sides.north, piece.north);
-      }
-      return sides;
-    };
-    const pieces = this.pieces(address), sides = of(pieces);
-    if (!this.all.has(address) || sides.east - sides.west < 180) return sides;
-    return of([pieces.reduce((longest, piece) => (piece.lons.length > longest.lons.length ? piece : longest))]);
-  }
-
-  /** The tracks as GeoJSON (RFC 7946): each piece a line, or a point where it has one place. */
-  geojson() {
-    const features = [];
-    for (const [address, { pieces }] of this.all) {
-      for (const { lons, lats, from, to } of pieces) {
-        const places = lons.map((lon, at) => [lon, lats[at]]);
-        const isLine = places.length > 1, coordinates = isLine ? places : places[0];
-        const properties = { address: hexadecimal(address, 6), firstLine: from, lastLine: to };
-        const geometry = { type: isLine ? "LineString" : "Point", coordinates };
-        features.push({ type: "Feature", properties, geometry });
-      }
-    }
-    return { type: "FeatureCollection", features };
-  }
-}
 
 const DASHES = [[], [8, 4], [2, 3], [10, 3, 2, 3], [5, 5], [14, 4]];
 
-/** The steps of the graticule, in degrees: the first that leaves its lines far enough apart is taken. */
-const STEPS = [0.001, 0.002, 0.005, 0.01, 0.02, 0.05, 0.1, 0.2, 0.5, 1, 2, 5, 10, 30, 45];
+/** How near to a place, in points of the page, it is meant. */
+const MEANT_WITHIN = 16;
 
 class TrackMap {
-  /** @param {HTMLCanvasElement} canvas @param {(text: string) => void} say */
-  constructor(canvas, say) {
+  /** @param {HTMLCanvasElement} canvas @param {(text: string) => void} say @param {(text: string) => void} tell */
+  constructor(canvas, say, tell) {
     this.canvas = canvas;
     this.say = say;
+    this.tell = tell;
     this.tracks = new Tracks(0);
-    this.center = { lon: 0, lat: 0 };
+    /** The name of a projection, or "" for the one that suits. */
+    this.wanted = "";
+    this.projection = PROJECTIONS.plain;
+    /** The point of the plane in the middle, and how many points of the page a step of the plane has. */
+    this.center = { x: 0, y: 0 };
     this.scale = 1;
     this.waiting = false;
     /** Whether the reader has moved the map: then it stays where it is while more is heard. */
     this.moved = false;
+    this.address = NaN;
+    /** The moment up to which places are drawn. */
+    this.until = Infinity;
+    /** @type {Spot | null} */
+    this.chosen = null;
     this.drawn = 0;
     this.took = 0;
     this.listen();
@@ -104,6 +35,8 @@ class TrackMap {
   /** Shows other tracks, all of them. @param {Tracks} tracks */
   show(tracks) {
     this.tracks = tracks;
+    this.until = Infinity;
+    this.choose(null);
     this.fit();
   }
 
@@ -112,55 +45,117 @@ class TrackMap {
     return { width: this.canvas.clientWidth || 1, height: this.canvas.clientHeight || 1 };
   }
 
+  /** Wants a projection by its name, or with "" the one that suits. */
+  want(name) {
+    this.wanted = name;
+    this.fit(this.address);
+  }
+
   /** Shows one track, or all of them. */
   fit(address = NaN) {
-    const { west, east, south, north } = this.tracks.bounds(address), { width, height } = this.size;
+    const { width, height } = this.size, { tracks } = this;
+    this.address = address;
     this.moved = false;
-    if (west > east) Object.assign(this, { center: { lon: 0, lat: 0 }, scale: Math.min(width / 360, height / 180) });
-    else {
-      this.center = { lon: (west + east) / 2, lat: (south + north) / 2 };
-      this.scale = 0.85 * Math.min(width / Math.max(east - west, 0.01), height / Math.max(north - south, 0.01));
-    }
+    this.projection = PROJECTIONS[this.wanted] ?? suitingProjection(tracks.latitudes(address));
+    const box = this.projection.box(tracks, address);
+    const isEmpty = box.left > box.right, { left, right, low, high } = isEmpty ? this.projection.world : box;
+    const room = isEmpty ? 1 : 0.85;
+    this.center = { x: (left + right) / 2, y: (low + high) / 2 };
+    this.scale = room * Math.min(width / Math.max(right - left, 0.01), height / Math.max(high - low, 0.01));
     this.redraw();
   }
 
   /** More was heard: the map is drawn again, but takes no more than a tenth of the time. */
   follow() {
-    if (performance.now() - this.drawn < 10 * this.took) return;
+    const start = performance.now();
+    if (start - this.drawn < 10 * this.took) return;
     if (this.moved) this.redraw();
-    else this.fit();
+    else this.fit(this.address);
+    this.took = Math.max(this.took, performance.now() - start);
   }
 
   /** Comes closer by a factor, so that the point under x and y stays where it is. */
   zoom(factor, x = this.size.width / 2, y = this.size.height / 2) {
-    const before = this.degreesAt(x, y);
+    const before = this.pointAt(x, y);
     this.moved = true;
     this.scale = Math.min(Math.max(this.scale * factor, 0.5), 2_000_000);
-    const after = this.degreesAt(x, y);
-    this.center.lon += before.lon - after.lon;
-    this.center.lat += before.lat - after.lat;
+    const after = this.pointAt(x, y);
+    this.center = { x: this.center.x + before.x - after.x, y: this.center.y + before.y - after.y };
     this.redraw();
   }
 
   move(x, y) {
+    const within = (at, most) => Math.min(Math.max(at, -most), most), { reach } = this.projection;
     this.moved = true;
-    this.center.lon = Math.min(Math.max(this.center.lon - x / this.scale, -200), 200);
-    this.center.lat = Math.min(Math.max(this.center.lat + y / this.scale, -95), 95);
+    this.center = {
+      x: within(this.center.x - x / this.scale, reach.x), y: within(this.center.y + y / this.scale, reach.y),
+    };
     this.redraw();
   }
 
+  /** The point of the plane that is drawn at a point of the canvas. */
+  pointAt(x, y) {
+    const { width, height } = this.size, { center, scale } = this;
+    return { x: center.x + (x - width / 2) / scale, y: center.y - (y - height / 2) / scale };
+  }
+
   degreesAt(x, y) {
+    return this.projection.degrees(this.pointAt(x, y));
+  }
+
+  /** Where a point of the plane is drawn. */
+  left(x) {
+    return this.size.width / 2 + (x - this.center.x) * this.scale;
+  }
+
+  top(y) {
+    return this.size.height / 2 - (y - this.center.y) * this.scale;
+  }
+
+  /** Where a place is drawn. */
+  spot({ lon, lat }) {
+    return { x: this.left(this.projection.x(lon, lat)), y: this.top(this.projection.y(lon, lat)) };
+  }
+
+  /** The drawn place that is nearest to a point of the canvas, and not farther than this. @returns {Spot | null} */
+  nearest(x, y, within = MEANT_WITHIN) {
+    let best = within, found = null;
+    for (const [address, { pieces }] of this.tracks.all) {
+      for (const piece of pieces) {
+        const [at, away] = this.nearestOf(piece, x, y);
+        if (at < 0 || away > best) continue;
+        const { lons, lats, moments, lines } = piece;
+        best = away;
+        found = { address, lon: lons[at], lat: lats[at], moment: moments[at], line: lines[at] };
+      }
+    }
+    return found;
+  }
+
+  /** Which place of a piece is nearest to a point of the canvas, and how far it is. @param {Piece} piece */
+  nearestOf(piece, x, y) {
+    const { lons, lats } = piece, { projection } = this, count = heardBy(piece, this.until);
     const { width, height } = this.size;
-    const { center, scale } = this;
-    return { lon: center.lon + (x - width / 2) / scale, lat: center.lat - (y - height / 2) / scale };
+    let best = Infinity, found = -1;
+    for (let at = 0; at < count; at++) {
+      if (!projection.shows(lats[at])) continue;
+      const right = width / 2 + (projection.x(lons[at], lats[at]) - this.center.x) * this.scale - x;
+      const down = height / 2 - (projection.y(lons[at], lats[at]) - this.center.y) * this.scale - y;
+      const away = Math.hypot(right, down);
+      if (away >= best) continue;
+      best = away;
+      found = at;
+    }
+    return [found, best];
   }
 
-  xOf(lon) {
-    return this.size.width / 2 + (lon - this.center.lon) * this.scale;
-  }
-
-  yOf(lat) {
-    return this.size.height / 2 - (lat - this.center.lat) * this.scale;
+  /** Says which place is meant, and marks it. @param {Spot | null} spot */
+  choose(spot) {
+    this.chosen = spot;
+    const words = (one) => `${hexadecimal(one.address, 6)} at ${one.lat.toFixed(7)} ${one.lon.toFixed(7)}, ` +
+      `moment ${one.moment}, line ${one.line}.`;
+    this.tell(spot ? words(spot) : "");
+    this.redraw();
   }
 
   redraw() {
@@ -188,39 +183,24 @@ class TrackMap {
     pen.font = "12px system-ui, sans-serif";
     this.drawGraticule(pen, color);
     this.drawTracks(pen, color);
+    if (this.chosen) this.drawChosen(pen, color, this.chosen);
   }
 
   drawGraticule(pen, color) {
-    const { width, height } = this.size;
-    const step = STEPS.find((degrees) => degrees * this.scale > 70) ?? 90;
-    const decimals = Math.max(0, Math.ceil(-Math.log10(step)));
-    const label = (degrees, below, above) => {
-      const side = degrees === 0 || Math.abs(degrees) === 180 ? "" : degrees < 0 ? below : above;
-      return `${Math.abs(degrees).toFixed(decimals)}${side}`;
-    };
-    const from = this.degreesAt(0, height), to = this.degreesAt(width, 0);
+    const { width, height } = this.size, from = this.pointAt(0, height), to = this.pointAt(width, 0);
+    const view = { left: from.x, right: to.x, low: from.y, high: to.y };
+    const { lines, labels, step } = this.projection.graticule(view, this.scale);
     pen.lineWidth = 1;
     pen.strokeStyle = color("--line");
+    pen.beginPath();
+    for (const line of lines) {
+      pen.moveTo(this.left(line[0].x), this.top(line[0].y));
+      for (const { x, y } of line.slice(1)) pen.lineTo(this.left(x), this.top(y));
+    }
+    pen.stroke();
     pen.fillStyle = color("--dim");
-    const line = (x0, y0, x1, y1) => {
-      pen.beginPath();
-      pen.moveTo(x0, y0);
-      pen.lineTo(x1, y1);
-      pen.stroke();
-    };
-    const north = Math.max(this.yOf(90), 0), south = Math.min(this.yOf(-90), height);
-    for (let at = Math.ceil(Math.max(from.lon, -180) / step); at * step <= Math.min(to.lon, 180) + 1e-9; at++) {
-      const x = this.xOf(at * step);
-      line(x, north, x, south);
-      pen.fillText(label(at * step, "W", "E"), x + 3, height - 5);
-    }
-    const west = Math.max(this.xOf(-180), 0), east = Math.min(this.xOf(180), width);
-    for (let at = Math.ceil(Math.max(from.lat, -90) / step); at * step <= Math.min(to.lat, 90) + 1e-9; at++) {
-      const y = this.yOf(at * step);
-      line(west, y, east, y);
-      pen.fillText(label(at * step, "S", "N"), 3, y - 3);
-    }
-    this.say(`Lines each ${step} degrees.`);
+    for (const { x, y, text } of labels) pen.fillText(text, this.left(x), this.top(y));
+    this.say(`Shown: ${this.projection.title}, lines each ${step} degrees.`);
   }
 
   drawTracks(pen, color) {
@@ -229,40 +209,65 @@ class TrackMap {
       pen.strokeStyle = pen.fillStyle = color(`--track${index % 6}`);
       pen.lineWidth = 2;
       pen.setLineDash(DASHES[index % DASHES.length]);
-      for (const piece of pieces) this.drawPiece(pen, piece);
+      pieces.forEach((piece, at) => this.drawPiece(pen, piece, piece.joined ? pieces[at - 1] : null));
       pen.setLineDash([]);
-      const newest = pieces[pieces.length - 1], last = newest.lons.length - 1;
-      const name = hexadecimal(address, 6);
-      if (this.tracks.all.size <= 200) this.drawName(pen, color, name, newest.lons[last], newest.lats[last]);
+      const newest = this.tracks.newest(address, this.until);
+      const isNamed = newest && this.tracks.all.size <= 200 && this.projection.shows(newest.lat);
+      if (isNamed) this.drawName(pen, color, newest);
       index++;
     }
   }
 
-  /** Draws a piece; points that fall on nearly the same spot are left out. */
-  drawPiece(pen, { lons, lats }) {
-    const left = this.xOf(0), top = this.yOf(0), { scale } = this, last = lons.length - 1;
-    let x0 = left + lons[0] * scale, y0 = top - lats[0] * scale;
+  /** Draws a piece; points that fall on nearly the same spot are left out.
+   * @param {Piece} piece @param {Piece | null} [before] what goes over into it at 180 degrees */
+  drawPiece(pen, piece, before) {
+    const { lons, lats } = piece, { projection, scale } = this, last = heardBy(piece, this.until) - 1;
+    if (last < 0) return;
+    const left = this.left(0), top = this.top(0);
+    if (before) this.drawSeam(pen, before, piece);
+    let x0 = Infinity, y0 = Infinity, isDown = false;
     pen.beginPath();
-    pen.moveTo(x0, y0);
-    for (let at = 1; at <= last; at++) {
-      const x = left + lons[at] * scale, y = top - lats[at] * scale;
-      if (at < last && Math.abs(x - x0) < 1 && Math.abs(y - y0) < 1) continue;
-      pen.lineTo(x, y);
+    for (let at = 0; at <= last; at++) {
+      const x = left + projection.x(lons[at], lats[at]) * scale, y = top - projection.y(lons[at], lats[at]) * scale;
+      const isShown = projection.shows(lats[at]);
+      if (isDown && isShown && at < last && Math.abs(x - x0) < 1 && Math.abs(y - y0) < 1) continue;
+      if (isShown && isDown) pen.lineTo(x, y);
+      else if (isShown) pen.moveTo(x, y);
+      isDown = isShown;
       x0 = x;
       y0 = y;
     }
     pen.stroke();
-    if (!last) pen.fillRect(x0 - 2, y0 - 2, 4, 4);
+    if (!last && isDown) pen.fillRect(x0 - 2, y0 - 2, 4, 4);
   }
 
-  /** Writes the address of a track at its newest place, within the canvas. */
-  drawName(pen, color, name, lon, lat) {
-    const wide = pen.measureText(name).width, { width } = this.size;
-    const x = this.xOf(lon), y = this.yOf(lat);
+  /** The line over 180 degrees: around a pole at once, else to the one side and from the other.
+   * @param {Piece} before @param {Piece} after */
+  drawSeam(pen, before, after) {
+    const end = before.lons.length - 1, { projection } = this, lon0 = before.lons[end], lat0 = before.lats[end];
+    const lon1 = after.lons[0], lat1 = after.lats[0], turn = lon0 > 0 ? 360 : -360;
+    if (!projection.shows(lat0) || !projection.shows(lat1)) return;
+    const edge = Math.sign(turn) * 180, part = (edge - lon0) / (lon1 + turn - lon0), at = lat0 + part * (lat1 - lat0);
+    const pairs = projection.isRound ? [[lon0, lat0, lon1, lat1]] : [[lon0, lat0, edge, at], [-edge, at, lon1, lat1]];
     pen.beginPath();
-    pen.arc(x, y, 3, 0, 7);
-    pen.fill();
-    const at = x + 8 + wide > width ? x - 8 - wide : x + 8;
+    for (const [fromLon, fromLat, toLon, toLat] of pairs) {
+      const from = this.spot({ lon: fromLon, lat: fromLat }), to = this.spot({ lon: toLon, lat: toLat });
+      pen.moveTo(from.x, from.y);
+      pen.lineTo(to.x, to.y);
+    }
+    pen.stroke();
+  }
+
+  /** Writes the address of a track at its newest place, within the canvas. While a log is played, the mark of an
+   * address that is silent for longer than the window is hollow. @param {Spot} newest */
+  drawName(pen, color, newest) {
+    const name = hexadecimal(newest.address, 6), wide = pen.measureText(name).width, { width } = this.size;
+    const { x, y } = this.spot(newest), isPlayed = this.until < Infinity;
+    pen.beginPath();
+    pen.arc(x, y, isPlayed ? 5 : 3, 0, 7);
+    if (isPlayed && this.until - newest.moment > this.tracks.window) pen.stroke();
+    else pen.fill();
+    const at = x + 9 + wide > width ? x - 9 - wide : x + 9;
     pen.lineWidth = 4;
     pen.strokeStyle = color("--ground");
     pen.strokeText(name, at, y + 4);
@@ -270,15 +275,36 @@ class TrackMap {
     pen.fillText(name, at, y + 4);
   }
 
+  /** A cross around the place that is meant. @param {Spot} spot */
+  drawChosen(pen, color, spot) {
+    if (!this.projection.shows(spot.lat)) return;
+    const { x, y } = this.spot(spot);
+    pen.strokeStyle = color("--ink");
+    pen.lineWidth = 2;
+    pen.beginPath();
+    for (const [right, down] of [[-1, 0], [1, 0], [0, -1], [0, 1]]) {
+      pen.moveTo(x + 5 * right, y + 5 * down);
+      pen.lineTo(x + 12 * right, y + 12 * down);
+    }
+    pen.stroke();
+  }
+
   listen() {
-    const canvas = this.canvas;
+    const { canvas } = this;
     /** @type {Map<number, {x: number, y: number}>} */
     const held = new Map();
+    let start = { x: 0, y: 0 };
     canvas.addEventListener("pointerdown", (event) => {
       canvas.setPointerCapture(event.pointerId);
-      held.set(event.pointerId, { x: event.offsetX, y: event.offsetY });
+      start = { x: event.offsetX, y: event.offsetY };
+      held.set(event.pointerId, start);
     });
     canvas.addEventListener("pointermove", (event) => this.drag(held, event));
+    canvas.addEventListener("pointerup", ({ offsetX, offsetY }) => {
+      if (held.size === 1 && Math.hypot(offsetX - start.x, offsetY - start.y) < 4) {
+        this.choose(this.nearest(offsetX, offsetY));
+      }
+    });
     for (const name of ["pointerup", "pointercancel"]) {
       canvas.addEventListener(name, (event) => held.delete(/** @type {PointerEvent} */ (event).pointerId));
     }
@@ -305,9 +331,13 @@ class TrackMap {
 
   press(event) {
     const moves = { ArrowLeft: [40, 0], ArrowRight: [-40, 0], ArrowUp: [0, 40], ArrowDown: [0, -40] };
+    const { width, height } = this.size;
+    if (event.ctrlKey || event.metaKey || event.altKey) return;
     if (event.key in moves) this.move(...moves[event.key]);
     else if (event.key === "+" || event.key === "=") this.zoom(1.5);
     else if (event.key === "-") this.zoom(1 / 1.5);
+    else if (event.key === "Enter") this.choose(this.nearest(width / 2, height / 2, Infinity));
+    else if (event.key === "Escape") this.choose(null);
     else return;
     event.preventDefault();
   }

@@ -1,6 +1,14 @@
 /* page.js: the start of the page: the library, the tabs, and what the panels share. */
 "use strict";
 
+/** @typedef {import("./squitter.js").Squitter} Library */
+/** @typedef {import("./squitter.js").Fields} Fields */
+/** @typedef {import("./squitter.js").Degrees} Degrees */
+/** @typedef {import("./squitter.js").Position} Position */
+/** @typedef {import("./squitter.js").Place} Place */
+
+const { load, AirHead, GroundHead, Code, Kind } = squitterModule();
+
 /** The element of a name. @returns {any} */
 const byId = (id) => document.getElementById(id);
 
@@ -108,7 +116,7 @@ function refuseBrowser(error) {
 addEventListener("DOMContentLoaded", async () => {
   let library;
   try {
-    library = await squitterLibrary(moduleBytes());
+    library = await load(moduleBytes());
   } catch (error) {
     return refuseBrowser(error);
   }

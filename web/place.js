@@ -4,8 +4,8 @@
 const PARITIES = ["even", "odd"];
 
 /** The two lines of a place: seven decimals, and the exact fractions. */
-function placeShown(library, place) {
-  const row = (name, angle) => [name, `${library.angleText(angle)}`, fractionText(angle)];
+function placeShown(place) {
+  const row = (name, angle) => [name, String(angle), fractionText(angle)];
   return tableOf("The place, in degrees", ["", "Seven decimals", "Exactly"],
     [row("latitude", place.lat), row("longitude", place.lon)]);
 }
@@ -28,12 +28,12 @@ function orFault(call) {
  * there. */
 function pairSteps(library, older, newer, site) {
   const column = (frame, other) => {
-    const fields = library.readFrame(frame);
+    const fields = library.read(frame);
     const code = [PARITIES[fields.odd], String(fields.lat), String(fields.lon)];
     try {
       const place = library.pair(other, frame, site);
-      return [...code, fractionText(place.lat), library.angleText(place.lat), String(library.zoneCount(place.lat)),
-        fractionText(place.lon), library.angleText(place.lon)];
+      return [...code, fractionText(place.lat), String(place.lat), String(library.zoneCount(place.lat)),
+        fractionText(place.lon), String(place.lon)];
     } catch (error) {
       const counts = error.code === 16 ? String(fields.odd ? error.second : error.first) : "";
       return [...code, "", "", counts, "", ""];
@@ -52,7 +52,7 @@ function quarters(library, older, newer, site) {
     const asked = { lat: site.lat, lon: library.angle(text) };
     try {
       const place = library.pair(older, newer, asked);
-      return [text, library.angleText(place.lat), library.angleText(place.lon)];
+      return [text, String(place.lat), String(place.lon)];
     } catch (error) {
       return [text, error.message, ""];
     }
@@ -64,8 +64,10 @@ function quarters(library, older, newer, site) {
 function pairShown(library, olderText, newerText, site) {
   const older = library.frame(olderText), newer = library.frame(newerText);
   const shown = [];
+  let place = null;
   try {
-    shown.push(placeShown(library, library.pair(older, newer, site)));
+    place = library.pair(older, newer, site);
+    shown.push(placeShown(place));
   } catch (error) {
     shown.push(refusal("No place", error));
     if (error.code === 16) {
@@ -75,24 +77,29 @@ function pairShown(library, olderText, newerText, site) {
     if (error.code < 14) return shown;
   }
   shown.push(pairSteps(library, older, newer, site));
-  if (site && library.readFrame(newer).kind === 2) shown.push(quarters(library, older, newer, site));
-  return shown;
+  if (!place) return shown;
+  const isGround = library.read(newer).kind === Kind.GROUND;
+  if (!isGround) shown.push(...pairPicture(library, older, newer, place));
+  else shown.push(groundPicture(library, older, newer, site, place), quarters(library, older, newer, site));
+  return [...shown, tableOf("The zone of the newer frame", ["", "Value"], zoneRows(library, newer, place))];
 }
 
 /** The answer to one frame and a reference. */
 function localShown(library, text, reference) {
   const frame = library.frame(text);
-  const place = library.local(frame, reference), fields = library.readFrame(frame);
+  const place = library.local(frame, reference), fields = library.read(frame);
   const rows = [
     ["parity of the code", PARITIES[fields.odd]],
     ["latitude code", String(fields.lat)],
     ["longitude code", String(fields.lon)],
     ["zone count (NL) at the reference", orFault(() => library.zoneCount(reference.lat))],
     ["zone count (NL) at the place", orFault(() => library.zoneCount(place.lat))],
+    ...zoneRows(library, frame, place),
   ];
-  return [placeShown(library, place), tableOf("How it comes about", ["", "Value"], rows), element("p", {},
+  return [placeShown(place), tableOf("How it comes about", ["", "Value"], rows), element("p", {},
     "It is the one point with this code whose latitude lies within half a zone of the reference's, and whose " +
-    "longitude lies within half a zone of the reference's, by the zones at the place.")];
+    "longitude lies within half a zone of the reference's, by the zones at the place."),
+  localPicture(library, frame, place, reference)];
 }
 
 /** What is shown of the panel's fields. */

@@ -26,13 +26,13 @@ function aroundTheCircle(angle) {
 
 /** The rows of one parity: the frame, and the point that it means near the position. */
 function sentRows(library, kind, head, position) {
-  const frame = library.encode(kind, head, position);
-  const fields = library.readFrame(frame), point = library.local(frame, position);
+  const frame = library.encode(kind === "air" ? new AirHead(head) : new GroundHead(head), position);
+  const fields = library.read(frame), point = library.local(frame, position);
   const lat = difference(point.lat, position.lat), lon = aroundTheCircle(difference(point.lon, position.lon));
   const narrow = Math.cos(Number(position.lat.num) / Number(position.lat.den) * Math.PI / 180);
   return [
     library.frameText(frame), `${fields.lat} ${fields.lon}`,
-    library.angleText(point.lat), fractionText(point.lat), library.angleText(point.lon), fractionText(point.lon),
+    String(point.lat), fractionText(point.lat), String(point.lon), fractionText(point.lon),
     `${billionths(lat)} degrees, ${aboutMetres(lat, 1)}`, `${billionths(lon)} degrees, ${aboutMetres(lon, narrow)}`,
   ];
 }
@@ -48,19 +48,21 @@ function headTyped(library, kind) {
 }
 
 /** What is shown of the panel's fields. */
-function sendAnswer(library) {
+function sendAnswer(library, map) {
   const kind = /** @type {HTMLInputElement} */ (document.querySelector("[name=send-kind]:checked")).value;
   byId("send-feet-field").hidden = kind === "ground";
   try {
     const position = positionOf(library, byId("send-lat").value, byId("send-lon").value);
+    map.show({ lon: position.lon.toNumber(), lat: position.lat.toNumber() });
     const head = headTyped(library, kind);
     const names = ["frame", "code of latitude and longitude", "latitude of its point", "exactly",
       "longitude of its point", "exactly", "error of the latitude", "error of the longitude"];
-    return PARITIES.map((parity, odd) => {
+    const tables = PARITIES.map((parity, odd) => {
       const values = sentRows(library, kind, { ...head, odd }, position);
       const rows = names.map((name, at) => [name, values[at]]);
       return tableOf(`Sent ${parity}, and the point to which the position rounds`, ["", "Value"], rows);
     });
+    return [...tables, closePicture(library, kind, head, position)];
   } catch (error) {
     return [refusal("Refused", error)];
   }
@@ -68,5 +70,12 @@ function sendAnswer(library) {
 
 /** @param {Library} library */
 function startSend(library) {
-  answerWith(byId("send-form"), () => byId("send-answer").replaceChildren(...sendAnswer(library)));
+  const map = new SpotMap(byId("send-map"), (lat, lon) => {
+    byId("send-lat").value = lat;
+    byId("send-lon").value = lon;
+    answer();
+  });
+  const answer = () => byId("send-answer").replaceChildren(...sendAnswer(library, map));
+  answerWith(byId("send-form"), answer);
+  byId("send-span").addEventListener("change", () => map.zoom(Number(byId("send-span").value)));
 }

@@ -1,12 +1,12 @@
-/* cases.js: a case of vectors/, asked of the module by web/library.js. In the browser tests/page calls squitterCase; by
+/* cases.js: a case of vectors/, asked of web/squitter.js. In the browser tests/page calls squitterCase; by
  * node this is an adapter: vectors/run 'node --experimental-wasm-memory64 tests/browser/cases.js' */
 "use strict";
 
 /** The answer to a case, in the words of vectors/README.md. */
-function squitterCase(library, { op, input }) {
+function squitterCase({ AirHead, GroundHead }, library, { op, input }) {
   const hexadecimal = (number, digits) => number.toString(16).toUpperCase().padStart(digits, "0");
   const ratio = ({ num, den }) => `${num}/${den}`;
-  const decimals = ({ lat, lon }) => [library.angleText(lat), library.angleText(lon)];
+  const decimals = ({ lat, lon }) => [String(lat), String(lon)];
   const place = (found) => ({ lat: ratio(found.lat), lon: ratio(found.lon), decimal: decimals(found) });
 
   /** The fraction of decimals, or of num/den. */
@@ -54,7 +54,8 @@ function squitterCase(library, { op, input }) {
   function encode() {
     const head = { address: parseInt(input.address, 16), odd: Number(input.parity === "odd") };
     if (input.kind === "air" && "feet" in input) head.altitude = library.fieldOfFeet(input.feet);
-    const frame = library.encode(input.kind, head, position(input)), read = library.readFrame(frame);
+    const sent = input.kind === "air" ? new AirHead(head) : new GroundHead(head);
+    const frame = library.encode(sent, position(input)), read = library.read(frame);
     return { frame: library.frameText(frame), code: [read.lat, read.lon] };
   }
 
@@ -74,13 +75,13 @@ function squitterCase(library, { op, input }) {
 /** Answers each line of the input. */
 async function main() {
   const { readFileSync } = require("node:fs");
-  const { squitterLibrary } = require("../../web/library.js");
-  const library = await squitterLibrary(readFileSync(`${__dirname}/../../dist/squitter.wasm`));
+  const squitter = await import("../../web/squitter.js");
+  const library = await squitter.load(readFileSync(`${__dirname}/../../dist/squitter.wasm`));
   const adapter = "libsquitter as a WebAssembly module";
   console.log(JSON.stringify({ adapter, version: library.version(), exact: true }));
   for await (const line of require("node:readline").createInterface({ input: process.stdin })) {
     const asked = JSON.parse(line);
-    console.log(JSON.stringify({ id: asked.id, ...squitterCase(library, asked) }));
+    console.log(JSON.stringify({ id: asked.id, ...squitterCase(squitter, library, asked) }));
   }
 }
 

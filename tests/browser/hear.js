@@ -2,11 +2,14 @@
  * and prints the answers. */
 "use strict";
 const { readFileSync } = require("node:fs");
-const { squitterLibrary } = require("../../web/library.js");
-const { squitterHearing } = require("../../web/hearing.js");
+const { runInThisContext } = require("node:vm");
+
+const WEB = `${__dirname}/../../web`;
 
 async function main([window, limit, piece, lat, lon]) {
-  const library = await squitterLibrary(readFileSync(`${__dirname}/../../dist/squitter.wasm`));
+  const { load } = await import(`${WEB}/squitter.js`);
+  const library = await load(readFileSync(`${WEB}/../dist/squitter.wasm`));
+  const squitterHearing = runInThisContext(`${readFileSync(`${WEB}/hearing.js`)}\nsquitterHearing;`);
   const site = lat ? { lat: library.angle(lat), lon: library.angle(lon) } : null;
   const hearing = squitterHearing(library, { window: BigInt(window), limit: Number(limit), site });
   const log = readFileSync(0), size = Number(piece);
