@@ -1,4 +1,5 @@
-/* calls: nanoseconds and calls a second of each call of libsquitter, on frames of many aircraft: the fastest of five runs. */
+/* calls: nanoseconds and calls a second of each call of libsquitter, on frames of many aircraft: the fastest of five runs.
+   calls NAME COUNT: makes one of them so many times and prints nothing, for bench/instructions, which counts what it takes. */
 #define _POSIX_C_SOURCE 199309L
 #include "squitter.h"
 #include <stdio.h>
@@ -12,6 +13,8 @@ static char texts[2 * PLACES][28];
 static squitter_position places[PLACES];
 static squitter_entry entries[PLACES];
 static uint64_t sink;
+static const char *wanted; /* the one call that is made, or NULL: each is timed */
+static long count_wanted;
 
 static double now(void) {
   struct timespec t;
@@ -40,24 +43,32 @@ static void make(void) {
   }
 }
 
+#define CALLS_OF(count, ...) for (long n = 0; n < (count); n++) { int i = n % PLACES; (void)i; __VA_ARGS__; }
+
 #define RATE(name, ...) do { \
     double best = 0; \
+    if (wanted && !strcmp(wanted, name)) CALLS_OF(count_wanted, __VA_ARGS__) \
+    if (wanted) break; \
     for (int run = 0; run < RUNS; run++) { \
       double start = now(); \
-      for (long n = 0; n < CALLS; n++) { int i = n % PLACES; (void)i; __VA_ARGS__; } \
+      CALLS_OF(CALLS, __VA_ARGS__) \
       double took = (now() - start) / CALLS; \
       if (!run || took < best) best = took; \
     } \
     printf("%-18s %9.1f ns %12.0f a second\n", name, best, 1e9 / best); \
   } while (0)
 
-int main(void) {
+int main(int argc, char **argv) {
   squitter_fields fields;
   squitter_position place;
   squitter_heard heard;
   uint8_t frame[14], count;
   char text[28];
   uint64_t moment = 0;
+  if (argc == 3) {
+    wanted = argv[1];
+    count_wanted = atol(argv[2]);
+  }
   make();
   RATE("frame_of_text", sink += squitter_frame_of_text(texts[i], 28, frame).code + frame[9]);
   RATE("text_of_frame", (squitter_text_of_frame(frames[i], text), sink += text[9]));
