@@ -3,7 +3,7 @@ ghost use Rattle.std.specs.Prelude.{◌≡◌, ◌+◌, ◌*◌, ◌^◌, ◌<�
 ghost use Rattle.arrayvec.specs.ArrayString.{array_string_len};
 ghost use Rattle.sq_angle.specs.Angle.{degrees};
 ghost use Rattle.sq_angle.specs.Decimal.{IsDecimal7, fixed_digits, ten_millionth};
-ghost use Rattle.sq_angle.specs.Fraction.{magnitude};
+ghost use Rattle.sq_angle.specs.Fraction.{IsWithin, magnitude};
 ghost use Rattle.sq_angle.specs.Nearest.{IsNearest};
 
 use crate::angle::Angle;
@@ -30,7 +30,7 @@ impl Angle {
             × (text.new.bytes ≡ text.old.bytes ++ part) }
         ensures len { array_string_len text.new ≤ array_string_len text.old + 12 }
     {
-        let places = self.seven_places();
+        let places = self.ten_millionths();
         if self.num() < 0 && places > 0 {
             text.push_str("-");
         }
@@ -39,10 +39,12 @@ impl Angle {
         push_fraction(text, places % 10_000_000);
     }
 
-    // The magnitude in ten-millionths, a half taken up.
-    fn seven_places(&self) -> u64
+    /// The magnitude in whole ten-millionths of a degree, rounded, ties away from zero: the seven decimals of the text.
+    /// It is at most 180 * 10^7 where the angle is within 180 degrees.
+    pub fn ten_millionths(&self) -> u64
         ensures value { IsNearest (magnitude (degrees self.now)) ten_millionth (pos result) }
         ensures small { result < 400 * 10 ^ 7 }
+        ensures half { IsWithin 180 (degrees self.now) → result ≤ 180 * 10 ^ 7 }
     {
         let scaled = 20_000_000 * u128::from(self.num().unsigned_abs());
         let den = self.den();

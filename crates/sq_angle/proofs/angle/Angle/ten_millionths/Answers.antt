@@ -2,11 +2,11 @@ use Rattle.std.proofs.Common.{ℕ, pos, ◌≡◌, ◌+◌, ◌*◌, ◌/◌, un
 use Rattle.sq_angle.specs.Decimal.{ten_millionth}
 use Rattle.sq_angle.specs.Nearest.{IsNearest}
 use Rattle.sq_angle.proofs.Rounding.{nearest_unit}
-use Rattle.squitter_c.proofs.e7.places_of.Goals as goal
+use Rattle.sq_angle.proofs.angle.Angle.ten_millionths.Goals as goal
 
 pub returns-clause-value : goal.returns-clause-value
 returns-clause-value c =
-    let x = c.args.angle.now in
+    let x = c.args.self.now in
     let fits : SFits w64 x.num = search rules in
     let num_is : c.from-scaled.result ≡ unsigned_abs x.num = c.from-scaled.ensures ∙ c.unsigned_abs.ensures.value
     ∙ ap unsigned_abs (ap (λ z. to_z w64 (of_z w64 z)) c.num.ensures ∙ to_z-of_z fits) in
