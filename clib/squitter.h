@@ -172,6 +172,19 @@ typedef struct squitter_altitude {
   uint8_t form;
 } squitter_altitude;
 
+/* The zones in which a place lies. With YZ and XZ, the code of its frame (`lat` and `lon` in squitter_fields), its latitude is
+ * degrees / lat_zones * (lat_zone + YZ / 2^17), and its longitude degrees / lon_zones * (lon_zone + XZ / 2^17), less 360
+ * degrees from 180 up. */
+typedef struct squitter_zones {
+  int32_t lat_zone;    /* the zone of latitude, j: negative in the south */
+  uint32_t lon_zone;   /* the zone of longitude, m: from 0, eastwards from the prime meridian */
+  uint32_t degrees;    /* what the zones share: 360 in the air, 90 on the ground */
+  uint8_t lat_zones;   /* 60 even, 59 odd */
+  uint8_t zone_count;  /* of the place's latitude, NL */
+  uint8_t lon_zones;   /* NL even; odd, one less and at least 1 */
+  uint8_t odd;
+} squitter_zones;
+
 /* What is kept of one address, for squitter_hear. The caller holds it, in an array, a map or a file: it is plain data, may be
  * copied, and is empty where all its bytes are 0, as calloc and memset leave it. Each value of each field is allowed: a frame
  * that spells no squitter, and a position that is none, count as nothing kept. One thread at a time may let an entry hear. Its
@@ -236,6 +249,10 @@ squitter_fault squitter_read_frame(const uint8_t SQUITTER_CONST_BYTES(frame, 14)
  * Faults: BAD_POSITION (the reference), NOT_DF17, PARITY, NOT_POSITION, OUT_OF_RANGE. */
 squitter_fault squitter_local(const uint8_t SQUITTER_CONST_BYTES(frame, 14), const squitter_position *reference,
                               squitter_position *SQUITTER_RESTRICT out) SQUITTER_CALL;
+
+/* The zones in which that place lies: how it comes about. Faults: those of squitter_local. */
+squitter_fault squitter_local_zones(const uint8_t SQUITTER_CONST_BYTES(frame, 14), const squitter_position *reference,
+                                    squitter_zones *SQUITTER_RESTRICT out) SQUITTER_CALL;
 
 /* The place of the newer of an even and an odd frame of one address in the air, which were sent from nearly one place.
  * Faults: NOT_DF17, PARITY (of the older, then of the newer), NOT_POSITION, OTHER_ADDRESS, OTHER_KIND, SAME_PARITY,

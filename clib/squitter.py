@@ -25,9 +25,9 @@ from typing import Iterable, Iterator, List, NamedTuple, Optional, Sequence, Tup
 
 __all__ = [
     "AirHead", "Altitude", "AltitudeForm", "Code", "Contact", "Fault", "Fields", "Frame", "GroundHead", "Heard", "Kind",
-    "Position", "What", "angle", "angle_e7", "angle_text", "encode", "fault_text", "feet_of_field", "field_of_feet",
-    "frame", "frame_text", "local", "local_many", "pair", "pair_many", "position_e7", "read", "read_many", "send_again",
-    "version", "zone_count",
+    "Position", "What", "Zones", "angle", "angle_e7", "angle_text", "encode", "fault_text", "feet_of_field",
+    "field_of_feet", "frame", "frame_text", "local", "local_many", "local_zones", "pair", "pair_many", "position_e7",
+    "read", "read_many", "send_again", "version", "zone_count",
 ]
 
 Frame = Union[bytes, bytearray, str]
@@ -171,6 +171,20 @@ class GroundHead:
     odd: int = 0
 
 
+class Zones(NamedTuple):
+    """How a place comes about. With the code ``lat`` and ``lon`` of its frame, its latitude is
+    ``degrees / lat_zones * (lat_zone + lat / 2**17)``, and its longitude ``degrees / lon_zones * (lon_zone + lon / 2**17)``,
+    less 360 degrees from 180 up. ``zone_count`` is NL of its latitude."""
+
+    lat_zone: int
+    lon_zone: int
+    degrees: int
+    lat_zones: int
+    zone_count: int
+    lon_zones: int
+    odd: int
+
+
 class Altitude(NamedTuple):
     """What an altitude field means; ``feet`` is 0 in the other forms."""
 
@@ -258,6 +272,14 @@ class _Heard(ctypes.Structure):
     ]
 
 
+class _Zones(ctypes.Structure):
+    _fields_ = [
+        ("lat_zone", ctypes.c_int32), ("lon_zone", ctypes.c_uint32), ("degrees", ctypes.c_uint32),
+        ("lat_zones", ctypes.c_uint8), ("zone_count", ctypes.c_uint8), ("lon_zones", ctypes.c_uint8),
+        ("odd", ctypes.c_uint8),
+    ]
+
+
 class _DegreesE7(ctypes.Structure):
     _fields_ = [("lat", ctypes.c_int32), ("lon", ctypes.c_int32)]
 
@@ -268,6 +290,7 @@ _CALLS = {
     "read_text": [ctypes.c_char_p, ctypes.c_size_t, _P(_Fields)],
     "read_frame": [ctypes.c_char_p, _P(_Fields)],
     "local": [ctypes.c_char_p, _P(_Position), _P(_Position)],
+    "local_zones": [ctypes.c_char_p, _P(_Position), _P(_Zones)],
     "pair": [ctypes.c_char_p, ctypes.c_char_p, _P(_Position)],
     "pair_at": [ctypes.c_char_p, ctypes.c_char_p, _P(_Position), _P(_Position)],
     "hear": [_P(_Entry), ctypes.c_uint64, ctypes.c_uint64, ctypes.c_char_p, _P(_Heard)],
@@ -303,7 +326,8 @@ _LIBDIR = ""
 
 def _load() -> ctypes.CDLL:
     """The library: that of LIBSQUITTER, that beside this file, the one installed with it, or the system's."""
-    places = [os.path.join(folder, "libsquitter.so.0") for folder in (os.path.dirname(os.path.abspath(__file__)), _LIBDIR) if folder]
+    folders = (os.path.dirname(os.path.abspath(__file__)), _LIBDIR)
+    places = [os.path.join(folder, "libsquitter.so.0") for folder in folders if folder]
     installed = next((place for place in places if os.path.exists(place)), None)
     library = ctypes.CDLL(os.environ.get("LIBSQUITTER") or installed or find_library("squitter") or "libsquitter.so.0")
     for name, arguments in _CALLS.items():
@@ -442,6 +466,13 @@ def local(source: Frame, reference: Position) -> Position:
     here, out = _position(reference), _Position()
     _done(_lib.squitter_local(_frame_near(source, here), ctypes.byref(here), ctypes.byref(out)))
     return _read_position(out)
+
+
+def local_zones(source: Frame, reference: Position) -> Zones:
+    """The zones in which the place of a frame near a reference lies: how it comes about."""
+    here, out = _position(reference), _Zones()
+    _done(_lib.squitter_local_zones(_frame_near(source, here), ctypes.byref(here), ctypes.byref(out)))
+    return Zones(*(getattr(out, name) for name in Zones._fields))
 
 
 def pair(older: Frame, newer: Frame, site: Optional[Position] = None) -> Position:

@@ -13,11 +13,27 @@ void r_squitter_text_of_frame(const uint8_t *, char *);
 squitter_fault r_squitter_read_text(const char *, size_t, squitter_fields *);
 squitter_fault r_squitter_read_frame(const uint8_t *, squitter_fields *);
 squitter_fault r_squitter_local(const uint8_t *, const squitter_position *, squitter_position *);
+squitter_fault r_squitter_local_zones(const uint8_t *, const squitter_position *, squitter_zones *);
 squitter_fault r_squitter_pair(const uint8_t *, const uint8_t *, squitter_position *);
 squitter_fault r_squitter_pair_at(const uint8_t *, const uint8_t *, const squitter_position *, squitter_position *);
 squitter_fault r_squitter_hear(squitter_entry *, uint64_t, uint64_t, const uint8_t *, squitter_heard *);
 squitter_fault r_squitter_hear_at(squitter_entry *, uint64_t, const squitter_position *, uint64_t, const uint8_t *,
                                   squitter_heard *);
+size_t r_squitter_read_many(const uint8_t (*)[14], size_t, squitter_fields *, size_t, squitter_fault *, size_t);
+size_t r_squitter_local_many(const uint8_t (*)[14], size_t, const squitter_position *, size_t, squitter_position *, size_t,
+                             squitter_fault *, size_t);
+size_t r_squitter_pair_many(const uint8_t (*)[14], size_t, const uint8_t (*)[14], size_t, squitter_position *, size_t,
+                            squitter_fault *, size_t);
+size_t r_squitter_pair_at_many(const uint8_t (*)[14], size_t, const uint8_t (*)[14], size_t, const squitter_position *,
+                               squitter_position *, size_t, squitter_fault *, size_t);
+size_t r_squitter_hear_many(squitter_entry *, uint64_t, const uint64_t *, size_t, const uint8_t (*)[14], size_t,
+                            squitter_heard *, size_t, squitter_fault *, size_t);
+size_t r_squitter_hear_at_many(squitter_entry *, uint64_t, const squitter_position *, const uint64_t *, size_t,
+                               const uint8_t (*)[14], size_t, squitter_heard *, size_t, squitter_fault *, size_t);
+size_t r_squitter_position_e7_many(const squitter_position *, size_t, squitter_degrees_e7 *, size_t, squitter_fault *,
+                                   size_t);
+squitter_fault r_squitter_angle_e7(const squitter_angle *, int64_t *);
+squitter_fault r_squitter_position_e7(const squitter_position *, squitter_degrees_e7 *);
 squitter_fault r_squitter_encode_air(const squitter_air_head *, const squitter_position *, uint8_t *);
 squitter_fault r_squitter_encode_ground(const squitter_ground_head *, const squitter_position *, uint8_t *);
 squitter_fault r_squitter_send_again(const uint8_t *, uint8_t, const squitter_position *, uint8_t *);
@@ -102,10 +118,14 @@ static void decode(const squitter_position *site) {
   const uint8_t *one = pool[below(64)], *two = pool[below(64)];
   squitter_fields fields[2];
   squitter_position place[2];
+  squitter_zones zones[2];
+  squitter_degrees_e7 degrees[2];
   squitter_fault fault;
   char text[2][28];
   BOTH_IN(read_frame, fields, UP_TO(squitter_fields, track), one);
   BOTH(local, place, one, site);
+  BOTH(local_zones, zones, one, site);
+  BOTH(position_e7, degrees, site);
   BOTH(pair, place, one, two);
   BOTH(pair_at, place, one, two, site);
   squitter_text_of_frame(one, text[0]);
@@ -145,10 +165,12 @@ static void parts(void) {
   squitter_altitude altitude[2];
   squitter_fault fault, told = {below(4) ? below(50) : next(), next() >> below(64), next() >> below(64)};
   uint8_t count[2], code = below(40);
+  int64_t e7[2];
   uint16_t field[2], raw = below(4200);
   int32_t feet = below(8) ? (int32_t)below(60000) / 25 * 25 - 2000 : (int32_t)next();
   char text[2][16], words[2][64];
   BOTH(zone_count, count, &lat);
+  BOTH(angle_e7, e7, &lat);
   BOTH(text_of_angle, text, &lat);
   BOTH_IN(feet_of_field, altitude, UP_TO(squitter_altitude, form), code, raw);
   BOTH(field_of_feet, field, feet);
@@ -195,6 +217,49 @@ static void hear(const squitter_position *site) {
   }
 }
 
+/* Calls one build and the other with arrays of which each may be the shortest: what they return, each element of `out` up to
+ * the end of its last field, and each fault. */
+#define MANY(call, out, size, ...) do { \
+    memset(out, 7, sizeof out); memset(faults, 7, sizeof faults); \
+    size_t n = squitter_##call(__VA_ARGS__, out[0], below(ROOM + 1), faults[0], ROOM); \
+    size_t m = r_squitter_##call(__VA_ARGS__, out[1], n, faults[1], ROOM); \
+    if (n != m && differences++ < 5) printf("%s differs: %zu and %zu\n", #call, n, m); \
+    for (size_t k = 0; k < ROOM; k++) \
+      if ((memcmp(&out[0][k], &out[1][k], size) || memcmp(&faults[0][k], &faults[1][k], sizeof faults[0][k])) \
+          && differences++ < 5) \
+        printf("%s differs at %zu\n", #call, k); \
+  } while (0)
+
+static void arrays(const squitter_position *p, const squitter_position *q, const squitter_position *site) {
+  enum { ROOM = 4 };
+  squitter_position near_all[ROOM] = {*p, *q, *site, *p}, places[2][ROOM];
+  uint64_t start = next() >> below(64), moments[ROOM] = {start, start + below(9), start + 5 + below(9), start + 9};
+  const uint8_t (*older)[14] = pool + below(60), (*newer)[14] = pool + below(60);
+  squitter_fields fields[2][ROOM];
+  squitter_fault faults[2][ROOM];
+  squitter_heard heard[2][ROOM];
+  squitter_degrees_e7 degrees[2][ROOM];
+  squitter_entry entry[4] = {0};
+  MANY(read_many, fields, UP_TO(squitter_fields, track), older, ROOM);
+  MANY(local_many, places, sizeof places[0][0], older, ROOM, near_all, ROOM);
+  MANY(pair_many, places, sizeof places[0][0], older, ROOM, newer, ROOM);
+  MANY(pair_at_many, places, sizeof places[0][0], older, ROOM, newer, ROOM, site);
+  MANY(position_e7_many, degrees, sizeof degrees[0][0], near_all, ROOM);
+  /* (two entries a call: the arguments are written out once for each build) */
+  memset(heard, 7, sizeof heard);
+  memset(faults, 7, sizeof faults);
+  for (int with = 0; with < 2; with++) {
+    squitter_entry *a = &entry[2 * with], *b = a + 1;
+    size_t n = with ? squitter_hear_at_many(a, 10, site, moments, ROOM, older, ROOM, heard[0], ROOM, faults[0], ROOM)
+                    : squitter_hear_many(a, 10, moments, ROOM, older, ROOM, heard[0], ROOM, faults[0], ROOM);
+    size_t m = with ? r_squitter_hear_at_many(b, 10, site, moments, ROOM, older, ROOM, heard[1], ROOM, faults[1], ROOM)
+                    : r_squitter_hear_many(b, 10, moments, ROOM, older, ROOM, heard[1], ROOM, faults[1], ROOM);
+    int differ = n != m || !are_one(a, b) || memcmp(faults[0], faults[1], sizeof faults[0]);
+    for (int k = 0; k < ROOM; k++) differ |= memcmp(&heard[0][k], &heard[1][k], UP_TO(squitter_heard, odd));
+    if (differ && differences++ < 5) printf("hear_many differs\n");
+  }
+}
+
 int main(int argc, char **argv) {
   long rounds = argc > 1 ? atol(argv[1]) : 2000000;
   char *pages = mmap(0, 3 * 4096, PROT_READ | PROT_WRITE, MAP_PRIVATE | MAP_ANONYMOUS, -1, 0);
@@ -208,6 +273,7 @@ int main(int argc, char **argv) {
     read_texts();
     parts();
     hear(&site);
+    if (!(round & 7)) arrays(&p, &q, &site);
   }
   if (squitter_version() != r_squitter_version()) differences++;
   printf("both: %ld rounds;", rounds);

@@ -46,6 +46,17 @@ static void check_texts(const uint8_t *frame) {
   free(short_text);
 }
 
+static void check_zones(const uint8_t *frame, const squitter_position *here, const squitter_position *bad) {
+  squitter_zones *zones = malloc(sizeof *zones);
+  if (!zones) exit(2);
+  CHECK(squitter_local_zones(frame, here, zones).code == SQUITTER_OK);
+  CHECK(zones->lat_zone == 8 && zones->lon_zone == 0 && zones->degrees == 360 && zones->lat_zones == 60);
+  CHECK(zones->zone_count == 36 && zones->lon_zones == 36 && zones->odd == 0);
+  zones->lat_zone = 5;
+  CHECK(squitter_local_zones(frame, bad, zones).code == SQUITTER_BAD_POSITION && zones->lat_zone == 5);
+  free(zones);
+}
+
 static void check_places(const uint8_t *older, const uint8_t *newer) {
   squitter_position near_it = {{52, 1}, {4, 1}}, bad = {{1, 0}, {0, 1}}, site = {{51990, 1000}, {4375, 1000}};
   squitter_position *here = copy(&near_it, sizeof near_it), *out = malloc(sizeof *out);
@@ -53,6 +64,7 @@ static void check_places(const uint8_t *older, const uint8_t *newer) {
   if (!out) exit(2);
   CHECK(squitter_local(newer, here, out).code == SQUITTER_OK && out->lat.num == 428091 && out->lat.den == 8192);
   CHECK(squitter_local(newer, &bad, out).code == SQUITTER_BAD_POSITION && out->lon.num == 64215);
+  check_zones(newer, here, &bad);
   CHECK(squitter_pair(older, newer, out).code == SQUITTER_OK && out->lon.num == 64215 && out->lon.den == 16384);
   CHECK(squitter_pair(a, b, out).code == SQUITTER_NO_SITE);
   CHECK(squitter_pair_at(a, b, &site, out).code == SQUITTER_OK && out->lat.num == 202304115 && out->lat.den == 3866624);

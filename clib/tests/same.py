@@ -28,7 +28,7 @@ STRUCTS = {
     "PlainAltitude": ("squitter_altitude", "_Altitude"), "PlainReceived": ("squitter_received", "_Received"),
     "PlainFix": ("squitter_last_fix", "_LastFix"), "PlainSide": ("squitter_side", "_Side"),
     "PlainEntry": ("squitter_entry", "_Entry"), "PlainHeard": ("squitter_heard", "_Heard"),
-    "DegreesE7": ("squitter_degrees_e7", "_DegreesE7"),
+    "DegreesE7": ("squitter_degrees_e7", "_DegreesE7"), "PlainZones": ("squitter_zones", "_Zones"),
 }
 # Reasons whose code has another name in C.
 RENAMED = {

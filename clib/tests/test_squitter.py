@@ -101,6 +101,13 @@ class Calls(unittest.TestCase):
         with self.assertRaises(TypeError):
             squitter.local(EVEN, Position(52.0, 4.0))
 
+    def test_zones(self):
+        self.assertEqual(squitter.local_zones(EVEN, Position(52, 4)), (8, 0, 360, 60, 36, 36, 0))
+        self.assertEqual(squitter.local_zones(ODD, Position(52, 4)), (8, 0, 360, 59, 36, 35, 1))
+        south = squitter.local_zones("8C4280A23800038C883EB75816F9", Position(-21, -144))
+        self.assertEqual(south, (-15, 132, 90, 60, 55, 55, 0))
+        self.refused(Code.BAD_POSITION, squitter.local_zones, EVEN, Position(91, 0))
+
     def test_pairs(self):
         self.assertEqual(squitter.pair(ODD, EVEN), PLACE)
         self.assertEqual(squitter.pair(GROUND_OLDER, GROUND_NEWER, SITE), GROUND_PLACE)

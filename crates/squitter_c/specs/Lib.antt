@@ -11,3 +11,4 @@ pub mod Texts
 pub mod Tracking
 pub mod E7
 pub mod Many
+pub mod Zones

@@ -8,7 +8,7 @@ use crate::faults::{Fault, NONE, Refusal};
 use crate::plain::{PlainPosition, plain_position, position_of};
 use sq_angle::Position;
 use sq_bits::Frame;
-use sq_message::{place_local, place_pair, read_frame};
+use sq_message::{Place, place_local, place_pair, read_frame};
 
 /// The place of a frame near a reference, in degrees and in lowest terms. The first fault is the reference's, then the
 /// frame's, then the place's. RTCA DO-260B, appendix on compact position reporting, local decoding.
@@ -51,13 +51,13 @@ pub extern "C" fn squitter_pair_at(
     give(of_two_at(&Frame(*older), &Frame(*newer), site), out)
 }
 
-// Writes the position, or reports why there is none.
-fn give(answer: Result<Position, Refusal>, out: &mut PlainPosition) -> Fault
+// Writes the position of the place, or reports why there is none.
+fn give(answer: Result<Place, Refusal>, out: &mut PlainPosition) -> Fault
     ensures { TellsPosition answer out.old out.new result }
 {
     match answer {
-        Ok(position) => {
-            *out = plain_position(&position);
+        Ok(place) => {
+            *out = plain_position(&place.position());
             NONE
         }
         Err(refusal) => Fault::of(refusal),
@@ -66,7 +66,7 @@ fn give(answer: Result<Position, Refusal>, out: &mut PlainPosition) -> Fault
 
 // The place of a frame near a reference.
 #[tactic(auto, unfolding(crate::specs::Decoding::IsLocalAnswer))]
-fn near(frame: &Frame, reference: &PlainPosition) -> Result<Position, Refusal>
+pub(crate) fn near(frame: &Frame, reference: &PlainPosition) -> Result<Place, Refusal>
     ensures { IsLocalAnswer frame.now reference.now result }
 {
     let Some(reference) = position_of(reference) else {
@@ -77,13 +77,13 @@ fn near(frame: &Frame, reference: &PlainPosition) -> Result<Position, Refusal>
         Err(fault) => return Err(Refusal::Line(fault.into())),
     };
     match place_local(&squitter, &reference) {
-        Ok(place) => Ok(place.position()),
+        Ok(place) => Ok(place),
         Err(fault) => Err(Refusal::Place(fault)),
     }
 }
 
 // The place of the newer of two frames near a site, if that is a position.
-fn of_two_at(older: &Frame, newer: &Frame, site: &PlainPosition) -> Result<Position, Refusal>
+fn of_two_at(older: &Frame, newer: &Frame, site: &PlainPosition) -> Result<Place, Refusal>
     ensures { IsSiteAnswer older.now newer.now site.now result }
 {
     let Some(site) = position_of(site) else {
@@ -94,7 +94,7 @@ fn of_two_at(older: &Frame, newer: &Frame, site: &PlainPosition) -> Result<Posit
 
 // The place of the newer of two frames.
 #[tactic(auto, unfolding(crate::specs::Decoding::IsPairAnswer))]
-fn of_two(older: &Frame, newer: &Frame, site: Option<&Position>) -> Result<Position, Refusal>
+fn of_two(older: &Frame, newer: &Frame, site: Option<&Position>) -> Result<Place, Refusal>
     ensures { IsPairAnswer older.now newer.now (option_copied site.entry) result }
 {
     let older = match read_frame(older) {
@@ -106,7 +106,7 @@ fn of_two(older: &Frame, newer: &Frame, site: Option<&Position>) -> Result<Posit
         Err(fault) => return Err(Refusal::Line(fault.into())),
     };
     match place_pair(&older, &newer, site) {
-        Ok(place) => Ok(place.position()),
+        Ok(place) => Ok(place),
         Err(fault) => Err(Refusal::Place(fault)),
     }
 }

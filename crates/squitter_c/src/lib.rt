@@ -24,3 +24,4 @@ mod send;
 #[cfg(test)]
 mod tests;
 mod texts;
+mod zones;

@@ -14,7 +14,8 @@ use crate::hear::{PlainHeard, squitter_hear, squitter_hear_at};
 use crate::plain::PlainPosition;
 use crate::read::squitter_read_frame;
 
-/// Reads each frame, as [`squitter_read_frame`] does, into its place of `out`.
+/// Reads each frame, as [`squitter_read_frame`] does, into its place of `out`, and answers how many places that
+/// are. The fault of each, or none, stands at its place of `faults`; at a fault that place of `out` is as it was.
 #[unsafe(no_mangle)]
 pub extern "C" fn squitter_read_many(
     frames: &[[u8; 14]],
@@ -31,7 +32,8 @@ pub extern "C" fn squitter_read_many(
     count
 }
 
-/// Decodes each frame near the reference of its place, as [`squitter_local`] does.
+/// Decodes each frame near the reference of its place, as [`squitter_local`] does, and answers how many places that
+/// are. The fault of each, or none, stands at its place of `faults`; at a fault that place of `out` is as it was.
 #[unsafe(no_mangle)]
 pub extern "C" fn squitter_local_many(
     frames: &[[u8; 14]],
@@ -52,7 +54,8 @@ pub extern "C" fn squitter_local_many(
     count
 }
 
-/// Decodes the pair of each place, as [`squitter_pair`] does.
+/// Decodes the pair of each place, as [`squitter_pair`] does, and answers how many places that are. The fault of
+/// each, or none, stands at its place of `faults`; at a fault that place of `out` is as it was.
 #[unsafe(no_mangle)]
 pub extern "C" fn squitter_pair_many(
     older: &[[u8; 14]],
@@ -72,7 +75,8 @@ pub extern "C" fn squitter_pair_many(
     count
 }
 
-/// Decodes the pair of each place with one site, as [`squitter_pair_at`] does.
+/// Decodes the pair of each place with one site, as [`squitter_pair_at`] does, and answers how many places that
+/// are. The fault of each, or none, stands at its place of `faults`; at a fault that place of `out` is as it was.
 #[unsafe(no_mangle)]
 pub extern "C" fn squitter_pair_at_many(
     older: &[[u8; 14]],
@@ -93,7 +97,9 @@ pub extern "C" fn squitter_pair_at_many(
     count
 }
 
-/// Writes each position in whole numbers of 10^-7 degree, as [`squitter_position_e7`] does.
+/// Writes each position in whole numbers of 10^-7 degree, as [`squitter_position_e7`] does, and answers how many
+/// places that are. The fault of each, or none, stands at its place of `faults`; at a fault that place of `out` is
+/// as it was.
 #[unsafe(no_mangle)]
 pub extern "C" fn squitter_position_e7_many(
     positions: &[PlainPosition],
@@ -110,7 +116,9 @@ pub extern "C" fn squitter_position_e7_many(
     count
 }
 
-/// Hears frames of the entry's address one after the other, each at its moment, as [`squitter_hear`] does.
+/// Hears frames of the entry's address one after the other, each at its moment, as [`squitter_hear`] does. A frame
+/// at fault leaves the entry and its place of `out` as they were, with the fault at its place of `faults`, and the
+/// next one is heard. The answer is how many frames were heard.
 #[unsafe(no_mangle)]
 pub extern "C" fn squitter_hear_many(
     entry: &mut PlainEntry,
@@ -135,7 +143,9 @@ pub extern "C" fn squitter_hear_many(
     count
 }
 
-/// Hears frames of the entry's address with a site, as [`squitter_hear_at`] does.
+/// Hears frames of the entry's address with a site, as [`squitter_hear_at`] does. A frame at fault leaves the entry
+/// and its place of `out` as they were, with the fault at its place of `faults`, and the next one is heard. The
+/// answer is how many frames were heard.
 #[unsafe(no_mangle)]
 pub extern "C" fn squitter_hear_at_many(
     entry: &mut PlainEntry,

@@ -18,6 +18,7 @@ use crate::read::{
 };
 use crate::send::{squitter_encode_air, squitter_encode_ground, squitter_send_again};
 use crate::texts::{squitter_text_of_fault, squitter_version};
+use crate::zones::{PlainZones, squitter_local_zones};
 use std::process::Abort;
 
 const EVEN: &str = "8D40621D58C382D690C8AC2863A7";
@@ -31,6 +32,18 @@ const EVEN_BYTES: [u8; 14] = [
 const GROUND_OLDER: &str = "8C4841753AAB238733C8CD4020B1";
 
 const GROUND_NEWER: &str = "8C4841753A8A35323FAEBDAC702D";
+
+const GROUND_SOUTH: &str = "8C4280A23800038C883EB75816F9";
+
+const NO_ZONES: PlainZones = PlainZones {
+    lat_zone: 7,
+    lon_zone: 7,
+    degrees: 7,
+    lat_zones: 7,
+    zone_count: 7,
+    lon_zones: 7,
+    odd: 7,
+};
 
 const DONE: Fault = Fault {
     code: 0,
@@ -166,6 +179,55 @@ fn decodes_near_a_reference(rt: HostRuntime) {
     out = NO_POSITION;
     assert!(rt; squitter_local(&EVEN_BYTES, &position(91, 0, 1), &mut out) == coded(20, 0));
     assert!(rt; out == NO_POSITION);
+}
+
+#[test]
+fn tells_zones(rt: HostRuntime) {
+    let mut out = NO_ZONES;
+    let even = PlainZones {
+        lat_zone: 8,
+        lon_zone: 0,
+        degrees: 360,
+        lat_zones: 60,
+        zone_count: 36,
+        lon_zones: 36,
+        odd: 0,
+    };
+    assert!(rt; squitter_local_zones(&EVEN_BYTES, &position(52, 4, 1), &mut out) == DONE);
+    assert!(rt; out == even);
+    let odd = PlainZones {
+        lat_zones: 59,
+        lon_zones: 35,
+        odd: 1,
+        ..even
+    };
+    assert!(rt; squitter_local_zones(&frame_of(ODD), &position(52, 4, 1), &mut out) == DONE);
+    assert!(rt; out == odd);
+}
+
+// South and west on the ground: 90 / 60 (-15 + 116292 / 2^17) degrees, and 90 / 55 (132 + 16055 / 2^17) less 360.
+#[test]
+fn tells_zones_in_the_south_west(rt: HostRuntime) {
+    let mut out = NO_ZONES;
+    let frame = frame_of(GROUND_SOUTH);
+    assert!(rt; squitter_local_zones(&frame, &position(-21, -144, 1), &mut out) == DONE);
+    let ground = PlainZones {
+        lat_zone: -15,
+        lon_zone: 132,
+        degrees: 90,
+        lat_zones: 60,
+        zone_count: 55,
+        lon_zones: 55,
+        odd: 0,
+    };
+    assert!(rt; out == ground);
+}
+
+#[test]
+fn tells_no_zones(rt: HostRuntime) {
+    let mut out = NO_ZONES;
+    assert!(rt; squitter_local_zones(&EVEN_BYTES, &NO_POSITION, &mut out) == coded(20, 0));
+    assert!(rt; out == NO_ZONES);
 }
 
 #[test]

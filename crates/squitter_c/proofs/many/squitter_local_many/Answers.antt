@@ -18,7 +18,7 @@ loop-at-preserved c =
       search (arith, length-set, i.2),
       search (arith, length-set, i.3),
       one_answered (IsLocalAt c.args.frames.now c.args.references.now) c.args.out.now c.loop-at.out
-      c.args.faults.now c.loop-at.faults c.loop-at.at
+          c.args.faults.now c.loop-at.faults c.loop-at.at
           i.4 room slot no_place c.squitter_local.new.out c.squitter_local.result
           (λ frame reference. there (λ (here : PlainPosition).
           IsLocal (frame_of (get_or c.args.frames.now c.loop-at.at frame)) here

@@ -17,7 +17,7 @@ loop-at-preserved c =
       search (arith, length-set, i.2),
       search (arith, length-set, i.3),
       one_answered (IsPairNear c.args.older.now c.args.newer.now c.args.site.now) c.args.out.now c.loop-at.out
-      c.args.faults.now c.loop-at.faults c.loop-at.at
+          c.args.faults.now c.loop-at.faults c.loop-at.at
           i.4 room slot no_place c.squitter_pair_at.new.out c.squitter_pair_at.result
           (λ frame. there (λ (bytes : List ℕ).
           IsPairAt (frame_of (get_or c.args.older.now c.loop-at.at frame)) (frame_of bytes) c.args.site.now

@@ -16,7 +16,7 @@ loop-at-preserved c =
       search (arith, length-set, i.1),
       search (arith, length-set, i.2),
       one_answered (IsE7At c.args.positions.now) c.args.out.now c.loop-at.out c.args.faults.now c.loop-at.faults
-      c.loop-at.at
+          c.loop-at.at
           i.3 room slot no_degrees c.squitter_position_e7.new.out c.squitter_position_e7.result
           (λ position. there (λ (here : PlainPosition). IsPositionE7 here
           (get_or c.loop-at.out c.loop-at.at no_degrees) c.squitter_position_e7.new.out c.squitter_position_e7.result)

@@ -14,7 +14,7 @@ loop-at-preserved c =
       search (arith, length-set, i.1),
       search (arith, length-set, i.2),
       one_answered (IsReadAt c.args.frames.now) c.args.out.now c.loop-at.out c.args.faults.now c.loop-at.faults
-      c.loop-at.at
+          c.loop-at.at
           i.3 room slot no_fields c.squitter_read_frame.new.out c.squitter_read_frame.result
           (λ frame. there (λ (bytes : List ℕ). IsFrameRead (frame_of bytes)
           (get_or c.loop-at.out c.loop-at.at no_fields) c.squitter_read_frame.new.out c.squitter_read_frame.result)
