@@ -32,15 +32,17 @@ function pairSteps(library, older, newer, site) {
     const code = [PARITIES[fields.odd], String(fields.lat), String(fields.lon)];
     try {
       const place = library.pair(other, frame, site);
-      return [...code, fractionText(place.lat), String(place.lat), String(library.zoneCount(place.lat)),
+      const { latZone, zoneCount, lonZone } = library.localZones(frame, place);
+      return [...code, String(latZone), fractionText(place.lat), String(place.lat), String(zoneCount), String(lonZone),
         fractionText(place.lon), String(place.lon)];
     } catch (error) {
       const counts = error.code === 16 ? String(fields.odd ? error.second : error.first) : "";
-      return [...code, "", "", counts, "", ""];
+      return [...code, "", "", "", counts, "", "", ""];
     }
   };
-  const names = ["parity of the code", "latitude code", "longitude code", "latitude, exactly", "latitude",
-    "zone count (NL) there", "longitude, exactly", "longitude"];
+  const names = ["parity of the code", "latitude code", "longitude code", "index of the zone of latitude (j)",
+    "latitude, exactly", "latitude", "zone count (NL) there", "index of the zone of longitude (m)",
+    "longitude, exactly", "longitude"];
   const first = column(older, newer), second = column(newer, older);
   const rows = names.map((name, at) => [name, first[at], second[at]]);
   return tableOf("How it comes about", ["", "Older frame", "Newer frame"], rows);
@@ -93,7 +95,6 @@ function localShown(library, text, reference) {
     ["latitude code", String(fields.lat)],
     ["longitude code", String(fields.lon)],
     ["zone count (NL) at the reference", orFault(() => library.zoneCount(reference.lat))],
-    ["zone count (NL) at the place", orFault(() => library.zoneCount(place.lat))],
     ...zoneRows(library, frame, place),
   ];
   return [placeShown(place), tableOf("How it comes about", ["", "Value"], rows), element("p", {},

@@ -150,6 +150,25 @@ export declare class Angle implements Fraction {
   toJSON(): string;
 }
 
+/** The zones in which a place lies. With the code `lat` and `lon` of its frame, its latitude is
+ * degrees / latZones * (latZone + lat / 2^17), and its longitude degrees / lonZones * (lonZone + lon / 2^17), less 360
+ * degrees from 180 up. */
+export interface Zones {
+  /** The zone of latitude, j: negative in the south. */
+  latZone: number;
+  /** The zone of longitude, m: from 0, eastwards from the prime meridian. */
+  lonZone: number;
+  /** What the zones share: 360 in the air, 90 on the ground. */
+  degrees: number;
+  /** 60 even, 59 odd. */
+  latZones: number;
+  /** Of the place's latitude, NL. */
+  zoneCount: number;
+  /** NL even; odd, one less and at least 1. */
+  lonZones: number;
+  odd: number;
+}
+
 /** All of an airborne position squitter but its place. */
 export declare class AirHead {
   constructor(fields: {
@@ -196,6 +215,8 @@ export declare class Squitter {
   /** The place of a frame near a reference: the one point with its code within half a zone of the reference.
    * Faults: BAD_POSITION (the reference), those of `read`, NOT_POSITION, OUT_OF_RANGE. */
   local(source: Frame, reference: Position): Place;
+  /** The zones in which that place lies: how it comes about. Faults: those of `local`. */
+  localZones(source: Frame, reference: Position): Zones;
   /** The place of the newer of an even and an odd frame of one address; on the ground near a site. Faults: BAD_POSITION
    * (the site), those of `read` (of the older, then of the newer), NOT_POSITION, OTHER_ADDRESS, OTHER_KIND,
    * SAME_PARITY, NO_SITE, OUT_OF_RANGE, ZONE_COUNTS. */

@@ -1,5 +1,5 @@
 /* way.js: pictures of how a place comes about: points that the library answers, over a small graticule. The zones of a
- * code are found by asking for the same frame near references one zone further. */
+ * place are the library's too, and the points of its code beside it are asked near references one zone further. */
 "use strict";
 
 /** @typedef {{lon: number, lat: number, shape: "place" | "other" | "given", text: string}} Mark */
@@ -36,33 +36,35 @@ function orNull(call) {
 /** The place of the same code so many zones north and east of a place, or null where there is none. The reference lies
  * about so many zones away, and the answer is exact. */
 function zoneAway(library, frame, place, north, east) {
-  const { odd, kind } = library.read(frame), turn = kind === Kind.GROUND ? 90n : 360n;
-  const lat = sum(place.lat, { num: BigInt(north) * turn, den: 60n - BigInt(odd) });
-  const count = BigInt(Math.max(orNull(() => library.zoneCount(lat)) - odd, 1));
-  const lon = aroundTheCircle(sum(place.lon, { num: BigInt(east) * turn, den: count }));
+  const { degrees, latZones } = library.localZones(frame, place);
+  const lat = sum(place.lat, { num: BigInt(north) * BigInt(degrees), den: BigInt(latZones) });
+  const inRow = orNull(() => library.localZones(frame, { lat, lon: place.lon }));
+  if (!inRow) return null;
+  const share = { num: BigInt(east) * BigInt(degrees), den: BigInt(inRow.lonZones) };
+  const lon = aroundTheCircle(sum(place.lon, share));
   return orNull(() => library.local(frame, { lat, lon: reduced(lon) }));
 }
 
-/** The height and the width of the zone in which a place lies, as differences of answers; null where none is found. */
+/** The height and the width of the zone in which a place lies: what the zones share, over their number. */
 function zoneOf(library, frame, place) {
-  const up = zoneAway(library, frame, place, 1, 0), down = zoneAway(library, frame, place, -1, 0);
-  const beside = zoneAway(library, frame, place, 0, 1), size = ({ num, den }) => ({ num: num < 0n ? -num : num, den });
-  const height = up ? difference(up.lat, place.lat) : down && difference(place.lat, down.lat);
-  const width = beside && size(aroundTheCircle(difference(beside.lon, place.lon)));
-  return { height: height && reduced(height), width: width && width.num ? reduced(width) : null };
+  const { degrees, latZones, lonZones } = library.localZones(frame, place), share = (count) =>
+    reduced({ num: BigInt(degrees), den: BigInt(count) });
+  return { height: share(latZones), width: share(lonZones) };
 }
 
-/** The rows of a zone: its height, its width and the steps of its grid. */
+/** The rows of the zones in which a place lies: their indices, their sizes and the steps of their grid. */
 function zoneRows(library, frame, place) {
+  const { latZone, latZones, zoneCount, lonZone, lonZones } = library.localZones(frame, place);
   const { height, width } = zoneOf(library, frame, place), narrow = Math.cos(place.lat.toNumber() * RADIAN);
-  const row = (name, angle, factor) => {
-    if (!angle) return [[name, "all the way around"], [`a step of its grid`, ""]];
+  const sizes = (name, angle, factor) => {
     const step = { num: angle.num, den: angle.den * 131072n };
     return [[name, `${library.angleText(angle)} degrees, ${fractionText(angle)}`],
       [`a step of its grid, of 131072`, `${billionths(step)} degrees, ${aboutMetres(step, factor)}`]];
   };
-  const widths = row("width of a zone of longitude there", width, narrow);
-  return [...row("height of a zone of latitude", height, 1), ...widths];
+  return [["zones of latitude", String(latZones)], ["index of its zone (j)", String(latZone)],
+    ...sizes("height of a zone of latitude", height, 1),
+    ["zone count (NL) at the place", String(zoneCount)], ["zones of longitude", String(lonZones)],
+    ["index of its zone (m)", String(lonZone)], ...sizes("width of a zone of longitude there", width, narrow)];
 }
 
 /** The places of a frame's code in the zones around a place. @returns {Mark[]} */
@@ -121,9 +123,8 @@ function wayPicture(title, marks, { middle, wide, high }, box = null) {
 
 /** Of one frame and a reference: the code in nine zones, and the box of half a zone around the reference. */
 function localPicture(library, frame, place, reference) {
-  const { height, width } = zoneOf(library, frame, place), half = (angle, most) =>
-    (angle ? Number(angle.num) / Number(angle.den) / 2 : most);
-  const high = half(height, 45), wide = half(width, 180), number = ({ num, den }) => Number(num) / Number(den);
+  const { height, width } = zoneOf(library, frame, place), number = ({ num, den }) => Number(num) / Number(den);
+  const high = number(height) / 2, wide = number(width) / 2;
   const middle = { lon: number(reference.lon), lat: number(reference.lat) };
   const marks = zoneMarks(library, frame, place, "other", "");
   marks.push({ lon: place.lon.toNumber(), lat: place.lat.toNumber(), shape: "place", text: "place" },
@@ -136,12 +137,12 @@ function localPicture(library, frame, place, reference) {
 /** Of a pair in the air: both codes in the zones around, which fall on one spot at the place alone. */
 function pairPicture(library, older, newer, place) {
   const other = orNull(() => library.pair(newer, older)), { height, width } = zoneOf(library, newer, place);
-  if (!other || !height) return [];
-  const number = ({ num, den }) => Number(num) / Number(den), around = { num: 120n, den: 1n };
+  if (!other) return [];
+  const number = ({ num, den }) => Number(num) / Number(den);
   const middle = { lon: place.lon.toNumber(), lat: place.lat.toNumber() };
   const marks = [...zoneMarks(library, older, other, "given", ""), ...zoneMarks(library, newer, place, "other", ""),
     { ...middle, shape: "place", text: "place" }];
-  const view = { middle, wide: Math.min(180, number(width ?? around) * 1.5), high: number(height) * 1.5 };
+  const view = { middle, wide: Math.min(180, number(width) * 1.5), high: number(height) * 1.5 };
   return [wayPicture("The points with the code of the newer frame (squares) and of the older one (crosses), each a " +
     "zone apart: they meet at the place (circle).", marks, view)];
 }

@@ -53,7 +53,7 @@ function names() {
   const made = { Fault: new Fault("", 1), Angle: place.lat, AirHead: new AirHead({ address: 0 }),
     GroundHead: new GroundHead({ address: 0 }), Squitter: library, Contact: new Contact(library, 0),
     Fields: library.read(FRAME), Altitude: library.feetOfField(11, 0), Heard: new Contact(library, 0).hear(0, FRAME),
-    Place: place };
+    Place: place, Zones: library.localZones(FRAME, place) };
   const members = ({ prototype }) => Object.getOwnPropertyNames(prototype).filter((name) => name !== "constructor")
     .map((name) => [name, Object.getOwnPropertyDescriptor(prototype, name).value?.length ?? null]);
   const told = Object.entries(squitter).map(([name, one]) => [name, name in made ? Object.fromEntries(members(one))
@@ -76,6 +76,7 @@ const REFUSED = [
   [Code.BAD_POSITION, () => library.local("x", bad)],
   [Code.LENGTH, () => library.local("x", zero)],
   [Code.BAD_POSITION, () => library.local(FRAME, { lat: huge, lon: 0 })],
+  [Code.BAD_POSITION, () => library.localZones("x", bad)],
   [Code.BAD_POSITION, () => library.local(FRAME, { lat: 0, lon: { num: 1, den: 0 } })],
   [Code.PARITY, () => library.pair(wrong, "x")],
   [Code.BAD_POSITION, () => library.pair(wrong, "x", bad)],
@@ -135,6 +136,8 @@ function refusals() {
   const { lat } = library.local(FRAME, { lat: { num: 52258n, den: 1000n }, lon: { num: 3918, den: 1000 } });
   const texts = [String(lat), JSON.stringify(lat), lat.toNumber()].join(" ");
   if (texts !== '52.2572021 "428091/8192" 52.2572021484375' || !(lat instanceof Angle)) throw new Error(texts);
+  const zones = Object.values(library.localZones("8C4280A23800038C883EB75816F9", { lat: -21, lon: -144 })).join(" ");
+  if (zones !== "-15 132 90 60 55 55 0") throw new Error(zones);
   console.log(`${REFUSED.length} refusals`);
 }
 
