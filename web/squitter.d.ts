@@ -233,6 +233,10 @@ export declare class Squitter {
   angle(text: string): Angle;
   /** An angle with seven decimals, rounded, ties away from zero. Fault: BAD_ANGLE. */
   angleText(degrees: Degrees): string;
+  /** An angle in whole numbers of 10^-7 degree, rounded as the seven decimals are. Fault: BAD_ANGLE. */
+  angleE7(degrees: Degrees): bigint;
+  /** A position in whole numbers of 10^-7 degree, each rounded as the seven decimals are. Fault: BAD_POSITION. */
+  positionE7(position: Position): { lat: number; lon: number };
   /** What an altitude field of 12 bits means in an airborne position of this type code. Fault: BAD_FIELDS. */
   feetOfField(typeCode: Whole, field: Whole): Altitude;
   /** The altitude field that means so many feet: a multiple of 25 from -1000 to 50175. Fault: BAD_FEET. */

@@ -98,6 +98,8 @@ const REFUSED = [
   [Code.BAD_FEET, () => library.fieldOfFeet(2 ** 32)],
   [Code.MOMENT_BACK, () => contact.hear(4, FRAME)],
   [Code.BAD_POSITION, () => new Contact(library, 1, bad).hear(0, "x")],
+  [Code.BAD_ANGLE, () => library.angleE7(361)],
+  [Code.BAD_POSITION, () => library.positionE7(bad)],
   [TypeError, () => library.zoneCount(52.5)],
   [TypeError, () => library.zoneCount("52")],
   [TypeError, () => library.local(FRAME, { lat: NaN, lon: 0 })],
@@ -138,6 +140,8 @@ function refusals() {
   if (texts !== '52.2572021 "428091/8192" 52.2572021484375' || !(lat instanceof Angle)) throw new Error(texts);
   const zones = Object.values(library.localZones("8C4280A23800038C883EB75816F9", { lat: -21, lon: -144 })).join(" ");
   if (zones !== "-15 132 90 60 55 55 0") throw new Error(zones);
+  const { lat: north, lon: west } = library.positionE7({ lat: { num: 1, den: 3n }, lon: { num: -1, den: 20_000_000 } });
+  if (library.angleE7(lat) !== 522572021n || north !== 3333333 || west !== -1) throw new Error("ten-millionths");
   console.log(`${REFUSED.length} refusals`);
 }
 

@@ -44,7 +44,7 @@ fn order(a: &Angle, b: &Angle) -> &'static str {
     }
 }
 
-// The same by the calls of the laws.
+// How two angles compare, by the calls of the laws.
 fn order_by_calls(a: &Angle, b: &Angle) -> &'static str {
     if equal_angles(a, b) {
         "equals"

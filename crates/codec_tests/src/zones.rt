@@ -158,7 +158,7 @@ fn assert_tenths(rt: &impl Abort, tenths: u64, den: u64) {
     );
 }
 
-// The same with denominators of few and of many digits.
+// Zone counts at so many tenths of a degree, with denominators of few and of many digits.
 fn assert_lanes(rt: &impl Abort, tenths: u64) {
     let dens = [
         10,

@@ -117,7 +117,7 @@ fn assert_lines_heard(
     assert!(rt; taken(sink).as_slice() == front_of(written));
 }
 
-// So many bytes of the answers.
+// The first bytes of the answers.
 fn front_of(count: usize) -> &'static [u8] {
     ANSWERS.get(..count).unwrap_or(b"")
 }

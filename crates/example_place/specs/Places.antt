@@ -68,7 +68,8 @@ IsTrueInAir text reference answer =
     → IsStrictlyNearPoint 360 1 (degrees (lat_of reference)) (degrees (lon_of reference)) point
     → answer ≡ Ok (Air point)
 
--- the same on the ground
+-- the text of a frame that was sent on the ground of a position gives the point to which that rounds, if the reference
+-- is near it
 abbrev pub IsTrueOnGround : List ℕ → Position → Result Place Fault → Type 0
 IsTrueOnGround text reference answer =
     (head : GroundHeadParts) (parity : Parity) (position : Position) (point : Point) (frame : Frame)

@@ -41,7 +41,7 @@ same_from x y e =
     let B = pos x.den *ℤ y.num in
     subst (λ (r : Ordering). MatchOrdering r (A <ℤ B) (A ≡ B) (B <ℤ A)) e (int_ranks A B)
 
--- and of two that compare as less the first is below
+-- of two fractions that compare as less the first is below
 below_from : (x y : Fraction) → fraction_cmp x y ≡ Less → x ≺ y
 below_from x y e =
     let A = pos y.den *ℤ x.num in

@@ -44,7 +44,7 @@ le_of_scale k a b p h =
     let f : (up a + down b) * k ≤ (up b + down a) * k = omega (arith, ints) in
     at_most_in a b (le_of_mul-le-mul_right f p)
 
--- and out of a strict one
+-- a factor comes out of a strict comparison
 pub lt_of_scale : (k : ℕ) (a b : ℤ) → (pos k *ℤ a) <ℤ (pos k *ℤ b) → a <ℤ b
 lt_of_scale k a b h =
     let f : (up a + down b) * k < (up b + down a) * k = omega (arith, ints) in

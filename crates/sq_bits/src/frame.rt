@@ -61,7 +61,7 @@ impl Frame {
         ((self.number() >> below) % (1 << count)) as u64
     }
 
-    /// The same frame with the bits `first` to `first + count - 1` holding `value`; no other bit changes.
+    /// The frame with `value` in the bits `first` to `first + count - 1`; no other bit changes.
     ///
     /// The bits are as for [`Frame::field`], and `value` is below 2 to the number of bits.
     pub fn with_field(&self, first: u8, count: u8, value: u64) -> Frame

@@ -31,7 +31,7 @@ check_way = record { answer = λ reader. reader.read; after = λ reader text. re
 abbrev pub IsChecking : {State : Type 0} → State → SquitterReader → Type 0
 IsChecking state reader = Unit {0}
 
--- the same, of states that want no memory
+-- how `check` answers texts: each state stands for each reader, and none wants memory
 abbrev pub check_manner : {State : Type 0} → Manner State SquitterReader Squitter
 check_manner = record { stands_for = IsChecking; way = check_way; wants = λ state text. ⊥ }
 

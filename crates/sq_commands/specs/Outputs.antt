@@ -18,7 +18,7 @@ abbrev pub outputs : {K F : Type 0} → SinkGhosts K → SinkGhosts F → (outpu
 outputs k f output output' faults faults' =
     record { output = written_on k output output'; reports = written_on f faults faults' }
 
--- the same, and what was read of the input
+-- what was read of the input, and written on both outputs
 pub record Effects : Type 1 where
   pub input : Taken
   pub outputs : Outputs
@@ -41,7 +41,7 @@ broken_text faults.Write = codes "write failed"
 broken_text faults.Memory = codes "out of memory"
 
 -- all is good: the text was written and the output finished, and nothing reported; or the output has failed within it,
--- and that is reported
+-- which is reported
 abbrev pub IsAnswer : List ℕ → Status → Outputs → Type 0
 IsAnswer text Good o = WroteLast o.output text × WroteNothing o.reports
 IsAnswer text Refused o = ⊥

@@ -125,7 +125,7 @@ pub(crate) fn track<S: Source, K: Sink, F: Sink>(
     }
 }
 
-// The same with these options.
+// Tracks with options that were read.
 fn track_with<S: Source, K: Sink, F: Sink>(
     alloc: Global,
     options: &TrackOptions,

@@ -62,7 +62,7 @@ NearPointIsLocal degrees repeats =
     → IsGridPoint degrees repeats point → point.parity ≡ parity → HasCode point code
     → IsNearPoint degrees repeats lat lon point → answer ≡ Ok point
 
--- the same of a strictly near point
+-- a strictly near point with the code is the answer of local decoding
 abbrev pub StrictlyNearPointIsLocal : ℕ → ℕ → Type 0
 StrictlyNearPointIsLocal degrees repeats =
     (code : CodeNumbers) (parity : Parity) (lat lon : Fraction) (answer : Result Point LocalFault) (point : Point)

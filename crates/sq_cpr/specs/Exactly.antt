@@ -28,7 +28,7 @@ pub record TurnsChangeNothing : Type 0 where
   pub second : (limit x y : Fraction) (turns : ℤ) → DifferByLessAround limit x y
       → DifferByLessAround limit x (turned y turns)
 
--- so many hundredths of a degree
+-- a number of hundredths of a degree
 abbrev pub hundredths : ℤ → Fraction
 hundredths n = record { num = n; den = 100 }
 
@@ -41,7 +41,7 @@ pub record Across180Degrees : Type 0 where
   pub within : DifferByLessAround (whole 44) (hundredths (pos 15900)) (hundredths (neg_ℤ (pos 15900)))
   pub not_within : ¬ DifferByLessAround (whole 44) (hundredths (pos 15800)) (hundredths (neg_ℤ (pos 15800)))
 
--- so many ten-thousandths of a degree
+-- a number of ten-thousandths of a degree
 abbrev pub ten_thousandths : ℕ → Fraction
 ten_thousandths n = record { num = pos n; den = 10000 }
 
@@ -126,7 +126,7 @@ TameExactly degrees =
     × (HaveOneCount degrees a.lat_index b.lat_index → IsClose degrees a.zones b.zones (pos a.lon_index)
     (pos b.lon_index)))
 
--- so many thousandths of a degree
+-- a number of thousandths of a degree
 abbrev pub thousandths : ℕ → Fraction
 thousandths n = record { num = pos n; den = 1000 }
 

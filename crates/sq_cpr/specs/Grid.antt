@@ -24,7 +24,7 @@ point_at parity lat_index zones lon_index =
 abbrev pub codes_of_zone : ℕ
 codes_of_zone = 2 ^ 17
 
--- so many steps
+-- a number of steps of a grid
 abbrev pub steps : ℤ → Fraction → Fraction
 steps k step = record { num = step.num *ℤ k; den = step.den }
 

@@ -41,7 +41,7 @@ IsNearLongitude degrees repeats zones lon index =
     OnSomeTurn (circle zones repeats) index
     (λ turned. IsNear (half_zone degrees zones) lon (angle_at degrees zones turned))
 
--- the same with both ends of the interval left out
+-- the longitude of the index lies less than half a zone from `lon`, with both ends of the interval left out
 abbrev pub IsStrictlyNearLongitude : ℕ → ℕ → ℕ → Fraction → ℕ → Type 0
 IsStrictlyNearLongitude degrees repeats zones lon index =
     OnSomeTurn (circle zones repeats) index
@@ -52,7 +52,7 @@ pub record IsNearPoint (degrees repeats : ℕ) (lat lon : Fraction) (point : Poi
   pub north_south : IsNear (half_zone degrees (lat_zones point.parity)) lat (latitude degrees point)
   pub east_west : IsNearLongitude degrees repeats point.zones lon point.lon_index
 
--- the same with both ends of both intervals left out
+-- the point lies less than half a zone from the reference, with both ends of both intervals left out
 pub record IsStrictlyNearPoint (degrees repeats : ℕ) (lat lon : Fraction) (point : Point) : Type 0 where
   pub north_south : IsStrictlyNear (half_zone degrees (lat_zones point.parity)) lat (latitude degrees point)
   pub east_west : IsStrictlyNearLongitude degrees repeats point.zones lon point.lon_index

@@ -75,7 +75,7 @@ pub fn near_point_is_local<S: Span>()
     ensures { NearPointIsLocal S.DEGREES S.REPEATS }
 {}
 
-/// So is a strictly near one.
+/// A point with the code that is strictly near the reference is what is decoded there.
 pub fn strictly_near_point_is_local<S: Span>()
     ensures { StrictlyNearPointIsLocal S.DEGREES S.REPEATS }
 {}
@@ -136,7 +136,8 @@ pub fn tame_air_points_are_answered()
     ensures { TameAirPointsAreAnswered }
 {}
 
-/// The same on the ground, where both lie less than 45 degrees from the site.
+/// Points on the ground with close latitudes and, where their zone counts agree, close longitudes, less than 45 degrees
+/// from the site, are answered by the newest or by their zone counts, and never as out of range.
 pub fn tame_ground_points_are_answered()
     ensures { TameGroundPointsAreAnswered }
 {}

@@ -11,7 +11,7 @@ pub fn gets_in_turn<S: Source>()
         ↔ ((between : S) × S.Gave old x between × S.Gave between y new) }
 {}
 
-/// The same of puts.
+/// Puts one after the other: none leaves the sink as it was, and more are the first and then the others.
 pub fn puts_in_turn<K: Sink>()
     ensures none { (old new : K) → Calls K.Took old new [] ↔ (new ≡ old) }
     ensures two { (old new : K) (x y : List ℕ) → Calls K.Took old new (x ∷ y ∷ [])

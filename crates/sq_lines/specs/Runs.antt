@@ -38,7 +38,7 @@ HasRun {Past = Past} how start now Wrote tally input =
     HasTold how start now Wrote (lines_of input)
     × ((past : Past) → how.stands_for start past → tally ≡ tally_of (answers_to how.way past (lines_of input)))
 
--- the same, but that of the last line's text only a prefix was written
+-- the lines were told from each past that the start stood for, but of the last line's text only a prefix was written
 abbrev pub HasToldPart : {State Past Found : Type 0} → Manner State Past Found → (start now : State)
     → (before after : Option (List ℕ)) → List (List ℕ) → Type 0
 HasToldPart {Past = Past} how start now before after lines = (past : Past) → how.stands_for start past

@@ -50,7 +50,7 @@ impl Cutter {
         self.take_to(piece, feed_place(piece))
     }
 
-    // The same of a piece of at most 64 bytes whose line feeds are marked.
+    // Takes from a piece of at most 64 bytes, whose line feeds are marked, what `take` takes.
     pub(crate) fn take_marked(&mut self, piece: &[u8], feeds: u64) -> (usize, bool)
         requires short { length piece.now ≤ 64 }
         requires marked { MarksFeeds feeds piece.now }

@@ -60,7 +60,7 @@ abbrev pub IsStrictlyNearInAir : Position → Point → Type 0
 IsStrictlyNearInAir reference point =
     IsStrictlyNearPoint 360 1 (degrees (lat_of reference)) (degrees (lon_of reference)) point
 
--- the same on the ground
+-- the point lies less than half a zone from the reference on the ground
 abbrev pub IsStrictlyNearOnGround : Position → Point → Type 0
 IsStrictlyNearOnGround reference point =
     IsStrictlyNearPoint 90 4 (degrees (lat_of reference)) (degrees (lon_of reference)) point

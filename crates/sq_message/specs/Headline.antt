@@ -51,7 +51,8 @@ NearReferenceInAir =
     → IsStrictlyNearPoint 360 1 (degrees (lat_of reference)) (degrees (lon_of reference)) point
     → IsReadNear frame reference (Air point)
 
--- the same on the ground
+-- A frame that was sent on the ground, read with a reference strictly within half a zone of the point in both
+-- coordinates, by the zones that the point itself has, gives that point.
 abbrev pub NearReferenceOnGround : Type 0
 NearReferenceOnGround =
     (head : GroundHeadParts) (parity : Parity) (position reference : Position) (point : Point) (frame : Frame)
@@ -70,7 +71,8 @@ ClosePairInAir =
     → AreClosePoints 360 a b
     → IsReadAsPair (of_parity newest odd even) (of_parity newest even odd) site (Air (of_parity newest a b))
 
--- the same on the ground, where both points lie less than 45 degrees from the site in both coordinates
+-- An even and an odd frame that were sent on the ground from one address, of points that are close, have one zone count
+-- and lie less than 45 degrees from the site in both coordinates, give the newest one's point.
 abbrev pub ClosePairOnGround : Type 0
 ClosePairOnGround =
     (even_head odd_head : GroundHeadParts) (even_position odd_position : Position) (a b : Point) (even odd : Frame)
@@ -98,7 +100,7 @@ SentAgainInAir =
     → IsSentInAir (air_head_of (squitter_parts squitter) airborne) airborne.parity position rounded again
     → again ≡ frame
 
--- the same on the ground
+-- what is sent on the ground of the place's own position, with the same head and parity, is that frame as well
 abbrev pub SentAgainOnGround : Type 0
 SentAgainOnGround =
     (squitter : Squitter) (surface : Surface) (point rounded : Point) (position : Position) (frame again : Frame)

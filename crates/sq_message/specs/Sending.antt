@@ -68,7 +68,8 @@ pub record IsSentInAir (head : AirHeadParts) (parity : Parity) (position : Posit
   pub is_frame : IsFrame frame
   pub spelled : Spells frame squitter
 
--- the same on the ground
+-- The frame that is sent on the ground with this head of a position: it spells the squitter of the point of this parity
+-- to which the position rounds.
 pub record IsSentOnGround (head : GroundHeadParts) (parity : Parity) (position : Position) (point : Point)
     (frame : Frame) : Type 0 where
   pub of_parity : point.parity ≡ parity
@@ -83,7 +84,7 @@ abbrev pub IsFrameInAir : AirHeadParts → Parity → Position → Frame → Typ
 IsFrameInAir head parity position frame =
     (point : Point) → point.parity ≡ parity → RoundsInAir position point → IsSentInAir head parity position point frame
 
--- the same on the ground
+-- The frame is the one that is sent on the ground with this head of the position: by the point to which it rounds.
 abbrev pub IsFrameOnGround : GroundHeadParts → Parity → Position → Frame → Type 0
 IsFrameOnGround head parity position frame =
     (point : Point) → point.parity ≡ parity → RoundsOnGround position point
@@ -98,7 +99,8 @@ SameZonesInAir =
     → IsSentInAir head parity here p f → IsSentInAir head parity there q g
     → (f ≡ g) ↔ (p ≡ q)
 
--- the same on the ground
+-- Two positions in the same zones of a parity's grid of the ground, with one head, have one frame exactly if they round
+-- to one point.
 abbrev pub SameZonesOnGround : Type 0
 SameZonesOnGround =
     (head : GroundHeadParts) (parity : Parity) (here there : Position) (zones : ZonePair) (p q : Point) (f g : Frame)

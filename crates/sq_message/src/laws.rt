@@ -304,7 +304,10 @@ pub fn read_near_of_sent_in_air(
     (frame, place)
 }
 
-/// The same on the ground.
+/// A position that is sent on the ground and read near a reference: the frame, and what it is decoded to.
+///
+/// Where the reference lies strictly within half a zone, in both coordinates, of the point to which the position
+/// rounds, that is this point.
 pub fn read_near_of_sent_on_ground(
     head: GroundHead,
     parity: Parity,
@@ -370,7 +373,11 @@ pub fn read_pair_of_sent_in_air(
     (even, odd, place)
 }
 
-/// The same on the ground, with a site: where both points lie less than 45 degrees from it in both coordinates as well.
+/// An even and an odd position that are sent on the ground and read as a pair with a site: the even frame, the odd one,
+/// and what they are decoded to, where the newest is the one of this parity.
+///
+/// Where the heads have one address, and the points to which the positions round are close, with one zone count, and
+/// less than 45 degrees from the site in both coordinates, that is the newest one's point.
 pub fn read_pair_of_sent_on_ground(
     even_head: GroundHead,
     even_position: &Position,

@@ -116,7 +116,7 @@ fn joined(first: u32, second: u32, third: u32) -> u64
     u64::from(first) << 16 | u64::from(second) << 8 | u64::from(third)
 }
 
-// The same by the crate for such digits, which finds the first bad one.
+// The frame of 28 digits by the crate for such digits, which finds the first bad one.
 fn decode(body: &[u8]) -> Result<Frame, usize>
     requires { length body.now ≡ 28 }
     ensures { MatchResult result (λ frame. decode_of body.now ≡ Ok frame.0) (IsFirstBadDigit body.now) }

@@ -21,7 +21,7 @@ pub fn read_squitter(text: &[u8]) -> Result<Squitter, LineFault>
     Ok(squitter)
 }
 
-// The same of any text: slower, and apart from the common case, which keeps its frame in registers.
+// The squitter of any text: slower, and apart from the common case, which keeps its frame in registers.
 #[cold]
 #[inline(never)]
 fn read_any(text: &[u8]) -> Result<Squitter, LineFault>

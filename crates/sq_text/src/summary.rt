@@ -50,7 +50,7 @@ fn air_words(parity: Parity) -> &'static str
     }
 }
 
-// The same of a surface position.
+// The kind and the parity of a surface position, as one text.
 fn ground_words(parity: Parity) -> &'static str
     ensures words { result.now ≡ codes " ground " ++ parity_name parity ++ codes " " }
     ensures short { length result.now ≤ 13 }

@@ -45,7 +45,7 @@ IsPairAnswer older newer site (Err (refusals.Place fault)) = (o : Squitter) × S
     × ((n : Squitter) × Spells newer n × IsPairPlace (squitter_parts o) (squitter_parts n) site (Err fault))
 IsPairAnswer older newer site (Err other) = ⊥
 
--- the same with a site, whose fault comes first
+-- what a pair is decoded to with a site, whose fault comes first
 abbrev pub IsSiteAnswer : (older newer : Frame) → PlainPosition → Result Place Refusal → Type 0
 IsSiteAnswer older newer plain answer = ((¬ (PlainIsPosition plain)) × (answer ≡ Err refusals.NoPosition))
     ⊎ ((site : Position) × IsOfDegrees plain site × IsPairAnswer older newer (Some site) answer)

@@ -75,7 +75,7 @@ kind_of_line lines.Moment = lines.Moment
 kind_of_line (lines.MomentBack last) = lines.MomentBack 0
 kind_of_line lines.Full = lines.Full
 
--- the same of places
+-- the reasons of places with 0 for their numbers
 abbrev pub kind_of_place : PlaceFault → PlaceFault
 kind_of_place places.NotPosition = places.NotPosition
 kind_of_place places.OtherAddress = places.OtherAddress
@@ -85,7 +85,7 @@ kind_of_place places.NoSite = places.NoSite
 kind_of_place places.OutOfRange = places.OutOfRange
 kind_of_place (places.ZoneCounts even odd) = places.ZoneCounts 0 0
 
--- the same of everything: two reasons have one kind if they differ in their numbers at most
+-- a reason with 0 for its numbers: two reasons have one kind if they differ in their numbers at most
 abbrev pub kind_of : Refusal → Refusal
 kind_of (Line fault) = Line (kind_of_line fault)
 kind_of (Place fault) = Place (kind_of_place fault)
@@ -101,11 +101,11 @@ kind_of NoParity = NoParity
 abbrev pub OneCode : Type 0
 OneCode = (a b : Refusal) → ((fault_of a).code ≡ (fault_of b).code) ↔ (kind_of a ≡ kind_of b)
 
--- and with its numbers of one reason
+-- a code and its numbers are those of one reason
 abbrev pub OneReason : Type 0
 OneReason = (a b : Refusal) → fault_of a ≡ fault_of b → a ≡ b
 
--- and none is the code of an answer
+-- no reason has the code of an answer
 abbrev pub NoCodeIsZero : Type 0
 NoCodeIsZero = (a : Refusal) → (fault_of a).code ≢ none.code
 

@@ -50,7 +50,7 @@ abbrev pub IsPairThere : (older newer : List (List ℕ)) → (k : ℕ) → (old 
 IsPairThere older newer k old new fault = (frame : List ℕ)
     → IsPair (frame_of (slice_index_or older k frame)) (frame_of (slice_index_or newer k frame)) old new fault
 
--- the same with a site
+-- the frames at place k are decoded as a pair with a site
 abbrev pub IsPairNear : (older newer : List (List ℕ)) → PlainPosition → (k : ℕ) → (old new : PlainPosition) → Fault
     → Type 0
 IsPairNear older newer site k old new fault = (frame : List ℕ)
@@ -67,7 +67,7 @@ abbrev pub IsHeardAt : (window : ℕ) → (moments : List ℕ) → (frames : Lis
 IsHeardAt window moments frames k old new was is fault = (frame : List ℕ)
     → IsHeardFrame window None (slice_index moments k) (frame_of (slice_index_or frames k frame)) old new was is fault
 
--- the same with a site, which each call looks at first
+-- the frame at place k is heard with a site, which each call looks at first
 abbrev pub IsHeardNear : (window : ℕ) → PlainPosition → (moments : List ℕ) → (frames : List (List ℕ)) → (k : ℕ)
     → (old new : PlainEntry) → (was is : PlainHeard) → Fault → Type 0
 IsHeardNear window site moments frames k old new was is fault = (frame : List ℕ)

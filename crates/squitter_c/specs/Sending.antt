@@ -38,7 +38,7 @@ IsAirAnswer plain place (Err refusals.NoHead) = ¬ (PlainIsAirHead plain × IsFl
 IsAirAnswer plain place (Err refusals.NoPosition) = PlainIsAirHead plain × IsFlag plain.odd × ¬ (PlainIsPosition place)
 IsAirAnswer plain place (Err other) = ⊥
 
--- the same on the ground
+-- the frame that is sent on the ground; the first fault is the head's or the parity's, then the position's
 unfoldable pub IsGroundAnswer : PlainGroundHead → PlainPosition → Result Frame Refusal → Type 0
 IsGroundAnswer plain place (Ok frame) = (head : GroundHead) × IsGroundHead plain head
     × ((parity : Parity) × IsParity plain.odd parity

@@ -37,7 +37,7 @@ line_text code first rest =
     else if code == 43 then fault_text lines.Full
     else rest
 
--- the same of a place
+-- the text of a code, where it is that of a place's fault, and else the rest
 abbrev pub place_text : (code first second : ℕ) → List ℕ → List ℕ
 place_text code first second rest =
     if code == 10 then place_fault_text places.NotPosition
@@ -49,7 +49,7 @@ place_text code first second rest =
     else if code == 16 then place_fault_text (places.ZoneCounts first second)
     else rest
 
--- the same of what a caller gives
+-- the text of a code, where it is one of what a caller gives, and else the rest
 abbrev pub own_text : (code : ℕ) → List ℕ → List ℕ
 own_text code rest =
     if code == 20 then refusal_text NoPosition

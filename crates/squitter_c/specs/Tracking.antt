@@ -130,7 +130,7 @@ IsHeardFrame window site moment frame old new was is fault =
     (IsAccepted window site moment frame old new is × (fault ≡ none))
     ⊎ ((reason : Refusal) × IsRefused moment frame old reason × (new ≡ old) × (is ≡ was) × (fault ≡ fault_of reason))
 
--- the same with a site, which is looked at first
+-- what is answered for a frame with a site: the fault of the site comes first
 abbrev pub IsHeardFrameAt :
     (window : ℕ) → PlainPosition → (moment : ℕ) → Frame → (old new : PlainEntry) → (was is : PlainHeard) → Fault
     → Type 0

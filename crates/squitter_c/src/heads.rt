@@ -52,7 +52,7 @@ pub(crate) fn air_head(plain: &PlainAirHead) -> Option<AirHead>
     AirHead::new(plain.ca, plain.address, fields)
 }
 
-// The same on the ground.
+// The head of a surface position; None exactly where the numbers are none.
 pub(crate) fn ground_head(plain: &PlainGroundHead) -> Option<GroundHead>
     ensures variant { IsSome result ↔ PlainIsGroundHead plain.now }
     ensures value { IfSome result (IsGroundHead plain.now) }
