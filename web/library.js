@@ -232,6 +232,14 @@ class Memory {
       ...small,
     };
   }
+
+  getZones(at) {
+    const view = this.view(), [latZones, zoneCount, lonZones, odd] = this.bytesAt(at + 12, 4);
+    return {
+      latZone: view.getInt32(at, true), lonZone: view.getUint32(at + 4, true), degrees: view.getUint32(at + 8, true),
+      latZones, zoneCount, lonZones, odd,
+    };
+  }
 }
 
 /** The loaded library: one of them does for all calls of a thread. */
@@ -332,6 +340,15 @@ class Squitter {
     this.memory.putBytes(firstAt, this.#frameNear(source, reference));
     this.#ask("local", BigInt(firstAt), BigInt(placeAt), BigInt(outAt));
     return this.#positionAt(outAt);
+  }
+
+  /** The zones in which that place lies: how it comes about. Faults: those of `local`. */
+  localZones(source, reference) {
+    const { firstAt, placeAt, outAt } = this.memory;
+    this.memory.putPosition(placeAt, reference);
+    this.memory.putBytes(firstAt, this.#frameNear(source, reference));
+    this.#ask("local_zones", BigInt(firstAt), BigInt(placeAt), BigInt(outAt));
+    return this.memory.getZones(outAt);
   }
 
   /** The place of the newer of an even and an odd frame of one address; on the ground near a site. Faults:
