@@ -1,6 +1,8 @@
 //! The program on whole command lines. `tests/worked` has one of each command, and what clap reports.
 use crate::faulty_devices::{sink_of, source_of, taken};
-use sq_tool::{Sink, Source, TextFault, read_text, run};
+use sq_devices::{Sink, Source};
+use sq_text::{TextFault, read_text};
+use sq_tool::run;
 use std::alloc::Global;
 use std::process::Abort;
 

@@ -2,6 +2,7 @@
 use Rattle.std.specs.Prelude.{◌≡◌, ◌≤◌, ℕ, zero, suc, ◌+◌, ◌/◌, ◌%◌, ◌^◌, Bool, ◌&&◌, List, [], ◌∷◌, ◌++◌, pos, int_lt, nat_lt, decimal, if◌then◌else◌}
 use Rattle.sq_angle.specs.Fraction.{Fraction, magnitude}
 use Rattle.sq_angle.specs.Nearest.{IsNearest}
+use Rattle.sq_angle.specs.Characters.{decimal_point, digit, minus_sign}
 
 -- 10^-7, a unit of the last of seven decimals
 abbrev pub ten_millionth : Fraction
@@ -9,17 +10,18 @@ ten_millionth = record { num = pos 1; den = 10 ^ 7 }
 
 -- a number below 100 in two digits
 abbrev pub two_digits : ℕ → List ℕ
-two_digits n = (48 + n / 10) ∷ (48 + n % 10) ∷ []
+two_digits n = digit (n / 10) ∷ digit (n % 10) ∷ []
 
 -- n in so many digits
 abbrev pub fixed_digits : ℕ → ℕ → List ℕ
 fixed_digits zero n = []
-fixed_digits (suc places) n = fixed_digits places (n / 10) ++ (48 + n % 10) ∷ []
+fixed_digits (suc places) n = fixed_digits places (n / 10) ++ digit (n % 10) ∷ []
 
 -- v ten-millionths as text: the sign where a digit is not 0, the whole degrees, a point and seven digits
 abbrev pub seven_places : Bool → ℕ → List ℕ
 seven_places negative v =
-    (if negative && nat_lt 0 v then 45 ∷ [] else []) ++ decimal (v / 10 ^ 7) ++ 46 ∷ [] ++ fixed_digits 7 (v % 10 ^ 7)
+    (if negative && nat_lt 0 v then minus_sign ∷ [] else [])
+    ++ decimal (v / 10 ^ 7) ++ decimal_point ∷ [] ++ fixed_digits 7 (v % 10 ^ 7)
 
 -- the text of x: the whole number of ten-millionths nearest to its magnitude, and x's sign
 abbrev pub IsDecimal7 : Fraction → List ℕ → Type 0

@@ -1,3 +1,4 @@
+pub mod Characters
 pub mod Fraction
 pub mod Whole
 pub mod Scale

@@ -2,14 +2,15 @@
 use Rattle.std.specs.Prelude.{◌≡◌, ◌≢◌, ℕ, List, [], ◌∷◌, ◌++◌}
 use Rattle.std.specs.List.{AllByRecursion}
 use Rattle.sq_angle.specs.Spelling.{fraction}
+use Rattle.sq_angle.specs.Characters.{decimal_point}
 
 -- no point stands among the characters
 abbrev pub HasNoPoint : List ℕ → Type 0
-HasNoPoint cs = AllByRecursion (λ c. c ≢ 46) cs
+HasNoPoint cs = AllByRecursion (λ c. c ≢ decimal_point) cs
 
 -- the first point is the last character
 abbrev pub EndsInPoint : List ℕ → Type 0
-EndsInPoint text = (whole : List ℕ) × HasNoPoint whole × (text ≡ whole ++ 46 ∷ [])
+EndsInPoint text = (whole : List ℕ) × HasNoPoint whole × (text ≡ whole ++ decimal_point ∷ [])
 
 -- the text is these two, with a point between them where there are decimals
 abbrev pub StandsAroundPoint : List ℕ → List ℕ → List ℕ → Type 0

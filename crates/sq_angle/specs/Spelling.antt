@@ -4,6 +4,7 @@ use Rattle.std.specs.Char.{IsAsciiDigit}
 use Rattle.std.specs.List.{AllByRecursion}
 use Rattle.std.specs.Str.Parse.{digits_value}
 use Rattle.sq_angle.specs.Fraction.{Fraction}
+use Rattle.sq_angle.specs.Characters.{decimal_point, minus_sign}
 
 -- what a text is made of: its sign, the digits before the point and those after it
 pub record Parts : Type 0 where
@@ -20,13 +21,13 @@ pub record IsSpelling (p : Parts) : Type 0 where
 
 -- `-` where the angle is negative
 abbrev pub minus : Bool → List ℕ
-minus true = 45 ∷ []
+minus true = minus_sign ∷ []
 minus false = []
 
 -- a point and the decimals, where there are any
 abbrev pub fraction : List ℕ → List ℕ
 fraction [] = []
-fraction (d ∷ ds) = 46 ∷ d ∷ ds
+fraction (d ∷ ds) = decimal_point ∷ d ∷ ds
 
 -- the text of these parts
 abbrev pub text_of : Parts → List ℕ

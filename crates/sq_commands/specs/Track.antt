@@ -2,7 +2,7 @@
 use Rattle.std.specs.Prelude.{◌≡◌, ◌≤◌, ◌<◌, ◌^◌, ◌⊎◌, ℕ, List, [], Option, None, Some, Result, Ok, Err, MatchResult, length, true}
 use Rattle.sq_devices.specs.Changes.{FinishedOnce, Sent, Taken, TookAll, TookNothing, TookPart, TookSome, Unfinished, Written, Wrote, WroteNothing}
 use Rattle.sq_devices.specs.Device.{IsPrefixOf}
-use Rattle.sq_text.specs.Timed.{IsMomentText}
+use Rattle.sq_text.specs.Timed.{IsDecimalText}
 use Rattle.sq_lines.specs.Answers.{Manner, WantsAt, tally_of}
 use Rattle.sq_lines.specs.Lines.{ended_lines, lines_of}
 use Rattle.sq_lines.specs.Runs.{OfLines, with_next}
@@ -71,12 +71,12 @@ hearing_manner = record {
 -- a limit as a number: 1 to 10 digits, below 2^32; 1000 where none is given
 abbrev pub IsLimit : Option (List ℕ) → ℕ → Type 0
 IsLimit None limit = limit ≡ 1000
-IsLimit (Some word) limit = IsMomentText word limit × (length word ≤ 10) × (limit < 2 ^ 32)
+IsLimit (Some word) limit = IsDecimalText word limit × (length word ≤ 10) × (limit < 2 ^ 32)
 
 -- a window in milliseconds: 1 to 20 digits, below 2^64; 10000 where none is given
 abbrev pub IsWindow : Option (List ℕ) → ℕ → Type 0
 IsWindow None window = window ≡ 10000
-IsWindow (Some word) window = IsMomentText word window
+IsWindow (Some word) window = IsDecimalText word window
 
 -- the words spell these options
 pub record IsTrackOptions (limit window lat lon : Option (List ℕ)) (options : TrackOptions) : Type 0 where

@@ -20,7 +20,7 @@ ghost use Rattle.sq_commands.specs.Track.{IsLimit, IsTrackReading, IsWindow};
 
 use sq_angle::{Angle, AngleFault, Position};
 use sq_message::{Parity, field_of_feet};
-use sq_text::read_moment;
+use sq_text::read_decimal;
 
 /// The kinds of squitter that `encode` writes.
 #[derive(Clone, Copy, Debug, PartialEq, Eq)]
@@ -186,7 +186,7 @@ fn number_of(digits: &str) -> Option<u64>
     ensures number { MatchOption result ((n : ℕ) → ¬ IsFiveDigits digits.now n) (IsFiveDigits digits.now) }
     ensures small { IfSome result (λ n. n < 10 ^ 5) }
 {
-    match read_moment(digits.as_bytes()) {
+    match read_decimal(digits.as_bytes()) {
         Some(number) if digits.len() <= 5 => Some(number),
         _ => None,
     }
@@ -287,7 +287,7 @@ fn read_limit(word: Option<&str>) -> Result<u32, ArgumentFault>
 fn limit_of(word: &str) -> Option<u32>
     ensures { MatchOption result ((n : ℕ) → ¬ IsLimit (Some word.now) n) (IsLimit (Some word.now)) }
 {
-    match read_moment(word.as_bytes()) {
+    match read_decimal(word.as_bytes()) {
         Some(number) if number <= 0xFFFF_FFFF && word.len() <= 10 => Some(number as u32),
         _ => None,
     }
@@ -301,7 +301,7 @@ fn read_window(word: Option<&str>) -> Result<u64, ArgumentFault>
 {
     match word {
         None => Ok(10_000),
-        Some(word) => match read_moment(word.as_bytes()) {
+        Some(word) => match read_decimal(word.as_bytes()) {
             Some(window) => Ok(window),
             None => Err(ArgumentFault::Window),
         },

@@ -22,6 +22,15 @@ use sq_message::{
 use sq_requests::EncodeWords;
 use std::alloc::Global;
 
+// What `encode` sends beside the place, and 0 in all other fields. In the air: barometric altitude, an aircraft in the air
+// that answers (capability 5).
+const AIR_TYPE_CODE: u8 = 11;
+const AIR_CAPABILITY: u8 = 5;
+
+// On the ground: a surface position (type code 7), an aircraft on the ground that answers (capability 4).
+const GROUND_TYPE_CODE: u8 = 7;
+const GROUND_CAPABILITY: u8 = 4;
+
 // Writes the frame that is sent of a position.
 pub(crate) fn encode<K: Sink, F: Sink>(
     alloc: Global,
@@ -85,8 +94,8 @@ fn air_head(address: u32, altitude: u16) -> AirHead
     requires altitude { altitude < 4096 }
     ensures { IsAirHead address altitude (air_head_parts result) }
 {
-    let fields = AirFields::new(11, 0, false, altitude, false).unwrap();
-    AirHead::new(5, address, fields).unwrap()
+    let fields = AirFields::new(AIR_TYPE_CODE, 0, false, altitude, false).unwrap();
+    AirHead::new(AIR_CAPABILITY, address, fields).unwrap()
 }
 
 // The frame of a surface position.
@@ -103,8 +112,8 @@ fn ground_head(address: u32) -> GroundHead
     requires address { address < 2 ^ 24 }
     ensures { IsGroundHead address (ground_head_parts result) }
 {
-    let fields = GroundFields::new(7, 0, false, 0, false).unwrap();
-    GroundHead::new(4, address, fields).unwrap()
+    let fields = GroundFields::new(GROUND_TYPE_CODE, 0, false, 0, false).unwrap();
+    GroundHead::new(GROUND_CAPABILITY, address, fields).unwrap()
 }
 
 // The frame's digits and a line feed; `None` where allocation fails.

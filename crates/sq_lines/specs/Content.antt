@@ -3,6 +3,7 @@ use Rattle.std.specs.Prelude.{◌==◌, ℕ, List, Option, None, Some, Result, E
 use Rattle.std.specs.Io.BufRead.{strip_last}
 use Rattle.sq_text.specs.declared.faults.LineFault.{LineFault}
 use Rattle.sq_text.specs.declared.faults.LineFault.TheVariants.{LongLine}
+use Rattle.sq_lines.specs.Lines.{carriage_return, line_limit}
 use Rattle.sq_lines.specs.declared.lines.Line.{Line}
 use Rattle.sq_lines.specs.declared.lines.Line.TheVariants as lines
 
@@ -15,8 +16,8 @@ pub data Content : Type 0 where
 -- one carriage return at the end is dropped; it counts for the length alone
 unfoldable pub content : List ℕ → Content
 content line =
-    let text = strip_last 13 line in
-    if nat_lt 64 (length line) then Long else (if length text == 0 then Empty else Text text)
+    let text = strip_last carriage_return line in
+    if nat_lt line_limit (length line) then Long else (if length text == 0 then Empty else Text text)
 
 -- what a value of the code stands for
 abbrev pub content_by : Line → Content

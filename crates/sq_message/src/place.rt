@@ -5,9 +5,9 @@ ghost use Rattle.sq_message.specs.Parts.{squitter_parts};
 ghost use Rattle.sq_message.specs.Places.{Fits, IsAirPairPlace, IsGroundPairPlace, IsLocalPlace, IsPairPlace, IsPosition, IsPositionOf, IsSentAt, NeedsTwoParities, even_of, odd_of, of_local, of_pair};
 
 use crate::{Airborne, Me, Squitter, Surface};
+use sq_angle::Position;
 use sq_cpr::{
-    Air, Code, GridPoint, Ground, LocalFault, PairFault, Parity, Position, local, pair_air,
-    pair_ground,
+    Air, Code, GridPoint, Ground, LocalFault, PairFault, Parity, local, pair_air, pair_ground,
 };
 use std::error::Error;
 use std::fmt;

@@ -6,7 +6,8 @@ ghost use Rattle.sq_message.specs.Heads.{air_head_parts, ground_head_parts};
 ghost use Rattle.sq_message.specs.Sending.{IsAirSquitter, IsGroundSquitter, RoundsInAir, RoundsOnGround};
 
 use crate::{AirHead, Airborne, GroundHead, Me, Squitter, Surface};
-use sq_cpr::{Air, Ground, Parity, Position, encode};
+use sq_angle::Position;
+use sq_cpr::{Air, Ground, Parity, encode};
 
 /// The airborne squitter of a position: the head with the code of the point of the parity's grid to which the position
 /// rounds (RTCA DO-260B section 2.2.3.2 and the appendix on compact position reporting).

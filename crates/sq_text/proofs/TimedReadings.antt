@@ -9,7 +9,7 @@ use Rattle.sq_text.specs.declared.faults.LineFault.{LineFault}
 use Rattle.sq_text.specs.declared.faults.LineFault.TheVariants.{Moment}
 use Rattle.sq_text.specs.declared.timed.TimedSquitter.{TimedSquitter}
 use Rattle.sq_text.specs.Reading.{IsSquitterReading}
-use Rattle.sq_text.specs.Timed.{HasNoMoment, IsMomentLine, IsMomentText, IsTimedReading}
+use Rattle.sq_text.specs.Timed.{HasNoMoment, IsMomentLine, IsDecimalText, IsTimedReading}
 use Rattle.sq_text.proofs.Moments.{HasNoSpace, digits_without_space, no_front, one_front}
 use Rattle.sq_text.proofs.OneReading.{one_squitter_reading}
 use Rattle.sq_text.proofs.SomeReading.{some_squitter_reading}
@@ -80,8 +80,8 @@ are_digits (c ∷ bytes) = elim (cases_lt c 48) [
 ]
 
 -- digits are a moment or none
-is_moment : (digits : List ℕ) → ((moment : ℕ) × IsMomentText digits moment)
-    ⊎ ((moment : ℕ) → ¬ IsMomentText digits moment)
+is_moment : (digits : List ℕ) → ((moment : ℕ) × IsDecimalText digits moment)
+    ⊎ ((moment : ℕ) → ¬ IsDecimalText digits moment)
 is_moment digits = elim (cases_lt 0 (length digits)) [
   | inr none ↦ inr (λ m is. absurd (omega (arith, none, is.some)))
   | inl some ↦ elim (cases_lt 20 (length digits)) [
@@ -114,7 +114,7 @@ has_moment text = elim (first_space text) [
     | inr other ↦ inr (λ more m line.
         let same = one_front line.digits front more rest (digits_without_space line.digits line.of_moment.each) free
         (sym line.whole ∙ is) in
-        other m (subst (λ ds. IsMomentText ds m) same.0 line.of_moment))
+        other m (subst (λ ds. IsDecimalText ds m) same.0 line.of_moment))
   ]
 ]
 

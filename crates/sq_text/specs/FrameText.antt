@@ -3,21 +3,22 @@
 use Rattle.std.specs.Prelude.{◌≡◌, ◌≢◌, ℕ, ◌+◌, ◌*◌, ◌<◌, ◌⊎◌, List, [], ◌∷◌, ◌++◌, length, take, slice_index, false, Result, Ok, MatchResult}
 use Rattle.std.specs.List.{AllPass}
 use Rattle.hex.specs.Hex.{decode_of, is_hex_digit, pair_value}
+use Rattle.sq_angle.specs.Characters.{semicolon, star}
 use Rattle.sq_bits.specs.declared.frame.Frame.{Frame}
 use Rattle.sq_text.specs.declared.frame_text.TextFault.{TextFault}
 use Rattle.sq_text.specs.declared.frame_text.TextFault.TheVariants.{Wrap, Short, Length, Digit}
 
 -- the text begins with `*`
 abbrev pub Begins : List ℕ → Type 0
-Begins text = (rest : List ℕ) × (text ≡ 42 ∷ rest)
+Begins text = (rest : List ℕ) × (text ≡ star ∷ rest)
 
 -- the text ends with `;`
 abbrev pub Ends : List ℕ → Type 0
-Ends text = (front : List ℕ) × (text ≡ front ++ 59 ∷ [])
+Ends text = (front : List ℕ) × (text ≡ front ++ semicolon ∷ [])
 
 -- the body: what stands between `*` and `;`, or the bare text
 abbrev pub IsBody : List ℕ → List ℕ → Type 0
-IsBody text body = (text ≡ 42 ∷ (body ++ 59 ∷ [])) ⊎ ((¬ (Begins text)) × (¬ (Ends text)) × (text ≡ body))
+IsBody text body = (text ≡ star ∷ (body ++ semicolon ∷ [])) ⊎ ((¬ (Begins text)) × (¬ (Ends text)) × (text ≡ body))
 
 -- one of the two without the other
 abbrev pub IsHalfWrapped : List ℕ → Type 0

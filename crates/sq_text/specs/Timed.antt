@@ -3,24 +3,25 @@ use Rattle.std.specs.Prelude.{◌≡◌, ◌≤◌, ◌<◌, ◌^◌, ◌++◌, 
 use Rattle.std.specs.Char.{IsAsciiDigit}
 use Rattle.std.specs.List.{AllByRecursion}
 use Rattle.std.specs.Str.Parse.{digits_value}
+use Rattle.sq_angle.specs.Characters.{space}
 use Rattle.sq_text.specs.declared.faults.LineFault.{LineFault}
 use Rattle.sq_text.specs.declared.faults.LineFault.TheVariants.{Moment}
 use Rattle.sq_text.specs.declared.timed.TimedSquitter.{TimedSquitter}
 use Rattle.sq_text.specs.Reading.{IsSquitterText, IsSquitterFault}
 
--- a moment: 1 to 20 decimal digits, of a number below 2^64
-pub record IsMomentText (digits : List ℕ) (moment : ℕ) : Type 0 where
+-- 1 to 20 decimal digits, of a number below 2^64
+pub record IsDecimalText (digits : List ℕ) (number : ℕ) : Type 0 where
   pub some : 1 ≤ length digits
   pub twenty : length digits ≤ 20
   pub each : AllByRecursion IsAsciiDigit digits
-  pub value : moment ≡ digits_value 10 digits
-  pub small : moment < 2 ^ 64
+  pub value : number ≡ digits_value 10 digits
+  pub small : number < 2 ^ 64
 
 -- a moment, one space, and a rest
 pub record IsMomentLine (text rest : List ℕ) (moment : ℕ) : Type 0 where
   pub digits : List ℕ
-  pub of_moment : IsMomentText digits moment
-  pub whole : text ≡ digits ++ 32 ∷ rest
+  pub of_moment : IsDecimalText digits moment
+  pub whole : text ≡ digits ++ space ∷ rest
 
 -- a moment, one space, and the text of a frame that spells the squitter
 abbrev pub IsTimedText : List ℕ → TimedSquitter → Type 0

@@ -26,4 +26,4 @@ pub use reading::read_squitter;
 pub use show::{ShowText, show_text};
 pub use sq_message::{Frame, FrameFault, PlaceFault, Position, Squitter};
 pub use summary::push_summary;
-pub use timed::{TimedSquitter, read_moment, read_timed};
+pub use timed::{TimedSquitter, read_decimal, read_timed};

@@ -3,7 +3,7 @@ ghost use Rattle.std.specs.Prelude.{◌≡◌, ◌≤◌, ◌∷◌, ◌++◌, �
 ghost use Rattle.std.specs.Char.{IsAsciiDigit};
 ghost use Rattle.std.specs.List.{AllByRecursion};
 ghost use Rattle.std.specs.Str.Parse.{digits_value};
-ghost use Rattle.sq_text.specs.Timed.{HasNoMoment, IsMomentLine, IsMomentText, IsTimedReading};
+ghost use Rattle.sq_text.specs.Timed.{HasNoMoment, IsMomentLine, IsDecimalText, IsTimedReading};
 
 use crate::faults::LineFault;
 use crate::reading::read_squitter;
@@ -41,7 +41,7 @@ fn split_moment(text: &[u8]) -> Option<(u64, &[u8])>
     ensures none { IfNone result (HasNoMoment text.now) }
 {
     match split_at_space(text) {
-        Some((digits, rest)) => match read_moment(digits) {
+        Some((digits, rest)) => match read_decimal(digits) {
             Some(moment) => Some((moment, rest)),
             None => None,
         },
@@ -59,10 +59,10 @@ fn split_at_space(text: &[u8]) -> Option<(&[u8], &[u8])>
     Some((&text[..at], &text[at + 1..]))
 }
 
-/// A moment: 1 to 20 decimal digits, of a number below 2^64. `None` for all else.
-pub fn read_moment(digits: &[u8]) -> Option<u64>
-    ensures some { IfSome result (IsMomentText digits.now) }
-    ensures none { IfNone result ((moment : ℕ) → ¬ IsMomentText digits.now moment) }
+/// The number of 1 to 20 decimal digits, below 2^64: a moment, or an option of the program. `None` for all else.
+pub fn read_decimal(digits: &[u8]) -> Option<u64>
+    ensures some { IfSome result (IsDecimalText digits.now) }
+    ensures none { IfNone result ((number : ℕ) → ¬ IsDecimalText digits.now number) }
 {
     if digits.is_empty() || digits.len() > DIGITS || !are_digits(digits) {
         return None;

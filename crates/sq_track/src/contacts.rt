@@ -16,7 +16,8 @@ use crate::contact::{Contact, Side};
 use crate::heard::Heard;
 use indexmap::IndexMap;
 use lru::LruCache;
-use sq_message::{Position, Squitter};
+use sq_angle::Position;
+use sq_message::Squitter;
 use std::alloc::{AllocError, Global};
 use std::marker::Model;
 

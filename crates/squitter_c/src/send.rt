@@ -9,9 +9,10 @@ ghost use Rattle.squitter_c.specs.Sending.{IsGroundSent, IsRoundedTo, IsSentAgai
 use crate::faults::{Fault, NONE, Refusal};
 use crate::heads::{PlainAirHead, PlainGroundHead, air_head, ground_head};
 use crate::plain::{PlainPosition, parity_of, position_of};
+use sq_angle::Position;
 use sq_bits::Frame;
 use sq_bits::laws::each_frame;
-use sq_cpr::{Air, Ground, Parity, Position, nearest};
+use sq_cpr::{Air, Ground, Parity, nearest};
 use sq_message::{
     Me, Place, PlaceFault, Squitter, read_frame, send_air, send_ground, send_point, write_frame,
 };

@@ -13,7 +13,7 @@ use Rattle.sq_track.specs.Answers.{IsHeard}
 use Rattle.sq_track.specs.Replies.{Settings, IsInTime, IsHistory}
 use Rattle.sq_track.specs.Worlds.{Arrival, World, IsEntryOf, ArisesFrom}
 use Rattle.sq_track.specs.Tame.{AreTogether}
-use Rattle.sq_track.proofs.Listing.Found.{none_is_some, same_some, each_weaker}
+use Rattle.sq_track.proofs.Lists.Found.{none_is_some, same_some, each_weaker}
 
 -- the entry was an arrival of the world
 abbrev pub Arrived : World → Entry → Type 0

@@ -11,7 +11,7 @@ use Rattle.sq_track.specs.Answers.{IsHeard, IsHeardWith}
 use Rattle.sq_track.specs.Replies.{Settings, IsInTime, IsReply, IsHistory, is_of_address, newest_of_each, present, of_address}
 use Rattle.sq_track.specs.Laws.{OneAddressAlone, AloneIsHistory, AcceptedAlone}
 use Rattle.sq_track.proofs.Histories.Entries.{sender_parts}
-use Rattle.sq_track.proofs.Listing.Filters.{filter-cons_yes, filter-cons_no, Each, Each-filter, Each-filter_pass}
+use Rattle.sq_track.proofs.Lists.Filters.{filter-cons_yes, filter-cons_no, Each, Each-filter, Each-filter_pass}
 use Rattle.sq_track.proofs.Table.Remembering.{still_in_time}
 
 -- what is looked for is found in what a weaker test leaves

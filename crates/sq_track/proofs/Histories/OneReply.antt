@@ -4,7 +4,7 @@ use Rattle.sq_track.specs.declared.heard.TrackFault.TheVariants.{NoLimit, Memory
 use Rattle.sq_track.specs.History.{History}
 use Rattle.sq_track.specs.Replies.{IsInTime, last_moment}
 use Rattle.sq_track.specs.Laws.{OneReply}
-use Rattle.sq_track.proofs.Listing.Found.{same_some}
+use Rattle.sq_track.proofs.Lists.Found.{same_some}
 use Rattle.sq_track.proofs.Histories.OneAnswer.{one_answer}
 
 in_time_is_back : {A : Type 0} (history : History) (moment last : ℕ) → IsInTime history moment

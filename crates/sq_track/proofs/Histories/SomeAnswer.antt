@@ -34,7 +34,7 @@ use Rattle.sq_track.specs.History as past
 use Rattle.sq_track.specs.Answers.{heard_alone, heard_of_pair, heard_near, IsHeardOfPair, IsHeardNear, IsHeardAfter}
 use Rattle.sq_track.specs.Replies.{Settings, IsHistory, IsFull, is_position, is_of_address, last_moment, present}
 use Rattle.sq_track.specs.Laws.{SomeAnswer, SomeReply}
-use Rattle.sq_track.proofs.Listing.Found.{found, none_is_some}
+use Rattle.sq_track.proofs.Lists.Found.{found, none_is_some}
 use Rattle.sq_track.proofs.Histories.Entries.{recent_is}
 
 -- a fault is no place

@@ -4,7 +4,7 @@ use Rattle.std.specs.List.{IsDistinct, AllByRecursion}
 use Rattle.std.specs.Map.{keys_of, lookup}
 use Rattle.std.proofs.lemmas.Bool.{true≢false, false≢true, le-leb, leb-true, lt-leb}
 use Rattle.std.proofs.lemmas.Bool.Decides.{nat_tests}
-use Rattle.sq_track.proofs.Listing.Filters.{filter-cons_yes, filter-cons_no, length-filter_le}
+use Rattle.sq_track.proofs.Lists.Filters.{filter-cons_yes, filter-cons_no, length-filter_le}
 use Rattle.sq_track.specs.declared.contact.Contact.{Contact}
 use Rattle.sq_track.specs.Ordered.{others_in}
 use Rattle.sq_track.specs.Entries.{is_fresh, fresh, fresh_entry, IsOrdered}

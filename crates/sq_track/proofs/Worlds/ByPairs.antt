@@ -12,7 +12,7 @@ use Rattle.sq_track.specs.Worlds.{Arrival, IsTruePlace, IsEntryOf}
 use Rattle.sq_track.specs.Tame.{AreTogether, ArePairTogether, AreSlowPlaces, AreSlowToFollow}
 use Rattle.sq_track.specs.Laws.{ApartIsSlow, ArisesByArrivals, SlowByPairs, SlowForFollowingByPairs, SlowForFollowingPairExactly, SlowPairExactly}
 use Rattle.sq_track.proofs.Histories.Entries.{each_arrived, sender_parts, together_sym}
-use Rattle.sq_track.proofs.Listing.Found.{same_some}
+use Rattle.sq_track.proofs.Lists.Found.{same_some}
 use Rattle.sq_track.proofs.Worlds.Standing.{followed_still, one_with_itself, own_kind}
 use Rattle.sq_track.proofs.Worlds.Places.{one_true_place}
 

@@ -29,7 +29,7 @@ use Rattle.sq_track.specs.Worlds.{IsPlaceOf, HasCodeOf, IsEncodedFrom}
 use Rattle.sq_track.specs.Tame.{AreSlowPlaces}
 use Rattle.sq_track.specs.Laws.{OddFirstIsFixed, OddFirstIsFixedOnGround}
 use Rattle.sq_track.proofs.Histories.Entries.{together_sym}
-use Rattle.sq_track.proofs.Listing.Found.{same_some}
+use Rattle.sq_track.proofs.Lists.Found.{same_some}
 use Rattle.sq_track.proofs.Worlds.ByPairs.{slow_pair_exactly}
 use Rattle.sq_track.proofs.Worlds.SomeFix.{fixed, odd_then_even}
 use Rattle.sq_track.proofs.Worlds.Places.{one_place}

@@ -32,7 +32,7 @@ use Rattle.sq_track.specs.Answers.{heard_of_pair, IsHeard, IsHeardOfPair}
 use Rattle.sq_track.specs.Tame.{AreTogether, AreSlowPlaces}
 use Rattle.sq_track.specs.Laws.{SlowPairIsFixed, SlowPairIsFixedOnGround}
 use Rattle.sq_track.proofs.Histories.Entries.{sender_parts}
-use Rattle.sq_track.proofs.Listing.Found.{same_some}
+use Rattle.sq_track.proofs.Lists.Found.{same_some}
 use Rattle.sq_track.proofs.Worlds.ByPairs.{slow_pair_exactly}
 use Rattle.sq_track.proofs.Worlds.Places.{one_place}
 use Rattle.sq_track.proofs.Histories.SomeAnswer.{some_pair}

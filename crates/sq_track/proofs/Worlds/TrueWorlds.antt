@@ -9,7 +9,7 @@ use Rattle.sq_track.specs.Replies.{Settings, IsHistory, AreReplies}
 use Rattle.sq_track.specs.Worlds.{Arrival, World, ArisesFrom, IsTrueFix, IsTruePlaceHeard, IfHeard, received_of}
 use Rattle.sq_track.specs.Tame.{IsTame, IsTameForFollowing, IsSlow, IsSlowForFollowing}
 use Rattle.sq_track.specs.Laws.{TameWorldsAreTrue, FollowedWorldsAreTrue}
-use Rattle.sq_track.proofs.Listing.Found.{each_weaker}
+use Rattle.sq_track.proofs.Lists.Found.{each_weaker}
 use Rattle.sq_track.proofs.Worlds.SlowWorlds.{slow_worlds_are_tame, slow_for_following_is_tame}
 use Rattle.sq_track.proofs.Histories.Entries.{Arrived, IsChain, chain_of, each_arrived}
 use Rattle.sq_track.proofs.Histories.TrueHistories.{fix_is_true, IsPlacedEntry, place_heard_is_true, entry_is_placed, entries_are_placed}
