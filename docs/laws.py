@@ -1,22 +1,28 @@
 #!/usr/bin/env python3
-"""laws.py > LAWS.md: the lemma files that each law rests on, read from the imports of the proofs."""
+"""laws.py > LAWS.md: the lemma files that each law rests on, read from the imports of the proofs.
+
+laws.py --pins > PINS.md: what pins each premise, read from the contracts and definitions by pins.py.
+laws.py --check: whether each premise is pinned; else their names, and status 1."""
 import glob
 import os
 import re
+import sys
+
+import pins
 
 TOP = os.path.dirname(os.path.dirname(os.path.abspath(__file__)))
 HEAD = """# The laws and their lemmas
 
 A law is a public function of `src/laws.rt` whose contract is the statement. For each crate: the laws by the lemma file that their
 proof cites, and then each folder and each lemma file of `proofs/`, with what it says of itself and, after the arrow, the files
-that it cites; one of another crate has that crate's name. A law with no file is found by the prover from the definitions alone.
+that it cites; one of another crate has that crate's name. The proof of a law with no file cites none.
 `docs/laws.py > docs/LAWS.md` writes this page."""
 
 
 def imports(path, crate):
     """The lemma files that a proof cites."""
     with open(path, encoding="utf-8") as file:
-        found = re.findall(r"Rattle\.(sq_\w+|example_place)\.proofs\.([A-Z]\w*(?:\.[A-Z]\w*)?)\.\{", file.read())
+        found = re.findall(r"Rattle\.(\w+)\.proofs\.([A-Z]\w*(?:\.[A-Z]\w*)?)\.\{", file.read())
     found = [(name, lemma.replace(".", "/")) for name, lemma in found]
     own = [(name, lemma) for name, lemma in found if os.path.exists(f"{TOP}/crates/{name}/proofs/{lemma}.antt")]
     return list(dict.fromkeys(own))
@@ -52,6 +58,12 @@ def files_of(crate):
 
 
 def main():
+    if "--pins" in sys.argv:
+        print(pins.page(pins.Book()))
+        return
+    if "--check" in sys.argv:
+        found = pins.faults(pins.Book())
+        sys.exit("\n".join(found) if found else 0)
     lines = [HEAD]
     for path in sorted(glob.glob(f"{TOP}/crates/*/proofs")):
         crate = path.split("/")[-2]

@@ -1,0 +1,485 @@
+"""Where each definition of specs/ stands in contracts, and what pins it.
+
+A contract is worth what its definitions say. A definition that stands left of an arrow, a premise, must not shrink
+unseen: it is pinned where something concludes it, from premises that are themselves pinned. One that stands as an
+answer must not grow unseen: it is read where something is concluded from it. Both are found here from the text of
+the contracts and of the definitions; `laws.py` writes the page and makes the check.
+
+An arrow, `¬` and `requires` turn left and right; `↔` has both sides on both. What stands in brackets, as an argument
+or as a part of `×` and `⊎`, counts as what it stands in."""
+import glob
+import os
+import re
+from collections.abc import Iterable, Iterator
+from dataclasses import dataclass, field
+from functools import cached_property
+
+TOP = os.path.dirname(os.path.dirname(os.path.abspath(__file__)))
+Name = tuple[str, str, str]
+NOTHING = ("", "", "")
+FACTS = set("≡ ≢ ≤ < ≤ℤ <ℤ ≼ ≺ ≃ ↔ ¬ ⊤ ⊥ IsTrue All Contains IfSome IfNone IfOk IfErr OnOk OnErr IsDistinct T".split())
+FACTS |= set("Appends Consumes Keeps IsAtEnd MatchResult MatchOption MatchBool IsSome IsNone Any".split())
+CONTAINERS = {"List", "Option", "Result"}
+WORD = re.compile(r'"(?:\\.|[^"\\])*"|[(){}]|[^\s(){};,"]+|[;,]')
+HEAD = re.compile(r"^(?:(abbrev|unfoldable) )?pub (record |data )?([^\s:(]+)(.*)$", re.S)
+
+
+@dataclass(frozen=True)
+class Place:
+    """One place where a definition stands: left or right, below which premises, and whether more than one turn up."""
+
+    name: Name
+    left: bool
+    below: frozenset[Name]
+    turns: int
+    firm: frozenset[Name]
+
+
+@dataclass
+class Definition:
+    """A definition of specs/: its kind is a relation, a statement, a type or a value."""
+
+    name: Name
+    parts: list[list[str]]
+    is_type: bool
+    takes: bool
+    kind: str = "value"
+    places: list[Place] = field(default_factory=list)
+
+
+@dataclass
+class Contract:
+    """A public call, or a trait's, with its clauses."""
+
+    crate: str
+    call: str
+    is_law: bool = False
+    places: list[Place] = field(default_factory=list)
+    whole: list[Name] = field(default_factory=list)
+
+
+def words(text: str) -> list[str]:
+    """The words of a text without its comments; strings are left out."""
+    text = re.sub(r"(?m)(^|\s)--.*$", "", text)
+    return [word for word in WORD.findall(text) if not word.startswith('"')]
+
+
+def split(tokens: list[str], at: set[str]) -> list[list[str]]:
+    """The parts between the words `at` that stand outside brackets."""
+    parts: list[list[str]] = [[]]
+    depth = 0
+    for token in tokens:
+        depth += (token in "({") - (token in ")}")
+        if depth == 0 and token in at:
+            parts.append([])
+        else:
+            parts[-1].append(token)
+    return parts
+
+
+def groups(tokens: list[str]) -> Iterator[str | list[str]]:
+    """The words outside brackets, and what stands in each pair of brackets."""
+    depth, inner = 0, []
+    for token in tokens:
+        depth -= token in ")}"
+        if depth:
+            inner.append(token)
+        elif token in ")}":
+            yield inner
+            inner = []
+        elif token not in "({":
+            yield token
+        depth += token in "({"
+
+
+def colon(tokens: list[str]) -> int:
+    """Where the colon stands that gives variables their type, or -1."""
+    depth = 0
+    for index, token in enumerate(tokens):
+        depth += (token in "({") - (token in ")}")
+        if depth == 0 and token == ":":
+            return index
+    return -1
+
+
+def bound(tokens: list[str]) -> set[str]:
+    """The variables that these words bind: before a colon in brackets, after a lambda and after `let`."""
+    names: set[str] = set()
+    for index, token in enumerate(tokens):
+        if token == "let" and index + 1 < len(tokens):
+            names.add(tokens[index + 1])
+        if token.startswith("λ"):
+            rest = tokens[index:]
+            end = next((k for k, word in enumerate(rest) if word.endswith(".")), 0)
+            names |= {word.strip("λ.") for word in rest[:end + 1]}
+    for group in groups(tokens):
+        if isinstance(group, list):
+            names |= set(group[:max(colon(group), 0)])
+            names |= bound(group)
+    return names - {"(", ")", "{", "}", ""}
+
+
+class Walk:
+    """Finds where definitions stand in a term."""
+
+    def __init__(self, known: dict[str, Name], hidden: set[str], kinds: dict[Name, str]) -> None:
+        self.known = known
+        self.hidden = hidden
+        self.kinds = kinds
+
+    def named(self, token: str) -> Name:
+        word = token.strip(".")
+        return self.known.get(word, NOTHING) if word not in self.hidden else NOTHING
+
+    def relations(self, tokens: Iterable[str]) -> frozenset[Name]:
+        """The relations among these words."""
+        found = {self.named(token) for token in tokens}
+        return frozenset(name for name in found if self.kinds.get(name) == "relation")
+
+    def term(self, tokens: list[str], turns: int, below: frozenset[Name], firm: frozenset[Name]) -> Iterator[Place]:
+        if tokens and tokens[0].startswith("λ"):
+            end = next((k for k, word in enumerate(tokens) if word.endswith(".")), 0)
+            yield from self.term(tokens[end + 1:], turns, below, firm)
+            return
+        parts = split(tokens, {"→"})
+        for index, part in enumerate(parts[:-1]):
+            yield from self.term(part, turns + 1, below, self.relations(parts[-1]))
+            below |= self.relations(part)
+        yield from self.sides(parts[-1], turns, below, firm)
+
+    def sides(self, tokens: list[str], turns: int, below: frozenset[Name], firm: frozenset[Name]) -> Iterator[Place]:
+        sides = split(tokens, {"↔"})
+        if len(sides) == 1:
+            for part in split(tokens, {"×", "⊎"}):
+                yield from self.part(part, turns, below, firm)
+            return
+        for index, side in enumerate(sides):
+            other = self.relations(word for k, rest in enumerate(sides) if k != index for word in rest)
+            for part in split(side, {"×", "⊎"}):
+                yield from self.part(part, turns, below | other, firm)
+                yield from self.part(part, turns + 1, below, other)
+
+    def part(self, tokens: list[str], turns: int, below: frozenset[Name], firm: frozenset[Name]) -> Iterator[Place]:
+        if tokens and tokens[0] == "¬":
+            yield from self.part(tokens[1:], turns + 1, below, frozenset())
+            return
+        for group in groups(tokens):
+            if isinstance(group, list):
+                yield from self.term(group[colon(group) + 1:], turns, below, firm)
+            else:
+                name = self.named(group)
+                if self.kinds.get(name) in {"relation", "statement", "value"}:
+                    yield Place(name, turns % 2 == 1, below, turns, firm)
+
+
+def imported(text: str) -> dict[str, Name]:
+    """What the lines `use` of a file bring in from specs/, by the name that the file calls it."""
+    found: dict[str, Name] = {}
+    for crate, module, names in re.findall(r"use Rattle\.(\w+)\.specs\.(\w+)\.\{([^}]*)\}", text):
+        for one in names.split(","):
+            name, _, alias = one.strip().partition(" as ")
+            found[(alias or name).strip("◌")] = (crate, module, name)
+    return found
+
+
+def body_parts(head: str, rest: str, is_type: bool) -> list[list[str]]:
+    """The terms of a definition: the bodies of its clauses, or the types of its fields or constructors."""
+    if "◌" in head:
+        return [words(clause.split("=", 1)[1]) for clause in rest.split("\n")[1:] if "=" in clause]
+    if not is_type:
+        clauses = re.split(rf"(?m)^{re.escape(head)}(?=\s)", rest)[1:]
+        return [words(clause.split("=", 1)[1]) for clause in clauses if "=" in clause]
+    fields = re.split(r"(?m)^  (?:pub )?[\w' ]+ :(?=\s)", rest)[1:]
+    return [words(one) for one in fields]
+
+
+def definitions_of(path: str, crate: str, module: str) -> tuple[list[Definition], dict[str, Name]]:
+    with open(path, encoding="utf-8") as file:
+        text = file.read()
+    known = imported(text)
+    found = []
+    for block in re.split(r"\n(?=abbrev |unfoldable |pub |use )", re.sub(r"(?m)^--.*\n", "", text)):
+        head = HEAD.match(block)
+        if head is None or head[3] in {"mod", "ruleset"} or not (head[1] or head[2]):
+            continue
+        is_type = head[2] is not None
+        rest = re.sub(r"(?m)^\s*--.*$", "", head[4])
+        start, _, fields = rest.partition(" where") if is_type else (rest.split("\n" + head[3])[0], "", rest)
+        signature = split(words(start), {"→"})
+        takes = len(signature) > 1 or "(" in signature[0] or "{" in signature[0]
+        one = Definition((crate, module, head[3]), body_parts(head[3], fields or rest, is_type), is_type, takes)
+        one.kind = "Type" if signature[-1][-2:-1] == ["Type"] else "value"
+        found.append(one)
+        known[head[3].strip("◌")] = one.name
+    return found, known
+
+
+class Book:
+    """All definitions and contracts of the repository, and what pins each definition."""
+
+    def __init__(self, top: str = TOP) -> None:
+        self.top = top
+        self.definitions: dict[Name, Definition] = {}
+        self.known: dict[Name, dict[str, Name]] = {}
+        self.contracts: list[Contract] = []
+        for path in sorted(glob.glob(f"{top}/crates/*/specs/*.antt")):
+            crate, module = path.split("/")[-3], os.path.basename(path)[:-5]
+            found, known = definitions_of(path, crate, module)
+            for one in found:
+                self.definitions[one.name] = one
+                self.known[one.name] = known
+        self.sort_out()
+        kinds = {name: one.kind for name, one in self.definitions.items()}
+        for one in self.definitions.values():
+            for part in one.parts:
+                walk = Walk(self.known[one.name], bound(part), kinds)
+                one.places += walk.term(part, 0, frozenset(), frozenset())
+        for path in sorted(glob.glob(f"{top}/crates/*/src/**/*.rt", recursive=True)):
+            crate = path[len(top):].split("/")[2]
+            if not crate.endswith("_tests"):
+                for contract in contracts_of(path, crate, kinds):
+                    contract.is_law = path.endswith("/laws.rt")
+                    self.contracts.append(contract)
+
+
+    def sort_out(self) -> None:
+        """Which definitions are relations, statements, types of plain data, and values.
+
+        A record is a relation where a field says something; what abbreviates a type of the library is as its parts."""
+        types = {name: one for name, one in self.definitions.items() if one.kind == "Type"}
+        facts = {name for name, one in types.items() if not one.is_type and one.parts[0][0] not in CONTAINERS}
+        while True:
+            more = {name for name, one in types.items() if name not in facts and self.is_fact(one, facts)}
+            if not more:
+                break
+            facts |= more
+        for name, one in types.items():
+            plain = one.is_type or one.parts[0][0] in CONTAINERS
+            one.kind = "type" if name not in facts else "relation" if one.takes or plain else "statement"
+
+    def is_fact(self, one: Definition, facts: set[Name]) -> bool:
+        known = self.known[one.name]
+        return any(word in FACTS or known.get(word) in facts for part in one.parts for word in part)
+
+
+    @cached_property
+    def all_places(self) -> list[tuple[str, Name, Place]]:
+        """Each place of a definition, with the call or the definition whose text it stands in."""
+        return [(f"{contract.crate}::{contract.call}", NOTHING, place)
+                for contract in self.contracts for place in contract.places] + [
+                    ("", one.name, place) for one in self.definitions.values() for place in one.places]
+
+    @cached_property
+    def held(self) -> tuple[dict[Name, str], dict[Name, str]]:
+        """What cannot shrink unseen and what cannot grow unseen, each with a call that would be refused.
+
+        Of a definition that stands in another one, the two go together: what shrinks the one shrinks or grows the
+        other. What stands below a premise counts once that premise is pinned; what is concluded from a definition
+        counts where it says something by itself, or names a relation that is read."""
+        pinned: dict[Name, str] = {}
+        read: dict[Name, str] = {}
+        size = -1
+        while size < len(pinned) + len(read):
+            size = len(pinned) + len(read)
+            for call, inside, place in self.all_places:
+                firm = not place.firm or any(name in read for name in place.firm)
+                open_to = all(name in pinned for name in place.below)
+                concluded = call or pinned.get(inside)
+                statement = not call and self.definitions[inside].kind == "statement"
+                for table, found in ((pinned, concluded if place.turns == 0 and open_to else None),
+                                     (pinned, read.get(inside) if place.turns == 1 and not statement else None),
+                                     (read, read.get(inside) if place.turns == 0 else None),
+                                     (read, concluded if place.turns == 1 and firm else None)):
+                    if found and place.name in self.definitions:
+                        table.setdefault(place.name, found)
+            for name, parts in self.abbreviations.items():
+                if all(part in pinned for part in parts):
+                    pinned.setdefault(name, pinned[parts[0]])
+        return pinned, read
+
+    @cached_property
+    def abbreviations(self) -> dict[Name, list[Name]]:
+        """What abbreviates a type of the library, as a list, with the relations that it is made of."""
+        found = {name: [place.name for place in self.definitions[name].places if place.name in self.of_kind("relation")]
+                 for name in self.of_kind("relation") if self.definitions[name].parts[0][0] in CONTAINERS}
+        return {name: parts for name, parts in found.items() if parts}
+
+    @cached_property
+    def sides(self) -> tuple[dict[Name, set[str]], dict[Name, set[str]]]:
+        """The calls in whose contracts a definition stands left of an arrow, and those in which it stands right."""
+        left: dict[Name, set[str]] = {name: set() for name in self.definitions}
+        right: dict[Name, set[str]] = {name: set() for name in self.definitions}
+        size = -1
+        while size < sum(len(calls) for side in (left, right) for calls in side.values()):
+            size = sum(len(calls) for side in (left, right) for calls in side.values())
+            for call, inside, place in self.all_places:
+                if place.name in self.definitions:
+                    for side, other in ((left, right), (right, left)):
+                        calls = ({call} if side is right else set()) if call else side[inside]
+                        (other if place.left else side)[place.name] |= calls
+        return left, right
+
+    def of_kind(self, *kinds: str) -> list[Name]:
+        return [name for name, one in self.definitions.items() if one.kind in kinds]
+
+    def said(self) -> set[Name]:
+        """The relations that are a whole clause of a law, or the whole of a statement: what the law says."""
+        laws = [contract.whole for contract in self.contracts if contract.is_law]
+        found = {name for whole in laws for name in whole}
+        size = -1
+        while size < len(found):
+            size = len(found)
+            found |= {name for one in list(found) for name in whole_names(self.definitions, self.known, one)}
+        return found
+
+    def unpinned(self) -> list[Name]:
+        """The premises that could shrink unseen."""
+        pinned, read = self.held
+        left = self.sides[0]
+        return [name for name in self.of_kind("relation") if left[name] and name not in pinned] + [
+            name for name in self.of_kind("value") if left[name] and name not in pinned and name not in read]
+
+    def unread(self) -> list[Name]:
+        """The answers that could grow unseen; what a law says, its reader reads."""
+        read = self.held[1]
+        right, said = self.sides[1], self.said()
+        return [name for name in self.of_kind("relation") if right[name] and name not in read and name not in said]
+
+
+def whole_names(definitions: dict[Name, Definition], known: dict[Name, dict[str, Name]], name: Name) -> list[Name]:
+    """The relations that stand by themselves in a definition: all of it, or a part of its `×`."""
+    if name not in definitions:
+        return []
+    parts = [piece for part in definitions[name].parts for piece in split(part, {"×"})]
+    return [known[name][piece[0]] for piece in parts
+            if piece and piece[0] in known[name] and not {"→", "↔"} & set(piece)]
+
+
+ITEM = r"(?m)^(?:    )?(?:pub\b|#|extern|unsafe|const|fn |ghost \w+ ?=|impl|trait)"
+BLOCK = re.compile(r"^(?:pub )?(trait|impl|struct|enum|mod)\b([^\n]*)")
+
+
+def braces(text: str, start: int) -> str:
+    """What stands between the brace at `start` and its other one."""
+    depth = 0
+    for index in range(start, len(text)):
+        depth += (text[index] == "{") - (text[index] == "}")
+        if depth == 0:
+            return text[start + 1:index]
+    return text[start + 1:]
+
+
+def contracts_of(path: str, crate: str, kinds: dict[Name, str]) -> Iterator[Contract]:
+    """The contracts of the public calls of a file, of the traits and of what implements them."""
+    with open(path, encoding="utf-8") as file:
+        text = re.sub(r"(?m)//.*$", "", file.read())
+    known = imported(text)
+    starts = [match.start() for match in re.finditer(ITEM, text)]
+    block = ""
+    for start, end in zip(starts, starts[1:] + [len(text)]):
+        item = text[start:end]
+        heading = BLOCK.match(item)
+        if heading is not None:
+            block = f"{heading[1]}{heading[2]}"
+        elif not item.startswith("    "):
+            block = ""
+        yield from contract_of(item, crate, block, known, kinds)
+
+
+def contract_of(item: str, crate: str, block: str, known: dict[str, Name],
+                kinds: dict[Name, str]) -> Iterator[Contract]:
+    """The contract of a public call, of a trait's, or what an `impl` gives for a word of its trait.
+
+    The invariant of a type is concluded by whatever makes a value, and a call that takes one may conclude from it."""
+    call = re.match(r"\s*(pub )?(?:\w+ |\"C\" )*fn (\w+)", item)
+    shared = block.startswith("trait") or " for " in block
+    ghost = re.match(r"\s*ghost (\w+) ?= ?(?=\{)", item)
+    owner = re.sub(r"^(impl(<[^>]*(<[^>]*>)*[^>]*>)?|trait) *|[{].*$", "", block).strip()
+    if ghost is not None and shared:
+        term = words(braces(item, ghost.end()))
+        one = Contract(crate, f"{owner}: {ghost[1]}")
+        for turns in (0, 1) if ghost[1] == "invariant" else (0,):
+            one.places += Walk(known, bound(term), kinds).term(term, turns, frozenset(), frozenset())
+        yield one
+    elif call is not None and (call[1] or shared):
+        one = Contract(crate, f"{owner.split('<')[0]}::{call[2]}" if owner else call[2])
+        clauses = [(match[1], words(braces(item, match.end() - 1)))
+                   for match in re.finditer(r"\b(requires|ensures)\s*\w*\s*\{", item)]
+        add_clauses(one, clauses, known, kinds)
+        yield one
+
+
+def add_clauses(one: Contract, clauses: list[tuple[str, list[str]]], known: dict[str, Name],
+                kinds: dict[Name, str]) -> None:
+    """The places of the clauses: what is required stands left, and above all that is ensured."""
+    below: frozenset[Name] = frozenset()
+    for kind, term in clauses:
+        if kind == "requires":
+            walk = Walk(known, bound(term), kinds)
+            one.places += walk.term(term, 1, frozenset(), frozenset())
+            below |= walk.relations(term)
+    for kind, term in clauses:
+        if kind == "ensures":
+            one.places += Walk(known, bound(term), kinds).term(term, 0, below, frozenset())
+            one.whole += [known[part[0]] for part in split(term, {"×"}) if part and part[0] in known]
+
+
+HEAD_OF_PAGE = """# What pins each premise
+
+A law that says 'where this holds, that does' says nothing where its premise is never met, and a premise that is made
+narrower is met less often, while each proof still passes. So each definition of `specs/` that stands left of an arrow,
+in a public contract or within what one names, is pinned: something concludes it, from premises that are themselves
+pinned. That may be a call, which promises it of what it answers, or a law that says when it holds. Whoever empties the
+definition is refused there. How much narrower it may be made unseen is for the statement of the pin to say:
+[THEOREMS.md](THEOREMS.md#what-stands-left-of-an-arrow) names for the premises of the laws those that say it whole.
+
+An arrow, `¬` and `requires` turn left and right, and `↔` has both sides on both; an argument counts as what it stands
+in. So `IsSome x ↔ P` concludes P and is concluded from P.
+`docs/laws.py --pins > docs/PINS.md` writes this page from the text of the contracts and definitions, and
+`docs/laws.py --check` refuses a premise without a pin, and an answer that nothing reads, unless it stands in
+[not-yet-pinned.txt](not-yet-pinned.txt), and what stands there without need."""
+OPEN = f"{TOP}/docs/not-yet-pinned.txt"
+
+
+def title(name: Name) -> str:
+    return f"{name[0]}/{name[1]}.{name[2]}"
+
+
+def few(calls: Iterable[str], crate: str, most: int = 3) -> str:
+    """Some calls by name, and how many more there are; those of other crates with their crate."""
+    names = sorted({call.removeprefix(f"{crate}::") for call in calls}, key=lambda call: ("::" in call, call))
+    shown = ", ".join(f"`{name}`" for name in names[:most])
+    return shown + (f" and {len(names) - most} more" if len(names) > most else "")
+
+
+def page(book: Book) -> str:
+    """The table of premises, crate by crate, and what is not yet pinned."""
+    pinned = book.held[0]
+    left, right = book.sides
+    lines = [HEAD_OF_PAGE]
+    crate = ""
+    for name in sorted(book.of_kind("relation")):
+        if not left[name]:
+            continue
+        if name[0] != crate:
+            crate = name[0]
+            lines += ["", f"## `{crate}`", "", "| Definition | Left of an arrow in | Right in | Pinned by |"]
+            lines.append("|---|---|---|---|")
+        pin = few([pinned[name]], crate) if name in pinned else "**nothing yet**"
+        lines.append(f"| `{name[1]}.{name[2]}` | {few(left[name], crate)} | {few(right[name], crate)} | {pin} |")
+    lines += ["", "## Answers that nothing reads", "",
+              "A definition that stands as an answer could say less, and each proof of a contract that names it would",
+              "still pass, unless something is concluded from it. Of these no public contract concludes anything:", ""]
+    answers: dict[str, list[str]] = {}
+    for name in sorted(book.unread()):
+        answers.setdefault(name[0], []).append(f"`{name[1]}.{name[2]}`")
+    return "\n".join(lines + [f"- `{crate}`: {', '.join(names)}" for crate, names in answers.items()])
+
+
+def faults(book: Book) -> list[str]:
+    """What is not pinned or not read and not in the table of such, and what is in the table and should no longer be."""
+    with open(OPEN, encoding="utf-8") as file:
+        known = {line.strip() for line in file if line.strip() and not line.startswith("#")}
+    found = {f"premise {title(name)}" for name in book.unpinned()} | {f"answer {title(name)}" for name in book.unread()}
+    return [f"nothing pins the {one}" for one in sorted(found - known)] + [
+        f"docs/not-yet-pinned.txt: take out '{one}'" for one in sorted(known - found)]
