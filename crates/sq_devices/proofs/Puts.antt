@@ -1,13 +1,13 @@
 -- A text that is put in several parts.
 use Rattle.std.proofs.Common.{◌≡◌, ◌+◌, ◌-◌, ◌≤◌, ◌++◌, ◌∙◌, ℕ, List, [], ◌∷◌, Option, None, Some, length, take, drop, ap, ap₂, sym, subst, refl, append-nil, take-append-drop}
 use Rattle.std.proofs.lemmas.List.Folds.{concat-append}
-use Rattle.std.proofs.Math.Seq.{take-add}
+use Rattle.std.proofs.Math.Seq.{take-add, take-append_seam}
 use Rattle.std.proofs.lemmas.List.{take-take}
 use Rattle.std.specs.Prelude.{◌↔◌}
 use Rattle.std.specs.Io.KnownBytes.{Appends}
 use Rattle.std.proofs.KnownBytes.{Appends-nil, Appends-trans}
 use Rattle.sq_devices.specs.Calls.{Calls, HasPut}
-use Rattle.sq_devices.specs.Device.{AppendsOrHides, KeepsOrHides, IsPrefixOf}
+use Rattle.sq_devices.specs.Device.{AppendsOrHides, KeepsOrHides, IsPrefixOf, WroteFront}
 use Rattle.sq_devices.specs.declared.device.Sink.{Ghosts as SinkGhosts}
 
 -- a prefix of the text, and then the first n bytes of the rest
@@ -28,6 +28,21 @@ pub puts_part : (a b c : Option (List ℕ)) (text : List ℕ) (at : ℕ) → App
     → (part : List ℕ) × IsPrefixOf part text × AppendsOrHides a c part
 puts_part a b c text at front kept =
     (take at text, (drop at text, sym (take-append-drop at text)), Appends-hidden a b c _ front kept)
+
+-- a text begins with a part exactly if as many of its first bytes are that part
+pub is_front : (part text : List ℕ) → IsPrefixOf part text ↔ (take (length part) text ≡ part)
+is_front part text = (
+  λ h. ap (take (length part)) h.1 ∙ take-append_seam part h.0,
+  λ e. (drop (length part) text, sym (take-append-drop (length part) text) ∙ ap (λ xs. xs ++ drop (length part) text) e),
+)
+
+-- a prefix of a text that was appended is so many of its first bytes
+pub wrote_front : (old new text : List ℕ) → WroteFront (Some old) (Some new) text
+    ↔ ((count : ℕ) × (new ≡ old ++ take count text))
+wrote_front old new text = (
+  λ h. (length h.0, h.2 ∙ ap (λ xs. old ++ xs) (sym ((is_front h.0 text).0 h.1))),
+  λ h. (take h.0 text, (drop h.0 text, sym (take-append-drop h.0 text)), h.1),
+)
 
 -- ---- calls, one after the other
 
