@@ -90,3 +90,20 @@ module _ {State Past Found : Type 0} (how : Manner State Past Found) (outcome : 
   put_line_part a b (Err fault) put past first st = λ is.
       let h = heard past first st in
       (h.3, subst (WroteFront a b) (h.4 ∙ ap (answer_text (how.way.text first) number) (sym h.1)) put)
+
+-- ---- what an outcome says of a text
+
+-- a good text has something that was found of it
+pub good_found : {Found : Type 0} (text : Found → List ℕ) (verdict : Result Found LineFault) (before after : List ℕ)
+    → (let outcome : Outcome = Good in outcome ≡ outcome_of verdict) → after ≡ before ++ verdict_text text verdict
+    → (found : Found) × (verdict ≡ Ok found) × (after ≡ before ++ text found)
+good_found text (Ok found) before after is grown = (found, refl, grown)
+good_found text (Err fault) before after is grown = absurd (cc is)
+
+-- a refused one has a fault
+pub refused_fault : {Found : Type 0} (text : Found → List ℕ) (verdict : Result Found LineFault)
+    (before after : List ℕ) → (let outcome : Outcome = Refused in outcome ≡ outcome_of verdict)
+    → after ≡ before ++ verdict_text text verdict
+    → (fault : LineFault) × (verdict ≡ Err fault) × (after ≡ before ++ fault_text fault)
+refused_fault text (Ok found) before after is grown = absurd (cc is)
+refused_fault text (Err fault) before after is grown = (fault, refl, grown)

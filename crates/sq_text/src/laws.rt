@@ -1,5 +1,5 @@
 //! Laws of frame text and of what it spells.
-ghost use Rattle.std.specs.Prelude.{◌≡◌, ℕ, List, Result};
+ghost use Rattle.std.specs.Prelude.{◌≡◌, ◌↔◌, IsTrue, ℕ, List, Result};
 ghost use Rattle.sq_bits.specs.declared.frame.Frame.{Frame};
 ghost use Rattle.sq_message.specs.declared.squitter.Squitter.{Squitter};
 ghost use Rattle.sq_text.specs.declared.faults.LineFault.{LineFault};
@@ -11,6 +11,8 @@ ghost use Rattle.sq_text.specs.Reading.{IsSquitterReading, SquitterReader};
 ghost use Rattle.sq_text.specs.Show.{IsShown};
 ghost use Rattle.sq_text.specs.Timed.{IsTimedReading, TimedReader};
 ghost use Rattle.sq_text.specs.declared.timed.TimedSquitter.{TimedSquitter};
+
+use crate::{LineFault, TextFault};
 
 /// A text has one answer of `read_text`.
 pub fn one_answer()
@@ -48,3 +50,17 @@ pub fn one_text()
 pub fn one_place_text()
     ensures { (position : Position) (a b : List ℕ) → IsPlaceText position a → IsPlaceText position b → a ≡ b }
 {}
+
+/// Whether two faults of frame texts are equal by `==`: exactly if they are one.
+pub fn equal_text_faults(fault: &TextFault, other: &TextFault) -> bool
+    ensures { IsTrue result ↔ (fault.now ≡ other.now) }
+{
+    fault == other
+}
+
+/// Whether two faults of lines are equal by `==`: exactly if they are one.
+pub fn equal_line_faults(line_fault: &LineFault, other: &LineFault) -> bool
+    ensures { IsTrue result ↔ (line_fault.now ≡ other.now) }
+{
+    line_fault == other
+}
