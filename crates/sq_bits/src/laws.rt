@@ -1,7 +1,7 @@
 //! Laws of frames and of their parity, over the definitions alone.
-ghost use Rattle.std.specs.Prelude.{◌≡◌, ℕ, bit_xor};
+ghost use Rattle.std.specs.Prelude.{◌≡◌, ◌↔◌, ◌+◌, ◌<◌, ◌≤◌, ℕ, bit_xor};
 ghost use Rattle.sq_bits.specs.declared.frame.Frame.{Frame};
-ghost use Rattle.sq_bits.specs.Frames.{IsFrame, frame_number, xor_bytes};
+ghost use Rattle.sq_bits.specs.Frames.{IsApart, IsFrame, frame_number, xor_bytes};
 ghost use Rattle.sq_bits.specs.Parity.{IsRemainder};
 
 use crate::frame::{Frame, are_bytes};
@@ -22,4 +22,11 @@ pub fn one_remainder()
 pub fn sum_of_frames()
     ensures { (f g h : Frame) (r s : ℕ) → IsFrame f → IsFrame g → h.0 ≡ xor_bytes f.0 g.0
         → IsRemainder (frame_number f) r → IsRemainder (frame_number g) s → IsRemainder (frame_number h) (bit_xor r s) }
+{}
+
+/// A field lies apart from another one exactly if its places are bits of a frame and none of them is one of the other's.
+pub fn apart_exactly()
+    ensures { (start len first count : ℕ) → 0 < len → 0 < count → IsApart start len first count
+        ↔ ((1 ≤ start) × (start + len ≤ 113)
+        × ((place : ℕ) → start ≤ place → place < start + len → first ≤ place → place < first + count → ⊥)) }
 {}
