@@ -11,7 +11,7 @@ import glob
 import os
 import re
 from collections.abc import Iterable, Iterator
-from dataclasses import dataclass, field
+from dataclasses import dataclass, field, replace
 from functools import cached_property
 
 TOP = os.path.dirname(os.path.dirname(os.path.abspath(__file__)))
@@ -25,14 +25,29 @@ HEAD = re.compile(r"^(?:(abbrev|unfoldable) )?pub (record |data )?([^\s:(]+)(.*)
 
 
 @dataclass(frozen=True)
+class Conclusion:
+    """What is concluded from a premise: the relations that it names, and whether a part of it names none."""
+
+    names: frozenset[Name] = frozenset()
+    is_plain: bool = True
+
+
+@dataclass(frozen=True)
 class Place:
-    """One place where a definition stands: left or right, below which premises, and whether more than one turn up."""
+    """One place where a definition stands: after how many turns from right to left, below which premises, and what is
+    concluded from it."""
 
     name: Name
-    left: bool
-    below: frozenset[Name]
     turns: int
-    firm: frozenset[Name]
+    below: frozenset[Name]
+    conclusion: Conclusion
+
+    @property
+    def left(self) -> bool:
+        return self.turns % 2 == 1
+
+
+RIGHT = Place(NOTHING, 0, frozenset(), Conclusion())
 
 
 @dataclass
@@ -136,40 +151,43 @@ class Walk:
         found = {self.named(token) for token in tokens}
         return frozenset(name for name in found if self.kinds.get(name) == "relation")
 
-    def term(self, tokens: list[str], turns: int, below: frozenset[Name], firm: frozenset[Name]) -> Iterator[Place]:
+    def conclusion(self, tokens: list[str]) -> Conclusion:
+        parts = [self.relations(part) for part in split(tokens, {"×", "⊎", "↔"})]
+        return Conclusion(frozenset().union(*parts), any(not part for part in parts))
+
+    def term(self, tokens: list[str], at: Place) -> Iterator[Place]:
         if tokens and tokens[0].startswith("λ"):
             end = next((k for k, word in enumerate(tokens) if word.endswith(".")), 0)
-            yield from self.term(tokens[end + 1:], turns, below, firm)
+            yield from self.term(tokens[end + 1:], at)
             return
         parts = split(tokens, {"→"})
-        for index, part in enumerate(parts[:-1]):
-            yield from self.term(part, turns + 1, below, self.relations(parts[-1]))
-            below |= self.relations(part)
-        yield from self.sides(parts[-1], turns, below, firm)
+        for part in parts[:-1]:
+            yield from self.term(part, replace(at, turns=at.turns + 1, conclusion=self.conclusion(parts[-1])))
+            at = replace(at, below=at.below | self.relations(part))
+        yield from self.sides(parts[-1], at)
 
-    def sides(self, tokens: list[str], turns: int, below: frozenset[Name], firm: frozenset[Name]) -> Iterator[Place]:
+    def sides(self, tokens: list[str], at: Place) -> Iterator[Place]:
         sides = split(tokens, {"↔"})
         if len(sides) == 1:
             for part in split(tokens, {"×", "⊎"}):
-                yield from self.part(part, turns, below, firm)
+                yield from self.part(part, at)
             return
-        for index, side in enumerate(sides):
-            other = self.relations(word for k, rest in enumerate(sides) if k != index for word in rest)
+        for side, other in ((sides[0], sides[1]), (sides[1], sides[0])):
             for part in split(side, {"×", "⊎"}):
-                yield from self.part(part, turns, below | other, firm)
-                yield from self.part(part, turns + 1, below, other)
+                yield from self.part(part, replace(at, below=at.below | self.relations(other)))
+                yield from self.part(part, replace(at, turns=at.turns + 1, conclusion=self.conclusion(other)))
 
-    def part(self, tokens: list[str], turns: int, below: frozenset[Name], firm: frozenset[Name]) -> Iterator[Place]:
+    def part(self, tokens: list[str], at: Place) -> Iterator[Place]:
         if tokens and tokens[0] == "¬":
-            yield from self.part(tokens[1:], turns + 1, below, frozenset())
+            yield from self.part(tokens[1:], replace(at, turns=at.turns + 1, conclusion=Conclusion()))
             return
         for group in groups(tokens):
             if isinstance(group, list):
-                yield from self.term(group[colon(group) + 1:], turns, below, firm)
+                yield from self.term(group[colon(group) + 1:], at)
             else:
                 name = self.named(group)
                 if self.kinds.get(name) in {"relation", "statement", "value"}:
-                    yield Place(name, turns % 2 == 1, below, turns, firm)
+                    yield replace(at, name=name)
 
 
 def imported(text: str) -> dict[str, Name]:
@@ -222,6 +240,7 @@ class Book:
         self.definitions: dict[Name, Definition] = {}
         self.known: dict[Name, dict[str, Name]] = {}
         self.contracts: list[Contract] = []
+        self.reached: dict[tuple[Name, bool], frozenset[Name]] = {}
         for path in sorted(glob.glob(f"{top}/crates/*/specs/*.antt")):
             crate, module = path.split("/")[-3], os.path.basename(path)[:-5]
             found, known = definitions_of(path, crate, module)
@@ -233,7 +252,7 @@ class Book:
         for one in self.definitions.values():
             for part in one.parts:
                 walk = Walk(self.known[one.name], bound(part), kinds)
-                one.places += walk.term(part, 0, frozenset(), frozenset())
+                one.places += walk.term(part, RIGHT)
         for path in sorted(glob.glob(f"{top}/crates/*/src/**/*.rt", recursive=True)):
             crate = path[len(top):].split("/")[2]
             if not crate.endswith("_tests"):
@@ -275,27 +294,45 @@ class Book:
 
         Of a definition that stands in another one, the two go together: what shrinks the one shrinks or grows the
         other. What stands below a premise counts once that premise is pinned; what is concluded from a definition
-        counts where it says something by itself, or names a relation that is read."""
+        counts where it says something by itself, or names a relation that is read. Of what stands in both, nothing is
+        concluded: it could grow in both alike."""
         pinned: dict[Name, str] = {}
         read: dict[Name, str] = {}
         size = -1
         while size < len(pinned) + len(read):
             size = len(pinned) + len(read)
             for call, inside, place in self.all_places:
-                firm = not place.firm or any(name in read for name in place.firm)
+                names = place.conclusion.names
+                firm = place.conclusion.is_plain or any(name in read for name in names)
                 open_to = all(name in pinned for name in place.below)
                 concluded = call or pinned.get(inside)
                 statement = not call and self.definitions[inside].kind == "statement"
-                for table, found in ((pinned, concluded if place.turns == 0 and open_to else None),
-                                     (pinned, read.get(inside) if place.turns == 1 and not statement else None),
-                                     (read, read.get(inside) if place.turns == 0 else None),
-                                     (read, concluded if place.turns == 1 and firm else None)):
+                if concluded and place.turns == 1 and firm:
+                    for name in self.within(place.name, True) - self.said_by(names):
+                        read.setdefault(name, concluded)
+                for found in (concluded if place.turns == 0 and open_to else None,
+                              read.get(inside) if place.turns == 1 and not statement else None):
                     if found and place.name in self.definitions:
-                        table.setdefault(place.name, found)
+                        pinned.setdefault(place.name, found)
             for name, parts in self.abbreviations.items():
                 if all(part in pinned for part in parts):
                     pinned.setdefault(name, pinned[parts[0]])
         return pinned, read
+
+    def within(self, name: Name, right: bool) -> frozenset[Name]:
+        """The definition and those that stand in it, at any depth; with `right` those alone that stand right in it."""
+        if (name, right) not in self.reached:
+            found, open_ones = {name}, [name]
+            while open_ones:
+                one = self.definitions.get(open_ones.pop())
+                more = {place.name for place in one.places if not (right and place.turns)} if one else set()
+                open_ones += more - found
+                found |= more
+            self.reached[name, right] = frozenset(found & self.definitions.keys())
+        return self.reached[name, right]
+
+    def said_by(self, names: Iterable[Name]) -> set[Name]:
+        return {inner for name in names for inner in self.within(name, False)}
 
     @cached_property
     def abbreviations(self) -> dict[Name, list[Name]]:
@@ -399,7 +436,7 @@ def contract_of(item: str, crate: str, block: str, known: dict[str, Name],
         term = words(braces(item, ghost.end()))
         one = Contract(crate, f"{owner}: {ghost[1]}")
         for turns in (0, 1) if ghost[1] == "invariant" else (0,):
-            one.places += Walk(known, bound(term), kinds).term(term, turns, frozenset(), frozenset())
+            one.places += Walk(known, bound(term), kinds).term(term, replace(RIGHT, turns=turns))
         yield one
     elif call is not None and (call[1] or shared):
         one = Contract(crate, f"{owner.split('<')[0]}::{call[2]}" if owner else call[2])
@@ -416,11 +453,11 @@ def add_clauses(one: Contract, clauses: list[tuple[str, list[str]]], known: dict
     for kind, term in clauses:
         if kind == "requires":
             walk = Walk(known, bound(term), kinds)
-            one.places += walk.term(term, 1, frozenset(), frozenset())
+            one.places += walk.term(term, replace(RIGHT, turns=1))
             below |= walk.relations(term)
     for kind, term in clauses:
         if kind == "ensures":
-            one.places += Walk(known, bound(term), kinds).term(term, 0, below, frozenset())
+            one.places += Walk(known, bound(term), kinds).term(term, replace(RIGHT, below=below))
             one.whole += [known[part[0]] for part in split(term, {"×"}) if part and part[0] in known]
 
 
