@@ -19,6 +19,7 @@ mod place;
 mod read;
 mod send;
 mod squitter;
+pub mod worked;
 mod write;
 
 pub use air::{AirFields, Airborne, Altitude};

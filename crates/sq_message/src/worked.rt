@@ -1,0 +1,51 @@
+//! The headline at worked positions, in numbers.
+//!
+//! 52.2572021 3.9193726 rounds to the point of the even grid of the air with the indices 1,141,576 and 51,372, and
+//! 52.26578 3.93891 to that of the odd one with 1,122,734 and 50,194: where the frames 8D40621D58C382D690C8AC2863A7 and
+//! 8D40621D58C386435CC412692AD6, which are worked in the literature, were sent from.
+ghost use Rattle.std.specs.Prelude.{◌≡◌, pos, Ok};
+ghost use Rattle.sq_angle.specs.Angle.{degrees};
+ghost use Rattle.sq_angle.specs.Bounds.{IsAngle, IsPosition};
+ghost use Rattle.sq_angle.specs.Position.{lat_of, lon_of};
+ghost use Rattle.sq_zones.specs.declared.parity.Parity.TheVariants.{Even, Odd};
+ghost use Rattle.sq_cpr.specs.Grid.{point_at};
+ghost use Rattle.sq_cpr.specs.Pair.{of_parity};
+ghost use Rattle.sq_message.specs.declared.place.Place.TheVariants.{Air};
+
+use crate::laws::{read_near_of_sent_in_air, read_pair_of_sent_in_air};
+use crate::{AirHead, Angle, Parity, Place, PlaceFault, Position};
+
+// The position of so many parts of a degree.
+fn position_of(lat: i64, lon: i64, parts: u64) -> Position
+    requires lat { IsAngle lat parts }
+    requires lon { IsAngle lon parts }
+    requires both { IsPosition (record { num = lat; den = parts }) (record { num = lon; den = parts }) }
+    ensures lat { degrees (lat_of result) ≡ record { num = lat; den = parts } }
+    ensures lon { degrees (lon_of result) ≡ record { num = lon; den = parts } }
+{
+    let lat = Angle::new(lat, parts).unwrap();
+    let lon = Angle::new(lon, parts).unwrap();
+    Position::new(lat, lon).unwrap()
+}
+
+/// 52.2572021 3.9193726, sent of the even grid with any head and read near 52.258 3.918, is the point to which it rounds.
+pub fn read_near(head: AirHead) -> Result<Place, PlaceFault>
+    ensures { result ≡ Ok (Air (point_at Even (pos 1141576) 36 51372)) }
+{
+    let here = position_of(522_572_021, 39_193_726, 10_000_000);
+    let reference = position_of(52_258, 3_918, 1_000);
+    let (_, place) = read_near_of_sent_in_air(head, Parity::Even, &here, &reference);
+    place
+}
+
+/// 52.2572021 3.9193726 of the even grid and 52.26578 3.93891 of the odd one, sent with any head and read as a pair, are
+/// the point of the newest.
+pub fn read_pair(head: AirHead, newest: Parity) -> Result<Place, PlaceFault>
+    ensures { result ≡ Ok (Air (of_parity newest (point_at Even (pos 1141576) 36 51372)
+        (point_at Odd (pos 1122734) 35 50194))) }
+{
+    let even = position_of(522_572_021, 39_193_726, 10_000_000);
+    let odd = position_of(5_226_578, 393_891, 100_000);
+    let (_, _, place) = read_pair_of_sent_in_air(head, &even, head, &odd, newest, None);
+    place
+}
