@@ -11,3 +11,4 @@ pub mod OddFirst
 pub mod SomeFix
 pub mod Standing
 pub mod TrueWorlds
+pub mod WorkedRows

@@ -15,6 +15,7 @@ mod heard;
 pub mod laws;
 mod listening;
 mod tracker;
+pub mod worked;
 
 pub use contact::{Contact, LastFix, Received, Side};
 pub use heard::{Heard, TrackFault};
