@@ -1,4 +1,4 @@
 pub mod Counts
-pub mod Rows
 pub mod ZoneBounds
 pub mod ByValue
+pub mod Bands

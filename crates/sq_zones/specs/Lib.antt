@@ -1,3 +1,2 @@
 pub mod Zones
-pub mod Fits
 pub mod Laws

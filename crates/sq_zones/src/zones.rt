@@ -1,27 +1,15 @@
-//! The zone count of a latitude, by vector lanes over the table of limits.
-ghost use Rattle.std.specs.Prelude.{◌≡◌, ◌≤◌, ◌*◌, ◌<◌, ◌^◌, count_by, drop, length, int_le, take, IsTrue};
+//! The zone count of a latitude, by bands of latitudes and the table of limits.
+ghost use Rattle.std.specs.Prelude.{◌≡◌, ◌≤◌, ◌*◌, ◌-◌, ◌/◌, ◌^◌, ◌&&◌, count_by, nat_le, nat_lt, slice_index};
 ghost use Rattle.std.specs.Int.{div_ceil};
 ghost use Rattle.sq_angle.specs.Angle.{degrees};
 ghost use Rattle.sq_angle.specs.Fraction.{IsWithin};
-ghost use Rattle.sq_zones.specs.Fits.{all_fit};
 ghost use Rattle.sq_zones.specs.Zones.{zones_at, lon_zones_at};
 
 use crate::parity::Parity;
 use sq_angle::{Angle, quotient};
-use std::simd::prelude::*;
 
-// What fills the table up to 64 lanes: no scaled latitude is at most this, so it never counts.
-const PADDING: i64 = -1;
-
-// The greatest latitude with 59 zones, with 58 and so on down to 2, in units of 10^-8 degree, after the padding: eight
-// rows of eight in ascending order.
-static ZONE_LIMITS: [i64; 64] = [
-    PADDING,
-    PADDING,
-    PADDING,
-    PADDING,
-    PADDING,
-    PADDING,
+// The greatest latitude with 59 zones, with 58 and so on down to 2, in units of 10^-8 degree.
+static ZONE_LIMITS: [u64; 58] = [
     1_047_047_130,
     1_482_817_437,
     1_818_626_357,
@@ -82,16 +70,22 @@ static ZONE_LIMITS: [i64; 64] = [
     8_700_000_000,
 ];
 
-// The last limit of each row.
-const ROW_ENDS: [i64; 8] = [
-    1_482_817_437,
-    3_353_993_436,
-    4_554_626_723,
-    5_544_378_444,
-    6_426_616_523,
-    7_245_884_545,
-    8_024_923_213,
-    8_700_000_000,
+// The latitudes up to 90 degrees in bands of 2^25 units, about a third of a degree: none has more than one limit within.
+const BAND_BITS: u32 = 25;
+
+// How many limits lie above each band.
+static LIMITS_ABOVE: [u8; 269] = [
+    58, 58, 58, 58, 58, 58, 58, 58, 58, 58, 58, 58, 58, 58, 58, 58, 58, 58, 58, 58, 58, 58, 58, 58,
+    58, 58, 58, 58, 58, 58, 58, 57, 57, 57, 57, 57, 57, 57, 57, 57, 57, 57, 57, 57, 56, 56, 56, 56,
+    56, 56, 56, 56, 56, 56, 55, 55, 55, 55, 55, 55, 55, 55, 54, 54, 54, 54, 54, 54, 54, 54, 53, 53,
+    53, 53, 53, 53, 52, 52, 52, 52, 52, 52, 52, 51, 51, 51, 51, 51, 51, 50, 50, 50, 50, 50, 49, 49,
+    49, 49, 49, 48, 48, 48, 48, 48, 47, 47, 47, 47, 47, 46, 46, 46, 46, 46, 45, 45, 45, 45, 44, 44,
+    44, 44, 44, 43, 43, 43, 43, 42, 42, 42, 42, 41, 41, 41, 41, 40, 40, 40, 40, 39, 39, 39, 39, 38,
+    38, 38, 38, 37, 37, 37, 37, 36, 36, 36, 35, 35, 35, 35, 34, 34, 34, 33, 33, 33, 33, 32, 32, 32,
+    31, 31, 31, 31, 30, 30, 30, 29, 29, 29, 28, 28, 28, 27, 27, 27, 27, 26, 26, 26, 25, 25, 25, 24,
+    24, 24, 23, 23, 23, 22, 22, 22, 21, 21, 21, 20, 20, 20, 19, 19, 19, 18, 18, 18, 17, 17, 17, 16,
+    16, 16, 15, 15, 15, 14, 14, 14, 13, 13, 13, 12, 12, 12, 11, 11, 11, 10, 10, 10, 9, 9, 9, 8, 8,
+    7, 7, 7, 6, 6, 6, 5, 5, 5, 4, 4, 3, 3, 3, 2, 2, 1, 1, 0, 0, 0, 0, 0, 0, 0, 0, 0, 0,
 ];
 
 /// The number of longitude zones at a latitude, NL: from 59 at the equator to 1 at the poles.
@@ -106,7 +100,7 @@ pub fn zone_count(lat: &Angle) -> u8
     ensures at_most { result ≤ 59 }
 {
     let scaled = scaled_up(lat.num().unsigned_abs(), lat.den());
-    1 + limits_from(scaled as i64) as u8
+    1 + limits_from(scaled)
 }
 
 /// The number of longitude zones at a latitude on the grid of a parity: [`zone_count`], for odd one less and at least
@@ -134,38 +128,27 @@ fn scaled_up(magnitude: u64, den: u64) -> u64
     quotient(scaled + u128::from(den - 1), den) as u64
 }
 
-// How many limits are at least the scaled latitude: all of each row after the first whose end is, and those of that
-// row.
-fn limits_from(scaled: i64) -> u32
-    ensures value { result ≡ count_by (λ limit. int_le scaled limit) ZONE_LIMITS }
-    ensures at_most { result ≤ 64 }
+// How many limits are at least the scaled latitude: those above its band, and the next one, where that is.
+fn limits_from(scaled: u64) -> u8
+    requires { scaled ≤ 9 * 10 ^ 9 }
+    ensures value { result ≡ count_by (λ limit. nat_le scaled limit) ZONE_LIMITS }
+    ensures at_most { result ≤ 58 }
 {
-    let rows = lanes_from(i64x8::from_array(ROW_ENDS), scaled);
-    if rows == 0 {
-        return 0;
-    }
-    8 * (rows - 1) + lanes_from(row_at(8 - rows as usize), scaled)
+    let above = limits_above(scaled);
+    above + u8::from(is_at_most_next(scaled, above))
 }
 
-// The limits of a row.
-fn row_at(index: usize) -> i64x8
-    requires { index < 8 }
-    ensures { result ≡ take 8 (drop (8 * index) ZONE_LIMITS) }
+// How many limits lie above the band of the scaled latitude.
+fn limits_above(scaled: u64) -> u8
+    requires { scaled ≤ 9 * 10 ^ 9 }
+    ensures { result ≡ slice_index LIMITS_ABOVE (scaled / 2 ^ 25) }
 {
-    let mut row = [0; 8];
-    row.copy_from_slice(&ZONE_LIMITS[8 * index..8 * index + 8]);
-    i64x8::from_array(row)
+    LIMITS_ABOVE[(scaled >> BAND_BITS) as usize]
 }
 
-// How many lanes are at least the scaled latitude.
-fn lanes_from(limits: i64x8, scaled: i64) -> u32
-    requires whole { length limits ≡ 8 }
-    requires fit { IsTrue (all_fit limits) }
-    ensures value { result ≡ count_by (λ limit. int_le scaled limit) limits }
-    ensures at_most { result ≤ 8 }
+// Whether the scaled latitude is at most the greatest limit but so many.
+fn is_at_most_next(scaled: u64, above: u8) -> bool
+    ensures { result ≡ (nat_lt above 58 && nat_le scaled (slice_index ZONE_LIMITS (57 - above))) }
 {
-    limits
-        .simd_ge(i64x8::splat(scaled))
-        .to_bitmask()
-        .count_ones()
+    above < 58 && scaled <= ZONE_LIMITS[57 - usize::from(above)]
 }

@@ -1,38 +1,19 @@
-use Rattle.std.proofs.Common.{◌≡◌, ℕ, ℤ, List, to_z, of_z, to_z-of_z, w64, ap₂, ◌+◌, ◌-◌, ◌*◌, ◌<◌, IsTrue, sym, subst, ap, ◌∙◌, arith}
-use Rattle.sq_zones.specs.Fits.{all_fit}
-use Rattle.sq_zones.specs.declared.zones.TheConstants.{ZONE_LIMITS, ROW_ENDS}
-use Rattle.sq_zones.proofs.Counts.{round_trip}
-use Rattle.sq_zones.proofs.Rows.{counted_from, counted_by_rows, row_of, row_fits, rows_total}
+use Rattle.std.proofs.Common.{◌≡◌, ◌+◌, cond, nat_le, ap, ◌∙◌, arith, rules}
+use Rattle.std.proofs.lemmas.List.Sums.{count_by-le-length}
+use Rattle.sq_zones.specs.declared.zones.TheConstants.{ZONE_LIMITS}
+use Rattle.sq_zones.proofs.Bands.{banded, by_band, counted}
 use Rattle.sq_zones.proofs.zones.limits_from.Goals as goal
 
-pub returns-then-rows-eq0-clause-value : goal.returns-then-rows-eq0-clause-value
-returns-then-rows-eq0-clause-value c =
-    let s = c.args.scaled in
-    let back : to_z w64 (of_z w64 s) ≡ s = to_z-of_z c.ranges.scaled in
-    let ends : c.lanes_from-rows.result ≡ counted_from s ROW_ENDS =
-    c.lanes_from-rows.ensures.value ∙ ap (λ (z : ℤ). counted_from z ROW_ENDS) back in
-    sym ((counted_by_rows s).0 (sym ends ∙ c.if-rows-eq0.true))
-
-row_is_fit : (rows : ℕ) (zs : List ℤ) → 0 < rows → zs ≡ row_of (8 - rows) → IsTrue (all_fit zs)
-row_is_fit rows zs some is = subst (λ ys. IsTrue (all_fit ys)) (sym is) (row_fits (8 - rows) (omega (arith, some)))
-
-pub lanes_from-requires-clause-fit : goal.lanes_from-requires-clause-fit
-lanes_from-requires-clause-fit c =
-    let fit = row_is_fit c.lanes_from-rows.result c.row_at.result
-    (omega (arith, c.if-rows-eq0.false)) c.row_at.ensures in
-    subst (λ zs. IsTrue (all_fit zs)) (sym (round_trip c.row_at.result fit)) fit
+total : (c : goal.After-from) → c.limits_above-above.result + c.from.result ≡ counted c.args.scaled ZONE_LIMITS
+total c =
+    let above = c.limits_above-above.result in
+    let next : c.from.result ≡ cond c.is_at_most_next.result 1 0 = search (rules, c.from.ensures) in
+    let shown : above + c.from.result ≡ by_band c.args.scaled above =
+    ap (λ n. above + n) next ∙ ap (λ b. above + cond b 1 0) c.is_at_most_next.ensures in
+    shown ∙ (banded c.args.scaled above c.requires c.limits_above-above.ensures).1
 
 pub returns-clause-value : goal.returns-clause-value
-returns-clause-value c =
-    let s = c.args.scaled in
-    let rows : ℕ = c.lanes_from-rows.result in
-    let back : to_z w64 (of_z w64 s) ≡ s = to_z-of_z c.ranges.scaled in
-    let ends : rows ≡ counted_from s ROW_ENDS =
-    c.lanes_from-rows.ensures.value ∙ ap (λ (z : ℤ). counted_from z ROW_ENDS) back in
-    let some : 0 < counted_from s ROW_ENDS = omega (arith, ends, c.if-rows-eq0.false) in
-    let fit = row_is_fit rows c.row_at.result (omega (arith, c.if-rows-eq0.false)) c.row_at.ensures in
-    let row = round_trip c.row_at.result fit ∙ c.row_at.ensures ∙ ap (λ (n : ℕ). row_of (8 - n)) ends in
-    let own : c.lanes_from.result ≡ counted_from s (row_of (8 - counted_from s ROW_ENDS)) =
-    c.lanes_from.ensures.value ∙ ap₂ counted_from back row in
-    rows_total rows (counted_from s ROW_ENDS) c.lanes_from.result (counted_from s ZONE_LIMITS) ends some
-    ((counted_by_rows s).1 some ∙ ap (λ (n : ℕ). 8 * counted_from s ROW_ENDS + n) (sym own))
+returns-clause-value c = total c
+
+pub returns-clause-at_most : goal.returns-clause-at_most
+returns-clause-at_most c = omega (arith, total c, count_by-le-length (λ limit. nat_le c.args.scaled limit) ZONE_LIMITS)
