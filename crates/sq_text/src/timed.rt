@@ -16,7 +16,7 @@ pub struct TimedSquitter {
     pub squitter: Squitter,
 }
 
-// The most digits of a moment.
+// The most digits of a number below 2^64.
 const DIGITS: usize = 20;
 
 /// Reads a moment of 1 to 20 decimal digits, below 2^64, one space, and a frame text.
@@ -64,10 +64,14 @@ pub fn read_decimal(digits: &[u8]) -> Option<u64>
     ensures some { IfSome result (IsDecimalText digits.now) }
     ensures none { IfNone result ((number : ℕ) → ¬ IsDecimalText digits.now number) }
 {
-    if digits.is_empty() || digits.len() > DIGITS || !are_digits(digits) {
+    let [front @ .., last] = digits else {
+        return None;
+    };
+    if front.len() >= DIGITS || !are_digits(digits) {
         return None;
     }
-    let value = value_of(digits);
+    // All digits but the last fit 64 bits.
+    let value = 10 * u128::from(value_of(front)) + u128::from(last - b'0');
     if value > u128::from(u64::MAX) {
         return None;
     }
@@ -81,15 +85,16 @@ fn are_digits(bytes: &[u8]) -> bool
     bytes.iter().all(|byte| byte.is_ascii_digit())
 }
 
-// The number that at most twenty digits write.
-fn value_of(digits: &[u8]) -> u128
+// The number that at most nineteen digits write.
+fn value_of(digits: &[u8]) -> u64
     requires digits { AllByRecursion IsAsciiDigit digits.now }
-    requires short { length digits.now ≤ 20 }
-    ensures { result ≡ digits_value 10 digits.now }
+    requires short { length digits.now < 20 }
+    ensures value { result ≡ digits_value 10 digits.now }
+    ensures small { result < 10 ^ 19 }
 {
-    let mut value: u128 = 0;
+    let mut value = 0;
     for &digit in digits {
-        value = value * 10 + u128::from(digit - b'0');
+        value = value * 10 + u64::from(digit - b'0');
     }
     value
 }
