@@ -34,7 +34,7 @@ use Rattle.squitter_c.specs.Reading.{frame_of}
 use Rattle.squitter_c.specs.Tracking.{BlankKeepsNothing, IsContactOf, IsFixOf, IsReceivedOf, IsSideOf, blank_side, last_of, no_bytes}
 
 -- positions with one latitude and one longitude are one
-one_position : (a b : Position) → a.lat ≡ b.lat → a.lon ≡ b.lon → a ≡ b
+pub one_position : (a b : Position) → a.lat ≡ b.lat → a.lon ≡ b.lon → a ≡ b
 one_position a b lat lon =
     λ i. record {
       lat = lat i;
@@ -44,12 +44,12 @@ one_position a b lat lon =
     }
 
 -- fractions are those of one position
-one_of_degrees : (plain : PlainPosition) (a b : Position) → IsOfDegrees plain a → IsOfDegrees plain b → a ≡ b
+pub one_of_degrees : (plain : PlainPosition) (a b : Position) → IsOfDegrees plain a → IsOfDegrees plain b → a ≡ b
 one_of_degrees plain a b x y =
     one_position a b (one_angle a.lat b.lat (x.lat ∙ sym y.lat)) (one_angle a.lon b.lon (x.lon ∙ sym y.lon))
 
 -- a position's fractions are a position
-is_position : (plain : PlainPosition) (p : Position) → IsOfDegrees plain p → PlainIsPosition plain
+pub is_position : (plain : PlainPosition) (p : Position) → IsOfDegrees plain p → PlainIsPosition plain
 is_position plain p x = record {
   lat = subst (λ (f : Fraction). IsAngle f.num f.den) x.lat p.lat.in_range;
   lon = subst (λ (f : Fraction). IsAngle f.num f.den) x.lon p.lon.in_range;

@@ -1,3 +1,5 @@
 pub mod AsciiTexts
 pub mod Entries
 pub mod Steps
+pub mod OneAnswers
+pub mod OnePlaces

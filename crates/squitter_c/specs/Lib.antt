@@ -12,3 +12,4 @@ pub mod Tracking
 pub mod E7
 pub mod Many
 pub mod Zones
+pub mod OneAnswers

@@ -1,5 +1,6 @@
 //! Laws of the codes of faults, of their texts, of entries and of many calls in one, over the definitions alone.
 ghost use Rattle.std.specs.Prelude.{◌≡◌, ◌↔◌, ◌+◌, ◌<◌, ◌≤◌, ℕ, List, length, slice_index_or};
+ghost use Rattle.squitter_c.specs.OneAnswers.{OneNumber, OnePlace, OneReading};
 ghost use Rattle.squitter_c.specs.Many.{AreAnswered, IsBelow, Leads};
 ghost use Rattle.squitter_c.specs.Faults.{NoCodeIsZero, OneCode, OneReason};
 ghost use Rattle.squitter_c.specs.Texts.{EachText};
@@ -70,4 +71,19 @@ pub fn led_exactly<S, B, C>()
         × Leads (λ k s t old new told. (t ≡ step k s) × (new ≡ out k s old) × (told ≡ fault k s)) first was is after n left
         × ((b : B) (c : C) → (last ≡ step n left) × (slice_index_or is n b ≡ out n left (slice_index_or was n b))
         × (slice_index_or after n c ≡ fault n left))) }
+{}
+
+/// A text and a frame have one answer: what is written in `out` and the fault are one.
+pub fn one_reading()
+    ensures { OneReading }
+{}
+
+/// So have a frame near a reference and a pair, with a site and without.
+pub fn one_place()
+    ensures { OnePlace }
+{}
+
+/// So have an angle, its zone count, its ten-millionths, an altitude field and feet.
+pub fn one_number()
+    ensures { OneNumber }
 {}

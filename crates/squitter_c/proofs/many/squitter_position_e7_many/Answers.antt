@@ -1,4 +1,4 @@
-use Rattle.std.proofs.Common.{arith, ℕ, List, [], length, length-set, get_or, ◌<◌}
+use Rattle.std.proofs.Common.{arith, length, length-set, get_or, ◌<◌}
 use Rattle.squitter_c.proofs.Steps.{no_degrees, one_answered, there}
 use Rattle.squitter_c.specs.Many.{IsE7At}
 use Rattle.squitter_c.proofs.Steps.{no_place}

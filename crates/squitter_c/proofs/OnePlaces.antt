@@ -1,0 +1,195 @@
+-- Frames have one place, or one fault.
+use Rattle.std.proofs.Common.{◌≡◌, ◌∙◌, Option, None, Some, Result, Ok, Err, inl, inr, ◌⊎◌, ap, refl, sym, subst}
+use Rattle.sq_angle.specs.declared.position.Position.{Position}
+use Rattle.sq_angle.proofs.OneReading.{one_angle}
+use Rattle.sq_bits.specs.declared.frame.Frame.{Frame}
+use Rattle.sq_message.specs.declared.place.Place.{Place}
+use Rattle.sq_message.specs.declared.place.PlaceFault.{PlaceFault}
+use Rattle.sq_message.specs.declared.squitter.FrameFault.{FrameFault}
+use Rattle.sq_message.specs.declared.squitter.Squitter.{Squitter}
+use Rattle.sq_message.specs.Parts.{squitter_parts}
+use Rattle.sq_message.specs.Places.{IsLocalPlace, IsPairPlace, IsPositionOf}
+use Rattle.sq_message.specs.Spelling.{IsReading}
+use Rattle.sq_message.proofs.One.{one_reading}
+use Rattle.sq_message.proofs.OnePlace.{one_local_place, one_pair_place}
+use Rattle.sq_text.specs.Faults.{of_frame}
+use Rattle.squitter_c.specs.declared.faults.Refusal.{Refusal}
+use Rattle.squitter_c.specs.declared.faults.Refusal.TheVariants as refusals
+use Rattle.squitter_c.specs.declared.plain.PlainPosition.{PlainPosition}
+use Rattle.squitter_c.specs.Decoding.{IsLocalAnswer, IsPairAnswer, IsSiteAnswer}
+use Rattle.squitter_c.specs.Faults.{as_it_is}
+use Rattle.squitter_c.specs.OneAnswers.{OnePlace}
+use Rattle.squitter_c.specs.Plain.{IsLowestPosition, IsOfDegrees, PlainIsPosition}
+use Rattle.squitter_c.proofs.Entries.{is_position, one_of_degrees, one_position}
+use Rattle.squitter_c.proofs.OneAnswers.{one_lowest_position, one_telling}
+
+-- what is answered for a place or its fault
+abbrev Placed : Result Place PlaceFault → Result Position Refusal → Type 0
+Placed (Ok place) answer = (position : Position) × IsPositionOf place position × (answer ≡ Ok position)
+Placed (Err fault) answer = answer ≡ Err (refusals.Place fault)
+
+one_placed : (found : Result Place PlaceFault) (r s : Result Position Refusal) → Placed found r → Placed found s → r ≡ s
+one_placed (Ok place) r s (p, p_is, r_is) (q, q_is, s_is) =
+    r_is
+    ∙ ap Ok (one_position p q (one_angle p.lat q.lat (p_is.lat ∙ sym q_is.lat))
+    (one_angle p.lon q.lon (p_is.lon ∙ sym q_is.lon)))
+    ∙ sym s_is
+one_placed (Err fault) r s h k = h ∙ sym k
+
+-- what is answered for what is read of a frame, which goes on with its squitter
+abbrev Read : Result Squitter FrameFault → (Squitter → Result Position Refusal → Type 0) → Result Position Refusal
+    → Type 0
+Read (Ok q) Next answer = Next q answer
+Read (Err fault) Next answer = answer ≡ Err (refusals.Line (of_frame fault))
+
+one_read : (reading : Result Squitter FrameFault) (Next : Squitter → Result Position Refusal → Type 0)
+    (r s : Result Position Refusal) → ((q : Squitter) → Next q r → Next q s → r ≡ s) → Read reading Next r
+    → Read reading Next s → r ≡ s
+one_read (Ok q) Next r s one h k = one q h k
+one_read (Err fault) Next r s one h k = h ∙ sym k
+
+abbrev OfFrame : Frame → (Squitter → Result Position Refusal → Type 0) → Result Position Refusal → Type 0
+OfFrame frame Next answer = (reading : Result Squitter FrameFault) × IsReading frame reading × Read reading Next answer
+
+one_of_frame : (frame : Frame) (Next : Squitter → Result Position Refusal → Type 0) (r s : Result Position Refusal)
+    → ((q : Squitter) → Next q r → Next q s → r ≡ s) → OfFrame frame Next r → OfFrame frame Next s → r ≡ s
+one_of_frame frame Next r s one (a, a_is, h) (b, b_is, k) =
+    one_read a Next r s one h (subst (λ t. Read t Next s) (sym (one_reading frame a b a_is b_is)) k)
+
+-- ---- near a reference
+
+abbrev Near : Position → Squitter → Result Position Refusal → Type 0
+Near reference q answer = (found : Result Place PlaceFault) × IsLocalPlace (squitter_parts q).me reference found
+    × Placed found answer
+
+one_near : (reference : Position) (q : Squitter) (r s : Result Position Refusal) → Near reference q r
+    → Near reference q s → r ≡ s
+one_near reference q r s (a, a_is, h) (b, b_is, k) =
+    one_placed a r s h (subst (λ t. Placed t s) (sym (one_local_place q reference a b a_is b_is)) k)
+
+-- the reference is looked at first
+abbrev NearPlain : Frame → PlainPosition → Result Position Refusal → Type 0
+NearPlain frame plain answer = ((¬ (PlainIsPosition plain)) × (answer ≡ Err refusals.NoPosition))
+    ⊎ (PlainIsPosition plain
+    × ((reference : Position) → IsOfDegrees plain reference → OfFrame frame (Near reference) answer))
+
+-- the position of fractions that are one
+position_of : (plain : PlainPosition) → PlainIsPosition plain → (p : Position) × IsOfDegrees plain p
+position_of plain h = (
+  record {
+    lat = record { num = plain.lat.num; den = plain.lat.den; in_range = h.lat };
+    lon = record { num = plain.lon.num; den = plain.lon.den; in_range = h.lon };
+    in_range = h.both;
+  },
+  record { lat = refl; lon = refl },
+)
+
+near_plain : (frame : Frame) (plain : PlainPosition) (r : Result Position Refusal) → IsLocalAnswer frame plain r
+    → NearPlain frame plain r
+unfolding IsLocalAnswer
+near_plain frame plain (Ok position) (reference, deg, (q, spells, (place, local, is))) = inr (
+  is_position plain reference deg,
+  λ other deg'. (
+    Ok q,
+    spells,
+    (
+      Ok place,
+      subst (λ x. IsLocalPlace (squitter_parts q).me x (Ok place))
+          (one_of_degrees plain reference other deg deg') local,
+      (position, is, refl),
+    ),
+  ),
+)
+near_plain frame plain (Err refusals.NoPosition) h = inl (h, refl)
+near_plain frame plain (Err (refusals.Line fault)) (h, (of, of_is, is)) =
+    inr (h, λ reference deg. (Err of, of_is, ap (λ f. Err (refusals.Line f)) is))
+near_plain frame plain (Err (refusals.Place fault)) (reference, deg, (q, spells, local)) = inr (
+  is_position plain reference deg,
+  λ other deg'. (
+    Ok q,
+    spells,
+    (
+      Err fault,
+      subst (λ x. IsLocalPlace (squitter_parts q).me x (Err fault))
+          (one_of_degrees plain reference other deg deg') local,
+      refl,
+    ),
+  ),
+)
+near_plain frame plain (Err (refusals.Angle fault)) h = absurd h
+near_plain frame plain (Err refusals.NoHead) h = absurd h
+near_plain frame plain (Err refusals.NoAngle) h = absurd h
+near_plain frame plain (Err refusals.NoLatitude) h = absurd h
+near_plain frame plain (Err refusals.NoFeet) h = absurd h
+near_plain frame plain (Err refusals.NoParity) h = absurd h
+
+one_near_plain : (frame : Frame) (plain : PlainPosition) (r s : Result Position Refusal) → NearPlain frame plain r
+    → NearPlain frame plain s → r ≡ s
+one_near_plain frame plain r s (inl h) (inl k) = h.1 ∙ sym k.1
+one_near_plain frame plain r s (inl h) (inr k) = absurd (h.0 k.0)
+one_near_plain frame plain r s (inr h) (inl k) = absurd (k.0 h.0)
+one_near_plain frame plain r s (inr h) (inr k) =
+    let (reference, deg) = position_of plain h.0 in
+    one_of_frame frame (Near reference) r s (λ q. one_near reference q r s) (h.1 reference deg) (k.1 reference deg)
+
+one_local : (frame : Frame) (plain : PlainPosition) (r s : Result Position Refusal) → IsLocalAnswer frame plain r
+    → IsLocalAnswer frame plain s → r ≡ s
+one_local frame plain r s h k =
+    one_near_plain frame plain r s (near_plain frame plain r h) (near_plain frame plain s k)
+
+-- ---- of a pair
+
+abbrev Paired : Option Position → (o n : Squitter) → Result Position Refusal → Type 0
+Paired site o n answer = (found : Result Place PlaceFault)
+    × IsPairPlace (squitter_parts o) (squitter_parts n) site found × Placed found answer
+
+one_paired : (site : Option Position) (o n : Squitter) (r s : Result Position Refusal) → Paired site o n r
+    → Paired site o n s → r ≡ s
+one_paired site o n r s (a, a_is, h) (b, b_is, k) =
+    one_placed a r s h (subst (λ t. Placed t s) (sym (one_pair_place o n site a b a_is b_is)) k)
+
+abbrev OfPair : (older newer : Frame) → Option Position → Result Position Refusal → Type 0
+OfPair older newer site answer = OfFrame older (λ o. OfFrame newer (Paired site o)) answer
+
+of_pair : (older newer : Frame) (site : Option Position) (r : Result Position Refusal)
+    → IsPairAnswer older newer site r → OfPair older newer site r
+unfolding IsPairAnswer
+of_pair older newer site (Ok position) (o, o_is, (n, n_is, (place, pair, is))) =
+    (Ok o, o_is, (Ok n, n_is, (Ok place, pair, (position, is, refl))))
+of_pair older newer site (Err (refusals.Line fault)) (inl (of, of_is, is)) =
+    (Err of, of_is, ap (λ f. Err (refusals.Line f)) is)
+of_pair older newer site (Err (refusals.Line fault)) (inr ((o, o_is), (of, of_is, is))) =
+    (Ok o, o_is, (Err of, of_is, ap (λ f. Err (refusals.Line f)) is))
+of_pair older newer site (Err (refusals.Place fault)) (o, o_is, (n, n_is, pair)) =
+    (Ok o, o_is, (Ok n, n_is, (Err fault, pair, refl)))
+of_pair older newer site (Err (refusals.Angle fault)) h = absurd h
+of_pair older newer site (Err refusals.NoPosition) h = absurd h
+of_pair older newer site (Err refusals.NoHead) h = absurd h
+of_pair older newer site (Err refusals.NoAngle) h = absurd h
+of_pair older newer site (Err refusals.NoLatitude) h = absurd h
+of_pair older newer site (Err refusals.NoFeet) h = absurd h
+of_pair older newer site (Err refusals.NoParity) h = absurd h
+
+one_pair : (older newer : Frame) (site : Option Position) (r s : Result Position Refusal)
+    → IsPairAnswer older newer site r → IsPairAnswer older newer site s → r ≡ s
+one_pair older newer site r s h k =
+    one_of_frame older (λ o. OfFrame newer (Paired site o)) r s
+    (λ o. one_of_frame newer (Paired site o) r s (λ n. one_paired site o n r s)) (of_pair older newer site r h)
+    (of_pair older newer site s k)
+
+one_pair_at : (older newer : Frame) (plain : PlainPosition) (r s : Result Position Refusal)
+    → IsSiteAnswer older newer plain r → IsSiteAnswer older newer plain s → r ≡ s
+one_pair_at older newer plain r s (inl h) (inl k) = h.1 ∙ sym k.1
+one_pair_at older newer plain r s (inl h) (inr (site, deg, k)) = absurd (h.0 (is_position plain site deg))
+one_pair_at older newer plain r s (inr (site, deg, h)) (inl k) = absurd (k.0 (is_position plain site deg))
+one_pair_at older newer plain r s (inr (site, deg, h)) (inr (other, deg', k)) =
+    one_pair older newer (Some site) r s h
+    (subst (λ x. IsPairAnswer older newer (Some x) s) (sym (one_of_degrees plain site other deg deg')) k)
+
+pub one_place_of : OnePlace
+one_place_of = record {
+  near = λ frame reference. one_telling _ IsLowestPosition as_it_is (one_local frame reference) one_lowest_position;
+  pair = λ older newer. one_telling _ IsLowestPosition as_it_is (one_pair older newer None) one_lowest_position;
+  pair_at = λ older newer site. one_telling _ IsLowestPosition as_it_is (one_pair_at older newer site)
+      one_lowest_position;
+}
