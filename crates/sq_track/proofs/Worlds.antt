@@ -12,3 +12,4 @@ pub mod SomeFix
 pub mod Standing
 pub mod TrueWorlds
 pub mod WorkedRows
+pub mod WorkedSquitters

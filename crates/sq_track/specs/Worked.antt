@@ -97,3 +97,7 @@ abbrev pub ThirdIsFollowed : Type 0
 ThirdIsFollowed =
     (site : Option Position) (b c : Arrival) → IsSecond b → IsThird c
     → IsHeard 10000 site (as_fix b (Air second_point) ∷ []) 9000 c.squitter (Followed (Air third_point))
+
+-- there are such arrivals
+abbrev pub SomeWorked : Type 0
+SomeWorked = (a b c : Arrival) × IsFirst a × IsSecond b × IsThird c

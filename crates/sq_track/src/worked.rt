@@ -1,7 +1,12 @@
 //! The laws of worlds, of following and of one address, in numbers: 40621D flies by, is heard three times within 9
 //! seconds, and 484175 between.
 ghost use Rattle.sq_track.specs.Worked.{SecondIsFixed, SecondIsFixedAmongOthers, ThirdIsFollowed, TruePlaces};
-ghost use Rattle.sq_track.specs.Worked.{TwoAreSlow, TwoAreTrue};
+ghost use Rattle.sq_track.specs.Worked.{SomeWorked, TwoAreSlow, TwoAreTrue};
+
+/// There are such squitters, and they may arrive so.
+pub fn some_arrivals()
+    ensures { SomeWorked }
+{}
 
 /// The points of the three positions: 1141576 of the even grid by 51372, and 1122734 by 50194 and 1122825 by 50310 of the
 /// odd one.

@@ -51,7 +51,7 @@ third_rounds = record {
   );
 }
 
-third_position_rounds : (x : Position) → degrees (lat_of x) ≡ parts 5227 100 → degrees (lon_of x) ≡ parts 3948 1000
+pub third_position_rounds : (x : Position) → degrees (lat_of x) ≡ parts 5227 100 → degrees (lon_of x) ≡ parts 3948 1000
     → RoundsInAir x third_point
 third_position_rounds x lat lon =
     subst (λ f. RoundsTo 360 1 f (degrees (lon_of x)) third_point) (sym lat)
