@@ -1,14 +1,17 @@
 -- Frames have one place, or one fault.
-use Rattle.std.proofs.Common.{◌≡◌, ◌∙◌, Option, None, Some, Result, Ok, Err, inl, inr, ◌⊎◌, ap, refl, sym, subst}
+use Rattle.std.proofs.lemmas.Int.{ints}
+use Rattle.std.proofs.Common.{arith, ℕ, ◌≡◌, ◌∙◌, Option, None, Some, Result, Ok, Err, inl, inr, ◌⊎◌, ap, refl, sym, subst}
 use Rattle.sq_angle.specs.declared.position.Position.{Position}
 use Rattle.sq_angle.proofs.OneReading.{one_angle}
 use Rattle.sq_bits.specs.declared.frame.Frame.{Frame}
+use Rattle.sq_cpr.specs.Grid.{Point}
 use Rattle.sq_message.specs.declared.place.Place.{Place}
+use Rattle.sq_message.specs.declared.place.Place.TheVariants.{Air, Ground}
 use Rattle.sq_message.specs.declared.place.PlaceFault.{PlaceFault}
 use Rattle.sq_message.specs.declared.squitter.FrameFault.{FrameFault}
 use Rattle.sq_message.specs.declared.squitter.Squitter.{Squitter}
 use Rattle.sq_message.specs.Parts.{squitter_parts}
-use Rattle.sq_message.specs.Places.{IsLocalPlace, IsPairPlace, IsPositionOf}
+use Rattle.sq_message.specs.Places.{IsLocalPlace, IsPairPlace}
 use Rattle.sq_message.specs.Spelling.{IsReading}
 use Rattle.sq_message.proofs.One.{one_reading}
 use Rattle.sq_message.proofs.OnePlace.{one_local_place, one_pair_place}
@@ -16,59 +19,57 @@ use Rattle.sq_text.specs.Faults.{of_frame}
 use Rattle.squitter_c.specs.declared.faults.Refusal.{Refusal}
 use Rattle.squitter_c.specs.declared.faults.Refusal.TheVariants as refusals
 use Rattle.squitter_c.specs.declared.plain.PlainPosition.{PlainPosition}
-use Rattle.squitter_c.specs.Decoding.{IsLocalAnswer, IsPairAnswer, IsSiteAnswer}
+use Rattle.squitter_c.specs.declared.zones.PlainZones.{PlainZones}
+use Rattle.squitter_c.specs.Decoding.{IsLocalAnswer, IsLowestPlace, IsPairAnswer, IsSiteAnswer}
 use Rattle.squitter_c.specs.Faults.{as_it_is}
 use Rattle.squitter_c.specs.OneAnswers.{OnePlace}
 use Rattle.squitter_c.specs.Plain.{IsLowestPosition, IsOfDegrees, PlainIsPosition}
+use Rattle.squitter_c.specs.Zones.{AreZonesOf, AreZonesOfPlace}
 use Rattle.squitter_c.proofs.Entries.{is_position, one_of_degrees, one_position}
 use Rattle.squitter_c.proofs.OneAnswers.{one_lowest_position, one_telling}
 
 -- what is answered for a place or its fault
-abbrev Placed : Result Place PlaceFault → Result Position Refusal → Type 0
-Placed (Ok place) answer = (position : Position) × IsPositionOf place position × (answer ≡ Ok position)
+abbrev Placed : Result Place PlaceFault → Result Place Refusal → Type 0
+Placed (Ok place) answer = answer ≡ Ok place
 Placed (Err fault) answer = answer ≡ Err (refusals.Place fault)
 
-one_placed : (found : Result Place PlaceFault) (r s : Result Position Refusal) → Placed found r → Placed found s → r ≡ s
-one_placed (Ok place) r s (p, p_is, r_is) (q, q_is, s_is) =
-    r_is
-    ∙ ap Ok (one_position p q (one_angle p.lat q.lat (p_is.lat ∙ sym q_is.lat))
-    (one_angle p.lon q.lon (p_is.lon ∙ sym q_is.lon)))
-    ∙ sym s_is
+one_placed : (found : Result Place PlaceFault) (r s : Result Place Refusal) → Placed found r → Placed found s → r ≡ s
+one_placed (Ok place) r s h k = h ∙ sym k
 one_placed (Err fault) r s h k = h ∙ sym k
 
 -- what is answered for what is read of a frame, which goes on with its squitter
-abbrev Read : Result Squitter FrameFault → (Squitter → Result Position Refusal → Type 0) → Result Position Refusal
+abbrev Read : Result Squitter FrameFault → (Squitter → Result Place Refusal → Type 0) → Result Place Refusal
     → Type 0
 Read (Ok q) Next answer = Next q answer
 Read (Err fault) Next answer = answer ≡ Err (refusals.Line (of_frame fault))
 
-one_read : (reading : Result Squitter FrameFault) (Next : Squitter → Result Position Refusal → Type 0)
-    (r s : Result Position Refusal) → ((q : Squitter) → Next q r → Next q s → r ≡ s) → Read reading Next r
+one_read : (reading : Result Squitter FrameFault) (Next : Squitter → Result Place Refusal → Type 0)
+    (r s : Result Place Refusal) → ((q : Squitter) → Next q r → Next q s → r ≡ s) → Read reading Next r
     → Read reading Next s → r ≡ s
 one_read (Ok q) Next r s one h k = one q h k
 one_read (Err fault) Next r s one h k = h ∙ sym k
 
-abbrev OfFrame : Frame → (Squitter → Result Position Refusal → Type 0) → Result Position Refusal → Type 0
+abbrev OfFrame : Frame → (Squitter → Result Place Refusal → Type 0) → Result Place Refusal → Type 0
 OfFrame frame Next answer = (reading : Result Squitter FrameFault) × IsReading frame reading × Read reading Next answer
 
-one_of_frame : (frame : Frame) (Next : Squitter → Result Position Refusal → Type 0) (r s : Result Position Refusal)
+one_of_frame : (frame : Frame) (Next : Squitter → Result Place Refusal → Type 0) (r s : Result Place Refusal)
     → ((q : Squitter) → Next q r → Next q s → r ≡ s) → OfFrame frame Next r → OfFrame frame Next s → r ≡ s
 one_of_frame frame Next r s one (a, a_is, h) (b, b_is, k) =
     one_read a Next r s one h (subst (λ t. Read t Next s) (sym (one_reading frame a b a_is b_is)) k)
 
 -- ---- near a reference
 
-abbrev Near : Position → Squitter → Result Position Refusal → Type 0
+abbrev Near : Position → Squitter → Result Place Refusal → Type 0
 Near reference q answer = (found : Result Place PlaceFault) × IsLocalPlace (squitter_parts q).me reference found
     × Placed found answer
 
-one_near : (reference : Position) (q : Squitter) (r s : Result Position Refusal) → Near reference q r
+one_near : (reference : Position) (q : Squitter) (r s : Result Place Refusal) → Near reference q r
     → Near reference q s → r ≡ s
 one_near reference q r s (a, a_is, h) (b, b_is, k) =
     one_placed a r s h (subst (λ t. Placed t s) (sym (one_local_place q reference a b a_is b_is)) k)
 
 -- the reference is looked at first
-abbrev NearPlain : Frame → PlainPosition → Result Position Refusal → Type 0
+abbrev NearPlain : Frame → PlainPosition → Result Place Refusal → Type 0
 NearPlain frame plain answer = ((¬ (PlainIsPosition plain)) × (answer ≡ Err refusals.NoPosition))
     ⊎ (PlainIsPosition plain
     × ((reference : Position) → IsOfDegrees plain reference → OfFrame frame (Near reference) answer))
@@ -84,10 +85,10 @@ position_of plain h = (
   record { lat = refl; lon = refl },
 )
 
-near_plain : (frame : Frame) (plain : PlainPosition) (r : Result Position Refusal) → IsLocalAnswer frame plain r
+near_plain : (frame : Frame) (plain : PlainPosition) (r : Result Place Refusal) → IsLocalAnswer frame plain r
     → NearPlain frame plain r
 unfolding IsLocalAnswer
-near_plain frame plain (Ok position) (reference, deg, (q, spells, (place, local, is))) = inr (
+near_plain frame plain (Ok place) (reference, deg, (q, spells, local)) = inr (
   is_position plain reference deg,
   λ other deg'. (
     Ok q,
@@ -96,7 +97,7 @@ near_plain frame plain (Ok position) (reference, deg, (q, spells, (place, local,
       Ok place,
       subst (λ x. IsLocalPlace (squitter_parts q).me x (Ok place))
           (one_of_degrees plain reference other deg deg') local,
-      (position, is, refl),
+      refl,
     ),
   ),
 )
@@ -123,7 +124,7 @@ near_plain frame plain (Err refusals.NoLatitude) h = absurd h
 near_plain frame plain (Err refusals.NoFeet) h = absurd h
 near_plain frame plain (Err refusals.NoParity) h = absurd h
 
-one_near_plain : (frame : Frame) (plain : PlainPosition) (r s : Result Position Refusal) → NearPlain frame plain r
+one_near_plain : (frame : Frame) (plain : PlainPosition) (r s : Result Place Refusal) → NearPlain frame plain r
     → NearPlain frame plain s → r ≡ s
 one_near_plain frame plain r s (inl h) (inl k) = h.1 ∙ sym k.1
 one_near_plain frame plain r s (inl h) (inr k) = absurd (h.0 k.0)
@@ -132,30 +133,29 @@ one_near_plain frame plain r s (inr h) (inr k) =
     let (reference, deg) = position_of plain h.0 in
     one_of_frame frame (Near reference) r s (λ q. one_near reference q r s) (h.1 reference deg) (k.1 reference deg)
 
-one_local : (frame : Frame) (plain : PlainPosition) (r s : Result Position Refusal) → IsLocalAnswer frame plain r
+one_local : (frame : Frame) (plain : PlainPosition) (r s : Result Place Refusal) → IsLocalAnswer frame plain r
     → IsLocalAnswer frame plain s → r ≡ s
 one_local frame plain r s h k =
     one_near_plain frame plain r s (near_plain frame plain r h) (near_plain frame plain s k)
 
 -- ---- of a pair
 
-abbrev Paired : Option Position → (o n : Squitter) → Result Position Refusal → Type 0
+abbrev Paired : Option Position → (o n : Squitter) → Result Place Refusal → Type 0
 Paired site o n answer = (found : Result Place PlaceFault)
     × IsPairPlace (squitter_parts o) (squitter_parts n) site found × Placed found answer
 
-one_paired : (site : Option Position) (o n : Squitter) (r s : Result Position Refusal) → Paired site o n r
+one_paired : (site : Option Position) (o n : Squitter) (r s : Result Place Refusal) → Paired site o n r
     → Paired site o n s → r ≡ s
 one_paired site o n r s (a, a_is, h) (b, b_is, k) =
     one_placed a r s h (subst (λ t. Placed t s) (sym (one_pair_place o n site a b a_is b_is)) k)
 
-abbrev OfPair : (older newer : Frame) → Option Position → Result Position Refusal → Type 0
+abbrev OfPair : (older newer : Frame) → Option Position → Result Place Refusal → Type 0
 OfPair older newer site answer = OfFrame older (λ o. OfFrame newer (Paired site o)) answer
 
-of_pair : (older newer : Frame) (site : Option Position) (r : Result Position Refusal)
+of_pair : (older newer : Frame) (site : Option Position) (r : Result Place Refusal)
     → IsPairAnswer older newer site r → OfPair older newer site r
 unfolding IsPairAnswer
-of_pair older newer site (Ok position) (o, o_is, (n, n_is, (place, pair, is))) =
-    (Ok o, o_is, (Ok n, n_is, (Ok place, pair, (position, is, refl))))
+of_pair older newer site (Ok place) (o, o_is, (n, n_is, pair)) = (Ok o, o_is, (Ok n, n_is, (Ok place, pair, refl)))
 of_pair older newer site (Err (refusals.Line fault)) (inl (of, of_is, is)) =
     (Err of, of_is, ap (λ f. Err (refusals.Line f)) is)
 of_pair older newer site (Err (refusals.Line fault)) (inr ((o, o_is), (of, of_is, is))) =
@@ -170,14 +170,14 @@ of_pair older newer site (Err refusals.NoLatitude) h = absurd h
 of_pair older newer site (Err refusals.NoFeet) h = absurd h
 of_pair older newer site (Err refusals.NoParity) h = absurd h
 
-one_pair : (older newer : Frame) (site : Option Position) (r s : Result Position Refusal)
+one_pair : (older newer : Frame) (site : Option Position) (r s : Result Place Refusal)
     → IsPairAnswer older newer site r → IsPairAnswer older newer site s → r ≡ s
 one_pair older newer site r s h k =
     one_of_frame older (λ o. OfFrame newer (Paired site o)) r s
     (λ o. one_of_frame newer (Paired site o) r s (λ n. one_paired site o n r s)) (of_pair older newer site r h)
     (of_pair older newer site s k)
 
-one_pair_at : (older newer : Frame) (plain : PlainPosition) (r s : Result Position Refusal)
+one_pair_at : (older newer : Frame) (plain : PlainPosition) (r s : Result Place Refusal)
     → IsSiteAnswer older newer plain r → IsSiteAnswer older newer plain s → r ≡ s
 one_pair_at older newer plain r s (inl h) (inl k) = h.1 ∙ sym k.1
 one_pair_at older newer plain r s (inl h) (inr (site, deg, k)) = absurd (h.0 (is_position plain site deg))
@@ -186,10 +186,42 @@ one_pair_at older newer plain r s (inr (site, deg, h)) (inr (other, deg', k)) =
     one_pair older newer (Some site) r s h
     (subst (λ x. IsPairAnswer older newer (Some x) s) (sym (one_of_degrees plain site other deg deg')) k)
 
+-- ---- what is written of a place
+
+one_lowest_place : (place : Place) (x y : PlainPosition) → IsLowestPlace place x → IsLowestPlace place y → x ≡ y
+one_lowest_place place x y (p, p_is, x_is) (q, q_is, y_is) =
+    let same : p ≡ q = one_position p q (one_angle p.lat q.lat (p_is.lat ∙ sym q_is.lat))
+    (one_angle p.lon q.lon (p_is.lon ∙ sym q_is.lon)) in
+    one_lowest_position p x y x_is (subst (λ r. IsLowestPosition r y) (sym same) y_is)
+
+one_zones_of : (degrees : ℕ) (point : Point) (x y : PlainZones) → AreZonesOf degrees point x
+    → AreZonesOf degrees point y → x ≡ y
+one_zones_of degrees point x y h k =
+    let span = h.span ∙ sym k.span in
+    let odd = h.odd ∙ sym k.odd in
+    let lat_zones = h.lat_zones ∙ sym k.lat_zones in
+    let count = h.zone_count ∙ sym k.zone_count in
+    let lon_zones = h.lon_zones ∙ sym k.lon_zones in
+    let lat : x.lat_zone ≡ y.lat_zone = omega (arith, ints, h.lat_zone, k.lat_zone) in
+    let lon : x.lon_zone ≡ y.lon_zone = omega (arith, h.lon_zone, k.lon_zone) in
+    λ i. record {
+      lat_zone = lat i;
+      lon_zone = lon i;
+      degrees = span i;
+      lat_zones = lat_zones i;
+      zone_count = count i;
+      lon_zones = lon_zones i;
+      odd = odd i;
+    }
+
+one_zones : (place : Place) (x y : PlainZones) → AreZonesOfPlace place x → AreZonesOfPlace place y → x ≡ y
+one_zones (Air point) x y h k = one_zones_of 360 point x y h k
+one_zones (Ground point) x y h k = one_zones_of 90 point x y h k
+
 pub one_place_of : OnePlace
 one_place_of = record {
-  near = λ frame reference. one_telling _ IsLowestPosition as_it_is (one_local frame reference) one_lowest_position;
-  pair = λ older newer. one_telling _ IsLowestPosition as_it_is (one_pair older newer None) one_lowest_position;
-  pair_at = λ older newer site. one_telling _ IsLowestPosition as_it_is (one_pair_at older newer site)
-      one_lowest_position;
+  near = λ frame reference. one_telling _ IsLowestPlace as_it_is (one_local frame reference) one_lowest_place;
+  zones = λ frame reference. one_telling _ AreZonesOfPlace as_it_is (one_local frame reference) one_zones;
+  pair = λ older newer. one_telling _ IsLowestPlace as_it_is (one_pair older newer None) one_lowest_place;
+  pair_at = λ older newer site. one_telling _ IsLowestPlace as_it_is (one_pair_at older newer site) one_lowest_place;
 }

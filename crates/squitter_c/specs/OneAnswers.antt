@@ -7,11 +7,13 @@ use Rattle.squitter_c.specs.declared.faults.Fault.{Fault}
 use Rattle.squitter_c.specs.declared.fields.PlainSquitter.{PlainSquitter}
 use Rattle.squitter_c.specs.declared.plain.PlainAngle.{PlainAngle}
 use Rattle.squitter_c.specs.declared.plain.PlainPosition.{PlainPosition}
+use Rattle.squitter_c.specs.declared.zones.PlainZones.{PlainZones}
 use Rattle.squitter_c.specs.Altitudes.{IsFeetOfField, IsFieldWritten}
 use Rattle.squitter_c.specs.Angles.{IsAngleRead, IsZoneCount}
 use Rattle.squitter_c.specs.Decoding.{IsLocal, IsPair, IsPairAt}
 use Rattle.squitter_c.specs.E7.{IsAngleE7, IsPositionE7}
 use Rattle.squitter_c.specs.Reading.{IsFrameOfText, IsFrameRead, IsTextRead}
+use Rattle.squitter_c.specs.Zones.{AreLocalZones}
 
 -- of texts and frames
 pub record OneReading : Type 0 where
@@ -26,6 +28,9 @@ pub record OneReading : Type 0 where
 pub record OnePlace : Type 0 where
   pub near : (frame : Frame) (reference old new other : PlainPosition) (fault why : Fault)
       → IsLocal frame reference old new fault → IsLocal frame reference old other why
+      → (new ≡ other) × (fault ≡ why)
+  pub zones : (frame : Frame) (reference : PlainPosition) (old new other : PlainZones) (fault why : Fault)
+      → AreLocalZones frame reference old new fault → AreLocalZones frame reference old other why
       → (new ≡ other) × (fault ≡ why)
   pub pair : (older newer : Frame) (old new other : PlainPosition) (fault why : Fault)
       → IsPair older newer old new fault → IsPair older newer old other why → (new ≡ other) × (fault ≡ why)
