@@ -1,5 +1,5 @@
 #!/usr/bin/env python3
-"""same.py: holds squitter.h and squitter.py to the crate.
+"""same.py: holds squitter.h and the module squitter to the crate.
 
 The structs of the crate's sources, with the sizes and offsets that C gives them; the types of its exports; the codes of
 faults as its specs state them; and the symbols that the archive and the shared object export and want. Wants a C compiler and
@@ -136,10 +136,10 @@ def check_python_structs():
     for name, fields in structs():
         here = getattr(squitter, STRUCTS[name][1])
         if [n for n, _ in here._fields_] != [n for n, _ in fields]:
-            differ(f"fields of {here.__name__} in squitter.py")
+            differ(f"fields of {here.__name__} in the module")
         for (field, rust), (_, kind) in zip(fields, here._fields_):
             if rust in NUMBERS and kind is not getattr(ctypes, "c_" + NUMBERS[rust][:-2]):
-                differ(f"type of {field} of {here.__name__} in squitter.py")
+                differ(f"type of {field} of {here.__name__} in the module")
 
 
 def header():
@@ -148,7 +148,7 @@ def header():
 
 
 def check_codes():
-    """The codes: those of the specs, each once, in the header and in squitter.py."""
+    """The codes: those of the specs, each once, in the header and in the module."""
     with open(os.path.join(CRATE, "specs", "Faults.antt"), encoding="utf-8") as file:
         stated = re.findall(r"^fault_of\w* \(?([\w.]+)[^=]*= told (\d+) ", file.read(), re.M)
     codes = {"OK": 0}
@@ -165,19 +165,19 @@ def check_codes():
     if named != codes:
         differ(f"codes of squitter.h: {sorted(set(named.items()) ^ set(codes.items()))}")
     if {code.name: code.value for code in squitter.Code} != codes:
-        differ("codes of squitter.py")
+        differ("codes of the module")
 
 
 def check_enums():
-    """The other enums: squitter.py has the header's."""
+    """The other enums: the module has the header's."""
     for kind, prefix in ((squitter.Kind, ""), (squitter.What, "")):
         for one in kind:
             if not re.search(rf"SQUITTER_{prefix}{one.name} = {one.value}\b", header()):
-                differ(f"{one!r} of squitter.py")
+                differ(f"{one!r} of the module")
     forms = {"NONE": "NO_ALTITUDE", "FEET": "FEET", "OTHER": "OTHER_ALTITUDE"}
     for one in squitter.AltitudeForm:
         if not re.search(rf"SQUITTER_{forms[one.name]} = {one.value}\b", header()):
-            differ(f"{one!r} of squitter.py")
+            differ(f"{one!r} of the module")
 
 
 def symbols(*words):
@@ -201,7 +201,7 @@ def check_symbols():
     called = {f"squitter_{name}" for name in {**squitter._CALLS, **squitter._MANY}}
     called |= {"squitter_text_of_frame", "squitter_text_of_fault", "squitter_version"}
     if called != names:
-        differ(f"calls of squitter.py: {sorted(called ^ names)}")
+        differ(f"calls of the module: {sorted(called ^ names)}")
 
 
 def main():

@@ -325,8 +325,9 @@ _LIBDIR = ""
 
 
 def _load() -> ctypes.CDLL:
-    """The library: that of LIBSQUITTER, that beside this file, the one installed with it, or the system's."""
-    folders = (os.path.dirname(os.path.abspath(__file__)), _LIBDIR)
+    """The library: LIBSQUITTER's, that in this package or beside it, the one installed with it, or the system's."""
+    package = os.path.dirname(os.path.abspath(__file__))
+    folders = (package, os.path.dirname(package), _LIBDIR)
     places = [os.path.join(folder, "libsquitter.so.0") for folder in folders if folder]
     installed = next((place for place in places if os.path.exists(place)), None)
     library = ctypes.CDLL(os.environ.get("LIBSQUITTER") or installed or find_library("squitter") or "libsquitter.so.0")
