@@ -21,7 +21,7 @@ from ctypes.util import find_library
 from dataclasses import dataclass
 from fractions import Fraction
 from numbers import Rational
-from typing import Iterable, Iterator, List, NamedTuple, Optional, Sequence, Tuple, Union
+from typing import Iterable, Iterator, List, NamedTuple, Optional, Sequence, Tuple, Type, TypeVar, Union
 
 __all__ = [
     "AirHead", "Altitude", "AltitudeForm", "Code", "Contact", "Fault", "Fields", "Frame", "GroundHead", "Heard", "Kind",
@@ -498,7 +498,10 @@ def _frames(source: Frames) -> Tuple[bytes, int]:
     return view.tobytes(), view.nbytes // 14
 
 
-def _many(name: str, kind: type, count: int, *before: object) -> Iterator[Tuple[ctypes.Structure, Optional[Fault]]]:
+_Kind = TypeVar("_Kind", bound=ctypes.Structure)
+
+
+def _many(name: str, kind: Type[_Kind], count: int, *before: object) -> Iterator[Tuple[_Kind, Optional[Fault]]]:
     """What a call of arrays answers at each place: what it wrote, and the fault or None."""
     out, faults = (kind * count)(), (_Fault * count)()
     getattr(_lib, f"squitter_{name}")(*before, ctypes.addressof(out), count, ctypes.addressof(faults), count)
@@ -512,7 +515,7 @@ def read_many(frames: Frames) -> List[Union[Fields, Fault]]:
     return [fault or _read_fields(out) for out, fault in _many("read_many", _Fields, count, source, count)]
 
 
-def _places(answers: Iterable[Tuple[ctypes.Structure, Optional[Fault]]]) -> List[Union[Position, Fault]]:
+def _places(answers: Iterable[Tuple[_Position, Optional[Fault]]]) -> List[Union[Position, Fault]]:
     return [fault or _read_position(out) for out, fault in answers]
 
 

@@ -1,0 +1,396 @@
+#!/usr/bin/env python3
+"""test_batch.py [COUNT]: squitter.batch beside the calls for one frame, on so many mutated frames (50000), and
+`track` beside the program, byte for byte, on logs of the repository and random ones; arrays that are wrong, empty,
+read-only, not contiguous or of the other byte order. PROGRAM is the program (the launcher at the top of the
+repository where it is not set). Needs NumPy."""
+import ctypes
+import doctest
+import os
+import pickle
+import random
+import subprocess
+import sys
+import unittest
+from fractions import Fraction
+from typing import Any, Callable, Iterable, Iterator, List, Sequence, Tuple
+
+import numpy as np
+
+HERE = os.path.dirname(os.path.abspath(__file__))
+TOP = os.path.join(HERE, "..", "..")
+sys.path.insert(0, os.path.join(HERE, ".."))
+import squitter  # noqa: E402
+from squitter import AirHead, Code, Contact, Fault, GroundHead, Position, What, batch  # noqa: E402
+
+PROGRAM = os.environ.get("PROGRAM") or os.path.join(TOP, "squitter")
+COUNT = 50_000
+EVEN, ODD = "8D40621D58C382D690C8AC2863A7", "8D40621D58C386435CC412692AD6"
+PLACE = (428091, 8192, 64215, 16384)
+SITE = Position(Fraction(5231, 100), Fraction(476, 100))
+NOWHERE = Position(91, 0)
+ALL = 1 << 24  # addresses
+
+
+# ---- what is given ----
+
+
+def random_frames(rng: random.Random, count: int) -> np.ndarray:
+    """Frames of some aircraft near each other, in the air and on the ground, and other squitters; one in ten is
+    damaged in some bits, so that no, one or many of its faults apply."""
+    made: List[bytes] = []
+    for _ in range(min(count, 4000)):
+        address, odd = rng.randint(1, 60), rng.randint(0, 1)
+        place = Position(Fraction(rng.randint(52_000, 52_600), 1000), Fraction(rng.randint(4_000, 5_000), 1000))
+        if address % 4:
+            head = AirHead(address, rng.randint(0, 4095), odd=odd, type_code=rng.choice([9, 11, 18, 22]))
+            frame = squitter.encode(head, place)
+        else:
+            frame = squitter.encode(GroundHead(address, odd=odd), place)
+        if rng.random() < 0.2:
+            frame = sealed(frame[:4] + bytes(rng.randrange(256) for _ in range(7)))
+        made.append(frame)
+    frames = np.frombuffer(b"".join(rng.choices(made, k=count)), np.uint8).reshape(-1, 14).copy()
+    numpy_rng = np.random.default_rng(rng.randrange(1 << 30))
+    for _ in range(3):
+        damaged = np.flatnonzero(numpy_rng.random(count) < 0.05)
+        bits = (1 << numpy_rng.integers(0, 8, len(damaged))).astype(np.uint8)
+        frames[damaged, numpy_rng.integers(0, 14, len(damaged))] ^= bits
+    return frames
+
+
+def sealed(front: bytes) -> bytes:
+    """Eleven bytes with the parity that makes a frame of them: the remainder by the generator of 25 bits."""
+    value = int.from_bytes(front + bytes(3), "big")
+    for bit in range(111, 23, -1):
+        if value >> bit & 1:
+            value ^= 0x1FFF409 << bit - 24
+    return front + value.to_bytes(3, "big")
+
+
+def random_texts(rng: random.Random, frames: np.ndarray) -> List[str]:
+    """The frames as texts, of which one in ten is no frame, or another writing of one."""
+    texts = [frame.tobytes().hex().upper() for frame in frames]
+    for place in rng.sample(range(len(texts)), len(texts) // 10):
+        text, at = texts[place], rng.randrange(28)
+        texts[place] = rng.choice([
+            text[:at] + rng.choice("gG/:@`{ \u00e9\u0663") + text[at + 1:], text[:at], text[:14], text[:27], text + "0",
+            f"*{text};", f"*{text}", f"{text};", f"*{text[:14]};", f"*{text}0;", text.lower(), f" {text[1:]}",
+            "", "*;", "*", ";",
+        ])
+    return texts
+
+
+def random_log(rng: random.Random, count: int) -> Tuple[List[int], List[str]]:
+    """Moments that go back now and then, and stand still, and frames."""
+    moment, moments = rng.choice([0, 10**6, 2**63 - 10**6, 2**64 - 10**9]), []
+    for _ in range(count):
+        moment += rng.choice([0, 1, 20, 300, 300])
+        moments.append(max(0, moment - rng.choice([0] * 12 + [1, 400, 90_000])))
+    return moments, random_texts(rng, random_frames(rng, count))
+
+
+def by_program(moments: Sequence[int], texts: Sequence[str], *words: str) -> bytes:
+    log = b"".join(b"%d %s\n" % (moment, squitter._text(text)) for moment, text in zip(moments, texts))
+    return subprocess.run([PROGRAM, "track", *words], input=log, stdout=subprocess.PIPE).stdout
+
+
+# ---- what is answered ----
+
+
+def single(call: Callable[..., Any], *arguments: Any) -> Any:
+    """What a call for one frame answers, or its fault."""
+    try:
+        return call(*arguments)
+    except Fault as fault:
+        return fault
+
+
+def fields(one: squitter.Fields) -> Tuple[int, ...]:
+    return tuple(int(getattr(one, name)) for name in batch.FIELDS.names or ())
+
+
+def numbers(place: Position) -> Tuple[int, ...]:
+    return place.lat.numerator, place.lat.denominator, place.lon.numerator, place.lon.denominator
+
+
+class Batch(unittest.TestCase):
+    def alike(self, many: Tuple[np.ndarray, np.ndarray], ones: Iterable[Any], plain: Callable[[Any], Any]) -> None:
+        """The answers of a call of arrays are those of single calls, and where there is none the record is all 0."""
+        nothing, ones = np.zeros((), many[0].dtype).item(), list(ones)
+        self.assertEqual((len(many[0]), len(many[1])), (len(ones), len(ones)))
+        for answer, fault, one in zip(many[0].tolist(), many[1].tolist(), ones):
+            if isinstance(one, Fault):
+                self.assertEqual((fault, answer), ((int(one.code), one.second, one.first), nothing))
+            else:
+                self.assertEqual((fault, answer), ((0, 0, 0), plain(one)))
+
+    def test_beside_single_calls(self) -> None:
+        rng = random.Random(20261124)
+        frames = random_frames(rng, COUNT)
+        read = batch.read(frames)
+        bytes_of = [frame.tobytes() for frame in frames]
+        self.alike(read, (single(squitter.read, one) for one in bytes_of), fields)
+        near = Position(Fraction(523, 10), Fraction(45, 10))
+        some = frames[:COUNT // 4]
+        ones = (single(squitter.local, one, near) for one in bytes_of[:len(some)])
+        self.alike(batch.local(some, near), ones, numbers)
+        older = some[np.random.default_rng(1).permutation(len(some))]
+        for site, many in ((None, batch.pair(older, some)), (SITE, batch.pair_at(older, some, SITE))):
+            ones = (single(squitter.pair, *(one.tobytes() for one in two), site) for two in zip(older, some))
+            self.alike(many, ones, numbers)
+        places, _ = batch.pair_at(older, some, SITE)
+        degrees = (squitter.position_e7(Position(Fraction(a, b), Fraction(c, d))) if b else Fault(Code.BAD_POSITION)
+                   for a, b, c, d in places.tolist())
+        self.alike(batch.position_e7(places), degrees, tuple)
+
+    def test_texts_beside_single_calls(self) -> None:
+        rng = random.Random(7)
+        texts = random_texts(rng, random_frames(rng, 5000))
+        others = rng.sample(texts, len(texts))
+        for of_texts in (list, lambda them: np.array(them, object), np.array, lambda them: np.array(them, "U90")):
+            self.alike(batch.read(of_texts(texts)), (single(squitter.read, one) for one in texts), fields)
+        for near in (SITE, NOWHERE):
+            self.alike(batch.local(texts, near), (single(squitter.local, one, near) for one in texts), numbers)
+            ones = (single(squitter.pair, *two, near) for two in zip(others, texts))
+            self.alike(batch.pair_at(others, texts, near), ones, numbers)
+        self.alike(batch.pair(others, texts), (single(squitter.pair, *two) for two in zip(others, texts)), numbers)
+
+    def test_bytes_of_each_width(self) -> None:
+        texts = [EVEN, f"*{EVEN};", EVEN[:14], EVEN.lower(), f"*{EVEN}0", "", f"x{EVEN};", EVEN + "00;"]
+        for width in (1, 14, 27, 28, 29, 30, 31, 64):
+            cut = np.array([text.encode() for text in texts], f"S{width}")
+            self.alike(batch.read(cut), (single(squitter.read, one.decode()) for one in cut.tolist()), fields)
+
+    def test_layouts(self) -> None:
+        kinds = {batch.FAULT: "_Fault", batch.FIELDS: "_Fields", batch.POSITION: "_Position", batch._HEARD: "_Heard",
+                 batch._DEGREES_E7: "_DegreesE7"}
+        for dtype, name in kinds.items():
+            self.assertEqual((list(flat(getattr(squitter, name))), ctypes.sizeof(getattr(squitter, name))), (
+                [(dtype.fields[one][1], dtype.fields[one][0].itemsize, one) for one in dtype.names], dtype.itemsize))
+
+    def test_doctests(self) -> None:
+        tried = doctest.testmod(batch)
+        self.assertEqual(tried.failed, 0)
+        self.assertGreater(tried.attempted, 5)
+
+
+def flat(kind: type, at: int = 0, before: str = "") -> Iterator[Tuple[int, int, str]]:
+    """The numbers of a C struct, where they lie, and how long they are."""
+    for name, part in kind._fields_:
+        here = at + getattr(kind, name).offset
+        name = "" if name == "position" else f"{before}{name}"
+        if issubclass(part, ctypes.Structure):
+            yield from flat(part, here, f"{name}_" if name else "")
+        else:
+            yield here, ctypes.sizeof(part), name
+
+
+class Track(unittest.TestCase):
+    def as_program(self, moments: Sequence[int], texts: Sequence[str], window: int, site: Any, limit: Any) -> bytes:
+        """The program's answers, which those of `track` are, of the whole log and of its pieces."""
+        words = [f"--window={window}", f"--limit={limit or ALL}"]
+        if site:
+            words += [f"--lat={squitter.angle_text(site.lat)}", f"--lon={squitter.angle_text(site.lon)}"]
+        answers = by_program(moments, texts, *words)
+        times = np.array(moments, np.uint64)
+        self.assertEqual(batch.lines(*batch.track(times, texts, window, site, limit)), answers)
+        tracker, rng, at, pieces = batch.Tracker(window, site, limit), random.Random(len(texts)), 0, b""
+        while at < len(texts):
+            to = at + rng.choice([0, 1, 2, 50, 3000])
+            pieces += batch.lines(*tracker.hear(times[at:to], texts[at:to]), first=at + 1)
+            tracker, at = pickle.loads(pickle.dumps(tracker)), to
+        self.assertEqual(pieces, answers)
+        return answers
+
+    def test_log_of_the_repository(self) -> None:
+        with open(os.path.join(TOP, "examples", "flights.log"), encoding="ascii") as log:
+            words, texts = zip(*(line.split() for line in log))
+        moments = list(map(int, words))
+        for site in (SITE, None):
+            answers = self.as_program(moments, texts, 10_000, site, 1000)
+            self.assertGreater(answers.count(b" fix "), 1500)
+        answers = by_program(moments, texts, "--lat=52.31", "--lon=4.76")
+        self.assertEqual(batch.lines(*batch.track(np.array(moments), np.array(texts, "S30"), site=SITE)), answers)
+
+    def test_random_logs(self) -> None:
+        rng, told = random.Random(5), b""
+        for window in (0, 300, 10_000, (1 << 64) - 1):
+            for limit in (None, 1, 20, 44, 1000):
+                moments, texts = random_log(rng, rng.choice([1, 30, 4000]))
+                told += self.as_program(moments, texts, window, rng.choice([SITE, None]), limit)
+        for word in (b" fix ", b" followed ", b" waiting ", b" split ", b" no site ", b" no position ", b"moment back",
+                     b"table full", b"parity", b"not DF17", b"wrapping", b"short frame", b"bad length", b"bad digit"):
+            self.assertIn(word, told)
+
+    def test_many_aircraft(self) -> None:
+        """More addresses than the block of a sort has places, each by its own bits."""
+        rng, place = random.Random(3), Position(52, 4)
+        addresses = [rng.randrange(ALL) for _ in range(3000)] + [0, 1, 0xFFFF, 0x10000, 0xFFFFFF]
+        frames = [squitter.encode(AirHead(one, odd=odd), place) for odd in (0, 1) for one in addresses]
+        texts = list(map(squitter.frame_text, frames))
+        for limit in (None, 1000, 3005):
+            answers = self.as_program(range(len(texts)), texts, 10_000, None, limit)
+            self.assertEqual(answers.count(b" fix "), 1000 if limit == 1000 else len(addresses))
+
+    def test_blocks(self) -> None:
+        """What is heard does not depend on how many lines are heard at once."""
+        moments, texts = random_log(random.Random(9), 3000)
+        whole, was = batch.track(moments, texts, site=SITE, limit=30), batch._BLOCK
+        try:
+            for batch._BLOCK in (1, 7, 1000):
+                for ours, theirs in zip(batch.track(moments, texts, site=SITE, limit=30), whole):
+                    np.testing.assert_array_equal(ours, theirs)
+        finally:
+            batch._BLOCK = was
+
+    def test_beside_contacts(self) -> None:
+        """The exact places are those that the library hears of one address."""
+        contact, moments = Contact(10_000), [0, 400, 800]
+        heard, _ = batch.track(moments, [ODD, EVEN, ODD])
+        ones = [contact.hear(moment, text) for moment, text in zip(moments, [ODD, EVEN, ODD])]
+        self.assertEqual(heard[1].tolist()[:4], PLACE)
+        places = [one.position for one in ones[1:]]
+        self.assertEqual(list(map(numbers, places)), [one[:4] for one in heard.tolist()[1:]])
+        self.assertEqual(list(map(squitter.position_e7, places)), heard[["lat_e7", "lon_e7"]].tolist()[1:])
+        self.assertEqual(heard["what"].tolist(), [What.WAITING, What.FIX, What.FIX])
+        self.assertEqual(heard["address"].tolist(), [0x40621D] * 3)
+        self.assertEqual(heard[0].tolist(), (0, 0, 0, 0, 0, 0, 0x40621D, What.WAITING, 0, 0))
+
+    def test_tracker(self) -> None:
+        tracker = batch.Tracker()
+        self.assertEqual(tracker.last, 0)
+        tracker.hear([7], [EVEN])
+        self.assertEqual(tracker.last, 7)
+        for wrong in ({"window": -1}, {"window": 1 << 64}, {"limit": 0}, {"limit": 1 << 32}):
+            with self.assertRaises(ValueError):
+                batch.Tracker(**wrong)
+        for wrong in ({"window": 1.0}, {"limit": 1.0}, {"site": (52.0, 4.0)}):
+            with self.assertRaises(TypeError):
+                batch.Tracker(**wrong)
+        with self.assertRaises(Fault):
+            batch.Tracker(site=NOWHERE)
+
+
+class Arrays(unittest.TestCase):
+    frames = np.frombuffer(bytes.fromhex(EVEN + ODD) * 3, np.uint8).reshape(-1, 14)
+
+    def refused(self, words: str, call: Callable[..., Any], *arguments: Any, **named: Any) -> None:
+        with self.assertRaisesRegex(ValueError, words):
+            call(*arguments, **named)
+
+    def test_frames(self) -> None:
+        fields, _ = batch.read(self.frames)
+        self.assertEqual(fields["odd"].tolist(), [0, 1] * 3)
+        wide = np.zeros((6, 20), np.uint8)
+        wide[:, 3:17] = self.frames
+        strided = np.repeat(self.frames, 2, axis=0)[::2]
+        backwards = self.frames[::-1].copy()[::-1]
+        aside = np.frombuffer(b"x" + self.frames.tobytes(), np.uint8)[1:].reshape(-1, 14)
+        row, texts = self.frames.tobytes(), np.array([EVEN, ODD] * 3)
+        for same in (wide[:, 3:17], strided, backwards, aside, np.asfortranarray(self.frames), row, bytearray(row),
+                     memoryview(row), self.frames.view("V14").reshape(-1), texts, texts.astype("S"),
+                     texts.astype(object), texts.astype(">U28"), np.repeat(texts.astype("S"), 2)[::2],
+                     texts.tolist(), tuple(texts.tolist())):
+            np.testing.assert_array_equal(batch.read(same)[0], fields)
+        for empty in (b"", [], (), np.zeros((0, 14), np.uint8), np.zeros(0, "S28"), np.zeros(0, object), bytearray()):
+            self.assertEqual([len(array) for array in batch.read(empty)], [0, 0])
+            self.assertEqual(len(batch.pair(empty, empty)[0]), 0)
+            self.assertEqual(len(batch.local(empty, SITE)[0]), 0)
+            self.assertEqual(len(batch.track([], empty)[0]), 0)
+
+    def test_wrong_frames(self) -> None:
+        frames = self.frames
+        for wrong in (EVEN, 5, None, frames[0], frames[:, :13], frames.astype(np.int64), frames.view(np.int8),
+                      frames.reshape(3, 2, 14), np.zeros((2, 2), "S28"), np.zeros(3), np.zeros(3, "V13"), b"x" * 15,
+                      np.zeros(3, "M8[s]"), [EVEN, b"x" * 14], [EVEN, None], [EVEN, float("nan")], [[0] * 14],
+                      np.array([EVEN, None]), memoryview(np.zeros(14, "u2")), np.zeros(2, batch.FIELDS)):
+            self.refused("frames", batch.read, wrong)
+            self.refused("older", batch.pair, wrong, self.frames)
+            self.refused("newer", batch.pair, self.frames, wrong)
+        self.refused("newer are 5, and older 6", batch.pair, self.frames, self.frames[:5])
+        self.refused(r"frames\[1\] is no str, but of type bytes", batch.read, [EVEN, b""])
+
+    def test_moments(self) -> None:
+        told = batch.lines(*batch.track([0, 1, 2, 3, 4, 5], self.frames))
+        for same in (range(6), tuple(range(6)), np.arange(6), np.arange(6, dtype=">i4"), np.arange(6, dtype="u1"),
+                     np.repeat(np.arange(6, dtype=">u8"), 2)[::2], np.arange(6)[::-1].copy()[::-1], list(np.arange(6))):
+            self.assertEqual(batch.lines(*batch.track(same, self.frames)), told)
+        last = [(1 << 64) - 1] * 6
+        for same in (last, np.array(last, np.uint64), np.array(last, ">u8")):
+            self.assertEqual(batch.lines(*batch.track(same, self.frames)), told)
+        for wrong in (np.arange(5), np.arange(6.0), -np.arange(6), np.arange(6).reshape(2, 3), [0] * 5 + [-1], 5, None,
+                      [0] * 5 + [1 << 64], [0] * 5 + [5.0], np.zeros(6, "M8[ms]"), np.zeros(6, bool), "012345"):
+            self.refused("moments", batch.track, wrong, self.frames)
+
+    def test_references(self) -> None:
+        near = batch.positions([520_000_000] * 6, np.full(6, 40_000_000, ">i8"))
+        places, _ = batch.local(self.frames, near)
+        self.assertEqual(places[0].tolist(), PLACE)
+        swapped = [("lat_num", ">i8"), ("lat_den", ">u8"), ("lon_num", ">i8"), ("lon_den", ">u8")]
+        other = np.zeros(6, [("name", "S3"), *swapped])
+        for name in batch.POSITION.names or ():
+            other[name] = near[name]
+        for same in (other, np.repeat(near, 2)[::2], Position(52, 4)):
+            np.testing.assert_array_equal(batch.local(self.frames, same)[0], places)
+        heard, _ = batch.track(range(6), self.frames)
+        degrees, faults = batch.position_e7(heard)
+        np.testing.assert_array_equal(degrees["lat_e7"], heard["lat_e7"])
+        self.assertEqual(faults["code"].tolist(), [Code.BAD_POSITION] + [0] * 5)
+        floats = np.zeros(6, [(name, float) for name in batch.POSITION.names or ()])
+        for wrong in (near[:5], near.reshape(2, 3), floats, np.zeros(6), [(52, 1, 4, 1)] * 6, (52, 4)):
+            self.refused("references", batch.local, self.frames, wrong)
+        for wrong in (([0.5], [1]), ([1], [1, 2]), ([[1]], [[1]]), ([1], [1 << 63]), (["1"], ["1"])):
+            self.refused("lat|lon", batch.positions, *wrong)
+        with self.assertRaises(TypeError):
+            batch.local(self.frames, Position(52.0, 4.0))
+
+    def test_given_arrays(self) -> None:
+        frames, near = self.frames, batch.positions([1] * 6, [2] * 6)
+        for dtype, call, given in (
+            (batch.FIELDS, batch.read, (frames,)), (batch.POSITION, batch.local, (frames, SITE)),
+            (batch.POSITION, batch.pair, (frames, frames)), (batch.POSITION, batch.pair_at, (frames, frames, SITE)),
+            (batch.DEGREES, batch.position_e7, (near,)), (batch.TRACKED, batch.track, (range(6), frames)),
+        ):
+            out, faults = np.zeros(6, dtype), np.zeros(6, batch.FAULT)
+            got = call(*given, out=out, faults=faults)
+            self.assertTrue(got[0] is out and got[1] is faults)
+            np.testing.assert_array_equal(call(*given)[0], out)
+            still = np.zeros(6, dtype)
+            still.flags.writeable = False
+            for words, wrong in (
+                ("another type", np.zeros(6)), ("another type", [0] * 6),
+                ("another type", np.zeros(6, dtype.newbyteorder(">"))), ("shape", np.zeros(5, dtype)),
+                ("shape", np.zeros((6, 1), dtype)), ("read-only", still),
+                ("not contiguous", np.zeros(12, dtype)[::2]), ("not contiguous", aside(dtype, 6)),
+            ):
+                self.refused(f"out .*{words}", call, *given, out=wrong)
+            self.refused("faults .*another type", call, *given, faults=out)
+            room = np.zeros(6 * 200, np.uint8)
+            ours, theirs = room[:6 * dtype.itemsize].view(dtype), room[:6 * 16].view(batch.FAULT)
+            self.refused("overlap", call, *given, out=ours, faults=theirs)
+        room = np.zeros(6 * 40, np.uint8)
+        room[:84] = self.frames.reshape(-1)
+        self.refused("overlap", batch.read, room[:84].reshape(6, 14), out=room.view(batch.FIELDS))
+
+    def test_left_as_it_was(self) -> None:
+        damaged = self.frames.copy()
+        damaged[2, 5] ^= 1
+        for dtype, call, given in ((batch.FIELDS, batch.read, ()), (batch.POSITION, batch.local, (SITE,)),
+                                   (batch.TRACKED, lambda frames, **rooms: batch.track(range(6), frames, **rooms), ())):
+            out = np.full(6 * dtype.itemsize, 0x55, np.uint8).view(dtype)
+            was = out[2].tobytes()
+            _, faults = call(damaged, *given, out=out)
+            self.assertEqual(faults["code"].tolist(), [0, 0, Code.PARITY, 0, 0, 0])
+            self.assertEqual(out[2].tobytes(), was)
+            self.assertNotEqual(out[3].tobytes(), was)
+
+
+def aside(dtype: np.dtype, count: int) -> np.ndarray:
+    """An array that is not aligned."""
+    return np.zeros(dtype.itemsize * count + 1, np.uint8)[1:].view(dtype)
+
+
+if __name__ == "__main__":
+    if len(sys.argv) > 1 and sys.argv[1].isdigit():
+        COUNT = int(sys.argv.pop(1))
+    unittest.main()
