@@ -1,0 +1,58 @@
+#!/bin/sh
+# pip.sh PYTHON: installs the package squitter by pip, from a copy of this tree and without the network, into a virtual environment, and
+# tries it there without what lies here: the library that came with it, the doctests, a log beside the program, and the types by mypy
+# where that is installed; and takes it away again. PROGRAM is the program. PYTHON needs pip, setuptools and wheel.
+set -eu
+python=$1
+clib=$(cd "$(dirname "$0")/.." && pwd)
+program=${PROGRAM:-$("$clib/../dist/program")}
+case $program in /*) ;; *) program=$PWD/$program ;; esac
+work=$(mktemp -d)
+trap 'rm -rf "$work"' EXIT
+unset PYTHONPATH LIBSQUITTER MAKEFLAGS MFLAGS MAKELEVEL DESTDIR PYTHONHOME PIP_TARGET PIP_PREFIX
+mkdir "$work/tree"
+(cd "$clib/.." && tar --exclude=out --exclude=build --exclude='libsquitter.*' --exclude=__pycache__ --exclude='*.egg-info' -cf - \
+  pyproject.toml setup.py clib dist crates.txt crates/*/src crates/*/specs crates/*/proofs) | tar -C "$work/tree" -xf -
+cp "$clib/libsquitter.map" "$work/tree/clib/"
+"$python" -m venv --system-site-packages --without-pip "$work/venv"
+own=$work/venv/bin/python
+"$own" -m pip -q install --no-index --no-build-isolation --no-deps --disable-pip-version-check "$work/tree" > "$work/said" 2>&1 || {
+  cat "$work/said"; exit 1; }
+rm -rf "$work/tree"
+
+cd "$work"
+cat > tried.py <<'PYTHON'
+import doctest
+import importlib.metadata
+import os
+import sys
+
+import squitter
+
+folder = os.path.dirname(squitter.__file__)
+assert folder.startswith(sys.prefix), folder
+assert squitter._lib._name == os.path.join(folder, "libsquitter.so.0"), squitter._lib._name
+assert os.path.exists(os.path.join(folder, "py.typed"))
+assert importlib.metadata.version("squitter") == squitter.version()
+modules = [squitter]
+try:
+    import squitter.batch
+    modules.append(squitter.batch)
+except ModuleNotFoundError as missing:
+    assert missing.name == "numpy", missing
+for module in modules:
+    tried = doctest.testmod(module)
+    assert tried.attempted and not tried.failed, (module, tried)
+PYTHON
+"$own" tried.py
+"$own" "$clib/examples/decode_log.py" "$clib/../examples/flights.log" > ours
+"$program" track < "$clib/../examples/flights.log" | cmp - ours
+
+if command -v mypy > /dev/null; then
+  printf 'import squitter\nfeet: str = squitter.read(b"").feet\nfeet2: int = squitter.read("").feet\n' > typed.py
+  mypy --strict --python-executable "$own" --cache-dir "$work/cache" typed.py > typed.log && exit 1
+  grep -q 'typed.py:2: error: .*"int", variable has type "str"' typed.log
+  test "$(grep -c error: typed.log)" = 1
+fi
+"$own" -m pip -q uninstall -y squitter
+test -z "$(find "$work/venv" -name '*squitter*')"
