@@ -16,6 +16,8 @@ layout is a ValueError that names it. While a call runs nobody else may write to
 >>> heard, faults = batch.track([0, 400], ["8D40621D58C386435CC412692AD6", "8D40621D58C382D690C8AC2863A7"])
 >>> batch.lines(heard, faults).decode().splitlines()
 ['1 waiting 40621D', '2 fix 40621D 52.2572021 3.9193726']
+>>> batch.csv_rows([0, 400], heard, faults).decode().splitlines()
+['1,0,waiting,40621D,,,,', '2,400,fix,40621D,52.2572021,3.9193726,,']
 >>> heard[["lat_e7", "lon_e7", "lat_num", "lat_den"]][1].tolist()
 (522572021, 39193726, 428091, 8192)
 """
@@ -25,7 +27,7 @@ from __future__ import annotations
 import ctypes
 import operator
 from collections import OrderedDict
-from typing import Any, Callable, Iterable, NamedTuple, Optional, Sequence, Tuple
+from typing import Any, Callable, Iterable, Iterator, NamedTuple, Optional, Sequence, Tuple
 
 import numpy as np
 import numpy.typing as npt
@@ -34,8 +36,8 @@ import squitter
 from squitter import Code, Kind, Position, What
 
 __all__ = [
-    "DEGREES", "FAULT", "FIELDS", "POSITION", "TRACKED", "Tracker", "lines", "local", "pair", "pair_at", "position_e7",
-    "positions", "read", "track",
+    "DEGREES", "FAULT", "FIELDS", "POSITION", "TRACKED", "Tracker", "csv_rows", "lines", "local", "pair", "pair_at",
+    "position_e7", "positions", "read", "track",
 ]
 
 Records = npt.NDArray[np.void]
@@ -579,66 +581,102 @@ _WORDS = np.array(["", "fix", "followed", "waiting", "split", "far", "no site", 
 def lines(heard: Records, faults: Records, first: int = 1) -> bytes:
     """The lines that `squitter track` prints of these answers, of which the first is that of the line of this number.
     An empty line, to which the program answers nothing, has no place in arrays."""
-    parts = []
-    for at in range(0, len(heard), 1 << 14):
-        some = slice(at, at + (1 << 14))
-        parts.append(_lines(heard[some], faults[some], first + at))
-    return b"".join(parts)
+    return b"".join(_lines(heard[some], faults[some], first + some.start) for some in _blocks(len(heard)))
+
+
+def csv_rows(moments: npt.ArrayLike, heard: Records, faults: Records, first: int = 1) -> bytes:
+    """The same as rows of CSV, with the moments: line,moment,answer,icao24,lat,lon,even,odd. What a line has not is
+    empty; what is there is spelled as `squitter track` spells it."""
+    times = _moments(moments, len(heard))
+    blocks = _blocks(len(heard))
+    return b"".join(_csv_rows(times[some], heard[some], faults[some], first + some.start) for some in blocks)
+
+
+def _blocks(count: int) -> Iterator[slice]:
+    """Places of so many, some at once, so that the characters of few lines are in memory."""
+    return (slice(at, at + (1 << 15)) for at in range(0, count, 1 << 15))
+
+
+Characters = npt.NDArray[np.uint8]
+"""A row of characters for each line, in which a 0 is none."""
 
 
 def _lines(heard: Records, faults: Records, first: int) -> bytes:
-    """The same: a row of characters for each line, in which a 0 is none."""
+    good, words = _words(heard, faults)
+    placed, split = good & (heard["what"] <= What.FOLLOWED), good & (heard["what"] == What.SPLIT)
+    space = _mark(" ")
+    return _joined(len(heard), [
+        _decimal(np.arange(first, first + len(heard))), space, words,
+        _if(good, space, _hexadecimal(heard["address"])),
+        _if(placed, space, _degrees(heard["lat_e7"]), space, _degrees(heard["lon_e7"])),
+        _if(split, space, _decimal(heard["even"]), space, _decimal(heard["odd"])), _mark("\n"),
+    ])
+
+
+def _csv_rows(times: npt.NDArray[np.uint64], heard: Records, faults: Records, first: int) -> bytes:
+    good, words = _words(heard, faults)
+    placed, split = good & (heard["what"] <= What.FOLLOWED), good & (heard["what"] == What.SPLIT)
+    comma = _mark(",")
+    return _joined(len(heard), [
+        _decimal(np.arange(first, first + len(heard))), comma, _decimal(times), comma, words, comma,
+        _if(good, _hexadecimal(heard["address"])), comma, _if(placed, _degrees(heard["lat_e7"])), comma,
+        _if(placed, _degrees(heard["lon_e7"])), comma, _if(split, _decimal(heard["even"])), comma,
+        _if(split, _decimal(heard["odd"])), _mark("\n"),
+    ])
+
+
+def _words(heard: Records, faults: Records) -> Tuple[npt.NDArray[np.bool_], Characters]:
+    """Which lines have an answer, and what each is: one of the seven, or the text of the fault."""
     good = faults["code"] == 0
-    words = np.where(good, _WORDS[np.where(good, heard["what"], 0)], b"")
+    words = _WORDS[np.where(good, heard["what"], 0)]
     bad = np.flatnonzero(~good)
     if len(bad):
         told = faults[bad].tolist()
         texts = np.array([squitter.fault_text(code, first, second) for code, second, first in told], "S")
         words = words.astype(np.promote_types(words.dtype, texts.dtype))
         words[bad] = texts
-    placed = good & (heard["what"] <= What.FOLLOWED)
-    split = good & (heard["what"] == What.SPLIT)
-    columns = [
-        _decimal(np.arange(first, first + len(heard), dtype=np.uint64)), _mark(" "),
-        words.view(np.uint8).reshape(len(heard), -1),
-        _if(good, _mark(" "), _hexadecimal(heard["address"])),
-        _if(placed, _mark(" "), _degrees(heard["lat_e7"]), _mark(" "), _degrees(heard["lon_e7"])),
-        _if(split, _mark(" "), _decimal(heard["even"]), _mark(" "), _decimal(heard["odd"])), _mark("\n"),
-    ]
-    rows = np.hstack([np.broadcast_to(column, (len(heard), column.shape[1])) for column in columns])
+    return good, words.view(np.uint8).reshape(len(heard), words.itemsize)
+
+
+def _joined(count: int, columns: Sequence[Characters]) -> bytes:
+    """The characters of all columns, line by line."""
+    rows = np.hstack([np.broadcast_to(column, (count, column.shape[1])) for column in columns])
     return bytes(rows[rows != 0])
 
 
-def _mark(character: str) -> npt.NDArray[np.uint8]:
+def _mark(character: str) -> Characters:
     """A character of each line."""
     return np.array([[ord(character)]], np.uint8)
 
 
-def _if(these: npt.NDArray[np.bool_], *columns: npt.NDArray[np.uint8]) -> npt.NDArray[np.uint8]:
+def _if(these: npt.NDArray[np.bool_], *columns: Characters) -> Characters:
     """Columns that these lines alone have."""
     rows = np.hstack([np.broadcast_to(column, (len(these), column.shape[1])) for column in columns])
     return np.where(these[:, np.newaxis], rows, np.uint8(0))
 
 
-def _decimal(values: npt.NDArray[Any], least: int = 1) -> npt.NDArray[np.uint8]:
+def _decimal(values: npt.NDArray[Any], least: int = 1) -> Characters:
     """Whole numbers in decimal, with so many digits at least."""
-    width = max(least, len(str(int(values.max(initial=0)))))
-    digits, rest = np.empty((len(values), width), np.uint8), values.copy()
+    most = int(values.max(initial=0))
+    width = max(least, len(str(most)))
+    digits = np.empty((width, len(values)), np.uint8)
+    rest = values.astype(np.uint32 if most < 1 << 32 else np.uint64)
     for place in range(width - 1, -1, -1):
-        rest, digit = np.divmod(rest, values.dtype.type(10))
-        digits[:, place] = digit + ord("0")
+        above = rest // rest.dtype.type(10)
+        digits[place] = rest - above * rest.dtype.type(10) + ord("0")
         if place < width - least:
-            digits[:, place] *= (rest != 0) | (digit != 0)
-    return digits
+            digits[place] *= rest != 0
+        rest = above
+    return digits.T
 
 
-def _hexadecimal(addresses: npt.NDArray[np.uint32]) -> npt.NDArray[np.uint8]:
+def _hexadecimal(addresses: npt.NDArray[np.uint32]) -> Characters:
     """Addresses in six hexadecimal digits."""
     digits = np.stack([addresses >> np.uint32(shift) & np.uint32(15) for shift in range(20, -1, -4)], axis=1)
     return np.where(digits < 10, digits + ord("0"), digits + ord("A") - 10).astype(np.uint8)
 
 
-def _degrees(angles: npt.NDArray[np.int64]) -> npt.NDArray[np.uint8]:
+def _degrees(angles: npt.NDArray[np.int64]) -> Characters:
     """Angles in degrees, with seven decimals."""
     whole, part = np.divmod(np.abs(angles), 10**7)
     sign = np.where(angles < 0, np.uint8(ord("-")), np.uint8(0))[:, np.newaxis]

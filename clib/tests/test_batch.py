@@ -193,7 +193,12 @@ class Track(unittest.TestCase):
             words += [f"--lat={squitter.angle_text(site.lat)}", f"--lon={squitter.angle_text(site.lon)}"]
         answers = by_program(moments, texts, *words)
         times = np.array(moments, np.uint64)
-        self.assertEqual(batch.lines(*batch.track(times, texts, window, site, limit)), answers)
+        heard, faults = batch.track(times, texts, window, site, limit)
+        self.assertEqual(batch.lines(heard, faults), answers)
+        rows = [row.split(",") for row in batch.csv_rows(times, heard, faults).decode().splitlines()]
+        self.assertEqual([row[1] for row in rows], list(map(str, moments)))
+        words = ([row[0], *filter(None, row[2:])] for row in rows)
+        self.assertEqual("".join(" ".join(line) + "\n" for line in words), answers.decode())
         tracker, rng, at, pieces = batch.Tracker(window, site, limit), random.Random(len(texts)), 0, b""
         while at < len(texts):
             to = at + rng.choice([0, 1, 2, 50, 3000])

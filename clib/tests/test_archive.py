@@ -1,0 +1,168 @@
+#!/usr/bin/env python3
+"""test_archive.py: examples/archive.py on four processes, of which one is killed in the run, beside one `squitter
+track` of the same lines: the answers have to be the same, byte for byte. The files are plain and compressed, with
+columns in two orders, rows that are damaged, and moments that go back within a file and from file to file. PROGRAM is
+the program. Needs NumPy and Dask."""
+import contextlib
+import gzip
+import io
+import os
+import random
+import runpy
+import signal
+import subprocess
+import sys
+import tempfile
+import time
+import unittest
+from typing import Iterator, List, Tuple
+
+HERE = os.path.dirname(os.path.abspath(__file__))
+TOP = os.path.join(HERE, "..", "..")
+sys.path.insert(0, os.path.join(HERE, ".."))
+import squitter  # noqa: E402
+from squitter import AirHead, GroundHead, Position  # noqa: E402
+
+PROGRAM = os.environ.get("PROGRAM") or os.path.join(TOP, "squitter")
+ARCHIVE = os.path.join(TOP, "examples", "archive.py")
+HOURS, LINES = 12, 6000
+ENVIRONMENT = dict(os.environ, PYTHONPATH=os.path.abspath(os.path.join(HERE, "..")))
+if "LIBSQUITTER" in ENVIRONMENT:
+    ENVIRONMENT["LIBSQUITTER"] = os.path.abspath(ENVIRONMENT["LIBSQUITTER"])
+SITE = ["--lat=52.1", "--lon=4.7"]
+
+
+def frames(rng: random.Random) -> List[str]:
+    """Frames of some aircraft in the air and on the ground, one in ten with a damaged bit."""
+    made = []
+    for _ in range(3000):
+        address, odd = rng.randint(1, 300) * 977, rng.randint(0, 1)
+        place = Position(squitter.angle(f"52.{address % 100}"), squitter.angle(f"4.{address % 90}"))
+        head = AirHead(address, odd=odd) if address % 3 else GroundHead(address, odd=odd)
+        frame = bytearray(squitter.encode(head, place))
+        frame[rng.randrange(14)] ^= (rng.random() < 0.1) << rng.randrange(8)
+        made.append(frame.hex())
+    return made
+
+
+def odd_rows(good: str) -> Iterator[Tuple[bytes, bytes]]:
+    """Rows of time, icao24 and rawmsg that are damaged or spelled otherwise, each with its line of the log."""
+    text = good.encode()
+    yield b"1.5,a,*%s;\r" % text, b"1500 *%s;" % text
+    yield b'"1.5","a","%s"' % text, b"1500 %s" % text
+    yield b" 1.5 ,a, %s ,more" % text, b"1500 %s" % text
+    yield b"1.9999999,,%s" % text.upper(), b"1999 %s" % text
+    yield b"1,a,%s" % text, b"1000 %s" % text
+    yield b"1.,a,%s" % text[:14], b"1000 %s" % text[:14]
+    yield b"2.0004,a,", b"2000 "
+    yield b"999999999999.999,a,8d", b"999999999999999 8d"
+    yield b"999999999999.9,a,%s" % (b"0" * 48), b"999999999999900 %s" % (b"0" * 48)
+    yield b"999999999999.9,a,%s" % (b"0" * 49), b"999999999999900 %s" % (b"0" * 49)
+    yield b"1,a,%s" % (b"8" * 100_000), b"1000 %s" % (b"8" * 100_000)
+    for wrong in (b"", b"x", b"-1", b"1e3", b"1.5.5", b"\xd9\xa3", b"1" * 80):
+        yield wrong + b",a," + text, wrong + b" " + text
+    yield b"1234567890123,a,%s" % text, b"- %s" % text  # too many seconds
+    yield b"3,a,\xff%s" % text[1:], b"3000 \xff%s" % text[1:]
+    yield b"3,a,\xc3\xa9%s" % text[1:], b"3000 \xc3\xa9%s" % text[1:]
+    yield b"3,a,%s\0" % text, b"3000 %s\0" % text
+    yield b"7", b"7000 "
+
+
+def archive(folder: str, rng: random.Random) -> Tuple[List[str], bytes]:
+    """Files of an archive, and the log that they are."""
+    paths, log, moment, made = [], [], 1_480_000_000_000, frames(rng)
+    for hour in range(HOURS):
+        rows = [] if hour % 3 == 1 else [b"time,icao24,rawmsg"] if hour % 3 else [b"rawmsg,x,Time"]
+        for number in range(LINES):
+            moment += rng.choice([0, 3, 40])
+            at = moment - (rng.choice([0] * 9 + [5, 70_000]) if number > 5 else 9000 * (hour % 2))
+            text = rng.choice(made).encode()
+            log.append(b"%d %s" % (at, text))
+            seconds = b"%d.%03d" % divmod(at, 1000)
+            rows.append(b"%s,%s,%s" % ((seconds, text[2:8], text) if hour % 3 else (text, b"", seconds)))
+        if hour % 3:
+            for row, line in odd_rows(made[0]):
+                rows += [row, b"", b"\r"]
+                log.append(line)
+        paths.append(f"{folder}/{hour:02}.csv{'.gz' if hour % 4 == 1 else ''}")
+        with (gzip.open if hour % 4 == 1 else open)(paths[-1], "wb") as file:
+            file.write(b"\n".join(rows))
+    return paths, b"\n".join(log) + b"\n"
+
+
+def answers(paths: List[str], folder: str) -> bytes:
+    """What the files of answers say, as `track` says it."""
+    said = []
+    for path in paths:
+        to = os.path.join(folder, os.path.basename(path))
+        with (gzip.open if path.endswith(".gz") else open)(to, "rb") as file:
+            rows = file.read().split(b"\n")
+        assert rows[0] == b"line,moment,answer,icao24,lat,lon,even,odd" and rows[-1] == b"", rows[0]
+        for row in rows[1:-1]:
+            line, _, *words = row.split(b",")
+            said.append(b" ".join([line, *filter(None, words)]) + b"\n")
+    return b"".join(said)
+
+
+def workers(parent: int) -> List[int]:
+    """The processes that work for this one."""
+    found = []
+    for name in filter(str.isdigit, os.listdir("/proc")):
+        try:
+            with open(f"/proc/{name}/stat", encoding="latin-1") as file:
+                of = int(file.read().rpartition(")")[2].split()[1])
+            with open(f"/proc/{name}/cmdline", "rb") as file:
+                works = b"spawn_main" in file.read()
+        except OSError:
+            continue
+        if of == parent and works:
+            found.append(int(name))
+    return found
+
+
+class Archive(unittest.TestCase):
+    def setUp(self) -> None:
+        self.folder = tempfile.TemporaryDirectory()
+        self.addCleanup(self.folder.cleanup)
+        self.paths, log = archive(self.folder.name, random.Random(11))
+        run = [PROGRAM, "track", "--limit=16777216", *SITE]
+        self.wanted = subprocess.run(run, input=log, stdout=subprocess.PIPE).stdout
+        for word in (b"fix", b"waiting", b"moment back", b"long line", b"bad moment", b"parity", b"bad digit"):
+            self.assertIn(b" %s" % word, self.wanted)
+
+    def started(self, *words: str) -> Tuple[subprocess.Popen, str]:
+        to = f"{self.folder.name}/answers{len(os.listdir(self.folder.name))}"
+        run = subprocess.Popen([sys.executable, ARCHIVE, *SITE, *words, to, *self.paths], env=ENVIRONMENT,
+                               stdout=subprocess.DEVNULL, stderr=subprocess.PIPE, text=True)
+        return run, to
+
+    def test_one_is_killed(self) -> None:
+        run, to = self.started("--workers=4", "--hours=3", "--parts=5")
+        while run.poll() is None and not (os.path.isdir(to) and os.listdir(to)):
+            time.sleep(0.01)
+        found = workers(run.pid)
+        self.assertEqual(len(found), 4)
+        os.kill(found[1], signal.SIGKILL)
+        self.assertLess(len(os.listdir(to)), HOURS)
+        _, said = run.communicate(timeout=300)
+        self.assertEqual(run.returncode, 0, said)
+        self.assertEqual(answers(self.paths, to), self.wanted)
+        self.assertEqual(len(os.listdir(to)), HOURS)
+
+    def test_one_process(self) -> None:
+        run, to = self.started("--workers=1", "--hours=5", "--parts=1")
+        _, said = run.communicate(timeout=300)
+        self.assertEqual(run.returncode, 0, said)
+        self.assertEqual(answers(self.paths, to), self.wanted)
+
+    def test_command_lines(self) -> None:
+        options_of = runpy.run_path(ARCHIVE)["options_of"]
+        for words in ("--lat=1 out a.csv", "--lat=91 --lon=0 out a.csv", "out x/a.csv y/a.csv", ". a.csv", "out",
+                      "--window=-1 out a.csv", "--lat=x --lon=0 out a.csv", "--parts=0 out a.csv"):
+            with self.assertRaises(SystemExit) as ended, contextlib.redirect_stderr(io.StringIO()) as said:
+                options_of(words.split())
+            self.assertEqual((ended.exception.code, "error: " in said.getvalue()), (2, True))
+
+
+if __name__ == "__main__":
+    unittest.main()

@@ -1,0 +1,276 @@
+#!/usr/bin/env python3
+"""archive.py [OPTIONS] FOLDER HOUR..: what `squitter track` says to an archive, by as many processes as there are.
+
+An archive is files of CSV, plain or compressed by gzip, in the order of their time, as one for each hour: rows of
+time, in seconds with any decimals, icao24 and rawmsg, or of the columns that a first row names. For each file FOLDER
+gets one of the same name with the answers, in order: CSV of line, moment, answer, icao24, lat, lon, even and odd,
+whose words and decimals are those of `squitter track`, and with --parquet a file of Parquet beside it (needs
+pyarrow), with the exact fractions too. The lines are numbered over the whole archive, rows of names left out. A file
+that is there is whole.
+
+Why it is right: what `track` answers to a line that it accepts depends on what it accepted of the same address
+before, and of no other (docs/THEOREMS.md, `one_address_alone`). So the lines are cut by address, and each part is
+heard by a tracker of its own. What this asks: that the lines of an address come to its part in the order of the
+archive, all of them, and no refused one. Other addresses count where a moment goes back: a line is refused if one
+before it, of whatever address, was later. That is the greatest moment of all frames before, which each file tells the
+next one. They count as well where the table is full, and here it never is: the answers are those of `squitter track
+--limit=16777216`.
+
+Dask (Debian's python3-dask and python3-distributed) runs it: on processes of this machine, or with --scheduler on a
+cluster that sees the same files. Some hours are read at once; the parts of each are heard one hour after the other,
+and what a part keeps, 192 bytes for an address, goes on to its next hour. If a process is lost, its tasks are run
+again: each depends on its arguments alone."""
+import argparse
+import copy
+import csv
+import gzip
+import os
+import re
+import sys
+from dataclasses import dataclass
+from fractions import Fraction
+from typing import Any, Iterator, List, Optional, Sequence, Tuple
+
+import numpy as np
+from dask.base import compute
+from dask.delayed import delayed
+from numpy.typing import NDArray
+
+import squitter
+from squitter import batch
+
+HEADER = b"line,moment,answer,icao24,lat,lon,even,odd\n"
+SECONDS = re.compile(r"([0-9]{1,12})(?:\.([0-9]*))?")
+
+
+@dataclass(frozen=True)
+class Hour:
+    """The lines of a file: what each is before others are looked at."""
+
+    moments: NDArray[np.uint64]  # in milliseconds, 0 where there is none
+    frames: NDArray[np.uint8]  # 14 bytes each, 0 where there is none
+    addresses: NDArray[np.uint32]  # 0 where the line is refused
+    faults: NDArray[np.void]  # why it is
+
+
+@dataclass(frozen=True)
+class Cut:
+    """An hour, cut by address: of each part the places of its lines."""
+
+    faults: NDArray[np.void]
+    parts: List[NDArray[np.intp]]
+
+
+# ---- reading ----
+
+
+def rows_of(path: str) -> Iterator[Tuple[str, str]]:
+    """The time and the frame of each row, as they are spelled; empty is what a row lacks. Each line is a row."""
+    time, frame = 0, 2
+    with (gzip.open if path.endswith(".gz") else open)(
+        path, "rt", encoding="utf-8", errors="surrogateescape", newline="\n"
+    ) as file:
+        for number, line in enumerate(file):
+            fields = [field.strip() for field in fields_of(line)]
+            names = [] if number else [field.lower() for field in fields]
+            if "rawmsg" in names and {"time", "mintime"} & set(names):
+                time = names.index("time" if "time" in names else "mintime")
+                frame = names.index("rawmsg")
+            elif any(fields):
+                fields += [""] * (max(time, frame) + 1 - len(fields))
+                yield fields[time], fields[frame]
+
+
+def fields_of(line: str) -> List[str]:
+    """The fields of a line, none where a quote in it has no end or is too long."""
+    try:
+        return next(csv.reader([line], strict=True)) if '"' in line else line.split(",")
+    except csv.Error:
+        return ["", "", line]
+
+
+def milliseconds(seconds: str) -> int:
+    """Seconds with decimals in whole milliseconds, rounded down: by digits, since a float has too few. -1 for none."""
+    parts = SECONDS.fullmatch(seconds)
+    return int(parts[1]) * 1000 + int((parts[2] or "").ljust(3, "0")[:3]) if parts else -1
+
+
+def read_hour(path: str) -> Hour:
+    """The lines of a file. As `track` reads it, a line is a moment, a space and a frame, and at most 64 bytes."""
+    rows = list(rows_of(path))
+    texts = [text for _, text in rows]
+    moments = np.fromiter((milliseconds(time) for time, _ in rows), np.int64, len(rows))
+    fields, faults = batch.read(texts)
+    faults[moments < 0] = squitter.Code.BAD_MOMENT, 0, 0
+    for place, (time, text) in enumerate(rows):
+        if len(time) + len(text) > 48 or not (time + text).isascii():
+            line = f"{time if moments[place] < 0 else moments[place]} {text}"
+            if len(line.encode("utf-8", "surrogateescape")) > 64:
+                faults[place] = squitter.Code.LONG_LINE, 0, 0
+    good = np.flatnonzero(faults["code"] == 0)
+    addresses, frames = np.zeros(len(rows), np.uint32), np.zeros((len(rows), 14), np.uint8)
+    addresses[good] = fields["address"][good]
+    digits = "".join(texts[place].strip("*;") for place in good.tolist())
+    frames[good] = np.frombuffer(bytes.fromhex(digits), np.uint8).reshape(-1, 14) if digits else 0
+    return Hour(np.maximum(moments, 0).astype(np.uint64), frames, addresses, faults)
+
+
+# ---- hearing ----
+
+
+@dataclass(frozen=True)
+class Before:
+    """What an hour has to know of those before it: the last moment that was heard, and how many lines there were."""
+
+    last: int
+    lines: int
+
+
+def following(before: Before, hour: Hour) -> Before:
+    """The same for the next hour."""
+    heard = hour.moments[hour.faults["code"] == 0]
+    return Before(max(before.last, int(heard.max(initial=0))), before.lines + len(hour.moments))
+
+
+def cut(hour: Hour, before: Before, parts: int) -> Cut:
+    """The hour, cut by address into so many parts, without the lines that are refused."""
+    faults, good = hour.faults.copy(), hour.faults["code"] == 0
+    latest = np.maximum.accumulate(np.append(np.uint64(before.last), np.where(good, hour.moments, np.uint64(0))))[:-1]
+    back = np.flatnonzero(good & (hour.moments < latest))
+    faults["code"][back], faults["first"][back] = squitter.Code.MOMENT_BACK, latest[back]
+    accepted = np.flatnonzero(faults["code"] == 0)
+    part_of = hour.addresses[accepted] % np.uint32(parts)
+    return Cut(faults, [accepted[part_of == part] for part in range(parts)])
+
+
+def piece(hour: Hour, cut_hour: Cut, part: int) -> Tuple[NDArray[np.uint64], NDArray[np.uint8]]:
+    """What goes to a part: the moments and frames of its lines."""
+    places = cut_hour.parts[part]
+    return hour.moments[places], hour.frames[places]
+
+
+def hear(
+    tracker: batch.Tracker, lines: Tuple[NDArray[np.uint64], NDArray[np.uint8]]
+) -> Tuple[batch.Tracker, NDArray[np.void]]:
+    """The tracker of a part after these lines, and what it heard. The one that is given stays: a task may run again."""
+    after = copy.deepcopy(tracker)
+    heard, faults = after.hear(*lines)
+    if faults["code"].any():
+        raise RuntimeError("a line that was accepted is refused")
+    return after, heard
+
+
+# ---- writing ----
+
+
+def write(
+    path: str, hour: Hour, before: Before, cut_hour: Cut, heard: Sequence[NDArray[np.void]], parquet: bool
+) -> int:
+    """Writes the answers of an hour, and answers how many there are."""
+    answers = np.zeros(len(hour.moments), batch.TRACKED)
+    for places, told in zip(cut_hour.parts, heard):
+        answers[places] = told
+    with open(f"{path}.part", "wb") as plain:
+        # (without a name and a time in it, so that a task that runs again writes the same bytes)
+        with gzip.GzipFile("", "wb", 6, plain, 0) if path.endswith(".gz") else plain as file:
+            file.write(HEADER + batch.csv_rows(hour.moments, answers, cut_hour.faults, before.lines + 1))
+    os.replace(f"{path}.part", path)
+    if parquet:
+        write_parquet(f"{path}.parquet", hour.moments, answers, cut_hour.faults)
+    return len(answers)
+
+
+def write_parquet(path: str, moments: NDArray[np.uint64], answers: NDArray[np.void], faults: NDArray[np.void]) -> None:
+    """The same as a table of numbers: the moments, the fields of TRACKED, and those of FAULT after `fault_`."""
+    import pyarrow
+    import pyarrow.parquet
+
+    columns = {"moment": moments, **{name: answers[name] for name in answers.dtype.names or ()}}
+    columns.update({f"fault_{name}": faults[name] for name in faults.dtype.names or ()})
+    table = pyarrow.table({name: np.ascontiguousarray(column) for name, column in columns.items()})
+    pyarrow.parquet.write_table(table, f"{path}.part")
+    os.replace(f"{path}.part", path)
+
+
+# ---- the tasks ----
+
+
+def run(paths: Sequence[str], folder: str, options: argparse.Namespace) -> int:
+    """Hears the archive, some hours at once, and answers how many lines it has."""
+    trackers: List[Any] = [batch.Tracker(options.window, site_of(options), None) for _ in range(options.parts)]
+    before = Before(0, 0)
+    for at in range(0, len(paths), options.hours):
+        before, trackers = hours(paths[at:at + options.hours], folder, before, trackers, options.parquet)
+    return before.lines
+
+
+def hours(
+    paths: Sequence[str], folder: str, before: Any, trackers: List[Any], parquet: bool
+) -> Tuple[Before, List[Any]]:
+    """Hears these hours: what is known after them, and the trackers of the parts."""
+    written = []
+    for path in paths:
+        hour = delayed(read_hour)(path)
+        pieces = delayed(cut)(hour, before, len(trackers))
+        heard = []
+        for part, tracker in enumerate(trackers):
+            told = delayed(hear, nout=2)(tracker, delayed(piece)(hour, pieces, part))
+            trackers = [*trackers[:part], told[0], *trackers[part + 1:]]
+            heard.append(told[1])
+        to = os.path.join(folder, os.path.basename(path))
+        written.append(delayed(write)(to, hour, before, pieces, heard, parquet))
+        before = delayed(following)(before, hour)
+    _, after, kept = compute(written, before, trackers)
+    return after, kept
+
+
+def options_of(words: Optional[Sequence[str]] = None) -> argparse.Namespace:
+    """The command line."""
+    parser = argparse.ArgumentParser(description="what `squitter track` says to an archive of CSV, by many processes")
+    parser.add_argument("folder", help="where the answers go")
+    parser.add_argument("files", nargs="+", help="files of CSV in the order of their time, plain or .gz")
+    parser.add_argument("--lat", type=Fraction, help="the site's latitude in degrees, for aircraft on the ground")
+    parser.add_argument("--lon", type=Fraction, help="the site's longitude in degrees")
+    parser.add_argument("--window", type=int, default=10_000, help="as that of `track`, in milliseconds")
+    parser.add_argument("--workers", type=int, default=os.cpu_count() or 1, help="processes on this machine")
+    parser.add_argument("--scheduler", help="the address of a scheduler of Dask, in the place of these")
+    parser.add_argument("--parts", type=int, help="parts into which addresses are cut (2 for each process)")
+    parser.add_argument("--hours", type=int, help="files that are in memory at once (2 for each process)")
+    parser.add_argument("--parquet", action="store_true", help="write files of Parquet too")
+    options = parser.parse_args(words)
+    if (options.lat is None) != (options.lon is None):
+        parser.error("a site is --lat and --lon")
+    if any(number is not None and number < 1 for number in (options.workers, options.parts, options.hours)):
+        parser.error("workers, parts and hours are numbers from 1")
+    names = [os.path.basename(path) for path in options.files]
+    if len(set(names)) < len(names):
+        parser.error("two files have one name")
+    if os.path.realpath(options.folder) in {os.path.realpath(os.path.dirname(path) or ".") for path in options.files}:
+        parser.error("the answers would take the place of the files: another folder is wanted")
+    try:
+        batch.Tracker(options.window, site_of(options), None)
+    except ValueError as fault:
+        parser.error(str(fault))
+    return options
+
+
+def site_of(options: argparse.Namespace) -> Optional[squitter.Position]:
+    return None if options.lat is None else squitter.Position(options.lat, options.lon)
+
+
+def main() -> None:
+    from distributed import Client, LocalCluster
+
+    options = options_of()
+    os.makedirs(options.folder, exist_ok=True)
+    where = options.scheduler or LocalCluster(
+        n_workers=options.workers, threads_per_worker=1, processes=True, dashboard_address=None)
+    with Client(where) as client:
+        count = len(client.scheduler_info()["workers"]) or 1
+        options.parts, options.hours = options.parts or 2 * count, options.hours or 2 * count
+        lines = run(options.files, options.folder, options)
+    print(f"{lines} lines of {len(options.files)} files", file=sys.stderr)
+
+
+if __name__ == "__main__":
+    main()
