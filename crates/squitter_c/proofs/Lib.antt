@@ -3,3 +3,4 @@ pub mod Entries
 pub mod Steps
 pub mod OneAnswers
 pub mod OnePlaces
+pub mod OneFrames

@@ -5,6 +5,8 @@ use Rattle.squitter_c.specs.declared.altitudes.PlainAltitude.{PlainAltitude}
 use Rattle.squitter_c.specs.declared.e7.DegreesE7.{DegreesE7}
 use Rattle.squitter_c.specs.declared.faults.Fault.{Fault}
 use Rattle.squitter_c.specs.declared.fields.PlainSquitter.{PlainSquitter}
+use Rattle.squitter_c.specs.declared.heads.PlainAirHead.{PlainAirHead}
+use Rattle.squitter_c.specs.declared.heads.PlainGroundHead.{PlainGroundHead}
 use Rattle.squitter_c.specs.declared.plain.PlainAngle.{PlainAngle}
 use Rattle.squitter_c.specs.declared.plain.PlainPosition.{PlainPosition}
 use Rattle.squitter_c.specs.declared.zones.PlainZones.{PlainZones}
@@ -12,6 +14,7 @@ use Rattle.squitter_c.specs.Altitudes.{IsFeetOfField, IsFieldWritten}
 use Rattle.squitter_c.specs.Angles.{IsAngleRead, IsZoneCount}
 use Rattle.squitter_c.specs.Decoding.{IsLocal, IsPair, IsPairAt}
 use Rattle.squitter_c.specs.E7.{IsAngleE7, IsPositionE7}
+use Rattle.squitter_c.specs.Sending.{IsAirSent, IsGroundSent}
 use Rattle.squitter_c.specs.Reading.{IsFrameOfText, IsFrameRead, IsTextRead}
 use Rattle.squitter_c.specs.Zones.{AreLocalZones}
 
@@ -53,3 +56,12 @@ pub record OneNumber : Type 0 where
       → (new ≡ other) × (fault ≡ why)
   pub field : (feet : ℤ) (old new other : ℕ) (fault why : Fault)
       → IsFieldWritten feet old new fault → IsFieldWritten feet old other why → (new ≡ other) × (fault ≡ why)
+
+-- of what is sent
+pub record OneSent : Type 0 where
+  pub air : (head : PlainAirHead) (position : PlainPosition) (old new other : List ℕ) (fault why : Fault)
+      → IsAirSent head position old new fault → IsAirSent head position old other why
+      → (new ≡ other) × (fault ≡ why)
+  pub surface : (head : PlainGroundHead) (position : PlainPosition) (old new other : List ℕ) (fault why : Fault)
+      → IsGroundSent head position old new fault → IsGroundSent head position old other why
+      → (new ≡ other) × (fault ≡ why)

@@ -1,6 +1,6 @@
 //! Laws of the codes of faults, of their texts, of entries and of many calls in one, over the definitions alone.
 ghost use Rattle.std.specs.Prelude.{◌≡◌, ◌↔◌, ◌+◌, ◌<◌, ◌≤◌, ℕ, List, length, slice_index_or};
-ghost use Rattle.squitter_c.specs.OneAnswers.{OneNumber, OnePlace, OneReading};
+ghost use Rattle.squitter_c.specs.OneAnswers.{OneNumber, OnePlace, OneReading, OneSent};
 ghost use Rattle.squitter_c.specs.Many.{AreAnswered, IsBelow, Leads};
 ghost use Rattle.squitter_c.specs.Faults.{NoCodeIsZero, OneCode, OneReason};
 ghost use Rattle.squitter_c.specs.Texts.{EachText};
@@ -86,4 +86,9 @@ pub fn one_place()
 /// So have an angle, its zone count, its ten-millionths, an altitude field and feet.
 pub fn one_number()
     ensures { OneNumber }
+{}
+
+/// So have a head and a position that are sent in the air or on the ground.
+pub fn one_frame_sent()
+    ensures { OneSent }
 {}

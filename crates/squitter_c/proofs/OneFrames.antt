@@ -1,0 +1,211 @@
+-- What is sent is one frame, or has one fault.
+use Rattle.std.proofs.Common.{◌≡◌, ◌∙◌, ◌<◌, ◌⊎◌, ℕ, Bool, true, false, Result, Ok, Err, inl, inr, arith, ap, refl, sym, subst}
+use Rattle.sq_angle.specs.declared.position.Position.{Position}
+use Rattle.sq_bits.specs.declared.frame.Frame.{Frame}
+use Rattle.sq_zones.specs.declared.parity.Parity.{Parity}
+use Rattle.sq_zones.specs.declared.parity.Parity.TheVariants.{Even, Odd}
+use Rattle.sq_cpr.specs.Grid.{Point}
+use Rattle.sq_cpr.proofs.Grids.Points.{rounds_once}
+use Rattle.sq_message.specs.declared.air_head.AirHead.{AirHead}
+use Rattle.sq_message.specs.declared.ground_head.GroundHead.{GroundHead}
+use Rattle.sq_message.specs.Heads.{AirHeadParts, GroundHeadParts, air_head_parts, ground_head_parts}
+use Rattle.sq_message.specs.Parts.{squitter_parts}
+use Rattle.sq_message.specs.Sending.{IsAirSquitter, IsGroundSquitter, IsSentInAir, IsSentOnGround}
+use Rattle.sq_message.specs.Spelling.{Spells, bit}
+use Rattle.sq_message.specs.TypeCodes.{IsAirCode, IsGroundCode}
+use Rattle.sq_message.proofs.One.{one_frame}
+use Rattle.sq_message.proofs.Same.{same_air_fields, same_bit, same_ground_fields, same_parity}
+use Rattle.sq_message.proofs.SameZones.{same_sent_in_air, same_sent_on_ground}
+use Rattle.squitter_c.specs.declared.faults.Refusal.{Refusal}
+use Rattle.squitter_c.specs.declared.faults.Refusal.TheVariants as refusals
+use Rattle.squitter_c.specs.declared.heads.PlainAirHead.{PlainAirHead}
+use Rattle.squitter_c.specs.declared.heads.PlainGroundHead.{PlainGroundHead}
+use Rattle.squitter_c.specs.declared.plain.PlainPosition.{PlainPosition}
+use Rattle.squitter_c.specs.Faults.{as_it_is}
+use Rattle.squitter_c.specs.Heads.{IsAirHead, IsGroundHead, PlainIsAirHead, PlainIsGroundHead}
+use Rattle.squitter_c.specs.OneAnswers.{OneSent}
+use Rattle.squitter_c.specs.Plain.{IsFlag, IsOfDegrees, IsParity, PlainIsPosition}
+use Rattle.squitter_c.specs.Reading.{AreBytesOf}
+use Rattle.squitter_c.specs.Sending.{IsAirAnswer, IsGroundAnswer}
+use Rattle.squitter_c.proofs.Entries.{is_position, one_of_degrees}
+use Rattle.squitter_c.proofs.OneAnswers.{one_telling}
+
+-- ---- one frame of a head, a parity and a position
+
+one_sent_in_air : (head : AirHeadParts) (parity : Parity) (x : Position) (p q : Point) (f g : Frame)
+    → IsSentInAir head parity x p f → IsSentInAir head parity x q g → f ≡ g
+one_sent_in_air head parity x p q f g h k =
+    let point = rounds_once 360 1 _ _ p q (h.of_parity ∙ sym k.of_parity) h.rounds k.rounds in
+    let squitter = same_sent_in_air head p h.squitter k.squitter h.sent
+    (subst (λ t. IsAirSquitter head t (squitter_parts k.squitter)) (sym point) k.sent) in
+    one_frame f g h.squitter h.is_frame k.is_frame h.spelled (subst (λ s. Spells g s) (sym squitter) k.spelled)
+
+one_sent_on_ground : (head : GroundHeadParts) (parity : Parity) (x : Position) (p q : Point) (f g : Frame)
+    → IsSentOnGround head parity x p f → IsSentOnGround head parity x q g → f ≡ g
+one_sent_on_ground head parity x p q f g h k =
+    let point = rounds_once 90 4 _ _ p q (h.of_parity ∙ sym k.of_parity) h.rounds k.rounds in
+    let squitter = same_sent_on_ground head p h.squitter k.squitter h.sent
+    (subst (λ t. IsGroundSquitter head t (squitter_parts k.squitter)) (sym point) k.sent) in
+    one_frame f g h.squitter h.is_frame k.is_frame h.spelled (subst (λ s. Spells g s) (sym squitter) k.spelled)
+
+-- ---- heads
+
+one_air_head : (plain : PlainAirHead) (a b : AirHead) → IsAirHead plain a → IsAirHead plain b
+    → air_head_parts a ≡ air_head_parts b
+one_air_head plain a b h k =
+    let ca = h.ca ∙ sym k.ca in
+    let address = h.address ∙ sym k.address in
+    let fields = same_air_fields a.fields b.fields (h.type_code ∙ sym k.type_code) (h.status ∙ sym k.status)
+    (same_bit a.fields.flag b.fields.flag (h.flag ∙ sym k.flag)) (h.altitude ∙ sym k.altitude)
+    (same_bit a.fields.time b.fields.time (h.time ∙ sym k.time)) in
+    λ i. record { ca = ca i; address = address i; fields = fields i }
+
+one_ground_head : (plain : PlainGroundHead) (a b : GroundHead) → IsGroundHead plain a → IsGroundHead plain b
+    → ground_head_parts a ≡ ground_head_parts b
+one_ground_head plain a b h k =
+    let ca = h.ca ∙ sym k.ca in
+    let address = h.address ∙ sym k.address in
+    let fields = same_ground_fields a.fields b.fields (h.type_code ∙ sym k.type_code) (h.movement ∙ sym k.movement)
+    (same_bit a.fields.track_status b.fields.track_status (h.track_status ∙ sym k.track_status))
+    (h.track ∙ sym k.track) (same_bit a.fields.time b.fields.time (h.time ∙ sym k.time)) in
+    λ i. record { ca = ca i; address = address i; fields = fields i }
+
+bit_is_flag : (b : Bool) → bit b < 2
+bit_is_flag true = omega arith
+bit_is_flag false = omega arith
+
+parity_is_flag : (n : ℕ) (p : Parity) → IsParity n p → IsFlag n
+parity_is_flag n Even e = omega (arith, e)
+parity_is_flag n Odd e = omega (arith, e)
+
+is_air_head : (plain : PlainAirHead) (a : AirHead) → IsAirHead plain a → PlainIsAirHead plain
+is_air_head plain a h = record {
+  address = omega (arith, h.address, a.address_in);
+  ca = omega (arith, h.ca, a.ca_in);
+  type_code = subst IsAirCode h.type_code a.fields.type_code_in;
+  status = omega (arith, h.status, a.fields.status_in);
+  altitude = omega (arith, h.altitude, a.fields.altitude_in);
+  flag = subst IsFlag h.flag (bit_is_flag a.fields.flag);
+  time = subst IsFlag h.time (bit_is_flag a.fields.time);
+}
+
+is_ground_head : (plain : PlainGroundHead) (a : GroundHead) → IsGroundHead plain a → PlainIsGroundHead plain
+is_ground_head plain a h = record {
+  address = omega (arith, h.address, a.address_in);
+  ca = omega (arith, h.ca, a.ca_in);
+  type_code = subst IsGroundCode h.type_code a.fields.type_code_in;
+  movement = omega (arith, h.movement, a.fields.movement_in);
+  track = omega (arith, h.track, a.fields.track_in);
+  track_status = subst IsFlag h.track_status (bit_is_flag a.fields.track_status);
+  time = subst IsFlag h.time (bit_is_flag a.fields.time);
+}
+
+-- ---- what is answered for a head and a position: one frame, or the first fault
+
+module _ (Head : Type 0) (plain : PlainPosition) (Sent : Frame → Type 0)
+    (one : (f g : Frame) → Sent f → Sent g → f ≡ g) where
+  -- the head is looked at first, then the position
+  abbrev Told : Result Frame Refusal → Type 0
+  Told answer = ((¬ Head) × (answer ≡ Err refusals.NoHead))
+      ⊎ (Head × (((¬ (PlainIsPosition plain)) × (answer ≡ Err refusals.NoPosition))
+      ⊎ (PlainIsPosition plain × ((f : Frame) × Sent f × (answer ≡ Ok f)))))
+
+  one_told : (r s : Result Frame Refusal) → Told r → Told s → r ≡ s
+  one_told r s (inl h) (inl k) = h.1 ∙ sym k.1
+  one_told r s (inl h) (inr k) = absurd (h.0 k.0)
+  one_told r s (inr h) (inl k) = absurd (k.0 h.0)
+  one_told r s (inr (a, inl h)) (inr (b, inl k)) = h.1 ∙ sym k.1
+  one_told r s (inr (a, inl h)) (inr (b, inr k)) = absurd (h.0 k.0)
+  one_told r s (inr (a, inr h)) (inr (b, inl k)) = absurd (k.0 h.0)
+  one_told r s (inr (a, inr (_, (f, h, r_is)))) (inr (b, inr (_, (g, k, s_is)))) = r_is ∙ ap Ok (one f g h k) ∙ sym s_is
+
+-- a frame is sent in the air of what these stand for
+abbrev SentInAir : PlainAirHead → PlainPosition → Frame → Type 0
+SentInAir plain place frame = (head : AirHead) × IsAirHead plain head
+    × ((parity : Parity) × IsParity plain.odd parity
+    × ((position : Position) × IsOfDegrees place position
+    × ((point : Point) × IsSentInAir (air_head_parts head) parity position point frame)))
+
+one_in_air : (plain : PlainAirHead) (place : PlainPosition) (f g : Frame) → SentInAir plain place f
+    → SentInAir plain place g → f ≡ g
+one_in_air plain place f g (a, a_is, (p, p_is, (x, x_is, (m, h)))) (b, b_is, (q, q_is, (y, y_is, (n, k)))) =
+    let head = one_air_head plain a b a_is b_is in
+    let parity = same_parity p q (sym p_is ∙ q_is) in
+    let position = one_of_degrees place x y x_is y_is in
+    one_sent_in_air (air_head_parts a) p x m n f g h
+    (subst (λ t. IsSentInAir t p x n g) (sym head)
+    (subst (λ t. IsSentInAir (air_head_parts b) t x n g) (sym parity)
+    (subst (λ t. IsSentInAir (air_head_parts b) q t n g) (sym position) k)))
+
+told_in_air : (plain : PlainAirHead) (place : PlainPosition) (r : Result Frame Refusal) → IsAirAnswer plain place r
+    → Told (PlainIsAirHead plain × IsFlag plain.odd) place (SentInAir plain place) (one_in_air plain place) r
+unfolding IsAirAnswer
+told_in_air plain place (Ok f) (a, a_is, (p, p_is, (x, x_is, sent))) =
+    inr (
+      (is_air_head plain a a_is, parity_is_flag plain.odd p p_is),
+      inr (is_position place x x_is, (f, (a, a_is, (p, p_is, (x, x_is, sent))), refl)),
+    )
+told_in_air plain place (Err refusals.NoHead) h = inl (h, refl)
+told_in_air plain place (Err refusals.NoPosition) h = inr ((h.0, h.1), inl (h.2, refl))
+told_in_air plain place (Err (refusals.Line fault)) h = absurd h
+told_in_air plain place (Err (refusals.Place fault)) h = absurd h
+told_in_air plain place (Err (refusals.Angle fault)) h = absurd h
+told_in_air plain place (Err refusals.NoAngle) h = absurd h
+told_in_air plain place (Err refusals.NoLatitude) h = absurd h
+told_in_air plain place (Err refusals.NoFeet) h = absurd h
+told_in_air plain place (Err refusals.NoParity) h = absurd h
+
+one_air_answer : (plain : PlainAirHead) (place : PlainPosition) (r s : Result Frame Refusal)
+    → IsAirAnswer plain place r → IsAirAnswer plain place s → r ≡ s
+one_air_answer plain place r s h k =
+    one_told (PlainIsAirHead plain × IsFlag plain.odd) place (SentInAir plain place) (one_in_air plain place) r s
+    (told_in_air plain place r h) (told_in_air plain place s k)
+
+-- the same on the ground
+abbrev SentOnGround : PlainGroundHead → PlainPosition → Frame → Type 0
+SentOnGround plain place frame = (head : GroundHead) × IsGroundHead plain head
+    × ((parity : Parity) × IsParity plain.odd parity
+    × ((position : Position) × IsOfDegrees place position
+    × ((point : Point) × IsSentOnGround (ground_head_parts head) parity position point frame)))
+
+one_on_ground : (plain : PlainGroundHead) (place : PlainPosition) (f g : Frame) → SentOnGround plain place f
+    → SentOnGround plain place g → f ≡ g
+one_on_ground plain place f g (a, a_is, (p, p_is, (x, x_is, (m, h)))) (b, b_is, (q, q_is, (y, y_is, (n, k)))) =
+    let head = one_ground_head plain a b a_is b_is in
+    let parity = same_parity p q (sym p_is ∙ q_is) in
+    let position = one_of_degrees place x y x_is y_is in
+    one_sent_on_ground (ground_head_parts a) p x m n f g h
+    (subst (λ t. IsSentOnGround t p x n g) (sym head)
+    (subst (λ t. IsSentOnGround (ground_head_parts b) t x n g) (sym parity)
+    (subst (λ t. IsSentOnGround (ground_head_parts b) q t n g) (sym position) k)))
+
+told_on_ground : (plain : PlainGroundHead) (place : PlainPosition) (r : Result Frame Refusal)
+    → IsGroundAnswer plain place r
+    → Told (PlainIsGroundHead plain × IsFlag plain.odd) place (SentOnGround plain place) (one_on_ground plain place) r
+unfolding IsGroundAnswer
+told_on_ground plain place (Ok f) (a, a_is, (p, p_is, (x, x_is, sent))) =
+    inr (
+      (is_ground_head plain a a_is, parity_is_flag plain.odd p p_is),
+      inr (is_position place x x_is, (f, (a, a_is, (p, p_is, (x, x_is, sent))), refl)),
+    )
+told_on_ground plain place (Err refusals.NoHead) h = inl (h, refl)
+told_on_ground plain place (Err refusals.NoPosition) h = inr ((h.0, h.1), inl (h.2, refl))
+told_on_ground plain place (Err (refusals.Line fault)) h = absurd h
+told_on_ground plain place (Err (refusals.Place fault)) h = absurd h
+told_on_ground plain place (Err (refusals.Angle fault)) h = absurd h
+told_on_ground plain place (Err refusals.NoAngle) h = absurd h
+told_on_ground plain place (Err refusals.NoLatitude) h = absurd h
+told_on_ground plain place (Err refusals.NoFeet) h = absurd h
+told_on_ground plain place (Err refusals.NoParity) h = absurd h
+
+one_ground_answer : (plain : PlainGroundHead) (place : PlainPosition) (r s : Result Frame Refusal)
+    → IsGroundAnswer plain place r → IsGroundAnswer plain place s → r ≡ s
+one_ground_answer plain place r s h k =
+    one_told (PlainIsGroundHead plain × IsFlag plain.odd) place (SentOnGround plain place)
+    (one_on_ground plain place) r s (told_on_ground plain place r h) (told_on_ground plain place s k)
+
+pub one_sent_of : OneSent
+one_sent_of = record {
+  air = λ head place. one_telling _ AreBytesOf as_it_is (one_air_answer head place) (λ a x y h k. h ∙ sym k);
+  surface = λ head place. one_telling _ AreBytesOf as_it_is (one_ground_answer head place) (λ a x y h k. h ∙ sym k);
+}
