@@ -1,7 +1,7 @@
 //! Worked positions sent, read and sent again: the calls that the headline speaks of, one after the other.
 use crate::samples::{AIR_EVEN, AIR_ODD, GROUND_EVEN, GROUND_ODD, IDENTITY, position, read};
 use crate::sending::{air_head, ground_head};
-use sq_message::{Frame, Parity, Position, laws, place_local, place_pair, read_frame};
+use sq_message::{Frame, Parity, Position, laws, place_local, place_pair, read_frame, worked};
 use std::process::Abort;
 
 // The even position on the ground with this head: 8C4841753800038733C8CDE5B7BB.
@@ -52,6 +52,20 @@ fn reads_pairs_that_were_sent(rt: HostRuntime) {
         );
         assert!(rt; first == GROUND_WITHOUT_MOVEMENT);
         assert!(rt; place.expect(&rt, "a place").position() == point);
+    }
+}
+
+// The points are those of the frames that are worked in the literature.
+#[test]
+fn reads_worked_positions(rt: HostRuntime) {
+    let head = air_head(&rt);
+    let even = position(&rt, (428_091, 8192), (64_215, 16_384));
+    let odd = position(&rt, (25_261_515, 483_328), (225_873, 57_344));
+    let near = worked::read_near(head).expect(&rt, "a place");
+    assert!(rt; near.position() == even);
+    for (newest, point) in [(Parity::Even, even), (Parity::Odd, odd)] {
+        let place = worked::read_pair(head, newest).expect(&rt, "a place");
+        assert!(rt; place.position() == point);
     }
 }
 

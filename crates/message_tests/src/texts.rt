@@ -2,7 +2,7 @@
 use sq_angle::{Angle, Position};
 use sq_message::{AirFields, Airborne, Code, Frame, FrameFault, Me, Parity, Squitter, write_frame};
 use sq_text::{
-    ArrayString, LineFault, ShowText, TextFault, place_text, push_decimal, push_hexadecimal,
+    ArrayString, LineFault, ShowText, TextFault, laws, place_text, push_decimal, push_hexadecimal,
     push_summary, read_squitter, read_text, show_text,
 };
 use std::process::Abort;
@@ -293,4 +293,12 @@ fn shows_squitters(rt: HostRuntime) {
     for text in SHOWN {
         assert!(rt; is_shown(&rt, text), "{text}");
     }
+}
+
+#[test]
+fn compares_faults(rt: HostRuntime) {
+    assert!(rt; laws::equal_text_faults(&TextFault::Digit(3), &TextFault::Digit(3)));
+    assert!(rt; !laws::equal_text_faults(&TextFault::Digit(3), &TextFault::Length(3)));
+    assert!(rt; laws::equal_line_faults(&LineFault::Parity(1), &LineFault::Parity(1)));
+    assert!(rt; !laws::equal_line_faults(&LineFault::Parity(1), &LineFault::Parity(2)));
 }

@@ -4,7 +4,7 @@
 use super::told::Told;
 use crate::samples::{AIR, position, sent_in_air, sent_on_ground};
 use sq_message::Parity;
-use sq_track::{Position, Received, Squitter, TrackFault, Tracker, hear_each};
+use sq_track::{Position, Received, Squitter, TrackFault, Tracker, hear_each, worked};
 use std::alloc::Global;
 use std::process::Abort;
 use std::test::Fail;
@@ -96,4 +96,13 @@ fn fixes_on_a_border_of_zone_counts(rt: HostRuntime) -> Result<(), Fail> {
         ..in_air
     };
     assert_fixed_on_ground(&rt, rt.alloc(), on_ground)
+}
+
+#[test]
+fn laws_of_worked_arrivals(rt: HostRuntime) {
+    worked::some_arrivals();
+    worked::true_places();
+    worked::two_are_true();
+    worked::second_is_fixed();
+    worked::third_is_followed();
 }
