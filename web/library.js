@@ -414,6 +414,23 @@ class Squitter {
     return this.memory.getText(outAt, 16);
   }
 
+  /** An angle in whole numbers of 10^-7 degree, rounded as the seven decimals are. Fault: BAD_ANGLE. */
+  angleE7(degrees) {
+    const { placeAt, outAt } = this.memory;
+    this.memory.putAngle(placeAt, degrees);
+    this.#ask("angle_e7", BigInt(placeAt), BigInt(outAt));
+    return this.memory.view().getBigInt64(outAt, true);
+  }
+
+  /** A position in whole numbers of 10^-7 degree, each rounded as the seven decimals are. Fault: BAD_POSITION. */
+  positionE7(position) {
+    const { placeAt, outAt } = this.memory;
+    this.memory.putPosition(placeAt, position);
+    this.#ask("position_e7", BigInt(placeAt), BigInt(outAt));
+    const view = this.memory.view();
+    return { lat: view.getInt32(outAt, true), lon: view.getInt32(outAt + 4, true) };
+  }
+
   /** What an altitude field of 12 bits means in an airborne position of this type code: its form, and feet or 0.
    * Fault: BAD_FIELDS. */
   feetOfField(typeCode, field) {
