@@ -27,10 +27,11 @@ import gzip
 import os
 import re
 import sys
-from dataclasses import dataclass
+from dataclasses import dataclass, replace
 from fractions import Fraction
-from typing import Any, Iterator, List, Optional, Sequence, Tuple
+from typing import Any, List, Optional, Sequence, Tuple
 
+import dask.config
 import numpy as np
 from dask.base import compute
 from dask.delayed import delayed
@@ -40,6 +41,8 @@ import squitter
 from squitter import batch
 
 HEADER = b"line,moment,answer,icao24,lat,lon,even,odd\n"
+# Dask has its processes give memory back at once: arrays that come and go then cost as much as what is done with them.
+MEMORY = {"MALLOC_TRIM_THRESHOLD_": 1 << 30, "MALLOC_MMAP_THRESHOLD_": 1 << 25, "MALLOC_ARENA_MAX": 1}
 SECONDS = re.compile(r"([0-9]{1,12})(?:\.([0-9]*))?")
 
 
@@ -48,7 +51,7 @@ class Hour:
     """The lines of a file: what each is before others are looked at."""
 
     moments: NDArray[np.uint64]  # in milliseconds, 0 where there is none
-    frames: NDArray[np.uint8]  # 14 bytes each, 0 where there is none
+    frames: NDArray[np.bytes_]  # texts
     addresses: NDArray[np.uint32]  # 0 where the line is refused
     faults: NDArray[np.void]  # why it is
 
@@ -64,25 +67,104 @@ class Cut:
 # ---- reading ----
 
 
-def rows_of(path: str) -> Iterator[Tuple[str, str]]:
-    """The time and the frame of each row, as they are spelled; empty is what a row lacks. Each line is a row."""
-    time, frame = 0, 2
-    with (gzip.open if path.endswith(".gz") else open)(
-        path, "rt", encoding="utf-8", errors="surrogateescape", newline="\n"
-    ) as file:
-        for number, line in enumerate(file):
-            fields = [field.strip() for field in fields_of(line)]
-            names = [] if number else [field.lower() for field in fields]
-            if "rawmsg" in names and {"time", "mintime"} & set(names):
-                time = names.index("time" if "time" in names else "mintime")
-                frame = names.index("rawmsg")
-            elif any(fields):
-                fields += [""] * (max(time, frame) + 1 - len(fields))
-                yield fields[time], fields[frame]
+def read_hour(path: str) -> Hour:
+    """The lines of a file. As `track` reads it, a line is a moment, a space and a frame, and at most 64 bytes."""
+    with (gzip.open if path.endswith(".gz") else open)(path, "rb") as file:
+        data = file.read().replace(b"\r\n", b"\n")
+    head, _, rest = data.partition(b"\n")
+    columns = columns_of(head)
+    body = (rest if columns else data).rstrip(b"\n")
+    time, frame = columns or (0, 2)
+    return plain_hour(body + b"\n", time, frame) or any_hour(body, time, frame)
+
+
+def columns_of(head: bytes) -> Optional[Tuple[int, int]]:
+    """Where time and frame stand, if this is a row of names."""
+    names = [field.strip().lower() for field in fields_of(head.decode("utf-8", "surrogateescape"))]
+    times = [name for name in ("time", "mintime") if name in names]
+    return (names.index(times[0]), names.index("rawmsg")) if times and "rawmsg" in names else None
+
+
+def hour_of(moments: NDArray[np.int64], texts: Any) -> Hour:
+    """An hour of these moments, -1 where there is none, and texts of frames."""
+    fields, faults = batch.read(texts)
+    faults[moments < 0] = squitter.Code.BAD_MOMENT, 0, 0
+    good = faults["code"] == 0
+    addresses = np.where(good, fields["address"], 0).astype(np.uint32)
+    return Hour(np.maximum(moments, 0).astype(np.uint64), np.asarray(texts), addresses, faults)
+
+
+def plain_hour(data: bytes, time: int, frame: int) -> Optional[Hour]:
+    """The lines of plain rows, all at once. None where a row is not plain: it has not as many commas as the first, a
+    time that is more than digits and a point, a frame of more than 30 bytes, or a blank, a quote or a zero byte."""
+    buffer = np.frombuffer(data, np.uint8)
+    count = data.count(b",", 0, data.index(b"\n")) + 1
+    ends = np.flatnonzero((buffer == ord(",")) | (buffer == ord("\n")))
+    if len(ends) % count or max(time, frame) >= count or any(byte in data for byte in b'" \t\r\v\f\0'):
+        return None
+    ends = ends.reshape(-1, count)
+    if (buffer[ends[:, :-1]] != ord(",")).any() or (buffer[ends[:, -1]] != ord("\n")).any():
+        return None
+    starts = np.roll(ends.reshape(-1), 1) + 1
+    starts[0] = 0
+    starts = starts.reshape(-1, count)
+    moments = plain_moments(field_of(buffer, starts[:, time], ends[:, time], 24))
+    frames = field_of(buffer, starts[:, frame], ends[:, frame], 30)
+    if moments is None or frames is None:
+        return None
+    return hour_of(moments, np.ascontiguousarray(frames).view(f"S{frames.shape[1]}").reshape(-1))
+
+
+def field_of(
+    buffer: NDArray[np.uint8], starts: NDArray[np.intp], ends: NDArray[np.intp], most: int
+) -> Optional[NDArray[np.uint8]]:
+    """The bytes between these places, a row for each, with zeros after them. None where there are more than so many."""
+    width = int((ends - starts).max())
+    if width > most:
+        return None
+    places = np.arange(max(width, 1))
+    rows = buffer[np.minimum(starts[:, np.newaxis] + places, len(buffer) - 1)]
+    rows[places >= (ends - starts)[:, np.newaxis]] = 0
+    return rows
+
+
+def plain_moments(rows: Optional[NDArray[np.uint8]]) -> Optional[NDArray[np.int64]]:
+    """Seconds with decimals in whole milliseconds, rounded down. None where one of them is spelled otherwise."""
+    if rows is None:
+        return None
+    is_digit, is_point = (rows - ord("0")) < 10, rows == ord(".")
+    passed = np.cumsum(is_point, axis=1) > 0
+    seconds = (is_digit & ~passed).sum(axis=1)
+    if not (is_digit | is_point | (rows == 0)).all() or (is_point.sum(axis=1) > 1).any() or not (
+            (seconds >= 1) & (seconds <= 12)).all():
+        return None
+    moments, decimals = np.zeros(len(rows), np.int64), np.zeros(len(rows), np.int64)
+    for column in range(rows.shape[1]):
+        counts = is_digit[:, column] & (decimals < 3)
+        moments = np.where(counts, moments * 10 + (rows[:, column] - ord("0")), moments)
+        decimals += counts & passed[:, column]
+    return np.asarray(moments * 10 ** (3 - decimals), np.int64)
+
+
+def any_hour(data: bytes, time: int, frame: int) -> Hour:
+    """The lines of rows of all kinds, one by one. Each line of the file is a row; what it lacks is empty."""
+    moments, texts, long = [], [], []
+    for line in data.decode("utf-8", "surrogateescape").split("\n"):
+        fields = [field.strip() for field in fields_of(line)]
+        if any(fields):
+            fields += [""] * (max(time, frame) + 1 - len(fields))
+            moments.append(milliseconds(fields[time]))
+            said = f"{fields[time] if moments[-1] < 0 else moments[-1]} {fields[frame]}"
+            long.append(len(said) > 64 or len(said.encode("utf-8", "surrogateescape")) > 64)
+            texts.append("" if long[-1] else fields[frame])
+    hour = hour_of(np.array(moments, np.int64), texts)
+    hour.faults[np.array(long, bool)] = squitter.Code.LONG_LINE, 0, 0
+    good = hour.faults["code"] == 0
+    return replace(hour, frames=np.array([text if is_good else "" for text, is_good in zip(texts, good)], "S"))
 
 
 def fields_of(line: str) -> List[str]:
-    """The fields of a line, none where a quote in it has no end or is too long."""
+    """The fields of a line; where a quote has no end, or is too long, the line stands where a frame may stand."""
     try:
         return next(csv.reader([line], strict=True)) if '"' in line else line.split(",")
     except csv.Error:
@@ -93,26 +175,6 @@ def milliseconds(seconds: str) -> int:
     """Seconds with decimals in whole milliseconds, rounded down: by digits, since a float has too few. -1 for none."""
     parts = SECONDS.fullmatch(seconds)
     return int(parts[1]) * 1000 + int((parts[2] or "").ljust(3, "0")[:3]) if parts else -1
-
-
-def read_hour(path: str) -> Hour:
-    """The lines of a file. As `track` reads it, a line is a moment, a space and a frame, and at most 64 bytes."""
-    rows = list(rows_of(path))
-    texts = [text for _, text in rows]
-    moments = np.fromiter((milliseconds(time) for time, _ in rows), np.int64, len(rows))
-    fields, faults = batch.read(texts)
-    faults[moments < 0] = squitter.Code.BAD_MOMENT, 0, 0
-    for place, (time, text) in enumerate(rows):
-        if len(time) + len(text) > 48 or not (time + text).isascii():
-            line = f"{time if moments[place] < 0 else moments[place]} {text}"
-            if len(line.encode("utf-8", "surrogateescape")) > 64:
-                faults[place] = squitter.Code.LONG_LINE, 0, 0
-    good = np.flatnonzero(faults["code"] == 0)
-    addresses, frames = np.zeros(len(rows), np.uint32), np.zeros((len(rows), 14), np.uint8)
-    addresses[good] = fields["address"][good]
-    digits = "".join(texts[place].strip("*;") for place in good.tolist())
-    frames[good] = np.frombuffer(bytes.fromhex(digits), np.uint8).reshape(-1, 14) if digits else 0
-    return Hour(np.maximum(moments, 0).astype(np.uint64), frames, addresses, faults)
 
 
 # ---- hearing ----
@@ -143,14 +205,14 @@ def cut(hour: Hour, before: Before, parts: int) -> Cut:
     return Cut(faults, [accepted[part_of == part] for part in range(parts)])
 
 
-def piece(hour: Hour, cut_hour: Cut, part: int) -> Tuple[NDArray[np.uint64], NDArray[np.uint8]]:
+def piece(hour: Hour, cut_hour: Cut, part: int) -> Tuple[NDArray[np.uint64], NDArray[np.bytes_]]:
     """What goes to a part: the moments and frames of its lines."""
     places = cut_hour.parts[part]
     return hour.moments[places], hour.frames[places]
 
 
 def hear(
-    tracker: batch.Tracker, lines: Tuple[NDArray[np.uint64], NDArray[np.uint8]]
+    tracker: batch.Tracker, lines: Tuple[NDArray[np.uint64], NDArray[np.bytes_]]
 ) -> Tuple[batch.Tracker, NDArray[np.void]]:
     """The tracker of a part after these lines, and what it heard. The one that is given stays: a task may run again."""
     after = copy.deepcopy(tracker)
@@ -263,6 +325,7 @@ def main() -> None:
 
     options = options_of()
     os.makedirs(options.folder, exist_ok=True)
+    dask.config.set({f"distributed.nanny.pre-spawn-environ.{name}": value for name, value in MEMORY.items()})
     where = options.scheduler or LocalCluster(
         n_workers=options.workers, threads_per_worker=1, processes=True, dashboard_address=None)
     with Client(where) as client:
