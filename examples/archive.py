@@ -71,11 +71,12 @@ def read_hour(path: str) -> Hour:
     """The lines of a file. As `track` reads it, a line is a moment, a space and a frame, and at most 64 bytes."""
     with (gzip.open if path.endswith(".gz") else open)(path, "rb") as file:
         data = file.read().replace(b"\r\n", b"\n")
-    head, _, rest = data.partition(b"\n")
-    columns = columns_of(head)
-    body = (rest if columns else data).rstrip(b"\n")
+    columns = columns_of(data.partition(b"\n")[0])
+    if columns:
+        data = data.partition(b"\n")[2]
+    data = data if data.endswith(b"\n") else data + b"\n"
     time, frame = columns or (0, 2)
-    return plain_hour(body + b"\n", time, frame) or any_hour(body, time, frame)
+    return plain_hour(data, time, frame) or any_hour(data, time, frame)
 
 
 def columns_of(head: bytes) -> Optional[Tuple[int, int]]:
@@ -95,7 +96,7 @@ def hour_of(moments: NDArray[np.int64], texts: Any) -> Hour:
 
 
 def plain_hour(data: bytes, time: int, frame: int) -> Optional[Hour]:
-    """The lines of plain rows, all at once. None where a row is not plain: it has not as many commas as the first, a
+    """The lines of plain rows, many at once. None where a row is not plain: it has not as many commas as the first, a
     time that is more than digits and a point, a frame of more than 30 bytes, or a blank, a quote or a zero byte."""
     buffer = np.frombuffer(data, np.uint8)
     count = data.count(b",", 0, data.index(b"\n")) + 1
@@ -105,14 +106,18 @@ def plain_hour(data: bytes, time: int, frame: int) -> Optional[Hour]:
     ends = ends.reshape(-1, count)
     if (buffer[ends[:, :-1]] != ord(",")).any() or (buffer[ends[:, -1]] != ord("\n")).any():
         return None
-    starts = np.roll(ends.reshape(-1), 1) + 1
-    starts[0] = 0
-    starts = starts.reshape(-1, count)
-    moments = plain_moments(field_of(buffer, starts[:, time], ends[:, time], 24))
-    frames = field_of(buffer, starts[:, frame], ends[:, frame], 30)
-    if moments is None or frames is None:
-        return None
-    return hour_of(moments, np.ascontiguousarray(frames).view(f"S{frames.shape[1]}").reshape(-1))
+    moments, frames = np.empty(len(ends), np.int64), np.zeros((len(ends), 30), np.uint8)
+    for at in range(0, len(ends), 1 << 16):
+        some = ends[at:at + (1 << 16)]
+        starts = np.append(ends[at - 1, -1] if at else -1, some.reshape(-1)[:-1]).reshape(some.shape) + 1
+        times = plain_moments(field_of(buffer, starts[:, time], some[:, time], 24))
+        texts = field_of(buffer, starts[:, frame], some[:, frame], 30)
+        if times is None or texts is None:
+            return None
+        moments[at:at + len(some)], frames[at:at + len(some), :texts.shape[1]] = times, texts
+    # (28 is what a frame without marks has, and is read fastest)
+    width = 30 if frames[:, 28:].any() else 28
+    return hour_of(moments, np.ascontiguousarray(frames[:, :width]).view(f"S{width}").reshape(-1))
 
 
 def field_of(
@@ -235,7 +240,8 @@ def write(
     with open(f"{path}.part", "wb") as plain:
         # (without a name and a time in it, so that a task that runs again writes the same bytes)
         with gzip.GzipFile("", "wb", 6, plain, 0) if path.endswith(".gz") else plain as file:
-            file.write(HEADER + batch.csv_rows(hour.moments, answers, cut_hour.faults, before.lines + 1))
+            file.write(HEADER)
+            file.write(batch.csv_rows(hour.moments, answers, cut_hour.faults, before.lines + 1))
     os.replace(f"{path}.part", path)
     if parquet:
         write_parquet(f"{path}.parquet", hour.moments, answers, cut_hour.faults)

@@ -8,8 +8,8 @@ pub fn some_arrivals()
     ensures { SomeWorked }
 {}
 
-/// The points of the three positions: 1141576 of the even grid by 51372, and 1122734 by 50194 and 1122825 by 50310 of the
-/// odd one.
+/// The points of the three positions: 1141576 of the even grid by 51372, and 1122734 by 50194 and 1122825 by 50310 of
+/// the odd one.
 pub fn true_places()
     ensures { TruePlaces }
 {}
@@ -20,8 +20,8 @@ pub fn two_are_true()
     ensures heard { TwoAreTrue }
 {}
 
-/// The second, 6 seconds after the first, is heard as the fix of its own point, and also where another address was heard
-/// between the two.
+/// The second, 6 seconds after the first, is heard as the fix of its own point, and also where another address was
+/// heard between the two.
 pub fn second_is_fixed()
     ensures alone { SecondIsFixed }
     ensures among_others { SecondIsFixedAmongOthers }
