@@ -7,6 +7,7 @@ import glob
 import os
 import re
 import sys
+from collections.abc import Iterator
 
 import pins
 
@@ -19,7 +20,7 @@ that it cites; one of another crate has that crate's name. The proof of a law wi
 `docs/laws.py > docs/LAWS.md` writes this page."""
 
 
-def imports(path, crate):
+def imports(path: str) -> list[tuple[str, str]]:
     """The lemma files that a proof cites."""
     with open(path, encoding="utf-8") as file:
         found = re.findall(r"Rattle\.(\w+)\.proofs\.([A-Z]\w*(?:\.[A-Z]\w*)?)\.\{", file.read())
@@ -28,23 +29,23 @@ def imports(path, crate):
     return list(dict.fromkeys(own))
 
 
-def shown(files, crate):
+def shown(files: list[tuple[str, str]], crate: str) -> str:
     return ", ".join(f"`{lemma}`" if name == crate else f"`{name}/{lemma}`" for name, lemma in files)
 
 
-def laws_of(crate):
+def laws_of(crate: str) -> list[str]:
     """The laws of a crate, by the files that their proofs cite."""
-    groups = {}
+    groups: dict[str, list[str]] = {}
     with open(f"{TOP}/crates/{crate}/src/laws.rt", encoding="utf-8") as file:
         laws = re.findall(r"^pub fn (\w+)", file.read(), re.M)
     for law in laws:
         proofs = sorted(glob.glob(f"{TOP}/crates/{crate}/proofs/laws/{law}/*.antt"))
-        cited = list(dict.fromkeys(one for proof in proofs for one in imports(proof, crate)))
+        cited = list(dict.fromkeys(one for proof in proofs for one in imports(proof)))
         groups.setdefault(shown(cited, crate) or "no file", []).append(f"`{law}`")
     return [f"- {files}: {', '.join(laws)}" for files, laws in groups.items()]
 
 
-def files_of(crate):
+def files_of(crate: str) -> Iterator[str]:
     """The lemma files of a crate, with their first line and what they cite."""
     top = f"{TOP}/crates/{crate}/proofs/"
     for path in sorted(glob.glob(f"{top}[A-Z]*.antt") + glob.glob(f"{top}[A-Z]*/*.antt")):
@@ -53,11 +54,11 @@ def files_of(crate):
             continue
         with open(path, encoding="utf-8") as file:
             comment = re.match(r"((?:-- .*\n)*)", file.read())[1].replace("-- ", "").replace("\n", " ").strip()
-        cited = shown([one for one in imports(path, crate) if one != (crate, name)], crate)
+        cited = shown([one for one in imports(path) if one != (crate, name)], crate)
         yield f"- `{name}`: {comment}" + (f" → {cited}" if cited else "")
 
 
-def main():
+def main() -> None:
     if "--pins" in sys.argv:
         print(pins.page(pins.Book()))
         return

@@ -260,7 +260,6 @@ class Book:
                     contract.is_law = path.endswith("/laws.rt")
                     self.contracts.append(contract)
 
-
     def sort_out(self) -> None:
         """Which definitions are relations, statements, types of plain data, and values.
 
@@ -279,7 +278,6 @@ class Book:
     def is_fact(self, one: Definition, facts: set[Name]) -> bool:
         known = self.known[one.name]
         return any(word in FACTS or known.get(word) in facts for part in one.parts for word in part)
-
 
     @cached_property
     def all_places(self) -> list[tuple[str, Name, Place]]:
@@ -466,15 +464,17 @@ HEAD_OF_PAGE = """# What pins each premise
 A law that says 'where this holds, that does' says nothing where its premise is never met, and a premise that is made
 narrower is met less often, while each proof still passes. So each definition of `specs/` that stands left of an arrow,
 in a public contract or within what one names, is pinned: something concludes it, from premises that are themselves
-pinned. That may be a call, which promises it of what it answers, or a law that says when it holds. Whoever empties the
-definition is refused there. How much narrower it may be made unseen is for the statement of the pin to say:
-[THEOREMS.md](THEOREMS.md#what-stands-left-of-an-arrow) names for the premises of the laws those that say it whole.
+pinned. That may be a call, which promises it of what it answers, or a law that says when it holds: of a definition that
+was emptied, it would still have to be proved. How much narrower it may be made unseen is for the statement of the pin
+to say: [THEOREMS.md](THEOREMS.md#what-stands-left-of-an-arrow) names for the premises of the laws those that say it
+whole.
 
-An arrow, `¬` and `requires` turn left and right, and `↔` has both sides on both; an argument counts as what it stands
-in. So `IsSome x ↔ P` concludes P and is concluded from P.
-`docs/laws.py --pins > docs/PINS.md` writes this page from the text of the contracts and definitions, and
-`docs/laws.py --check` refuses a premise without a pin, and an answer that nothing reads, unless it stands in
-[not-yet-pinned.txt](not-yet-pinned.txt), and what stands there without need."""
+This is read from the text of contracts and definitions, and nothing is proved here. An arrow, `¬` and `requires` turn
+left and right, and `↔` has both sides on both; what stands in brackets, as an argument or as a part of `×` and `⊎`
+counts as what it stands in; and a premise that is an equation or an order of numbers counts as one that is met.
+`docs/laws.py --pins > docs/PINS.md` writes this page, and `docs/laws.py --check` refuses a premise without a pin, and
+an answer that nothing reads, unless it stands in [not-yet-pinned.txt](not-yet-pinned.txt), and what stands there
+without need."""
 OPEN = f"{TOP}/docs/not-yet-pinned.txt"
 
 
