@@ -581,15 +581,26 @@ _WORDS = np.array(["", "fix", "followed", "waiting", "split", "far", "no site", 
 def lines(heard: Records, faults: Records, first: int = 1) -> bytes:
     """The lines that `squitter track` prints of these answers, of which the first is that of the line of this number.
     An empty line, to which the program answers nothing, has no place in arrays."""
+    _look(heard, faults)
     return b"".join(_lines(heard[some], faults[some], first + some.start) for some in _blocks(len(heard)))
 
 
 def csv_rows(moments: npt.ArrayLike, heard: Records, faults: Records, first: int = 1) -> bytes:
     """The same as rows of CSV, with the moments: line,moment,answer,icao24,lat,lon,even,odd. What a line has not is
     empty; what is there is spelled as `squitter track` spells it."""
+    _look(heard, faults)
     times = _moments(moments, len(heard))
     blocks = _blocks(len(heard))
     return b"".join(_csv_rows(times[some], heard[some], faults[some], first + some.start) for some in blocks)
+
+
+def _look(heard: Records, faults: Records) -> None:
+    """Raises ValueError for what are no answers of `track`."""
+    for name, array, dtype in (("heard", heard, TRACKED), ("faults", faults, FAULT)):
+        if not isinstance(array, np.ndarray) or array.dtype != dtype or array.ndim != 1:
+            raise ValueError(f"{name} is an array of another type than {dtype}, or of more dimensions")
+    if len(heard) != len(faults):
+        raise ValueError(f"heard are {len(heard)}, and faults {len(faults)}")
 
 
 def _blocks(count: int) -> Iterator[slice]:

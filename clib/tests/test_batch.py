@@ -377,6 +377,16 @@ class Arrays(unittest.TestCase):
         room[:84] = self.frames.reshape(-1)
         self.refused("overlap", batch.read, room[:84].reshape(6, 14), out=room.view(batch.FIELDS))
 
+    def test_answers(self) -> None:
+        heard, faults = batch.track(range(6), self.frames)
+        self.assertEqual(batch.lines(heard[::2], faults[::2], 7).splitlines(), [
+            b"7 waiting 40621D", b"8 fix 40621D 52.2572021 3.9193726", b"9 fix 40621D 52.2572021 3.9193726"])
+        self.assertEqual((batch.lines(heard[:0], faults[:0]), batch.csv_rows([], heard[:0], faults[:0])), (b"", b""))
+        self.refused("heard", batch.lines, faults, faults)
+        self.refused("faults", batch.lines, heard, heard)
+        self.refused("heard are 6, and faults 5", batch.lines, heard, faults[:5])
+        self.refused("moments", batch.csv_rows, range(5), heard, faults)
+
     def test_left_as_it_was(self) -> None:
         damaged = self.frames.copy()
         damaged[2, 5] ^= 1
