@@ -28,7 +28,6 @@ import os
 import re
 import sys
 from dataclasses import dataclass, replace
-from fractions import Fraction
 from typing import Any, List, Optional, Sequence, Tuple
 
 import dask.config
@@ -280,13 +279,11 @@ def hours(
     for path in paths:
         hour = delayed(read_hour)(path)
         pieces = delayed(cut)(hour, before, len(trackers))
-        heard = []
-        for part, tracker in enumerate(trackers):
-            told = delayed(hear, nout=2)(tracker, delayed(piece)(hour, pieces, part))
-            trackers = [*trackers[:part], told[0], *trackers[part + 1:]]
-            heard.append(told[1])
+        told = [
+            delayed(hear, nout=2)(tracker, delayed(piece)(hour, pieces, part)) for part, tracker in enumerate(trackers)]
         to = os.path.join(folder, os.path.basename(path))
-        written.append(delayed(write)(to, hour, before, pieces, heard, parquet))
+        written.append(delayed(write)(to, hour, before, pieces, [heard for _, heard in told], parquet))
+        trackers = [tracker for tracker, _ in told]
         before = delayed(following)(before, hour)
     _, after, kept = compute(written, before, trackers)
     return after, kept
@@ -297,8 +294,8 @@ def options_of(words: Optional[Sequence[str]] = None) -> argparse.Namespace:
     parser = argparse.ArgumentParser(description="what `squitter track` says to an archive of CSV, by many processes")
     parser.add_argument("folder", help="where the answers go")
     parser.add_argument("files", nargs="+", help="files of CSV in the order of their time, plain or .gz")
-    parser.add_argument("--lat", type=Fraction, help="the site's latitude in degrees, for aircraft on the ground")
-    parser.add_argument("--lon", type=Fraction, help="the site's longitude in degrees")
+    parser.add_argument("--lat", type=squitter.angle, help="the site's latitude in degrees, for aircraft on the ground")
+    parser.add_argument("--lon", type=squitter.angle, help="the site's longitude in degrees")
     parser.add_argument("--window", type=int, default=10_000, help="as that of `track`, in milliseconds")
     parser.add_argument("--workers", type=int, default=os.cpu_count() or 1, help="processes on this machine")
     parser.add_argument("--scheduler", help="the address of a scheduler of Dask, in the place of these")
@@ -330,6 +327,9 @@ def main() -> None:
     from distributed import Client, LocalCluster
 
     options = options_of()
+    for path in options.files:
+        if not os.path.isfile(path):
+            sys.exit(f"archive.py: there is no file {path}")
     os.makedirs(options.folder, exist_ok=True)
     dask.config.set({f"distributed.nanny.pre-spawn-environ.{name}": value for name, value in MEMORY.items()})
     where = options.scheduler or LocalCluster(

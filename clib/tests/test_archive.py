@@ -15,6 +15,7 @@ import sys
 import tempfile
 import time
 import unittest
+from fractions import Fraction
 from typing import Iterator, List, Tuple
 
 HERE = os.path.dirname(os.path.abspath(__file__))
@@ -157,11 +158,16 @@ class Archive(unittest.TestCase):
 
     def test_command_lines(self) -> None:
         options_of = runpy.run_path(ARCHIVE)["options_of"]
-        for words in ("--lat=1 out a.csv", "--lat=91 --lon=0 out a.csv", "out x/a.csv y/a.csv", ". a.csv", "out",
-                      "--window=-1 out a.csv", "--lat=x --lon=0 out a.csv", "--parts=0 out a.csv"):
+        for words, why in (
+            ("--lat=1 out a.csv", "a site is"), ("--lat=91 --lon=0 out a.csv", "position"),
+            ("out x/a.csv y/a.csv", "one name"), (". a.csv", "another folder"), ("out", "files"),
+            ("--window=-1 out a.csv", "a window is"),
+            ("--lat=1/0 --lon=0 out a.csv", "--lat"), ("--parts=0 out a.csv", "from 1"),
+        ):
             with self.assertRaises(SystemExit) as ended, contextlib.redirect_stderr(io.StringIO()) as said:
                 options_of(words.split())
-            self.assertEqual((ended.exception.code, "error: " in said.getvalue()), (2, True))
+            self.assertEqual((ended.exception.code, why in said.getvalue()), (2, True), said.getvalue())
+        self.assertEqual(options_of(["--lat=52.31", "--lon=-0.5", "out", "a.csv"]).lon, Fraction(-1, 2))
 
 
 if __name__ == "__main__":
