@@ -5,14 +5,16 @@ read-only, not contiguous or of the other byte order. PROGRAM is the program (th
 repository where it is not set). Needs NumPy."""
 import ctypes
 import doctest
+import json
 import os
 import pickle
 import random
+import re
 import subprocess
 import sys
 import unittest
 from fractions import Fraction
-from typing import Any, Callable, Iterable, Iterator, List, Sequence, Tuple
+from typing import Any, Callable, Dict, Iterable, Iterator, List, Sequence, Tuple
 
 import numpy as np
 
@@ -185,6 +187,13 @@ def flat(kind: type, at: int = 0, before: str = "") -> Iterator[Tuple[int, int, 
             yield here, ctypes.sizeof(part), name
 
 
+def answer_line(answer: Dict[str, Any]) -> str:
+    """The line of `track` that an answer of vectors/ is."""
+    words = [answer.get("refused") or answer["heard"], answer.get("address"), *answer.get("decimal", ()),
+             answer.get("even"), answer.get("odd")]
+    return " ".join(str(word) for word in [answer["line"], *words] if word is not None)
+
+
 class Track(unittest.TestCase):
     def as_program(self, moments: Sequence[int], texts: Sequence[str], window: int, site: Any, limit: Any) -> bytes:
         """The program's answers, which those of `track` are, of the whole log and of its pieces."""
@@ -226,6 +235,27 @@ class Track(unittest.TestCase):
         for word in (b" fix ", b" followed ", b" waiting ", b" split ", b" no site ", b" no position ", b"moment back",
                      b"table full", b"parity", b"not DF17", b"wrapping", b"short frame", b"bad length", b"bad digit"):
             self.assertIn(word, told)
+
+    def test_vectors(self) -> None:
+        """The logs of vectors/, whose answers come from definitions of their own: all whose lines have a moment."""
+        tried = 0
+        with open(os.path.join(TOP, "vectors", "log.jsonl"), encoding="utf-8") as cases:
+            for case in map(json.loads, cases):
+                asked = case["input"]
+                lines = [re.fullmatch(r"([0-9]{1,20}) ([^\r]*)", line) for line in asked["lines"]]
+                if not all(line and int(line[1]) < 1 << 64 and len(line[0]) <= 64 for line in lines):
+                    continue
+                site = asked.get("site") and Position(*(Fraction(asked["site"][name]) for name in ("lat", "lon")))
+                heard, faults = batch.track([int(line[1]) for line in lines], [line[2] for line in lines],
+                                            asked.get("window", 10_000), site, asked.get("limit", 1000))
+                said = batch.lines(heard, faults).decode().splitlines()
+                self.assertEqual(said, list(map(answer_line, case["answer"]["lines"])), case["id"])
+                exact = [[f"{a}/{b}" for a, b in ((one[0], one[1]), (one[2], one[3]))] for one in heard.tolist()]
+                for place, wanted in zip(exact, case["answer"]["lines"]):
+                    if "lat" in wanted:
+                        self.assertEqual(place, [wanted["lat"], wanted["lon"]], case["id"])
+                tried += 1
+        self.assertGreater(tried, 150)
 
     def test_many_aircraft(self) -> None:
         """More addresses than the block of a sort has places, each by its own bits."""
