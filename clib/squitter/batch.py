@@ -178,7 +178,7 @@ def _frames_of_bytes(texts: npt.NDArray[np.bytes_]) -> _Frames:
     elif width == _BODY:
         digits = raw
     else:
-        digits = np.where(raw[:, _BODY:].any(axis=1)[:, np.newaxis], 0, raw[:, :_BODY])
+        digits = np.where(raw[:, _BODY:].any(axis=1)[:, np.newaxis], np.uint8(0), raw[:, :_BODY])
         if width >= _BODY + 2:
             wrapped = (raw[:, 0] == ord("*")) & (raw[:, _BODY + 1] == ord(";")) & ~raw[:, _BODY + 2:].any(axis=1)
             digits[wrapped] = raw[wrapped, 1:_BODY + 1]
@@ -458,7 +458,7 @@ class Tracker:
         refused is not above it. Answers the last moment."""
         before = np.empty(len(times) + 1, np.uint64)
         before[0] = self._last
-        before[1:] = np.where(good, times, 0)
+        before[1:] = np.where(good, times, np.uint64(0))
         np.maximum.accumulate(before, out=before)
         back = np.flatnonzero(good & (times < before[:-1]))
         faults["code"][back], faults["first"][back] = Code.MOMENT_BACK, before[:-1][back]
