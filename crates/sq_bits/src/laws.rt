@@ -24,7 +24,8 @@ pub fn sum_of_frames()
         → IsRemainder (frame_number f) r → IsRemainder (frame_number g) s → IsRemainder (frame_number h) (bit_xor r s) }
 {}
 
-/// A field lies apart from another one exactly if its places are bits of a frame and none of them is one of the other's.
+/// A field lies apart from another one exactly if its places are bits of a frame and none of them is one of the
+/// other's.
 pub fn apart_exactly()
     ensures { (start len first count : ℕ) → 0 < len → 0 < count → IsApart start len first count
         ↔ ((1 ≤ start) × (start + len ≤ 113)

@@ -33,7 +33,10 @@ puts_part a b c text at front kept =
 pub is_front : (part text : List ℕ) → IsPrefixOf part text ↔ (take (length part) text ≡ part)
 is_front part text = (
   λ h. ap (take (length part)) h.1 ∙ take-append_seam part h.0,
-  λ e. (drop (length part) text, sym (take-append-drop (length part) text) ∙ ap (λ xs. xs ++ drop (length part) text) e),
+  λ e. (
+    drop (length part) text,
+    sym (take-append-drop (length part) text) ∙ ap (λ xs. xs ++ drop (length part) text) e,
+  ),
 )
 
 -- a prefix of a text that was appended is so many of its first bytes

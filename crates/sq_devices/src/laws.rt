@@ -32,7 +32,8 @@ pub fn puts_in_turn<K: Sink>()
 pub fn written_exactly<K: Sink>()
     ensures wrote { (old new : K) (text : List ℕ) → Wrote (written_on K.Sink old new) text
         ↔ Appends (K.written old) (K.written new) text }
-    ensures finished { (old new : K) → FinishedOnce (written_on K.Sink old new) ↔ (K.finishes new ≡ K.finishes old + 1) }
+    ensures finished { (old new : K) → FinishedOnce (written_on K.Sink old new)
+        ↔ (K.finishes new ≡ K.finishes old + 1) }
     ensures unfinished { (old new : K) → Unfinished (written_on K.Sink old new) ↔ (K.finishes new ≡ K.finishes old) }
     ensures nothing { (old new : K) → WroteNothing (written_on K.Sink old new)
         ↔ (Appends (K.written old) (K.written new) [] × (K.finishes new ≡ K.finishes old)) }
@@ -70,7 +71,8 @@ pub fn taken_exactly<S: Source>()
         ↔ (Calls S.Gave old new (pieces ++ [] ∷ []) × All (λ piece. 0 < length piece) pieces
         × (S.gets_left old ≡ S.gets_left new + (length pieces + 1))) }
     ensures reported { (old new : S) (bytes came : List ℕ) → S.to_come old ≡ Some bytes
-        → TookReported (taken_from S.Source old new) (λ taken. taken ≡ came) ↔ ((S.to_come new ≡ Some []) × (bytes ≡ came)) }
+        → TookReported (taken_from S.Source old new) (λ taken. taken ≡ came)
+        ↔ ((S.to_come new ≡ Some []) × (bytes ≡ came)) }
 {}
 
 /// What was taken of a source, whole and in part: these bytes.

@@ -88,8 +88,8 @@ pub fn told_exactly<A: Answering>()
         × WroteIntoLast A.how.way past lines before after) }
 {}
 
-/// Where a run was stopped: after some of the lines, of which the last was written in part, or before the line for which
-/// the client may want memory.
+/// Where a run was stopped: after some of the lines, of which the last was written in part, or before the line for
+/// which the client may want memory.
 pub fn stopped_exactly<A: Answering>()
     ensures write { (start now : A) (before after : Option (List ℕ)) (complete : List (List ℕ))
         → StoppedIn Write A.how start now before after complete

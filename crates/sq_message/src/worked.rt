@@ -28,7 +28,8 @@ fn position_of(lat: i64, lon: i64, parts: u64) -> Position
     Position::new(lat, lon).unwrap()
 }
 
-/// 52.2572021 3.9193726, sent of the even grid with any head and read near 52.258 3.918, is the point to which it rounds.
+/// 52.2572021 3.9193726, sent of the even grid with any head and read near 52.258 3.918, is the point to which it
+/// rounds.
 pub fn read_near(head: AirHead) -> Result<Place, PlaceFault>
     ensures { result ≡ Ok (Air (point_at Even (pos 1141576) 36 51372)) }
 {
@@ -38,8 +39,8 @@ pub fn read_near(head: AirHead) -> Result<Place, PlaceFault>
     place
 }
 
-/// 52.2572021 3.9193726 of the even grid and 52.26578 3.93891 of the odd one, sent with any head and read as a pair, are
-/// the point of the newest.
+/// 52.2572021 3.9193726 of the even grid and 52.26578 3.93891 of the odd one, sent with any head and read as a pair,
+/// are the point of the newest.
 pub fn read_pair(head: AirHead, newest: Parity) -> Result<Place, PlaceFault>
     ensures { result ≡ Ok (Air (of_parity newest (point_at Even (pos 1141576) 36 51372)
         (point_at Odd (pos 1122734) 35 50194))) }

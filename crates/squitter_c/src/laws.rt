@@ -48,7 +48,8 @@ pub fn below_exactly<B, C>()
         → (slice_index_or is k b ≡ slice_index_or was k b) × (slice_index_or after k c ≡ slice_index_or before k c) }
 {}
 
-/// Of many calls, each with its own answer: what stands at each place below n is that answer, and the rest is as it was.
+/// Of many calls, each with its own answer: what stands at each place below n is that answer, and the rest is as it
+/// was.
 pub fn answered_exactly<B, C>()
     ensures { (out : ℕ → B → B) (fault : ℕ → C) (was is : List B) (before after : List C) (n : ℕ)
         → AreAnswered (λ k old new told. (new ≡ out k old) × (told ≡ fault k)) was is before after n
@@ -56,19 +57,21 @@ pub fn answered_exactly<B, C>()
         → (slice_index_or is k b ≡ out k (slice_index_or was k b)) × (slice_index_or after k c ≡ fault k))) }
 {}
 
-/// Of calls one after the other, none leave the state as it was, and of one more the last is made of the state that those
-/// before it left.
+/// Of calls one after the other, none leave the state as it was, and of one more the last is made of the state that
+/// those before it left.
 pub fn led_exactly<S, B, C>()
     ensures none { (step : ℕ → S → S) (out : ℕ → S → B → B) (fault : ℕ → S → C) (first last : S) (was is : List B)
         (after : List C)
-        → Leads (λ k s t old new told. (t ≡ step k s) × (new ≡ out k s old) × (told ≡ fault k s)) first was is after 0 last
+        → Leads (λ k s t old new told. (t ≡ step k s) × (new ≡ out k s old) × (told ≡ fault k s)) first was is after
+        0 last
         ↔ (last ≡ first) }
     ensures more { (step : ℕ → S → S) (out : ℕ → S → B → B) (fault : ℕ → S → C) (first last : S) (was is : List B)
         (after : List C) (n : ℕ)
         → Leads (λ k s t old new told. (t ≡ step k s) × (new ≡ out k s old) × (told ≡ fault k s)) first was is after
         (n + 1) last
         ↔ ((left : S)
-        × Leads (λ k s t old new told. (t ≡ step k s) × (new ≡ out k s old) × (told ≡ fault k s)) first was is after n left
+        × Leads (λ k s t old new told. (t ≡ step k s) × (new ≡ out k s old) × (told ≡ fault k s)) first was is after
+        n left
         × ((b : B) (c : C) → (last ≡ step n left) × (slice_index_or is n b ≡ out n left (slice_index_or was n b))
         × (slice_index_or after n c ≡ fault n left))) }
 {}

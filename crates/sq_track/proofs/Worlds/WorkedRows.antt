@@ -209,7 +209,8 @@ third_is_followed site b c h k =
     let p = second_place b h in
     let q = third_place c k in
     let together = second_and_third b c h k in
-    subst (λ m. IsHeard 10000 site (as_fix b (Air second_point) ∷ []) m c.squitter (Followed (Air third_point))) k.moment
+    subst (λ m. IsHeard 10000 site (as_fix b (Air second_point) ∷ []) m c.squitter (Followed (Air third_point)))
+    k.moment
     (followed_after_a_fix 10000 site b c (Air second_point) (Air third_point) together
     (of_grid b h ∙ sym (of_grid c k)) p q
     ((slow_for_following_pair_exactly 10000 b c (Air second_point) (Air third_point) together p q).1
