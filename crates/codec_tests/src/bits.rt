@@ -91,6 +91,7 @@ fn agrees_with_the_plain_remainder(rt: HostRuntime) {
 #[test]
 fn adds_remainders(rt: HostRuntime) {
     laws::one_remainder();
+    laws::apart_exactly();
     laws::sum_of_frames();
     laws::each_frame(&AIR_EVEN);
     for bit in 1..=112u8 {
