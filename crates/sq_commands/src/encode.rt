@@ -25,10 +25,12 @@ use std::alloc::Global;
 // What `encode` sends beside the place, and 0 in all other fields. In the air: barometric altitude, an aircraft in the air
 // that answers (capability 5).
 const AIR_TYPE_CODE: u8 = 11;
+
 const AIR_CAPABILITY: u8 = 5;
 
 // On the ground: a surface position (type code 7), an aircraft on the ground that answers (capability 4).
 const GROUND_TYPE_CODE: u8 = 7;
+
 const GROUND_CAPABILITY: u8 = 4;
 
 // Writes the frame that is sent of a position.
