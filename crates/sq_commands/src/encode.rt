@@ -22,8 +22,8 @@ use sq_message::{
 use sq_requests::EncodeWords;
 use std::alloc::Global;
 
-// What `encode` sends beside the place, and 0 in all other fields. In the air: barometric altitude, an aircraft in the air
-// that answers (capability 5).
+// What `encode` sends beside the place, and 0 in all other fields. In the air: barometric altitude (type code 11), an
+// aircraft in the air that answers (capability 5).
 const AIR_TYPE_CODE: u8 = 11;
 
 const AIR_CAPABILITY: u8 = 5;

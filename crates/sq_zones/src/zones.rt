@@ -70,7 +70,8 @@ static ZONE_LIMITS: [u64; 58] = [
     8_700_000_000,
 ];
 
-// The latitudes up to 90 degrees in bands of 2^25 units, about a third of a degree: none has more than one limit within.
+// The latitudes up to 90 degrees lie in bands of 2^25 units, about a third of a degree: none has more than one limit
+// within.
 const BAND_BITS: u32 = 25;
 
 // How many limits lie above each band.
