@@ -234,7 +234,8 @@ static void arrays(const squitter_position *p, const squitter_position *q, const
   enum { ROOM = 4 };
   squitter_position near_all[ROOM] = {*p, *q, *site, *p}, places[2][ROOM];
   uint64_t start = next() >> below(64), moments[ROOM] = {start, start + below(9), start + 5 + below(9), start + 9};
-  const uint8_t (*older)[14] = pool + below(60), (*newer)[14] = pool + below(60);
+  const uint8_t (*older)[14] = (const uint8_t (*)[14])(pool + below(60));
+  const uint8_t (*newer)[14] = (const uint8_t (*)[14])(pool + below(60));
   squitter_fields fields[2][ROOM];
   squitter_fault faults[2][ROOM];
   squitter_heard heard[2][ROOM];
