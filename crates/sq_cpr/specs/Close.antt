@@ -6,6 +6,7 @@ use Rattle.sq_angle.specs.Whole.{IsCongruent}
 use Rattle.sq_zones.specs.Zones.{zones_at, parity_index}
 use Rattle.sq_zones.specs.declared.parity.Parity.{Parity}
 use Rattle.sq_zones.specs.declared.parity.Parity.TheVariants.{Even, Odd}
+use Rattle.sq_cpr.specs.Span.{Span}
 use Rattle.sq_cpr.specs.Grid.{Point, codes_of_zone, lat_zones, grid_latitude}
 use Rattle.sq_cpr.specs.Near.{angle_at}
 
@@ -49,17 +50,17 @@ abbrev pub HaveOneCount : ℕ → ℤ → ℤ → Type 0
 HaveOneCount degrees p q = count_at degrees Even p ≡ count_at degrees Odd q
 
 -- an even and an odd point are close: in both coordinates, with one zone count
-pub record AreClosePoints (degrees : ℕ) (a b : Point) : Type 0 where
+pub record AreClosePoints (span : Span) (a b : Point) : Type 0 where
   pub even : a.parity ≡ Even
   pub odd : b.parity ≡ Odd
-  pub latitudes : AreCloseLatitudes degrees a.lat_index b.lat_index
-  pub counts : HaveOneCount degrees a.lat_index b.lat_index
-  pub longitudes : IsClose degrees a.zones b.zones (pos a.lon_index) (pos b.lon_index)
+  pub latitudes : AreCloseLatitudes span.degrees a.lat_index b.lat_index
+  pub counts : HaveOneCount span.degrees a.lat_index b.lat_index
+  pub longitudes : IsClose span.degrees a.zones b.zones (pos a.lon_index) (pos b.lon_index)
 
 -- an even and an odd point are tame: their latitudes are close and, where these have one zone count, their longitudes
-pub record AreTamePoints (degrees : ℕ) (a b : Point) : Type 0 where
+pub record AreTamePoints (span : Span) (a b : Point) : Type 0 where
   pub even : a.parity ≡ Even
   pub odd : b.parity ≡ Odd
-  pub latitudes : AreCloseLatitudes degrees a.lat_index b.lat_index
-  pub longitudes : HaveOneCount degrees a.lat_index b.lat_index
-      → IsClose degrees a.zones b.zones (pos a.lon_index) (pos b.lon_index)
+  pub latitudes : AreCloseLatitudes span.degrees a.lat_index b.lat_index
+  pub longitudes : HaveOneCount span.degrees a.lat_index b.lat_index
+      → IsClose span.degrees a.zones b.zones (pos a.lon_index) (pos b.lon_index)

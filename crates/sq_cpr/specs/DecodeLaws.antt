@@ -1,4 +1,4 @@
--- Laws of decoding, as statements. A span covers `degrees` degrees and fits `repeats` times into the circle.
+-- Laws of decoding, as statements.
 use Rattle.std.specs.Prelude.{◌≡◌, ◌↔◌, ℕ, ◌*◌, ◌<◌, ◌≤◌, ℤ, pos, Result, Ok, Err}
 use Rattle.sq_angle.specs.Fraction.{Fraction}
 use Rattle.sq_angle.specs.Whole.{ExactlyOne, IsCongruent}
@@ -9,6 +9,7 @@ use Rattle.sq_cpr.specs.declared.faults.LocalFault.{LocalFault}
 use Rattle.sq_cpr.specs.declared.faults.PairFault.{PairFault}
 use Rattle.sq_cpr.specs.declared.faults.PairFault.TheVariants.{OutOfRange, ZoneCounts}
 use Rattle.sq_cpr.specs.Code.{CodeNumbers}
+use Rattle.sq_cpr.specs.Span.{Span, air, ground}
 use Rattle.sq_cpr.specs.Grid.{Point, IsGridPoint, HasCode, codes_of_zone, lat_zones, circle, latitude, longitude}
 use Rattle.sq_cpr.specs.Near.{IsNear, IsStrictlyNear, IsRepresentative, half_zone, angle_at, IsNearLongitude, IsNearPoint, IsStrictlyNearPoint}
 use Rattle.sq_cpr.specs.Close.{IsClose, IsClosePair, zones_of, AreClosePoints, AreTamePoints}
@@ -19,63 +20,64 @@ use Rattle.sq_cpr.specs.Rounds.{PositionRoundsTo}
 use Rattle.sq_cpr.specs.Slow.{AreSlow, AreSlowForFollowing, AreWithin, IsPointWithin}
 
 -- the windows with fractions mean what their multiplied-out forms mean
-pub record FractionsAgree (degrees : ℕ) : Type 0 where
-  pub near : (zones : ℕ) (index : ℤ) (r : Fraction) → 0 < zones → LiesWithin 1 degrees zones index r
-      ↔ IsNear (half_zone degrees zones) r (angle_at degrees zones index)
-  pub strictly_near : (zones : ℕ) (index : ℤ) (r : Fraction) → 0 < zones → LiesStrictlyWithin degrees zones index r
-      ↔ IsStrictlyNear (half_zone degrees zones) r (angle_at degrees zones index)
-  pub representative : (zones : ℕ) (index : ℤ) (r : Fraction) → LiesWithin zones degrees zones index r
-      ↔ IsRepresentative degrees r (angle_at degrees zones index)
-  pub close : (n m : ℕ) (p q : ℤ) → 0 < n → 0 < m → LiesClose n m p q ↔ IsClose degrees n m p q
+pub record FractionsAgree (span : Span) : Type 0 where
+  pub near : (zones : ℕ) (index : ℤ) (r : Fraction) → 0 < zones → LiesWithin 1 span.degrees zones index r
+      ↔ IsNear (half_zone span.degrees zones) r (angle_at span.degrees zones index)
+  pub strictly_near : (zones : ℕ) (index : ℤ) (r : Fraction) → 0 < zones → LiesStrictlyWithin span.degrees zones index r
+      ↔ IsStrictlyNear (half_zone span.degrees zones) r (angle_at span.degrees zones index)
+  pub representative : (zones : ℕ) (index : ℤ) (r : Fraction) → LiesWithin zones span.degrees zones index r
+      ↔ IsRepresentative span.degrees r (angle_at span.degrees zones index)
+  pub close : (n m : ℕ) (p q : ℤ) → 0 < n → 0 < m → LiesClose n m p q ↔ IsClose span.degrees n m p q
 
 -- exactly one latitude index with this code is near a latitude
-abbrev pub OneNearLatitude : ℕ → Type 0
-OneNearLatitude degrees =
-    (parity : Parity) (lat : Fraction) (code : ℕ) → 0 < lat.den → ExactlyOne (IsNearLatitude degrees parity lat code)
+abbrev pub OneNearLatitude : Span → Type 0
+OneNearLatitude span =
+    (parity : Parity) (lat : Fraction) (code : ℕ) → 0 < lat.den
+    → ExactlyOne (IsNearLatitude span.degrees parity lat code)
 
 -- exactly one longitude index on the circle with this code is near a longitude, whatever the number of zones
-abbrev pub OneNearLongitude : ℕ → ℕ → Type 0
-OneNearLongitude degrees repeats =
+abbrev pub OneNearLongitude : Span → Type 0
+OneNearLongitude span =
     (zones : ℕ) (lon : Fraction) (code : ℕ) → 0 < zones → 0 < lon.den
-    → ExactlyOne (λ (index : ℕ). (index < circle zones repeats) × IsCongruent codes_of_zone (pos index) (pos code)
-    × IsNearLongitude degrees repeats zones lon index)
+    → ExactlyOne (λ (index : ℕ). (index < circle zones span.repeats) × IsCongruent codes_of_zone (pos index) (pos code)
+    × IsNearLongitude span zones lon index)
 
 -- decoding near a reference has one answer
-abbrev pub OneLocalAnswer : ℕ → ℕ → Type 0
-OneLocalAnswer degrees repeats =
+abbrev pub OneLocalAnswer : Span → Type 0
+OneLocalAnswer span =
     (code : CodeNumbers) (parity : Parity) (lat lon : Fraction) (answer other : Result Point LocalFault) → 0 < lat.den
     → 0 < lon.den
-    → LocalAnswer degrees repeats code parity lat lon answer → LocalAnswer degrees repeats code parity lat lon other
+    → LocalAnswer span code parity lat lon answer → LocalAnswer span code parity lat lon other
     → answer ≡ other
 
 -- a strictly near point is near
-abbrev pub StrictlyNearIsNear : ℕ → ℕ → Type 0
-StrictlyNearIsNear degrees repeats = (lat lon : Fraction) (point : Point)
-    → IsStrictlyNearPoint degrees repeats lat lon point → IsNearPoint degrees repeats lat lon point
+abbrev pub StrictlyNearIsNear : Span → Type 0
+StrictlyNearIsNear span = (lat lon : Fraction) (point : Point)
+    → IsStrictlyNearPoint span lat lon point → IsNearPoint span lat lon point
 
 -- a point with this code that is near the reference is the answer
-abbrev pub NearPointIsLocal : ℕ → ℕ → Type 0
-NearPointIsLocal degrees repeats =
+abbrev pub NearPointIsLocal : Span → Type 0
+NearPointIsLocal span =
     (code : CodeNumbers) (parity : Parity) (lat lon : Fraction) (answer : Result Point LocalFault) (point : Point)
     → 0 < lat.den → 0 < lon.den
-    → LocalAnswer degrees repeats code parity lat lon answer
-    → IsGridPoint degrees repeats point → point.parity ≡ parity → HasCode point code
-    → IsNearPoint degrees repeats lat lon point → answer ≡ Ok point
+    → LocalAnswer span code parity lat lon answer
+    → IsGridPoint span point → point.parity ≡ parity → HasCode point code
+    → IsNearPoint span lat lon point → answer ≡ Ok point
 
 -- a strictly near point with the code is the answer of local decoding
-abbrev pub StrictlyNearPointIsLocal : ℕ → ℕ → Type 0
-StrictlyNearPointIsLocal degrees repeats =
+abbrev pub StrictlyNearPointIsLocal : Span → Type 0
+StrictlyNearPointIsLocal span =
     (code : CodeNumbers) (parity : Parity) (lat lon : Fraction) (answer : Result Point LocalFault) (point : Point)
     → 0 < lat.den → 0 < lon.den
-    → LocalAnswer degrees repeats code parity lat lon answer
-    → IsGridPoint degrees repeats point → point.parity ≡ parity → HasCode point code
-    → IsStrictlyNearPoint degrees repeats lat lon point → answer ≡ Ok point
+    → LocalAnswer span code parity lat lon answer
+    → IsGridPoint span point → point.parity ≡ parity → HasCode point code
+    → IsStrictlyNearPoint span lat lon point → answer ≡ Ok point
 
 -- the decoded point has the code and the parity that were given
-abbrev pub LocalKeepsCode : ℕ → ℕ → Type 0
-LocalKeepsCode degrees repeats =
+abbrev pub LocalKeepsCode : Span → Type 0
+LocalKeepsCode span =
     (code : CodeNumbers) (parity : Parity) (lat lon : Fraction) (point : Point)
-    → LocalAnswer degrees repeats code parity lat lon (Ok point) → (point.parity ≡ parity) × HasCode point code
+    → LocalAnswer span code parity lat lon (Ok point) → (point.parity ≡ parity) × HasCode point code
 
 -- an even and an odd index
 pub record IndexPair : Type 0 where
@@ -89,24 +91,24 @@ HaveOneClosePair degrees n m =
     (even odd : ℕ) → ExactlyOne (λ (pair : IndexPair). (pair.even < n * codes_of_zone) × (pair.odd < m * codes_of_zone)
     × IsClosePair degrees n m even odd (pos pair.even) (pos pair.odd))
 
-abbrev pub OneCloseLatitudes : ℕ → Type 0
-OneCloseLatitudes degrees = HaveOneClosePair degrees (lat_zones Even) (lat_zones Odd)
+abbrev pub OneCloseLatitudes : Span → Type 0
+OneCloseLatitudes span = HaveOneClosePair span.degrees (lat_zones Even) (lat_zones Odd)
 
-abbrev pub OneCloseLongitudes : ℕ → Type 0
-OneCloseLongitudes degrees =
-    (count : ℕ) → 1 ≤ count → count ≤ 59 → HaveOneClosePair degrees (zones_of Even count) (zones_of Odd count)
+abbrev pub OneCloseLongitudes : Span → Type 0
+OneCloseLongitudes span =
+    (count : ℕ) → 1 ≤ count → count ≤ 59 → HaveOneClosePair span.degrees (zones_of Even count) (zones_of Odd count)
 
 -- where each grid has one zone any two angles are close
-abbrev pub OneZoneIsClose : ℕ → Type 0
-OneZoneIsClose degrees = (p q : ℤ) → IsClose degrees 1 1 p q
+abbrev pub OneZoneIsClose : Span → Type 0
+OneZoneIsClose span = (p q : ℤ) → IsClose span.degrees 1 1 p q
 
 -- decoding a pair has one answer
-abbrev pub OnePairAnswer : ℕ → ℕ → Type 0
-OnePairAnswer degrees repeats =
+abbrev pub OnePairAnswer : Span → Type 0
+OnePairAnswer span =
     (even odd : CodeNumbers) (newest : Parity) (lat lon : Fraction) (answer other : Result Point PairFault)
     → 0 < lat.den → 0 < lon.den
-    → PairAnswer degrees repeats even odd newest lat lon answer
-    → PairAnswer degrees repeats even odd newest lat lon other → answer ≡ other
+    → PairAnswer span even odd newest lat lon answer
+    → PairAnswer span even odd newest lat lon other → answer ≡ other
 
 abbrev pub OneAirPairAnswer : Type 0
 OneAirPairAnswer =
@@ -114,10 +116,10 @@ OneAirPairAnswer =
     → AirPairAnswer even odd newest answer → AirPairAnswer even odd newest other → answer ≡ other
 
 -- the decoded point has the newest code and parity
-abbrev pub PairKeepsCode : ℕ → ℕ → Type 0
-PairKeepsCode degrees repeats =
+abbrev pub PairKeepsCode : Span → Type 0
+PairKeepsCode span =
     (even odd : CodeNumbers) (newest : Parity) (lat lon : Fraction) (point : Point)
-    → PairAnswer degrees repeats even odd newest lat lon (Ok point) → (point.parity ≡ newest)
+    → PairAnswer span even odd newest lat lon (Ok point) → (point.parity ≡ newest)
     × HasCode point (of_parity newest even odd)
 
 abbrev pub AirPairKeepsCode : Type 0
@@ -129,71 +131,71 @@ AirPairKeepsCode =
 abbrev pub CloseAirPointsAreAnswered : Type 0
 CloseAirPointsAreAnswered =
     (even odd : CodeNumbers) (newest : Parity) (answer : Result Point PairFault) (a b : Point)
-    → AirPairAnswer even odd newest answer → IsGridPoint 360 1 a → IsGridPoint 360 1 b → HasCode a even → HasCode b odd
-    → AreClosePoints 360 a b → answer ≡ Ok (of_parity newest a b)
+    → AirPairAnswer even odd newest answer → IsGridPoint air a → IsGridPoint air b → HasCode a even → HasCode b odd
+    → AreClosePoints air a b → answer ≡ Ok (of_parity newest a b)
 
 -- close points on the ground are answered by the newest, where both lie less than 45 degrees from the site
 abbrev pub CloseGroundPointsAreAnswered : Type 0
 CloseGroundPointsAreAnswered =
     (even odd : CodeNumbers) (newest : Parity) (site : Position) (answer : Result Point PairFault) (a b : Point)
-    → PairAnswerAt 90 4 even odd newest site answer
-    → IsGridPoint 90 4 a → IsGridPoint 90 4 b → HasCode a even → HasCode b odd
-    → AreClosePoints 90 a b → IsPointWithin 45 90 4 a site → IsPointWithin 45 90 4 b site
+    → PairAnswerAt ground even odd newest site answer
+    → IsGridPoint ground a → IsGridPoint ground b → HasCode a even → HasCode b odd
+    → AreClosePoints ground a b → IsPointWithin 45 ground a site → IsPointWithin 45 ground b site
     → answer ≡ Ok (of_parity newest a b)
 
 -- what tame points a and b are decoded to: the newest, or their zone counts, which differ; never out of range
-abbrev pub TameAnswer : ℕ → Parity → Point → Point → Result Point PairFault → Type 0
-TameAnswer degrees newest a b (Ok point) = point ≡ of_parity newest a b
-TameAnswer degrees newest a b (Err OutOfRange) = ⊥
-TameAnswer degrees newest a b (Err (ZoneCounts even_count odd_count)) =
-    HaveTwoCounts degrees a.lat_index b.lat_index even_count odd_count
+abbrev pub TameAnswer : Span → Parity → Point → Point → Result Point PairFault → Type 0
+TameAnswer span newest a b (Ok point) = point ≡ of_parity newest a b
+TameAnswer span newest a b (Err OutOfRange) = ⊥
+TameAnswer span newest a b (Err (ZoneCounts even_count odd_count)) =
+    HaveTwoCounts span.degrees a.lat_index b.lat_index even_count odd_count
 
 abbrev pub TameAirPointsAreAnswered : Type 0
 TameAirPointsAreAnswered =
     (even odd : CodeNumbers) (newest : Parity) (answer : Result Point PairFault) (a b : Point)
-    → AirPairAnswer even odd newest answer → IsGridPoint 360 1 a → IsGridPoint 360 1 b → HasCode a even → HasCode b odd
-    → AreTamePoints 360 a b → TameAnswer 360 newest a b answer
+    → AirPairAnswer even odd newest answer → IsGridPoint air a → IsGridPoint air b → HasCode a even → HasCode b odd
+    → AreTamePoints air a b → TameAnswer air newest a b answer
 
 abbrev pub TameGroundPointsAreAnswered : Type 0
 TameGroundPointsAreAnswered =
     (even odd : CodeNumbers) (newest : Parity) (site : Position) (answer : Result Point PairFault) (a b : Point)
-    → PairAnswerAt 90 4 even odd newest site answer
-    → IsGridPoint 90 4 a → IsGridPoint 90 4 b → HasCode a even → HasCode b odd
-    → AreTamePoints 90 a b → IsPointWithin 45 90 4 a site → IsPointWithin 45 90 4 b site
-    → TameAnswer 90 newest a b answer
+    → PairAnswerAt ground even odd newest site answer
+    → IsGridPoint ground a → IsGridPoint ground b → HasCode a even → HasCode b odd
+    → AreTamePoints ground a b → IsPointWithin 45 ground a site → IsPointWithin 45 ground b site
+    → TameAnswer ground newest a b answer
 
 -- slow positions round to tame points
-abbrev pub SlowIsTame : ℕ → ℕ → Type 0
-SlowIsTame degrees repeats =
-    (x y : Position) (a b : Point) → PositionRoundsTo degrees repeats x a → PositionRoundsTo degrees repeats y b
+abbrev pub SlowIsTame : Span → Type 0
+SlowIsTame span =
+    (x y : Position) (a b : Point) → PositionRoundsTo span x a → PositionRoundsTo span y b
     → a.parity ≡ Even → b.parity ≡ Odd
-    → AreSlow degrees a b x y → AreTamePoints degrees a b
+    → AreSlow span a b x y → AreTamePoints span a b
 
 -- a position less than 44 degrees from the site rounds to a point less than 45 degrees from it
-abbrev pub RoundsNearSite : ℕ → ℕ → Type 0
-RoundsNearSite degrees repeats =
-    (x site : Position) (point : Point) → PositionRoundsTo degrees repeats x point → AreWithin 44 x site
-    → IsPointWithin 45 degrees repeats point site
+abbrev pub RoundsNearSite : Span → Type 0
+RoundsNearSite span =
+    (x site : Position) (point : Point) → PositionRoundsTo span x point → AreWithin 44 x site
+    → IsPointWithin 45 span point site
 
 -- positions that are slow for following round to points that are strictly near one another
-abbrev pub FollowingIsNear : ℕ → ℕ → Type 0
-FollowingIsNear degrees repeats =
-    (x y : Position) (a b : Point) → PositionRoundsTo degrees repeats x a → PositionRoundsTo degrees repeats y b
-    → AreSlowForFollowing degrees a b x y
-    → IsStrictlyNearPoint degrees repeats (latitude degrees b) (longitude degrees b) a
-    × IsStrictlyNearPoint degrees repeats (latitude degrees a) (longitude degrees a) b
+abbrev pub FollowingIsNear : Span → Type 0
+FollowingIsNear span =
+    (x y : Position) (a b : Point) → PositionRoundsTo span x a → PositionRoundsTo span y b
+    → AreSlowForFollowing span a b x y
+    → IsStrictlyNearPoint span (latitude span b) (longitude span b) a
+    × IsStrictlyNearPoint span (latitude span a) (longitude span a) b
 
 -- decoding near a reference has an answer
-abbrev pub SomeLocalAnswer : ℕ → ℕ → Type 0
-SomeLocalAnswer degrees repeats =
+abbrev pub SomeLocalAnswer : Span → Type 0
+SomeLocalAnswer span =
     (code : CodeNumbers) (parity : Parity) (lat lon : Fraction) → 0 < lat.den → 0 < lon.den
-    → (answer : Result Point LocalFault) × LocalAnswer degrees repeats code parity lat lon answer
+    → (answer : Result Point LocalFault) × LocalAnswer span code parity lat lon answer
 
 -- decoding a pair at a place has an answer
-abbrev pub SomePairAnswer : ℕ → ℕ → Type 0
-SomePairAnswer degrees repeats =
+abbrev pub SomePairAnswer : Span → Type 0
+SomePairAnswer span =
     (even odd : CodeNumbers) (newest : Parity) (lat lon : Fraction) → 0 < lat.den → 0 < lon.den
-    → (answer : Result Point PairFault) × PairAnswer degrees repeats even odd newest lat lon answer
+    → (answer : Result Point PairFault) × PairAnswer span even odd newest lat lon answer
 
 -- decoding a pair in the air has an answer
 abbrev pub SomeAirPairAnswer : Type 0

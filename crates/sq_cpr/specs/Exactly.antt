@@ -6,6 +6,7 @@ use Rattle.sq_angle.specs.Fraction.{Fraction, ◌≺◌, ◌≃◌, minus, plus,
 use Rattle.sq_angle.specs.Position.{lat_of, lon_of}
 use Rattle.sq_angle.specs.declared.position.Position.{Position}
 use Rattle.sq_zones.specs.declared.parity.Parity.TheVariants.{Even, Odd}
+use Rattle.sq_cpr.specs.Span.{Span, air, ground}
 use Rattle.sq_cpr.specs.Grid.{Point, latitude, lat_zones, longitude, codes_of_zone}
 use Rattle.sq_cpr.specs.Near.{IsStrictlyNear, IsStrictlyNearLongitude, IsStrictlyNearPoint, half_zone}
 use Rattle.sq_cpr.specs.Close.{AreCloseLatitudes, AreClosePoints, AreTamePoints, HaveOneCount, IsClose, count_at}
@@ -35,8 +36,8 @@ hundredths n = record { num = n; den = 100 }
 -- Either side of 180 degrees: longitudes of 179.99 and -179.99 are slow where there are 59 zones, 179 and -179 slow for
 -- following, and 159 and -159 less than 44 degrees apart; 158 and -158 are not.
 pub record Across180Degrees : Type 0 where
-  pub slow : DifferByLessAround (slow_limit 360 59 58) (hundredths (pos 17999)) (hundredths (neg_ℤ (pos 17999)))
-  pub following : DifferByLessAround (following_limit 360 59 58) (hundredths (pos 17900))
+  pub slow : DifferByLessAround (slow_limit air.degrees 59 58) (hundredths (pos 17999)) (hundredths (neg_ℤ (pos 17999)))
+  pub following : DifferByLessAround (following_limit air.degrees 59 58) (hundredths (pos 17900))
       (hundredths (neg_ℤ (pos 17900)))
   pub within : DifferByLessAround (whole 44) (hundredths (pos 15900)) (hundredths (neg_ℤ (pos 15900)))
   pub not_within : ¬ DifferByLessAround (whole 44) (hundredths (pos 15800)) (hundredths (neg_ℤ (pos 15800)))
@@ -48,17 +49,18 @@ ten_thousandths n = record { num = pos n; den = 10000 }
 -- At the limits where the points have 59 and 58 zones: 0.0525 degrees are slow and 0.0526 are not, though they are less
 -- than W / (2 59 58); 3.0508 degrees are slow for following and 3.0509 are not.
 pub record AtTheLimits : Type 0 where
-  pub slow : DifferByLess (slow_limit 360 59 58) (ten_thousandths 525) (whole 0)
-  pub not_slow : ¬ DifferByLess (slow_limit 360 59 58) (ten_thousandths 526) (whole 0)
-  pub following : DifferByLess (following_limit 360 (max 59 58) (min 59 58)) (ten_thousandths 30508) (whole 0)
-  pub not_following : ¬ DifferByLess (following_limit 360 (max 59 58) (min 59 58)) (ten_thousandths 30509) (whole 0)
+  pub slow : DifferByLess (slow_limit air.degrees 59 58) (ten_thousandths 525) (whole 0)
+  pub not_slow : ¬ DifferByLess (slow_limit air.degrees 59 58) (ten_thousandths 526) (whole 0)
+  pub following : DifferByLess (following_limit air.degrees (max 59 58) (min 59 58)) (ten_thousandths 30508) (whole 0)
+  pub not_following : ¬ DifferByLess (following_limit air.degrees (max 59 58) (min 59 58)) (ten_thousandths 30509)
+      (whole 0)
 
 -- the limits of the latitudes, as numbers: in the air, and a quarter of them on the ground
 pub record LimitsAsNumbers : Type 0 where
-  pub slow_in_air : slow_limit 360 60 59 ≃ record { num = pos 49107; den = 966656 }
-  pub following_in_air : following_limit 360 60 59 ≃ record { num = pos 2899923; den = 966656 }
-  pub slow_on_ground : slow_limit 90 60 59 ≃ record { num = pos 49107; den = 3866624 }
-  pub following_on_ground : following_limit 90 60 59 ≃ record { num = pos 2899923; den = 3866624 }
+  pub slow_in_air : slow_limit air.degrees 60 59 ≃ record { num = pos 49107; den = 966656 }
+  pub following_in_air : following_limit air.degrees 60 59 ≃ record { num = pos 2899923; den = 966656 }
+  pub slow_on_ground : slow_limit ground.degrees 60 59 ≃ record { num = pos 49107; den = 3866624 }
+  pub following_on_ground : following_limit ground.degrees 60 59 ≃ record { num = pos 2899923; den = 3866624 }
 
 -- the limits of all zone counts: W / (2 n m) less W / (m 2^17), and W / (2 n) less W / (m 2^17)
 abbrev pub LimitsInWords : Type 0
@@ -70,21 +72,21 @@ LimitsInWords = (w n m : ℕ) →
 
 -- positions are slow exactly where their latitudes are near enough and, where their points have one zone count of 2 or
 -- more, their longitudes
-abbrev pub SlowExactly : ℕ → Type 0
-SlowExactly degrees =
-    (a b : Point) (x y : Position) → AreSlow degrees a b x y
-    ↔ (DifferByLess (slow_limit degrees 60 59) (degrees_of (lat_of x)) (degrees_of (lat_of y))
-    × (HaveOneCount degrees a.lat_index b.lat_index → 2 ≤ count_at degrees Even a.lat_index
-    → DifferByLessAround (slow_limit degrees a.zones b.zones) (degrees_of (lon_of x)) (degrees_of (lon_of y))))
+abbrev pub SlowExactly : Span → Type 0
+SlowExactly span =
+    (a b : Point) (x y : Position) → AreSlow span a b x y
+    ↔ (DifferByLess (slow_limit span.degrees 60 59) (degrees_of (lat_of x)) (degrees_of (lat_of y))
+    × (HaveOneCount span.degrees a.lat_index b.lat_index → 2 ≤ count_at span.degrees Even a.lat_index
+    → DifferByLessAround (slow_limit span.degrees a.zones b.zones) (degrees_of (lon_of x)) (degrees_of (lon_of y))))
 
 -- positions are slow for following exactly where both coordinates are near enough, the longitudes by the larger count
 -- of zones and the step of the smaller
-abbrev pub FollowingExactly : ℕ → Type 0
-FollowingExactly degrees =
-    (a b : Point) (x y : Position) → AreSlowForFollowing degrees a b x y
-    ↔ (DifferByLess (following_limit degrees 60 59) (degrees_of (lat_of x)) (degrees_of (lat_of y))
-    × DifferByLessAround (following_limit degrees (max a.zones b.zones) (min a.zones b.zones)) (degrees_of (lon_of x))
-    (degrees_of (lon_of y)))
+abbrev pub FollowingExactly : Span → Type 0
+FollowingExactly span =
+    (a b : Point) (x y : Position) → AreSlowForFollowing span a b x y
+    ↔ (DifferByLess (following_limit span.degrees 60 59) (degrees_of (lat_of x)) (degrees_of (lat_of y))
+    × DifferByLessAround (following_limit span.degrees (max a.zones b.zones) (min a.zones b.zones))
+    (degrees_of (lon_of x)) (degrees_of (lon_of y)))
 
 -- positions lie within so many degrees exactly where both coordinates differ by less
 abbrev pub WithinExactly : Type 0
@@ -94,24 +96,24 @@ WithinExactly =
     × DifferByLessAround (whole limit) (degrees_of (lon_of x)) (degrees_of (lon_of y)))
 
 -- a point lies within so many degrees of a position exactly where its latitude and its longitude do
-abbrev pub PointWithinExactly : ℕ → ℕ → Type 0
-PointWithinExactly degrees repeats =
-    (limit : ℕ) (point : Point) (x : Position) → IsPointWithin limit degrees repeats point x
-    ↔ (DifferByLess (whole limit) (latitude degrees point) (degrees_of (lat_of x))
-    × DifferByLessAround (whole limit) (longitude degrees point) (degrees_of (lon_of x)))
+abbrev pub PointWithinExactly : Span → Type 0
+PointWithinExactly span =
+    (limit : ℕ) (point : Point) (x : Position) → IsPointWithin limit span point x
+    ↔ (DifferByLess (whole limit) (latitude span point) (degrees_of (lat_of x))
+    × DifferByLessAround (whole limit) (longitude span point) (degrees_of (lon_of x)))
 
 -- tame points with one zone count are close, and close points are tame and have one
-abbrev pub CloseExactly : ℕ → Type 0
-CloseExactly degrees = (a b : Point) → AreClosePoints degrees a b
-    ↔ (AreTamePoints degrees a b × HaveOneCount degrees a.lat_index b.lat_index)
+abbrev pub CloseExactly : Span → Type 0
+CloseExactly span = (a b : Point) → AreClosePoints span a b
+    ↔ (AreTamePoints span a b × HaveOneCount span.degrees a.lat_index b.lat_index)
 
 -- A point is strictly near a place exactly where its latitude differs from the place's by less than half a zone, and
 -- its longitude, some turns on, does.
-abbrev pub StrictlyNearExactly : ℕ → ℕ → Type 0
-StrictlyNearExactly degrees repeats =
-    (lat lon : Fraction) (point : Point) → IsStrictlyNearPoint degrees repeats lat lon point
-    ↔ (IsStrictlyNear (half_zone degrees (lat_zones point.parity)) lat (latitude degrees point)
-    × IsStrictlyNearLongitude degrees repeats point.zones lon point.lon_index)
+abbrev pub StrictlyNearExactly : Span → Type 0
+StrictlyNearExactly span =
+    (lat lon : Fraction) (point : Point) → IsStrictlyNearPoint span lat lon point
+    ↔ (IsStrictlyNear (half_zone span.degrees (lat_zones point.parity)) lat (latitude span point)
+    × IsStrictlyNearLongitude span point.zones lon point.lon_index)
 
 -- strictly near is above one end of the window and below the other
 abbrev pub WindowExactly : Type 0
@@ -119,11 +121,11 @@ WindowExactly = (h r x : Fraction) → IsStrictlyNear h r x ↔ ((minus r h ≺ 
 
 -- points are tame exactly where the first is even and the second odd, their latitudes are close and, where these have
 -- one zone count, their longitudes
-abbrev pub TameExactly : ℕ → Type 0
-TameExactly degrees =
-    (a b : Point) → AreTamePoints degrees a b
-    ↔ ((a.parity ≡ Even) × (b.parity ≡ Odd) × AreCloseLatitudes degrees a.lat_index b.lat_index
-    × (HaveOneCount degrees a.lat_index b.lat_index → IsClose degrees a.zones b.zones (pos a.lon_index)
+abbrev pub TameExactly : Span → Type 0
+TameExactly span =
+    (a b : Point) → AreTamePoints span a b
+    ↔ ((a.parity ≡ Even) × (b.parity ≡ Odd) × AreCloseLatitudes span.degrees a.lat_index b.lat_index
+    × (HaveOneCount span.degrees a.lat_index b.lat_index → IsClose span.degrees a.zones b.zones (pos a.lon_index)
     (pos b.lon_index)))
 
 -- a number of thousandths of a degree
@@ -141,8 +143,8 @@ odd_point = record { parity = Odd; lat_index = pos (8 * 131072 + 74158); zones =
 -- References of three decimals, which are no points of a grid: both points are strictly near 52.258 3.918, the even
 -- one not near 55.258 3.918, and both are close.
 pub record NearThreeDecimals : Type 0 where
-  pub even : IsStrictlyNearPoint 360 1 (thousandths 52258) (thousandths 3918) even_point
-  pub odd : IsStrictlyNearPoint 360 1 (thousandths 52258) (thousandths 3918) odd_point
-  pub not_near : ¬ IsStrictlyNearPoint 360 1 (thousandths 55258) (thousandths 3918) even_point
-  pub latitudes : AreCloseLatitudes 360 even_point.lat_index odd_point.lat_index
-  pub longitudes : IsClose 360 36 35 (pos even_point.lon_index) (pos odd_point.lon_index)
+  pub even : IsStrictlyNearPoint air (thousandths 52258) (thousandths 3918) even_point
+  pub odd : IsStrictlyNearPoint air (thousandths 52258) (thousandths 3918) odd_point
+  pub not_near : ¬ IsStrictlyNearPoint air (thousandths 55258) (thousandths 3918) even_point
+  pub latitudes : AreCloseLatitudes air.degrees even_point.lat_index odd_point.lat_index
+  pub longitudes : IsClose air.degrees 36 35 (pos even_point.lon_index) (pos odd_point.lon_index)

@@ -1,5 +1,4 @@
--- The grid of a span and a parity (RTCA DO-260B, appendix on compact position reporting). A span covers `degrees`
--- degrees and fits `repeats` times into the circle: 360 and 1 in the air, 90 and 4 on the ground.
+-- The grid of a span and a parity (RTCA DO-260B, appendix on compact position reporting).
 use Rattle.std.specs.Prelude.{◌≡◌, ℕ, ◌-◌, ◌*◌, ◌%◌, ◌^◌, ◌<◌, ℤ, pos, ◌-ℤ◌, ◌*ℤ◌, unsigned_abs, nat_lt, if◌then◌else◌}
 use Rattle.std.specs.Int.{int_rem_euclid}
 use Rattle.sq_angle.specs.Fraction.{Fraction, IsWithin}
@@ -7,6 +6,7 @@ use Rattle.sq_angle.specs.Whole.{IsCongruent}
 use Rattle.sq_zones.specs.Zones.{lon_zones_at, parity_index}
 use Rattle.sq_zones.specs.declared.parity.Parity.{Parity}
 use Rattle.sq_cpr.specs.Code.{CodeNumbers}
+use Rattle.sq_cpr.specs.Span.{Span}
 
 -- a point by its parity, its latitude index, its number of longitude zones and its longitude index
 pub record Point : Type 0 where
@@ -51,11 +51,11 @@ grid_longitude degrees zones lon_index =
     let num = degrees * lon_index in
     record { num = if nat_lt num (180 * den) then pos num else (pos num -ℤ pos (360 * den)); den = den }
 
-abbrev pub latitude : ℕ → Point → Fraction
-latitude degrees point = grid_latitude degrees point.parity point.lat_index
+abbrev pub latitude : Span → Point → Fraction
+latitude span point = grid_latitude span.degrees point.parity point.lat_index
 
-abbrev pub longitude : ℕ → Point → Fraction
-longitude degrees point = grid_longitude degrees point.zones point.lon_index
+abbrev pub longitude : Span → Point → Fraction
+longitude span point = grid_longitude span.degrees point.zones point.lon_index
 
 -- the latitude of the index lies in -90 to 90
 abbrev pub IsLatitude : ℕ → Parity → ℤ → Type 0
@@ -63,15 +63,15 @@ IsLatitude degrees parity lat_index = IsWithin 90 (grid_latitude degrees parity 
 
 -- a point of the grid: its latitude is one, its zones are those of its own latitude, and its longitude index is on the
 -- circle
-pub record IsGridPoint (degrees repeats : ℕ) (point : Point) : Type 0 where
-  pub north_south : IsLatitude degrees point.parity point.lat_index
-  pub zones : point.zones ≡ lon_zones_at point.parity (latitude degrees point)
-  pub east_west : point.lon_index < circle point.zones repeats
+pub record IsGridPoint (span : Span) (point : Point) : Type 0 where
+  pub north_south : IsLatitude span.degrees point.parity point.lat_index
+  pub zones : point.zones ≡ lon_zones_at point.parity (latitude span point)
+  pub east_west : point.lon_index < circle point.zones span.repeats
 
 -- the grid has a point with these indices
-abbrev pub HasPoint : ℕ → ℕ → Parity → ℤ → ℕ → Type 0
-HasPoint degrees repeats parity lat_index lon_index =
-    (zones : ℕ) × IsGridPoint degrees repeats (point_at parity lat_index zones lon_index)
+abbrev pub HasPoint : Span → Parity → ℤ → ℕ → Type 0
+HasPoint span parity lat_index lon_index =
+    (zones : ℕ) × IsGridPoint span (point_at parity lat_index zones lon_index)
 
 -- the code of a point: both indices modulo 2^17
 abbrev pub code_of : Point → CodeNumbers

@@ -1,4 +1,5 @@
 pub mod Code
+pub mod Span
 pub mod Grid
 pub mod Rounds
 pub mod Zones

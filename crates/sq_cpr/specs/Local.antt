@@ -9,6 +9,7 @@ use Rattle.sq_zones.specs.declared.parity.Parity.{Parity}
 use Rattle.sq_cpr.specs.declared.faults.LocalFault.{LocalFault}
 use Rattle.sq_cpr.specs.declared.faults.LocalFault.TheVariants.{OutOfRange}
 use Rattle.sq_cpr.specs.Code.{CodeNumbers}
+use Rattle.sq_cpr.specs.Span.{Span}
 use Rattle.sq_cpr.specs.Grid.{Point, IsGridPoint, HasCode, IsLatitude, codes_of_zone, lat_zones, grid_latitude}
 use Rattle.sq_cpr.specs.Near.{IsNear, half_zone, IsNearPoint}
 
@@ -18,20 +19,20 @@ pub record IsNearLatitude (degrees : ℕ) (parity : Parity) (lat : Fraction) (co
   pub near : IsNear (half_zone degrees (lat_zones parity)) lat (grid_latitude degrees parity index)
 
 -- a point of the parity's grid with this code that is near
-pub record IsLocalPoint (degrees repeats : ℕ) (code : CodeNumbers) (parity : Parity) (lat lon : Fraction)
+pub record IsLocalPoint (span : Span) (code : CodeNumbers) (parity : Parity) (lat lon : Fraction)
     (point : Point) : Type 0 where
-  pub of_grid : IsGridPoint degrees repeats point
+  pub of_grid : IsGridPoint span point
   pub of_parity : point.parity ≡ parity
   pub has_code : HasCode point code
-  pub near : IsNearPoint degrees repeats lat lon point
+  pub near : IsNearPoint span lat lon point
 
 -- what a code is decoded to near (lat, lon): such a point, or that the near latitude lies outside -90 to 90
-abbrev pub LocalAnswer : ℕ → ℕ → CodeNumbers → Parity → Fraction → Fraction → Result Point LocalFault → Type 0
-LocalAnswer degrees repeats code parity lat lon (Ok point) = IsLocalPoint degrees repeats code parity lat lon point
-LocalAnswer degrees repeats code parity lat lon (Err OutOfRange) =
-    (index : ℤ) × IsNearLatitude degrees parity lat code.lat index × ¬ IsLatitude degrees parity index
+abbrev pub LocalAnswer : Span → CodeNumbers → Parity → Fraction → Fraction → Result Point LocalFault → Type 0
+LocalAnswer span code parity lat lon (Ok point) = IsLocalPoint span code parity lat lon point
+LocalAnswer span code parity lat lon (Err OutOfRange) =
+    (index : ℤ) × IsNearLatitude span.degrees parity lat code.lat index × ¬ IsLatitude span.degrees parity index
 
 -- what a code is decoded to near a position
-abbrev pub LocalAnswerNear : ℕ → ℕ → CodeNumbers → Parity → Position → Result Point LocalFault → Type 0
-LocalAnswerNear degrees repeats code parity reference answer =
-    LocalAnswer degrees repeats code parity (degrees_of (lat_of reference)) (degrees_of (lon_of reference)) answer
+abbrev pub LocalAnswerNear : Span → CodeNumbers → Parity → Position → Result Point LocalFault → Type 0
+LocalAnswerNear span code parity reference answer =
+    LocalAnswer span code parity (degrees_of (lat_of reference)) (degrees_of (lon_of reference)) answer

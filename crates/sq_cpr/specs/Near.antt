@@ -1,7 +1,11 @@
 -- Near a reference (RTCA DO-260B, appendix on compact position reporting: local decoding; ICAO Doc 9871).
 use Rattle.std.specs.Prelude.{ℕ, ◌*◌, ℤ, pos}
 use Rattle.sq_angle.specs.Fraction.{Fraction, ◌≼◌, ◌≺◌, plus, minus}
+use Rattle.sq_angle.specs.Angle.{degrees as degrees_of}
+use Rattle.sq_angle.specs.Position.{lat_of, lon_of}
 use Rattle.sq_angle.specs.Whole.{IsCongruent}
+use Rattle.sq_angle.specs.declared.position.Position.{Position}
+use Rattle.sq_cpr.specs.Span.{Span}
 use Rattle.sq_cpr.specs.Grid.{Point, steps, step, lat_zones, circle, latitude}
 
 -- r - h < x ≤ r + h
@@ -18,7 +22,7 @@ pub record IsStrictlyNear (h r x : Fraction) : Type 0 where
 abbrev pub half_zone : ℕ → ℕ → Fraction
 half_zone degrees zones = record { num = pos degrees; den = 2 * zones }
 
--- half a span: 180 degrees in the air, 45 on the ground
+-- half the degrees of a span
 abbrev pub half_span : ℕ → Fraction
 half_span degrees = record { num = pos degrees; den = 2 }
 
@@ -36,23 +40,28 @@ abbrev pub OnSomeTurn : ℕ → ℕ → (ℤ → Type 0) → Type 0
 OnSomeTurn circle index P = (turned : ℤ) × IsCongruent circle turned (pos index) × P turned
 
 -- the longitude of the index is near, modulo 360 degrees: within half a longitude zone
-abbrev pub IsNearLongitude : ℕ → ℕ → ℕ → Fraction → ℕ → Type 0
-IsNearLongitude degrees repeats zones lon index =
-    OnSomeTurn (circle zones repeats) index
-    (λ turned. IsNear (half_zone degrees zones) lon (angle_at degrees zones turned))
+abbrev pub IsNearLongitude : Span → ℕ → Fraction → ℕ → Type 0
+IsNearLongitude span zones lon index =
+    OnSomeTurn (circle zones span.repeats) index
+    (λ turned. IsNear (half_zone span.degrees zones) lon (angle_at span.degrees zones turned))
 
 -- the longitude of the index lies less than half a zone from `lon`, with both ends of the interval left out
-abbrev pub IsStrictlyNearLongitude : ℕ → ℕ → ℕ → Fraction → ℕ → Type 0
-IsStrictlyNearLongitude degrees repeats zones lon index =
-    OnSomeTurn (circle zones repeats) index
-    (λ turned. IsStrictlyNear (half_zone degrees zones) lon (angle_at degrees zones turned))
+abbrev pub IsStrictlyNearLongitude : Span → ℕ → Fraction → ℕ → Type 0
+IsStrictlyNearLongitude span zones lon index =
+    OnSomeTurn (circle zones span.repeats) index
+    (λ turned. IsStrictlyNear (half_zone span.degrees zones) lon (angle_at span.degrees zones turned))
 
 -- the point is near the place: within half a zone in both coordinates, of the zones that the point itself has
-pub record IsNearPoint (degrees repeats : ℕ) (lat lon : Fraction) (point : Point) : Type 0 where
-  pub north_south : IsNear (half_zone degrees (lat_zones point.parity)) lat (latitude degrees point)
-  pub east_west : IsNearLongitude degrees repeats point.zones lon point.lon_index
+pub record IsNearPoint (span : Span) (lat lon : Fraction) (point : Point) : Type 0 where
+  pub north_south : IsNear (half_zone span.degrees (lat_zones point.parity)) lat (latitude span point)
+  pub east_west : IsNearLongitude span point.zones lon point.lon_index
 
 -- the point lies less than half a zone from the reference, with both ends of both intervals left out
-pub record IsStrictlyNearPoint (degrees repeats : ℕ) (lat lon : Fraction) (point : Point) : Type 0 where
-  pub north_south : IsStrictlyNear (half_zone degrees (lat_zones point.parity)) lat (latitude degrees point)
-  pub east_west : IsStrictlyNearLongitude degrees repeats point.zones lon point.lon_index
+pub record IsStrictlyNearPoint (span : Span) (lat lon : Fraction) (point : Point) : Type 0 where
+  pub north_south : IsStrictlyNear (half_zone span.degrees (lat_zones point.parity)) lat (latitude span point)
+  pub east_west : IsStrictlyNearLongitude span point.zones lon point.lon_index
+
+-- the point lies less than half a zone from a position
+abbrev pub IsStrictlyNearPosition : Span → Position → Point → Type 0
+IsStrictlyNearPosition span reference point =
+    IsStrictlyNearPoint span (degrees_of (lat_of reference)) (degrees_of (lon_of reference)) point

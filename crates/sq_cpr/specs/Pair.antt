@@ -11,6 +11,7 @@ use Rattle.sq_zones.specs.declared.parity.Parity.TheVariants.{Even, Odd}
 use Rattle.sq_cpr.specs.declared.faults.PairFault.{PairFault}
 use Rattle.sq_cpr.specs.declared.faults.PairFault.TheVariants.{OutOfRange, ZoneCounts}
 use Rattle.sq_cpr.specs.Code.{CodeNumbers}
+use Rattle.sq_cpr.specs.Span.{Span, air}
 use Rattle.sq_cpr.specs.Grid.{Point, IsGridPoint, IsLatitude, lat_zones, circle, grid_latitude}
 use Rattle.sq_cpr.specs.Near.{IsRepresentative, angle_at}
 use Rattle.sq_cpr.specs.Close.{IsClosePair, count_at, zones_of, HaveOneCount}
@@ -36,20 +37,21 @@ pub record AreAt (degrees : ℕ) (lat : Fraction) (p q : ℤ) : Type 0 where
 
 -- The newest point of a close pair with these codes: both latitudes lie in -90 to 90 and have one zone count, and the
 -- longitudes are close by the zones of that count.
-pub record IsPointOfPair (degrees repeats : ℕ) (even odd : CodeNumbers) (newest : Parity) (point : Point) : Type 0 where
+pub record IsPointOfPair (span : Span) (even odd : CodeNumbers) (newest : Parity) (point : Point) : Type 0 where
   pub even_lat : ℤ
   pub odd_lat : ℤ
   pub even_lon : ℤ
   pub odd_lon : ℤ
-  pub latitudes : AreLatitudes degrees even odd even_lat odd_lat
-  pub in_range : AreInRange degrees even_lat odd_lat
-  pub counts : HaveOneCount degrees even_lat odd_lat
-  pub longitudes : IsClosePair degrees (zones_of Even (count_at degrees Even even_lat))
-      (zones_of Odd (count_at degrees Even even_lat)) even.lon odd.lon even_lon odd_lon
-  pub of_grid : IsGridPoint degrees repeats point
+  pub latitudes : AreLatitudes span.degrees even odd even_lat odd_lat
+  pub in_range : AreInRange span.degrees even_lat odd_lat
+  pub counts : HaveOneCount span.degrees even_lat odd_lat
+  pub longitudes : IsClosePair span.degrees (zones_of Even (count_at span.degrees Even even_lat))
+      (zones_of Odd (count_at span.degrees Even even_lat)) even.lon odd.lon even_lon odd_lon
+  pub of_grid : IsGridPoint span point
   pub parity : point.parity ≡ newest
   pub lat_index : point.lat_index ≡ of_parity newest even_lat odd_lat
-  pub lon_index : IsCongruent (circle point.zones repeats) (pos point.lon_index) (of_parity newest even_lon odd_lon)
+  pub lon_index : IsCongruent (circle point.zones span.repeats) (pos point.lon_index)
+      (of_parity newest even_lon odd_lon)
 
 -- both latitudes lie in -90 to 90, and their zone counts are these two, which differ
 pub record HaveTwoCounts (degrees : ℕ) (p q : ℤ) (even_count odd_count : ℕ) : Type 0 where
@@ -61,32 +63,33 @@ pub record HaveTwoCounts (degrees : ℕ) (p q : ℤ) (even_count odd_count : ℕ
 -- What a pair of codes in the air is decoded to: the newest point of the close pair; or that the close latitudes are
 -- not both in -90 to 90; or their two zone counts.
 abbrev pub AirPairAnswer : CodeNumbers → CodeNumbers → Parity → Result Point PairFault → Type 0
-AirPairAnswer even odd newest (Ok point) = IsPointOfPair 360 1 even odd newest point
-AirPairAnswer even odd newest (Err OutOfRange) = (p q : ℤ) → AreLatitudes 360 even odd p q → ¬ AreInRange 360 p q
+AirPairAnswer even odd newest (Ok point) = IsPointOfPair air even odd newest point
+AirPairAnswer even odd newest (Err OutOfRange) =
+    (p q : ℤ) → AreLatitudes air.degrees even odd p q → ¬ AreInRange air.degrees p q
 AirPairAnswer even odd newest (Err (ZoneCounts even_count odd_count)) =
-    (p q : ℤ) × AreLatitudes 360 even odd p q × HaveTwoCounts 360 p q even_count odd_count
+    (p q : ℤ) × AreLatitudes air.degrees even odd p q × HaveTwoCounts air.degrees p q even_count odd_count
 
 -- the newest point of the close pair, each coordinate by its representative at the place
-pub record IsPointOfPairAt (degrees repeats : ℕ) (even odd : CodeNumbers) (newest : Parity) (lat lon : Fraction)
+pub record IsPointOfPairAt (span : Span) (even odd : CodeNumbers) (newest : Parity) (lat lon : Fraction)
     (point : Point) : Type 0 where
-  pub of_pair : IsPointOfPair degrees repeats even odd newest point
-  pub lat_at : AreAt degrees lat of_pair.even_lat of_pair.odd_lat
-  pub lon_at : IsRepresentative degrees lon
-      (angle_at degrees point.zones (of_parity newest of_pair.even_lon of_pair.odd_lon))
+  pub of_pair : IsPointOfPair span even odd newest point
+  pub lat_at : AreAt span.degrees lat of_pair.even_lat of_pair.odd_lat
+  pub lon_at : IsRepresentative span.degrees lon
+      (angle_at span.degrees point.zones (of_parity newest of_pair.even_lon of_pair.odd_lon))
 
 -- What a pair of codes is decoded to at the place (lat, lon): each latitude by its representative there, whatever the
 -- other's is.
-abbrev pub PairAnswer : ℕ → ℕ → CodeNumbers → CodeNumbers → Parity → Fraction → Fraction → Result Point PairFault
+abbrev pub PairAnswer : Span → CodeNumbers → CodeNumbers → Parity → Fraction → Fraction → Result Point PairFault
     → Type 0
-PairAnswer degrees repeats even odd newest lat lon (Ok point) =
-    IsPointOfPairAt degrees repeats even odd newest lat lon point
-PairAnswer degrees repeats even odd newest lat lon (Err OutOfRange) =
-    (p q : ℤ) × AreLatitudes degrees even odd p q × AreAt degrees lat p q × ¬ AreInRange degrees p q
-PairAnswer degrees repeats even odd newest lat lon (Err (ZoneCounts even_count odd_count)) =
-    (p q : ℤ) × AreLatitudes degrees even odd p q × AreAt degrees lat p q
-    × HaveTwoCounts degrees p q even_count odd_count
+PairAnswer span even odd newest lat lon (Ok point) =
+    IsPointOfPairAt span even odd newest lat lon point
+PairAnswer span even odd newest lat lon (Err OutOfRange) =
+    (p q : ℤ) × AreLatitudes span.degrees even odd p q × AreAt span.degrees lat p q × ¬ AreInRange span.degrees p q
+PairAnswer span even odd newest lat lon (Err (ZoneCounts even_count odd_count)) =
+    (p q : ℤ) × AreLatitudes span.degrees even odd p q × AreAt span.degrees lat p q
+    × HaveTwoCounts span.degrees p q even_count odd_count
 
 -- what a pair of codes is decoded to at a position
-abbrev pub PairAnswerAt : ℕ → ℕ → CodeNumbers → CodeNumbers → Parity → Position → Result Point PairFault → Type 0
-PairAnswerAt degrees repeats even odd newest place answer =
-    PairAnswer degrees repeats even odd newest (degrees_of (lat_of place)) (degrees_of (lon_of place)) answer
+abbrev pub PairAnswerAt : Span → CodeNumbers → CodeNumbers → Parity → Position → Result Point PairFault → Type 0
+PairAnswerAt span even odd newest place answer =
+    PairAnswer span even odd newest (degrees_of (lat_of place)) (degrees_of (lon_of place)) answer

@@ -5,6 +5,7 @@ use Rattle.sq_angle.specs.Fraction.{Fraction, ◌≺◌, minus, opposite, whole}
 use Rattle.sq_angle.specs.Position.{lat_of, lon_of}
 use Rattle.sq_angle.specs.declared.position.Position.{Position}
 use Rattle.sq_zones.specs.declared.parity.Parity.TheVariants.{Even, Odd}
+use Rattle.sq_cpr.specs.Span.{Span}
 use Rattle.sq_cpr.specs.Grid.{Point, step, lat_zones, circle, latitude}
 use Rattle.sq_cpr.specs.Near.{half_zone, angle_at, OnSomeTurn}
 use Rattle.sq_cpr.specs.Close.{difference, closeness, count_at, HaveOneCount}
@@ -28,11 +29,11 @@ slow_limit degrees even_zones odd_zones = minus (closeness degrees even_zones od
 
 -- The true positions x and y, which round to a and to b, are slow: their latitudes, and where the points have one zone
 -- count of two or more, their longitudes.
-pub record AreSlow (degrees : ℕ) (a b : Point) (x y : Position) : Type 0 where
-  pub latitudes : DifferByLess (slow_limit degrees (lat_zones Even) (lat_zones Odd)) (degrees_of (lat_of x))
+pub record AreSlow (span : Span) (a b : Point) (x y : Position) : Type 0 where
+  pub latitudes : DifferByLess (slow_limit span.degrees (lat_zones Even) (lat_zones Odd)) (degrees_of (lat_of x))
       (degrees_of (lat_of y))
-  pub longitudes : HaveOneCount degrees a.lat_index b.lat_index → 2 ≤ count_at degrees Even a.lat_index
-      → DifferByLessAround (slow_limit degrees a.zones b.zones) (degrees_of (lon_of x)) (degrees_of (lon_of y))
+  pub longitudes : HaveOneCount span.degrees a.lat_index b.lat_index → 2 ≤ count_at span.degrees Even a.lat_index
+      → DifferByLessAround (slow_limit span.degrees a.zones b.zones) (degrees_of (lon_of x)) (degrees_of (lon_of y))
 
 -- how far positions that are slow for following may lie apart: half a zone of the larger number of zones, less a step
 -- of the smaller
@@ -41,10 +42,10 @@ following_limit degrees larger smaller = minus (half_zone degrees larger) (step 
 
 -- The true positions x and y, which round to a and to b, are slow for following. The latitudes are held against the
 -- even grid's zones and the odd grid's step, whatever the parities.
-pub record AreSlowForFollowing (degrees : ℕ) (a b : Point) (x y : Position) : Type 0 where
-  pub latitudes : DifferByLess (following_limit degrees (lat_zones Even) (lat_zones Odd)) (degrees_of (lat_of x))
+pub record AreSlowForFollowing (span : Span) (a b : Point) (x y : Position) : Type 0 where
+  pub latitudes : DifferByLess (following_limit span.degrees (lat_zones Even) (lat_zones Odd)) (degrees_of (lat_of x))
       (degrees_of (lat_of y))
-  pub longitudes : DifferByLessAround (following_limit degrees (max a.zones b.zones) (min a.zones b.zones))
+  pub longitudes : DifferByLessAround (following_limit span.degrees (max a.zones b.zones) (min a.zones b.zones))
       (degrees_of (lon_of x)) (degrees_of (lon_of y))
 
 -- the positions differ by less than so many degrees in both coordinates, the longitudes modulo 360
@@ -53,7 +54,7 @@ pub record AreWithin (limit : ℕ) (x y : Position) : Type 0 where
   pub longitudes : DifferByLessAround (whole limit) (degrees_of (lon_of x)) (degrees_of (lon_of y))
 
 -- the point differs from the position by less than so many degrees in both coordinates, the longitudes modulo 360
-pub record IsPointWithin (limit degrees repeats : ℕ) (point : Point) (x : Position) : Type 0 where
-  pub latitudes : DifferByLess (whole limit) (latitude degrees point) (degrees_of (lat_of x))
-  pub longitudes : OnSomeTurn (circle point.zones repeats) point.lon_index
-      (λ turned. DifferByLess (whole limit) (angle_at degrees point.zones turned) (degrees_of (lon_of x)))
+pub record IsPointWithin (limit : ℕ) (span : Span) (point : Point) (x : Position) : Type 0 where
+  pub latitudes : DifferByLess (whole limit) (latitude span point) (degrees_of (lat_of x))
+  pub longitudes : OnSomeTurn (circle point.zones span.repeats) point.lon_index
+      (λ turned. DifferByLess (whole limit) (angle_at span.degrees point.zones turned) (degrees_of (lon_of x)))

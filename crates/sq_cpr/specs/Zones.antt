@@ -2,9 +2,13 @@
 -- step: the indices to which the angles of one zone round are then 2^17 in a row, so that no two of them have one
 -- number in the code.
 use Rattle.std.specs.Prelude.{◌≡◌, ℕ, ◌*◌, ◌<◌, ℤ, pos, ◌+ℤ◌, ◌-ℤ◌, ◌*ℤ◌}
+use Rattle.sq_angle.specs.Angle.{degrees as degrees_of}
 use Rattle.sq_angle.specs.Fraction.{Fraction, ◌≼◌, ◌≺◌}
 use Rattle.sq_angle.specs.Nearest.{half_steps}
+use Rattle.sq_angle.specs.Position.{lat_of, lon_of}
+use Rattle.sq_angle.specs.declared.position.Position.{Position}
 use Rattle.sq_zones.specs.declared.parity.Parity.{Parity}
+use Rattle.sq_cpr.specs.Span.{Span}
 use Rattle.sq_cpr.specs.Grid.{Point, step, lat_zones, codes_of_zone}
 use Rattle.sq_cpr.specs.Rounds.{RoundsTo}
 
@@ -28,10 +32,15 @@ pub record ZonePair : Type 0 where
 
 -- The position lies in these zones of the parity's grid. There are as many longitude zones a span as the point has to
 -- which the position rounds.
-pub record IsInZones (degrees repeats : ℕ) (parity : Parity) (lat lon : Fraction) (zones : ZonePair) : Type 0 where
+pub record IsInZones (span : Span) (parity : Parity) (lat lon : Fraction) (zones : ZonePair) : Type 0 where
   pub point : Point
   pub of_parity : point.parity ≡ parity
-  pub rounds : RoundsTo degrees repeats lat lon point
-  pub north_south : IsInZone lat (step degrees (lat_zones parity)) zones.lat
-  pub of_circle : zones.lon < point.zones * repeats
-  pub east_west : (turns : ℤ) × IsInZone (turned lon turns) (step degrees point.zones) (pos zones.lon)
+  pub rounds : RoundsTo span lat lon point
+  pub north_south : IsInZone lat (step span.degrees (lat_zones parity)) zones.lat
+  pub of_circle : zones.lon < point.zones * span.repeats
+  pub east_west : (turns : ℤ) × IsInZone (turned lon turns) (step span.degrees point.zones) (pos zones.lon)
+
+-- the zones of a position on a parity's grid
+abbrev pub PositionIsInZones : Span → Parity → Position → ZonePair → Type 0
+PositionIsInZones span parity position zones =
+    IsInZones span parity (degrees_of (lat_of position)) (degrees_of (lon_of position)) zones

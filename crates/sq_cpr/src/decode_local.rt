@@ -22,7 +22,7 @@ pub fn local<S: Span>(
     parity: Parity,
     reference: &Position,
 ) -> Result<GridPoint<S>, LocalFault>
-    ensures { LocalAnswerNear S.DEGREES S.REPEATS (numbers_of code) parity reference.now result }
+    ensures { LocalAnswerNear S.span (numbers_of code) parity reference.now result }
 {
     let span = degrees_of::<S>();
     let lat_index = index_within(

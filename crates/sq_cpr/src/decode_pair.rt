@@ -8,6 +8,7 @@ ghost use Rattle.sq_cpr.specs.Near.{IsRepresentative};
 ghost use Rattle.sq_cpr.specs.Near.{angle_at as angle_of_index};
 ghost use Rattle.sq_cpr.specs.Close.{IsClosePair};
 ghost use Rattle.sq_cpr.specs.Close.{zones_of as zones_of_count};
+ghost use Rattle.sq_cpr.specs.Span.{ground};
 ghost use Rattle.sq_cpr.specs.Pair.{of_parity, AreLatitudes, AreAt, AirPairAnswer, PairAnswerAt};
 
 use crate::code::Code;
@@ -120,7 +121,7 @@ fn pair<S: Span>(
     newest: Parity,
     place: &Position,
 ) -> Result<GridPoint<S>, PairFault>
-    ensures { PairAnswerAt S.DEGREES S.REPEATS (numbers_of even) (numbers_of odd) newest place.now result }
+    ensures { PairAnswerAt S.span (numbers_of even) (numbers_of odd) newest place.now result }
 {
     let span = degrees_of::<S>();
     let lats = close_latitudes(span, even, odd, &place.lat());
@@ -176,7 +177,7 @@ pub fn pair_ground(
     newest: Parity,
     site: &Position,
 ) -> Result<GridPoint<Ground>, PairFault>
-    ensures { PairAnswerAt 90 4 (numbers_of even) (numbers_of odd) newest site.now result }
+    ensures { PairAnswerAt ground (numbers_of even) (numbers_of odd) newest site.now result }
 {
     pair::<Ground>(even, odd, newest, site)
 }

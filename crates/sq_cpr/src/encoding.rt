@@ -23,13 +23,13 @@ use sq_zones::{Parity, lon_zones};
 /// Each position rounds to exactly one point; a point's own [`GridPoint::position`] rounds to that point.
 pub fn nearest<S: Span>(position: &Position, parity: Parity) -> GridPoint<S>
     ensures parity { result.parity ≡ parity }
-    ensures of_grid { IsGridPoint S.DEGREES S.REPEATS result }
-    ensures rounds { PositionRoundsTo S.DEGREES S.REPEATS position.now result }
+    ensures of_grid { IsGridPoint S.span result }
+    ensures rounds { PositionRoundsTo S.span position.now result }
     ensures only { (point : Point) → point.parity ≡ parity
-        → PositionRoundsTo S.DEGREES S.REPEATS position.now point → point ≡ result }
-    ensures itself { (point : Point) → IsGridPoint S.DEGREES S.REPEATS point → point.parity ≡ parity
-        → degrees (lat_of position.now) ≡ latitude S.DEGREES point
-        → degrees (lon_of position.now) ≡ longitude S.DEGREES point
+        → PositionRoundsTo S.span position.now point → point ≡ result }
+    ensures itself { (point : Point) → IsGridPoint S.span point → point.parity ≡ parity
+        → degrees (lat_of position.now) ≡ latitude S.span point
+        → degrees (lon_of position.now) ≡ longitude S.span point
         → point ≡ result }
 {
     rounded(position, parity)
@@ -38,9 +38,9 @@ pub fn nearest<S: Span>(position: &Position, parity: Parity) -> GridPoint<S>
 /// The code of the point to which a position rounds.
 pub fn encode<S: Span>(position: &Position, parity: Parity) -> Code
     ensures code { (point : Point) × (point.parity ≡ parity)
-        × PositionRoundsTo S.DEGREES S.REPEATS position.now point × (numbers_of result ≡ code_of point) }
+        × PositionRoundsTo S.span position.now point × (numbers_of result ≡ code_of point) }
     ensures only { (point : Point) → point.parity ≡ parity
-        → PositionRoundsTo S.DEGREES S.REPEATS position.now point → numbers_of result ≡ code_of point }
+        → PositionRoundsTo S.span position.now point → numbers_of result ≡ code_of point }
 {
     nearest::<S>(position, parity).code()
 }
@@ -48,7 +48,7 @@ pub fn encode<S: Span>(position: &Position, parity: Parity) -> Code
 // A point to which a position rounds.
 fn rounded<S: Span>(position: &Position, parity: Parity) -> GridPoint<S>
     ensures parity { result.parity ≡ parity }
-    ensures rounds { PositionRoundsTo S.DEGREES S.REPEATS position.now result }
+    ensures rounds { PositionRoundsTo S.span position.now result }
 {
     let lat_index = nearest_latitude::<S>(&position.lat(), parity);
     let lat = angle_at::<S>(parity, lat_index).unwrap();
@@ -59,8 +59,8 @@ fn rounded<S: Span>(position: &Position, parity: Parity) -> GridPoint<S>
 // The nearest latitude index.
 fn nearest_latitude<S: Span>(lat: &Angle, parity: Parity) -> i32
     requires { IsWithin 90 (degrees lat.now) }
-    ensures nearest { IsNearest (degrees lat.now) (step S.DEGREES (lat_zones_of parity)) result }
-    ensures within { IsLatitude S.DEGREES parity result }
+    ensures nearest { IsNearest (degrees lat.now) (step S.span.degrees (lat_zones_of parity)) result }
+    ensures within { IsLatitude S.span.degrees parity result }
 {
     nearest_index(lat, degrees_of::<S>(), lat_zones(parity)) as i32
 }
@@ -69,9 +69,9 @@ fn nearest_latitude<S: Span>(lat: &Angle, parity: Parity) -> i32
 fn nearest_longitude<S: Span>(lon: &Angle, zones: u8) -> u32
     requires at_least { 1 ≤ zones }
     requires at_most { zones ≤ 59 }
-    ensures within { result < circle zones S.REPEATS }
-    ensures nearest { (index : ℤ) × IsNearest (degrees lon.now) (step S.DEGREES zones) index
-        × IsCongruent (circle zones S.REPEATS) index (pos result) }
+    ensures within { result < circle zones S.span.repeats }
+    ensures nearest { (index : ℤ) × IsNearest (degrees lon.now) (step S.span.degrees zones) index
+        × IsCongruent (circle zones S.span.repeats) index (pos result) }
 {
     let index = nearest_index(lon, degrees_of::<S>(), zones);
     on_circle(index, zones, repeats_of::<S>())

@@ -7,7 +7,7 @@ ghost use Rattle.sq_cpr.specs.Code.{numbers_of};
 ghost use Rattle.sq_cpr.specs.Grid.{Point, IsGridPoint, HasPoint, IsLatitude, circle, lat_zones as lat_zones_of, grid_latitude, grid_longitude, latitude, longitude, code_of, point_at};
 
 use crate::code::{CODES, Code};
-use crate::span::Span;
+use crate::span::{Span, degrees_of};
 use sq_angle::{Angle, Position};
 use sq_zones::{Parity, lon_zones};
 use std::marker::{Model, PhantomData};
@@ -30,7 +30,7 @@ impl<S: Span> Model for GridPoint<S> {
 
     ghost view = { λ p. point_at p.parity p.lat_index p.zones p.lon_index };
 
-    ghost invariant = { λ p. IsGridPoint S.DEGREES S.REPEATS (point_at p.parity p.lat_index p.zones p.lon_index) };
+    ghost invariant = { λ p. IsGridPoint S.span (point_at p.parity p.lat_index p.zones p.lon_index) };
 
     ghost inverse = { λ p. record {
       parity = p.parity;
@@ -45,10 +45,10 @@ impl<S: Span> GridPoint<S> {
     /// The point with these indices; `None` exactly where the grid has no such point: where the latitude would lie
     /// outside -90 to 90 degrees, or the longitude index is not below the steps of its circle.
     pub fn new(parity: Parity, lat_index: i32, lon_index: u32) -> Option<GridPoint<S>>
-        ensures variant { IsSome result ↔ HasPoint S.DEGREES S.REPEATS parity lat_index lon_index }
+        ensures variant { IsSome result ↔ HasPoint S.span parity lat_index lon_index }
         ensures value { IfSome result (λ p. (p.parity ≡ parity) × (p.lat_index ≡ lat_index)
             × (p.lon_index ≡ lon_index)) }
-        ensures of_grid { IfSome result (IsGridPoint S.DEGREES S.REPEATS) }
+        ensures of_grid { IfSome result (IsGridPoint S.span) }
     {
         let lat = angle_at::<S>(parity, lat_index)?;
         let zones = lon_zones(&lat, parity);
@@ -65,9 +65,9 @@ impl<S: Span> GridPoint<S> {
         zones: u8,
         lon_index: u32,
     ) -> GridPoint<S>
-        requires { IsGridPoint S.DEGREES S.REPEATS (point_at parity lat_index zones lon_index) }
+        requires { IsGridPoint S.span (point_at parity lat_index zones lon_index) }
         ensures value { result ≡ point_at parity lat_index zones lon_index }
-        ensures of_grid { IsGridPoint S.DEGREES S.REPEATS result }
+        ensures of_grid { IsGridPoint S.span result }
     {
         GridPoint {
             parity,
@@ -81,7 +81,7 @@ impl<S: Span> GridPoint<S> {
     /// The parity of its grid.
     pub fn parity(&self) -> Parity
         ensures value { result ≡ self.now.parity }
-        ensures of_grid { IsGridPoint S.DEGREES S.REPEATS self.now }
+        ensures of_grid { IsGridPoint S.span self.now }
     {
         self.parity
     }
@@ -120,8 +120,8 @@ impl<S: Span> GridPoint<S> {
     /// `lon_index * W` over `zones * 2^17`, less 360 degrees from 180 up, where W is the span's degrees and i is 0 for
     /// even and 1 for odd.
     pub fn position(&self) -> Position
-        ensures lat { degrees (lat_of result) ≡ latitude S.DEGREES self.now }
-        ensures lon { degrees (lon_of result) ≡ longitude S.DEGREES self.now }
+        ensures lat { degrees (lat_of result) ≡ latitude S.span self.now }
+        ensures lon { degrees (lon_of result) ≡ longitude S.span self.now }
     {
         let lat = angle_at::<S>(self.parity, self.lat_index).unwrap();
         let lon = lon_angle::<S>(self.zones, self.lon_index);
@@ -138,10 +138,10 @@ pub(crate) fn lat_zones(parity: Parity) -> u8
 
 // The latitude at an index, where it is one.
 pub(crate) fn angle_at<S: Span>(parity: Parity, lat_index: i32) -> Option<Angle>
-    ensures variant { IsSome result ↔ IsLatitude S.DEGREES parity lat_index }
-    ensures value { IfSome result (λ a. degrees a ≡ grid_latitude S.DEGREES parity lat_index) }
+    ensures variant { IsSome result ↔ IsLatitude S.span.degrees parity lat_index }
+    ensures value { IfSome result (λ a. degrees a ≡ grid_latitude S.span.degrees parity lat_index) }
 {
-    let num = i64::from(S::DEGREES) * i64::from(lat_index);
+    let num = i64::from(degrees_of::<S>()) * i64::from(lat_index);
     let angle = Angle::new(num, u64::from(lat_zones(parity)) * CODES)?;
     if angle.is_within(90) {
         Some(angle)
@@ -153,12 +153,12 @@ pub(crate) fn angle_at<S: Span>(parity: Parity, lat_index: i32) -> Option<Angle>
 // The longitude at an index.
 fn lon_angle<S: Span>(zones: u8, lon_index: u32) -> Angle
     requires at_least { 1 ≤ zones }
-    requires of_circle { lon_index < circle zones S.REPEATS }
-    ensures value { degrees result ≡ grid_longitude S.DEGREES zones lon_index }
+    requires of_circle { lon_index < circle zones S.span.repeats }
+    ensures value { degrees result ≡ grid_longitude S.span.degrees zones lon_index }
     ensures within { IsWithin 180 (degrees result) }
 {
     let den = u64::from(zones) * CODES;
-    let east = u64::from(S::DEGREES) * u64::from(lon_index);
+    let east = u64::from(degrees_of::<S>()) * u64::from(lon_index);
     let num = west_from_180(east, den);
     Angle::new(num, den).unwrap()
 }

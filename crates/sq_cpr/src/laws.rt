@@ -16,23 +16,23 @@ use crate::span::Span;
 
 /// A position rounds to exactly one point of each parity's grid.
 pub fn rounds_to_one<S: Span>()
-    ensures { RoundsToOne S.DEGREES S.REPEATS }
+    ensures { RoundsToOne S.span }
 {}
 
 /// A point's own position rounds to that point.
 pub fn rounds_to_itself<S: Span>()
-    ensures { RoundsToItself S.DEGREES S.REPEATS }
+    ensures { RoundsToItself S.span }
 {}
 
 /// A position lies in exactly one pair of zones of each parity's grid.
 pub fn one_pair_of_zones<S: Span>()
-    ensures { OnePairOfZones S.DEGREES S.REPEATS }
+    ensures { OnePairOfZones S.span }
 {}
 
 /// Where two positions lie in the same zones, the points to which they round have one code exactly if they are one
 /// point.
 pub fn same_zones<S: Span>()
-    ensures { SameZones S.DEGREES S.REPEATS }
+    ensures { SameZones S.span }
 {}
 
 /// Of the codes of 17 bits a point has exactly its own.
@@ -42,67 +42,67 @@ pub fn one_code()
 
 /// Two points of a grid are one exactly if their parity and both indices are.
 pub fn same_points<S: Span>()
-    ensures { SamePoints S.DEGREES S.REPEATS }
+    ensures { SamePoints S.span }
 {}
 
 /// The windows near a reference and between close angles, with fractions, mean what their multiplied-out forms mean.
 pub fn fractions_agree<S: Span>()
-    ensures { FractionsAgree S.DEGREES }
+    ensures { FractionsAgree S.span }
 {}
 
 /// Each latitude code has exactly one index near a reference.
 pub fn one_near_latitude<S: Span>()
-    ensures { OneNearLatitude S.DEGREES }
+    ensures { OneNearLatitude S.span }
 {}
 
 /// Each longitude code has exactly one index on the circle near a reference, whatever the number of zones.
 pub fn one_near_longitude<S: Span>()
-    ensures { OneNearLongitude S.DEGREES S.REPEATS }
+    ensures { OneNearLongitude S.span }
 {}
 
 /// Decoding near a reference has one answer.
 pub fn one_local_answer<S: Span>()
-    ensures { OneLocalAnswer S.DEGREES S.REPEATS }
+    ensures { OneLocalAnswer S.span }
 {}
 
 /// A strictly near point is near.
 pub fn strictly_near_is_near<S: Span>()
-    ensures { StrictlyNearIsNear S.DEGREES S.REPEATS }
+    ensures { StrictlyNearIsNear S.span }
 {}
 
 /// A point with the code that is near the reference is what is decoded there.
 pub fn near_point_is_local<S: Span>()
-    ensures { NearPointIsLocal S.DEGREES S.REPEATS }
+    ensures { NearPointIsLocal S.span }
 {}
 
 /// A point with the code that is strictly near the reference is what is decoded there.
 pub fn strictly_near_point_is_local<S: Span>()
-    ensures { StrictlyNearPointIsLocal S.DEGREES S.REPEATS }
+    ensures { StrictlyNearPointIsLocal S.span }
 {}
 
 /// What is decoded near a reference has the code that was given.
 pub fn local_keeps_code<S: Span>()
-    ensures { LocalKeepsCode S.DEGREES S.REPEATS }
+    ensures { LocalKeepsCode S.span }
 {}
 
 /// Any two latitude codes have exactly one close pair of latitudes.
 pub fn one_close_latitudes<S: Span>()
-    ensures { OneCloseLatitudes S.DEGREES }
+    ensures { OneCloseLatitudes S.span }
 {}
 
 /// Any two longitude codes have exactly one close pair of longitudes, for each zone count from 1 to 59.
 pub fn one_close_longitudes<S: Span>()
-    ensures { OneCloseLongitudes S.DEGREES }
+    ensures { OneCloseLongitudes S.span }
 {}
 
 /// Where each grid has one zone, any two angles are close.
 pub fn one_zone_is_close<S: Span>()
-    ensures { OneZoneIsClose S.DEGREES }
+    ensures { OneZoneIsClose S.span }
 {}
 
 /// Decoding a pair at a place has one answer.
 pub fn one_pair_answer<S: Span>()
-    ensures { OnePairAnswer S.DEGREES S.REPEATS }
+    ensures { OnePairAnswer S.span }
 {}
 
 /// Decoding a pair in the air has one answer.
@@ -112,7 +112,7 @@ pub fn one_air_pair_answer()
 
 /// What a pair is decoded to at a place has the newest code.
 pub fn pair_keeps_code<S: Span>()
-    ensures { PairKeepsCode S.DEGREES S.REPEATS }
+    ensures { PairKeepsCode S.span }
 {}
 
 /// What a pair in the air is decoded to has the newest code.
@@ -145,17 +145,17 @@ pub fn tame_ground_points_are_answered()
 /// True positions that differ by less than the closeness less the odd grid's step, in latitude and, where the zone
 /// counts agree on two or more, in longitude, round to such points.
 pub fn slow_is_tame<S: Span>()
-    ensures { SlowIsTame S.DEGREES S.REPEATS }
+    ensures { SlowIsTame S.span }
 {}
 
 /// A position less than 44 degrees from the site rounds to a point less than 45 degrees from it.
 pub fn rounds_near_site<S: Span>()
-    ensures { RoundsNearSite S.DEGREES S.REPEATS }
+    ensures { RoundsNearSite S.span }
 {}
 
 /// Positions that are slow for following round to points that are strictly near one another.
 pub fn following_is_near<S: Span>()
-    ensures { FollowingIsNear S.DEGREES S.REPEATS }
+    ensures { FollowingIsNear S.span }
 {}
 
 /// Two angles differ by less than a limit exactly where each lies below the other and the limit together; modulo 360
@@ -188,23 +188,23 @@ pub fn limits_of_slow()
 
 /// Slow is this and no more.
 pub fn slow_exactly<S: Span>()
-    ensures { SlowExactly S.DEGREES }
+    ensures { SlowExactly S.span }
 {}
 
 /// Slow for following is this and no more.
 pub fn following_exactly<S: Span>()
-    ensures { FollowingExactly S.DEGREES }
+    ensures { FollowingExactly S.span }
 {}
 
 /// Within so many degrees of a site is this and no more, for positions and for points.
 pub fn within_exactly<S: Span>()
     ensures positions { WithinExactly }
-    ensures points { PointWithinExactly S.DEGREES S.REPEATS }
+    ensures points { PointWithinExactly S.span }
 {}
 
 /// Strictly near a place is this and no more, for points and for each coordinate.
 pub fn strictly_near_exactly<S: Span>()
-    ensures points { StrictlyNearExactly S.DEGREES S.REPEATS }
+    ensures points { StrictlyNearExactly S.span }
     ensures window { WindowExactly }
 {}
 
@@ -215,22 +215,22 @@ pub fn near_three_decimals()
 
 /// Tame is this and no more.
 pub fn tame_exactly<S: Span>()
-    ensures { TameExactly S.DEGREES }
+    ensures { TameExactly S.span }
 {}
 
 /// Points are close exactly where they are tame and have one zone count.
 pub fn close_exactly<S: Span>()
-    ensures { CloseExactly S.DEGREES }
+    ensures { CloseExactly S.span }
 {}
 
 /// Decoding near a reference has an answer.
 pub fn some_local_answer<S: Span>()
-    ensures { SomeLocalAnswer S.DEGREES S.REPEATS }
+    ensures { SomeLocalAnswer S.span }
 {}
 
 /// Decoding a pair has an answer, at a place and in the air.
 pub fn some_pair_answer<S: Span>()
-    ensures at_a_place { SomePairAnswer S.DEGREES S.REPEATS }
+    ensures at_a_place { SomePairAnswer S.span }
     ensures in_air { SomeAirPairAnswer }
 {}
 

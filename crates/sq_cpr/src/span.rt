@@ -1,5 +1,6 @@
 //! The spans of degrees that the zones of a grid share.
-ghost use Rattle.std.specs.Prelude.{◌≡◌, ◌*◌, ◌<◌, ◌≤◌, ℕ, refl};
+ghost use Rattle.std.specs.Prelude.{◌≡◌, ◌<◌, ◌≤◌, ℕ, refl};
+ghost use Rattle.sq_cpr.specs.Span.{Span, FitsCircle, air, ground};
 
 /// A span of degrees which fits a whole number of times into the circle (RTCA DO-260B, appendix on compact position
 /// reporting).
@@ -14,7 +15,13 @@ pub trait Span {
 
     ghost REPEATS: { ℕ };
 
-    ghost full_circle: { DEGREES * REPEATS ≡ 360 };
+    ghost span: { Span };
+
+    ghost degrees: { DEGREES ≡ span.degrees };
+
+    ghost repeats: { REPEATS ≡ span.repeats };
+
+    ghost full_circle: { FitsCircle span };
 }
 
 /// Positions in the air: the whole circle.
@@ -26,9 +33,15 @@ impl Span for Air {
 
     const REPEATS: u32 = 1;
 
-    ghost DEGREES = { 360 };
+    ghost DEGREES = { air.degrees };
 
-    ghost REPEATS = { 1 };
+    ghost REPEATS = { air.repeats };
+
+    ghost span = { air };
+
+    ghost degrees = { refl };
+
+    ghost repeats = { refl };
 
     ghost full_circle = { refl };
 }
@@ -42,16 +55,22 @@ impl Span for Ground {
 
     const REPEATS: u32 = 4;
 
-    ghost DEGREES = { 90 };
+    ghost DEGREES = { ground.degrees };
 
-    ghost REPEATS = { 4 };
+    ghost REPEATS = { ground.repeats };
+
+    ghost span = { ground };
+
+    ghost degrees = { refl };
+
+    ghost repeats = { refl };
 
     ghost full_circle = { refl };
 }
 
 // The degrees of the span.
 pub(crate) fn degrees_of<S: Span>() -> u32
-    ensures value { result ≡ S.DEGREES }
+    ensures value { result ≡ S.span.degrees }
     ensures some { 0 < result }
     ensures small { result ≤ 360 }
 {
@@ -60,7 +79,7 @@ pub(crate) fn degrees_of<S: Span>() -> u32
 
 // How often the span fits into the circle.
 pub(crate) fn repeats_of<S: Span>() -> u32
-    ensures value { result ≡ S.REPEATS }
+    ensures value { result ≡ S.span.repeats }
     ensures some { 0 < result }
     ensures small { result ≤ 360 }
 {

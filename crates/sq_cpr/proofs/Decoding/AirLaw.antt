@@ -10,6 +10,7 @@ use Rattle.sq_zones.specs.declared.parity.Parity.TheVariants.{Even, Odd}
 use Rattle.sq_cpr.specs.declared.faults.PairFault.{PairFault}
 use Rattle.sq_cpr.specs.declared.faults.PairFault.TheVariants.{OutOfRange, ZoneCounts}
 use Rattle.sq_cpr.specs.Code.{CodeNumbers}
+use Rattle.sq_cpr.specs.Span.{air}
 use Rattle.sq_cpr.specs.Grid.{Point, codes_of_zone, circle}
 use Rattle.sq_cpr.specs.Near.{IsRepresentative, angle_at}
 use Rattle.sq_cpr.specs.Close.{IsClosePair, count_at, zones_of}
@@ -29,7 +30,7 @@ pub both_at_zero : (p q : ℤ) → AreInRange 360 p q → AreAt 360 (whole 0) p 
 both_at_zero p q h = record { even = at_zero 60 p (omega arith) h.even; odd = at_zero 59 q (omega arith) h.odd }
 
 pub air_answer : (even odd : CodeNumbers) (newest : Parity) (lon : Fraction) (answer : Result Point PairFault) →
-    PairAnswer 360 1 even odd newest (whole 0) lon answer → AirPairAnswer even odd newest answer
+    PairAnswer air even odd newest (whole 0) lon answer → AirPairAnswer even odd newest answer
 air_answer even odd newest lon (Ok p) k = k.of_pair
 air_answer even odd newest lon (Err OutOfRange) k =
     λ p q pair inside. out_and_in 360 even odd (whole 0) k.0 k.1 p q (omega arith) (omega arith) k.2 k.3 k.4 pair
@@ -64,17 +65,17 @@ zones_of_newest Even count = refl
 zones_of_newest Odd count = refl
 
 -- a point of a pair in the air, where the longitude's representative at 0 is known
-air_point_with : (even odd : CodeNumbers) (newest : Parity) (p : Point) (k : IsPointOfPair 360 1 even odd newest p)
+air_point_with : (even odd : CodeNumbers) (newest : Parity) (p : Point) (k : IsPointOfPair air even odd newest p)
     (b c r : ℤ) →
     IsClosePair 360 (zones_of Even (count_at 360 Even k.even_lat))
     (zones_of Odd (count_at 360 Even k.even_lat)) even.lon odd.lon b c → of_parity newest b c ≡ r →
     IsCongruent (zones_of newest (count_at 360 Even k.even_lat) * codes_of_zone) r
     (of_parity newest k.even_lon k.odd_lon) →
     IsRepresentative 360 (whole 0) (angle_at 360 (zones_of newest (count_at 360 Even k.even_lat)) r)
-    → IsPointOfPairAt 360 1 even odd newest (whole 0) (whole 0) p
+    → IsPointOfPairAt air even odd newest (whole 0) (whole 0) p
 air_point_with even odd newest p k b c r pair e around there =
     let count : ℕ = count_at 360 Even k.even_lat in
-    let zones : p.zones ≡ zones_of newest count = zones_of_pair 360 1 even odd newest p k in
+    let zones : p.zones ≡ zones_of newest count = zones_of_pair air even odd newest p k in
     let full : circle p.zones 1 ≡ zones_of newest count * codes_of_zone = rw zones (omega arith) in
     record {
       of_pair = record {
@@ -95,8 +96,8 @@ air_point_with even odd newest p k b c r pair e around there =
       lon_at = rw (zones, e) there;
     }
 
-air_point_at : (even odd : CodeNumbers) (newest : Parity) (p : Point) → IsPointOfPair 360 1 even odd newest p
-    → IsPointOfPairAt 360 1 even odd newest (whole 0) (whole 0) p
+air_point_at : (even odd : CodeNumbers) (newest : Parity) (p : Point) → IsPointOfPair air even odd newest p
+    → IsPointOfPairAt air even odd newest (whole 0) (whole 0) p
 air_point_at even odd newest p k =
     let count : ℕ = count_at 360 Even k.even_lat in
     let one = one_representative 360 (zones_of newest count) (of_parity newest k.even_lon k.odd_lon) (whole 0)
@@ -109,7 +110,7 @@ air_point_at even odd newest p k =
     air_point_with even odd newest p k pair.0 pair.1 one.0 pair.2 pair.3 one.1.0 one.1.1
 
 pub air_is_at_origin : (even odd : CodeNumbers) (newest : Parity) (answer : Result Point PairFault) →
-    AirPairAnswer even odd newest answer → PairAnswer 360 1 even odd newest (whole 0) (whole 0) answer
+    AirPairAnswer even odd newest answer → PairAnswer air even odd newest (whole 0) (whole 0) answer
 air_is_at_origin even odd newest (Ok p) k = air_point_at even odd newest p k
 air_is_at_origin even odd newest (Err OutOfRange) k =
     let found = some_latitudes 360 even odd (whole 0) (omega arith) (omega arith) in
@@ -118,5 +119,5 @@ air_is_at_origin even odd newest (Err (ZoneCounts a b)) k = (k.0, k.1, k.2, both
 
 pub one_air_pair_answer : OneAirPairAnswer
 one_air_pair_answer even odd newest answer other h k =
-    one_pair_answer 360 1 refl even odd newest (whole 0) (whole 0) answer other (omega arith) (omega arith)
+    one_pair_answer air refl even odd newest (whole 0) (whole 0) answer other (omega arith) (omega arith)
     (air_is_at_origin even odd newest answer h) (air_is_at_origin even odd newest other k)

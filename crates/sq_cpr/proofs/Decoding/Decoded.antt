@@ -12,6 +12,7 @@ use Rattle.sq_zones.specs.declared.parity.Parity.{Parity}
 use Rattle.sq_zones.specs.declared.parity.Parity.TheVariants.{Even, Odd}
 use Rattle.sq_zones.proofs.ZoneBounds.{lon_zones_at-least}
 use Rattle.sq_cpr.specs.Code.{CodeNumbers}
+use Rattle.sq_cpr.specs.Span.{Span}
 use Rattle.sq_cpr.specs.Grid.{Point, IsGridPoint, IsLatitude, codes_of_zone, lat_zones, circle, grid_latitude, latitude}
 use Rattle.sq_cpr.specs.Close.{count_at, zones_of, HaveOneCount}
 use Rattle.sq_cpr.specs.Multiplied.{LiesWithin}
@@ -24,8 +25,8 @@ pub some_lat_zones : (parity : Parity) → 0 < lat_zones parity
 some_lat_zones Even = omega arith
 some_lat_zones Odd = omega arith
 
-pub some_zones_of_point : (w r : ℕ) (p : Point) → IsGridPoint w r p → 0 < p.zones
-some_zones_of_point w r p h = rw h.zones (lon_zones_at-least p.parity (latitude w p))
+pub some_zones_of_point : (span : Span) (p : Point) → IsGridPoint span p → 0 < p.zones
+some_zones_of_point span p h = rw h.zones (lon_zones_at-least p.parity (latitude span p))
 
 -- indices that differ by whole circles have one code
 pub code_of_circle : (zones repeats : ℕ) {a b : ℤ} → IsCongruent (circle zones repeats) a b
@@ -41,37 +42,40 @@ near_latitude w zones code parity lat base index e f h k =
       near = near_from_within w (lat_zones parity) index lat (some_lat_zones parity) (rw e at k);
     }
 
-pub local_point : (w r : ℕ) (code : CodeNumbers) (parity : Parity) (lat lon : Fraction) (p : Point) (base turned : ℤ) →
-    IsGridPoint w r p → p.parity ≡ parity → IsNearLatitude w parity lat code.lat p.lat_index → base ≡ pos code.lon →
-    IsCongruent (1 * codes_of_zone) turned base → LiesWithin 1 w p.zones turned lon
-    → IsCongruent (circle p.zones r) (pos p.lon_index) turned →
-    IsLocalPoint w r code parity lat lon p
-local_point w r code parity lat lon p base turned p_is p_parity near f same near_lon around =
+pub local_point : (span : Span) (code : CodeNumbers) (parity : Parity) (lat lon : Fraction) (p : Point)
+    (base turned : ℤ) →
+    IsGridPoint span p → p.parity ≡ parity → IsNearLatitude span.degrees parity lat code.lat p.lat_index
+    → base ≡ pos code.lon →
+    IsCongruent (1 * codes_of_zone) turned base → LiesWithin 1 span.degrees p.zones turned lon
+    → IsCongruent (circle p.zones span.repeats) (pos p.lon_index) turned →
+    IsLocalPoint span code parity lat lon p
+local_point span code parity lat lon p base turned p_is p_parity near f same near_lon around =
     record {
       of_grid = p_is;
       of_parity = p_parity;
       has_code = record {
         latitude = near.has_code;
-        longitude = congruent_trans (code_of_circle p.zones r around) (code_of_turn 1 (rw f at same));
+        longitude = congruent_trans (code_of_circle p.zones span.repeats around) (code_of_turn 1 (rw f at same));
       };
       near = record {
         north_south = rw p_parity near.near;
         east_west = (
           turned,
           congruent_sym around,
-          near_from_within w p.zones turned lon (some_zones_of_point w r p p_is) near_lon,
+          near_from_within span.degrees p.zones turned lon (some_zones_of_point span p p_is) near_lon,
         );
       };
     }
 
 -- the newest of two latitudes with one zone count makes a point
-pub point_of_pair : (w r : ℕ) (newest : Parity) (p : Point) (even odd : ℤ) → AreInRange w even odd
-    → HaveOneCount w even odd →
-    p.parity ≡ newest → p.lat_index ≡ of_parity newest even odd → p.zones ≡ zones_of newest (count_at w Even even)
-    → p.lon_index < circle p.zones r → IsGridPoint w r p
-point_of_pair w r Even p even odd inside counts parity index zones below =
+pub point_of_pair : (span : Span) (newest : Parity) (p : Point) (even odd : ℤ) → AreInRange span.degrees even odd
+    → HaveOneCount span.degrees even odd →
+    p.parity ≡ newest → p.lat_index ≡ of_parity newest even odd
+    → p.zones ≡ zones_of newest (count_at span.degrees Even even)
+    → p.lon_index < circle p.zones span.repeats → IsGridPoint span p
+point_of_pair span Even p even odd inside counts parity index zones below =
     record { north_south = rw (parity, index) inside.even; zones = zones ∙ rw (parity, index) refl; east_west = below }
-point_of_pair w r Odd p even odd inside counts parity index zones below =
+point_of_pair span Odd p even odd inside counts parity index zones below =
     record {
       north_south = rw (parity, index) inside.odd;
       zones = zones ∙ rw (parity, index, counts) refl;

@@ -13,6 +13,7 @@ use Rattle.sq_zones.specs.declared.parity.Parity.TheVariants.{Even, Odd}
 use Rattle.sq_cpr.specs.declared.faults.PairFault.{PairFault}
 use Rattle.sq_cpr.specs.declared.faults.PairFault.TheVariants.{OutOfRange, ZoneCounts}
 use Rattle.sq_cpr.specs.Code.{CodeNumbers}
+use Rattle.sq_cpr.specs.Span.{Span, FitsCircle, air, ground}
 use Rattle.sq_cpr.specs.Grid.{grid_latitude, Point, IsGridPoint, HasCode, codes_of_zone, circle, lat_zones}
 use Rattle.sq_cpr.specs.Near.{IsRepresentative, OnSomeTurn, angle_at}
 use Rattle.sq_cpr.specs.Close.{IsClosePair, count_at, zones_of, AreCloseLatitudes, HaveOneCount, AreClosePoints, AreTamePoints}
@@ -23,7 +24,7 @@ use Rattle.sq_cpr.proofs.Decoding.AirLaw.{at_zero, air_is_at_origin}
 use Rattle.sq_cpr.proofs.Decoding.Decoded.{some_lat_zones, some_zones_of_point, code_of_circle}
 use Rattle.sq_cpr.proofs.Decoding.PairLaw.{out_and_in, same_latitudes, one_pair_answer}
 use Rattle.sq_cpr.proofs.Decoding.Pairs.{one_representative, turned_even, turned_odd}
-use Rattle.sq_cpr.proofs.Grids.Spans.{span_bounds}
+use Rattle.sq_cpr.proofs.Grids.Spans.{span_limits}
 
 -- a turn of the circle is one of so many spans
 turn_of_circle : (zones repeats : ℕ) {a b : ℤ} → IsCongruent (circle zones repeats) a b
@@ -31,66 +32,71 @@ turn_of_circle : (zones repeats : ℕ) {a b : ℤ} → IsCongruent (circle zones
 turn_of_circle zones repeats h = congruent_factor (zones * codes_of_zone) repeats h
 
 -- both coordinates of the point are the representatives at the place, the longitude modulo 360 degrees
-pub record IsPointAt (degrees repeats : ℕ) (lat lon : Fraction) (point : Point) : Type 0 where
-  pub north_south : IsRepresentative degrees lat (grid_latitude degrees point.parity point.lat_index)
-  pub east_west : OnSomeTurn (circle point.zones repeats) point.lon_index
-      (λ turned. IsRepresentative degrees lon (angle_at degrees point.zones turned))
+pub record IsPointAt (span : Span) (lat lon : Fraction) (point : Point) : Type 0 where
+  pub north_south : IsRepresentative span.degrees lat (grid_latitude span.degrees point.parity point.lat_index)
+  pub east_west : OnSomeTurn (circle point.zones span.repeats) point.lon_index
+      (λ turned. IsRepresentative span.degrees lon (angle_at span.degrees point.zones turned))
 
 -- points of an even and an odd code
-pub record ArePointsOf (w r : ℕ) (even odd : CodeNumbers) (a b : Point) : Type 0 where
-  pub even_is : IsGridPoint w r a
-  pub odd_is : IsGridPoint w r b
+pub record ArePointsOf (span : Span) (even odd : CodeNumbers) (a b : Point) : Type 0 where
+  pub even_is : IsGridPoint span a
+  pub odd_is : IsGridPoint span b
   pub even_code : HasCode a even
   pub odd_code : HasCode b odd
 
 -- both by their representatives at the place
-pub record ArePointsAt (w r : ℕ) (lat lon : Fraction) (a b : Point) : Type 0 where
-  pub first : IsPointAt w r lat lon a
-  pub second : IsPointAt w r lat lon b
+pub record ArePointsAt (span : Span) (lat lon : Fraction) (a b : Point) : Type 0 where
+  pub first : IsPointAt span lat lon a
+  pub second : IsPointAt span lat lon b
 
-latitudes_of : (w r : ℕ) (even odd : CodeNumbers) (a b : Point) → ArePointsOf w r even odd a b
-    → AreCloseLatitudes w a.lat_index b.lat_index → AreLatitudes w even odd a.lat_index b.lat_index
-latitudes_of w r even odd a b h k =
+latitudes_of : (span : Span) (even odd : CodeNumbers) (a b : Point) → ArePointsOf span even odd a b
+    → AreCloseLatitudes span.degrees a.lat_index b.lat_index
+    → AreLatitudes span.degrees even odd a.lat_index b.lat_index
+latitudes_of span even odd a b h k =
     record { even_code = h.even_code.latitude; odd_code = h.odd_code.latitude; close = k }
 
-in_range_of : (w r : ℕ) (even odd : CodeNumbers) (a b : Point) → a.parity ≡ Even → b.parity ≡ Odd
-    → ArePointsOf w r even odd a b → AreInRange w a.lat_index b.lat_index
-in_range_of w r even odd a b e f h = record { even = rw e at h.even_is.north_south; odd = rw f at h.odd_is.north_south }
+in_range_of : (span : Span) (even odd : CodeNumbers) (a b : Point) → a.parity ≡ Even → b.parity ≡ Odd
+    → ArePointsOf span even odd a b → AreInRange span.degrees a.lat_index b.lat_index
+in_range_of span even odd a b e f h = record {
+  even = rw e at h.even_is.north_south;
+  odd = rw f at h.odd_is.north_south;
+}
 
-lat_at_of : (w r : ℕ) (lat lon : Fraction) (a b : Point) → a.parity ≡ Even → b.parity ≡ Odd
-    → ArePointsAt w r lat lon a b → AreAt w lat a.lat_index b.lat_index
-lat_at_of w r lat lon a b e f h = record { even = rw e at h.first.north_south; odd = rw f at h.second.north_south }
+lat_at_of : (span : Span) (lat lon : Fraction) (a b : Point) → a.parity ≡ Even → b.parity ≡ Odd
+    → ArePointsAt span lat lon a b → AreAt span.degrees lat a.lat_index b.lat_index
+lat_at_of span lat lon a b e f h = record { even = rw e at h.first.north_south; odd = rw f at h.second.north_south }
 
-module _ (w r : ℕ) (some : 0 < w) (even odd : CodeNumbers) (lat lon : Fraction) (a b : Point)
-    (points : ArePointsOf w r even odd a b) (close : AreClosePoints w a b) (here : ArePointsAt w r lat lon a b) where
-  a_zones : a.zones ≡ zones_of Even (count_at w Even a.lat_index)
+module _ (span : Span) (some : 0 < span.degrees) (even odd : CodeNumbers) (lat lon : Fraction) (a b : Point)
+    (points : ArePointsOf span even odd a b) (close : AreClosePoints span a b)
+    (here : ArePointsAt span lat lon a b) where
+  a_zones : a.zones ≡ zones_of Even (count_at span.degrees Even a.lat_index)
   a_zones = rw close.even at points.even_is.zones
 
-  b_zones : b.zones ≡ zones_of Odd (count_at w Even a.lat_index)
+  b_zones : b.zones ≡ zones_of Odd (count_at span.degrees Even a.lat_index)
   b_zones = rw (close.odd, ← close.counts) at points.odd_is.zones
 
-  pair : IsClosePair w a.zones b.zones even.lon odd.lon (pos a.lon_index) (pos b.lon_index)
+  pair : IsClosePair span.degrees a.zones b.zones even.lon odd.lon (pos a.lon_index) (pos b.lon_index)
   pair = record {
     even_code = points.even_code.longitude;
     odd_code = points.odd_code.longitude;
     close = close.longitudes;
   }
 
-  found_even : IsPointOfPairAt w r even odd Even lat lon a
+  found_even : IsPointOfPairAt span even odd Even lat lon a
   found_even =
       let t = here.first.east_west in
-      let turned : IsClosePair w a.zones b.zones even.lon odd.lon t.0 (pos b.lon_index) =
-      turned_even w a.zones b.zones even.lon odd.lon (pos a.lon_index) (pos b.lon_index) t.0 some
-      (some_zones_of_point w r a points.even_is) (some_zones_of_point w r b points.odd_is)
-      (turn_of_circle a.zones r t.1) pair in
+      let turned : IsClosePair span.degrees a.zones b.zones even.lon odd.lon t.0 (pos b.lon_index) =
+      turned_even span.degrees a.zones b.zones even.lon odd.lon (pos a.lon_index) (pos b.lon_index) t.0 some
+      (some_zones_of_point span a points.even_is) (some_zones_of_point span b points.odd_is)
+      (turn_of_circle a.zones span.repeats t.1) pair in
       record {
         of_pair = record {
           even_lat = a.lat_index;
           odd_lat = b.lat_index;
           even_lon = t.0;
           odd_lon = pos b.lon_index;
-          latitudes = latitudes_of w r even odd a b points close.latitudes;
-          in_range = in_range_of w r even odd a b close.even close.odd points;
+          latitudes = latitudes_of span even odd a b points close.latitudes;
+          in_range = in_range_of span even odd a b close.even close.odd points;
           counts = close.counts;
           longitudes = rw (a_zones, b_zones) at turned;
           of_grid = points.even_is;
@@ -98,25 +104,25 @@ module _ (w r : ℕ) (some : 0 < w) (even odd : CodeNumbers) (lat lon : Fraction
           lat_index = refl;
           lon_index = congruent_sym t.1;
         };
-        lat_at = lat_at_of w r lat lon a b close.even close.odd here;
+        lat_at = lat_at_of span lat lon a b close.even close.odd here;
         lon_at = t.2;
       }
 
-  found_odd : IsPointOfPairAt w r even odd Odd lat lon b
+  found_odd : IsPointOfPairAt span even odd Odd lat lon b
   found_odd =
       let t = here.second.east_west in
-      let turned : IsClosePair w a.zones b.zones even.lon odd.lon (pos a.lon_index) t.0 =
-      turned_odd w a.zones b.zones even.lon odd.lon (pos a.lon_index) (pos b.lon_index) t.0 some
-      (some_zones_of_point w r a points.even_is) (some_zones_of_point w r b points.odd_is)
-      (turn_of_circle b.zones r t.1) pair in
+      let turned : IsClosePair span.degrees a.zones b.zones even.lon odd.lon (pos a.lon_index) t.0 =
+      turned_odd span.degrees a.zones b.zones even.lon odd.lon (pos a.lon_index) (pos b.lon_index) t.0 some
+      (some_zones_of_point span a points.even_is) (some_zones_of_point span b points.odd_is)
+      (turn_of_circle b.zones span.repeats t.1) pair in
       record {
         of_pair = record {
           even_lat = a.lat_index;
           odd_lat = b.lat_index;
           even_lon = pos a.lon_index;
           odd_lon = t.0;
-          latitudes = latitudes_of w r even odd a b points close.latitudes;
-          in_range = in_range_of w r even odd a b close.even close.odd points;
+          latitudes = latitudes_of span even odd a b points close.latitudes;
+          in_range = in_range_of span even odd a b close.even close.odd points;
           counts = close.counts;
           longitudes = rw (a_zones, b_zones) at turned;
           of_grid = points.odd_is;
@@ -124,35 +130,35 @@ module _ (w r : ℕ) (some : 0 < w) (even odd : CodeNumbers) (lat lon : Fraction
           lat_index = refl;
           lon_index = congruent_sym t.1;
         };
-        lat_at = lat_at_of w r lat lon a b close.even close.odd here;
+        lat_at = lat_at_of span lat lon a b close.even close.odd here;
         lon_at = t.2;
       }
 
-  found : (newest : Parity) → PairAnswer w r even odd newest lat lon (Ok (of_parity newest a b))
+  found : (newest : Parity) → PairAnswer span even odd newest lat lon (Ok (of_parity newest a b))
   found Even = found_even
   found Odd = found_odd
 
-pub close_points_are_answered : (w r : ℕ) → w * r ≡ 360
+pub close_points_are_answered : (span : Span) → FitsCircle span
     → (even odd : CodeNumbers) (newest : Parity) (lat lon : Fraction) (answer : Result Point PairFault) (a b : Point)
     → 0 < lat.den → 0 < lon.den →
-    PairAnswer w r even odd newest lat lon answer → ArePointsOf w r even odd a b → AreClosePoints w a b
-    → ArePointsAt w r lat lon a b → answer ≡ Ok (of_parity newest a b)
-close_points_are_answered w r e even odd newest lat lon answer a b d f answered points close there =
-    one_pair_answer w r e even odd newest lat lon answer (Ok (of_parity newest a b)) d f answered
-    (found w r (span_bounds w r e).0 even odd lat lon a b points close there newest)
+    PairAnswer span even odd newest lat lon answer → ArePointsOf span even odd a b → AreClosePoints span a b
+    → ArePointsAt span lat lon a b → answer ≡ Ok (of_parity newest a b)
+close_points_are_answered span e even odd newest lat lon answer a b d f answered points close there =
+    one_pair_answer span e even odd newest lat lon answer (Ok (of_parity newest a b)) d f answered
+    (found span (span_limits span e).0 even odd lat lon a b points close there newest)
 
-pub tame_points_are_answered : (w r : ℕ) → w * r ≡ 360
+pub tame_points_are_answered : (span : Span) → FitsCircle span
     → (even odd : CodeNumbers) (newest : Parity) (lat lon : Fraction) (answer : Result Point PairFault) (a b : Point)
     → 0 < lat.den → 0 < lon.den →
-    PairAnswer w r even odd newest lat lon answer → ArePointsOf w r even odd a b → AreTamePoints w a b
-    → ArePointsAt w r lat lon a b → TameAnswer w newest a b answer
-tame_points_are_answered w r e even odd newest lat lon (Ok p) a b d f k points tame there =
-    let same = same_latitudes w even odd lat k.of_pair.even_lat k.of_pair.odd_lat a.lat_index b.lat_index
-    (span_bounds w r e).0 d k.of_pair.latitudes k.lat_at
-    (latitudes_of w r even odd a b points tame.latitudes) (lat_at_of w r lat lon a b tame.even tame.odd there) in
-    let counts : HaveOneCount w a.lat_index b.lat_index = rw (same.0, same.1) at k.of_pair.counts in
+    PairAnswer span even odd newest lat lon answer → ArePointsOf span even odd a b → AreTamePoints span a b
+    → ArePointsAt span lat lon a b → TameAnswer span newest a b answer
+tame_points_are_answered span e even odd newest lat lon (Ok p) a b d f k points tame there =
+    let same = same_latitudes span.degrees even odd lat k.of_pair.even_lat k.of_pair.odd_lat a.lat_index b.lat_index
+    (span_limits span e).0 d k.of_pair.latitudes k.lat_at
+    (latitudes_of span even odd a b points tame.latitudes) (lat_at_of span lat lon a b tame.even tame.odd there) in
+    let counts : HaveOneCount span.degrees a.lat_index b.lat_index = rw (same.0, same.1) at k.of_pair.counts in
     let equal : Ok p ≡ Ok (of_parity newest a b) =
-    close_points_are_answered w r e even odd newest lat lon (Ok p) a b d f k points
+    close_points_are_answered span e even odd newest lat lon (Ok p) a b d f k points
     (record {
       even = tame.even;
       odd = tame.odd;
@@ -161,19 +167,19 @@ tame_points_are_answered w r e even odd newest lat lon (Ok p) a b d f k points t
       longitudes = tame.longitudes counts;
     }) there in
     cc
-tame_points_are_answered w r e even odd newest lat lon (Err OutOfRange) a b d f k points tame there =
-    out_and_in w even odd lat k.0 k.1 a.lat_index b.lat_index (span_bounds w r e).0 d k.2 k.3 k.4
-    (latitudes_of w r even odd a b points tame.latitudes) (lat_at_of w r lat lon a b tame.even tame.odd there)
-    (in_range_of w r even odd a b tame.even tame.odd points)
-tame_points_are_answered w r e even odd newest lat lon (Err (ZoneCounts m n)) a b d f k points tame there =
-    let same = same_latitudes w even odd lat k.0 k.1 a.lat_index b.lat_index (span_bounds w r e).0 d k.2 k.3
-    (latitudes_of w r even odd a b points tame.latitudes) (lat_at_of w r lat lon a b tame.even tame.odd there) in
+tame_points_are_answered span e even odd newest lat lon (Err OutOfRange) a b d f k points tame there =
+    out_and_in span.degrees even odd lat k.0 k.1 a.lat_index b.lat_index (span_limits span e).0 d k.2 k.3 k.4
+    (latitudes_of span even odd a b points tame.latitudes) (lat_at_of span lat lon a b tame.even tame.odd there)
+    (in_range_of span even odd a b tame.even tame.odd points)
+tame_points_are_answered span e even odd newest lat lon (Err (ZoneCounts m n)) a b d f k points tame there =
+    let same = same_latitudes span.degrees even odd lat k.0 k.1 a.lat_index b.lat_index (span_limits span e).0 d k.2 k.3
+    (latitudes_of span even odd a b points tame.latitudes) (lat_at_of span lat lon a b tame.even tame.odd there) in
     rw (same.0, same.1) at k.4
 
 -- in the air each point is its own representative at 0
-at_origin : (p : Point) → IsGridPoint 360 1 p → IsPointAt 360 1 (whole 0) (whole 0) p
+at_origin : (p : Point) → IsGridPoint air p → IsPointAt air (whole 0) (whole 0) p
 at_origin p h =
-    let one = one_representative 360 p.zones (pos p.lon_index) (whole 0) (omega arith) (some_zones_of_point 360 1 p h)
+    let one = one_representative 360 p.zones (pos p.lon_index) (whole 0) (omega arith) (some_zones_of_point air p h)
     (omega arith) in
     let full : circle p.zones 1 ≡ p.zones * codes_of_zone = omega arith in
     record {
@@ -202,8 +208,8 @@ near_site r x h =
       at_most = omega (arith, ints, site_high x.den r.den x.num r.num, high);
     }
 
-at_site : (p : Point) (site : Position) → IsPointWithin 45 90 4 p site
-    → IsPointAt 90 4 (degrees_of (lat_of site)) (degrees_of (lon_of site)) p
+at_site : (p : Point) (site : Position) → IsPointWithin 45 ground p site
+    → IsPointAt ground (degrees_of (lat_of site)) (degrees_of (lon_of site)) p
 at_site p site h = record {
   north_south = near_site _ _ h.latitudes;
   east_west = let t = h.longitudes in (t.0, t.1, near_site _ _ t.2);
@@ -211,28 +217,28 @@ at_site p site h = record {
 
 pub close_air_points_are_answered : CloseAirPointsAreAnswered
 close_air_points_are_answered even odd newest answer a b k a_is b_is a_code b_code close =
-    close_points_are_answered 360 1 refl even odd newest (whole 0) (whole 0) answer a b (omega arith) (omega arith)
+    close_points_are_answered air refl even odd newest (whole 0) (whole 0) answer a b (omega arith) (omega arith)
     (air_is_at_origin even odd newest answer k)
     (record { even_is = a_is; odd_is = b_is; even_code = a_code; odd_code = b_code }) close
     (record { first = at_origin a a_is; second = at_origin b b_is })
 
 pub close_ground_points_are_answered : CloseGroundPointsAreAnswered
 close_ground_points_are_answered even odd newest site answer a b k a_is b_is a_code b_code close a_at b_at =
-    close_points_are_answered 90 4 refl even odd newest _ _ answer a b site.lat.in_range.positive
+    close_points_are_answered ground refl even odd newest _ _ answer a b site.lat.in_range.positive
     site.lon.in_range.positive k
     (record { even_is = a_is; odd_is = b_is; even_code = a_code; odd_code = b_code }) close
     (record { first = at_site a site a_at; second = at_site b site b_at })
 
 pub tame_air_points_are_answered : TameAirPointsAreAnswered
 tame_air_points_are_answered even odd newest answer a b k a_is b_is a_code b_code tame =
-    tame_points_are_answered 360 1 refl even odd newest (whole 0) (whole 0) answer a b (omega arith) (omega arith)
+    tame_points_are_answered air refl even odd newest (whole 0) (whole 0) answer a b (omega arith) (omega arith)
     (air_is_at_origin even odd newest answer k)
     (record { even_is = a_is; odd_is = b_is; even_code = a_code; odd_code = b_code }) tame
     (record { first = at_origin a a_is; second = at_origin b b_is })
 
 pub tame_ground_points_are_answered : TameGroundPointsAreAnswered
 tame_ground_points_are_answered even odd newest site answer a b k a_is b_is a_code b_code tame a_at b_at =
-    tame_points_are_answered 90 4 refl even odd newest _ _ answer a b site.lat.in_range.positive
+    tame_points_are_answered ground refl even odd newest _ _ answer a b site.lat.in_range.positive
     site.lon.in_range.positive k
     (record { even_is = a_is; odd_is = b_is; even_code = a_code; odd_code = b_code }) tame
     (record { first = at_site a site a_at; second = at_site b site b_at })
@@ -249,19 +255,20 @@ newest_code : (newest : Parity) (even odd : CodeNumbers) (p : Point)
 newest_code Even even odd p h k = record { latitude = h; longitude = k }
 newest_code Odd even odd p h k = record { latitude = h; longitude = k }
 
-keeps_code : (w r : ℕ) (even odd : CodeNumbers) (newest : Parity) (p : Point) → IsPointOfPair w r even odd newest p
+keeps_code : (span : Span) (even odd : CodeNumbers) (newest : Parity) (p : Point) → IsPointOfPair span even odd newest p
     → (p.parity ≡ newest) × HasCode p (of_parity newest even odd)
-keeps_code w r even odd newest p k = (
+keeps_code span even odd newest p k = (
   k.parity,
   newest_code newest even odd p
-      (rw k.lat_index (code_of_newest w 60 59 even.lat odd.lat newest k.even_lat k.odd_lat k.latitudes))
-      (congruent_trans (code_of_circle p.zones r k.lon_index)
-      (code_of_newest w (zones_of Even (count_at w Even k.even_lat))
-      (zones_of Odd (count_at w Even k.even_lat)) even.lon odd.lon newest k.even_lon k.odd_lon k.longitudes)),
+      (rw k.lat_index (code_of_newest span.degrees 60 59 even.lat odd.lat newest k.even_lat k.odd_lat k.latitudes))
+      (congruent_trans (code_of_circle p.zones span.repeats k.lon_index)
+      (code_of_newest span.degrees (zones_of Even (count_at span.degrees Even k.even_lat))
+      (zones_of Odd (count_at span.degrees Even k.even_lat)) even.lon odd.lon newest k.even_lon k.odd_lon
+      k.longitudes)),
 )
 
-pub pair_keeps_code : (w r : ℕ) → PairKeepsCode w r
-pair_keeps_code w r even odd newest lat lon p k = keeps_code w r even odd newest p k.of_pair
+pub pair_keeps_code : (span : Span) → PairKeepsCode span
+pair_keeps_code span even odd newest lat lon p k = keeps_code span even odd newest p k.of_pair
 
 pub air_pair_keeps_code : AirPairKeepsCode
-air_pair_keeps_code even odd newest p k = keeps_code 360 1 even odd newest p k
+air_pair_keeps_code even odd newest p k = keeps_code air even odd newest p k

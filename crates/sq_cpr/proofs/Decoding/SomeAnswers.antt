@@ -1,5 +1,5 @@
 -- Decoding has an answer.
-use Rattle.std.proofs.Common.{◌≡◌, ◌⊎◌, inl, inr, ℕ, ◌*◌, ◌<◌, ℤ, pos, ◌+ℤ◌, ◌*ℤ◌, refl, subst, arith, Ok, Err}
+use Rattle.std.proofs.Common.{◌⊎◌, inl, inr, ℕ, ◌*◌, ◌<◌, ℤ, pos, ◌+ℤ◌, ◌*ℤ◌, refl, subst, arith, Ok, Err}
 use Rattle.std.specs.Prelude.{unsigned_abs}
 use Rattle.std.proofs.lemmas.Bool.{cases_eq, cases_lt}
 use Rattle.sq_angle.specs.Fraction.{Fraction, whole}
@@ -12,6 +12,7 @@ use Rattle.sq_zones.proofs.ZoneBounds.{lon_zones_at-least}
 use Rattle.sq_cpr.specs.declared.faults.LocalFault.TheVariants as locals
 use Rattle.sq_cpr.specs.declared.faults.PairFault.TheVariants as pairs
 use Rattle.sq_cpr.specs.Code.{CodeNumbers}
+use Rattle.sq_cpr.specs.Span.{Span, FitsCircle, air}
 use Rattle.sq_cpr.specs.Grid.{Point, IsLatitude, circle, codes_of_zone, grid_latitude}
 use Rattle.sq_cpr.specs.Near.{IsRepresentative, angle_at}
 use Rattle.sq_cpr.specs.Close.{HaveOneCount, count_at, zones_of}
@@ -23,7 +24,7 @@ use Rattle.sq_cpr.proofs.Decoding.Decoded.{point_of_pair}
 use Rattle.sq_cpr.proofs.Decoding.NearLaw.{one_near_latitude, one_near_longitude}
 use Rattle.sq_cpr.proofs.Decoding.PairLaw.{some_count}
 use Rattle.sq_cpr.proofs.Decoding.Pairs.{newest_of_pair, one_representative, some_zones}
-use Rattle.sq_cpr.proofs.Grids.Spans.{span_bounds}
+use Rattle.sq_cpr.proofs.Grids.Spans.{span_limits}
 use Rattle.sq_cpr.proofs.Decoding.ZonePairs.{zone_exists}
 
 -- an index is that of a latitude, or is not
@@ -44,15 +45,15 @@ both_latitudes w p q = elim (is_latitude w Even p) [
   ]
 ]
 
-pub some_local_answer : (w r : ℕ) → w * r ≡ 360 → SomeLocalAnswer w r
-some_local_answer w r e code parity lat lon s t =
-    let one = one_near_latitude w r e parity lat code.lat s in
-    elim (is_latitude w parity one.0) [
+pub some_local_answer : (span : Span) → FitsCircle span → SomeLocalAnswer span
+some_local_answer span e code parity lat lon s t =
+    let one = one_near_latitude span e parity lat code.lat s in
+    elim (is_latitude span.degrees parity one.0) [
       | inr out ↦ (Err locals.OutOfRange, (one.0, one.1, out))
       | inl inside ↦
-          let zones : ℕ = lon_zones_at parity (grid_latitude w parity one.0) in
-          let lons = one_near_longitude w r e zones lon code.lon
-          (lon_zones_at-least parity (grid_latitude w parity one.0)) t in
+          let zones : ℕ = lon_zones_at parity (grid_latitude span.degrees parity one.0) in
+          let lons = one_near_longitude span e zones lon code.lon
+          (lon_zones_at-least parity (grid_latitude span.degrees parity one.0)) t in
           let point : Point = record { parity = parity; lat_index = one.0; zones = zones; lon_index = lons.0 } in (
             Ok point,
             record {
@@ -65,20 +66,23 @@ some_local_answer w r e code parity lat lon s t =
     ]
 
 -- the newest point of close latitudes with one zone count
-some_point : (w r : ℕ) → w * r ≡ 360 → (even odd : CodeNumbers) (newest : Parity) (lat lon : Fraction) (p q : ℤ)
+some_point : (span : Span) → FitsCircle span → (even odd : CodeNumbers) (newest : Parity) (lat lon : Fraction) (p q : ℤ)
     → 0 < lon.den
-    → AreLatitudes w even odd p q → AreAt w lat p q → AreInRange w p q → HaveOneCount w p q
-    → (point : Point) × IsPointOfPairAt w r even odd newest lat lon point
-some_point w r e even odd newest lat lon p q t pair at inside same =
-    let h : 0 < w = (span_bounds w r e).0 in
-    let count : ℕ = count_at w Even p in
+    → AreLatitudes span.degrees even odd p q → AreAt span.degrees lat p q → AreInRange span.degrees p q
+    → HaveOneCount span.degrees p q
+    → (point : Point) × IsPointOfPairAt span even odd newest lat lon point
+some_point span e even odd newest lat lon p q t pair at inside same =
+    let h : 0 < span.degrees = (span_limits span e).0 in
+    let count : ℕ = count_at span.degrees Even p in
     let z = zone_exists (zones_of Even count) (zones_of Odd count) even.lon odd.lon in
-    let one = one_representative w (zones_of newest count)
+    let one = one_representative span.degrees (zones_of newest count)
     (pos (of_parity newest even.lon odd.lon) +ℤ pos codes_of_zone *ℤ z.0) lon h (some_zones newest count) t in
-    let lons = newest_of_pair w count even.lon odd.lon newest z.0 one.0 h (some_count w Even p) z.1 one.1.0 in
-    let around : 0 < circle (zones_of newest count) r = mul_pos (zones_of newest count * codes_of_zone) r
-    (mul_pos (zones_of newest count) codes_of_zone (some_zones newest count) (omega arith)) (span_bounds w r e).2 in
-    let b = residue (circle (zones_of newest count) r) one.0 around in
+    let lons = newest_of_pair span.degrees count even.lon odd.lon newest z.0 one.0 h (some_count span.degrees Even p)
+    z.1 one.1.0 in
+    let around : 0 < circle (zones_of newest count) span.repeats =
+    mul_pos (zones_of newest count * codes_of_zone) span.repeats
+    (mul_pos (zones_of newest count) codes_of_zone (some_zones newest count) (omega arith)) (span_limits span e).2 in
+    let b = residue (circle (zones_of newest count) span.repeats) one.0 around in
     let point : Point = record {
       parity = newest;
       lat_index = of_parity newest p q;
@@ -96,33 +100,35 @@ some_point w r e even odd newest lat lon p q t pair at inside same =
           in_range = inside;
           counts = same;
           longitudes = lons.2;
-          of_grid = point_of_pair w r newest point p q inside same refl refl refl b.1;
+          of_grid = point_of_pair span newest point p q inside same refl refl refl b.1;
           parity = refl;
           lat_index = refl;
-          lon_index = subst (λ (i : ℤ). IsCongruent (circle (zones_of newest count) r) (pos b.0) i) lons.3 b.2;
+          lon_index = subst (λ (i : ℤ). IsCongruent (circle (zones_of newest count) span.repeats) (pos b.0) i) lons.3
+              b.2;
         };
         lat_at = at;
-        lon_at = subst (λ (i : ℤ). IsRepresentative w lon (angle_at w (zones_of newest count) i)) lons.3 one.1.1;
+        lon_at = subst (λ (i : ℤ). IsRepresentative span.degrees lon (angle_at span.degrees (zones_of newest count) i))
+            lons.3 one.1.1;
       },
     )
 
-pub some_pair_answer : (w r : ℕ) → w * r ≡ 360 → SomePairAnswer w r
-some_pair_answer w r e even odd newest lat lon s t =
-    let (p, q, pair, at) = some_latitudes w even odd lat (span_bounds w r e).0 s in
-    elim (both_latitudes w p q) [
+pub some_pair_answer : (span : Span) → FitsCircle span → SomePairAnswer span
+some_pair_answer span e even odd newest lat lon s t =
+    let (p, q, pair, at) = some_latitudes span.degrees even odd lat (span_limits span e).0 s in
+    elim (both_latitudes span.degrees p q) [
       | inr out ↦ (Err pairs.OutOfRange, (p, q, pair, at, out))
-      | inl inside ↦ elim (cases_eq (count_at w Even p) (count_at w Odd q)) [
+      | inl inside ↦ elim (cases_eq (count_at span.degrees Even p) (count_at span.degrees Odd q)) [
         | inr differ ↦ (
-          Err (pairs.ZoneCounts (count_at w Even p) (count_at w Odd q)),
+          Err (pairs.ZoneCounts (count_at span.degrees Even p) (count_at span.degrees Odd q)),
           (p, q, pair, at, record { in_range = inside; even = refl; odd = refl; differ = differ }),
         )
         | inl same ↦
-            let found = some_point w r e even odd newest lat lon p q t pair at inside same in
+            let found = some_point span e even odd newest lat lon p q t pair at inside same in
             (Ok found.0, found.1)
       ]
     ]
 
 pub some_air_pair_answer : SomeAirPairAnswer
 some_air_pair_answer even odd newest =
-    let found = some_pair_answer 360 1 refl even odd newest (whole 0) (whole 0) (omega arith) (omega arith) in
+    let found = some_pair_answer air refl even odd newest (whole 0) (whole 0) (omega arith) (omega arith) in
     (found.0, air_answer even odd newest (whole 0) found.0 found.1)

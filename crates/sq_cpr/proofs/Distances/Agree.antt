@@ -4,12 +4,13 @@ use Rattle.std.proofs.lemmas.Int.{ints}
 use Rattle.sq_angle.specs.Fraction.{Fraction}
 use Rattle.sq_angle.specs.Scale.{scales, scale-le, scale-lt, le_of_scale, lt_of_scale}
 use Rattle.sq_angle.proofs.Sizes.{mul_pos}
+use Rattle.sq_cpr.specs.Span.{Span, FitsCircle}
 use Rattle.sq_cpr.specs.Grid.{codes_of_zone}
 use Rattle.sq_cpr.specs.Near.{IsNear, IsStrictlyNear, IsRepresentative, half_zone, angle_at}
 use Rattle.sq_cpr.specs.Close.{IsClose}
 use Rattle.sq_cpr.specs.Multiplied.{apart, LiesWithin, LiesStrictlyWithin, LiesClose}
 use Rattle.sq_cpr.specs.DecodeLaws.{FractionsAgree}
-use Rattle.sq_cpr.proofs.Grids.Spans.{span_bounds}
+use Rattle.sq_cpr.proofs.Grids.Spans.{span_limits}
 
 -- two orders between numbers whose differences are one
 pub below_by : (a b c d : ℤ) → a -ℤ b ≡ c -ℤ d → c <ℤ d → a <ℤ b
@@ -187,10 +188,10 @@ close_agrees degrees n m p q some_degrees some_n some_m = (
   lies_from_close degrees n m p q some_degrees some_n some_m,
 )
 
-pub fractions_agree : (w r : ℕ) → w * r ≡ 360 → FractionsAgree w
-fractions_agree w r e = record {
-  near = λ zones index x some. near_agrees w zones index x some;
-  strictly_near = λ zones index x some. strictly_agrees w zones index x some;
-  representative = λ zones index x. representative_agrees w zones index x;
-  close = λ n m p q some_n some_m. close_agrees w n m p q (span_bounds w r e).0 some_n some_m;
+pub fractions_agree : (span : Span) → FitsCircle span → FractionsAgree span
+fractions_agree span e = record {
+  near = λ zones index x some. near_agrees span.degrees zones index x some;
+  strictly_near = λ zones index x some. strictly_agrees span.degrees zones index x some;
+  representative = λ zones index x. representative_agrees span.degrees zones index x;
+  close = λ n m p q some_n some_m. close_agrees span.degrees n m p q (span_limits span e).0 some_n some_m;
 }

@@ -7,13 +7,14 @@ use Rattle.sq_angle.proofs.Floors.{rem_is_pos}
 use Rattle.sq_angle.proofs.Sizes.{mul_pos}
 use Rattle.sq_angle.proofs.Windows.{one_lower}
 use Rattle.sq_zones.specs.declared.parity.Parity.TheVariants.{Even, Odd}
+use Rattle.sq_cpr.specs.Span.{Span, FitsCircle}
 use Rattle.sq_cpr.specs.Grid.{codes_of_zone}
 use Rattle.sq_cpr.specs.Close.{IsClosePair, zones_of}
 use Rattle.sq_cpr.specs.Multiplied.{LiesClose}
 use Rattle.sq_cpr.specs.DecodeLaws.{IndexPair, HaveOneClosePair, OneCloseLatitudes, OneCloseLongitudes, OneZoneIsClose}
 use Rattle.sq_cpr.proofs.Distances.Agree.{close_from_lies}
 use Rattle.sq_cpr.proofs.Decoding.Pairs.{some_zones, paired_latitudes, paired_longitudes, close_pair, pair_at}
-use Rattle.sq_cpr.proofs.Grids.Spans.{span_bounds}
+use Rattle.sq_cpr.proofs.Grids.Spans.{span_limits}
 use Rattle.sq_cpr.proofs.Decoding.ZonePairs.{Paired, zone_exists}
 
 -- the one index of a circle
@@ -42,11 +43,13 @@ one_close w n m d p q e even odd =
           λ i. record { even = first i; odd = second i },
     )
 
-pub one_close_latitudes : (w r : ℕ) → w * r ≡ 360 → OneCloseLatitudes w
-one_close_latitudes w r e = one_close w 60 59 (span_bounds w r e).0 (omega arith) (omega arith) paired_latitudes
+pub one_close_latitudes : (span : Span) → FitsCircle span → OneCloseLatitudes span
+one_close_latitudes span e = one_close span.degrees 60 59 (span_limits span e).0 (omega arith) (omega arith)
+    paired_latitudes
 
-pub one_close_longitudes : (w r : ℕ) → w * r ≡ 360 → OneCloseLongitudes w
-one_close_longitudes w r e count h k = one_close w (zones_of Even count) (zones_of Odd count) (span_bounds w r e).0
+pub one_close_longitudes : (span : Span) → FitsCircle span → OneCloseLongitudes span
+one_close_longitudes span e count h k = one_close span.degrees (zones_of Even count) (zones_of Odd count)
+    (span_limits span e).0
     (some_zones Even count) (some_zones Odd count) (paired_longitudes count h)
 
 -- in one zone any two are close
@@ -55,6 +58,6 @@ any_close p q =
     let one = one_lower codes_of_zone (pos 2 *ℤ (p -ℤ q)) (omega arith) in
     (one.0, (omega (arith, ints, one.1), omega (arith, ints, one.1)))
 
-pub one_zone_is_close : (w r : ℕ) → w * r ≡ 360 → OneZoneIsClose w
-one_zone_is_close w r e p q =
-    close_from_lies w 1 1 p q (span_bounds w r e).0 (omega arith) (omega arith) (any_close p q)
+pub one_zone_is_close : (span : Span) → FitsCircle span → OneZoneIsClose span
+one_zone_is_close span e p q =
+    close_from_lies span.degrees 1 1 p q (span_limits span e).0 (omega arith) (omega arith) (any_close p q)

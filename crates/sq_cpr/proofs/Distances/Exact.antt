@@ -4,6 +4,7 @@ use Rattle.std.specs.Prelude.{nat_lt, if◌then◌else◌}
 use Rattle.std.proofs.lemmas.Int.{ints}
 use Rattle.sq_angle.specs.Fraction.{Fraction, minus, whole}
 use Rattle.sq_angle.specs.Scale.{scales}
+use Rattle.sq_cpr.specs.Span.{Span, FitsCircle}
 use Rattle.sq_cpr.specs.Close.{difference}
 use Rattle.sq_angle.specs.Angle.{degrees as degrees_of}
 use Rattle.sq_angle.specs.Position.{lon_of}
@@ -167,11 +168,12 @@ around_by false w r z b limit x full = (
       (k.0 -ℤ pos 1, subst (IsSmallerThan limit) (sym (west_is w z b x (k.0 -ℤ pos 1))) there),
 )
 
-pub point_within_exactly : (w r : ℕ) → w * r ≡ 360 → PointWithinExactly w r
+pub point_within_exactly : (span : Span) → FitsCircle span → PointWithinExactly span
 unfolding IsNearTurn lon_on
-point_within_exactly w r full limit point x =
-    let east = nat_lt (w * point.lon_index) (180 * (point.zones * codes_of_zone)) in
-    let both = around_by east w r point.zones point.lon_index (whole limit) (degrees_of (lon_of x)) full in (
+point_within_exactly span full limit point x =
+    let east = nat_lt (span.degrees * point.lon_index) (180 * (point.zones * codes_of_zone)) in
+    let both = around_by east span.degrees span.repeats point.zones point.lon_index (whole limit)
+    (degrees_of (lon_of x)) full in (
       λ h. (h.latitudes, both.0 h.longitudes),
       λ h. record { latitudes = h.0; longitudes = both.1 h.1 },
     )

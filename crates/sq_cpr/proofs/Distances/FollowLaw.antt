@@ -11,13 +11,14 @@ use Rattle.sq_angle.proofs.Congruence.{congruent_trans}
 use Rattle.sq_angle.proofs.Sizes.{mul_pos}
 use Rattle.sq_zones.specs.declared.parity.Parity.{Parity}
 use Rattle.sq_zones.specs.declared.parity.Parity.TheVariants.{Even, Odd}
+use Rattle.sq_cpr.specs.Span.{Span, FitsCircle}
 use Rattle.sq_cpr.specs.Grid.{codes_of_zone, circle, step, lat_zones, grid_longitude}
 use Rattle.sq_cpr.specs.Near.{IsStrictlyNear, half_zone, angle_at}
 use Rattle.sq_cpr.specs.DecodeLaws.{FollowingIsNear}
 use Rattle.sq_cpr.proofs.Distances.Agree.{strictly_from_within}
 use Rattle.sq_cpr.proofs.Decoding.Decoded.{some_lat_zones, some_zones_of_point}
 use Rattle.sq_cpr.proofs.Grids.NearestPoints.{above_index, nearest_parts, follow_parts, between_angles, around_is, straight_is, one_more}
-use Rattle.sq_cpr.proofs.Grids.Spans.{span_bounds}
+use Rattle.sq_cpr.proofs.Grids.Spans.{span_limits}
 
 -- twice the difference of the indices a of i zones and b of j zones, in one unit
 abbrev twice : ℕ → ℕ → ℕ → ℤ → ℤ → ℤ → ℤ
@@ -250,49 +251,52 @@ lon_zones_between i j p q = record {
 on_turn : (m : ℕ) (t s b : ℤ) → IsCongruent m t b → IsCongruent m (t +ℤ pos m *ℤ s) b
 on_turn m t s b h = congruent_trans (record { times = s; apart = refl }) h
 
-pub following_is_near : (w r : ℕ) → w * r ≡ 360 → FollowingIsNear w r
-following_is_near w r full x y a b a_rounds b_rounds slow =
+pub following_is_near : (span : Span) → FitsCircle span → FollowingIsNear span
+following_is_near span full x y a b a_rounds b_rounds slow =
     let x_lat = degrees_of (lat_of x) in
     let y_lat = degrees_of (lat_of y) in
     let x_lon = degrees_of (lon_of x) in
     let y_lon = degrees_of (lon_of y) in
-    let some : 0 < w = (span_bounds w r full).0 in
+    let some : 0 < span.degrees = (span_limits span full).0 in
     let i = lat_zones a.parity in
     let j = lat_zones b.parity in
-    let lat_parts = rw (straight_is x_lat y_lat) at (follow_parts w 60 59 _ slow.latitudes) in
-    let lat = between w r 60 59 i j x_lat y_lat a.lat_index b.lat_index (pos 0) full
+    let lat_parts = rw (straight_is x_lat y_lat) at (follow_parts span.degrees 60 59 _ slow.latitudes) in
+    let lat = between span.degrees span.repeats 60 59 i j x_lat y_lat a.lat_index b.lat_index (pos 0) full
     (lat_zones_between a.parity b.parity) a_rounds.north_south b_rounds.north_south lat_parts.0 lat_parts.1 in
-    let a_still : a.lat_index +ℤ pos (circle i r) *ℤ (pos 0 +ℤ pos 0) ≡ a.lat_index = omega (arith, ints) in
-    let b_still : b.lat_index +ℤ pos (circle j r) *ℤ pos 0 ≡ b.lat_index = omega (arith, ints) in
-    let a_same : a.lat_index +ℤ pos (circle i r) *ℤ pos 0 ≡ a.lat_index = omega (arith, ints) in
-    let b_same : b.lat_index +ℤ pos (circle j r) *ℤ (pos 0 -ℤ pos 0) ≡ b.lat_index = omega (arith, ints) in
+    let a_still : a.lat_index +ℤ pos (circle i span.repeats) *ℤ (pos 0 +ℤ pos 0) ≡ a.lat_index = omega (arith, ints) in
+    let b_still : b.lat_index +ℤ pos (circle j span.repeats) *ℤ pos 0 ≡ b.lat_index = omega (arith, ints) in
+    let a_same : a.lat_index +ℤ pos (circle i span.repeats) *ℤ pos 0 ≡ a.lat_index = omega (arith, ints) in
+    let b_same : b.lat_index +ℤ pos (circle j span.repeats) *ℤ (pos 0 -ℤ pos 0) ≡ b.lat_index = omega (arith, ints) in
     let turns = slow.longitudes.0 in
     let s = a_rounds.east_west in
     let t = b_rounds.east_west in
-    let some_a = some_zones_of_point w r a a_rounds.of_grid in
-    let some_b = some_zones_of_point w r b b_rounds.of_grid in
+    let some_a = some_zones_of_point span a a_rounds.of_grid in
+    let some_b = some_zones_of_point span b b_rounds.of_grid in
     let lon_parts = rw (around_is x_lon y_lon turns, one_more (x_lon.den * y_lon.den)) at
-    (follow_parts w (max a.zones b.zones) (min a.zones b.zones) _ slow.longitudes.1) in
-    let lon = between w r (max a.zones b.zones) (min a.zones b.zones) a.zones b.zones x_lon y_lon s.0 t.0 turns full
+    (follow_parts span.degrees (max a.zones b.zones) (min a.zones b.zones) _ slow.longitudes.1) in
+    let lon = between span.degrees span.repeats (max a.zones b.zones) (min a.zones b.zones) a.zones b.zones x_lon y_lon
+    s.0 t.0 turns full
     (lon_zones_between a.zones b.zones some_a some_b) s.1 t.1 lon_parts.0 lon_parts.1 in
-    let b_lon = longitude_from w r b.zones b.lon_index t.0 full t.2 in
-    let a_lon = longitude_from w r a.zones a.lon_index s.0 full s.2 in (
+    let b_lon = longitude_from span.degrees span.repeats b.zones b.lon_index t.0 full t.2 in
+    let a_lon = longitude_from span.degrees span.repeats a.zones a.lon_index s.0 full s.2 in (
       record {
         north_south = rw (a_still, b_still) at
-            (first_near w r i j a.lat_index b.lat_index (pos 0) (pos 0) some (some_lat_zones a.parity) lat);
+            (first_near span.degrees span.repeats i j a.lat_index b.lat_index (pos 0) (pos 0) some
+            (some_lat_zones a.parity) lat);
         east_west = (
-          s.0 +ℤ pos (circle a.zones r) *ℤ (turns +ℤ b_lon.0),
-          on_turn (circle a.zones r) s.0 (turns +ℤ b_lon.0) (pos a.lon_index) s.2,
-          rw b_lon.1 (first_near w r a.zones b.zones s.0 t.0 turns b_lon.0 some some_a lon),
+          s.0 +ℤ pos (circle a.zones span.repeats) *ℤ (turns +ℤ b_lon.0),
+          on_turn (circle a.zones span.repeats) s.0 (turns +ℤ b_lon.0) (pos a.lon_index) s.2,
+          rw b_lon.1 (first_near span.degrees span.repeats a.zones b.zones s.0 t.0 turns b_lon.0 some some_a lon),
         );
       },
       record {
         north_south = rw (a_same, b_same) at
-            (second_near w r i j a.lat_index b.lat_index (pos 0) (pos 0) some (some_lat_zones b.parity) lat);
+            (second_near span.degrees span.repeats i j a.lat_index b.lat_index (pos 0) (pos 0) some
+            (some_lat_zones b.parity) lat);
         east_west = (
-          t.0 +ℤ pos (circle b.zones r) *ℤ (a_lon.0 -ℤ turns),
-          on_turn (circle b.zones r) t.0 (a_lon.0 -ℤ turns) (pos b.lon_index) t.2,
-          rw a_lon.1 (second_near w r a.zones b.zones s.0 t.0 turns a_lon.0 some some_b lon),
+          t.0 +ℤ pos (circle b.zones span.repeats) *ℤ (a_lon.0 -ℤ turns),
+          on_turn (circle b.zones span.repeats) t.0 (a_lon.0 -ℤ turns) (pos b.lon_index) t.2,
+          rw a_lon.1 (second_near span.degrees span.repeats a.zones b.zones s.0 t.0 turns a_lon.0 some some_b lon),
         );
       },
     )

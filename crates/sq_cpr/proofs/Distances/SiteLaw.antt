@@ -8,6 +8,7 @@ use Rattle.sq_angle.specs.Position.{lat_of, lon_of}
 use Rattle.sq_angle.specs.Scale.{scales, scale-neg, scale-le, lt_of_scale}
 use Rattle.sq_angle.proofs.Congruence.{congruent_trans}
 use Rattle.sq_angle.proofs.Sizes.{mul_pos}
+use Rattle.sq_cpr.specs.Span.{Span, FitsCircle}
 use Rattle.sq_cpr.specs.Grid.{codes_of_zone, circle, step, lat_zones}
 use Rattle.sq_cpr.specs.Near.{angle_at}
 use Rattle.sq_cpr.specs.Slow.{IsSmallerThan, DifferByLess}
@@ -74,8 +75,8 @@ degrees_parts : (limit : ℕ) (d : Fraction) → IsSmallerThan (whole limit) d
     → (neg_ℤ (pos (limit * d.den)) <ℤ d.num) × (d.num <ℤ pos (limit * d.den))
 degrees_parts limit d h = (omega (arith, ints, h.above, scale-neg d.den (pos limit)), omega (arith, ints, h.below))
 
-pub rounds_near_site : (w r : ℕ) → w * r ≡ 360 → RoundsNearSite w r
-rounds_near_site w r full x site p rounds less =
+pub rounds_near_site : (span : Span) → FitsCircle span → RoundsNearSite span
+rounds_near_site span full x site p rounds less =
     let x_lat = degrees_of (lat_of x) in
     let x_lon = degrees_of (lon_of x) in
     let lat_site = degrees_of (lat_of site) in
@@ -84,16 +85,19 @@ rounds_near_site w r full x site p rounds less =
     let s = less.longitudes in
     let lat_less = rw (straight_is x_lat lat_site) at (degrees_parts 44 _ less.latitudes) in
     let lon_less = rw (around_is x_lon lon_site s.0, one_more (x_lon.den * lon_site.den)) at (degrees_parts 44 _ s.1) in
-    let lat = less_apart w r (lat_zones p.parity) x_lat lat_site p.lat_index (pos 0) full (some_lat_zones p.parity)
+    let lat = less_apart span.degrees span.repeats (lat_zones p.parity) x_lat lat_site p.lat_index (pos 0) full
+    (some_lat_zones p.parity)
     (mul_pos x_lat.den lat_site.den x.lat.in_range.positive site.lat.in_range.positive) rounds.north_south lat_less.0
     lat_less.1 in
-    let still : p.lat_index +ℤ pos (circle (lat_zones p.parity) r) *ℤ pos 0 ≡ p.lat_index = omega (arith, ints) in
+    let still : p.lat_index +ℤ pos (circle (lat_zones p.parity) span.repeats) *ℤ pos 0
+    ≡ p.lat_index = omega (arith, ints) in
     record {
       latitudes = rw still at lat;
       longitudes = (
-        t.0 +ℤ pos (circle p.zones r) *ℤ s.0,
+        t.0 +ℤ pos (circle p.zones span.repeats) *ℤ s.0,
         congruent_trans (record { times = s.0; apart = refl }) t.2,
-        less_apart w r p.zones x_lon lon_site t.0 s.0 full (some_zones_of_point w r p rounds.of_grid)
+        less_apart span.degrees span.repeats p.zones x_lon lon_site t.0 s.0 full
+            (some_zones_of_point span p rounds.of_grid)
             (mul_pos x_lon.den lon_site.den x.lon.in_range.positive site.lon.in_range.positive) t.1 lon_less.0
             lon_less.1,
       );

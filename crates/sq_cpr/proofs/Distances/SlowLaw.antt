@@ -8,6 +8,7 @@ use Rattle.sq_angle.specs.Position.{lat_of, lon_of}
 use Rattle.sq_angle.specs.Scale.{scales, scale-neg, scale-le, lt_of_scale}
 use Rattle.sq_angle.proofs.Congruence.{congruent_sym, congruent_factor}
 use Rattle.sq_zones.specs.declared.parity.Parity.TheVariants.{Even, Odd}
+use Rattle.sq_cpr.specs.Span.{Span, FitsCircle}
 use Rattle.sq_cpr.specs.Grid.{codes_of_zone, step}
 use Rattle.sq_cpr.specs.Close.{count_at, zones_of}
 use Rattle.sq_cpr.specs.Multiplied.{LiesClose}
@@ -17,7 +18,7 @@ use Rattle.sq_cpr.proofs.Distances.CloseLaw.{one_zone_is_close}
 use Rattle.sq_cpr.proofs.Decoding.Decoded.{some_zones_of_point}
 use Rattle.sq_cpr.proofs.Grids.NearestPoints.{above_index, nearest_parts, slow_parts, between_angles, around_is, straight_is, one_more}
 use Rattle.sq_cpr.proofs.Decoding.PairLaw.{some_count}
-use Rattle.sq_cpr.proofs.Grids.Spans.{span_bounds}
+use Rattle.sq_cpr.proofs.Grids.Spans.{span_limits}
 use Rattle.sq_cpr.proofs.Decoding.ZonePairs.{close_turned_even, close_turned_odd}
 
 -- The distances of the indices from the angles, the difference of the angles and that of the indices, in one unit.
@@ -83,39 +84,42 @@ fewer count = omega arith
 one_or_more : (count : ℕ) → 0 < count → (count ≡ 1) ⊎ (2 ≤ count)
 one_or_more count h = grind arith
 
-pub slow_is_tame : (w r : ℕ) → w * r ≡ 360 → SlowIsTame w r
-slow_is_tame w r full x y a b a_rounds b_rounds even odd slow =
+pub slow_is_tame : (span : Span) → FitsCircle span → SlowIsTame span
+slow_is_tame span full x y a b a_rounds b_rounds even odd slow =
     let x_lat = degrees_of (lat_of x) in
     let y_lat = degrees_of (lat_of y) in
     let x_lon = degrees_of (lon_of x) in
     let y_lon = degrees_of (lon_of y) in
-    let some : 0 < w = (span_bounds w r full).0 in
-    let lat = rw (straight_is x_lat y_lat) at (slow_parts w 60 59 _ slow.latitudes) in
+    let some : 0 < span.degrees = (span_limits span full).0 in
+    let lat = rw (straight_is x_lat y_lat) at (slow_parts span.degrees 60 59 _ slow.latitudes) in
     record {
       even = even;
       odd = odd;
-      latitudes = close_from_lies w 60 59 a.lat_index b.lat_index some (omega arith) (omega arith)
-          (slow_is_close w r 60 59 x_lat y_lat a.lat_index b.lat_index (pos 0) full (omega arith)
+      latitudes = close_from_lies span.degrees 60 59 a.lat_index b.lat_index some (omega arith) (omega arith)
+          (slow_is_close span.degrees span.repeats 60 59 x_lat y_lat a.lat_index b.lat_index (pos 0) full (omega arith)
           (rw even at a_rounds.north_south) (rw odd at b_rounds.north_south) lat.0 lat.1);
       longitudes = λ counts.
-          let n : a.zones ≡ zones_of Even (count_at w Even a.lat_index) = rw even at a_rounds.of_grid.zones in
-          let m : b.zones ≡ zones_of Odd (count_at w Even a.lat_index) = rw (odd, ← counts) at b_rounds.of_grid.zones in
+          let n : a.zones ≡ zones_of Even (count_at span.degrees Even a.lat_index) =
+          rw even at a_rounds.of_grid.zones in
+          let m : b.zones ≡ zones_of Odd (count_at span.degrees Even a.lat_index) =
+          rw (odd, ← counts) at b_rounds.of_grid.zones in
           ⊎_elim
           (λ one. let n1 : a.zones ≡ 1 = rw one at n in let m1 : b.zones
-          ≡ 1 = rw one at m in rw (n1, m1) (one_zone_is_close w r full (pos a.lon_index) (pos b.lon_index)))
+          ≡ 1 = rw one at m in rw (n1, m1) (one_zone_is_close span full (pos a.lon_index) (pos b.lon_index)))
           (λ more.
           let apart = slow.longitudes counts more in
           let s = a_rounds.east_west in
           let t = b_rounds.east_west in
-          let smaller : b.zones ≤ a.zones = rw (n, m) (fewer (count_at w Even a.lat_index)) in
+          let smaller : b.zones ≤ a.zones = rw (n, m) (fewer (count_at span.degrees Even a.lat_index)) in
           let lon = rw (around_is x_lon y_lon apart.0, one_more (x_lon.den * y_lon.den)) at
-          (slow_parts w a.zones b.zones _ apart.1) in
-          let turned = slow_is_close w r a.zones b.zones x_lon y_lon s.0 t.0 apart.0 full smaller s.1 t.1 lon.0 lon.1 in
-          close_from_lies w a.zones b.zones (pos a.lon_index) (pos b.lon_index) some
-          (some_zones_of_point w r a a_rounds.of_grid) (some_zones_of_point w r b b_rounds.of_grid)
+          (slow_parts span.degrees a.zones b.zones _ apart.1) in
+          let turned = slow_is_close span.degrees span.repeats a.zones b.zones x_lon y_lon s.0 t.0 apart.0 full smaller
+          s.1 t.1 lon.0 lon.1 in
+          close_from_lies span.degrees a.zones b.zones (pos a.lon_index) (pos b.lon_index) some
+          (some_zones_of_point span a a_rounds.of_grid) (some_zones_of_point span b b_rounds.of_grid)
           (close_turned_even a.zones b.zones s.0 (pos b.lon_index) (pos a.lon_index)
-          (congruent_sym (congruent_factor (a.zones * codes_of_zone) r s.2))
+          (congruent_sym (congruent_factor (a.zones * codes_of_zone) span.repeats s.2))
           (close_turned_odd a.zones b.zones s.0 t.0 (pos b.lon_index)
-          (congruent_sym (congruent_factor (b.zones * codes_of_zone) r t.2)) turned)))
-          (one_or_more (count_at w Even a.lat_index) (some_count w Even a.lat_index));
+          (congruent_sym (congruent_factor (b.zones * codes_of_zone) span.repeats t.2)) turned)))
+          (one_or_more (count_at span.degrees Even a.lat_index) (some_count span.degrees Even a.lat_index));
     }

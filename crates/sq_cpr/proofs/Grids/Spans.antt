@@ -1,5 +1,6 @@
 -- The laws of a span's grid, from `degrees * repeats ≡ 360`.
 use Rattle.std.proofs.Common.{◌≡◌, ℕ, zero, suc, ◌*◌, ◌<◌, ◌≤◌, ap, arith, zero-mul, mul-zero, mul-le-mul, mul-lt-mul_of_pos_right}
+use Rattle.sq_cpr.specs.Span.{Span, FitsCircle}
 use Rattle.sq_cpr.specs.Grid.{circle}
 
 -- both numbers are from 1 to 360
@@ -7,6 +8,10 @@ pub span_bounds : (w r : ℕ) → w * r ≡ 360 → (1 ≤ w) × (w ≤ 360) × 
 span_bounds zero r e = absurd (omega (arith, zero-mul r))
 span_bounds (suc w) zero e = absurd (omega (arith, mul-zero (suc w)))
 span_bounds (suc w) (suc r) e = omega arith
+
+pub span_limits : (span : Span) → FitsCircle span
+    → (1 ≤ span.degrees) × (span.degrees ≤ 360) × (1 ≤ span.repeats) × (span.repeats ≤ 360)
+span_limits span e = span_bounds span.degrees span.repeats e
 
 -- the longitude steps of a circle fit 32 bits
 pub circle_small : (w r z : ℕ) → w * r ≡ 360 → z ≤ 59 → circle z r ≤ 2783969280

@@ -47,7 +47,7 @@ module _ (g : Over) (c : goal.After-of_parts g) where
   zones_are : c.of_parts.result.zones ≡ c.lon_zones-zones.result
   zones_are = ap (λ (p : Point). p.zones) c.of_parts.ensures.value
 
-  near : IsNearLatitude g.S.Span.DEGREES c.args.parity
+  near : IsNearLatitude g.S.Span.span.degrees c.args.parity
       (degrees (lat_of c.args.reference.now)) c.args.code.lat c.of_parts.result.lat_index
   near =
       let base_is : to_z w128 c.lat.result ≡ pos c.args.code.lat =
@@ -57,11 +57,11 @@ module _ (g : Over) (c : goal.After-of_parts g) where
       (degrees (lat_of c.args.reference.now)) _ c.index_within-lat_index.result c.lat_zones.ensures base_is
       c.index_within-lat_index.ensures.congruent (rw c.lat-2.ensures at c.index_within-lat_index.ensures.within))
 
-  within : LiesWithin 1 g.S.Span.DEGREES c.of_parts.result.zones c.index_within-turned.result
+  within : LiesWithin 1 g.S.Span.span.degrees c.of_parts.result.zones c.index_within-turned.result
       (degrees (lon_of c.args.reference.now))
   within = rw zones_are (rw (c.lon-2.ensures, c.degrees_of-span.ensures.value) at c.index_within-turned.ensures.within)
 
-  around : IsCongruent (circle c.of_parts.result.zones g.S.Span.REPEATS)
+  around : IsCongruent (circle c.of_parts.result.zones g.S.Span.span.repeats)
       (pos c.of_parts.result.lon_index) c.index_within-turned.result
   around =
       let lon_is : c.of_parts.result.lon_index ≡ c.on_circle-lon_index.result =
@@ -75,7 +75,7 @@ returns g c =
     let base_is : to_z w128 c.lon.result ≡ pos c.args.code.lon =
     rw c.lon.ensures.value (omega (arith, ints, c.args.code.lon_below)) in
     let parity_is = ap (λ (p : Point). p.parity) c.of_parts.ensures.value in
-    local_point g.S.Span.DEGREES g.S.Span.REPEATS (numbers_of c.args.code) c.args.parity
+    local_point g.S.Span.span (numbers_of c.args.code) c.args.parity
     (degrees (lat_of c.args.reference.now))
     (degrees (lon_of c.args.reference.now)) c.of_parts.result _ c.index_within-turned.result
     c.of_parts.ensures.of_grid parity_is (near g c) base_is c.index_within-turned.ensures.congruent (within g c)

@@ -15,13 +15,13 @@ pub of_parts-requires : goal.of_parts-requires
 of_parts-requires g c =
     let even_fits : FitsSigned w32 c.close_latitudes-lats.result.even = search rules in
     let odd_fits : FitsSigned w32 c.close_latitudes-lats.result.odd = search rules in
-    let found = found_pair g.S.Span.DEGREES c.close_latitudes-lats.result.even c.close_latitudes-lats.result.odd
+    let found = found_pair g.S.Span.span.degrees c.close_latitudes-lats.result.even c.close_latitudes-lats.result.odd
     c.in-Some.even_lat c.in-Some-angle_at.odd_lat c.zone_count-count.result c.zone_count-odd_count.result even_fits
     odd_fits
     (c.in-Some.ensures.variant.0 refl)
     (c.in-Some-angle_at.ensures.variant.0 refl) c.in-Some.ensures.value c.in-Some-angle_at.ensures.value
     c.zone_count-count.ensures.value c.zone_count-odd_count.ensures.value c.if-count-odd_count.false in
-    point_of_pair g.S.Span.DEGREES g.S.Span.REPEATS c.args.newest _ c.close_latitudes-lats.result.even
+    point_of_pair g.S.Span.span c.args.newest _ c.close_latitudes-lats.result.even
     c.close_latitudes-lats.result.odd found.inside found.counts refl
     (back32 c.of.result c.of.type_inv ∙ c.of.ensures)
     (c.zones_of-zones.ensures.value ∙ ap (λ (n : ℕ). zones_of c.args.newest n) found.counted)
@@ -31,7 +31,7 @@ pub returns : goal.returns
 returns g c =
     let even_fits : FitsSigned w32 c.close_latitudes-lats.result.even = search rules in
     let odd_fits : FitsSigned w32 c.close_latitudes-lats.result.odd = search rules in
-    let found = found_pair g.S.Span.DEGREES c.close_latitudes-lats.result.even c.close_latitudes-lats.result.odd
+    let found = found_pair g.S.Span.span.degrees c.close_latitudes-lats.result.even c.close_latitudes-lats.result.odd
     c.in-Some.even_lat c.in-Some-angle_at.odd_lat c.zone_count-count.result c.zone_count-odd_count.result even_fits
     odd_fits
     (c.in-Some.ensures.variant.0 refl)

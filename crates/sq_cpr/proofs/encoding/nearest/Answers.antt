@@ -11,7 +11,7 @@ returns-clause-only g c = λ point parity rounds.
     let s = g.S.Span in
     let found = c.rounded.ensures in
     let at = c.args.position.now in
-    rounds_once s.DEGREES s.REPEATS (degrees (lat_of at)) (degrees (lon_of at)) point c.rounded.result
+    rounds_once s.span (degrees (lat_of at)) (degrees (lon_of at)) point c.rounded.result
     (parity ∙ sym found.parity) rounds found.rounds
 
 pub returns-clause-itself : goal.returns-clause-itself
@@ -19,7 +19,7 @@ returns-clause-itself g c = λ point of_grid parity lat lon.
     let s = g.S.Span in
     let found = c.rounded.ensures in
     let at = c.args.position.now in
-    let rounds = subst₂ (λ (x y : Fraction). RoundsTo s.DEGREES s.REPEATS x y point) (sym lat) (sym lon)
-    (rounds_to_itself s.DEGREES s.REPEATS s.full_circle point of_grid) in
-    rounds_once s.DEGREES s.REPEATS (degrees (lat_of at)) (degrees (lon_of at)) point c.rounded.result
+    let rounds = subst₂ (λ (x y : Fraction). RoundsTo s.span x y point) (sym lat) (sym lon)
+    (rounds_to_itself s.span s.full_circle point of_grid) in
+    rounds_once s.span (degrees (lat_of at)) (degrees (lon_of at)) point c.rounded.result
     (parity ∙ sym found.parity) rounds found.rounds

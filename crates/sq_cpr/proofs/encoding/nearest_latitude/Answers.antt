@@ -15,26 +15,28 @@ fits_narrow : (a : ℤ) → unsigned_abs a ≤ 707788800 → FitsSigned w32 (to_
 fits_narrow a h = omega (arith, ints)
 
 module _ (g : Over) (c : goal.After-nearest_index g) where
-  nearest : IsNearest (degrees c.args.lat.now) (step g.S.Span.DEGREES (lat_zones c.args.parity)) c.nearest_index.result
+  nearest : IsNearest (degrees c.args.lat.now) (step g.S.Span.span.degrees (lat_zones c.args.parity))
+      c.nearest_index.result
   nearest = subst₂ (λ (w z : ℕ). IsNearest (degrees c.args.lat.now)
       (step w z) c.nearest_index.result) c.degrees_of.ensures.value c.lat_zones.ensures c.nearest_index.ensures.nearest
 
-  within : IsLatitude g.S.Span.DEGREES c.args.parity c.nearest_index.result
-  within = nearest_within_90 (degrees c.args.lat.now) g.S.Span.DEGREES g.S.Span.REPEATS
+  within : IsLatitude g.S.Span.span.degrees c.args.parity c.nearest_index.result
+  within = nearest_within_90 (degrees c.args.lat.now) g.S.Span.span.degrees g.S.Span.span.repeats
       (lat_zones c.args.parity) c.nearest_index.result g.S.Span.full_circle c.args.lat.now.in_range.positive c.requires
       nearest
 
   small : unsigned_abs c.nearest_index.result ≤ 707788800
-  small = index_small g.S.Span.DEGREES g.S.Span.REPEATS c.args.parity c.nearest_index.result g.S.Span.full_circle within
+  small = index_small g.S.Span.span.degrees g.S.Span.span.repeats c.args.parity c.nearest_index.result
+      g.S.Span.full_circle within
 
 pub overflow_cast-result : goal.overflow_cast-result
 overflow_cast-result g c = fits_narrow c.nearest_index.result (small g c)
 
 pub returns-clause-nearest : goal.returns-clause-nearest
 returns-clause-nearest g c =
-    subst (λ b. IsNearest (degrees c.args.lat.now) (step g.S.Span.DEGREES (lat_zones c.args.parity)) b)
+    subst (λ b. IsNearest (degrees c.args.lat.now) (step g.S.Span.span.degrees (lat_zones c.args.parity)) b)
     (sym (narrowed c.nearest_index.result (small g c))) (nearest g c)
 
 pub returns-clause-within : goal.returns-clause-within
-returns-clause-within g c = subst (λ b. IsLatitude g.S.Span.DEGREES c.args.parity b)
+returns-clause-within g c = subst (λ b. IsLatitude g.S.Span.span.degrees c.args.parity b)
     (sym (narrowed c.nearest_index.result (small g c))) (within g c)

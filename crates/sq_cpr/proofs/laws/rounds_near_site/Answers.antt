@@ -2,4 +2,4 @@ use Rattle.sq_cpr.proofs.Distances.SiteLaw.{rounds_near_site}
 use Rattle.sq_cpr.proofs.laws.rounds_near_site.Goals as goal
 
 pub returns : goal.returns
-returns g c = rounds_near_site g.S.Span.DEGREES g.S.Span.REPEATS g.S.Span.full_circle
+returns g c = rounds_near_site g.S.Span.span g.S.Span.full_circle
