@@ -6,7 +6,8 @@ use Rattle.sq_angle.specs.declared.position.Position.{Position}
 use Rattle.sq_message.specs.declared.place.Place.{Place}
 use Rattle.sq_message.specs.declared.place.PlaceFault.{PlaceFault}
 use Rattle.sq_message.specs.declared.squitter.Squitter.{Squitter}
-use Rattle.sq_message.specs.Headline.{IsReadNear, NearReferenceInAir, NearReferenceOnGround}
+use Rattle.sq_message.specs.Kinds.{InAir, OnGround}
+use Rattle.sq_message.specs.Headline.{IsReadNear, NearReference}
 use Rattle.sq_message.specs.Parts.{squitter_parts}
 use Rattle.sq_message.specs.Places.{IsLocalPlace}
 use Rattle.sq_message.specs.Spelling.{Spells}
@@ -65,13 +66,14 @@ place_of_read one text reference frame squitter place (Err fault) of_text spelle
       (subst (λ q. IsLocalPlace (squitter_parts q).me reference (Err b.1)) same b.3)))
 ]
 
-pub true_in_air : NearReferenceInAir → OneReading → (text : List ℕ) (reference : Position) (answer : Result Place Fault)
+pub true_in_air : NearReference InAir → OneReading → (text : List ℕ) (reference : Position)
+    (answer : Result Place Fault)
     → IsPlaceOfText text reference answer → IsTrueInAir text reference answer
 true_in_air near one text reference answer h head parity position point frame of_text sent close =
     place_of_read one text reference frame sent.squitter _ answer of_text sent.spelled
     (near head parity position reference point frame sent close) h
 
-pub true_on_ground : NearReferenceOnGround → OneReading
+pub true_on_ground : NearReference OnGround → OneReading
     → (text : List ℕ) (reference : Position) (answer : Result Place Fault)
     → IsPlaceOfText text reference answer → IsTrueOnGround text reference answer
 true_on_ground near one text reference answer h head parity position point frame of_text sent close =

@@ -2,19 +2,19 @@
 use Rattle.std.specs.Prelude.{◌≡◌, ◌⊎◌, ℕ, List, Option, Result, Ok, Err, MatchResult}
 use Rattle.sq_bits.specs.declared.frame.Frame.{Frame}
 use Rattle.sq_angle.specs.declared.position.Position.{Position}
-use Rattle.sq_angle.specs.Angle.{degrees}
-use Rattle.sq_angle.specs.Position.{lat_of, lon_of}
 use Rattle.sq_zones.specs.declared.parity.Parity.{Parity}
+use Rattle.sq_cpr.specs.Span.{air, ground}
 use Rattle.sq_cpr.specs.Grid.{Point}
-use Rattle.sq_cpr.specs.Near.{IsStrictlyNearPoint}
+use Rattle.sq_cpr.specs.Near.{IsStrictlyNearPosition}
 use Rattle.sq_message.specs.declared.place.Place.{Place}
 use Rattle.sq_message.specs.declared.place.Place.TheVariants.{Air, Ground}
 use Rattle.sq_message.specs.declared.place.PlaceFault.{PlaceFault}
 use Rattle.sq_message.specs.declared.squitter.Squitter.{Squitter}
+use Rattle.sq_message.specs.Kinds.{InAir, OnGround}
 use Rattle.sq_message.specs.Heads.{AirHeadParts, GroundHeadParts}
 use Rattle.sq_message.specs.Parts.{squitter_parts}
 use Rattle.sq_message.specs.Places.{IsLocalPlace, IsPairPlace}
-use Rattle.sq_message.specs.Sending.{IsSentInAir, IsSentOnGround}
+use Rattle.sq_message.specs.Sending.{IsSent}
 use Rattle.sq_text.specs.declared.faults.LineFault.{LineFault}
 use Rattle.sq_text.specs.FrameText.{IsFrameText}
 use Rattle.sq_text.specs.Reading.{IsSquitterReading}
@@ -64,8 +64,8 @@ IsPairOfTexts older newer site answer =
 abbrev pub IsTrueInAir : List ℕ → Position → Result Place Fault → Type 0
 IsTrueInAir text reference answer =
     (head : AirHeadParts) (parity : Parity) (position : Position) (point : Point) (frame : Frame)
-    → IsFrameText text frame → IsSentInAir head parity position point frame
-    → IsStrictlyNearPoint 360 1 (degrees (lat_of reference)) (degrees (lon_of reference)) point
+    → IsFrameText text frame → IsSent InAir head parity position point frame
+    → IsStrictlyNearPosition air reference point
     → answer ≡ Ok (Air point)
 
 -- the text of a frame that was sent on the ground of a position gives the point to which that rounds, if the reference
@@ -73,6 +73,6 @@ IsTrueInAir text reference answer =
 abbrev pub IsTrueOnGround : List ℕ → Position → Result Place Fault → Type 0
 IsTrueOnGround text reference answer =
     (head : GroundHeadParts) (parity : Parity) (position : Position) (point : Point) (frame : Frame)
-    → IsFrameText text frame → IsSentOnGround head parity position point frame
-    → IsStrictlyNearPoint 90 4 (degrees (lat_of reference)) (degrees (lon_of reference)) point
+    → IsFrameText text frame → IsSent OnGround head parity position point frame
+    → IsStrictlyNearPosition ground reference point
     → answer ≡ Ok (Ground point)

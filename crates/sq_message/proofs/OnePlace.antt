@@ -6,6 +6,7 @@ use Rattle.sq_angle.specs.Position.{lat_of, lon_of}
 use Rattle.sq_zones.specs.declared.parity.Parity.{Parity}
 use Rattle.sq_zones.specs.declared.parity.Parity.TheVariants.{Even, Odd}
 use Rattle.sq_cpr.specs.Code.{numbers_of}
+use Rattle.sq_cpr.specs.Span.{air, ground}
 use Rattle.sq_cpr.proofs.Decoding.NearLaw.{one_local_answer}
 use Rattle.sq_cpr.proofs.Decoding.PairLaw.{one_pair_answer}
 use Rattle.sq_cpr.proofs.Decoding.AirLaw.{one_air_pair_answer}
@@ -17,19 +18,19 @@ use Rattle.sq_message.specs.declared.place.Place.{Place}
 use Rattle.sq_message.specs.declared.place.Place.TheVariants.{Air, Ground}
 use Rattle.sq_message.specs.declared.place.PlaceFault.{PlaceFault}
 use Rattle.sq_message.specs.Parts.{squitter_parts}
-use Rattle.sq_message.specs.Places.{place_of, of_local, of_pair, even_of, odd_of, IsLocalPlace, IsAirPairPlace, IsGroundPairPlace, NeedsTwoParities, IsKindredPlace}
+use Rattle.sq_message.specs.Places.{place_of, of_local, of_pair, even_of, odd_of, IsLocalPlace, IsAirPairPlace, IsGroundPairPlace, NeedsTwoParities, IsPlaceOfOneAddress}
 use Rattle.sq_message.specs.Headline.{OneLocalPlace, OnePairPlace}
 use Rattle.sq_message.proofs.PlaceLemmas.{past_or_fault}
 
 one_near : (me : Me) (reference : Position) (x y : Result Place PlaceFault) → IsLocalPlace me reference x
     → IsLocalPlace me reference y → x ≡ y
 one_near (kinds.Airborne a) reference x y (found, h, is) (other, k, be) =
-    let same = one_local_answer 360 1 refl (numbers_of a.code) a.parity (degrees (lat_of reference))
+    let same = one_local_answer air refl (numbers_of a.code) a.parity (degrees (lat_of reference))
     (degrees (lon_of reference)) found other
     reference.lat.in_range.positive reference.lon.in_range.positive h k in
     is ∙ ap (place_of Air of_local) same ∙ sym be
 one_near (kinds.Surface s) reference x y (found, h, is) (other, k, be) =
-    let same = one_local_answer 90 4 refl (numbers_of s.code) s.parity (degrees (lat_of reference))
+    let same = one_local_answer ground refl (numbers_of s.code) s.parity (degrees (lat_of reference))
     (degrees (lon_of reference)) found other
     reference.lat.in_range.positive reference.lon.in_range.positive h k in
     is ∙ ap (place_of Ground of_local) same ∙ sym be
@@ -60,12 +61,12 @@ one_on_ground o n None x y h k = h ∙ sym k
 one_on_ground o n (Some site) x y (found, h, is) (other, k, be) =
     let even = even_of n.parity (numbers_of o.code) (numbers_of n.code) in
     let odd = odd_of n.parity (numbers_of o.code) (numbers_of n.code) in
-    let same = one_pair_answer 90 4 refl even odd n.parity (degrees (lat_of site)) (degrees (lon_of site)) found other
+    let same = one_pair_answer ground refl even odd n.parity (degrees (lat_of site)) (degrees (lon_of site)) found other
     site.lat.in_range.positive site.lon.in_range.positive h k in
     is ∙ ap (place_of Ground of_pair) same ∙ sym be
 
-one_kindred : (m n : Me) (site : Option Position) (x y : Result Place PlaceFault) → IsKindredPlace m n site x
-    → IsKindredPlace m n site y → x ≡ y
+one_kindred : (m n : Me) (site : Option Position) (x y : Result Place PlaceFault) → IsPlaceOfOneAddress m n site x
+    → IsPlaceOfOneAddress m n site y → x ≡ y
 one_kindred (kinds.Airborne o) (kinds.Airborne n) site x y h k =
     one_of_parities o.parity n.parity x y (IsAirPairPlace o n x) (IsAirPairPlace o n y) (one_in_air o n x y) h k
 one_kindred (kinds.Surface o) (kinds.Surface n) site x y h k =

@@ -1,9 +1,11 @@
 -- What the premises of the headline are.
-use Rattle.std.proofs.Common.{inl, inr, refl}
+use Rattle.std.proofs.Common.{inl, inr}
 use Rattle.sq_angle.specs.Angle.{degrees}
 use Rattle.sq_angle.specs.Position.{lat_of, lon_of}
 use Rattle.sq_cpr.proofs.Grids.Codes.{one_pair_of_zones}
-use Rattle.sq_message.specs.Pinned.{DecodedByCalls, EachHasItsZones, NearReferenceExactly}
+use Rattle.sq_message.specs.Kinds.{Kind, span_of}
+use Rattle.sq_message.specs.Pinned.{DecodedByCalls, EachHasItsZones, NearReferenceExactly, LieAtExactly}
+use Rattle.sq_message.proofs.SameZones.{fits}
 
 pub decoded_by_calls : DecodedByCalls
 decoded_by_calls = record {
@@ -11,16 +13,12 @@ decoded_by_calls = record {
   pair = λ older newer site place h. inr (older, site, h);
 }
 
-pub each_has_its_zones : EachHasItsZones
-each_has_its_zones = record {
-  in_air = λ parity x. one_pair_of_zones 360 1 refl parity (degrees (lat_of x)) (degrees (lon_of x))
-      x.lat.in_range.positive x.lon.in_range.positive x.in_range;
-  on_ground = λ parity x. one_pair_of_zones 90 4 refl parity (degrees (lat_of x)) (degrees (lon_of x))
-      x.lat.in_range.positive x.lon.in_range.positive x.in_range;
-}
+pub each_has_its_zones : (kind : Kind) → EachHasItsZones kind
+each_has_its_zones kind parity x = one_pair_of_zones (span_of kind) (fits kind) parity (degrees (lat_of x))
+    (degrees (lon_of x)) x.lat.in_range.positive x.lon.in_range.positive x.in_range
 
-pub near_reference_exactly : NearReferenceExactly
-near_reference_exactly = record {
-  in_air = λ reference point. (λ h. h, λ h. h);
-  on_ground = λ reference point. (λ h. h, λ h. h);
-}
+pub near_reference_exactly : (kind : Kind) → NearReferenceExactly kind
+near_reference_exactly kind reference point = (λ h. h, λ h. h)
+
+pub lie_at_exactly : LieAtExactly
+lie_at_exactly = record { in_air = λ site a b. tt; on_ground = λ site a b. (λ h. h, λ h. h) }

@@ -1,5 +1,5 @@
 -- What places and their faults say of the decoders' answers.
-use Rattle.std.proofs.Common.{◌≡◌, ◌⊎◌, ℕ, Option, Some, None, Result, Ok, Err, inl, inr, refl, sym, ap, subst}
+use Rattle.std.proofs.Common.{◌≡◌, ◌⊎◌, Option, Some, None, Result, Ok, Err, inl, inr, refl, sym, ap, subst}
 use Rattle.std.proofs.lemmas.Bool.Decides.{eqb_tells}
 use Rattle.sq_angle.specs.declared.position.Position.{Position}
 use Rattle.sq_angle.specs.Angle.{degrees}
@@ -11,6 +11,7 @@ use Rattle.sq_cpr.specs.declared.code.Code.{Code}
 use Rattle.sq_cpr.specs.declared.faults.LocalFault.{LocalFault}
 use Rattle.sq_cpr.specs.declared.faults.PairFault.{PairFault}
 use Rattle.sq_cpr.specs.Code.{CodeNumbers, numbers_of}
+use Rattle.sq_cpr.specs.Span.{Span, air, ground}
 use Rattle.sq_cpr.specs.Grid.{Point, IsGridPoint, HasCode, code_of}
 use Rattle.sq_cpr.specs.Local.{LocalAnswer}
 use Rattle.sq_cpr.specs.Pair.{of_parity, AirPairAnswer, PairAnswer}
@@ -24,7 +25,7 @@ use Rattle.sq_message.specs.declared.place.Place.{Place}
 use Rattle.sq_message.specs.declared.place.Place.TheVariants.{Air, Ground}
 use Rattle.sq_message.specs.declared.place.PlaceFault.{PlaceFault}
 use Rattle.sq_message.specs.Parts.{SquitterParts}
-use Rattle.sq_message.specs.Places.{place_of, of_local, of_pair, even_of, odd_of, IsPosition, IsLocalPlace, IsAirPairPlace, IsGroundPairPlace, NeedsTwoParities, IsKindredPlace, IsPairPlace, IsDecoded}
+use Rattle.sq_message.specs.Places.{place_of, of_local, of_pair, even_of, odd_of, IsPosition, IsLocalPlace, IsAirPairPlace, IsGroundPairPlace, NeedsTwoParities, IsPlaceOfOneAddress, IsPairPlace, IsDecoded}
 
 -- ---- places and points
 
@@ -111,8 +112,8 @@ two_parities Odd Odd place Rest h = no_fault place _ (h.0 refl)
 -- ---- what is decoded
 
 -- a point of the grid, with this parity and code
-pub record IsPointOf (degrees repeats : ℕ) (code : CodeNumbers) (parity : Parity) (point : Point) : Type 0 where
-  pub of_grid : IsGridPoint degrees repeats point
+pub record IsPointOf (span : Span) (code : CodeNumbers) (parity : Parity) (point : Point) : Type 0 where
+  pub of_grid : IsGridPoint span point
   pub of_parity : point.parity ≡ parity
   pub has_code : HasCode point code
 
@@ -122,17 +123,18 @@ newest_code : (newest : Parity) (older newer : CodeNumbers)
 newest_code Even older newer = refl
 newest_code Odd older newer = refl
 
-local_point : (w r : ℕ) (code : CodeNumbers) (parity : Parity) (lat lon : Fraction) (found : Result Point LocalFault)
+local_point : (span : Span) (code : CodeNumbers) (parity : Parity) (lat lon : Fraction)
+    (found : Result Point LocalFault)
     (p : Point)
-    → found ≡ Ok p → LocalAnswer w r code parity lat lon found → IsPointOf w r code parity p
-local_point w r code parity lat lon found p is h =
-    let here = subst (LocalAnswer w r code parity lat lon) is h in
+    → found ≡ Ok p → LocalAnswer span code parity lat lon found → IsPointOf span code parity p
+local_point span code parity lat lon found p is h =
+    let here = subst (LocalAnswer span code parity lat lon) is h in
     record { of_grid = here.of_grid; of_parity = here.of_parity; has_code = here.has_code }
 
 air_pair_point : (newest : Parity) (older newer : CodeNumbers) (found : Result Point PairFault) (p : Point)
     → found ≡ Ok p
     → AirPairAnswer (even_of newest older newer) (odd_of newest older newer) newest found
-    → IsPointOf 360 1 newer newest p
+    → IsPointOf air newer newest p
 air_pair_point newest older newer found p is h =
     let even = even_of newest older newer in
     let odd = odd_of newest older newer in
@@ -146,13 +148,13 @@ air_pair_point newest older newer found p is h =
 
 ground_pair_point : (newest : Parity) (older newer : CodeNumbers) (lat lon : Fraction) (found : Result Point PairFault)
     (p : Point) → found ≡ Ok p
-    → PairAnswer 90 4 (even_of newest older newer) (odd_of newest older newer) newest lat lon found
-    → IsPointOf 90 4 newer newest p
+    → PairAnswer ground (even_of newest older newer) (odd_of newest older newer) newest lat lon found
+    → IsPointOf ground newer newest p
 ground_pair_point newest older newer lat lon found p is h =
     let even = even_of newest older newer in
     let odd = odd_of newest older newer in
-    let here = subst (PairAnswer 90 4 even odd newest lat lon) is h in
-    let kept = pair_keeps_code 90 4 even odd newest lat lon p here in
+    let here = subst (PairAnswer ground even odd newest lat lon) is h in
+    let kept = pair_keeps_code ground even odd newest lat lon p here in
     record {
       of_grid = here.of_pair.of_grid;
       of_parity = here.of_pair.parity;
@@ -161,8 +163,8 @@ ground_pair_point newest older newer lat lon found p is h =
 
 -- the point of a place in the air that two positions of one address are decoded to
 kindred_in_air : (older : Me) (newer : Airborne) (site : Option Position) (p : Point)
-    → IsKindredPlace older (kinds.Airborne newer) site (Ok (Air p))
-    → IsPointOf 360 1 (numbers_of newer.code) newer.parity p
+    → IsPlaceOfOneAddress older (kinds.Airborne newer) site (Ok (Air p))
+    → IsPointOf air (numbers_of newer.code) newer.parity p
 kindred_in_air (kinds.Airborne older) newer site p h =
     let (found, decoded, is) = two_parities older.parity newer.parity (Air p)
     (IsAirPairPlace older newer (Ok (Air p))) h in
@@ -173,15 +175,15 @@ kindred_in_air (kinds.Other older) newer site p h = absurd h
 
 -- the point of a place on the ground
 ground_pair : (older newer : Surface) (site : Option Position) (p : Point)
-    → IsGroundPairPlace older newer site (Ok (Ground p)) → IsPointOf 90 4 (numbers_of newer.code) newer.parity p
+    → IsGroundPairPlace older newer site (Ok (Ground p)) → IsPointOf ground (numbers_of newer.code) newer.parity p
 ground_pair older newer None p h = no_fault (Ground p) _ h
 ground_pair older newer (Some site) p (found, decoded, is) =
     ground_pair_point newer.parity (numbers_of older.code) (numbers_of newer.code) (degrees (lat_of site))
     (degrees (lon_of site)) found p (placed_on_ground of_pair found p is) decoded
 
 kindred_on_ground : (older : Me) (newer : Surface) (site : Option Position) (p : Point)
-    → IsKindredPlace older (kinds.Surface newer) site (Ok (Ground p))
-    → IsPointOf 90 4 (numbers_of newer.code) newer.parity p
+    → IsPlaceOfOneAddress older (kinds.Surface newer) site (Ok (Ground p))
+    → IsPointOf ground (numbers_of newer.code) newer.parity p
 kindred_on_ground (kinds.Airborne older) newer site p h = no_fault (Ground p) _ h
 kindred_on_ground (kinds.Surface older) newer site p h =
     ground_pair older newer site p
@@ -191,28 +193,28 @@ kindred_on_ground (kinds.Other older) newer site p h = absurd h
 -- the point of a place in the air that a squitter is decoded to has the squitter's code
 pub decoded_in_air : (squitter : SquitterParts) (a : Airborne) (p : Point) → squitter.me ≡ kinds.Airborne a
     → IsDecoded squitter (Air p)
-    → IsPointOf 360 1 (numbers_of a.code) a.parity p
+    → IsPointOf air (numbers_of a.code) a.parity p
 decoded_in_air squitter a p is (inl (reference, h)) =
     let (found, decoded, placed) = subst (λ me. IsLocalPlace me reference (Ok (Air p))) is h in
-    local_point 360 1 (numbers_of a.code) a.parity (degrees (lat_of reference)) (degrees (lon_of reference)) found p
+    local_point air (numbers_of a.code) a.parity (degrees (lat_of reference)) (degrees (lon_of reference)) found p
     (placed_in_air of_local found p placed) decoded
 decoded_in_air squitter a p is (inr (older, site, h)) =
     let here = past older squitter site (Air p) h in
     kindred_in_air older.me a site p
-    (subst (λ me. IsKindredPlace older.me me site (Ok (Air p))) is (h.kindred here.positions here.address))
+    (subst (λ me. IsPlaceOfOneAddress older.me me site (Ok (Air p))) is (h.kindred here.positions here.address))
 
 -- the same on the ground
 pub decoded_on_ground : (squitter : SquitterParts) (s : Surface) (p : Point) → squitter.me ≡ kinds.Surface s
     → IsDecoded squitter (Ground p)
-    → IsPointOf 90 4 (numbers_of s.code) s.parity p
+    → IsPointOf ground (numbers_of s.code) s.parity p
 decoded_on_ground squitter s p is (inl (reference, h)) =
     let (found, decoded, placed) = subst (λ me. IsLocalPlace me reference (Ok (Ground p))) is h in
-    local_point 90 4 (numbers_of s.code) s.parity (degrees (lat_of reference)) (degrees (lon_of reference)) found p
+    local_point ground (numbers_of s.code) s.parity (degrees (lat_of reference)) (degrees (lon_of reference)) found p
     (placed_on_ground of_local found p placed) decoded
 decoded_on_ground squitter s p is (inr (older, site, h)) =
     let here = past older squitter site (Ground p) h in
     kindred_on_ground older.me s site p
-    (subst (λ me. IsKindredPlace older.me me site (Ok (Ground p))) is (h.kindred here.positions here.address))
+    (subst (λ me. IsPlaceOfOneAddress older.me me site (Ok (Ground p))) is (h.kindred here.positions here.address))
 
 -- ---- codes
 

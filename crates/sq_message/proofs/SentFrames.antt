@@ -1,5 +1,5 @@
 -- Frames that are sent, and what is read of them.
-use Rattle.std.proofs.Common.{◌≡◌, Option, Some, Result, Ok, Err, subst}
+use Rattle.std.proofs.Common.{◌≡◌, Option, Result, Ok, Err, subst}
 use Rattle.sq_bits.specs.declared.frame.Frame.{Frame}
 use Rattle.sq_bits.specs.Frames.{IsFrame}
 use Rattle.sq_angle.specs.declared.position.Position.{Position}
@@ -7,44 +7,32 @@ use Rattle.sq_zones.specs.declared.parity.Parity.{Parity}
 use Rattle.sq_zones.specs.declared.parity.Parity.TheVariants.{Even, Odd}
 use Rattle.sq_cpr.specs.Grid.{Point}
 use Rattle.sq_cpr.specs.Close.{AreClosePoints}
+use Rattle.sq_cpr.specs.Near.{IsStrictlyNearPosition}
 use Rattle.sq_cpr.specs.Pair.{of_parity}
-use Rattle.sq_cpr.specs.Slow.{IsPointWithin}
+use Rattle.sq_cpr.specs.Rounds.{PositionRoundsTo}
 use Rattle.sq_message.specs.declared.squitter.FrameFault.{FrameFault}
 use Rattle.sq_message.specs.declared.squitter.Squitter.{Squitter}
 use Rattle.sq_message.specs.declared.place.Place.{Place}
-use Rattle.sq_message.specs.declared.place.Place.TheVariants.{Air, Ground}
 use Rattle.sq_message.specs.declared.place.PlaceFault.{PlaceFault}
-use Rattle.sq_message.specs.Calls.{HasNoPlaceNear, HaveNoPlace, IsPlaceOfPair, IsStrictlyNearInAir, IsStrictlyNearOnGround}
-use Rattle.sq_message.specs.Heads.{AirHeadParts, GroundHeadParts}
+use Rattle.sq_message.specs.Calls.{HasNoPlaceNear, HaveNoPlace, IsPlaceOfPair}
+use Rattle.sq_message.specs.Headline.{LieAt}
+use Rattle.sq_message.specs.Kinds.{Kind, HeadParts, address_of, place_at, span_of}
 use Rattle.sq_message.specs.Parts.{squitter_parts}
 use Rattle.sq_message.specs.Places.{IsLocalPlace}
-use Rattle.sq_message.specs.Sending.{IsAirSquitter, IsGroundSquitter, IsFrameInAir, IsFrameOnGround, RoundsInAir, RoundsOnGround}
+use Rattle.sq_message.specs.Sending.{IsSquitterOf, IsFrameOf}
 use Rattle.sq_message.specs.Spelling.{IsReading, Spells}
 use Rattle.sq_message.proofs.One.{one_squitter}
 use Rattle.sq_message.proofs.OnePlace.{one_local_place, one_pair_place}
 use Rattle.sq_message.proofs.PlaceLemmas.{no_fault}
-use Rattle.sq_message.proofs.NearFrames.{near_reference_in_air, near_reference_on_ground}
-use Rattle.sq_message.proofs.PairFrames.{close_pair_in_air, close_pair_on_ground}
+use Rattle.sq_message.proofs.NearFrames.{near_reference}
+use Rattle.sq_message.proofs.PairFrames.{close_pair}
 
 -- the frame of a squitter that is sent of each point to which the position rounds
-pub frame_in_air : (head : AirHeadParts) (parity : Parity) (x : Position) (f : Frame) (q : Squitter)
-    → ((point : Point) → point.parity ≡ parity → RoundsInAir x point → IsAirSquitter head point (squitter_parts q))
-    → IsFrame f → Spells f q → IsFrameInAir head parity x f
-frame_in_air head parity x f q sent is spelled = λ point same rounds.
-    record {
-      of_parity = same;
-      rounds = rounds;
-      squitter = q;
-      sent = sent point same rounds;
-      is_frame = is;
-      spelled = spelled;
-    }
-
-pub frame_on_ground : (head : GroundHeadParts) (parity : Parity) (x : Position) (f : Frame) (q : Squitter)
-    → ((point : Point) → point.parity ≡ parity → RoundsOnGround x point
-    → IsGroundSquitter head point (squitter_parts q))
-    → IsFrame f → Spells f q → IsFrameOnGround head parity x f
-frame_on_ground head parity x f q sent is spelled = λ point same rounds.
+pub frame_of_sent : (kind : Kind) (head : HeadParts kind) (parity : Parity) (x : Position) (f : Frame) (q : Squitter)
+    → ((point : Point) → point.parity ≡ parity → PositionRoundsTo (span_of kind) x point
+    → IsSquitterOf kind head point (squitter_parts q))
+    → IsFrame f → Spells f q → IsFrameOf kind head parity x f
+frame_of_sent kind head parity x f q sent is spelled = λ point same rounds.
     record {
       of_parity = same;
       rounds = rounds;
@@ -55,23 +43,13 @@ frame_on_ground head parity x f q sent is spelled = λ point same rounds.
     }
 
 -- what is read near a reference strictly near the point is that point
-pub near_in_air : (head : AirHeadParts) (parity : Parity) (x r : Position) (f : Frame) (q : Squitter)
+pub near_of_sent : (kind : Kind) (head : HeadParts kind) (parity : Parity) (x r : Position) (f : Frame) (q : Squitter)
     (answer : Result Place PlaceFault)
-    → IsFrameInAir head parity x f → IsReading f (Ok q) → IsLocalPlace (squitter_parts q).me r answer
-    → (point : Point) → point.parity ≡ parity → RoundsInAir x point → IsStrictlyNearInAir r point
-    → answer ≡ Ok (Air point)
-near_in_air head parity x r f q answer sent read placed point same rounds near =
-    let (p, is, answers) = near_reference_in_air head parity x r point f (sent point same rounds) near (Ok q) read in
-    let one : q ≡ p = cc is in
-    answers answer (subst (λ (s : Squitter). IsLocalPlace (squitter_parts s).me r answer) one placed)
-
-pub near_on_ground : (head : GroundHeadParts) (parity : Parity) (x r : Position) (f : Frame) (q : Squitter)
-    (answer : Result Place PlaceFault)
-    → IsFrameOnGround head parity x f → IsReading f (Ok q) → IsLocalPlace (squitter_parts q).me r answer
-    → (point : Point) → point.parity ≡ parity → RoundsOnGround x point → IsStrictlyNearOnGround r point
-    → answer ≡ Ok (Ground point)
-near_on_ground head parity x r f q answer sent read placed point same rounds near =
-    let (p, is, answers) = near_reference_on_ground head parity x r point f (sent point same rounds) near (Ok q) read in
+    → IsFrameOf kind head parity x f → IsReading f (Ok q) → IsLocalPlace (squitter_parts q).me r answer
+    → (point : Point) → point.parity ≡ parity → PositionRoundsTo (span_of kind) x point
+    → IsStrictlyNearPosition (span_of kind) r point → answer ≡ Ok (place_at kind point)
+near_of_sent kind head parity x r f q answer sent read placed point same rounds near =
+    let (p, is, answers) = near_reference kind head parity x r point f (sent point same rounds) near (Ok q) read in
     let one : q ≡ p = cc is in
     answers answer (subst (λ (s : Squitter). IsLocalPlace (squitter_parts s).me r answer) one placed)
 
@@ -86,51 +64,30 @@ moved p q older newer site answer was is placed =
     subst (λ (s : Squitter). IsPlaceOfPair older s site answer) second
     (subst (λ (s : Squitter). IsPlaceOfPair s q site answer) first placed)
 
--- where the points to which the positions round in the air are close, the answer is the newest one's
-abbrev IsAirPlaceOfClose : Parity → (even odd : Position) → Result Place PlaceFault → Type 0
-IsAirPlaceOfClose newest even odd answer =
-    (a b : Point) → RoundsInAir even a → RoundsInAir odd b → AreClosePoints 360 a b
-    → answer ≡ Ok (Air (of_parity newest a b))
-
--- the same on the ground, where both points lie less than 45 degrees from the site in both coordinates
-abbrev IsGroundPlaceOfClose : Parity → (even odd site : Position) → Result Place PlaceFault → Type 0
-IsGroundPlaceOfClose newest even odd site answer =
-    (a b : Point) → RoundsOnGround even a → RoundsOnGround odd b → AreClosePoints 90 a b
-    → IsPointWithin 45 90 4 a site → IsPointWithin 45 90 4 b site → answer ≡ Ok (Ground (of_parity newest a b))
+-- where the points to which the positions round are close, and lie where the kind wants it, the answer is the newest
+-- one's
+abbrev IsPlaceOfClose : Kind → Option Position → Parity → (even odd : Position) → Result Place PlaceFault → Type 0
+IsPlaceOfClose kind site newest even odd answer =
+    (a b : Point) → PositionRoundsTo (span_of kind) even a → PositionRoundsTo (span_of kind) odd b
+    → AreClosePoints (span_of kind) a b → LieAt kind site a b → answer ≡ Ok (place_at kind (of_parity newest a b))
 
 -- what is read of the frames of close points is the newest one's point
-pub pair_in_air : (even_head odd_head : AirHeadParts) (x y : Position) (f g : Frame) (p q : Squitter) (newest : Parity)
-    (site : Option Position) (answer : Result Place PlaceFault)
-    → even_head.address ≡ odd_head.address → IsFrameInAir even_head Even x f → IsFrameInAir odd_head Odd y g
-    → IsReading f (Ok p) → IsReading g (Ok q)
-    → IsPlaceOfPair (of_parity newest q p) (of_parity newest p q) site answer → IsAirPlaceOfClose newest x y answer
-pair_in_air even_head odd_head x y f g p q Even site answer address even odd first second placed =
-    λ a b a_rounds b_rounds close.
-    let (older, newer, was, is, answers) = close_pair_in_air even_head odd_head x y a b f g Even site address
-    (even a close.even a_rounds) (odd b close.odd b_rounds) close (Ok q) (Ok p) second first in
+pub pair_of_sent : (kind : Kind) (even_head odd_head : HeadParts kind) (x y : Position) (f g : Frame) (p q : Squitter)
+    (newest : Parity) (site : Option Position) (answer : Result Place PlaceFault)
+    → address_of kind even_head ≡ address_of kind odd_head → IsFrameOf kind even_head Even x f
+    → IsFrameOf kind odd_head Odd y g → IsReading f (Ok p) → IsReading g (Ok q)
+    → IsPlaceOfPair (of_parity newest q p) (of_parity newest p q) site answer
+    → IsPlaceOfClose kind site newest x y answer
+pair_of_sent kind even_head odd_head x y f g p q Even site answer address even odd first second placed =
+    λ a b a_rounds b_rounds close lie.
+    let (older, newer, was, is, answers) = close_pair kind even_head odd_head x y a b f g Even site address
+    (even a close.even a_rounds) (odd b close.odd b_rounds) close lie (Ok q) (Ok p) second first in
     answers answer (moved q p older newer site answer was is placed)
-pair_in_air even_head odd_head x y f g p q Odd site answer address even odd first second placed =
-    λ a b a_rounds b_rounds close.
-    let (older, newer, was, is, answers) = close_pair_in_air even_head odd_head x y a b f g Odd site address
-    (even a close.even a_rounds) (odd b close.odd b_rounds) close (Ok p) (Ok q) first second in
+pair_of_sent kind even_head odd_head x y f g p q Odd site answer address even odd first second placed =
+    λ a b a_rounds b_rounds close lie.
+    let (older, newer, was, is, answers) = close_pair kind even_head odd_head x y a b f g Odd site address
+    (even a close.even a_rounds) (odd b close.odd b_rounds) close lie (Ok p) (Ok q) first second in
     answers answer (moved p q older newer site answer was is placed)
-
-pub pair_on_ground : (even_head odd_head : GroundHeadParts) (x y : Position) (f g : Frame) (p q : Squitter)
-    (newest : Parity) (site : Position) (answer : Result Place PlaceFault)
-    → even_head.address ≡ odd_head.address → IsFrameOnGround even_head Even x f → IsFrameOnGround odd_head Odd y g
-    → IsReading f (Ok p) → IsReading g (Ok q)
-    → IsPlaceOfPair (of_parity newest q p) (of_parity newest p q) (Some site) answer
-    → IsGroundPlaceOfClose newest x y site answer
-pair_on_ground even_head odd_head x y f g p q Even site answer address even odd first second placed =
-    λ a b a_rounds b_rounds close a_at b_at.
-    let (older, newer, was, is, answers) = close_pair_on_ground even_head odd_head x y a b f g Even site address
-    (even a close.even a_rounds) (odd b close.odd b_rounds) close a_at b_at (Ok q) (Ok p) second first in
-    answers answer (moved q p older newer (Some site) answer was is placed)
-pair_on_ground even_head odd_head x y f g p q Odd site answer address even odd first second placed =
-    λ a b a_rounds b_rounds close a_at b_at.
-    let (older, newer, was, is, answers) = close_pair_on_ground even_head odd_head x y a b f g Odd site address
-    (even a close.even a_rounds) (odd b close.odd b_rounds) close a_at b_at (Ok p) (Ok q) first second in
-    answers answer (moved p q older newer (Some site) answer was is placed)
 
 -- what has a fault near a reference has no place there
 pub no_place_near : (f : Frame) (q : Squitter) (r : Position) (fault : PlaceFault) → IsReading f (Ok q)

@@ -7,6 +7,7 @@ use Rattle.sq_angle.specs.Position.{lat_of, lon_of}
 use Rattle.sq_zones.specs.declared.parity.Parity.{Parity}
 use Rattle.sq_zones.specs.declared.parity.Parity.TheVariants.{Even, Odd}
 use Rattle.sq_cpr.specs.Code.{numbers_of}
+use Rattle.sq_cpr.specs.Span.{air, ground}
 use Rattle.sq_cpr.proofs.Decoding.SomeAnswers.{some_air_pair_answer, some_local_answer, some_pair_answer}
 use Rattle.sq_message.specs.declared.air.Airborne.{Airborne}
 use Rattle.sq_message.specs.declared.ground.Surface.{Surface}
@@ -16,18 +17,18 @@ use Rattle.sq_message.specs.declared.place.Place.{Place}
 use Rattle.sq_message.specs.declared.place.Place.TheVariants.{Air, Ground}
 use Rattle.sq_message.specs.declared.place.PlaceFault.{PlaceFault}
 use Rattle.sq_message.specs.declared.place.PlaceFault.TheVariants.{NotPosition, OtherAddress, OtherKind, SameParity, NoSite}
-use Rattle.sq_message.specs.Places.{place_of, of_local, of_pair, even_of, odd_of, IsPosition, IsLocalPlace, IsAirPairPlace, IsGroundPairPlace, NeedsTwoParities, IsKindredPlace}
+use Rattle.sq_message.specs.Places.{place_of, of_local, of_pair, even_of, odd_of, IsPosition, IsLocalPlace, IsAirPairPlace, IsGroundPairPlace, NeedsTwoParities, IsPlaceOfOneAddress}
 use Rattle.sq_message.specs.Headline.{SomeLocalPlace, SomePairPlace}
 use Rattle.sq_message.proofs.PlaceLemmas.{both_positions}
 
 some_near : (me : Me) (reference : Position) → (answer : Result Place PlaceFault) × IsLocalPlace me reference answer
 some_near (kinds.Airborne a) reference =
-    let found = some_local_answer 360 1 refl (numbers_of a.code) a.parity (degrees (lat_of reference))
+    let found = some_local_answer air refl (numbers_of a.code) a.parity (degrees (lat_of reference))
     (degrees (lon_of reference))
     reference.lat.in_range.positive reference.lon.in_range.positive in
     (place_of Air of_local found.0, (found.0, found.1, refl))
 some_near (kinds.Surface s) reference =
-    let found = some_local_answer 90 4 refl (numbers_of s.code) s.parity (degrees (lat_of reference))
+    let found = some_local_answer ground refl (numbers_of s.code) s.parity (degrees (lat_of reference))
     (degrees (lon_of reference))
     reference.lat.in_range.positive reference.lon.in_range.positive in
     (place_of Ground of_local found.0, (found.0, found.1, refl))
@@ -57,13 +58,13 @@ some_on_ground : (o n : Surface) (site : Option Position)
     → (answer : Result Place PlaceFault) × IsGroundPairPlace o n site answer
 some_on_ground o n None = (Err NoSite, refl)
 some_on_ground o n (Some site) =
-    let found = some_pair_answer 90 4 refl (even_of n.parity (numbers_of o.code) (numbers_of n.code))
+    let found = some_pair_answer ground refl (even_of n.parity (numbers_of o.code) (numbers_of n.code))
     (odd_of n.parity (numbers_of o.code) (numbers_of n.code)) n.parity
     (degrees (lat_of site)) (degrees (lon_of site)) site.lat.in_range.positive site.lon.in_range.positive in
     (place_of Ground of_pair found.0, (found.0, found.1, refl))
 
 some_kindred : (m n : Me) (site : Option Position) → IsPosition m → IsPosition n
-    → (answer : Result Place PlaceFault) × IsKindredPlace m n site answer
+    → (answer : Result Place PlaceFault) × IsPlaceOfOneAddress m n site answer
 some_kindred (kinds.Airborne o) (kinds.Airborne n) site p q =
     some_of_parities o.parity n.parity (IsAirPairPlace o n) (some_in_air o n)
 some_kindred (kinds.Surface o) (kinds.Surface n) site p q =

@@ -2,11 +2,7 @@
 use Rattle.std.specs.Prelude.{◌≡◌, Option, Result, Ok}
 use Rattle.sq_bits.specs.declared.frame.Frame.{Frame}
 use Rattle.sq_angle.specs.declared.position.Position.{Position}
-use Rattle.sq_angle.specs.Angle.{degrees}
-use Rattle.sq_angle.specs.Position.{lat_of, lon_of}
 use Rattle.sq_zones.specs.declared.parity.Parity.{Parity}
-use Rattle.sq_cpr.specs.Grid.{Point}
-use Rattle.sq_cpr.specs.Near.{IsStrictlyNearPoint}
 use Rattle.sq_cpr.specs.Pair.{of_parity}
 use Rattle.sq_message.specs.declared.squitter.Squitter.{Squitter}
 use Rattle.sq_message.specs.declared.place.Place.{Place}
@@ -20,19 +16,19 @@ abbrev pub IsPlaceOfPair : (older newer : Squitter) → Option Position → Resu
 IsPlaceOfPair older newer site answer = IsPairPlace (squitter_parts older) (squitter_parts newer) site answer
 
 -- the frame is read as a squitter, and this is what that is decoded to near the reference
-abbrev pub IsReadingNear : Frame → Position → Result Place PlaceFault → Type 0
-IsReadingNear frame reference answer =
+abbrev pub IsAnswerNear : Frame → Position → Result Place PlaceFault → Type 0
+IsAnswerNear frame reference answer =
     (squitter : Squitter) × IsReading frame (Ok squitter) × IsLocalPlace (squitter_parts squitter).me reference answer
 
 -- both frames are read as squitters, and this is what these are decoded to, the newest being the one of this parity
-abbrev pub IsReadingOfPair : Parity → (even odd : Frame) → Option Position → Result Place PlaceFault → Type 0
-IsReadingOfPair newest even odd site answer =
+abbrev pub IsAnswerOfPair : Parity → (even odd : Frame) → Option Position → Result Place PlaceFault → Type 0
+IsAnswerOfPair newest even odd site answer =
     (p q : Squitter) × IsReading even (Ok p) × IsReading odd (Ok q)
     × IsPlaceOfPair (of_parity newest q p) (of_parity newest p q) site answer
 
 -- the squitter of the newer of two frames, with what is read of the older, is decoded to this place
-abbrev pub IsReadingOfNewer : Frame → Squitter → Option Position → Place → Type 0
-IsReadingOfNewer older newer site place =
+abbrev pub IsPlaceOfNewer : Frame → Squitter → Option Position → Place → Type 0
+IsPlaceOfNewer older newer site place =
     (earlier : Squitter) × IsReading older (Ok earlier) × IsPlaceOfPair earlier newer site (Ok place)
 
 -- no squitter that is read of the frame is decoded to a place near the reference
@@ -54,16 +50,6 @@ pub record IsSentAgain (frame : Frame) (squitter : Squitter) (place : Place) (ag
   pub of_place : IsSentAt (squitter_parts squitter) place (squitter_parts sent)
   pub written : Spells again sent
   pub same : again ≡ frame
-
--- the point of the air's grid lies strictly within half a zone of the reference in both coordinates
-abbrev pub IsStrictlyNearInAir : Position → Point → Type 0
-IsStrictlyNearInAir reference point =
-    IsStrictlyNearPoint 360 1 (degrees (lat_of reference)) (degrees (lon_of reference)) point
-
--- the point lies less than half a zone from the reference on the ground
-abbrev pub IsStrictlyNearOnGround : Position → Point → Type 0
-IsStrictlyNearOnGround reference point =
-    IsStrictlyNearPoint 90 4 (degrees (lat_of reference)) (degrees (lon_of reference)) point
 
 -- what is sent of a place that a squitter is decoded to is that squitter
 abbrev pub DecodedIsSentAgain : Type 0

@@ -1,29 +1,25 @@
 -- The headline, part by part, over the definitions that the contracts of the calls name.
-use Rattle.std.specs.Prelude.{◌≡◌, Option, Some, Result, Ok}
+use Rattle.std.specs.Prelude.{◌≡◌, ⊤, Option, None, Some, Result, Ok}
 use Rattle.sq_bits.specs.declared.frame.Frame.{Frame}
 use Rattle.sq_bits.specs.Frames.{IsFrame}
 use Rattle.sq_angle.specs.declared.position.Position.{Position}
-use Rattle.sq_angle.specs.Angle.{degrees}
-use Rattle.sq_angle.specs.Position.{lat_of, lon_of}
 use Rattle.sq_zones.specs.declared.parity.Parity.{Parity}
 use Rattle.sq_zones.specs.declared.parity.Parity.TheVariants.{Even, Odd}
+use Rattle.sq_cpr.specs.declared.code.Code.{Code}
+use Rattle.sq_cpr.specs.Span.{ground}
 use Rattle.sq_cpr.specs.Grid.{Point}
-use Rattle.sq_cpr.specs.Near.{IsStrictlyNearPoint}
+use Rattle.sq_cpr.specs.Near.{IsStrictlyNearPosition}
 use Rattle.sq_cpr.specs.Close.{AreClosePoints}
 use Rattle.sq_cpr.specs.Pair.{of_parity}
 use Rattle.sq_cpr.specs.Slow.{IsPointWithin}
-use Rattle.sq_message.specs.declared.air.Airborne.{Airborne}
-use Rattle.sq_message.specs.declared.ground.Surface.{Surface}
-use Rattle.sq_message.specs.declared.squitter.Me.TheVariants as kinds
 use Rattle.sq_message.specs.declared.squitter.FrameFault.{FrameFault}
 use Rattle.sq_message.specs.declared.squitter.Squitter.{Squitter}
 use Rattle.sq_message.specs.declared.place.Place.{Place}
-use Rattle.sq_message.specs.declared.place.Place.TheVariants.{Air, Ground}
 use Rattle.sq_message.specs.declared.place.PlaceFault.{PlaceFault}
-use Rattle.sq_message.specs.Heads.{AirHeadParts, GroundHeadParts}
+use Rattle.sq_message.specs.Kinds.{Kind, HeadParts, InAir, OnGround, address_of, place_at, span_of, squitter_of}
 use Rattle.sq_message.specs.Parts.{squitter_parts}
-use Rattle.sq_message.specs.Places.{IsDecoded, IsLocalPlace, IsPairPlace, IsPositionOf, IsSentAt, air_head_of, ground_head_of}
-use Rattle.sq_message.specs.Sending.{IsSentInAir, IsSentOnGround}
+use Rattle.sq_message.specs.Places.{IsDecoded, IsLocalPlace, IsPairPlace, IsPositionOf, IsSentAt}
+use Rattle.sq_message.specs.Sending.{IsSent}
 use Rattle.sq_message.specs.Spelling.{IsReading, Spells}
 
 -- the frame is read as a squitter, and that is decoded to this place near the reference
@@ -42,45 +38,31 @@ IsReadAsPair older newer site place =
     × ((answer : Result Place PlaceFault) → IsPairPlace (squitter_parts first) (squitter_parts second) site answer
     → answer ≡ Ok place)
 
--- A frame that was sent in the air, read with a reference strictly within half a zone of the point in both coordinates,
--- by the zones that the point itself has, gives that point.
-abbrev pub NearReferenceInAir : Type 0
-NearReferenceInAir =
-    (head : AirHeadParts) (parity : Parity) (position reference : Position) (point : Point) (frame : Frame)
-    → IsSentInAir head parity position point frame
-    → IsStrictlyNearPoint 360 1 (degrees (lat_of reference)) (degrees (lon_of reference)) point
-    → IsReadNear frame reference (Air point)
+-- A frame that was sent, read with a reference strictly within half a zone of the point in both coordinates, by the
+-- zones that the point itself has, gives that point.
+abbrev pub NearReference : Kind → Type 0
+NearReference kind =
+    (head : HeadParts kind) (parity : Parity) (position reference : Position) (point : Point) (frame : Frame)
+    → IsSent kind head parity position point frame → IsStrictlyNearPosition (span_of kind) reference point
+    → IsReadNear frame reference (place_at kind point)
 
--- A frame that was sent on the ground, read with a reference strictly within half a zone of the point in both
--- coordinates, by the zones that the point itself has, gives that point.
-abbrev pub NearReferenceOnGround : Type 0
-NearReferenceOnGround =
-    (head : GroundHeadParts) (parity : Parity) (position reference : Position) (point : Point) (frame : Frame)
-    → IsSentOnGround head parity position point frame
-    → IsStrictlyNearPoint 90 4 (degrees (lat_of reference)) (degrees (lon_of reference)) point
-    → IsReadNear frame reference (Ground point)
+-- where the points of a pair have to lie: in the air anywhere, whatever the site; on the ground there is a site, and
+-- both lie less than 45 degrees from it in both coordinates
+abbrev pub LieAt : Kind → Option Position → (a b : Point) → Type 0
+LieAt InAir site a b = ⊤
+LieAt OnGround None a b = ⊥
+LieAt OnGround (Some site) a b = IsPointWithin 45 ground a site × IsPointWithin 45 ground b site
 
--- An even and an odd frame that were sent in the air from one address, of points that are close and have one zone
--- count, give the newest one's point, whatever the site.
-abbrev pub ClosePairInAir : Type 0
-ClosePairInAir =
-    (even_head odd_head : AirHeadParts) (even_position odd_position : Position) (a b : Point) (even odd : Frame)
+-- An even and an odd frame that were sent from one address, of points that are close, have one zone count and lie where
+-- the kind wants it, give the newest one's point.
+abbrev pub ClosePair : Kind → Type 0
+ClosePair kind =
+    (even_head odd_head : HeadParts kind) (even_position odd_position : Position) (a b : Point) (even odd : Frame)
     (newest : Parity) (site : Option Position)
-    → even_head.address ≡ odd_head.address
-    → IsSentInAir even_head Even even_position a even → IsSentInAir odd_head Odd odd_position b odd
-    → AreClosePoints 360 a b
-    → IsReadAsPair (of_parity newest odd even) (of_parity newest even odd) site (Air (of_parity newest a b))
-
--- An even and an odd frame that were sent on the ground from one address, of points that are close, have one zone count
--- and lie less than 45 degrees from the site in both coordinates, give the newest one's point.
-abbrev pub ClosePairOnGround : Type 0
-ClosePairOnGround =
-    (even_head odd_head : GroundHeadParts) (even_position odd_position : Position) (a b : Point) (even odd : Frame)
-    (newest : Parity) (site : Position)
-    → even_head.address ≡ odd_head.address
-    → IsSentOnGround even_head Even even_position a even → IsSentOnGround odd_head Odd odd_position b odd
-    → AreClosePoints 90 a b → IsPointWithin 45 90 4 a site → IsPointWithin 45 90 4 b site
-    → IsReadAsPair (of_parity newest odd even) (of_parity newest even odd) (Some site) (Ground (of_parity newest a b))
+    → address_of kind even_head ≡ address_of kind odd_head
+    → IsSent kind even_head Even even_position a even → IsSent kind odd_head Odd odd_position b odd
+    → AreClosePoints (span_of kind) a b → LieAt kind site a b
+    → IsReadAsPair (of_parity newest odd even) (of_parity newest even odd) site (place_at kind (of_parity newest a b))
 
 -- a place that the squitter of a frame is decoded to is written again as that frame
 abbrev pub WrittenAgain : Type 0
@@ -90,24 +72,14 @@ WrittenAgain =
     → IsSentAt (squitter_parts squitter) place (squitter_parts sent) → IsFrame again → Spells again sent
     → again ≡ frame
 
--- what is sent in the air of the place's own position, with the same head and parity, is that frame as well
-abbrev pub SentAgainInAir : Type 0
-SentAgainInAir =
-    (squitter : Squitter) (airborne : Airborne) (point rounded : Point) (position : Position) (frame again : Frame)
-    → IsFrame frame → Spells frame squitter → (squitter_parts squitter).me ≡ kinds.Airborne airborne
-    → IsDecoded (squitter_parts squitter) (Air point)
-    → IsPositionOf (Air point) position
-    → IsSentInAir (air_head_of (squitter_parts squitter) airborne) airborne.parity position rounded again
-    → again ≡ frame
-
--- what is sent on the ground of the place's own position, with the same head and parity, is that frame as well
-abbrev pub SentAgainOnGround : Type 0
-SentAgainOnGround =
-    (squitter : Squitter) (surface : Surface) (point rounded : Point) (position : Position) (frame again : Frame)
-    → IsFrame frame → Spells frame squitter → (squitter_parts squitter).me ≡ kinds.Surface surface
-    → IsDecoded (squitter_parts squitter) (Ground point)
-    → IsPositionOf (Ground point) position
-    → IsSentOnGround (ground_head_of (squitter_parts squitter) surface) surface.parity position rounded again
+-- what is sent of the place's own position, with the head and the parity of the squitter, is that frame as well
+abbrev pub SentAgain : Kind → Type 0
+SentAgain kind =
+    (squitter : Squitter) (head : HeadParts kind) (parity : Parity) (code : Code) (point rounded : Point)
+    (position : Position) (frame again : Frame)
+    → IsFrame frame → Spells frame squitter → squitter_parts squitter ≡ squitter_of kind head parity code
+    → IsDecoded (squitter_parts squitter) (place_at kind point) → IsPositionOf (place_at kind point) position
+    → IsSent kind head parity position rounded again
     → again ≡ frame
 
 -- near a reference there is one answer

@@ -3,6 +3,7 @@ pub mod Parts
 pub mod Spelling
 pub mod Altitudes
 pub mod Heads
+pub mod Kinds
 pub mod Sending
 pub mod Places
 pub mod Headline

@@ -1,5 +1,5 @@
 -- Where squitters are: the points that their codes are decoded to, and what is sent of a point (RTCA DO-260B, appendix
--- on compact position reporting; ICAO Doc 9871). In the air a span is 360 degrees, on the ground 90.
+-- on compact position reporting; ICAO Doc 9871).
 use Rattle.std.specs.Prelude.{◌≡◌, ◌≢◌, ◌⊎◌, ⊤, Option, None, Some, Result, Ok, Err}
 use Rattle.sq_angle.specs.declared.position.Position.{Position}
 use Rattle.sq_angle.specs.Angle.{degrees}
@@ -11,6 +11,7 @@ use Rattle.sq_cpr.specs.declared.faults.LocalFault.TheVariants as locals
 use Rattle.sq_cpr.specs.declared.faults.PairFault.{PairFault}
 use Rattle.sq_cpr.specs.declared.faults.PairFault.TheVariants as pairs
 use Rattle.sq_cpr.specs.Code.{numbers_of}
+use Rattle.sq_cpr.specs.Span.{air, ground}
 use Rattle.sq_cpr.specs.Grid.{Point, latitude, longitude}
 use Rattle.sq_cpr.specs.Local.{LocalAnswerNear}
 use Rattle.sq_cpr.specs.Pair.{of_parity, AirPairAnswer, PairAnswerAt}
@@ -22,19 +23,20 @@ use Rattle.sq_message.specs.declared.place.Place.{Place}
 use Rattle.sq_message.specs.declared.place.Place.TheVariants.{Air, Ground}
 use Rattle.sq_message.specs.declared.place.PlaceFault.{PlaceFault}
 use Rattle.sq_message.specs.declared.place.PlaceFault.TheVariants.{NotPosition, OtherAddress, OtherKind, SameParity, NoSite, OutOfRange, ZoneCounts}
+use Rattle.sq_message.specs.Kinds.{InAir, OnGround}
 use Rattle.sq_message.specs.Heads.{AirHeadParts, GroundHeadParts}
 use Rattle.sq_message.specs.Parts.{SquitterParts}
-use Rattle.sq_message.specs.Sending.{IsAirSquitter, IsGroundSquitter}
+use Rattle.sq_message.specs.Sending.{IsSquitterOf}
 
 -- the latitude of a place is its point's
 abbrev pub place_latitude : Place → Fraction
-place_latitude (Air point) = latitude 360 point
-place_latitude (Ground point) = latitude 90 point
+place_latitude (Air point) = latitude air point
+place_latitude (Ground point) = latitude ground point
 
 -- the longitude of a place is its point's
 abbrev pub place_longitude : Place → Fraction
-place_longitude (Air point) = longitude 360 point
-place_longitude (Ground point) = longitude 90 point
+place_longitude (Air point) = longitude air point
+place_longitude (Ground point) = longitude ground point
 
 -- the position has the place's latitude and longitude
 pub record IsPositionOf (place : Place) (position : Position) : Type 0 where
@@ -67,10 +69,10 @@ ground_head_of squitter surface = record { ca = squitter.ca; address = squitter.
 abbrev pub IsSentAt : SquitterParts → Place → SquitterParts → Type 0
 IsSentAt squitter (Air point) sent =
     (airborne : Airborne) × (squitter.me ≡ kinds.Airborne airborne)
-    × IsAirSquitter (air_head_of squitter airborne) point sent
+    × IsSquitterOf InAir (air_head_of squitter airborne) point sent
 IsSentAt squitter (Ground point) sent =
     (surface : Surface) × (squitter.me ≡ kinds.Surface surface)
-    × IsGroundSquitter (ground_head_of squitter surface) point sent
+    × IsSquitterOf OnGround (ground_head_of squitter surface) point sent
 
 -- the decoder's fault near a reference, as a place's
 abbrev pub of_local : LocalFault → PlaceFault
@@ -90,10 +92,10 @@ place_of kind named (Err fault) = Err (named fault)
 -- what a message is decoded to near a reference: its code, by its span and parity
 abbrev pub IsLocalPlace : Me → Position → Result Place PlaceFault → Type 0
 IsLocalPlace (kinds.Airborne airborne) reference answer = (found : Result Point LocalFault)
-    × LocalAnswerNear 360 1 (numbers_of airborne.code) airborne.parity reference found
+    × LocalAnswerNear air (numbers_of airborne.code) airborne.parity reference found
     × (answer ≡ place_of Air of_local found)
 IsLocalPlace (kinds.Surface surface) reference answer = (found : Result Point LocalFault)
-    × LocalAnswerNear 90 4 (numbers_of surface.code) surface.parity reference found
+    × LocalAnswerNear ground (numbers_of surface.code) surface.parity reference found
     × (answer ≡ place_of Ground of_local found)
 IsLocalPlace (kinds.Other other) reference answer = answer ≡ Err NotPosition
 
@@ -119,7 +121,7 @@ IsGroundPairPlace older newer (Some site) answer =
     let even = even_of newer.parity (numbers_of older.code) (numbers_of newer.code) in
     let odd = odd_of newer.parity (numbers_of older.code) (numbers_of newer.code) in
     (found : Result Point PairFault)
-    × PairAnswerAt 90 4 even odd newer.parity site found
+    × PairAnswerAt ground even odd newer.parity site found
     × (answer ≡ place_of Ground of_pair found)
 
 -- one parity is a fault; of two parities there is this answer
@@ -127,16 +129,16 @@ abbrev pub NeedsTwoParities : (older newer : Parity) → Result Place PlaceFault
 NeedsTwoParities older newer answer Rest = (older ≡ newer → answer ≡ Err SameParity) × (older ≢ newer → Rest)
 
 -- two positions of one address
-abbrev pub IsKindredPlace : (older newer : Me) → Option Position → Result Place PlaceFault → Type 0
-IsKindredPlace (kinds.Airborne older) (kinds.Airborne newer) site answer =
+abbrev pub IsPlaceOfOneAddress : (older newer : Me) → Option Position → Result Place PlaceFault → Type 0
+IsPlaceOfOneAddress (kinds.Airborne older) (kinds.Airborne newer) site answer =
     NeedsTwoParities older.parity newer.parity answer (IsAirPairPlace older newer answer)
-IsKindredPlace (kinds.Surface older) (kinds.Surface newer) site answer =
+IsPlaceOfOneAddress (kinds.Surface older) (kinds.Surface newer) site answer =
     NeedsTwoParities older.parity newer.parity answer (IsGroundPairPlace older newer site answer)
-IsKindredPlace (kinds.Airborne older) (kinds.Surface newer) site answer = answer ≡ Err OtherKind
-IsKindredPlace (kinds.Surface older) (kinds.Airborne newer) site answer = answer ≡ Err OtherKind
-IsKindredPlace (kinds.Airborne older) (kinds.Other newer) site answer = ⊥
-IsKindredPlace (kinds.Surface older) (kinds.Other newer) site answer = ⊥
-IsKindredPlace (kinds.Other older) newer site answer = ⊥
+IsPlaceOfOneAddress (kinds.Airborne older) (kinds.Surface newer) site answer = answer ≡ Err OtherKind
+IsPlaceOfOneAddress (kinds.Surface older) (kinds.Airborne newer) site answer = answer ≡ Err OtherKind
+IsPlaceOfOneAddress (kinds.Airborne older) (kinds.Other newer) site answer = ⊥
+IsPlaceOfOneAddress (kinds.Surface older) (kinds.Other newer) site answer = ⊥
+IsPlaceOfOneAddress (kinds.Other older) newer site answer = ⊥
 
 -- What two squitters are decoded to: the first fault that applies, else the place of the newer.
 pub record IsPairPlace (older newer : SquitterParts) (site : Option Position)
@@ -144,7 +146,7 @@ pub record IsPairPlace (older newer : SquitterParts) (site : Option Position)
   pub other : ¬ (IsPosition older.me × IsPosition newer.me) → answer ≡ Err NotPosition
   pub strangers : IsPosition older.me × IsPosition newer.me → older.address ≢ newer.address → answer ≡ Err OtherAddress
   pub kindred : IsPosition older.me × IsPosition newer.me → older.address ≡ newer.address
-      → IsKindredPlace older.me newer.me site answer
+      → IsPlaceOfOneAddress older.me newer.me site answer
 
 -- the place is one that the squitter is decoded to: near some reference, or as the newer of some pair
 abbrev pub IsDecoded : SquitterParts → Place → Type 0

@@ -11,19 +11,23 @@ ghost use Rattle.sq_message.specs.declared.squitter.FrameFault.{FrameFault};
 ghost use Rattle.sq_message.specs.declared.squitter.Squitter.{Squitter};
 ghost use Rattle.sq_message.specs.declared.place.Place.TheVariants.{Air, Ground};
 ghost use Rattle.sq_zones.specs.declared.parity.Parity.TheVariants.{Even, Odd};
+ghost use Rattle.sq_cpr.specs.Near.{IsStrictlyNearPosition};
+ghost use Rattle.sq_cpr.specs.Rounds.{PositionRoundsTo};
 ghost use Rattle.sq_cpr.specs.Grid.{Point};
+ghost use Rattle.sq_cpr.specs.Span.{air, ground};
 ghost use Rattle.sq_cpr.specs.Close.{AreClosePoints};
 ghost use Rattle.sq_cpr.specs.Pair.{of_parity};
 ghost use Rattle.sq_cpr.specs.Slow.{IsPointWithin};
-ghost use Rattle.sq_cpr.specs.Zones.{ZonePair};
+ghost use Rattle.sq_cpr.specs.Zones.{ZonePair, PositionIsInZones};
+ghost use Rattle.sq_message.specs.Kinds.{InAir, OnGround};
 ghost use Rattle.sq_message.specs.Altitudes.{IsAltitude, IsFieldOfFeet};
-ghost use Rattle.sq_message.specs.Calls.{DecodedIsSentAgain, HasNoPlaceNear, HaveNoPlace, IsPlaceOfPair, IsReadingNear, IsReadingOfNewer, IsReadingOfPair, IsSentAgain, IsStrictlyNearInAir, IsStrictlyNearOnGround};
+ghost use Rattle.sq_message.specs.Calls.{DecodedIsSentAgain, HasNoPlaceNear, HaveNoPlace, IsPlaceOfPair, IsAnswerNear, IsPlaceOfNewer, IsAnswerOfPair, IsSentAgain};
 ghost use Rattle.sq_message.specs.Heads.{air_head_parts, ground_head_parts};
-ghost use Rattle.sq_message.specs.Headline.{ClosePairInAir, ClosePairOnGround, NearReferenceInAir, NearReferenceOnGround, OneLocalPlace, OnePairPlace, SentAgainInAir, SentAgainOnGround, SomeLocalPlace, SomePairPlace, WrittenAgain};
+ghost use Rattle.sq_message.specs.Headline.{ClosePair, OneLocalPlace, OnePairPlace, SomeLocalPlace, SomePairPlace, WrittenAgain, NearReference, SentAgain};
 ghost use Rattle.sq_message.specs.Parts.{squitter_parts};
-ghost use Rattle.sq_message.specs.Pinned.{DecodedByCalls, EachHasItsZones, NearReferenceExactly};
+ghost use Rattle.sq_message.specs.Pinned.{DecodedByCalls, EachHasItsZones, NearReferenceExactly, LieAtExactly};
 ghost use Rattle.sq_message.specs.Places.{IsLocalPlace, IsSentAt};
-ghost use Rattle.sq_message.specs.Sending.{IsFrameInAir, IsFrameOnGround, IsInAirZones, IsInGroundZones, RoundsInAir, RoundsOnGround, SameZonesInAir, SameZonesOnGround};
+ghost use Rattle.sq_message.specs.Sending.{IsFrameOf, SameZones};
 ghost use Rattle.sq_message.specs.Spelling.{IsReading, Spells};
 
 use crate::{
@@ -92,13 +96,13 @@ pub fn feet_exactly()
 /// Where two positions lie in the same zones of a parity's grid of the air, the frames that are sent of them with one
 /// head are equal exactly if the positions round to one point.
 pub fn same_zones_in_air()
-    ensures { SameZonesInAir }
+    ensures { SameZones InAir }
 {}
 
 /// Where two positions lie in the same zones of a parity's grid of the ground, the frames that are sent of them with
 /// one head are equal exactly if the positions round to one point.
 pub fn same_zones_on_ground()
-    ensures { SameZonesOnGround }
+    ensures { SameZones OnGround }
 {}
 
 /// The frames that are sent of two positions in the air with one head, in the order of the positions. Where the
@@ -109,11 +113,12 @@ pub fn frames_in_air(
     here: &Position,
     there: &Position,
 ) -> (Frame, Frame)
-    ensures here { IsFrameInAir (air_head_parts head) parity here.now result.0 }
-    ensures there { IsFrameInAir (air_head_parts head) parity there.now result.1 }
+    ensures here { IsFrameOf InAir (air_head_parts head) parity here.now result.0 }
+    ensures there { IsFrameOf InAir (air_head_parts head) parity there.now result.1 }
     ensures same { (zones : ZonePair) (p q : Point)
-        → IsInAirZones parity here.now zones → IsInAirZones parity there.now zones
-        → p.parity ≡ parity → q.parity ≡ parity → RoundsInAir here.now p → RoundsInAir there.now q
+        → PositionIsInZones air parity here.now zones → PositionIsInZones air parity there.now zones
+        → p.parity ≡ parity → q.parity ≡ parity
+        → PositionRoundsTo air here.now p → PositionRoundsTo air there.now q
         → (result.0 ≡ result.1) ↔ (p ≡ q) }
 {
     let from_here = write_frame(&send_air(head, here, parity));
@@ -131,11 +136,12 @@ pub fn frames_on_ground(
     here: &Position,
     there: &Position,
 ) -> (Frame, Frame)
-    ensures here { IsFrameOnGround (ground_head_parts head) parity here.now result.0 }
-    ensures there { IsFrameOnGround (ground_head_parts head) parity there.now result.1 }
+    ensures here { IsFrameOf OnGround (ground_head_parts head) parity here.now result.0 }
+    ensures there { IsFrameOf OnGround (ground_head_parts head) parity there.now result.1 }
     ensures same { (zones : ZonePair) (p q : Point)
-        → IsInGroundZones parity here.now zones → IsInGroundZones parity there.now zones
-        → p.parity ≡ parity → q.parity ≡ parity → RoundsOnGround here.now p → RoundsOnGround there.now q
+        → PositionIsInZones ground parity here.now zones → PositionIsInZones ground parity there.now zones
+        → p.parity ≡ parity → q.parity ≡ parity
+        → PositionRoundsTo ground here.now p → PositionRoundsTo ground there.now q
         → (result.0 ≡ result.1) ↔ (p ≡ q) }
 {
     let from_here = write_frame(&send_ground(head, here, parity));
@@ -241,12 +247,16 @@ pub fn decoded_by_calls()
 
 /// A position lies in exactly one pair of zones of each parity's grid, in the air and on the ground.
 pub fn each_has_its_zones()
-    ensures { EachHasItsZones }
+    ensures in_air { EachHasItsZones InAir }
+    ensures on_ground { EachHasItsZones OnGround }
 {}
 
-/// Strictly near a reference is strictly near its latitude and its longitude, and no less.
+/// Strictly near a reference is strictly near its latitude and its longitude, and no less. The points of a pair have to
+/// lie anywhere in the air, and on the ground less than 45 degrees from the site, and no nearer.
 pub fn near_reference_exactly()
-    ensures { NearReferenceExactly }
+    ensures in_air { NearReferenceExactly InAir }
+    ensures on_ground { NearReferenceExactly OnGround }
+    ensures lie_at { LieAtExactly }
 {}
 
 /// What frames of positions say, whole.
@@ -256,21 +266,21 @@ pub fn near_reference_exactly()
 /// close even and odd pair with equal zone counts. Writing any decoded point again gives the same frame.
 pub fn headline()
     // Two positions in the same zones have one frame exactly if they round to one point.
-    ensures same_frame_in_air { SameZonesInAir }
-    ensures same_frame_on_ground { SameZonesOnGround }
+    ensures same_frame_in_air { SameZones InAir }
+    ensures same_frame_on_ground { SameZones OnGround }
 
     // Read with a reference strictly within half a zone of the point, a frame gives that point.
-    ensures near_reference_in_air { NearReferenceInAir }
-    ensures near_reference_on_ground { NearReferenceOnGround }
+    ensures near_reference_in_air { NearReference InAir }
+    ensures near_reference_on_ground { NearReference OnGround }
 
     // An even and an odd frame of close points with one zone count give the newer one's point.
-    ensures close_pair_in_air { ClosePairInAir }
-    ensures close_pair_on_ground { ClosePairOnGround }
+    ensures close_pair_in_air { ClosePair InAir }
+    ensures close_pair_on_ground { ClosePair OnGround }
 
     // What is decoded is written again as the same frame, from the point and from its position.
     ensures written_again { WrittenAgain }
-    ensures sent_again_in_air { SentAgainInAir }
-    ensures sent_again_on_ground { SentAgainOnGround }
+    ensures sent_again_in_air { SentAgain InAir }
+    ensures sent_again_on_ground { SentAgain OnGround }
 {}
 
 // The squitter that a frame spells, where it spells one.
@@ -291,10 +301,10 @@ pub fn read_near_of_sent_in_air(
     position: &Position,
     reference: &Position,
 ) -> (Frame, Result<Place, PlaceFault>)
-    ensures sent { IsFrameInAir (air_head_parts head) parity position.now result.0 }
-    ensures read { IsReadingNear result.0 reference.now result.1 }
+    ensures sent { IsFrameOf InAir (air_head_parts head) parity position.now result.0 }
+    ensures read { IsAnswerNear result.0 reference.now result.1 }
     ensures point { (point : Point) → point.parity ≡ parity
-        → RoundsInAir position.now point → IsStrictlyNearInAir reference.now point
+        → PositionRoundsTo air position.now point → IsStrictlyNearPosition air reference.now point
         → result.1 ≡ Ok (Air point) }
 {
     let frame = write_frame(&send_air(head, position, parity));
@@ -314,10 +324,10 @@ pub fn read_near_of_sent_on_ground(
     position: &Position,
     reference: &Position,
 ) -> (Frame, Result<Place, PlaceFault>)
-    ensures sent { IsFrameOnGround (ground_head_parts head) parity position.now result.0 }
-    ensures read { IsReadingNear result.0 reference.now result.1 }
+    ensures sent { IsFrameOf OnGround (ground_head_parts head) parity position.now result.0 }
+    ensures read { IsAnswerNear result.0 reference.now result.1 }
     ensures point { (point : Point) → point.parity ≡ parity
-        → RoundsOnGround position.now point → IsStrictlyNearOnGround reference.now point
+        → PositionRoundsTo ground position.now point → IsStrictlyNearPosition ground reference.now point
         → result.1 ≡ Ok (Ground point) }
 {
     let frame = write_frame(&send_ground(head, position, parity));
@@ -356,11 +366,11 @@ pub fn read_pair_of_sent_in_air(
     newest: Parity,
     site: Option<&Position>,
 ) -> (Frame, Frame, Result<Place, PlaceFault>)
-    ensures even { IsFrameInAir (air_head_parts even_head) Even even_position.now result.0 }
-    ensures odd { IsFrameInAir (air_head_parts odd_head) Odd odd_position.now result.1 }
-    ensures read { IsReadingOfPair newest result.0 result.1 (option_copied site.entry) result.2 }
+    ensures even { IsFrameOf InAir (air_head_parts even_head) Even even_position.now result.0 }
+    ensures odd { IsFrameOf InAir (air_head_parts odd_head) Odd odd_position.now result.1 }
+    ensures read { IsAnswerOfPair newest result.0 result.1 (option_copied site.entry) result.2 }
     ensures point { (a b : Point) → (air_head_parts even_head).address ≡ (air_head_parts odd_head).address
-        → RoundsInAir even_position.now a → RoundsInAir odd_position.now b → AreClosePoints 360 a b
+        → PositionRoundsTo air even_position.now a → PositionRoundsTo air odd_position.now b → AreClosePoints air a b
         → result.2 ≡ Ok (Air (of_parity newest a b)) }
 {
     let even = write_frame(&send_air(even_head, even_position, Parity::Even));
@@ -386,12 +396,12 @@ pub fn read_pair_of_sent_on_ground(
     newest: Parity,
     site: &Position,
 ) -> (Frame, Frame, Result<Place, PlaceFault>)
-    ensures even { IsFrameOnGround (ground_head_parts even_head) Even even_position.now result.0 }
-    ensures odd { IsFrameOnGround (ground_head_parts odd_head) Odd odd_position.now result.1 }
-    ensures read { IsReadingOfPair newest result.0 result.1 (Some site.now) result.2 }
+    ensures even { IsFrameOf OnGround (ground_head_parts even_head) Even even_position.now result.0 }
+    ensures odd { IsFrameOf OnGround (ground_head_parts odd_head) Odd odd_position.now result.1 }
+    ensures read { IsAnswerOfPair newest result.0 result.1 (Some site.now) result.2 }
     ensures point { (a b : Point) → (ground_head_parts even_head).address ≡ (ground_head_parts odd_head).address
-        → RoundsOnGround even_position.now a → RoundsOnGround odd_position.now b → AreClosePoints 90 a b
-        → IsPointWithin 45 90 4 a site.now → IsPointWithin 45 90 4 b site.now
+        → PositionRoundsTo ground even_position.now a → PositionRoundsTo ground odd_position.now b
+        → AreClosePoints ground a b → IsPointWithin 45 ground a site.now → IsPointWithin 45 ground b site.now
         → result.2 ≡ Ok (Ground (of_parity newest a b)) }
 {
     let even = write_frame(&send_ground(even_head, even_position, Parity::Even));
@@ -432,7 +442,7 @@ pub fn sent_again_of_pair(
     site: Option<&Position>,
 ) -> Option<(Squitter, Place, Frame)>
     ensures decoded { IfSome result (λ all.
-        IsReadingOfNewer older.now all.0 (option_copied site.entry) all.1) }
+        IsPlaceOfNewer older.now all.0 (option_copied site.entry) all.1) }
     ensures again { IfSome result (λ all. IsSentAgain newer.now all.0 all.1 all.2) }
     ensures none { result ≡ None → HaveNoPlace older.now newer.now (option_copied site.entry) }
 {

@@ -1,4 +1,4 @@
-use Rattle.std.proofs.Common.{◌≡◌, refl, sym, subst}
+use Rattle.std.proofs.Common.{◌≡◌, ◌∙◌, ap, refl, sym, subst}
 use Rattle.sq_cpr.specs.Grid.{Point}
 use Rattle.sq_message.specs.declared.air.Airborne.{Airborne}
 use Rattle.sq_message.specs.declared.ground.Surface.{Surface}
@@ -8,7 +8,8 @@ use Rattle.sq_message.specs.declared.place.Place.TheVariants.{Air, Ground}
 use Rattle.sq_message.specs.declared.squitter.Me.{Me}
 use Rattle.sq_message.specs.declared.squitter.Me.TheVariants as kinds
 use Rattle.sq_message.specs.Parts.{squitter_parts}
-use Rattle.sq_message.specs.Places.{Fits, IsSentAt}
+use Rattle.sq_message.specs.Kinds.{InAir, OnGround, me_of}
+use Rattle.sq_message.specs.Places.{Fits, IsSentAt, air_head_of, ground_head_of}
 use Rattle.sq_message.proofs.place.send_point.Goals.{in-Airborne-Air, in-Surface-Ground, in_default, in_default-via-in-Airborne+in_default, in_default-via-in-Surface+in_default, in_default-via-in_default}
 use Rattle.sq_message.proofs.place.send_point.Goals as goal
 
@@ -35,15 +36,11 @@ returns c = elim c.match-squitter.branch [
         record {
           ca = refl;
           address = refl;
-          airborne = record {
-            fields = w.in-Airborne-Air.airborne.fields;
-            parity = w.parity.result;
-            code = w.code.result;
-          };
-          me = w.me-is;
-          fields = refl;
-          parity = w.parity.ensures.value;
-          code = w.code.ensures;
+          code = w.code.result;
+          me = w.me-is
+              ∙ ap (λ p. me_of InAir (air_head_of (squitter_parts c.args.squitter.now) w.in-Airborne-Air.airborne) p
+              w.code.result) w.parity.ensures.value;
+          numbers = w.code.ensures;
         },
       )
   | in-Surface-Ground w ↦
@@ -55,15 +52,11 @@ returns c = elim c.match-squitter.branch [
         record {
           ca = refl;
           address = refl;
-          surface = record {
-            fields = w.in-Surface-Ground.surface.fields;
-            parity = w.parity-in-Surface-Ground.result;
-            code = w.code-in-Surface-Ground.result;
-          };
-          me = w.me-is;
-          fields = refl;
-          parity = w.parity-in-Surface-Ground.ensures.value;
-          code = w.code-in-Surface-Ground.ensures;
+          code = w.code-in-Surface-Ground.result;
+          me = w.me-is
+              ∙ ap (λ p. me_of OnGround (ground_head_of (squitter_parts c.args.squitter.now)
+              w.in-Surface-Ground.surface) p w.code-in-Surface-Ground.result) w.parity-in-Surface-Ground.ensures.value;
+          numbers = w.code-in-Surface-Ground.ensures;
         },
       )
   | in_default w ↦ elim w.in_default.branch [
