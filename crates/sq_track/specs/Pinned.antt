@@ -1,6 +1,7 @@
 -- Laws that say what worlds and what is said of them are, and no less and no more.
 use Rattle.std.specs.Prelude.{◌≡◌, ◌≢◌, ◌↔◌, [], ◌∷◌, ℕ, IsTrue, Contains, Option, Some, None, Ok, Err}
 use Rattle.sq_angle.specs.declared.position.Position.{Position}
+use Rattle.sq_cpr.specs.Span.{air, ground}
 use Rattle.sq_cpr.specs.Grid.{Point, latitude, longitude}
 use Rattle.sq_cpr.specs.Near.{IsStrictlyNearPoint}
 use Rattle.sq_cpr.specs.Close.{AreTamePoints}
@@ -35,28 +36,28 @@ pub record PlacesExactly : Type 0 where
   pub near_no_site : (x : Position) → IsPositionNearSite None x
   pub near_a_site : (site x : Position) → IsPositionNearSite (Some site) x ↔ AreWithin 44 x site
   pub point_near_no_site : (p : Point) → IsNearSite None p
-  pub point_near_a_site : (site : Position) (p : Point) → IsNearSite (Some site) p ↔ IsPointWithin 45 90 4 p site
+  pub point_near_a_site : (site : Position) (p : Point) → IsNearSite (Some site) p ↔ IsPointWithin 45 ground p site
   pub near_in_air : (p q : Point) → AreNearPlaces (Air p) (Air q)
-      ↔ (IsStrictlyNearPoint 360 1 (latitude 360 q) (longitude 360 q) p
-      × IsStrictlyNearPoint 360 1 (latitude 360 p) (longitude 360 p) q)
+      ↔ (IsStrictlyNearPoint air (latitude air q) (longitude air q) p
+      × IsStrictlyNearPoint air (latitude air p) (longitude air p) q)
   pub near_on_ground : (p q : Point) → AreNearPlaces (Ground p) (Ground q)
-      ↔ (IsStrictlyNearPoint 90 4 (latitude 90 q) (longitude 90 q) p
-      × IsStrictlyNearPoint 90 4 (latitude 90 p) (longitude 90 p) q)
+      ↔ (IsStrictlyNearPoint ground (latitude ground q) (longitude ground q) p
+      × IsStrictlyNearPoint ground (latitude ground p) (longitude ground p) q)
   pub slow_in_air : (site : Option Position) (p q : Point) (x y : Position)
-      → AreSlowPlaces site (Air p) (Air q) x y ↔ AreSlow 360 p q x y
+      → AreSlowPlaces site (Air p) (Air q) x y ↔ AreSlow air p q x y
   pub slow_on_ground : (p q : Point) (x y : Position)
-      → AreSlowPlaces None (Ground p) (Ground q) x y ↔ AreSlow 90 p q x y
+      → AreSlowPlaces None (Ground p) (Ground q) x y ↔ AreSlow ground p q x y
   pub slow_at_a_site : (site : Position) (p q : Point) (x y : Position)
       → AreSlowPlaces (Some site) (Ground p) (Ground q) x y
-      ↔ (AreSlow 90 p q x y × AreWithin 44 x site × AreWithin 44 y site)
+      ↔ (AreSlow ground p q x y × AreWithin 44 x site × AreWithin 44 y site)
   pub following_in_air : (p q : Point) (x y : Position)
-      → AreSlowToFollow (Air p) (Air q) x y ↔ AreSlowForFollowing 360 p q x y
+      → AreSlowToFollow (Air p) (Air q) x y ↔ AreSlowForFollowing air p q x y
   pub following_on_ground : (p q : Point) (x y : Position)
-      → AreSlowToFollow (Ground p) (Ground q) x y ↔ AreSlowForFollowing 90 p q x y
-  pub tame_in_air : (site : Option Position) (p q : Point) → AreTamePlaces site (Air p) (Air q) ↔ AreTamePoints 360 p q
-  pub tame_on_ground : (p q : Point) → AreTamePlaces None (Ground p) (Ground q) ↔ AreTamePoints 90 p q
+      → AreSlowToFollow (Ground p) (Ground q) x y ↔ AreSlowForFollowing ground p q x y
+  pub tame_in_air : (site : Option Position) (p q : Point) → AreTamePlaces site (Air p) (Air q) ↔ AreTamePoints air p q
+  pub tame_on_ground : (p q : Point) → AreTamePlaces None (Ground p) (Ground q) ↔ AreTamePoints ground p q
   pub tame_at_a_site : (site : Position) (p q : Point) → AreTamePlaces (Some site) (Ground p) (Ground q)
-      ↔ (AreTamePoints 90 p q × IsPointWithin 45 90 4 p site × IsPointWithin 45 90 4 q site)
+      ↔ (AreTamePoints ground p q × IsPointWithin 45 ground p site × IsPointWithin 45 ground q site)
 
 -- two of one parity are slow wherever they come from
 abbrev pub OneParityIsSlow : Type 0

@@ -82,6 +82,7 @@ fn nth_last(order: &LruCache<u32, ()>, index: usize) -> Option<u32>
 }
 
 // Puts an address at the end. An address that is there takes no memory.
+#[inline(always)]
 fn touch(
     alloc: Global,
     order: &mut Option<LruCache<u32, ()>>,
@@ -135,6 +136,7 @@ fn forget(order: &mut Option<LruCache<u32, ()>>, address: u32)
 }
 
 // Makes room for an address. An address that is there takes no memory.
+#[inline(always)]
 fn make_room(table: &mut IndexMap<u32, Contact>, address: u32) -> Result<(), AllocError>
     ensures same { IsUnchanged table.old table.new }
     ensures ok { OnOk result (get nat_eq table.old address ≡ None → 0 < spare table.new) }

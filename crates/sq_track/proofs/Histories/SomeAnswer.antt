@@ -13,7 +13,8 @@ use Rattle.sq_zones.specs.declared.parity.Parity.{Parity}
 use Rattle.sq_zones.specs.declared.parity.Parity.TheVariants.{Even, Odd}
 use Rattle.sq_zones.proofs.ZoneBounds.{lon_zones_at-least, lon_zones_at-most}
 use Rattle.sq_cpr.specs.Code.{numbers_of}
-use Rattle.sq_cpr.specs.Grid.{Point, IsGridPoint, grid_longitude, latitude, longitude}
+use Rattle.sq_cpr.specs.Span.{Span, air, ground}
+use Rattle.sq_cpr.specs.Grid.{Point, IsGridPoint, IsLatitude, grid_latitude, grid_longitude, latitude, longitude}
 use Rattle.sq_cpr.proofs.Decoding.SomeAnswers.{some_local_answer, some_pair_answer, some_air_pair_answer}
 use Rattle.sq_message.specs.declared.air.Airborne.{Airborne}
 use Rattle.sq_message.specs.declared.ground.Surface.{Surface}
@@ -25,7 +26,7 @@ use Rattle.sq_message.specs.declared.place.Place.TheVariants.{Air, Ground}
 use Rattle.sq_message.specs.declared.place.PlaceFault.{PlaceFault}
 use Rattle.sq_message.specs.declared.place.PlaceFault.TheVariants as faults
 use Rattle.sq_message.specs.Parts.{SquitterParts, squitter_parts}
-use Rattle.sq_message.specs.Places.{IsPosition, IsPositionOf, IsLocalPlace, IsPairPlace, IsKindredPlace, IsAirPairPlace, IsGroundPairPlace, NeedsTwoParities, even_of, odd_of, of_local, of_pair, place_of}
+use Rattle.sq_message.specs.Places.{IsPosition, IsPositionOf, IsLocalPlace, IsPairPlace, IsPlaceOfOneAddress, IsAirPairPlace, IsGroundPairPlace, NeedsTwoParities, even_of, odd_of, of_local, of_pair, place_of}
 use Rattle.sq_track.specs.declared.heard.Heard.{Heard}
 use Rattle.sq_track.specs.declared.heard.Heard.TheVariants.{Fix, Followed, Waiting, Split, Far, NoSite, NotPosition}
 use Rattle.sq_track.specs.declared.heard.TrackFault.TheVariants.{MomentBack, Full}
@@ -47,11 +48,11 @@ fault_is_place place fault e = absurd (cc e)
 pub some_local : (me : Me) (reference : Position) → (answer : Result Place PlaceFault)
     × IsLocalPlace me reference answer
 some_local (kinds.Airborne a) r =
-    let found = some_local_answer 360 1 refl (numbers_of a.code) a.parity (degrees (lat_of r))
+    let found = some_local_answer air refl (numbers_of a.code) a.parity (degrees (lat_of r))
     (degrees (lon_of r)) r.lat.in_range.positive r.lon.in_range.positive in
     (place_of Air of_local found.0, (found.0, found.1, refl))
 some_local (kinds.Surface s) r =
-    let found = some_local_answer 90 4 refl (numbers_of s.code) s.parity (degrees (lat_of r))
+    let found = some_local_answer ground refl (numbers_of s.code) s.parity (degrees (lat_of r))
     (degrees (lon_of r)) r.lat.in_range.positive r.lon.in_range.positive in
     (place_of Ground of_local found.0, (found.0, found.1, refl))
 some_local (kinds.Other o) r = (Err faults.NotPosition, refl)
@@ -75,13 +76,13 @@ some_on_ground : (o n : Surface) (site : Option Position)
     → (answer : Result Place PlaceFault) × IsGroundPairPlace o n site answer
 some_on_ground o n None = (Err faults.NoSite, refl)
 some_on_ground o n (Some s) =
-    let found = some_pair_answer 90 4 refl (even_of n.parity (numbers_of o.code) (numbers_of n.code))
+    let found = some_pair_answer ground refl (even_of n.parity (numbers_of o.code) (numbers_of n.code))
     (odd_of n.parity (numbers_of o.code) (numbers_of n.code)) n.parity
     (degrees (lat_of s)) (degrees (lon_of s)) s.lat.in_range.positive s.lon.in_range.positive in
     (place_of Ground of_pair found.0, (found.0, found.1, refl))
 
 some_kindred : (m n : Me) (site : Option Position) → IsPosition m × IsPosition n
-    → (answer : Result Place PlaceFault) × IsKindredPlace m n site answer
+    → (answer : Result Place PlaceFault) × IsPlaceOfOneAddress m n site answer
 some_kindred (kinds.Airborne o) (kinds.Airborne n) site h =
     some_of_parities o.parity n.parity (IsAirPairPlace o n) (some_in_air o n)
 some_kindred (kinds.Surface o) (kinds.Surface n) site h =
@@ -137,20 +138,20 @@ some_pair older newer site = elim (both older.me newer.me) [
 -- ---- what was heard lies on a grid, so it has a position
 
 abbrev pub IsOnGrid : Place → Type 0
-IsOnGrid (Air p) = IsGridPoint 360 1 p
-IsOnGrid (Ground p) = IsGridPoint 90 4 p
+IsOnGrid (Air p) = IsGridPoint air p
+IsOnGrid (Ground p) = IsGridPoint ground p
 
 abbrev IfPlace : Result Place PlaceFault → Type 0
 IfPlace (Ok place) = IsOnGrid place
 IfPlace (Err fault) = Unit {0}
 
 found_in_air : {F : Type 0} (name : F → PlaceFault) (answer : Result Place PlaceFault) (found : Result Point F)
-    → ((p : Point) → found ≡ Ok p → IsGridPoint 360 1 p) → answer ≡ place_of Air name found → IfPlace answer
+    → ((p : Point) → found ≡ Ok p → IsGridPoint air p) → answer ≡ place_of Air name found → IfPlace answer
 found_in_air name answer (Ok p) h is = subst IfPlace (sym is) (h p refl)
 found_in_air name answer (Err fault) h is = subst IfPlace (sym is) tt
 
 found_on_ground : {F : Type 0} (name : F → PlaceFault) (answer : Result Place PlaceFault) (found : Result Point F)
-    → ((p : Point) → found ≡ Ok p → IsGridPoint 90 4 p) → answer ≡ place_of Ground name found → IfPlace answer
+    → ((p : Point) → found ≡ Ok p → IsGridPoint ground p) → answer ≡ place_of Ground name found → IfPlace answer
 found_on_ground name answer (Ok p) h is = subst IfPlace (sym is) (h p refl)
 found_on_ground name answer (Err fault) h is = subst IfPlace (sym is) tt
 
@@ -179,7 +180,7 @@ ground_on_grid o n (Some s) answer (Ok p, h, is) = subst IfPlace (sym is) h.of_p
 ground_on_grid o n (Some s) answer (Err fault, h, is) = subst IfPlace (sym is) tt
 
 kindred_on_grid : (m n : Me) (site : Option Position) (answer : Result Place PlaceFault)
-    → IsKindredPlace m n site answer → IfPlace answer
+    → IsPlaceOfOneAddress m n site answer → IfPlace answer
 kindred_on_grid (kinds.Airborne o) (kinds.Airborne n) site answer h =
     parities_on_grid o.parity n.parity answer (IsAirPairPlace o n answer) (air_on_grid o n answer) h
 kindred_on_grid (kinds.Surface o) (kinds.Surface n) site answer h =
@@ -288,10 +289,8 @@ made lat lon a b h =
     let east : Angle = record { num = lon.num; den = lon.den; in_range = b } in
     (record { lat = north; lon = east; in_range = h }, refl, refl)
 
-lat_angle : (w : ℕ) (parity : Parity) (a : ℤ)
-    → IsWithin 90 (latitude w (record { parity = parity; lat_index = a; zones = 1; lon_index = 0 }))
-    → IsAngle (latitude w (record { parity = parity; lat_index = a; zones = 1; lon_index = 0 })).num
-    (latitude w (record { parity = parity; lat_index = a; zones = 1; lon_index = 0 })).den
+lat_angle : (w : ℕ) (parity : Parity) (a : ℤ) → IsLatitude w parity a
+    → IsAngle (grid_latitude w parity a).num (grid_latitude w parity a).den
 lat_angle w Even a h = record { positive = omega arith; at_most = omega arith; within = omega (arith, h) }
 lat_angle w Odd a h = record { positive = omega arith; at_most = omega arith; within = omega (arith, h) }
 
@@ -312,22 +311,24 @@ lon_angle : (w zones b : ℕ) → 1 ≤ zones → zones ≤ 59 → IsWithin 180 
 lon_angle w zones b some few h =
     record { positive = omega (arith, some); at_most = omega (arith, few); within = omega (arith, h) }
 
-zones_within : (w r : ℕ) (p : Point) → IsGridPoint w r p → (1 ≤ p.zones) × (p.zones ≤ 59)
-zones_within w r p h =
-    (rw h.zones (lon_zones_at-least p.parity (latitude w p)), rw h.zones (lon_zones_at-most p.parity (latitude w p)))
+zones_within : (span : Span) (p : Point) → IsGridPoint span p → (1 ≤ p.zones) × (p.zones ≤ 59)
+zones_within span p h = (
+  rw h.zones (lon_zones_at-least p.parity (latitude span p)),
+  rw h.zones (lon_zones_at-most p.parity (latitude span p)),
+)
 
 pub position_of_place : (place : Place) → IsOnGrid place → (x : Position) × IsPositionOf place x
 position_of_place (Air p) h =
-    let z = zones_within 360 1 p h in
+    let z = zones_within air p h in
     let east = lon_within 360 p.zones p.lon_index (omega (arith, h.east_west)) in
-    let x = made (latitude 360 p) (longitude 360 p) (lat_angle 360 p.parity p.lat_index h.north_south)
+    let x = made (latitude air p) (longitude air p) (lat_angle 360 p.parity p.lat_index h.north_south)
     (lon_angle 360 p.zones p.lon_index z.0 z.1 east)
     (record { latitude = h.north_south; longitude = east }) in
     (x.0, record { lat = x.1; lon = x.2 })
 position_of_place (Ground p) h =
-    let z = zones_within 90 4 p h in
+    let z = zones_within ground p h in
     let east = lon_within 90 p.zones p.lon_index (omega (arith, h.east_west)) in
-    let x = made (latitude 90 p) (longitude 90 p) (lat_angle 90 p.parity p.lat_index h.north_south)
+    let x = made (latitude ground p) (longitude ground p) (lat_angle 90 p.parity p.lat_index h.north_south)
     (lon_angle 90 p.zones p.lon_index z.0 z.1 east)
     (record { latitude = h.north_south; longitude = east }) in
     (x.0, record { lat = x.1; lon = x.2 })

@@ -9,6 +9,7 @@ use Rattle.sq_cpr.specs.declared.faults.PairFault.{PairFault}
 use Rattle.sq_cpr.specs.declared.faults.PairFault.TheVariants as pairs
 use Rattle.sq_cpr.specs.Close.{HaveOneCount}
 use Rattle.sq_cpr.specs.Code.{numbers_of}
+use Rattle.sq_cpr.specs.Span.{air, ground}
 use Rattle.sq_cpr.specs.DecodeLaws.{TameAnswer}
 use Rattle.sq_cpr.specs.Grid.{Point}
 use Rattle.sq_cpr.specs.Pair.{AirPairAnswer, PairAnswer}
@@ -22,7 +23,7 @@ use Rattle.sq_message.specs.declared.place.Place.{Place}
 use Rattle.sq_message.specs.declared.place.Place.TheVariants.{Air, Ground}
 use Rattle.sq_message.specs.declared.place.PlaceFault.{PlaceFault}
 use Rattle.sq_message.specs.Parts.{squitter_parts}
-use Rattle.sq_message.specs.Places.{IsKindredPlace, even_of, odd_of, of_pair, place_of}
+use Rattle.sq_message.specs.Places.{IsPlaceOfOneAddress, even_of, odd_of, of_pair, place_of}
 use Rattle.sq_message.proofs.PlaceLemmas.{has_code}
 use Rattle.sq_track.specs.History.{parity_of}
 use Rattle.sq_track.specs.Worlds.{IsPlaceOf, HasCodeOf, IsEncodedFrom}
@@ -36,7 +37,7 @@ use Rattle.sq_track.proofs.Worlds.Places.{one_place}
 
 -- what was found of tame points with one zone count is the even one, where that is the newer
 even_count : (a b : Point) (found : Result Point PairFault) → HaveOneCount 360 a.lat_index b.lat_index
-    → TameAnswer 360 Even a b found → place_of Air of_pair found ≡ Ok (Air a)
+    → TameAnswer air Even a b found → place_of Air of_pair found ≡ Ok (Air a)
 even_count a b (Ok p) same h = ap (λ x. Ok (Air x)) h
 even_count a b (Err pairs.OutOfRange) same h = absurd h
 even_count a b (Err (pairs.ZoneCounts even odd)) same h = absurd (h.differ (h.even ∙ same ∙ sym h.odd))
@@ -45,7 +46,7 @@ even_count a b (Err (pairs.ZoneCounts even odd)) same h = absurd (h.differ (h.ev
 slow_pair : (m n : Me) (x y : Position) (p q : Point) (site : Option Position) (answer : Result Place PlaceFault)
     → IsEncodedFrom m x → IsEncodedFrom n y → parity_of m ≡ Some Odd → parity_of n ≡ Some Even → IsPlaceOf m x (Air p)
     → IsPlaceOf n y (Air q)
-    → AreSlow 360 q p y x → HaveOneCount 360 q.lat_index p.lat_index → IsKindredPlace m n site answer
+    → AreSlow air q p y x → HaveOneCount 360 q.lat_index p.lat_index → IsPlaceOfOneAddress m n site answer
     → answer ≡ Ok (Air q)
 slow_pair (kinds.Airborne o) (kinds.Airborne n) x y p q site answer (Air a, h, h_code)
     (Air b, k, k_code) odd even p_is q_is slow same here =
@@ -60,7 +61,7 @@ slow_pair (kinds.Airborne o) (kinds.Airborne n) x y p q site answer (Air a, h, h
     let q_code : HasCodeOf (kinds.Airborne n) (Air q) = subst (HasCodeOf (kinds.Airborne n)) b_is k_code in
     let there = subst (λ r. AirPairAnswer (even_of r (numbers_of o.code) (numbers_of n.code))
     (odd_of r (numbers_of o.code) (numbers_of n.code)) r found) n_even decoded in
-    let tame = slow_is_tame 360 1 refl y x q p q_is.1 p_is.1 (q_is.0 ∙ n_even) (p_is.0 ∙ o_odd) slow in
+    let tame = slow_is_tame air refl y x q p q_is.1 p_is.1 (q_is.0 ∙ n_even) (p_is.0 ∙ o_odd) slow in
     let law = tame_air_points_are_answered (numbers_of n.code)
     (numbers_of o.code) Even found q p there q_is.1.of_grid p_is.1.of_grid (has_code q n.code q_code)
     (has_code p o.code p_code) tame in
@@ -78,7 +79,7 @@ slow_pair (kinds.Other o) n x y p q site answer first second odd even p_is q_is 
 
 -- what was found of tame points on the ground with one zone count is the even one, where that is the newer
 even_count_on_ground : (a b : Point) (found : Result Point PairFault) → HaveOneCount 90 a.lat_index b.lat_index
-    → TameAnswer 90 Even a b found → place_of Ground of_pair found ≡ Ok (Ground a)
+    → TameAnswer ground Even a b found → place_of Ground of_pair found ≡ Ok (Ground a)
 even_count_on_ground a b (Ok p) same h = ap (λ x. Ok (Ground x)) h
 even_count_on_ground a b (Err pairs.OutOfRange) same h = absurd h
 even_count_on_ground a b (Err (pairs.ZoneCounts even odd)) same h = absurd (h.differ (h.even ∙ same ∙ sym h.odd))
@@ -88,7 +89,7 @@ slow_ground_pair : (m n : Me) (x y : Position) (p q : Point) (site : Position) (
     → IsEncodedFrom m x → IsEncodedFrom n y → parity_of m ≡ Some Odd → parity_of n ≡ Some Even
     → IsPlaceOf m x (Ground p) → IsPlaceOf n y (Ground q)
     → AreSlowPlaces (Some site) (Ground q) (Ground p) y x → HaveOneCount 90 q.lat_index p.lat_index
-    → IsKindredPlace m n (Some site) answer → answer ≡ Ok (Ground q)
+    → IsPlaceOfOneAddress m n (Some site) answer → answer ≡ Ok (Ground q)
 slow_ground_pair (kinds.Surface o) (kinds.Surface n) x y p q site answer (Ground a, h, h_code)
     (Ground b, k, k_code) odd even p_is q_is slow same here =
     let o_odd : o.parity ≡ Odd = same_some o.parity Odd odd in
@@ -100,12 +101,12 @@ slow_ground_pair (kinds.Surface o) (kinds.Surface n) x y p q site answer (Ground
     let b_is : ◌≡◌ {A = Place} (Ground b) (Ground q) = one_place (kinds.Surface n) y (Ground b) (Ground q) k q_is in
     let p_code : HasCodeOf (kinds.Surface o) (Ground p) = subst (HasCodeOf (kinds.Surface o)) a_is h_code in
     let q_code : HasCodeOf (kinds.Surface n) (Ground q) = subst (HasCodeOf (kinds.Surface n)) b_is k_code in
-    let there = subst (λ r. PairAnswer 90 4 (even_of r (numbers_of o.code) (numbers_of n.code))
+    let there = subst (λ r. PairAnswer ground (even_of r (numbers_of o.code) (numbers_of n.code))
     (odd_of r (numbers_of o.code) (numbers_of n.code)) r (degrees_of (lat_of site))
     (degrees_of (lon_of site)) found) n_even decoded in
-    let tame = slow_is_tame 90 4 refl y x q p q_is.1 p_is.1 (q_is.0 ∙ n_even) (p_is.0 ∙ o_odd) slow.0 in
-    let q_near = rounds_near_site 90 4 refl y site q q_is.1 slow.1 in
-    let p_near = rounds_near_site 90 4 refl x site p p_is.1 slow.2 in
+    let tame = slow_is_tame ground refl y x q p q_is.1 p_is.1 (q_is.0 ∙ n_even) (p_is.0 ∙ o_odd) slow.0 in
+    let q_near = rounds_near_site ground refl y site q q_is.1 slow.1 in
+    let p_near = rounds_near_site ground refl x site p p_is.1 slow.2 in
     let law = tame_ground_points_are_answered (numbers_of n.code)
     (numbers_of o.code) Even site found q p there q_is.1.of_grid p_is.1.of_grid (has_code q n.code q_code)
     (has_code p o.code p_code) tame q_near p_near in

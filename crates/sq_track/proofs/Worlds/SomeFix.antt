@@ -10,6 +10,7 @@ use Rattle.sq_cpr.specs.declared.faults.PairFault.{PairFault}
 use Rattle.sq_cpr.specs.declared.faults.PairFault.TheVariants as pairs
 use Rattle.sq_cpr.specs.Close.{HaveOneCount}
 use Rattle.sq_cpr.specs.Code.{numbers_of}
+use Rattle.sq_cpr.specs.Span.{air, ground}
 use Rattle.sq_cpr.specs.DecodeLaws.{TameAnswer}
 use Rattle.sq_cpr.specs.Grid.{Point}
 use Rattle.sq_cpr.specs.Pair.{AirPairAnswer, PairAnswer}
@@ -23,7 +24,7 @@ use Rattle.sq_message.specs.declared.place.Place.{Place}
 use Rattle.sq_message.specs.declared.place.Place.TheVariants.{Air, Ground}
 use Rattle.sq_message.specs.declared.place.PlaceFault.{PlaceFault}
 use Rattle.sq_message.specs.Parts.{squitter_parts}
-use Rattle.sq_message.specs.Places.{IsPosition, IsKindredPlace, even_of, odd_of, of_pair, place_of}
+use Rattle.sq_message.specs.Places.{IsPosition, IsPlaceOfOneAddress, even_of, odd_of, of_pair, place_of}
 use Rattle.sq_message.proofs.PlaceLemmas.{has_code}
 use Rattle.sq_track.specs.declared.heard.Heard.TheVariants.{Fix, Waiting}
 use Rattle.sq_track.specs.History.{Entry, are_of_one_sender, are_even_and_odd, are_a_pair, parity_of, if_recent, counterpart, squitter_of}
@@ -39,7 +40,7 @@ use Rattle.sq_track.proofs.Histories.SomeAnswer.{some_pair}
 
 -- what was found of tame points with one zone count is the newer
 one_count : (a b : Point) (found : Result Point PairFault) → HaveOneCount 360 a.lat_index b.lat_index
-    → TameAnswer 360 Odd a b found → place_of Air of_pair found ≡ Ok (Air b)
+    → TameAnswer air Odd a b found → place_of Air of_pair found ≡ Ok (Air b)
 one_count a b (Ok p) same h = ap (λ x. Ok (Air x)) h
 one_count a b (Err pairs.OutOfRange) same h = absurd h
 one_count a b (Err (pairs.ZoneCounts even odd)) same h = absurd (h.differ (h.even ∙ same ∙ sym h.odd))
@@ -48,7 +49,7 @@ one_count a b (Err (pairs.ZoneCounts even odd)) same h = absurd (h.differ (h.eve
 slow_pair : (m n : Me) (x y : Position) (p q : Point) (site : Option Position) (answer : Result Place PlaceFault)
     → IsEncodedFrom m x → IsEncodedFrom n y → parity_of m ≡ Some Even → parity_of n ≡ Some Odd → IsPlaceOf m x (Air p)
     → IsPlaceOf n y (Air q)
-    → AreSlow 360 p q x y → HaveOneCount 360 p.lat_index q.lat_index → IsKindredPlace m n site answer
+    → AreSlow air p q x y → HaveOneCount 360 p.lat_index q.lat_index → IsPlaceOfOneAddress m n site answer
     → answer ≡ Ok (Air q)
 slow_pair (kinds.Airborne o) (kinds.Airborne n) x y p q site answer (Air a, h, h_code)
     (Air b, k, k_code) even odd p_is q_is slow same here =
@@ -63,7 +64,7 @@ slow_pair (kinds.Airborne o) (kinds.Airborne n) x y p q site answer (Air a, h, h
     let q_code : HasCodeOf (kinds.Airborne n) (Air q) = subst (HasCodeOf (kinds.Airborne n)) b_is k_code in
     let there = subst (λ r. AirPairAnswer (even_of r (numbers_of o.code) (numbers_of n.code))
     (odd_of r (numbers_of o.code) (numbers_of n.code)) r found) n_odd decoded in
-    let tame = slow_is_tame 360 1 refl x y p q p_is.1 q_is.1 (p_is.0 ∙ o_even) (q_is.0 ∙ n_odd) slow in
+    let tame = slow_is_tame air refl x y p q p_is.1 q_is.1 (p_is.0 ∙ o_even) (q_is.0 ∙ n_odd) slow in
     let law = tame_air_points_are_answered (numbers_of o.code)
     (numbers_of n.code) Odd found p q there p_is.1.of_grid q_is.1.of_grid (has_code p o.code p_code)
     (has_code q n.code q_code) tame in
@@ -81,7 +82,7 @@ slow_pair (kinds.Other o) n x y p q site answer first second even odd p_is q_is 
 
 -- what was found of tame points on the ground with one zone count is the newer
 one_count_on_ground : (a b : Point) (found : Result Point PairFault) → HaveOneCount 90 a.lat_index b.lat_index
-    → TameAnswer 90 Odd a b found → place_of Ground of_pair found ≡ Ok (Ground b)
+    → TameAnswer ground Odd a b found → place_of Ground of_pair found ≡ Ok (Ground b)
 one_count_on_ground a b (Ok p) same h = ap (λ x. Ok (Ground x)) h
 one_count_on_ground a b (Err pairs.OutOfRange) same h = absurd h
 one_count_on_ground a b (Err (pairs.ZoneCounts even odd)) same h = absurd (h.differ (h.even ∙ same ∙ sym h.odd))
@@ -91,7 +92,7 @@ slow_ground_pair : (m n : Me) (x y : Position) (p q : Point) (site : Position) (
     → IsEncodedFrom m x → IsEncodedFrom n y → parity_of m ≡ Some Even → parity_of n ≡ Some Odd
     → IsPlaceOf m x (Ground p) → IsPlaceOf n y (Ground q)
     → AreSlowPlaces (Some site) (Ground p) (Ground q) x y → HaveOneCount 90 p.lat_index q.lat_index
-    → IsKindredPlace m n (Some site) answer → answer ≡ Ok (Ground q)
+    → IsPlaceOfOneAddress m n (Some site) answer → answer ≡ Ok (Ground q)
 slow_ground_pair (kinds.Surface o) (kinds.Surface n) x y p q site answer (Ground a, h, h_code)
     (Ground b, k, k_code) even odd p_is q_is slow same here =
     let o_even : o.parity ≡ Even = same_some o.parity Even even in
@@ -103,12 +104,12 @@ slow_ground_pair (kinds.Surface o) (kinds.Surface n) x y p q site answer (Ground
     let b_is : ◌≡◌ {A = Place} (Ground b) (Ground q) = one_place (kinds.Surface n) y (Ground b) (Ground q) k q_is in
     let p_code : HasCodeOf (kinds.Surface o) (Ground p) = subst (HasCodeOf (kinds.Surface o)) a_is h_code in
     let q_code : HasCodeOf (kinds.Surface n) (Ground q) = subst (HasCodeOf (kinds.Surface n)) b_is k_code in
-    let there = subst (λ r. PairAnswer 90 4 (even_of r (numbers_of o.code) (numbers_of n.code))
+    let there = subst (λ r. PairAnswer ground (even_of r (numbers_of o.code) (numbers_of n.code))
     (odd_of r (numbers_of o.code) (numbers_of n.code)) r (degrees_of (lat_of site))
     (degrees_of (lon_of site)) found) n_odd decoded in
-    let tame = slow_is_tame 90 4 refl x y p q p_is.1 q_is.1 (p_is.0 ∙ o_even) (q_is.0 ∙ n_odd) slow.0 in
-    let p_near = rounds_near_site 90 4 refl x site p p_is.1 slow.1 in
-    let q_near = rounds_near_site 90 4 refl y site q q_is.1 slow.2 in
+    let tame = slow_is_tame ground refl x y p q p_is.1 q_is.1 (p_is.0 ∙ o_even) (q_is.0 ∙ n_odd) slow.0 in
+    let p_near = rounds_near_site ground refl x site p p_is.1 slow.1 in
+    let q_near = rounds_near_site ground refl y site q q_is.1 slow.2 in
     let law = tame_ground_points_are_answered (numbers_of o.code)
     (numbers_of n.code) Odd site found p q there p_is.1.of_grid q_is.1.of_grid (has_code p o.code p_code)
     (has_code q n.code q_code) tame p_near q_near in
@@ -147,7 +148,7 @@ pub fixed : (window : ℕ) (site : Option Position) (a b : Arrival) (p q : Place
     → are_even_and_odd (parity_of (squitter_parts a.squitter).me) (parity_of (squitter_parts b.squitter).me) ≡ true
     → IsTruePlace a p → IsTruePlace b q
     → ((answer : Result Place PlaceFault)
-    → IsKindredPlace (squitter_parts a.squitter).me (squitter_parts b.squitter).me site answer → answer ≡ Ok q)
+    → IsPlaceOfOneAddress (squitter_parts a.squitter).me (squitter_parts b.squitter).me site answer → answer ≡ Ok q)
     → IsHeard window site (record { moment = a.moment; squitter = a.squitter; heard = Waiting }
     ∷ []) b.moment b.squitter (Fix q)
 fixed window site a b p q together two h k decoded =

@@ -8,6 +8,7 @@ use Rattle.sq_angle.specs.Fraction.{Fraction, minus}
 use Rattle.sq_angle.specs.Position.{lat_of, lon_of}
 use Rattle.sq_angle.specs.Scale.{scale-lt, scale-neg}
 use Rattle.sq_zones.proofs.ZoneBounds.{lon_zones_at-least, lon_zones_at-most}
+use Rattle.sq_cpr.specs.Span.{Span, air, ground}
 use Rattle.sq_cpr.specs.Grid.{Point, IsGridPoint, latitude}
 use Rattle.sq_cpr.specs.Close.{difference}
 use Rattle.sq_cpr.specs.Slow.{IsSmallerThan, DifferByLess, DifferByLessAround, AreSlow, AreSlowForFollowing, slow_limit, following_limit}
@@ -67,45 +68,47 @@ longitudes_still limit x y positive one =
     )
 
 -- the zones of a point are from 1 to 59
-zones_within : (w r : ℕ) (p : Point) → IsGridPoint w r p → (1 ≤ p.zones) × (p.zones ≤ 59)
-zones_within w r p h =
-    (rw h.zones (lon_zones_at-least p.parity (latitude w p)), rw h.zones (lon_zones_at-most p.parity (latitude w p)))
+zones_within : (span : Span) (p : Point) → IsGridPoint span p → (1 ≤ p.zones) × (p.zones ≤ 59)
+zones_within span p h = (
+  rw h.zones (lon_zones_at-least p.parity (latitude span p)),
+  rw h.zones (lon_zones_at-most p.parity (latitude span p)),
+)
 
-module _ (w r : ℕ) (some : 1 ≤ w) (p q : Point) (p_is : IsGridPoint w r p) (q_is : IsGridPoint w r q) (x y : Position)
-    (one : AreOnePlace x y) where
-  slow_still : AreSlow w p q x y
+module _ (span : Span) (some : 1 ≤ span.degrees) (p q : Point) (p_is : IsGridPoint span p) (q_is : IsGridPoint span q)
+    (x y : Position) (one : AreOnePlace x y) where
+  slow_still : AreSlow span p q x y
   slow_still =
-      let a = zones_within w r p p_is in
-      let b = zones_within w r q q_is in
+      let a = zones_within span p p_is in
+      let b = zones_within span q q_is in
       record {
-        latitudes = latitudes_still (slow_limit w 60 59) x y
-            (slow_positive w 60 59 some (omega arith) (omega arith)) one;
-        longitudes = λ counts more. longitudes_still (slow_limit w p.zones q.zones) x y
-            (slow_positive w p.zones q.zones some b.0 (omega (arith, a.1))) one;
+        latitudes = latitudes_still (slow_limit span.degrees 60 59) x y
+            (slow_positive span.degrees 60 59 some (omega arith) (omega arith)) one;
+        longitudes = λ counts more. longitudes_still (slow_limit span.degrees p.zones q.zones) x y
+            (slow_positive span.degrees p.zones q.zones some b.0 (omega (arith, a.1))) one;
       }
 
-  follows_still : AreSlowForFollowing w p q x y
+  follows_still : AreSlowForFollowing span p q x y
   follows_still =
-      let a = zones_within w r p p_is in
-      let b = zones_within w r q q_is in
+      let a = zones_within span p p_is in
+      let b = zones_within span q q_is in
       let least : 1 ≤ min p.zones q.zones = omega (arith, a.0, b.0) in
       let most : max p.zones q.zones ≤ 60 = omega (arith, a.1, b.1) in
       record {
-        latitudes = latitudes_still (following_limit w 60 59) x y
-            (following_positive w 60 59 some (omega arith) (omega arith)) one;
-        longitudes = longitudes_still (following_limit w (max p.zones q.zones) (min p.zones q.zones)) x y
-            (following_positive w (max p.zones q.zones) (min p.zones q.zones) some least most) one;
+        latitudes = latitudes_still (following_limit span.degrees 60 59) x y
+            (following_positive span.degrees 60 59 some (omega arith) (omega arith)) one;
+        longitudes = longitudes_still (following_limit span.degrees (max p.zones q.zones) (min p.zones q.zones)) x y
+            (following_positive span.degrees (max p.zones q.zones) (min p.zones q.zones) some least most) one;
       }
 
 places_still : (m n : Me) (site : Option Position) (x y : Position) (p q : Place) → are_of_one_kind m n ≡ true
     → IsPlaceOf m x p → IsPlaceOf n y q
     → AreOnePlace x y → IsPositionNearSite site x → IsPositionNearSite site y → AreSlowPlaces site p q x y
 places_still (kinds.Airborne a) (kinds.Airborne b) site x y (Air p) (Air q) kind h k one near_x near_y =
-    slow_still 360 1 (omega arith) p q h.1.of_grid k.1.of_grid x y one
+    slow_still air (omega arith) p q h.1.of_grid k.1.of_grid x y one
 places_still (kinds.Airborne a) (kinds.Airborne b) site x y (Air p) (Ground q) kind h k one near_x near_y = absurd k
 places_still (kinds.Airborne a) (kinds.Airborne b) site x y (Ground p) q kind h k one near_x near_y = absurd h
 places_still (kinds.Surface a) (kinds.Surface b) site x y (Ground p) (Ground q) kind h k one near_x near_y =
-    (slow_still 90 4 (omega arith) p q h.1.of_grid k.1.of_grid x y one, near_x, near_y)
+    (slow_still ground (omega arith) p q h.1.of_grid k.1.of_grid x y one, near_x, near_y)
 places_still (kinds.Surface a) (kinds.Surface b) site x y (Ground p) (Air q) kind h k one near_x near_y = absurd k
 places_still (kinds.Surface a) (kinds.Surface b) site x y (Air p) q kind h k one near_x near_y = absurd h
 places_still (kinds.Airborne a) (kinds.Surface b) site x y p q kind h k one near_x near_y = absurd (false≢true kind)
@@ -117,11 +120,11 @@ places_still (kinds.Other a) n site x y p q kind h k one near_x near_y = absurd 
 pub followed_still : (m n : Me) (x y : Position) (p q : Place) → are_of_one_kind m n ≡ true → IsPlaceOf m x p
     → IsPlaceOf n y q → AreOnePlace x y → AreSlowToFollow p q x y
 followed_still (kinds.Airborne a) (kinds.Airborne b) x y (Air p) (Air q) kind h k one =
-    follows_still 360 1 (omega arith) p q h.1.of_grid k.1.of_grid x y one
+    follows_still air (omega arith) p q h.1.of_grid k.1.of_grid x y one
 followed_still (kinds.Airborne a) (kinds.Airborne b) x y (Air p) (Ground q) kind h k one = absurd k
 followed_still (kinds.Airborne a) (kinds.Airborne b) x y (Ground p) q kind h k one = absurd h
 followed_still (kinds.Surface a) (kinds.Surface b) x y (Ground p) (Ground q) kind h k one =
-    follows_still 90 4 (omega arith) p q h.1.of_grid k.1.of_grid x y one
+    follows_still ground (omega arith) p q h.1.of_grid k.1.of_grid x y one
 followed_still (kinds.Surface a) (kinds.Surface b) x y (Ground p) (Air q) kind h k one = absurd k
 followed_still (kinds.Surface a) (kinds.Surface b) x y (Air p) q kind h k one = absurd h
 followed_still (kinds.Airborne a) (kinds.Surface b) x y p q kind h k one = absurd (false≢true kind)

@@ -9,14 +9,14 @@ use Rattle.sq_angle.specs.declared.position.Position.{Position}
 use Rattle.sq_angle.proofs.Congruence.{congruent_refl}
 use Rattle.sq_zones.specs.Zones.{zone_limits, zones_at}
 use Rattle.sq_zones.specs.declared.parity.Parity.{Parity}
+use Rattle.sq_cpr.specs.Span.{air}
 use Rattle.sq_cpr.specs.Close.{HaveOneCount}
 use Rattle.sq_cpr.specs.Grid.{IsGridPoint, Point, circle}
-use Rattle.sq_cpr.specs.Rounds.{RoundsTo}
+use Rattle.sq_cpr.specs.Rounds.{RoundsTo, PositionRoundsTo}
 use Rattle.sq_cpr.specs.Slow.{AreSlow, AreSlowForFollowing, DifferByLess, DifferByLessAround, following_limit, slow_limit}
 use Rattle.sq_message.specs.declared.place.Place.TheVariants.{Air}
 use Rattle.sq_message.specs.declared.squitter.Me.TheVariants as kinds
 use Rattle.sq_message.specs.Parts.{squitter_parts}
-use Rattle.sq_message.specs.Sending.{RoundsInAir}
 use Rattle.sq_message.proofs.WorkedPoints.{even_position_rounds, odd_position_rounds}
 use Rattle.sq_track.specs.declared.heard.Heard.TheVariants.{Fix, Followed}
 use Rattle.sq_track.specs.Answers.{IsHeard}
@@ -36,11 +36,11 @@ use Rattle.sq_track.proofs.Worlds.TrueWorlds.{followed_worlds_are_true}
 
 -- ---- the points
 
-third_is_point : IsGridPoint 360 1 third_point
+third_is_point : IsGridPoint air third_point
 unfolding zones_at zone_limits
 third_is_point = record { north_south = omega (arith, ints); zones = refl; east_west = omega arith }
 
-third_rounds : RoundsTo 360 1 (parts 5227 100) (parts 3948 1000) third_point
+third_rounds : RoundsTo air (parts 5227 100) (parts 3948 1000) third_point
 third_rounds = record {
   of_grid = third_is_point;
   north_south = record { from = omega (arith, ints); below = omega (arith, ints) };
@@ -52,10 +52,10 @@ third_rounds = record {
 }
 
 pub third_position_rounds : (x : Position) → degrees (lat_of x) ≡ parts 5227 100 → degrees (lon_of x) ≡ parts 3948 1000
-    → RoundsInAir x third_point
+    → PositionRoundsTo air x third_point
 third_position_rounds x lat lon =
-    subst (λ f. RoundsTo 360 1 f (degrees (lon_of x)) third_point) (sym lat)
-    (subst (λ f. RoundsTo 360 1 (parts 5227 100) f third_point) (sym lon) third_rounds)
+    subst (λ f. RoundsTo air f (degrees (lon_of x)) third_point) (sym lat)
+    (subst (λ f. RoundsTo air (parts 5227 100) f third_point) (sym lon) third_rounds)
 
 one_count : HaveOneCount 360 first_point.lat_index second_point.lat_index
 unfolding zones_at zone_limits
@@ -66,7 +66,7 @@ one_count = refl
 module _ {sender time : ℕ} {grid : Parity} {north east : Fraction} (a : Arrival)
     (h : IsArrivalFrom sender grid time north east a) where
   -- the point of its grid to which the position rounds is its true place
-  true_place : (p : Point) → p.parity ≡ grid → RoundsInAir a.position p → IsTruePlace a (Air p)
+  true_place : (p : Point) → p.parity ≡ grid → PositionRoundsTo air a.position p → IsTruePlace a (Air p)
   true_place p same rounds =
       subst (λ m. IsPlaceOf m a.position (Air p)) (sym h.me) (same ∙ sym h.parity, rounds)
 
@@ -120,7 +120,7 @@ second_and_third b c h k = record {
 of_two : (P : Fraction → Fraction → Type 0) (x y x' y' : Fraction) → x' ≡ x → y' ≡ y → P x y → P x' y'
 of_two P x y x' y' same other p = subst (λ f. P f y') (sym same) (subst (P x) (sym other) p)
 
-slow : (a b : Arrival) → IsFirst a → IsSecond b → AreSlow 360 first_point second_point a.position b.position
+slow : (a b : Arrival) → IsFirst a → IsSecond b → AreSlow air first_point second_point a.position b.position
 slow a b h k = record {
   latitudes = of_two (DifferByLess (slow_limit 360 60 59)) _ _ _ _ h.lat k.lat
       (record { above = omega (arith, ints); below = omega (arith, ints) });
@@ -129,7 +129,7 @@ slow a b h k = record {
 }
 
 following : (a b : Arrival) → IsFirst a → IsSecond b
-    → AreSlowForFollowing 360 first_point second_point a.position b.position
+    → AreSlowForFollowing air first_point second_point a.position b.position
 following a b h k = record {
   latitudes = of_two (DifferByLess (following_limit 360 60 59)) _ _ _ _ h.lat k.lat
       (record { above = omega (arith, ints); below = omega (arith, ints) });
@@ -138,7 +138,7 @@ following a b h k = record {
 }
 
 following_back : (a b : Arrival) → IsFirst a → IsSecond b
-    → AreSlowForFollowing 360 second_point first_point b.position a.position
+    → AreSlowForFollowing air second_point first_point b.position a.position
 following_back a b h k = record {
   latitudes = of_two (DifferByLess (following_limit 360 60 59)) _ _ _ _ k.lat h.lat
       (record { above = omega (arith, ints); below = omega (arith, ints) });
@@ -147,7 +147,7 @@ following_back a b h k = record {
 }
 
 following_on : (b c : Arrival) → IsSecond b → IsThird c
-    → AreSlowForFollowing 360 second_point third_point b.position c.position
+    → AreSlowForFollowing air second_point third_point b.position c.position
 following_on b c h k = record {
   latitudes = of_two (DifferByLess (following_limit 360 60 59)) _ _ _ _ h.lat k.lat
       (record { above = omega (arith, ints); below = omega (arith, ints) });
@@ -156,7 +156,7 @@ following_on b c h k = record {
 }
 
 following_on_back : (b c : Arrival) → IsSecond b → IsThird c
-    → AreSlowForFollowing 360 third_point second_point c.position b.position
+    → AreSlowForFollowing air third_point second_point c.position b.position
 following_on_back b c h k = record {
   latitudes = of_two (DifferByLess (following_limit 360 60 59)) _ _ _ _ k.lat h.lat
       (record { above = omega (arith, ints); below = omega (arith, ints) });

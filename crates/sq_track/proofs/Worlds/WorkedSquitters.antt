@@ -5,13 +5,14 @@ use Rattle.sq_angle.specs.Fraction.{Fraction}
 use Rattle.sq_angle.specs.Position.{lat_of, lon_of}
 use Rattle.sq_angle.specs.declared.position.Position.{Position}
 use Rattle.sq_cpr.specs.declared.code.Code.{Code}
+use Rattle.sq_cpr.specs.Span.{air}
+use Rattle.sq_cpr.specs.Rounds.{PositionRoundsTo}
 use Rattle.sq_cpr.specs.Code.{numbers_of}
 use Rattle.sq_cpr.specs.Grid.{Point, code_of}
 use Rattle.sq_message.specs.declared.air.AirFields.{AirFields}
 use Rattle.sq_message.specs.declared.air.Airborne.{Airborne}
 use Rattle.sq_message.specs.declared.place.Place.TheVariants.{Air}
 use Rattle.sq_message.specs.declared.squitter.Me.TheVariants as kinds
-use Rattle.sq_message.specs.Sending.{RoundsInAir}
 use Rattle.sq_message.proofs.WorkedPoints.{even_position_rounds, odd_position_rounds}
 use Rattle.sq_track.specs.Worlds.{Arrival}
 use Rattle.sq_track.specs.Worked.{IsArrivalFrom, IsFirst, IsSecond, IsThird, SomeWorked, first_point, parts, second_point, third_point}
@@ -32,7 +33,7 @@ fields = record {
 
 -- the arrival of 40621D with the code of this point, from a position that rounds to it
 arrival_of : (time : ℕ) (point : Point) (code : Code) (position : Position) → numbers_of code ≡ code_of point
-    → RoundsInAir position point → Arrival
+    → PositionRoundsTo air position point → Arrival
 arrival_of time point code position same rounds =
     let airborne : Airborne = record { fields = fields; parity = point.parity; code = code } in
     record {
@@ -75,7 +76,7 @@ code_of_numbers lat lon north east = record { lat = lat; lon = lon; lat_below = 
 
 -- such an arrival is one from this position
 is_arrival : (time : ℕ) (point : Point) (code : Code) (x : Position) (north east : Fraction)
-    (same : numbers_of code ≡ code_of point) (rounds : RoundsInAir x point) → degrees (lat_of x) ≡ north
+    (same : numbers_of code ≡ code_of point) (rounds : PositionRoundsTo air x point) → degrees (lat_of x) ≡ north
     → degrees (lon_of x) ≡ east
     → IsArrivalFrom 0x40621D point.parity time north east (arrival_of time point code x same rounds)
 unfolding arrival_of
