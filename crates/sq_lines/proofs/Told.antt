@@ -1,11 +1,9 @@
 -- From a text that was answered to its line.
-use Rattle.std.proofs.Common.{◌≡◌, ◌+◌, ◌++◌, ◌∙◌, ℕ, List, Option, Some, Result, Ok, Err, IfErr, OnOk, OnErr, ap, sym, subst, refl}
-use Rattle.std.specs.Prelude.{codes, decimal}
+use Rattle.std.proofs.Common.{◌≡◌, ◌+◌, ◌∙◌, ℕ, List, Option, Some, Result, Ok, Err, IfErr, OnOk, OnErr, ap, sym, subst, refl}
 use Rattle.sq_devices.specs.Device.{WroteFront}
 use Rattle.sq_text.specs.declared.faults.LineFault.{LineFault}
 use Rattle.sq_text.specs.declared.faults.LineFault.TheVariants.{LongLine}
-use Rattle.sq_text.specs.Faults.{fault_text}
-use Rattle.sq_lines.specs.Answers.{Manner, after_content, after_line, answer_line, answer_text, noted, verdict_text}
+use Rattle.sq_lines.specs.Answers.{Manner, after_content, after_line, answer_line, answer_text, noted}
 use Rattle.sq_lines.specs.Content.{Content, Long, Text, answer_content, content}
 use Rattle.sq_lines.specs.Outcomes.{HasHeardLine, HasHeardText, IsLineAnswered, IsTextAnswered, outcome_of}
 use Rattle.sq_lines.specs.declared.faults.Outcome.{Outcome}
@@ -23,35 +21,25 @@ module _ {State Past Found : Type 0} (how : Manner State Past Found) (number : �
       × (bytes ≡ answer_text (how.way.text first) number (Some verdict))
 
   pub long_line : (state : State) → (let stands : Content = Long in stands ≡ content line)
-      → bytes ≡ decimal number ++ codes " " ++ fault_text LongLine ++ codes "\n"
+      → ((first : Past) → bytes ≡ how.way.text first number (Err LongLine))
       → IsLineAnswered how (Some Refused) number line state state bytes
   long_line state stands text past first st =
-      subst (Heard Refused state past first) stands (Err LongLine, refl, refl, st, text)
+      subst (Heard Refused state past first) stands (Err LongLine, refl, refl, st, text first)
 
-  heard_line : (outcome : Outcome) (text before after : List ℕ) (old new : State)
-      → (let stands : Content = Text text in stands ≡ content line) → before ≡ decimal number ++ codes " "
-      → bytes ≡ after ++ codes "\n" → HasHeardText how outcome text old new before after
-      → HasHeardLine how outcome number line old new bytes
-  heard_line outcome text before after old new stands front end heard past first st =
+  heard_line : (outcome : Outcome) (text : List ℕ) (old new : State)
+      → (let stands : Content = Text text in stands ≡ content line)
+      → HasHeardText how outcome number text old new bytes → HasHeardLine how outcome number line old new bytes
+  heard_line outcome text old new stands heard past first st =
       let h = heard past first st in
-      let verdict = how.way.answer past text in
-      subst (Heard outcome new past first) stands (
-        verdict,
-        refl,
-        h.0,
-        h.1,
-        end ∙ ap (λ l. l ++ codes "\n") (h.2 ∙ ap (λ l. l ++ verdict_text (how.way.text first) verdict) front),
-      )
+      subst (Heard outcome new past first) stands (how.way.answer past text, refl, h.0, h.1, h.2)
 
-  pub text_line : (outcome : Outcome) (text before after : List ℕ) (old new : State)
-      → (let stands : Content = Text text in stands ≡ content line) → before ≡ decimal number ++ codes " "
-      → bytes ≡ after ++ codes "\n" → IsTextAnswered how outcome text old new before after
+  pub text_line : (outcome : Outcome) (text : List ℕ) (old new : State)
+      → (let stands : Content = Text text in stands ≡ content line)
+      → IsTextAnswered how outcome number text old new bytes
       → IsLineAnswered how (Some outcome) number line old new bytes
-  text_line Good text before after old new stands front end heard =
-      heard_line Good text before after old new stands front end heard
-  text_line Refused text before after old new stands front end heard =
-      heard_line Refused text before after old new stands front end heard
-  text_line NoMemory text before after old new stands front end heard = (heard.0, (text, sym stands, heard.1))
+  text_line Good text old new stands heard = heard_line Good text old new stands heard
+  text_line Refused text old new stands heard = heard_line Refused text old new stands heard
+  text_line NoMemory text old new stands heard = (heard.0, (text, sym stands, heard.1))
 
 -- the tally with one more outcome
 abbrev pub noted_by : Outcome → Tally → Tally
@@ -94,16 +82,15 @@ module _ {State Past Found : Type 0} (how : Manner State Past Found) (outcome : 
 -- ---- what an outcome says of a text
 
 -- a good text has something that was found of it
-pub good_found : {Found : Type 0} (text : Found → List ℕ) (verdict : Result Found LineFault) (before after : List ℕ)
-    → (let outcome : Outcome = Good in outcome ≡ outcome_of verdict) → after ≡ before ++ verdict_text text verdict
-    → (found : Found) × (verdict ≡ Ok found) × (after ≡ before ++ text found)
-good_found text (Ok found) before after is grown = (found, refl, grown)
-good_found text (Err fault) before after is grown = absurd (cc is)
+pub good_found : {Found : Type 0} (text : Result Found LineFault → List ℕ) (verdict : Result Found LineFault)
+    (bytes : List ℕ) → (let outcome : Outcome = Good in outcome ≡ outcome_of verdict) → bytes ≡ text verdict
+    → (found : Found) × (verdict ≡ Ok found) × (bytes ≡ text (Ok found))
+good_found text (Ok found) bytes is told = (found, refl, told)
+good_found text (Err fault) bytes is told = absurd (cc is)
 
 -- a refused one has a fault
-pub refused_fault : {Found : Type 0} (text : Found → List ℕ) (verdict : Result Found LineFault)
-    (before after : List ℕ) → (let outcome : Outcome = Refused in outcome ≡ outcome_of verdict)
-    → after ≡ before ++ verdict_text text verdict
-    → (fault : LineFault) × (verdict ≡ Err fault) × (after ≡ before ++ fault_text fault)
-refused_fault text (Ok found) before after is grown = absurd (cc is)
-refused_fault text (Err fault) before after is grown = (fault, refl, grown)
+pub refused_fault : {Found : Type 0} (text : Result Found LineFault → List ℕ) (verdict : Result Found LineFault)
+    (bytes : List ℕ) → (let outcome : Outcome = Refused in outcome ≡ outcome_of verdict) → bytes ≡ text verdict
+    → (fault : LineFault) × (verdict ≡ Err fault) × (bytes ≡ text (Err fault))
+refused_fault text (Ok found) bytes is told = absurd (cc is)
+refused_fault text (Err fault) bytes is told = (fault, refl, told)

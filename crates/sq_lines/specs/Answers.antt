@@ -1,17 +1,16 @@
 -- What is answered to lines, each by what came before it.
-use Rattle.std.specs.Prelude.{◌≡◌, ◌+◌, ◌++◌, ℕ, Bool, List, [], ◌∷◌, None, Some, Result, Ok, Err, codes, decimal, true, false, count_by}
+use Rattle.std.specs.Prelude.{◌≡◌, ◌+◌, ℕ, Bool, List, [], ◌∷◌, None, Some, Result, Ok, Err, true, false, count_by}
 use Rattle.std.specs.List.{flat_map, enumerate_from}
 use Rattle.sq_text.specs.declared.faults.LineFault.{LineFault}
-use Rattle.sq_text.specs.Faults.{fault_text}
 use Rattle.sq_lines.specs.Content.{Answer, Content, Long, Empty, Text, answer_by, content}
 use Rattle.sq_lines.specs.declared.tallies.Tally.{Tally}
 
--- how texts are answered: the answer to a text by the past, the past after it, and the text of what was found; any past
--- may say how that is spelled
+-- how texts are answered: the answer to a text by the past, the past after it, and how a verdict on the line with a
+-- number is told; any past may say how that is spelled
 pub record Answerer (Past Found : Type 0) : Type 0 where
   pub answer : Past → List ℕ → Result Found LineFault
   pub after : Past → List ℕ → Past
-  pub text : Past → Found → List ℕ
+  pub text : Past → ℕ → Result Found LineFault → List ℕ
 
 -- how a state answers texts: what pasts it stands for, how texts are answered by these, and at which texts it may want
 -- memory
@@ -48,18 +47,13 @@ abbrev pub answers_to : {Past Found : Type 0} → Answerer Past Found → Past �
 answers_to way past [] = []
 answers_to way past (line ∷ lines) = answer_line way past line ∷ answers_to way (after_line way past line) lines
 
--- the text of what was found, or of the fault
-abbrev pub verdict_text : {Found : Type 0} → (Found → List ℕ) → Result Found LineFault → List ℕ
-verdict_text text (Ok found) = text found
-verdict_text text (Err fault) = fault_text fault
-
--- the text of the answer to the line with this number
-abbrev pub answer_text : {Found : Type 0} → (Found → List ℕ) → ℕ → Answer Found → List ℕ
+-- the text of the answer to the line with this number, where verdicts are told in this way
+abbrev pub answer_text : {Found : Type 0} → (ℕ → Result Found LineFault → List ℕ) → ℕ → Answer Found → List ℕ
 answer_text text number None = []
-answer_text text number (Some verdict) = decimal number ++ codes " " ++ verdict_text text verdict ++ codes "\n"
+answer_text text number (Some verdict) = text number verdict
 
 -- the texts of these answers, which are numbered from 1
-unfoldable pub texts_of : {Found : Type 0} → (Found → List ℕ) → List (Answer Found) → List ℕ
+unfoldable pub texts_of : {Found : Type 0} → (ℕ → Result Found LineFault → List ℕ) → List (Answer Found) → List ℕ
 texts_of text answers = flat_map (λ entry. answer_text text entry.0 entry.1) (enumerate_from 1 answers)
 
 -- the output for these lines

@@ -1,7 +1,7 @@
 -- What answering a text, and by that a line, does.
-use Rattle.std.specs.Prelude.{◌≡◌, ◌++◌, ℕ, List, Option, None, Some, Result, Ok, Err}
+use Rattle.std.specs.Prelude.{◌≡◌, ℕ, List, Option, None, Some, Result, Ok, Err}
 use Rattle.sq_text.specs.declared.faults.LineFault.{LineFault}
-use Rattle.sq_lines.specs.Answers.{Manner, WantsAt, after_line, answer_line, answer_text, verdict_text}
+use Rattle.sq_lines.specs.Answers.{Manner, WantsAt, after_line, answer_line, answer_text}
 use Rattle.sq_lines.specs.declared.faults.Outcome.{Outcome}
 use Rattle.sq_lines.specs.declared.faults.Outcome.TheVariants.{Good, Refused, NoMemory}
 
@@ -10,19 +10,19 @@ abbrev pub outcome_of : {Found : Type 0} → Result Found LineFault → Outcome
 outcome_of (Ok found) = Good
 outcome_of (Err fault) = Refused
 
--- the text was heard from each past, and what was found of it, or its fault, appended
-abbrev pub HasHeardText : {State Past Found : Type 0} → Manner State Past Found → Outcome → (text : List ℕ)
-    → (old new : State) → (before after : List ℕ) → Type 0
-HasHeardText {Past = Past} how outcome text old new before after = (past first : Past) → how.stands_for old past
+-- the text of the line with this number was heard from each past, and the verdict on it told
+abbrev pub HasHeardText : {State Past Found : Type 0} → Manner State Past Found → Outcome → ℕ → (text : List ℕ)
+    → (old new : State) → (bytes : List ℕ) → Type 0
+HasHeardText {Past = Past} how outcome number text old new bytes = (past first : Past) → how.stands_for old past
     → (outcome ≡ outcome_of (how.way.answer past text)) × how.stands_for new (how.way.after past text)
-    × (after ≡ before ++ verdict_text (how.way.text first) (how.way.answer past text))
+    × (bytes ≡ how.way.text first number (how.way.answer past text))
 
 -- what an answer to a text did: without memory it was not heard
-abbrev pub IsTextAnswered : {State Past Found : Type 0} → Manner State Past Found → Outcome → (text : List ℕ)
-    → (old new : State) → (before after : List ℕ) → Type 0
-IsTextAnswered how Good text old new before after = HasHeardText how Good text old new before after
-IsTextAnswered how Refused text old new before after = HasHeardText how Refused text old new before after
-IsTextAnswered how NoMemory text old new before after = (new ≡ old) × how.wants old text
+abbrev pub IsTextAnswered : {State Past Found : Type 0} → Manner State Past Found → Outcome → ℕ → (text : List ℕ)
+    → (old new : State) → (bytes : List ℕ) → Type 0
+IsTextAnswered how Good number text old new bytes = HasHeardText how Good number text old new bytes
+IsTextAnswered how Refused number text old new bytes = HasHeardText how Refused number text old new bytes
+IsTextAnswered how NoMemory number text old new bytes = (new ≡ old) × how.wants old text
 
 -- the line was heard from each past, and its answer made
 abbrev pub HasHeardLine : {State Past Found : Type 0} → Manner State Past Found → Outcome → ℕ → (line : List ℕ)

@@ -1,6 +1,5 @@
 //! What answers texts, one after the other, and by that lines.
-ghost use Rattle.std.specs.Prelude.{◌≡◌, ◌+◌, ◌≤◌, ◌++◌, [], List, ℕ, codes, decimal};
-ghost use Rattle.arrayvec.specs.ArrayString.{array_string_len};
+ghost use Rattle.std.specs.Prelude.{◌≡◌, [], List, ℕ, Err};
 ghost use Rattle.sq_lines.specs.Answers.{Manner};
 ghost use Rattle.sq_lines.specs.Held.{Holds};
 ghost use Rattle.sq_lines.specs.Outcomes.{IsLineAnswered, IsTextAnswered};
@@ -9,10 +8,10 @@ use crate::cutter::Cutter;
 use crate::faults::Outcome;
 use crate::lines::{Line, content_of};
 use arrayvec::ArrayString;
-use sq_text::{LineFault, push_decimal, push_fault};
+use sq_text::LineFault;
 
 /// The text of one line of output.
-pub type LineText = ArrayString<96>;
+pub type LineText = ArrayString<512>;
 
 /// Answers texts: each by itself and by what came before it.
 pub trait Answering {
@@ -25,19 +24,23 @@ pub trait Answering {
     /// What no answer changes.
     ghost Lasting: { Type 0 };
 
-    /// What pasts this stands for; the answer to a text by the past, the past after it and the text of what was found;
+    /// What pasts this stands for; the answer to a text by the past, the past after it and how a verdict is told;
     /// and the texts that this may want memory for.
     ghost how: { Manner Self Past Found };
 
     ghost lasting: { Self → Lasting };
 
-    /// Answers a text of at most 64 bytes, none of them a line feed: appends what was found or the fault, at most 72
-    /// bytes. At `NoMemory` the text was not heard.
-    fn answer(&mut self, text: &[u8], into: &mut LineText) -> Outcome
-        requires { array_string_len into.old ≤ 21 }
-        ensures answered { IsTextAnswered how result text.now self.old self.new into.old.bytes into.new.bytes }
-        ensures lasting { lasting self.new ≡ lasting self.old }
-        ensures len { array_string_len into.new ≤ array_string_len into.old + 72 };
+    /// Answers the text of the line with this number, of at most 64 bytes, none of them a line feed: tells in an empty
+    /// text what was found, or the fault. At `NoMemory` the text was not heard.
+    fn answer(&mut self, number: u64, text: &[u8], into: &mut LineText) -> Outcome
+        requires { into.old.bytes ≡ [] }
+        ensures answered { IsTextAnswered how result number text.now self.old self.new into.new.bytes }
+        ensures lasting { lasting self.new ≡ lasting self.old };
+
+    /// Tells in an empty text why the line with this number, on which no text stands, is refused.
+    fn refuse(&self, number: u64, fault: LineFault, into: &mut LineText)
+        requires { into.old.bytes ≡ [] }
+        ensures { (first : Past) → into.new.bytes ≡ how.way.text first number (Err fault) };
 }
 
 // Answers the held line, which has this number, in an empty text; an empty line is not answered.
@@ -55,34 +58,9 @@ pub(crate) fn answer_held<A: Answering>(
     match content_of(cutter) {
         Line::Empty => None,
         Line::Long => {
-            push_number(text, number);
-            push_fault(text, LineFault::LongLine);
-            push_end(text);
+            client.refuse(number, LineFault::LongLine, text);
             Some(Outcome::Refused)
         }
-        Line::Text(bytes) => {
-            push_number(text, number);
-            let outcome = client.answer(bytes, text);
-            push_end(text);
-            Some(outcome)
-        }
+        Line::Text(bytes) => Some(client.answer(number, bytes, text)),
     }
-}
-
-// Makes the front of the text for the line with this number, in an empty one.
-fn push_number(text: &mut LineText, number: u64)
-    requires { text.old.bytes ≡ [] }
-    ensures bytes { text.new.bytes ≡ decimal number ++ codes " " }
-    ensures len { array_string_len text.new ≤ 21 }
-{
-    push_decimal(text, number);
-    text.push(' ');
-}
-
-// Ends the text.
-fn push_end(text: &mut LineText)
-    requires { array_string_len text.old ≤ 93 }
-    ensures { text.new.bytes ≡ text.old.bytes ++ codes "\n" }
-{
-    text.push('\n');
 }

@@ -7,7 +7,6 @@ ghost use Rattle.std.specs.Io.KnownBytes.{Appends, IsAtEnd};
 ghost use Rattle.sq_devices.specs.Changes.{taken_from};
 ghost use Rattle.sq_devices.specs.Device.{IsPrefixOf};
 ghost use Rattle.sq_text.specs.declared.faults.LineFault.{LineFault as Fault};
-ghost use Rattle.sq_text.specs.Faults.{fault_text};
 ghost use Rattle.sq_lines.specs.declared.faults.Outcome.TheVariants.{Good, NoMemory, Refused};
 ghost use Rattle.sq_lines.specs.declared.faults.Unanswered.TheVariants.{Memory, Write};
 ghost use Rattle.sq_lines.specs.declared.tallies.Tally.{Tally as Counts};
@@ -55,19 +54,19 @@ pub fn wants_exactly<A: Answering>()
     ensures empty { (client : A) (line : List ℕ) → content line ≡ Empty → ¬ WantsAt A.how client line }
 {}
 
-/// What an answer to a text did: from a past that the client stood for, it appended the text of what is found by that
-/// past, or of the fault, and it was good or refused; without memory the client is as it was.
+/// What an answer to a text did: from a past that the client stood for, it told what is found by that past, or the
+/// fault, and it was good or refused; without memory the client is as it was.
 pub fn answered_exactly<A: Answering>()
-    ensures good { (text before after : List ℕ) (old new : A) (past first : A.Past) → A.how.stands_for old past
-        → IsTextAnswered A.how Good text old new before after
+    ensures good { (number : ℕ) (text bytes : List ℕ) (old new : A) (past first : A.Past)
+        → A.how.stands_for old past → IsTextAnswered A.how Good number text old new bytes
         → ((found : A.Found) × (A.how.way.answer past text ≡ Ok found)
-        × (after ≡ before ++ A.how.way.text first found)) × A.how.stands_for new (A.how.way.after past text) }
-    ensures refused { (text before after : List ℕ) (old new : A) (past first : A.Past) → A.how.stands_for old past
-        → IsTextAnswered A.how Refused text old new before after
-        → ((fault : Fault) × (A.how.way.answer past text ≡ Err fault) × (after ≡ before ++ fault_text fault))
-        × A.how.stands_for new (A.how.way.after past text) }
-    ensures without_memory { (text before after : List ℕ) (old new : A)
-        → IsTextAnswered A.how NoMemory text old new before after ↔ ((new ≡ old) × A.how.wants old text) }
+        × (bytes ≡ A.how.way.text first number (Ok found))) × A.how.stands_for new (A.how.way.after past text) }
+    ensures refused { (number : ℕ) (text bytes : List ℕ) (old new : A) (past first : A.Past)
+        → A.how.stands_for old past → IsTextAnswered A.how Refused number text old new bytes
+        → ((fault : Fault) × (A.how.way.answer past text ≡ Err fault)
+        × (bytes ≡ A.how.way.text first number (Err fault))) × A.how.stands_for new (A.how.way.after past text) }
+    ensures without_memory { (number : ℕ) (text bytes : List ℕ) (old new : A)
+        → IsTextAnswered A.how NoMemory number text old new bytes ↔ ((new ≡ old) × A.how.wants old text) }
 {}
 
 /// What a run has come to: from each past that the client stood for, it stands for the past after the lines, and this

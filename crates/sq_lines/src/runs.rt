@@ -31,6 +31,7 @@ pub(crate) struct LineRun {
     cutter: Cutter,
     number: u64,
     tally: Tally,
+    text: LineText,
     ghost counted: { tally.good + tally.refused ≤ number },
 }
 
@@ -52,6 +53,7 @@ impl LineRun {
                 good: 0,
                 refused: 0,
             },
+            text: LineText::new(),
         }
     }
 
@@ -83,16 +85,16 @@ impl LineRun {
         ensures lasting { A.lasting client.new ≡ A.lasting client.old }
     {
         self.number += 1;
-        let mut text = LineText::new();
-        match answer_held(client, &self.cutter, self.number, &mut text) {
+        self.text.clear();
+        match answer_held(client, &self.cutter, self.number, &mut self.text) {
             None => Ok(()),
             Some(Outcome::Good) => {
                 self.tally.good += 1;
-                put_text(sink, &text)
+                put_text(sink, &self.text)
             }
             Some(Outcome::Refused) => {
                 self.tally.refused += 1;
-                put_text(sink, &text)
+                put_text(sink, &self.text)
             }
             Some(Outcome::NoMemory) => Err(Unanswered::Memory),
         }

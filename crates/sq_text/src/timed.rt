@@ -23,6 +23,7 @@ const DIGITS: usize = 20;
 ///
 /// `Moment` comes where there is no space, or what stands before the first one is no moment; then the faults of the
 /// frame text and of its frame, as in `read_squitter`.
+#[inline(always)]
 pub fn read_timed(text: &[u8]) -> Result<TimedSquitter, LineFault>
     ensures { IsTimedReading text.now result }
 {
