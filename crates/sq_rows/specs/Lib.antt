@@ -1,0 +1,3 @@
+pub mod Altitudes
+pub mod Rows
+pub mod Squitters

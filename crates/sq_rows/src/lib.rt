@@ -1,0 +1,17 @@
+//! Rows of named values, as records of CSV (RFC 4180) and as objects of JSON (RFC 8259), each on a line.
+//!
+//! A row begins with the number of its line ([`push_line`]); values follow by name, and [`push_end`] ends it. Rows are
+//! made in buffers of fixed size: no call takes memory.
+#![tactic(auto)]
+
+pub mod laws;
+mod rows;
+mod squitters;
+
+pub use rows::{
+    Form, push_blank, push_end, push_hexadecimal_word, push_line, push_number, push_signed,
+    push_word,
+};
+pub use squitters::{
+    kind_name, push_airborne_feet, push_bit, push_degrees, push_fault_word, push_feet,
+};
