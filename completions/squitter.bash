@@ -13,6 +13,7 @@ _squitter() {
         *[\<\>]) COMPREPLY=(); return ;;
         --kind) names="air ground" ;;
         --parity) names="even odd" ;;
+        --format) names="lines csv json" ;;
         --address | --feet | --lat | --lon | --limit | --window) compopt +o default 2>/dev/null ;;
         *)
             case ${COMP_WORDS[1]} in
@@ -20,8 +21,8 @@ _squitter() {
                 encode) names="--kind --parity --address --feet --lat --lon --help" ;;
                 local) names="--lat --lon --help" ;;
                 pair) names="--lat --lon --help" ;;
-                check) names="--help" ;;
-                track) names="--limit --window --lat --lon --help" ;;
+                check) names="--format --help" ;;
+                track) names="--format --limit --window --lat --lon --help" ;;
             esac
             if [ "$COMP_CWORD" = 1 ]; then
                 names="show encode local pair check track help --help --version"

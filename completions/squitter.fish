@@ -29,8 +29,10 @@ complete -c squitter -n '__fish_seen_subcommand_from pair' -l lat -x -d 'The lat
 complete -c squitter -n '__fish_seen_subcommand_from pair' -l lon -x -d 'The longitude of the site in degrees'
 complete -c squitter -n '__fish_seen_subcommand_from pair' -l help -d 'Print help'
 
+complete -c squitter -n '__fish_seen_subcommand_from check' -l format -x -a 'lines csv json' -d 'How answers are told'
 complete -c squitter -n '__fish_seen_subcommand_from check' -l help -d 'Print help'
 
+complete -c squitter -n '__fish_seen_subcommand_from track' -l format -x -a 'lines csv json' -d 'How answers are told'
 complete -c squitter -n '__fish_seen_subcommand_from track' -l limit -x -d 'How many addresses are kept'
 complete -c squitter -n '__fish_seen_subcommand_from track' -l window -x -d 'How old a frame may be, in milliseconds'
 complete -c squitter -n '__fish_seen_subcommand_from track' -l lat -x -d 'The latitude of the site in degrees'

@@ -21,6 +21,9 @@ const LINES: &[u8] =
 const ANSWERS: &[u8] =
     b"1 ok 40621D air even 93000 51372\n2 ok 40621D air odd 74158 50194\n4 short frame\n5 parity 000001\n6 not DF17 18\n7 ok 406B90 other 4\n8 bad digit 28\n9 bad wrapping\n10 ok 484175 ground even 115609 116941\n";
 
+// `check` with no option.
+const AS_LINES: Request<'static> = Request::Check { format: None };
+
 // `run_check` without its clauses.
 fn check(source: &mut impl Source, sink: &mut impl Sink) -> Result<Tally, RunFault> {
     run_check(source, sink)
@@ -33,7 +36,7 @@ const ALL: Tally = Tally {
 
 #[test]
 fn checks_lines(rt: HostRuntime) {
-    let outcome = outcome_on(rt.alloc(), Request::Check, LINES);
+    let outcome = outcome_on(rt.alloc(), AS_LINES, LINES);
     assert!(rt; outcome.written.as_slice() == ANSWERS);
     assert!(rt; outcome.status == Status::Refused);
     assert!(rt; outcome.reported.is_empty());
@@ -140,7 +143,7 @@ fn assert_broken(
     text: &str,
 ) {
     let mut faults = sink_of(Vec::new(alloc));
-    let status = status_of(alloc, Request::Check, source, sink, &mut faults);
+    let status = status_of(alloc, AS_LINES, source, sink, &mut faults);
     assert!(rt; status == Status::Broken);
     assert!(rt; taken(faults).as_slice() == text.as_bytes());
 }

@@ -5,19 +5,20 @@ use crate::outcomes::{assert_outcome, assert_reported, outcome_on};
 use sq_commands::{Status, run_track};
 use sq_devices::{Sink, Source};
 use sq_lines::{RunFault, Tally};
-use sq_requests::Request;
+use sq_requests::{Request, TrackWords};
 use sq_track::Tracker;
 use std::alloc::Global;
 use std::process::Abort;
 
 // A log with a limit.
 fn with_limit(limit: Option<&str>) -> Request<'_> {
-    Request::Track {
+    Request::Track(TrackWords {
         limit,
+        format: None,
         window: None,
         lat: None,
         lon: None,
-    }
+    })
 }
 
 #[test]

@@ -33,19 +33,20 @@ fn assert_asked(rt: &impl Abort, alloc: Global, line: &str, request: &str) {
 // Each command line, and what it asks for.
 const READ: &str = r#"
 squitter show 8D40 -> Show { frame: "8D40" }
-squitter check -> Check
+squitter check -> Check { format: None }
+squitter check --format json -> Check { format: Some("json") }
 squitter encode --kind air --parity=even --address 40621D --feet 38000 --lat=-33.9 --lon 18.5 -> Encode(EncodeWords { kind: "air", parity: "even", address: "40621D", feet: Some("38000"), lat: "-33.9", lon: "18.5" })
 squitter encode --lon 4.7 --lat 52.3 --address 484175 --parity odd --kind ground -> Encode(EncodeWords { kind: "ground", parity: "odd", address: "484175", feet: None, lat: "52.3", lon: "4.7" })
 squitter local --lat=-33.9 8D40 --lon 18.5 -> Local { frame: "8D40", lat: "-33.9", lon: "18.5" }
 squitter pair 8D40 8D41 --lat 51.990 --lon 4.375 -> Pair { older: "8D40", newer: "8D41", lat: Some("51.990"), lon: Some("4.375") }
 squitter pair 8D40 8D41 --lon 4.375 -> Pair { older: "8D40", newer: "8D41", lat: None, lon: Some("4.375") }
-squitter track --window 5000 --lat 52 --limit 7 --lon=4 -> Track { limit: Some("7"), window: Some("5000"), lat: Some("52"), lon: Some("4") }
-squitter track -> Track { limit: None, window: None, lat: None, lon: None }
+squitter track --window 5000 --lat 52 --limit 7 --lon=4 -> Track(TrackWords { format: None, limit: Some("7"), window: Some("5000"), lat: Some("52"), lon: Some("4") })
+squitter track --format=csv -> Track(TrackWords { format: Some("csv"), limit: None, window: None, lat: None, lon: None })
 "#;
 
 #[test]
 fn reads_each_command(rt: HostRuntime) {
-    assert!(rt; READ.trim().lines().count() == 9);
+    assert!(rt; READ.trim().lines().count() == 10);
     for row in READ.trim().lines() {
         let (line, request) = row.split_once(" -> ").expect(&rt, "an arrow");
         assert_asked(&rt, rt.alloc(), line, request);

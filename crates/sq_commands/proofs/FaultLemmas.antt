@@ -56,7 +56,8 @@ one_encode_fault words a b =
     (one_unless _ a b faults.Feet _ _ (one_position_fault words.lat words.lon a b))))
 
 pub one_track_fault : OneTrackFault
-one_track_fault limit window lat lon a b =
-    one_unless _ a b faults.Limit _ _
+one_track_fault words a b =
+    one_unless _ a b faults.Format _ _
+    (one_unless _ a b faults.Limit _ _
     (one_unless _ a b faults.NoLimit _ _
-    (one_unless _ a b faults.Window _ _ (one_site_fault lat lon a b)))
+    (one_unless _ a b faults.Window _ _ (one_site_fault words.lat words.lon a b))))

@@ -1,18 +1,18 @@
 -- What is answered to the lines of a log.
-use Rattle.std.proofs.Common.{◌≡◌, ◌≢◌, ◌++◌, ◌∙◌, ◌-◌, Bool, MutBor, false, ◌∷◌, [], ℕ, zero, suc, List, Option, None, Some, Result, Ok, Err, IfErr, IfOk, OnErr, OnOk, length, take, ap, sym, subst, subst₂, refl, inl, inr, arith, true}
+use Rattle.std.proofs.Common.{◌≡◌, ◌≢◌, ◌++◌, ◌∙◌, ◌-◌, Bool, Bor, MutBor, false, ◌∷◌, [], ℕ, zero, suc, List, None, Some, Result, Ok, Err, IfErr, IfOk, OnErr, OnOk, length, take, ap, sym, subst, subst₂, refl, inl, inr, arith, true}
+use Rattle.std.proofs.KnownBytes.{Consumes-nil}
 use Rattle.std.proofs.lemmas.Bool.{false≢true}
 use Rattle.std.specs.Io.KnownBytes.{Appends}
 use Rattle.std.specs.List.{concat}
-use Rattle.sq_angle.specs.Decimal.{DecimalWriter}
-use Rattle.sq_devices.specs.Changes.{FinishedOnce, Sent, Taken, TookAll, TookPart, TookReported, TookSome, Unfinished, Written}
-use Rattle.sq_devices.specs.Device.{IsPrefixOf}
+use Rattle.sq_devices.specs.Changes.{FinishedOnce, Sent, Taken, TookAll, TookPart, TookReported, TookSome, Unfinished, Written, Wrote, taken_from}
+use Rattle.sq_devices.specs.declared.device.Source.{Ghosts as SourceGhosts}
+use Rattle.sq_devices.specs.Device.{IsPrefixOf, WroteFront}
 use Rattle.sq_devices.proofs.Ends.{took_reported}
 use Rattle.sq_text.specs.declared.faults.LineFault.{LineFault}
 use Rattle.sq_text.specs.declared.timed.TimedSquitter.{TimedSquitter}
-use Rattle.sq_text.specs.Faults.{fault_text}
 use Rattle.sq_text.specs.Timed.{IsTimedReading, TimedReader}
 use Rattle.sq_text.proofs.TimedReadings.{one_timed_reading}
-use Rattle.sq_lines.specs.Answers.{after_content, after_line, answer_line, answers_to, past_after, tally_of, texts_of, verdict_text}
+use Rattle.sq_lines.specs.Answers.{Answerer, Manner, after_content, after_line, answer_line, answers_to, past_after, tally_of, texts_of}
 use Rattle.sq_lines.specs.Outcomes.{HasHeardText, IsTextAnswered, outcome_of}
 use Rattle.sq_lines.specs.declared.faults.Outcome.{Outcome}
 use Rattle.sq_lines.specs.declared.faults.Outcome.TheVariants.{Good, Refused, NoMemory}
@@ -22,7 +22,6 @@ use Rattle.sq_lines.specs.Runs.{HasRun, HasTold, HasToldPart, OfLines, StoppedIn
 use Rattle.sq_lines.specs.declared.faults.RunFault.{RunFault}
 use Rattle.sq_lines.specs.declared.faults.RunFault.TheVariants.{Read}
 use Rattle.sq_lines.specs.declared.faults.RunFault.TheVariants as run_faults
-use Rattle.sq_lines.specs.declared.faults.Unanswered.{Unanswered}
 use Rattle.sq_lines.specs.declared.faults.Unanswered.TheVariants.{Write, Memory}
 use Rattle.sq_lines.specs.declared.tallies.Tally.{Tally}
 use Rattle.sq_track.specs.declared.heard.Heard.{Heard}
@@ -33,8 +32,9 @@ use Rattle.sq_track.specs.History.{History}
 use Rattle.sq_track.specs.Replies.{Settings, IsHistory, IsReply, history_after}
 use Rattle.sq_track.proofs.Histories.OneReply.{one_reply}
 use Rattle.sq_track.proofs.Histories.SomeAnswer.{some_reply}
-use Rattle.sq_commands.specs.declared.heard.HeardFrom.{HeardFrom}
-use Rattle.sq_commands.specs.Heard.{heard_text}
+use Rattle.sq_commands.specs.Formats.{Telling, Writers, told_by}
+use Rattle.sq_commands.specs.Heard.{HeardSquitter}
+use Rattle.sq_commands.proofs.Headers.{IsAfter, front_of_header, prefix_after}
 use Rattle.sq_commands.specs.declared.track.Hearing.{Hearing}
 use Rattle.sq_commands.specs.Track.{HasTracked, IsTracked, hearing_manner}
 use Rattle.sq_commands.specs.Tracking.{AreHeardLines, HasHeard, IsHeardAs, IsHeardLine, IsNewPosition, IsTracking, IsWelcome, Replier, Tracking, WroteIntoLast, answer_read, found_of, past_read, past_with, reply_by, track_manner, track_way}
@@ -89,13 +89,15 @@ unfolding is_heard
 refused_heard e = false≢true (sym (ap is_heard e))
 
 -- the same borrow of another tracker
-abbrev with_tracker : MutBor Held → Held → Hearing
-with_tracker lent tracker = record { tracker = record lent { now = tracker } }
+abbrev with_tracker : {F : Type 0} → MutBor Held → Bor F → Held → Hearing F
+with_tracker lent format tracker = record { tracker = record lent { now = tracker }; format = format }
 
-module _ (text : List ℕ) (timed : TimedSquitter) (lent : MutBor Held) (new : Held) (before after : List ℕ)
+module _ (telling : Telling HeardSquitter) {F : Type 0} (format : Bor F) (number : ℕ) (text : List ℕ)
+    (timed : TimedSquitter) (lent : MutBor Held) (new : Held) (bytes : List ℕ)
     (spells : IsTimedReading text (Ok timed)) (same : settings new ≡ settings lent.now) where
-  timed_text : (outcome : Outcome) → IsHeardAs timed outcome lent.now new before after
-      → HasHeardText hearing_manner outcome text (record { tracker = lent }) (with_tracker lent new) before after
+  timed_text : (outcome : Outcome) → IsHeardAs telling number timed outcome lent.now new bytes
+      → HasHeardText (hearing_manner telling) outcome number text (record { tracker = lent; format = format })
+      (with_tracker lent format new) bytes
   timed_text outcome heard past first st =
       let h = heard past.history st.0 in
       let one : Ok timed ≡ past.reader.read text =
@@ -104,29 +106,32 @@ module _ (text : List ℕ) (timed : TimedSquitter) (lent : MutBor Held) (new : H
       let t = timed_heard past timed outcome new h.0 is h.2 h.3 h.4 (same ∙ st.1) in
       subst (λ (read : Result TimedSquitter LineFault). (outcome ≡ outcome_of (answer_read past read))
       × IsTracking new (past_read past read)
-      × (after ≡ before ++ verdict_text (heard_text first.decimals) (answer_read past read))) one
-      (t.0, t.1, h.5 first.decimals ∙ ap (λ v. before ++ verdict_text (heard_text first.decimals) v) t.2)
+      × (bytes ≡ telling.text first.writers number (answer_read past read))) one
+      (t.0, t.1, h.5 first.writers ∙ ap (telling.text first.writers number) t.2)
 
   -- a text that spells a squitter is heard as `hear` says
-  pub text_heard : (outcome : Outcome) → (outcome ≢ NoMemory → IsHeardAs timed outcome lent.now new before after)
+  pub text_heard : (outcome : Outcome)
+      → (outcome ≢ NoMemory → IsHeardAs telling number timed outcome lent.now new bytes)
       → (outcome ≡ NoMemory → (new ≡ lent.now) × IsNewPosition lent.now timed.squitter × IsWelcome lent.now timed)
-      → IsTextAnswered hearing_manner outcome text (record { tracker = lent }) (with_tracker lent new) before after
+      → IsTextAnswered (hearing_manner telling) outcome number text (record { tracker = lent; format = format })
+      (with_tracker lent format new) bytes
   text_heard Good heard unheard = timed_text Good (heard good_heard)
   text_heard Refused heard unheard = timed_text Refused (heard refused_heard)
   text_heard NoMemory heard unheard =
-      let none = unheard refl in (ap (with_tracker lent) none.0, (timed, spells, none.1, none.2))
+      let none = unheard refl in (ap (with_tracker lent format) none.0, (timed, spells, none.1, none.2))
 
 -- a text at fault is refused, and the tracker stays
-pub text_refused : (text : List ℕ) (fault : LineFault) (client : Hearing) (before after : List ℕ)
-    → IsTimedReading text (Err fault) → after ≡ before ++ fault_text fault
-    → HasHeardText hearing_manner Refused text client client before after
-text_refused text fault client before after is grown past first st =
+pub text_refused : (telling : Telling HeardSquitter) {F : Type 0} (number : ℕ) (text : List ℕ) (fault : LineFault)
+    (client : Hearing F) (bytes : List ℕ) → IsTimedReading text (Err fault)
+    → ((writers : Writers) → bytes ≡ telling.text writers number (Err fault))
+    → HasHeardText (hearing_manner telling) Refused number text client client bytes
+text_refused telling number text fault client bytes is told past first st =
     let one : Err fault ≡ past.reader.read text =
     one_timed_reading text (Err fault) (past.reader.read text) is (past.reader.reads text) in
     let refused : Outcome = Refused in
     subst (λ (read : Result TimedSquitter LineFault). (refused ≡ outcome_of (answer_read past read))
     × IsTracking client.tracker.now (past_read past read)
-    × (after ≡ before ++ verdict_text (heard_text first.decimals) (answer_read past read))) one (refl, st, grown)
+    × (bytes ≡ telling.text first.writers number (answer_read past read))) one (refl, st, told first.writers)
 
 -- ---- many lines
 
@@ -144,7 +149,7 @@ past_heard past None = past
 past_heard past (Some read) = past_read past read
 
 -- the answer to what was read of a line
-abbrev answer_heard : Tracking → Answer TimedSquitter → Answer HeardFrom
+abbrev answer_heard : Tracking → Answer TimedSquitter → Answer HeardSquitter
 answer_heard past None = None
 answer_heard past (Some read) = Some (answer_read past read)
 
@@ -198,21 +203,22 @@ reader_heard past (Some (Ok timed)) =
     reader_with past timed (reply_by past timed)
     (past.replier.replies past.settings past.history past.accepted timed.moment timed.squitter)
 
-pub lines_heard : (past : Tracking) (lines : List (List ℕ))
-    → AreHeardLines past.reader past.settings past.history lines (answers_to track_way past lines)
-    (past_after track_way past lines).history
-lines_heard past [] = (refl, refl)
-lines_heard past (line ∷ lines) =
+pub lines_heard : (telling : Telling HeardSquitter) (past : Tracking) (lines : List (List ℕ))
+    → AreHeardLines past.reader past.settings past.history lines (answers_to (track_way telling) past lines)
+    (past_after (track_way telling) past lines).history
+lines_heard telling past [] = (refl, refl)
+lines_heard telling past (line ∷ lines) =
+    let way = track_way telling in
     let read = answer_by past.reader.read line in
-    let next = after_line track_way past line in
+    let next = after_line way past line in
     let same : next ≡ past_heard past read = after-heard past (content line) in
-    let rest = lines_heard next lines in
-    let answers = answers_to track_way next lines in
-    let end = (past_after track_way next lines).history in (
-      answer_line track_way past line,
+    let rest = lines_heard telling next lines in
+    let answers = answers_to way next lines in
+    let end = (past_after way next lines).history in (
+      answer_line way past line,
       next.history,
       answers,
-      subst₂ (λ (a : Answer HeardFrom) (h : History). IsHeardLine past.settings past.history read a h)
+      subst₂ (λ (a : Answer HeardSquitter) (h : History). IsHeardLine past.settings past.history read a h)
           (sym (answer-heard past (content line))) (sym (ap (λ (p : Tracking). p.history) same)) (line_heard past read),
       subst₂ (λ (r : TimedReader) (s : Settings). AreHeardLines r s next.history lines answers end)
           (ap (λ (p : Tracking). p.reader) same ∙ reader_heard past read)
@@ -223,148 +229,165 @@ lines_heard past (line ∷ lines) =
 -- ---- runs
 
 -- what came before the first line
-abbrev start : TimedReader → DecimalWriter → (s : Settings) (h : History) → IsHistory s h → Tracking
-start reader decimals s h accepted =
-    record { reader = reader; replier = replier; decimals = decimals; settings = s; history = h; accepted = accepted }
+abbrev start : TimedReader → Writers → (s : Settings) (h : History) → IsHistory s h → Tracking
+start reader writers s h accepted =
+    record { reader = reader; replier = replier; writers = writers; settings = s; history = h; accepted = accepted }
 
-pub heard_from : (old new : Held) (before after : Option (List ℕ)) (lines : List (List ℕ))
-    (Holding : (List (Answer HeardFrom) → List ℕ) → List (Answer HeardFrom) → Type 0)
-    → ((past : Tracking) → IsTracking old past → IsTracking new (past_after track_way past lines)
-    × Holding (texts_of (heard_text past.decimals)) (answers_to track_way past lines))
-    → HasHeard old new lines Holding
-heard_from old new before after lines Holding told reader decimals h stands =
-    let past = start reader decimals (settings old) h stands.accepted in
-    let one = told past (stands, refl) in
-    (answers_to track_way past lines, (past_after track_way past lines).history, lines_heard past lines, one.0.0, one.1)
+module _ (telling : Telling HeardSquitter) where
+  abbrev way : Answerer Tracking HeardSquitter
+  way = track_way telling
 
-answers-take : (past : Tracking) (n : ℕ) (lines : List (List ℕ))
-    → answers_to track_way past (take n lines) ≡ take n (answers_to track_way past lines)
-answers-take past zero lines = refl
-answers-take past (suc n) [] = refl
-answers-take past (suc n) (line ∷ lines) =
-    ap (λ answers. answer_line track_way past line ∷ answers) (answers-take (after_line track_way past line) n lines)
+  abbrev how : Manner Held Tracking HeardSquitter
+  how = track_manner telling
 
-answers-length : (past : Tracking) (lines : List (List ℕ)) → length (answers_to track_way past lines) ≡ length lines
-answers-length past [] = refl
-answers-length past (line ∷ lines) =
-    omega (arith, answers-length (after_line track_way past line) lines)
+  -- the texts of answers, without the header
+  abbrev texts : Writers → List (Answer HeardSquitter) → List ℕ
+  texts writers = texts_of (telling.text writers)
 
-pub told-track : (old new : Held) (before after : Option (List ℕ)) (lines : List (List ℕ))
-    → HasTold track_manner old new (Appends before after) lines
-    → HasHeard old new lines (λ text answers. Appends before after (text answers))
-told-track old new before after lines told =
-    heard_from old new before after lines (λ text answers. Appends before after (text answers)) told
+  heard_from : (old new : Held) (lines : List (List ℕ))
+      (Holding : (List (Answer HeardSquitter) → List ℕ) → List (Answer HeardSquitter) → Type 0)
+      → ((past : Tracking) → IsTracking old past → IsTracking new (past_after way past lines)
+      × Holding (told_by telling past.writers) (answers_to way past lines))
+      → HasHeard telling old new lines Holding
+  heard_from old new lines Holding told reader writers h stands =
+      let past = start reader writers (settings old) h stands.accepted in
+      let one = told past (stands, refl) in (
+        answers_to way past lines,
+        (past_after way past lines).history,
+        lines_heard telling past lines,
+        one.0.0,
+        one.1,
+      )
 
-pub told_part-track : (old new : Held) (output : Written) (lines : List (List ℕ))
-    → HasToldPart track_manner old new output.before output.after lines
-    → HasHeard old new lines (λ text answers. WroteIntoLast output text answers)
-told_part-track old new output lines told = heard_from old new output.before output.after lines
-    (λ text answers. WroteIntoLast output text answers) (λ past st.
-    let one = told past st in
-    let text : List (Answer HeardFrom) → List ℕ = texts_of (heard_text past.decimals) in
-    let answers = answers_to track_way past lines in
-    let n : length answers - 1 ≡ length lines - 1 = ap (λ k. k - 1) (answers-length past lines) in
-    let front : answers_to track_way past (but_last lines) ≡ take (length answers - 1) answers =
-    answers-take past (length lines - 1) lines ∙ ap (λ k. take k answers) (sym n) in
-    let part : List ℕ = one.1.0 in (
-      one.0,
-      (
-        part,
-        subst (λ (front : List (Answer HeardFrom)). IsPrefixOf (text front) part) front one.1.1,
-        one.1.2,
-        one.1.3,
-      ),
-    ))
+  answers-take : (past : Tracking) (n : ℕ) (lines : List (List ℕ))
+      → answers_to way past (take n lines) ≡ take n (answers_to way past lines)
+  answers-take past zero lines = refl
+  answers-take past (suc n) [] = refl
+  answers-take past (suc n) (line ∷ lines) =
+      ap (λ answers. answer_line way past line ∷ answers) (answers-take (after_line way past line) n lines)
 
-pub whole-track : (input : Taken) (output : Written) (old new : Held) (tally : Tally)
-    → TookAll input (HasRun track_manner old new (Sent output) tally)
-    → TookAll input (HasTracked tally output old new)
-whole-track input output old new tally (pieces, got, consumed, end, run) = (
-  pieces,
-  got,
-  consumed,
-  end,
-  heard_from old new output.before output.after (lines_of (concat pieces))
-      (λ text answers. Sent output (text answers) × (tally ≡ tally_of answers)) (λ past st.
-      let one = run.0 past st in (one.0, (one.1, run.1 past st))),
-)
+  answers-length : (past : Tracking) (lines : List (List ℕ)) → length (answers_to way past lines) ≡ length lines
+  answers-length past [] = refl
+  answers-length past (line ∷ lines) = omega (arith, answers-length (after_line way past line) lines)
 
-abbrev StoppedInLog : Unanswered → (old new : Held) → (before after : Option (List ℕ)) → List (List ℕ) → Type 0
-StoppedInLog fault old new before after complete = StoppedIn fault track_manner old new before after complete
+  -- a run of any lines after the header, as one of `track`
+  module _ (input : Taken) (rest output : Written) (after : IsAfter telling.header rest output) (old new : Held) where
+    told-track : (lines : List (List ℕ)) → HasTold how old new (Appends rest.before rest.after) lines
+        → HasHeard telling old new lines (λ text answers. Wrote output (text answers))
+    told-track lines told = heard_from old new lines (λ text answers. Wrote output (text answers))
+        (λ past st. let one = told past st in (one.0, after.wrote _ one.1))
 
--- what a run of any lines came to, of `track`
-pub tracked : (result : Result Tally RunFault) (input : Taken) (output : Written) (old new : Held)
-    → IfOk result (λ tally. TookAll input (HasRun track_manner old new (Sent output) tally))
-    → OnOk result (FinishedOnce output) → OnErr result (Unfinished output)
-    → IfErr result (λ fault. fault ≡ Read
-    → TookPart input (λ bytes. HasTold track_manner old new (Appends output.before output.after) (ended_lines bytes)))
-    → IfErr result (λ fault. fault ≡ run_faults.Memory
-    → TookSome input (OfLines input (StoppedInLog Memory old new output.before output.after)))
-    → IfErr result (λ fault. fault ≡ run_faults.Write → (output.failed ≡ true)
-    × TookSome input (OfLines input (StoppedInLog Write old new output.before output.after)))
-    → IsTracked result input output old new
-tracked (Ok tally) input output old new whole finished unfinished unread unanswered unwritten =
-    (finished, whole-track input output old new tally whole)
-tracked (Err Read) input output old new whole finished unfinished unread unanswered unwritten =
-    let u = unread refl in (
-      unfinished,
-      (
-        u.0,
-        (
-          u.1.0,
-          u.1.1,
-          u.1.2,
-          told-track old new output.before output.after (ended_lines u.1.0) u.1.3,
-        ),
-      ),
+    told_part-track : (lines : List (List ℕ)) → HasToldPart how old new rest.before rest.after lines
+        → HasHeard telling old new lines (λ text answers. WroteIntoLast output text answers)
+    told_part-track lines told = heard_from old new lines
+        (λ text answers. WroteIntoLast output text answers) (λ past st.
+        let one = told past st in
+        let answers = answers_to way past lines in
+        let n : length answers - 1 ≡ length lines - 1 = ap (λ k. k - 1) (answers-length past lines) in
+        let front : answers_to way past (but_last lines) ≡ take (length answers - 1) answers =
+        answers-take past (length lines - 1) lines ∙ ap (λ k. take k answers) (sym n) in
+        let part : List ℕ = one.1.0 in (
+          one.0,
+          (
+            telling.header ++ part,
+            λ some. prefix_after telling.header _ part
+                (subst (λ (front : List (Answer HeardSquitter)). IsPrefixOf (texts past.writers front) part) front
+                one.1.1),
+            prefix_after telling.header part _ one.1.2,
+            after.hides part one.1.3,
+          ),
+        ))
+
+    whole-track : (tally : Tally) → TookAll input (HasRun how old new (Sent rest) tally)
+        → TookAll input (HasTracked telling tally output old new)
+    whole-track tally (pieces, got, consumed, end, run) = (
+      pieces,
+      got,
+      consumed,
+      end,
+      heard_from old new (lines_of (concat pieces))
+          (λ text answers. Sent output (text answers) × (tally ≡ tally_of answers)) (λ past st.
+          let one = run.0 past st in (one.0, (after.sent _ one.1, run.1 past st))),
     )
-tracked (Err run_faults.Memory) input output old new whole finished unfinished unread unanswered unwritten =
-    let u = unanswered refl in (
-      unfinished,
-      (
-        u.0,
-        u.1,
-        u.2,
-        elim u.3 [
-          | inl ended ↦ inl (
-            ended.0,
-            ended.1,
-            ended.2,
-            ended.3,
-            told-track old new output.before output.after ended.0 ended.4,
-          )
-          | inr last ↦ inr (
-            last.0,
-            (
-              last.1.0,
-              last.1.1,
-              last.1.2,
-              last.1.3,
-              told-track old new output.before output.after last.1.0 last.1.4,
+
+    pub tracked : (result : Result Tally RunFault)
+        → IfOk result (λ tally. TookAll input (HasRun how old new (Sent rest) tally))
+        → OnOk result (FinishedOnce rest) → OnErr result (Unfinished rest)
+        → IfErr result (λ fault. fault ≡ Read
+        → TookPart input (λ bytes. HasTold how old new (Appends rest.before rest.after) (ended_lines bytes)))
+        → IfErr result (λ fault. fault ≡ run_faults.Memory
+        → TookSome input (OfLines input (StoppedIn Memory how old new rest.before rest.after)))
+        → IfErr result (λ fault. fault ≡ run_faults.Write → (rest.failed ≡ true)
+        × TookSome input (OfLines input (StoppedIn Write how old new rest.before rest.after)))
+        → IsTracked telling result input output old new
+    tracked (Ok tally) whole finished unfinished unread unanswered unwritten =
+        (after.finished finished, whole-track tally whole)
+    tracked (Err Read) whole finished unfinished unread unanswered unwritten =
+        let u = unread refl in (
+          after.unfinished unfinished,
+          (u.0, (u.1.0, u.1.1, u.1.2, told-track (ended_lines u.1.0) u.1.3)),
+        )
+    tracked (Err run_faults.Memory) whole finished unfinished unread unanswered unwritten =
+        let u = unanswered refl in (
+          after.unfinished unfinished,
+          (
+            u.0,
+            u.1,
+            u.2,
+            elim u.3 [
+              | inl ended ↦ inl (ended.0, ended.1, ended.2, ended.3, told-track ended.0 ended.4)
+              | inr last ↦ inr (
+                last.0,
+                (last.1.0, last.1.1, last.1.2, last.1.3, told-track last.1.0 last.1.4),
+              )
+            ],
+          ),
+        )
+    tracked (Err run_faults.Write) whole finished unfinished unread unanswered unwritten =
+        let u = unwritten refl in (
+          after.failed u.0,
+          after.unfinished unfinished,
+          (
+            u.1.0,
+            u.1.1,
+            u.1.2,
+            elim u.1.3 [
+              | inl ended ↦ inl (ended.0, ended.1, told_part-track ended.0 ended.2)
+              | inr last ↦ inr (last.0, (last.1.0, last.1.1, told_part-track last.1.0 last.1.2))
+            ],
+          ),
+        )
+
+  -- the sink failed within the header, before anything was read
+  pub header_failed : {S : Type 0} (s : SourceGhosts S) (source : S) (output : Written) (tracker : Held)
+      → output.failed ≡ true → WroteFront output.before output.after telling.header → Unfinished output
+      → IsTracked telling (Err run_faults.Write) (taken_from s source source) output tracker tracker
+  header_failed s source output tracker failed front unfinished = (
+    failed,
+    unfinished,
+    (
+      [],
+      Consumes-nil (s.to_come source),
+      omega arith,
+      inl (
+        [],
+        (ended_lines [], refl),
+        λ reader writers h stands.
+            let whole = front_of_header telling.header (texts writers []) output.before output.after front in (
+              [],
+              h,
+              (refl, refl),
+              stands,
+              (whole.0, λ some. absurd (omega (arith, some)), whole.1, whole.2),
             ),
-          )
-        ],
       ),
-    )
-tracked (Err run_faults.Write) input output old new whole finished unfinished unread unanswered unwritten =
-    let u = unwritten refl in (
-      u.0,
-      unfinished,
-      (
-        u.1.0,
-        u.1.1,
-        u.1.2,
-        elim u.1.3 [
-          | inl ended ↦ inl (ended.0, ended.1, told_part-track old new output ended.0 ended.2)
-          | inr last ↦ inr (last.0, (last.1.0, last.1.1, told_part-track old new output last.1.0 last.1.2))
-        ],
-      ),
-    )
+    ),
+  )
 
--- where the source reports its bytes, the answers are those to all of them
-pub tracked_reported : (result : Result Tally RunFault) (input : Taken) (output : Written) (old new : Held)
-    → IsTracked result input output old new
-    → IfOk result (λ tally. TookReported input (HasTracked tally output old new))
-tracked_reported (Ok tally) input output old new (finished, took) =
-    took_reported input (HasTracked tally output old new) took
-tracked_reported (Err fault) input output old new is = tt
+  -- where the source reports its bytes, the answers are those to all of them
+  pub tracked_reported : (result : Result Tally RunFault) (input : Taken) (output : Written) (old new : Held)
+      → IsTracked telling result input output old new
+      → IfOk result (λ tally. TookReported input (HasTracked telling tally output old new))
+  tracked_reported (Ok tally) input output old new (finished, took) =
+      took_reported input (HasTracked telling tally output old new) took
+  tracked_reported (Err fault) input output old new is = tt

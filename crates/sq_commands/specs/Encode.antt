@@ -5,9 +5,10 @@ use Rattle.sq_bits.specs.declared.frame.Frame.{Frame}
 use Rattle.sq_angle.specs.declared.position.Position.{Position}
 use Rattle.sq_zones.specs.declared.parity.Parity.{Parity}
 use Rattle.sq_cpr.specs.Grid.{Point}
+use Rattle.sq_message.specs.Kinds.{InAir, OnGround}
 use Rattle.sq_message.specs.Heads.{AirHeadParts, GroundHeadParts}
 use Rattle.sq_message.specs.Parts.{air_parts, ground_parts}
-use Rattle.sq_message.specs.Sending.{IsSentInAir, IsSentOnGround}
+use Rattle.sq_message.specs.Sending.{IsSent}
 use Rattle.sq_text.specs.Show.{parity_name}
 use Rattle.sq_requests.specs.Requests.{AskedEncode}
 use Rattle.sq_commands.specs.declared.arguments.ArgumentFault.{ArgumentFault}
@@ -77,13 +78,13 @@ pub record IsGroundHead (address : ℕ) (head : GroundHeadParts) : Type 0 where
 abbrev pub IsAirFrame : (address altitude : ℕ) → Parity → Position → Frame → Type 0
 IsAirFrame address altitude parity position frame =
     (head : AirHeadParts) × IsAirHead address altitude head
-    × ((point : Point) × IsSentInAir head parity position point frame)
+    × ((point : Point) × IsSent InAir head parity position point frame)
 
 -- the frame that is sent on the ground
 abbrev pub IsGroundFrame : (address : ℕ) → Parity → Position → Frame → Type 0
 IsGroundFrame address parity position frame =
     (head : GroundHeadParts) × IsGroundHead address head
-    × ((point : Point) × IsSentOnGround head parity position point frame)
+    × ((point : Point) × IsSent OnGround head parity position point frame)
 
 -- the frame that is sent of a kind
 abbrev pub IsFrameOf : Kind → EncodeValues → Frame → Type 0

@@ -2,13 +2,14 @@
 use Rattle.std.specs.Prelude.{◌++◌, ℕ, List, Result, MatchResult, codes}
 use Rattle.sq_angle.specs.Faults.{angle_fault_text}
 use Rattle.sq_commands.specs.declared.arguments.ArgumentFault.{ArgumentFault}
-use Rattle.sq_commands.specs.declared.arguments.ArgumentFault.TheVariants.{Kind, Parity, Address, Feet, Limit, NoLimit, Window, Site, Lat, Lon}
+use Rattle.sq_commands.specs.declared.arguments.ArgumentFault.TheVariants.{Format, Kind, Parity, Address, Feet, Limit, NoLimit, Window, Site, Lat, Lon}
 use Rattle.sq_commands.specs.declared.status.Status.{Status}
 use Rattle.sq_commands.specs.declared.status.Status.TheVariants.{Misused}
 use Rattle.sq_commands.specs.Outputs.{Outputs, IsReport}
 
 -- what is reported of an argument
 abbrev pub argument_text : ArgumentFault → List ℕ
+argument_text Format = codes "bad format"
 argument_text Kind = codes "bad kind"
 argument_text Parity = codes "bad parity"
 argument_text Address = codes "bad address"

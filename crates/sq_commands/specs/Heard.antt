@@ -1,12 +1,30 @@
--- The text of what was heard.
-use Rattle.std.specs.Prelude.{ℕ, ◌++◌, List, codes, decimal}
+-- How `track` tells what was heard.
+use Rattle.std.specs.Prelude.{ℕ, ◌++◌, List, Result, Ok, Err, codes, decimal}
 use Rattle.sq_angle.specs.Decimal.{DecimalWriter}
+use Rattle.sq_angle.specs.Fraction.{Fraction}
 use Rattle.sq_message.specs.declared.place.Place.{Place}
+use Rattle.sq_message.specs.Parts.{squitter_parts}
 use Rattle.sq_message.specs.Places.{place_latitude, place_longitude}
+use Rattle.sq_text.specs.declared.faults.LineFault.{LineFault}
+use Rattle.sq_text.specs.declared.timed.TimedSquitter.{TimedSquitter}
 use Rattle.sq_text.specs.Digits.{hexadecimal}
+use Rattle.sq_text.specs.Faults.{fault_text}
 use Rattle.sq_track.specs.declared.heard.Heard.{Heard}
 use Rattle.sq_track.specs.declared.heard.Heard.TheVariants.{Fix, Followed, Waiting, Split, Far, NoSite, NotPosition}
-use Rattle.sq_commands.specs.declared.heard.HeardFrom.{HeardFrom}
+use Rattle.sq_rows.specs.declared.rows.Form.{Form}
+use Rattle.sq_rows.specs.declared.rows.Form.TheVariants as forms
+use Rattle.sq_rows.specs.Rows.{Cell, Blank, Number, Word, cell, header_text, line_number, row_end}
+use Rattle.sq_rows.specs.Squitters.{address_cell, feet_of, kind_name}
+use Rattle.sq_commands.specs.declared.formats.Format.{Format}
+use Rattle.sq_commands.specs.declared.formats.Format.TheVariants.{Lines, Csv, Json}
+use Rattle.sq_commands.specs.Formats.{Telling, Writers, in_lines}
+
+-- a squitter with its moment, and what was heard of its address
+pub record HeardSquitter : Type 0 where
+  pub timed : TimedSquitter
+  pub heard : Heard
+
+-- ---- as a line
 
 -- both coordinates of a place with seven decimals
 abbrev pub place_words : DecimalWriter → Place → List ℕ
@@ -24,5 +42,90 @@ heard_words decimals address Far = codes "far " ++ address
 heard_words decimals address NoSite = codes "no site " ++ address
 heard_words decimals address NotPosition = codes "no position " ++ address
 
-abbrev pub heard_text : DecimalWriter → HeardFrom → List ℕ
-heard_text decimals from = heard_words decimals (hexadecimal 6 from.address) from.heard
+-- what was heard of a squitter, in words
+abbrev pub heard_text : DecimalWriter → HeardSquitter → List ℕ
+heard_text decimals from =
+    heard_words decimals (hexadecimal 6 (squitter_parts from.timed.squitter).address) from.heard
+
+-- ---- as a row
+
+-- the columns of `track` after the line's number
+pub record TrackRow : Type 0 where
+  pub moment : Cell
+  pub answer : Cell
+  pub address : Cell
+  pub kind : Cell
+  pub lat : Cell
+  pub lon : Cell
+  pub feet : Cell
+
+-- the answer in a word or two
+abbrev pub answer_word : Heard → List ℕ
+answer_word (Fix place) = codes "fix"
+answer_word (Followed place) = codes "followed"
+answer_word Waiting = codes "waiting"
+answer_word (Split even odd) = codes "split"
+answer_word Far = codes "far"
+answer_word NoSite = codes "no site"
+answer_word NotPosition = codes "no position"
+
+-- a coordinate of the place that was heard, where there is one
+abbrev pub coordinate : DecimalWriter → (Place → Fraction) → Heard → Cell
+coordinate decimals of (Fix place) = Number (decimals.write (of place))
+coordinate decimals of (Followed place) = Number (decimals.write (of place))
+coordinate decimals of Waiting = Blank
+coordinate decimals of (Split even odd) = Blank
+coordinate decimals of Far = Blank
+coordinate decimals of NoSite = Blank
+coordinate decimals of NotPosition = Blank
+
+-- the row of a squitter that was heard, or of a line that was refused
+abbrev pub heard_row : Writers → Result HeardSquitter LineFault → TrackRow
+heard_row writers (Ok from) = record {
+  moment = Number (decimal from.timed.moment);
+  answer = Word (answer_word from.heard);
+  address = address_cell from.timed.squitter;
+  kind = Word (kind_name (squitter_parts from.timed.squitter).me);
+  lat = coordinate writers.decimals place_latitude from.heard;
+  lon = coordinate writers.decimals place_longitude from.heard;
+  feet = feet_of writers.altitudes (squitter_parts from.timed.squitter).me;
+}
+heard_row writers (Err fault) = record {
+  moment = Blank;
+  answer = Word (fault_text fault);
+  address = Blank;
+  kind = Blank;
+  lat = Blank;
+  lon = Blank;
+  feet = Blank;
+}
+
+-- the text of a row
+abbrev pub track_row_text : Form → ℕ → TrackRow → List ℕ
+track_row_text form number row =
+    line_number form number ++ cell form (codes "moment") row.moment ++ cell form (codes "answer") row.answer
+    ++ cell form (codes "address") row.address ++ cell form (codes "kind") row.kind
+    ++ (cell form (codes "lat") row.lat ++ cell form (codes "lon") row.lon) ++ cell form (codes "feet") row.feet
+    ++ row_end form
+
+-- the names of the columns, as CSV has them
+abbrev pub track_columns : List ℕ
+track_columns = codes "line,moment,answer,address,kind,lat,lon,feet\n"
+
+-- a row an answer
+abbrev pub heard_rows : Form → Telling HeardSquitter
+heard_rows form = record {
+  header = header_text form track_columns;
+  text = λ writers number verdict. track_row_text form number (heard_row writers verdict);
+}
+
+-- ---- in each format
+
+-- an answer a line
+abbrev pub heard_lines : Telling HeardSquitter
+heard_lines = in_lines (λ writers. heard_text writers.decimals)
+
+abbrev pub heard_telling : Format → Telling HeardSquitter
+heard_telling Lines = heard_lines
+heard_telling Csv = heard_rows forms.Csv
+heard_telling Json = heard_rows forms.Json

@@ -1,6 +1,6 @@
 -- What the laws say.
 use Rattle.std.specs.Prelude.{◌≡◌, ℕ, List, Option}
-use Rattle.sq_requests.specs.Requests.{AskedEncode}
+use Rattle.sq_requests.specs.Requests.{AskedEncode, AskedTrack}
 use Rattle.sq_commands.specs.declared.arguments.ArgumentFault.{ArgumentFault}
 use Rattle.sq_commands.specs.Arguments.{IsPositionFault, IsSiteFault}
 use Rattle.sq_commands.specs.Encode.{IsEncodeFault}
@@ -21,5 +21,4 @@ OneEncodeFault = (words : AskedEncode) (a b : ArgumentFault) → IsEncodeFault w
 
 -- the arguments of `track` have one first fault
 abbrev pub OneTrackFault : Type 0
-OneTrackFault = (limit window lat lon : Option (List ℕ)) (a b : ArgumentFault) → IsTrackFault limit window lat lon a
-    → IsTrackFault limit window lat lon b → a ≡ b
+OneTrackFault = (words : AskedTrack) (a b : ArgumentFault) → IsTrackFault words a → IsTrackFault words b → a ≡ b

@@ -7,6 +7,8 @@ pub mod Show
 pub mod Encode
 pub mod Local
 pub mod Pair
+pub mod Formats
+pub mod Squitters
 pub mod Check
 pub mod Heard
 pub mod Tracking

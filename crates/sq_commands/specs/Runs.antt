@@ -20,5 +20,5 @@ IsRun (Show frame) status e = WithNoInput e (IsShowRun frame status)
 IsRun (Encode words) status e = WithNoInput e (IsEncodeRun words status)
 IsRun (Local frame lat lon) status e = WithNoInput e (IsLocalRun frame lat lon status)
 IsRun (Pair older newer lat lon) status e = WithNoInput e (IsPairRun older newer lat lon status)
-IsRun Check status e = IsCheckRun status e
-IsRun (Track limit window lat lon) status e = IsTrackRun limit window lat lon status e
+IsRun (Check format) status e = IsCheckRun format status e
+IsRun (Track words) status e = IsTrackRun words status e

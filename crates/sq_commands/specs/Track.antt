@@ -9,25 +9,28 @@ use Rattle.sq_lines.specs.Runs.{OfLines, with_next}
 use Rattle.sq_lines.specs.declared.faults.RunFault.{RunFault}
 use Rattle.sq_lines.specs.declared.faults.RunFault.TheVariants.{Read, Write, Memory}
 use Rattle.sq_lines.specs.declared.tallies.Tally.{Tally}
+use Rattle.sq_requests.specs.Requests.{AskedTrack}
 use Rattle.sq_track.specs.Held.{Held, StandsFor, made_with, settings}
 use Rattle.sq_commands.specs.declared.arguments.ArgumentFault.{ArgumentFault}
 use Rattle.sq_commands.specs.declared.arguments.ArgumentFault.TheVariants as faults
 use Rattle.sq_commands.specs.declared.arguments.TrackOptions.{TrackOptions}
+use Rattle.sq_commands.specs.declared.formats.Format.{Format}
 use Rattle.sq_commands.specs.declared.status.Status.{Status}
 use Rattle.sq_commands.specs.declared.status.Status.TheVariants.{Broken}
 use Rattle.sq_commands.specs.Arguments.{IsFaultUnless, IsSiteFault, IsSiteWords}
 use Rattle.sq_commands.specs.Check.{status_of}
 use Rattle.sq_commands.specs.Faults.{IsMisuse}
 use Rattle.sq_commands.specs.Outputs.{Effects, Reported, broken_text}
-use Rattle.sq_commands.specs.declared.heard.HeardFrom.{HeardFrom}
 use Rattle.sq_commands.specs.declared.track.Hearing.{Hearing}
+use Rattle.sq_commands.specs.Formats.{IsFormatWord, Telling}
+use Rattle.sq_commands.specs.Heard.{HeardSquitter, heard_telling}
 use Rattle.sq_commands.specs.Tracking.{HasHeard, Tracking, WroteIntoLast, track_manner}
 
 -- ---- a run over a log
 
 -- the output is that of the lines, whole
-abbrev pub HasAnswered : Written → (old new : Held) → List (List ℕ) → Type 0
-HasAnswered output old new lines = HasHeard old new lines (λ text answers. Wrote output (text answers))
+abbrev pub HasAnswered : Telling HeardSquitter → Written → (old new : Held) → List (List ℕ) → Type 0
+HasAnswered telling output old new lines = HasHeard telling old new lines (λ text answers. Wrote output (text answers))
 
 -- these lines have been heard, and they are the first of the lines that were read
 abbrev pub SomeOf : (List (List ℕ) → Type 0) → List (List ℕ) → Type 0
@@ -39,31 +42,34 @@ BeforeOneOf OfNext Heard complete =
     (lines : List (List ℕ)) × (next : List ℕ) × IsPrefixOf (with_next lines next) complete × OfNext next × Heard lines
 
 -- the lines of these bytes were heard, answered and counted, and the output finished after that
-abbrev pub HasTracked : Tally → Written → (old new : Held) → List ℕ → Type 0
-HasTracked tally output old new bytes =
-    HasHeard old new (lines_of bytes) (λ text answers. Sent output (text answers) × (tally ≡ tally_of answers))
+abbrev pub HasTracked : Telling HeardSquitter → Tally → Written → (old new : Held) → List ℕ → Type 0
+HasTracked telling tally output old new bytes =
+    HasHeard telling old new (lines_of bytes) (λ text answers. Sent output (text answers) × (tally ≡ tally_of answers))
 
--- what a run over an input came to, for a tracker as it was and as it is
-abbrev pub IsTracked : Result Tally RunFault → Taken → Written → (old new : Held) → Type 0
+-- what a run over an input came to, whose answers are told in this way, for a tracker as it was and as it is
+abbrev pub IsTracked : Telling HeardSquitter → Result Tally RunFault → Taken → Written → (old new : Held) → Type 0
 -- the bytes up to the end of the input were taken, their lines were heard, answered and counted, and the output was
 -- finished
-IsTracked (Ok tally) input output old new = FinishedOnce output × TookAll input (HasTracked tally output old new)
+IsTracked telling (Ok tally) input output old new =
+    FinishedOnce output × TookAll input (HasTracked telling tally output old new)
 -- where the source failed, the lines that were read whole were heard and answered
-IsTracked (Err Read) input output old new =
-    Unfinished output × TookPart input (λ bytes. HasAnswered output old new (ended_lines bytes))
+IsTracked telling (Err Read) input output old new =
+    Unfinished output × TookPart input (λ bytes. HasAnswered telling output old new (ended_lines bytes))
 -- where there was no memory for a line, the tracker may want some for it, and those before it were heard and answered
-IsTracked (Err Memory) input output old new = Unfinished output
-    × TookSome input (OfLines input (BeforeOneOf (WantsAt track_manner new) (HasAnswered output old new)))
+IsTracked telling (Err Memory) input output old new = Unfinished output
+    × TookSome input (OfLines input (BeforeOneOf (WantsAt (track_manner telling) new)
+    (HasAnswered telling output old new)))
 -- where the sink failed, some lines were heard, and all their answers written but for the end of the last one's
-IsTracked (Err Write) input output old new = (output.failed ≡ true) × Unfinished output × TookSome input (OfLines input
-    (SomeOf (λ lines. HasHeard old new lines (λ text answers. WroteIntoLast output text answers))))
+IsTracked telling (Err Write) input output old new =
+    (output.failed ≡ true) × Unfinished output × TookSome input (OfLines input
+    (SomeOf (λ lines. HasHeard telling old new lines (λ text answers. WroteIntoLast output text answers))))
 
 -- how `track` answers texts, by the tracker that it borrows
-abbrev pub hearing_manner : Manner Hearing Tracking HeardFrom
-hearing_manner = record {
-  stands_for = λ client. track_manner.stands_for client.tracker.now;
-  way = track_manner.way;
-  wants = λ client. track_manner.wants client.tracker.now;
+abbrev pub hearing_manner : {F : Type 0} → Telling HeardSquitter → Manner (Hearing F) Tracking HeardSquitter
+hearing_manner telling = let how = track_manner telling in record {
+  stands_for = λ client. how.stands_for client.tracker.now;
+  way = how.way;
+  wants = λ client. how.wants client.tracker.now;
 }
 
 -- ---- the arguments
@@ -79,23 +85,24 @@ IsWindow None window = window ≡ 10000
 IsWindow (Some word) window = IsDecimalText word window
 
 -- the words spell these options
-pub record IsTrackOptions (limit window lat lon : Option (List ℕ)) (options : TrackOptions) : Type 0 where
-  pub limit_is : IsLimit limit options.limit
+pub record IsTrackOptions (words : AskedTrack) (options : TrackOptions) : Type 0 where
+  pub format_is : IsFormatWord words.format options.format
+  pub limit_is : IsLimit words.limit options.limit
   pub some : 1 ≤ options.limit
-  pub window_is : IsWindow window options.window
-  pub site_is : IsSiteWords lat lon options.site
+  pub window_is : IsWindow words.window options.window
+  pub site_is : IsSiteWords words.lat words.lon options.site
 
 -- what is wrong with the arguments, in the order in which they are looked at
-abbrev pub IsTrackFault : (limit window lat lon : Option (List ℕ)) → ArgumentFault → Type 0
-IsTrackFault limit window lat lon fault =
-    IsFaultUnless ((n : ℕ) × IsLimit limit n) fault faults.Limit
-    (IsFaultUnless ((n : ℕ) × IsLimit limit n × (1 ≤ n)) fault faults.NoLimit
-    (IsFaultUnless ((n : ℕ) × IsWindow window n) fault faults.Window
-    (IsSiteFault lat lon fault)))
+abbrev pub IsTrackFault : AskedTrack → ArgumentFault → Type 0
+IsTrackFault words fault =
+    IsFaultUnless ((format : Format) × IsFormatWord words.format format) fault faults.Format
+    (IsFaultUnless ((n : ℕ) × IsLimit words.limit n) fault faults.Limit
+    (IsFaultUnless ((n : ℕ) × IsLimit words.limit n × (1 ≤ n)) fault faults.NoLimit
+    (IsFaultUnless ((n : ℕ) × IsWindow words.window n) fault faults.Window
+    (IsSiteFault words.lat words.lon fault))))
 
-abbrev pub IsTrackReading : (limit window lat lon : Option (List ℕ)) → Result TrackOptions ArgumentFault → Type 0
-IsTrackReading limit window lat lon reading =
-    MatchResult reading (IsTrackOptions limit window lat lon) (IsTrackFault limit window lat lon)
+abbrev pub IsTrackReading : AskedTrack → Result TrackOptions ArgumentFault → Type 0
+IsTrackReading words reading = MatchResult reading (IsTrackOptions words) (IsTrackFault words)
 
 -- ---- the command
 
@@ -104,13 +111,14 @@ IsTrackReading limit window lat lon reading =
 abbrev pub IsLogRun : TrackOptions → Status → Effects → Type 0
 IsLogRun options status e = (old : Held) × (new : Held) × StandsFor old []
     × (settings old ≡ made_with options.limit options.window options.site)
-    × ((answer : Result Tally RunFault) × IsTracked answer e.input e.outputs.output old new
+    × ((answer : Result Tally RunFault)
+    × IsTracked (heard_telling options.format) answer e.input e.outputs.output old new
     × MatchResult answer (λ tally. (status ≡ status_of tally) × WroteNothing e.outputs.reports)
     (λ fault. (status ≡ Broken) × Reported e.outputs (broken_text fault)))
 
 -- the log is heard with the options that the words spell; where they are at fault the input is left as it was
-abbrev pub IsTrackRun : (limit window lat lon : Option (List ℕ)) → Status → Effects → Type 0
-IsTrackRun limit window lat lon status e =
-    ((options : TrackOptions) × IsTrackOptions limit window lat lon options × IsLogRun options status e)
+abbrev pub IsTrackRun : AskedTrack → Status → Effects → Type 0
+IsTrackRun words status e =
+    ((options : TrackOptions) × IsTrackOptions words options × IsLogRun options status e)
     ⊎ (TookNothing e.input
-    × ((fault : ArgumentFault) × IsTrackFault limit window lat lon fault × IsMisuse fault status e.outputs))
+    × ((fault : ArgumentFault) × IsTrackFault words fault × IsMisuse fault status e.outputs))

@@ -1,6 +1,5 @@
 -- What is answered to the lines of a log, each by the squitters that were heard before it.
-use Rattle.std.specs.Prelude.{◌≡◌, ◌≢◌, ◌==◌, ◌++◌, ℕ, List, [], ◌∷◌, find, length, take, ◌-◌, None, Some, Result, Ok, Err}
-use Rattle.sq_angle.specs.Decimal.{DecimalWriter}
+use Rattle.std.specs.Prelude.{◌≡◌, ◌≢◌, ◌≤◌, ◌==◌, ℕ, List, [], ◌∷◌, find, length, take, ◌-◌, None, Some, Result, Ok, Err}
 use Rattle.sq_devices.specs.Changes.{Written}
 use Rattle.sq_devices.specs.Device.{AppendsOrHides, IsPrefixOf}
 use Rattle.sq_message.specs.declared.squitter.Squitter.{Squitter}
@@ -11,7 +10,7 @@ use Rattle.sq_text.specs.declared.faults.LineFault.TheVariants as line_faults
 use Rattle.sq_text.specs.declared.timed.TimedSquitter.{TimedSquitter}
 use Rattle.sq_text.specs.Timed.{IsTimedText, TimedReader}
 use Rattle.sq_lines.specs.Content.{Answer, answer_by}
-use Rattle.sq_lines.specs.Answers.{Answerer, Manner, texts_of, verdict_text}
+use Rattle.sq_lines.specs.Answers.{Answerer, Manner}
 use Rattle.sq_lines.specs.Outcomes.{outcome_of}
 use Rattle.sq_lines.specs.declared.faults.Outcome.{Outcome}
 use Rattle.sq_track.specs.declared.heard.Heard.{Heard}
@@ -20,19 +19,19 @@ use Rattle.sq_track.specs.declared.heard.TrackFault.TheVariants.{Memory, MomentB
 use Rattle.sq_track.specs.Held.{Held, StandsFor, present_of, settings}
 use Rattle.sq_track.specs.History.{History}
 use Rattle.sq_track.specs.Replies.{Settings, IsAcceptable, IsHistory, IsReply, history_after}
-use Rattle.sq_commands.specs.declared.heard.HeardFrom.{HeardFrom}
-use Rattle.sq_commands.specs.Heard.{heard_text}
+use Rattle.sq_commands.specs.Formats.{Telling, Writers, told_by}
+use Rattle.sq_commands.specs.Heard.{HeardSquitter}
 
 -- ---- by the history
 
 -- what is found of a squitter by the tracker's reply: what was heard of its address, or why it is refused
-abbrev pub found_of : TimedSquitter → Result Heard TrackFault → Result HeardFrom LineFault
-found_of timed (Ok heard) = Ok (record { address = (squitter_parts timed.squitter).address; heard = heard })
+abbrev pub found_of : TimedSquitter → Result Heard TrackFault → Result HeardSquitter LineFault
+found_of timed (Ok heard) = Ok (record { timed = timed; heard = heard })
 found_of timed (Err (MomentBack last)) = Err (line_faults.MomentBack last)
 found_of timed (Err fault) = Err line_faults.Full
 
 -- the answer to what was read of a line, and the history after it: a line that is empty or at fault changes nothing
-abbrev pub IsHeardLine : Settings → History → Answer TimedSquitter → Answer HeardFrom → History → Type 0
+abbrev pub IsHeardLine : Settings → History → Answer TimedSquitter → Answer HeardSquitter → History → Type 0
 IsHeardLine s h None answer next = (answer ≡ None) × (next ≡ h)
 IsHeardLine s h (Some (Err fault)) answer next = (answer ≡ Some (Err fault)) × (next ≡ h)
 IsHeardLine s h (Some (Ok timed)) answer next = (reply : Result Heard TrackFault)
@@ -40,24 +39,28 @@ IsHeardLine s h (Some (Ok timed)) answer next = (reply : Result Heard TrackFault
     × (answer ≡ Some (found_of timed reply)) × (next ≡ history_after h timed.moment timed.squitter reply)
 
 -- the answers to these lines, each by the history before it, and the history after all of them
-abbrev pub AreHeardLines : TimedReader → Settings → History → List (List ℕ) → List (Answer HeardFrom) → History → Type 0
+abbrev pub AreHeardLines : TimedReader → Settings → History → List (List ℕ) → List (Answer HeardSquitter) → History
+    → Type 0
 AreHeardLines reader s h [] answers next = (answers ≡ []) × (next ≡ h)
 AreHeardLines reader s h (line ∷ lines) answers next =
-    (first : Answer HeardFrom) × (then_on : History) × (rest : List (Answer HeardFrom))
+    (first : Answer HeardSquitter) × (then_on : History) × (rest : List (Answer HeardSquitter))
     × IsHeardLine s h (answer_by reader.read line) first then_on
     × AreHeardLines reader s then_on lines rest next × (answers ≡ first ∷ rest)
 
 -- what a tracker has heard of these lines: from each history that it stood for it stands for the one after them, and of
--- the answers, spelled in this way, this holds
-abbrev pub HasHeard : (old new : Held) → List (List ℕ)
-    → ((List (Answer HeardFrom) → List ℕ) → List (Answer HeardFrom) → Type 0) → Type 0
-HasHeard old new lines Holding = (reader : TimedReader) (decimals : DecimalWriter) (h : History) → StandsFor old h
-    → (answers : List (Answer HeardFrom)) × (next : History) × AreHeardLines reader (settings old) h lines answers next
-    × StandsFor new next × Holding (texts_of (heard_text decimals)) answers
+-- the answers, told in this way, this holds
+abbrev pub HasHeard : Telling HeardSquitter → (old new : Held) → List (List ℕ)
+    → ((List (Answer HeardSquitter) → List ℕ) → List (Answer HeardSquitter) → Type 0) → Type 0
+HasHeard telling old new lines Holding = (reader : TimedReader) (writers : Writers) (h : History) → StandsFor old h
+    → (answers : List (Answer HeardSquitter)) × (next : History)
+    × AreHeardLines reader (settings old) h lines answers next
+    × StandsFor new next × Holding (told_by telling writers) answers
 
--- the text was written up to some place in the last answer's, or the sink no longer reports its bytes
-abbrev pub WroteIntoLast : Written → (List (Answer HeardFrom) → List ℕ) → List (Answer HeardFrom) → Type 0
-WroteIntoLast output text answers = (part : List ℕ) × IsPrefixOf (text (take (length answers - 1) answers)) part
+-- the text was written up to some place in the last answer's, or, where there is no answer, in the header; or the sink
+-- no longer reports its bytes
+abbrev pub WroteIntoLast : Written → (List (Answer HeardSquitter) → List ℕ) → List (Answer HeardSquitter) → Type 0
+WroteIntoLast output text answers =
+    (part : List ℕ) × (1 ≤ length answers → IsPrefixOf (text (take (length answers - 1) answers)) part)
     × IsPrefixOf part (text answers) × AppendsOrHides output.before output.after part
 
 -- ---- as a function of what came before
@@ -70,11 +73,11 @@ pub record Replier : Type 0 where
   pub remembers : (s : Settings) (h : History) (accepted : IsHistory s h) (m : ℕ) (q : Squitter)
       → reply s h accepted m q ≢ Err Memory
 
--- what came before a line: a history, and how lines are read, calls replied to and fractions written
+-- what came before a line: a history, and how lines are read, calls replied to and numbers written
 pub record Tracking : Type 0 where
   pub reader : TimedReader
   pub replier : Replier
-  pub decimals : DecimalWriter
+  pub writers : Writers
   pub settings : Settings
   pub history : History
   pub accepted : IsHistory settings history
@@ -82,7 +85,7 @@ pub record Tracking : Type 0 where
 abbrev pub reply_by : Tracking → TimedSquitter → Result Heard TrackFault
 reply_by past timed = past.replier.reply past.settings past.history past.accepted timed.moment timed.squitter
 
-abbrev pub answer_read : Tracking → Result TimedSquitter LineFault → Result HeardFrom LineFault
+abbrev pub answer_read : Tracking → Result TimedSquitter LineFault → Result HeardSquitter LineFault
 answer_read past (Err fault) = Err fault
 answer_read past (Ok timed) = found_of timed (reply_by past timed)
 
@@ -102,12 +105,12 @@ past_read past (Ok timed) =
     past_with past timed (reply_by past timed)
     (past.replier.replies past.settings past.history past.accepted timed.moment timed.squitter)
 
--- how `track` answers texts
-abbrev pub track_way : Answerer Tracking HeardFrom
-track_way = record {
+-- how `track` answers texts, and tells its answers in this way
+abbrev pub track_way : Telling HeardSquitter → Answerer Tracking HeardSquitter
+track_way telling = record {
   answer = λ past text. answer_read past (past.reader.read text);
   after = λ past text. past_read past (past.reader.read text);
-  text = λ past. heard_text past.decimals;
+  text = λ past. telling.text past.writers;
 }
 
 -- the tracker stands for the history, under the settings
@@ -130,14 +133,16 @@ WantsMemory t text =
     (timed : TimedSquitter) × IsTimedText text timed × IsNewPosition t timed.squitter × IsWelcome t timed
 
 -- how `track` answers texts, by its tracker
-abbrev pub track_manner : Manner Held Tracking HeardFrom
-track_manner = record { stands_for = IsTracking; way = track_way; wants = WantsMemory }
+abbrev pub track_manner : Telling HeardSquitter → Manner Held Tracking HeardSquitter
+track_manner telling = record { stands_for = IsTracking; way = track_way telling; wants = WantsMemory }
 
--- a squitter was heard: by each history that the tracker stood for there is a reply, and it is what was told; the
--- tracker stands for the history after it
-abbrev pub IsHeardAs : TimedSquitter → Outcome → (old new : Held) → (before after : List ℕ) → Type 0
-IsHeardAs timed outcome old new before after = (h : History) → StandsFor old h → (reply : Result Heard TrackFault)
+-- a squitter was heard on the line with this number: by each history that the tracker stood for there is a reply, and
+-- it is what was told; the tracker stands for the history after it
+abbrev pub IsHeardAs : Telling HeardSquitter → ℕ → TimedSquitter → Outcome → (old new : Held) → (bytes : List ℕ)
+    → Type 0
+IsHeardAs telling number timed outcome old new bytes =
+    (h : History) → StandsFor old h → (reply : Result Heard TrackFault)
     × IsReply (settings old) h timed.moment timed.squitter reply × (reply ≢ Err Memory)
     × (outcome ≡ outcome_of (found_of timed reply))
     × StandsFor new (history_after h timed.moment timed.squitter reply)
-    × ((decimals : DecimalWriter) → after ≡ before ++ verdict_text (heard_text decimals) (found_of timed reply))
+    × ((writers : Writers) → bytes ≡ telling.text writers number (found_of timed reply))

@@ -13,13 +13,19 @@ ghost use Rattle.sq_angle.specs.Reading.{IsReading};
 ghost use Rattle.sq_zones.specs.declared.parity.Parity.{Parity};
 ghost use Rattle.sq_text.specs.Show.{parity_name};
 ghost use Rattle.sq_commands.specs.declared.arguments.Kind.{Kind};
+ghost use Rattle.sq_requests.specs.Requests.{asked_track};
+ghost use Rattle.sq_commands.specs.Check.{IsNoFormat};
+ghost use Rattle.sq_commands.specs.declared.formats.Format.{Format};
 ghost use Rattle.sq_commands.specs.Encode.{IsAltitudeOf};
+ghost use Rattle.sq_commands.specs.Formats.{IsFormatWord, format_name};
 ghost use Rattle.sq_commands.specs.Faults.{argument_text};
 ghost use Rattle.sq_commands.specs.Arguments.{IsAddress, IsAngleFault, IsFeet, IsFeetText, IsFiveDigits, IsPositionReading, IsSiteReading, kind_name};
 ghost use Rattle.sq_commands.specs.Track.{IsLimit, IsTrackReading, IsWindow};
 
+use crate::formats::Format;
 use sq_angle::{Angle, AngleFault, Position};
 use sq_message::{Parity, field_of_feet};
+use sq_requests::TrackWords;
 use sq_text::read_decimal;
 
 /// The kinds of squitter that `encode` writes.
@@ -32,6 +38,7 @@ pub(crate) enum Kind {
 /// What the arguments of `track` say.
 #[derive(Clone, Copy, Debug)]
 pub(crate) struct TrackOptions {
+    pub(crate) format: Format,
     pub(crate) limit: u32,
     pub(crate) window: u64,
     pub(crate) site: Option<Position>,
@@ -40,6 +47,7 @@ pub(crate) struct TrackOptions {
 /// What is wrong with the arguments of a command: the first of these that applies.
 #[derive(Clone, Copy, Debug, PartialEq, Eq)]
 pub(crate) enum ArgumentFault {
+    Format,
     Kind,
     Parity,
     Address,
@@ -58,6 +66,7 @@ impl ArgumentFault {
         ensures { result.now ≡ argument_text self ++ codes "\n" }
     {
         match self {
+            ArgumentFault::Format => "bad format\n",
             ArgumentFault::Kind => "bad kind\n",
             ArgumentFault::Parity => "bad parity\n",
             ArgumentFault::Address => "bad address\n",
@@ -73,6 +82,31 @@ impl ArgumentFault {
             ArgumentFault::Lon(AngleFault::TooManyDecimals) => "lon too many decimals\n",
             ArgumentFault::Lon(AngleFault::OutOfRange) => "lon out of range\n",
         }
+    }
+}
+
+/// `lines`, `csv` or `json`; lines where none is given.
+pub(crate) fn read_format(word: Option<&str>) -> Result<Format, ArgumentFault>
+    ensures ok { IfOk result (IsFormatWord (option_copied word.entry)) }
+    ensures err { OnErr result (IsNoFormat (option_copied word.entry)) }
+    ensures fault { IfErr result (λ fault. fault ≡ ArgumentFault.Format) }
+{
+    match word {
+        None => Ok(Format::Lines),
+        Some(name) => format_named(name),
+    }
+}
+
+fn format_named(name: &str) -> Result<Format, ArgumentFault>
+    ensures ok { IfOk result (λ format. name.now ≡ format_name format) }
+    ensures err { OnErr result ((format : Format) → name.now ≢ format_name format) }
+    ensures fault { IfErr result (λ fault. fault ≡ ArgumentFault.Format) }
+{
+    match name {
+        "lines" => Ok(Format::Lines),
+        "csv" => Ok(Format::Csv),
+        "json" => Ok(Format::Json),
+        _ => Err(ArgumentFault::Format),
     }
 }
 
@@ -247,22 +281,18 @@ pub(crate) fn read_site(
 }
 
 /// The options of `track`: of those that are left out, the limit is 1000 addresses and the window 10000 milliseconds.
-pub(crate) fn read_options(
-    limit: Option<&str>,
-    window: Option<&str>,
-    lat: Option<&str>,
-    lon: Option<&str>,
-) -> Result<TrackOptions, ArgumentFault>
-    ensures { IsTrackReading (option_copied limit.entry) (option_copied window.entry)
-        (option_copied lat.entry) (option_copied lon.entry) result }
+pub(crate) fn read_options(words: &TrackWords<'_>) -> Result<TrackOptions, ArgumentFault>
+    ensures { IsTrackReading (asked_track words.now) result }
 {
-    let limit = read_limit(limit)?;
+    let format = read_format(words.format)?;
+    let limit = read_limit(words.limit)?;
     if limit == 0 {
         return Err(ArgumentFault::NoLimit);
     }
-    let window = read_window(window)?;
-    let site = read_site(lat, lon)?;
+    let window = read_window(words.window)?;
+    let site = read_site(words.lat, words.lon)?;
     Ok(TrackOptions {
+        format,
         limit,
         window,
         site,

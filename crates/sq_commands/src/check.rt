@@ -1,43 +1,53 @@
 //! The command `check`: an answer to each line that is not empty.
-ghost use Rattle.std.specs.Prelude.{◌≡◌, IfOk};
+ghost use Rattle.std.specs.Prelude.{◌≡◌, IfOk, option_copied};
 ghost use Rattle.sq_devices.specs.Changes.{TookReported, taken_from, written_on};
 ghost use Rattle.sq_message.specs.declared.squitter.Squitter.{Squitter};
-ghost use Rattle.sq_text.specs.Reading.{SquitterReader};
-ghost use Rattle.sq_commands.specs.Check.{HasChecked, IsCheckRun, IsChecked, check_manner, status_of};
+ghost use Rattle.sq_commands.specs.Check.{Checks, HasChecked, IsCheckRun, IsCheckRunIn, IsChecked, check_manner, status_of};
 ghost use Rattle.sq_commands.specs.Outputs.{effects, outputs};
+ghost use Rattle.sq_commands.specs.Squitters.{squitter_lines, squitter_telling};
 
-use crate::reports::break_off;
+use crate::arguments::read_format;
+use crate::formats::{CheckFormat, Format};
+use crate::numbered::Numbered;
+use crate::reports::{break_off, report_argument};
+use crate::rows::{CsvRows, JsonRows};
 use crate::status::Status;
-use sq_devices::{Sink, Source};
+use sq_devices::{Failed, Sink, Source, put_all};
 use sq_lines::{Answering, LineText, Outcome, RunFault, Tally, run_lines};
-use sq_text::{push_fault, push_summary, read_squitter};
+use sq_text::{LineFault, read_squitter};
 
 // Answers each text by itself.
 #[derive(Drop)]
-struct Checking;
+struct Checking<'a, F: CheckFormat> {
+    format: &'a F,
+}
 
-impl Answering for Checking {
-    ghost Past = { SquitterReader };
+impl<F: CheckFormat> Answering for Checking<'_, F> {
+    ghost Past = { Checks };
 
     ghost Found = { Squitter };
 
     ghost Lasting = { Unit {0} };
 
-    ghost how = { check_manner };
+    ghost how = { check_manner F.telling };
 
     ghost lasting = { λ client. tt };
 
-    fn answer(&mut self, text: &[u8], into: &mut LineText) -> Outcome {
+    fn answer(&mut self, number: u64, text: &[u8], into: &mut LineText) -> Outcome {
         match read_squitter(text) {
             Ok(squitter) => {
-                push_summary(into, &squitter);
+                self.format.tell(number, &squitter, into);
                 Outcome::Good
             }
             Err(fault) => {
-                push_fault(into, fault);
+                self.format.refuse(number, fault, into);
                 Outcome::Refused
             }
         }
+    }
+
+    fn refuse(&self, number: u64, fault: LineFault, into: &mut LineText) {
+        self.format.refuse(number, fault, into);
     }
 }
 
@@ -48,25 +58,74 @@ impl Answering for Checking {
 /// failed, after the answers to the lines that were read whole; `Write` where a put or the finish at the end did,
 /// within these answers; `Memory` never comes.
 pub fn run_check<S: Source, K: Sink>(source: &mut S, sink: &mut K) -> Result<Tally, RunFault>
-    ensures ran { IsChecked result (taken_from S.Source source.old source.new) (written_on K.Sink sink.old sink.new) }
+    ensures ran { IsChecked squitter_lines result (taken_from S.Source source.old source.new)
+        (written_on K.Sink sink.old sink.new) }
 
     // Where the source reports its bytes, the answers are those to all of them.
     ensures reported { IfOk result (λ tally. TookReported (taken_from S.Source source.old source.new)
-        (HasChecked tally (written_on K.Sink sink.old sink.new))) }
+        (HasChecked squitter_lines tally (written_on K.Sink sink.old sink.new))) }
 {
-    run_lines(source, sink, &mut Checking)
+    run_check_as(&Numbered, source, sink)
 }
 
-// Answers each line of the input.
+// Puts the header of the format, and then answers each line in it.
+fn run_check_as<S: Source, K: Sink, F: CheckFormat>(
+    format: &F,
+    source: &mut S,
+    sink: &mut K,
+) -> Result<Tally, RunFault>
+    ensures ran { IsChecked F.telling result (taken_from S.Source source.old source.new)
+        (written_on K.Sink sink.old sink.new) }
+    ensures reported { IfOk result (λ tally. TookReported (taken_from S.Source source.old source.new)
+        (HasChecked F.telling tally (written_on K.Sink sink.old sink.new))) }
+{
+    match put_all(sink, format.header().as_bytes()) {
+        Ok(()) => run_lines(source, sink, &mut Checking { format }),
+        Err(Failed) => Err(RunFault::Write),
+    }
+}
+
+fn run_check_in<S: Source, K: Sink>(
+    format: Format,
+    source: &mut S,
+    sink: &mut K,
+) -> Result<Tally, RunFault>
+    ensures { IsChecked (squitter_telling format) result (taken_from S.Source source.old source.new)
+        (written_on K.Sink sink.old sink.new) }
+{
+    match format {
+        Format::Lines => run_check_as(&Numbered, source, sink),
+        Format::Csv => run_check_as(&CsvRows, source, sink),
+        Format::Json => run_check_as(&JsonRows, source, sink),
+    }
+}
+
+// Answers each line of the input, in the format that the word names.
 pub(crate) fn check<S: Source, K: Sink, F: Sink>(
+    format: Option<&str>,
     input: &mut S,
     output: &mut K,
     faults: &mut F,
 ) -> Status
-    ensures { IsCheckRun result (effects S.Source input.old input.new
+    ensures { IsCheckRun (option_copied format.entry) result (effects S.Source input.old input.new
         (outputs K.Sink F.Sink output.old output.new faults.old faults.new)) }
 {
-    match run_check(input, output) {
+    match read_format(format) {
+        Ok(format) => check_in(format, input, output, faults),
+        Err(fault) => report_argument(fault, faults),
+    }
+}
+
+fn check_in<S: Source, K: Sink, F: Sink>(
+    format: Format,
+    input: &mut S,
+    output: &mut K,
+    faults: &mut F,
+) -> Status
+    ensures { IsCheckRunIn format result (effects S.Source input.old input.new
+        (outputs K.Sink F.Sink output.old output.new faults.old faults.new)) }
+{
+    match run_check_in(format, input, output) {
         Ok(tally) => end_of(tally),
         Err(fault) => break_off(fault, faults),
     }

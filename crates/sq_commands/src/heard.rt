@@ -1,35 +1,29 @@
-//! What was heard of an address, and its text.
+//! The text of what was heard of an address.
 ghost use Rattle.std.specs.Prelude.{◌≡◌, ◌+◌, ◌≤◌, ◌++◌, codes, decimal, length};
 ghost use Rattle.arrayvec.specs.ArrayString.{array_string_len};
 ghost use Rattle.sq_angle.specs.Decimal.{DecimalWriter};
 ghost use Rattle.sq_text.specs.Digits.{hexadecimal};
-ghost use Rattle.sq_commands.specs.Heard.{heard_text, place_words};
+ghost use Rattle.sq_commands.specs.Heard.{heard_words, place_words};
 
 use sq_lines::LineText;
 use sq_text::{push_decimal, push_decimals, push_six_places};
 use sq_track::{Heard, Place};
 
-/// What was heard of an address.
-#[derive(Clone, Copy, Debug)]
-pub(crate) struct HeardFrom {
-    pub(crate) address: u32,
-    pub(crate) heard: Heard,
-}
-
-// Appends what `track` says of it, at most 72 bytes.
-pub(crate) fn push_heard(text: &mut LineText, from: &HeardFrom)
+/// Appends what `track` says of an address, at most 72 bytes.
+pub(crate) fn push_heard(text: &mut LineText, address: u32, heard: &Heard)
     requires { array_string_len text.old ≤ 21 }
-    ensures bytes { (decimals : DecimalWriter) → text.new.bytes ≡ text.old.bytes ++ heard_text decimals from.now }
+    ensures bytes { (decimals : DecimalWriter) → text.new.bytes
+        ≡ text.old.bytes ++ heard_words decimals (hexadecimal 6 address) heard.now }
     ensures len { array_string_len text.new ≤ array_string_len text.old + 72 }
 {
-    match &from.heard {
-        Heard::Fix(place) => push_place(text, "fix ", from.address, place),
-        Heard::Followed(place) => push_place(text, "followed ", from.address, place),
-        Heard::Waiting => push_address(text, "waiting ", from.address),
-        Heard::Split(even, odd) => push_split(text, from.address, *even, *odd),
-        Heard::Far => push_address(text, "far ", from.address),
-        Heard::NoSite => push_address(text, "no site ", from.address),
-        Heard::NotPosition => push_address(text, "no position ", from.address),
+    match heard {
+        Heard::Fix(place) => push_place(text, "fix ", address, place),
+        Heard::Followed(place) => push_place(text, "followed ", address, place),
+        Heard::Waiting => push_address(text, "waiting ", address),
+        Heard::Split(even, odd) => push_split(text, address, *even, *odd),
+        Heard::Far => push_address(text, "far ", address),
+        Heard::NoSite => push_address(text, "no site ", address),
+        Heard::NotPosition => push_address(text, "no position ", address),
     }
 }
 

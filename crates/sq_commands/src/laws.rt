@@ -1,5 +1,25 @@
 //! Laws over the definitions that the contracts name.
+ghost use Rattle.std.specs.Prelude.{◌≡◌, ◌≢◌, ◌↔◌, [], List, ℕ, None, Ok, Option, Some, codes};
+ghost use Rattle.sq_devices.specs.Changes.{WroteNothing, taken_from, written_on};
+ghost use Rattle.sq_lines.specs.declared.tallies.Tally.{Tally};
+ghost use Rattle.sq_track.specs.Held.{Held, StandsFor, made_with, settings};
+ghost use Rattle.sq_commands.specs.declared.arguments.TrackOptions.{TrackOptions as Options};
+ghost use Rattle.sq_commands.specs.declared.formats.Format.{Format};
+ghost use Rattle.sq_commands.specs.declared.status.Status.TheVariants.{Good, Misused};
+ghost use Rattle.sq_commands.specs.Check.{IsCheckRunIn, IsChecked, IsNoFormat};
+ghost use Rattle.sq_commands.specs.Formats.{IsFormatWord, Writers};
+ghost use Rattle.sq_commands.specs.Heard.{heard_telling};
 ghost use Rattle.sq_commands.specs.Laws.{OneEncodeFault, OnePositionFault, OneSiteFault, OneTrackFault};
+ghost use Rattle.sq_commands.specs.Outputs.{effects, outputs};
+ghost use Rattle.sq_commands.specs.Squitters.{squitter_telling};
+ghost use Rattle.sq_commands.specs.Track.{IsLogRun, IsTracked};
+
+use sq_devices::{Sink, Source};
+
+/// There is a way to write places and altitudes.
+pub fn some_writers()
+    ensures { Writers }
+{}
 
 /// Arguments have one first fault: of a position, of a site, of `encode` and of `track`, whatever is wrong besides.
 pub fn one_argument_fault()
@@ -7,4 +27,31 @@ pub fn one_argument_fault()
     ensures site { OneSiteFault }
     ensures encode { OneEncodeFault }
     ensures track { OneTrackFault }
+{}
+
+/// A word names one format at most, and one that names none is no format's.
+pub fn one_format()
+    ensures one { (word : Option (List ℕ)) (a b : Format) → IsFormatWord word a → IsFormatWord word b → a ≡ b }
+    ensures none { (word : Option (List ℕ)) → IsNoFormat word
+        ↔ (word ≢ None) × (word ≢ Some (codes "lines")) × (word ≢ Some (codes "csv")) × (word ≢ Some (codes "json")) }
+{}
+
+/// How a run of `check` or of `track` ended says what it did: good where no line was refused, and the answers to all
+/// were written; never as a misuse.
+pub fn ended_exactly<S: Source, K: Sink, F: Sink>()
+    ensures good { (format : Format) (from to : S) (old new : K) (before after : F)
+        → IsCheckRunIn format Good (effects S.Source from to (outputs K.Sink F.Sink old new before after))
+        → (tally : Tally) × (tally.refused ≡ 0)
+        × IsChecked (squitter_telling format) (Ok tally) (taken_from S.Source from to) (written_on K.Sink old new)
+        × WroteNothing (written_on F.Sink before after) }
+    ensures misused { (format : Format) (from to : S) (old new : K) (before after : F)
+        → ¬ IsCheckRunIn format Misused (effects S.Source from to (outputs K.Sink F.Sink old new before after)) }
+    ensures good_log { (options : Options) (from to : S) (old new : K) (before after : F)
+        → IsLogRun options Good (effects S.Source from to (outputs K.Sink F.Sink old new before after))
+        → (tally : Tally) × (tally.refused ≡ 0) × ((first last : Held) × StandsFor first []
+        × (settings first ≡ made_with options.limit options.window options.site)
+        × IsTracked (heard_telling options.format) (Ok tally) (taken_from S.Source from to) (written_on K.Sink old new)
+        first last) × WroteNothing (written_on F.Sink before after) }
+    ensures misused_log { (options : Options) (from to : S) (old new : K) (before after : F)
+        → ¬ IsLogRun options Misused (effects S.Source from to (outputs K.Sink F.Sink old new before after)) }
 {}

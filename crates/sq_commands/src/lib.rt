@@ -6,16 +6,21 @@
 
 mod arguments;
 mod check;
+mod check_rows;
 mod encode;
+mod formats;
 mod heard;
 pub mod laws;
 mod local;
+mod numbered;
 mod pair;
 mod program;
 mod reports;
+mod rows;
 mod show;
 mod status;
 mod track;
+mod track_rows;
 
 pub use check::run_check;
 pub use program::answer;

@@ -38,12 +38,7 @@ pub fn answer<S: Source, K: Sink, F: Sink>(
             lat,
             lon,
         } => pair(older, newer, lat, lon, output, faults),
-        Request::Check => check(input, output, faults),
-        Request::Track {
-            limit,
-            window,
-            lat,
-            lon,
-        } => track(alloc, limit, window, lat, lon, input, output, faults),
+        Request::Check { format } => check(format, input, output, faults),
+        Request::Track(words) => track(alloc, &words, input, output, faults),
     }
 }

@@ -1,85 +1,87 @@
 //! The command `track`: each line of a log is heard by a tracker.
 ghost use base.Fml.{GName};
-ghost use Rattle.std.specs.Prelude.{◌≡◌, ◌≢◌, ◌+◌, ◌≤◌, ◌++◌, IfOk, option_copied};
-ghost use Rattle.arrayvec.specs.ArrayString.{array_string_len};
+ghost use Rattle.std.specs.Prelude.{◌≡◌, ◌≢◌, ◌≤◌, [], IfOk};
 ghost use Rattle.sq_devices.specs.Changes.{TookReported, taken_from, written_on};
+ghost use Rattle.sq_requests.specs.Requests.{asked_track};
+ghost use Rattle.sq_commands.specs.Heard.{HeardSquitter, heard_lines, heard_telling};
 ghost use Rattle.sq_commands.specs.Outputs.{effects, outputs};
-ghost use Rattle.sq_commands.specs.declared.heard.HeardFrom.{HeardFrom};
 ghost use Rattle.sq_commands.specs.Track.{HasTracked, IsLogRun, IsTrackRun, IsTracked, hearing_manner};
 ghost use Rattle.sq_commands.specs.Tracking.{IsHeardAs, IsNewPosition, IsWelcome, Tracking};
-ghost use Rattle.sq_text.specs.Faults.{fault_text};
 ghost use Rattle.sq_track.specs.Held.{settings};
 
 use crate::arguments::{TrackOptions, read_options};
 use crate::check::end_of;
-use crate::heard::{HeardFrom, push_heard};
+use crate::formats::{Format, TrackFormat};
+use crate::numbered::Numbered;
 use crate::reports::{break_off, report_argument};
+use crate::rows::{CsvRows, JsonRows};
 use crate::status::Status;
-use sq_devices::{Sink, Source};
+use sq_devices::{Failed, Sink, Source, put_all};
 use sq_lines::{Answering, LineText, Outcome, RunFault, Tally, run_lines};
-use sq_text::{LineFault, TimedSquitter, push_fault, read_timed};
+use sq_requests::TrackWords;
+use sq_text::{LineFault, TimedSquitter, read_timed};
 use sq_track::{TrackFault, Tracker};
 use std::alloc::Global;
 
 // Hears each text.
 #[derive(Drop)]
-struct Hearing<'a> {
+struct Hearing<'a, F: TrackFormat> {
     tracker: &'a mut Tracker,
+    format: &'a F,
 }
 
-impl Answering for Hearing<'_> {
+impl<F: TrackFormat> Answering for Hearing<'_, F> {
     ghost Past = { Tracking };
 
-    ghost Found = { HeardFrom };
+    ghost Found = { HeardSquitter };
 
     ghost Lasting = { GName };
 
-    ghost how = { hearing_manner };
+    ghost how = { hearing_manner F.telling };
 
     ghost lasting = { λ client. client.tracker.ghost_name };
 
-    fn answer(&mut self, text: &[u8], into: &mut LineText) -> Outcome {
+    fn answer(&mut self, number: u64, text: &[u8], into: &mut LineText) -> Outcome {
         match read_timed(text) {
-            Ok(timed) => hear(self.tracker, &timed, into),
+            Ok(timed) => hear(self.tracker, self.format, number, &timed, into),
             Err(fault) => {
-                push_fault(into, fault);
+                self.format.refuse(number, fault, into);
                 Outcome::Refused
             }
         }
     }
-}
 
-// Hears a squitter, and appends what was heard of it or why it is refused.
-fn hear(tracker: &mut Tracker, timed: &TimedSquitter, into: &mut LineText) -> Outcome
-    requires { array_string_len into.old ≤ 21 }
-    ensures heard { result ≢ Outcome.NoMemory
-        → IsHeardAs timed.now result tracker.old tracker.new into.old.bytes into.new.bytes }
-    ensures settings { settings tracker.new ≡ settings tracker.old }
-    ensures unheard { result ≡ Outcome.NoMemory → (tracker.new ≡ tracker.old)
-        × IsNewPosition tracker.old timed.now.squitter × IsWelcome tracker.old timed.now }
-    ensures len { array_string_len into.new ≤ array_string_len into.old + 72 }
-{
-    match tracker.hear(timed.moment, &timed.squitter) {
-        Ok(heard) => {
-            let address = timed.squitter.address();
-            push_heard(into, &HeardFrom { address, heard });
-            Outcome::Good
-        }
-        Err(TrackFault::MomentBack(last)) => refuse(into, LineFault::MomentBack(last)),
-        Err(TrackFault::Full) => refuse(into, LineFault::Full),
-        Err(TrackFault::Memory) => Outcome::NoMemory,
-        Err(TrackFault::NoLimit) => unreachable!(),
+    fn refuse(&self, number: u64, fault: LineFault, into: &mut LineText) {
+        self.format.refuse(number, fault, into);
     }
 }
 
-// Appends why a squitter is refused.
-fn refuse(into: &mut LineText, fault: LineFault) -> Outcome
-    requires { array_string_len into.old ≤ 21 }
-    ensures refused { result ≡ Outcome.Refused }
-    ensures bytes { into.new.bytes ≡ into.old.bytes ++ fault_text fault }
-    ensures len { array_string_len into.new ≤ array_string_len into.old + 72 }
+// Hears a squitter, and tells what was heard of it or why it is refused.
+fn hear<F: TrackFormat>(
+    tracker: &mut Tracker,
+    format: &F,
+    number: u64,
+    timed: &TimedSquitter,
+    into: &mut LineText,
+) -> Outcome
+    requires { into.old.bytes ≡ [] }
+    ensures heard { result ≢ Outcome.NoMemory
+        → IsHeardAs F.telling number timed.now result tracker.old tracker.new into.new.bytes }
+    ensures settings { settings tracker.new ≡ settings tracker.old }
+    ensures unheard { result ≡ Outcome.NoMemory → (tracker.new ≡ tracker.old)
+        × IsNewPosition tracker.old timed.now.squitter × IsWelcome tracker.old timed.now }
 {
-    push_fault(into, fault);
+    let fault = match tracker.hear(timed.moment, &timed.squitter) {
+        Ok(heard) => {
+            format.tell(number, timed, &heard, into);
+            return Outcome::Good;
+        }
+        Err(TrackFault::MomentBack(last)) => LineFault::MomentBack(last),
+        Err(TrackFault::Full) => LineFault::Full,
+        Err(TrackFault::Memory) => return Outcome::NoMemory,
+        Err(TrackFault::NoLimit) => unreachable!(),
+    };
+    format.refuse(number, fault, into);
     Outcome::Refused
 }
 
@@ -94,32 +96,62 @@ pub fn run_track<S: Source, K: Sink>(
     sink: &mut K,
     tracker: &mut Tracker,
 ) -> Result<Tally, RunFault>
-    ensures ran { IsTracked result (taken_from S.Source source.old source.new)
+    ensures ran { IsTracked heard_lines result (taken_from S.Source source.old source.new)
         (written_on K.Sink sink.old sink.new) tracker.old tracker.new }
 
     // Where the source reports its bytes, the answers are those to all of them.
     ensures reported { IfOk result (λ tally. TookReported (taken_from S.Source source.old source.new)
-        (HasTracked tally (written_on K.Sink sink.old sink.new) tracker.old tracker.new)) }
+        (HasTracked heard_lines tally (written_on K.Sink sink.old sink.new) tracker.old tracker.new)) }
 {
-    run_lines(source, sink, &mut Hearing { tracker })
+    run_track_as(&Numbered, source, sink, tracker)
+}
+
+// Puts the header of the format, and then hears each line and answers it in the format.
+fn run_track_as<S: Source, K: Sink, F: TrackFormat>(
+    format: &F,
+    source: &mut S,
+    sink: &mut K,
+    tracker: &mut Tracker,
+) -> Result<Tally, RunFault>
+    ensures ran { IsTracked F.telling result (taken_from S.Source source.old source.new)
+        (written_on K.Sink sink.old sink.new) tracker.old tracker.new }
+    ensures reported { IfOk result (λ tally. TookReported (taken_from S.Source source.old source.new)
+        (HasTracked F.telling tally (written_on K.Sink sink.old sink.new) tracker.old tracker.new)) }
+{
+    match put_all(sink, format.header().as_bytes()) {
+        Ok(()) => run_lines(source, sink, &mut Hearing { tracker, format }),
+        Err(Failed) => Err(RunFault::Write),
+    }
+}
+
+fn run_track_in<S: Source, K: Sink>(
+    format: Format,
+    source: &mut S,
+    sink: &mut K,
+    tracker: &mut Tracker,
+) -> Result<Tally, RunFault>
+    ensures { IsTracked (heard_telling format) result (taken_from S.Source source.old source.new)
+        (written_on K.Sink sink.old sink.new) tracker.old tracker.new }
+{
+    match format {
+        Format::Lines => run_track_as(&Numbered, source, sink, tracker),
+        Format::Csv => run_track_as(&CsvRows, source, sink, tracker),
+        Format::Json => run_track_as(&JsonRows, source, sink, tracker),
+    }
 }
 
 // Hears the log that is the input.
 pub(crate) fn track<S: Source, K: Sink, F: Sink>(
     alloc: Global,
-    limit: Option<&str>,
-    window: Option<&str>,
-    lat: Option<&str>,
-    lon: Option<&str>,
+    words: &TrackWords<'_>,
     input: &mut S,
     output: &mut K,
     faults: &mut F,
 ) -> Status
-    ensures { IsTrackRun (option_copied limit.entry) (option_copied window.entry)
-        (option_copied lat.entry) (option_copied lon.entry) result
+    ensures { IsTrackRun (asked_track words.now) result
         (effects S.Source input.old input.new (outputs K.Sink F.Sink output.old output.new faults.old faults.new)) }
 {
-    match read_options(limit, window, lat, lon) {
+    match read_options(words) {
         Ok(options) => track_with(alloc, &options, input, output, faults),
         Err(fault) => report_argument(fault, faults),
     }
@@ -138,7 +170,7 @@ fn track_with<S: Source, K: Sink, F: Sink>(
         (effects S.Source input.old input.new (outputs K.Sink F.Sink output.old output.new faults.old faults.new)) }
 {
     match Tracker::new(alloc, options.limit, options.window, options.site) {
-        Ok(mut tracker) => match run_track(input, output, &mut tracker) {
+        Ok(mut tracker) => match run_track_in(options.format, input, output, &mut tracker) {
             Ok(tally) => end_of(tally),
             Err(fault) => break_off(fault, faults),
         },

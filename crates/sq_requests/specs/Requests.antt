@@ -2,6 +2,7 @@
 use Rattle.std.specs.Prelude.{ℕ, List, Option, codes, option_copied}
 use Rattle.sq_requests.specs.declared.EncodeWords.{EncodeWords}
 use Rattle.sq_requests.specs.declared.Request.{Request}
+use Rattle.sq_requests.specs.declared.TrackWords.{TrackWords}
 use Rattle.sq_requests.specs.declared.Request.TheVariants as variants
 
 abbrev pub Text : Type 0
@@ -16,14 +17,22 @@ pub record AskedEncode : Type 0 where
   pub lat : Text
   pub lon : Text
 
+-- the values of `track`
+pub record AskedTrack : Type 0 where
+  pub format : Option Text
+  pub limit : Option Text
+  pub window : Option Text
+  pub lat : Option Text
+  pub lon : Option Text
+
 -- a command with its values, each as it was written; an option that was left out is `None`
 pub data Asked : Type 0 where
   Show : (frame : Text) → Asked
   Encode : AskedEncode → Asked
   Local : (frame lat lon : Text) → Asked
   Pair : (older newer : Text) (lat lon : Option Text) → Asked
-  Check : Asked
-  Track : (limit window lat lon : Option Text) → Asked
+  Check : (format : Option Text) → Asked
+  Track : AskedTrack → Asked
 
 -- the word that names the command
 abbrev pub command_name : Asked → Text
@@ -31,8 +40,8 @@ command_name (Show frame) = codes "show"
 command_name (Encode e) = codes "encode"
 command_name (Local frame lat lon) = codes "local"
 command_name (Pair older newer lat lon) = codes "pair"
-command_name Check = codes "check"
-command_name (Track limit window lat lon) = codes "track"
+command_name (Check format) = codes "check"
+command_name (Track words) = codes "track"
 
 -- the values that a request of `encode` holds
 abbrev pub asked_encode : EncodeWords → AskedEncode
@@ -45,6 +54,16 @@ asked_encode e = record {
   lon = e.lon.now;
 }
 
+-- the values that a request of `track` holds
+abbrev pub asked_track : TrackWords → AskedTrack
+asked_track words = record {
+  format = option_copied words.format;
+  limit = option_copied words.limit;
+  window = option_copied words.window;
+  lat = option_copied words.lat;
+  lon = option_copied words.lon;
+}
+
 -- what a request stands for
 abbrev pub asked_by : Request → Asked
 asked_by (variants.Show frame) = Show frame.now
@@ -52,7 +71,5 @@ asked_by (variants.Encode e) = Encode (asked_encode e)
 asked_by (variants.Local frame lat lon) = Local frame.now lat.now lon.now
 asked_by (variants.Pair older newer lat lon) =
     Pair older.now newer.now (option_copied lat) (option_copied lon)
-asked_by variants.Check = Check
-asked_by (variants.Track limit window lat lon) =
-    Track (option_copied limit) (option_copied window) (option_copied lat)
-    (option_copied lon)
+asked_by (variants.Check format) = Check (option_copied format)
+asked_by (variants.Track words) = Track (asked_track words)

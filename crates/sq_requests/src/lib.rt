@@ -18,6 +18,21 @@ pub struct EncodeWords<'a> {
     pub lon: &'a str,
 }
 
+/// The values of the command `track`, each as it was written, where it is given.
+#[derive(Clone, Copy, Debug)]
+pub struct TrackWords<'a> {
+    /// `--format`
+    pub format: Option<&'a str>,
+    /// `--limit`
+    pub limit: Option<&'a str>,
+    /// `--window`
+    pub window: Option<&'a str>,
+    /// `--lat`
+    pub lat: Option<&'a str>,
+    /// `--lon`
+    pub lon: Option<&'a str>,
+}
+
 /// A command with its values, each as it was written. An option that is left out is `None`.
 #[derive(Clone, Copy, Debug)]
 pub enum Request<'a> {
@@ -40,13 +55,10 @@ pub enum Request<'a> {
         lat: Option<&'a str>,
         lon: Option<&'a str>,
     },
-    /// `check`
-    Check,
-    /// `track [--limit N] [--window MS] [--lat LAT] [--lon LON]`
-    Track {
-        limit: Option<&'a str>,
-        window: Option<&'a str>,
-        lat: Option<&'a str>,
-        lon: Option<&'a str>,
+    /// `check [--format FORMAT]`
+    Check {
+        format: Option<&'a str>,
     },
+    /// `track [--format FORMAT] [--limit N] [--window MS] [--lat LAT] [--lon LON]`
+    Track(TrackWords<'a>),
 }

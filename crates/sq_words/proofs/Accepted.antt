@@ -290,16 +290,26 @@ squitter-serves = (
           ((g.0 refl).1, (g.1.0 refl).1, refl, refl),
         )),
         (
-          serve _ (inl refl, tt) (λ rows g. (Check, refl, tt)),
+          serve _ (inr (refl, refl, refl), (inl refl, tt))
+              (λ rows g. (Check (first_of (codes "format") rows), refl, refl)),
           (
             serve _ (
               inr (refl, refl, refl),
-              (inr (refl, refl, refl), (inr (refl, refl, refl), (inr (refl, refl, refl), (inl refl, tt)))),
+              (
+                inr (refl, refl, refl),
+                (inr (refl, refl, refl), (inr (refl, refl, refl), (inr (refl, refl, refl), (inl refl, tt)))),
+              ),
             )
                 (λ rows g. (
-                  Track (first_of (codes "limit") rows) (first_of (codes "window") rows) (first_of (codes "lat") rows) (first_of (codes "lon") rows),
+                  Track (record {
+                    format = first_of (codes "format") rows;
+                    limit = first_of (codes "limit") rows;
+                    window = first_of (codes "window") rows;
+                    lat = first_of (codes "lat") rows;
+                    lon = first_of (codes "lon") rows;
+                  }),
                   refl,
-                  (refl, refl, refl, refl),
+                  (refl, refl, refl, refl, refl),
                 )),
             (λ name words answers quiet none. absurd (help_is_quiet name answers quiet), tt),
           ),

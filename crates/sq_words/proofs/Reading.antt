@@ -39,8 +39,8 @@ show_values rows (Show frame) is = (frame, is.values)
 show_values rows (Encode e) is = other _ _ is.named refl
 show_values rows (Local frame lat lon) is = other _ _ is.named refl
 show_values rows (Pair older newer lat lon) is = other _ _ is.named refl
-show_values rows Check is = other _ _ is.named refl
-show_values rows (Track limit window lat lon) is = other _ _ is.named refl
+show_values rows (Check format) is = other _ _ is.named refl
+show_values rows (Track words) is = other _ _ is.named refl
 
 pub encode_values : (rows : List Row) (asked : Asked) → IsAsked (codes "encode") rows asked
     → (e : AskedEncode) × HasValues rows (Encode e)
@@ -48,8 +48,8 @@ encode_values rows (Show frame) is = other _ _ is.named refl
 encode_values rows (Encode e) is = (e, is.values)
 encode_values rows (Local frame lat lon) is = other _ _ is.named refl
 encode_values rows (Pair older newer lat lon) is = other _ _ is.named refl
-encode_values rows Check is = other _ _ is.named refl
-encode_values rows (Track limit window lat lon) is = other _ _ is.named refl
+encode_values rows (Check format) is = other _ _ is.named refl
+encode_values rows (Track words) is = other _ _ is.named refl
 
 -- the values of `local`
 pub record LocalValues (rows : List Row) : Type 0 where
@@ -63,8 +63,8 @@ local_values rows (Show frame) is = other _ _ is.named refl
 local_values rows (Encode e) is = other _ _ is.named refl
 local_values rows (Local f a o) is = record { frame = f; lat = a; lon = o; values = is.values }
 local_values rows (Pair older newer lat lon) is = other _ _ is.named refl
-local_values rows Check is = other _ _ is.named refl
-local_values rows (Track limit window lat lon) is = other _ _ is.named refl
+local_values rows (Check format) is = other _ _ is.named refl
+local_values rows (Track words) is = other _ _ is.named refl
 
 -- the values of `pair`
 pub record PairValues (rows : List Row) : Type 0 where
@@ -79,8 +79,8 @@ pair_values rows (Show frame) is = other _ _ is.named refl
 pair_values rows (Encode e) is = other _ _ is.named refl
 pair_values rows (Local frame lat lon) is = other _ _ is.named refl
 pair_values rows (Pair o n a b) is = record { older = o; newer = n; lat = a; lon = b; values = is.values }
-pair_values rows Check is = other _ _ is.named refl
-pair_values rows (Track limit window lat lon) is = other _ _ is.named refl
+pair_values rows (Check format) is = other _ _ is.named refl
+pair_values rows (Track words) is = other _ _ is.named refl
 
 -- ---- what clap answers
 

@@ -42,14 +42,14 @@ abbrev pub pair : App
 pair = with_rule (with_rule (with_rule (with_rule (new_app (codes "pair")) (argument (codes "OLDER")))
     (argument (codes "NEWER"))) (option (codes "lat"))) (option (codes "lon"))
 
--- check
+-- check [--format FORMAT]
 abbrev pub check : App
-check = new_app (codes "check")
+check = with_rule (new_app (codes "check")) (option (codes "format"))
 
--- track [--limit N] [--window MS] [--lat LAT] [--lon LON]
+-- track [--format FORMAT] [--limit N] [--window MS] [--lat LAT] [--lon LON]
 abbrev pub track : App
-track = with_rule (with_rule (with_rule (with_rule (new_app (codes "track")) (option (codes "limit")))
-    (option (codes "window")))
+track = with_rule (with_rule (with_rule (with_rule (with_rule (new_app (codes "track")) (option (codes "format")))
+    (option (codes "limit"))) (option (codes "window")))
     (option (codes "lat"))) (option (codes "lon"))
 
 -- the program with no command yet, one being required; it has a version, for which `--version` asks

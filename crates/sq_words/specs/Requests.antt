@@ -1,5 +1,5 @@
 -- What the words of a command line ask for.
-use Rattle.std.specs.Prelude.{◌≡◌, ◌≢◌, ⊤, List, [], Some, codes}
+use Rattle.std.specs.Prelude.{◌≡◌, ◌≢◌, List, [], Some, codes}
 use Rattle.clap.specs.Words.{Text, Row, fault_of, first_of, subcommand_of}
 use Rattle.sq_requests.specs.Requests.{Asked, Show, Encode, Local, Pair, Check, Track, command_name}
 use Rattle.sq_words.specs.CommandLine.{squitter}
@@ -16,10 +16,10 @@ HasValues rows (Local frame lat lon) = (first_of (codes "FRAME") rows ≡ Some f
 HasValues rows (Pair older newer lat lon) =
     (first_of (codes "OLDER") rows ≡ Some older) × (first_of (codes "NEWER") rows ≡ Some newer)
     × (first_of (codes "lat") rows ≡ lat) × (first_of (codes "lon") rows ≡ lon)
-HasValues rows Check = ⊤
-HasValues rows (Track limit window lat lon) =
-    (first_of (codes "limit") rows ≡ limit) × (first_of (codes "window") rows ≡ window)
-    × (first_of (codes "lat") rows ≡ lat) × (first_of (codes "lon") rows ≡ lon)
+HasValues rows (Check format) = first_of (codes "format") rows ≡ format
+HasValues rows (Track words) =
+    (first_of (codes "format") rows ≡ words.format) × (first_of (codes "limit") rows ≡ words.limit) × (first_of (codes "window") rows ≡ words.window)
+    × (first_of (codes "lat") rows ≡ words.lat) × (first_of (codes "lon") rows ≡ words.lon)
 
 -- the command of this name, with these values, is what was asked
 pub record IsAsked (name : Text) (rows : List Row) (asked : Asked) : Type 0 where

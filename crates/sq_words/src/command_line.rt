@@ -2,7 +2,7 @@
 ghost use Rattle.std.specs.Prelude.{◌≡◌, IfOk, false};
 ghost use Rattle.clap.specs.Words.{app_of, new_app, new_rule, rule_of};
 ghost use Rattle.clap.specs.declared.builder.Command.TheViews.{out-Command as fields_of};
-ghost use Rattle.sq_words.specs.CommandLine.{encode, encode_head as encode_first, frame_commands as frame_program, local, option as option_rule, pair, program as no_commands, required, show, squitter, track};
+ghost use Rattle.sq_words.specs.CommandLine.{check as check_line, encode, encode_head as encode_first, frame_commands as frame_program, local, option as option_rule, pair, program as no_commands, required, show, squitter, track};
 
 use crate::help::{self, CommandHelp};
 use clap::{Arg, Command};
@@ -14,7 +14,7 @@ pub(crate) fn squitter_command<'a>(alloc: Global) -> Result<Command<'a>, AllocEr
 {
     frame_commands(alloc)?
         .subcommand(pair_command(alloc)?)?
-        .subcommand(command(alloc, "check", help::CHECK))?
+        .subcommand(check_command(alloc)?)?
         .subcommand(track_command(alloc)?)
 }
 
@@ -87,11 +87,19 @@ fn pair_command<'a>(alloc: Global) -> Result<Command<'a>, AllocError>
         .arg(option(alloc, "lon", "DEGREES", help::SITE_LON))
 }
 
+fn check_command<'a>(alloc: Global) -> Result<Command<'a>, AllocError>
+    ensures app { IfOk result (λ c. app_of c ≡ check_line) }
+    ensures own { IfOk result (λ c. (fields_of c).has_globals ≡ false) }
+{
+    command(alloc, "check", help::CHECK).arg(option(alloc, "format", "FORMAT", help::FORMAT))
+}
+
 fn track_command<'a>(alloc: Global) -> Result<Command<'a>, AllocError>
     ensures app { IfOk result (λ c. app_of c ≡ track) }
     ensures own { IfOk result (λ c. (fields_of c).has_globals ≡ false) }
 {
     command(alloc, "track", help::TRACK)
+        .arg(option(alloc, "format", "FORMAT", help::FORMAT))?
         .arg(option(alloc, "limit", "N", help::LIMIT))?
         .arg(option(alloc, "window", "MS", help::WINDOW))?
         .arg(option(alloc, "lat", "DEGREES", help::SITE_LAT))?

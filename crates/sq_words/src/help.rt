@@ -76,25 +76,30 @@ Examples:
 
 pub(crate) const CHECK: CommandHelp = CommandHelp {
     about: "Reads frames from standard input, one a line, and answers each with a line",
-    usage: "squitter check < FRAMES",
+    usage: "squitter check [--format=<lines|csv|json>] < FRAMES",
     after: "An answer is the number of the line, and then 'ok' with the address, the kind, the parity and the
 code of a good frame, or why the line is refused. Each line is answered before more input is awaited.
+As csv and json an answer has every field of the frame; 'squitter show' tells what each is.
 
 Examples:
   squitter check < frames.txt
+  squitter check --format=json < frames.txt
   rtl_adsb | squitter check",
 };
 
 pub(crate) const TRACK: CommandHelp = CommandHelp {
     about: "Reads a log of frames from standard input, and answers each line with the place that it gives",
-    usage: "squitter track [--limit=<N>] [--window=<MS>] [--lat=<DEGREES> --lon=<DEGREES>] < LOG
+    usage: "squitter track [--format=<lines|csv|json>] [--limit=<N>] [--window=<MS>]
+                      [--lat=<DEGREES> --lon=<DEGREES>] < LOG
        south and west need the equals sign: --lat=-33.9 --lon=-0.45",
     after: "A line of the log is a moment in milliseconds, one space, and a frame. An answer is the number of the
 line, and then what was heard: 'fix' of a pair or 'followed' from the last fix, with the address and
-the degrees; 'waiting' for a frame of the other parity; or why there is no place.
+the degrees; 'waiting' for a frame of the other parity; or why there is no place. As csv and json it
+has the line, moment, answer, address, kind, lat, lon and feet.
 
 Examples:
   squitter track --lat=52.31 --lon=4.76 < flights.log
+  squitter track --format=csv < flights.log > flights.csv
   squitter track --window=20000 --limit=5000 < flights.log",
 };
 
@@ -133,6 +138,9 @@ Needed for aircraft on the ground alone, within 45 degrees of them";
 pub(crate) const SITE_LON: &str =
     "The site's longitude in degrees, from -180 to 180; west as --lon=-0.45.
 Give both or neither";
+
+pub(crate) const FORMAT: &str =
+    "How answers are told: lines, csv or json, an object a line [default: lines]";
 
 pub(crate) const LIMIT: &str =
     "How many addresses are kept at most, from 1 to 4294967295 [default: 1000]";

@@ -7,7 +7,7 @@ ghost use Rattle.sq_words.specs.Requests.{Asks, IsAsked, IsFaulty};
 use crate::command_line::squitter_command;
 use clap::error::ErrorKind;
 use clap::{ArgMatches, Error};
-use sq_requests::{EncodeWords, Request};
+use sq_requests::{EncodeWords, Request, TrackWords};
 use std::alloc::{AllocError, Global};
 
 /// Why no request was read.
@@ -76,7 +76,7 @@ fn request_of<'a>(name: &'a str, values: &ArgMatches<'a>) -> Option<Request<'a>>
         "encode" => encode_request(values),
         "local" => local_request(values),
         "pair" => pair_request(values),
-        "check" => Some(Request::Check),
+        "check" => Some(check_request(values)),
         "track" => Some(track_request(values)),
         _ => None,
     }
@@ -131,13 +131,22 @@ fn pair_request<'a>(values: &ArgMatches<'a>) -> Option<Request<'a>>
     })
 }
 
+fn check_request<'a>(values: &ArgMatches<'a>) -> Request<'a>
+    ensures { IsAsked (codes "check") (rows_of (found_of values.now)) (asked_by result) }
+{
+    Request::Check {
+        format: values.get_str("format"),
+    }
+}
+
 fn track_request<'a>(values: &ArgMatches<'a>) -> Request<'a>
     ensures { IsAsked (codes "track") (rows_of (found_of values.now)) (asked_by result) }
 {
-    Request::Track {
+    Request::Track(TrackWords {
+        format: values.get_str("format"),
         limit: values.get_str("limit"),
         window: values.get_str("window"),
         lat: values.get_str("lat"),
         lon: values.get_str("lon"),
-    }
+    })
 }

@@ -8,9 +8,10 @@ pub returns : goal.returns
 returns c = record {
   named = refl;
   values = (
-    value_is (found_of c.args.values.now) (codes "limit") _ c.get_str.ensures,
-    value_is (found_of c.args.values.now) (codes "window") _ c.get_str-2.ensures,
-    value_is (found_of c.args.values.now) (codes "lat") _ c.get_str-3.ensures,
-    value_is (found_of c.args.values.now) (codes "lon") _ c.get_str-4.ensures,
+    value_is (found_of c.args.values.now) (codes "format") _ c.get_str.ensures,
+    value_is (found_of c.args.values.now) (codes "limit") _ c.get_str-2.ensures,
+    value_is (found_of c.args.values.now) (codes "window") _ c.get_str-3.ensures,
+    value_is (found_of c.args.values.now) (codes "lat") _ c.get_str-4.ensures,
+    value_is (found_of c.args.values.now) (codes "lon") _ c.get_str-5.ensures,
   );
 }

@@ -1,0 +1,81 @@
+//! Answers that are told in lines: the number of a line, and what was found on it.
+ghost use Rattle.std.specs.Prelude.{◌≡◌, ◌+◌, ◌≤◌, ◌++◌, [], codes, decimal};
+ghost use Rattle.arrayvec.specs.ArrayString.{array_string_len};
+ghost use Rattle.sq_text.specs.Faults.{fault_text};
+ghost use Rattle.sq_commands.specs.Heard.{heard_lines};
+ghost use Rattle.sq_commands.specs.Squitters.{squitter_lines};
+
+use crate::formats::{CheckFormat, TrackFormat};
+use crate::heard::push_heard;
+use sq_lines::LineText;
+use sq_message::Squitter;
+use sq_text::{LineFault, TimedSquitter, push_decimal, push_fault, push_summary};
+use sq_track::Heard;
+
+/// An answer a line.
+#[derive(Clone, Copy)]
+pub(crate) struct Numbered;
+
+impl CheckFormat for Numbered {
+    ghost telling = { squitter_lines };
+
+    fn header(&self) -> &'static str {
+        ""
+    }
+
+    fn tell(&self, number: u64, squitter: &Squitter, into: &mut LineText) {
+        push_number(into, number);
+        push_summary(into, squitter);
+        push_end(into);
+    }
+
+    fn refuse(&self, number: u64, fault: LineFault, into: &mut LineText) {
+        push_refused(into, number, fault);
+    }
+}
+
+impl TrackFormat for Numbered {
+    ghost telling = { heard_lines };
+
+    fn header(&self) -> &'static str {
+        ""
+    }
+
+    fn tell(&self, number: u64, timed: &TimedSquitter, heard: &Heard, into: &mut LineText) {
+        push_number(into, number);
+        push_heard(into, timed.squitter.address(), heard);
+        push_end(into);
+    }
+
+    fn refuse(&self, number: u64, fault: LineFault, into: &mut LineText) {
+        push_refused(into, number, fault);
+    }
+}
+
+// Tells a fault.
+fn push_refused(text: &mut LineText, number: u64, fault: LineFault)
+    requires { text.old.bytes ≡ [] }
+    ensures { text.new.bytes ≡ decimal number ++ codes " " ++ fault_text fault ++ codes "\n" }
+{
+    push_number(text, number);
+    push_fault(text, fault);
+    push_end(text);
+}
+
+// Makes the front of the text for the line with this number, in an empty one.
+fn push_number(text: &mut LineText, number: u64)
+    requires { text.old.bytes ≡ [] }
+    ensures bytes { text.new.bytes ≡ decimal number ++ codes " " }
+    ensures len { array_string_len text.new ≤ 21 }
+{
+    push_decimal(text, number);
+    text.push(' ');
+}
+
+// Ends the text.
+fn push_end(text: &mut LineText)
+    requires { array_string_len text.old ≤ 93 }
+    ensures { text.new.bytes ≡ text.old.bytes ++ codes "\n" }
+{
+    text.push('\n');
+}

@@ -1,0 +1,86 @@
+//! Answers that are told in rows, of CSV or JSON.
+ghost use Rattle.std.specs.Prelude.{◌≡◌, [], Ok, Err};
+ghost use Rattle.sq_rows.specs.declared.rows.Form.TheVariants as forms;
+ghost use Rattle.sq_commands.specs.Heard.{heard_rows};
+ghost use Rattle.sq_commands.specs.Squitters.{squitter_rows};
+
+use crate::check_rows::{CHECK_COLUMNS, push_refused_frame, push_squitter};
+use crate::formats::{CheckFormat, TrackFormat};
+use crate::track_rows::{TRACK_COLUMNS, push_heard_row, push_refused_row};
+use sq_lines::LineText;
+use sq_message::Squitter;
+use sq_rows::Form;
+use sq_text::{LineFault, TimedSquitter};
+use sq_track::Heard;
+
+/// A record of CSV an answer, below a header with the names of the columns.
+#[derive(Clone, Copy)]
+pub(crate) struct CsvRows;
+
+/// An object of JSON an answer.
+#[derive(Clone, Copy)]
+pub(crate) struct JsonRows;
+
+impl CheckFormat for CsvRows {
+    ghost telling = { squitter_rows forms.Csv };
+
+    fn header(&self) -> &'static str {
+        CHECK_COLUMNS
+    }
+
+    fn tell(&self, number: u64, squitter: &Squitter, into: &mut LineText) {
+        push_squitter(into, Form::Csv, number, squitter);
+    }
+
+    fn refuse(&self, number: u64, fault: LineFault, into: &mut LineText) {
+        push_refused_frame(into, Form::Csv, number, fault);
+    }
+}
+
+impl CheckFormat for JsonRows {
+    ghost telling = { squitter_rows forms.Json };
+
+    fn header(&self) -> &'static str {
+        ""
+    }
+
+    fn tell(&self, number: u64, squitter: &Squitter, into: &mut LineText) {
+        push_squitter(into, Form::Json, number, squitter);
+    }
+
+    fn refuse(&self, number: u64, fault: LineFault, into: &mut LineText) {
+        push_refused_frame(into, Form::Json, number, fault);
+    }
+}
+
+impl TrackFormat for CsvRows {
+    ghost telling = { heard_rows forms.Csv };
+
+    fn header(&self) -> &'static str {
+        TRACK_COLUMNS
+    }
+
+    fn tell(&self, number: u64, timed: &TimedSquitter, heard: &Heard, into: &mut LineText) {
+        push_heard_row(into, Form::Csv, number, timed, heard);
+    }
+
+    fn refuse(&self, number: u64, fault: LineFault, into: &mut LineText) {
+        push_refused_row(into, Form::Csv, number, fault);
+    }
+}
+
+impl TrackFormat for JsonRows {
+    ghost telling = { heard_rows forms.Json };
+
+    fn header(&self) -> &'static str {
+        ""
+    }
+
+    fn tell(&self, number: u64, timed: &TimedSquitter, heard: &Heard, into: &mut LineText) {
+        push_heard_row(into, Form::Json, number, timed, heard);
+    }
+
+    fn refuse(&self, number: u64, fault: LineFault, into: &mut LineText) {
+        push_refused_row(into, Form::Json, number, fault);
+    }
+}

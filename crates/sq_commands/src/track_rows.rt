@@ -1,0 +1,120 @@
+//! The rows of `track`: what was heard on a line, in named columns.
+ghost use Rattle.std.specs.Prelude.{◌≡◌, ◌+◌, ◌≤◌, ◌++◌, [], Ok, Err, codes, length};
+ghost use Rattle.arrayvec.specs.ArrayString.{array_string_len};
+ghost use Rattle.sq_angle.specs.Decimal.{DecimalWriter};
+ghost use Rattle.sq_message.specs.Places.{place_latitude, place_longitude};
+ghost use Rattle.sq_rows.specs.Rows.{Blank, Number, cell};
+ghost use Rattle.sq_commands.specs.Formats.{Writers};
+ghost use Rattle.sq_commands.specs.Heard.{answer_word, coordinate, heard_row, track_columns, track_row_text};
+
+use sq_lines::LineText;
+use sq_message::Place;
+use sq_rows::{
+    Form, kind_name, push_blank, push_degrees, push_end, push_fault_word, push_feet,
+    push_hexadecimal_word, push_line, push_number, push_word,
+};
+use sq_text::{LineFault, TimedSquitter};
+use sq_track::Heard;
+
+/// The names of the columns, as CSV has them.
+pub(crate) const TRACK_COLUMNS: &str = "line,moment,answer,address,kind,lat,lon,feet\n";
+
+/// Makes the row of a squitter that was heard, in an empty text.
+pub(crate) fn push_heard_row(
+    text: &mut LineText,
+    form: Form,
+    number: u64,
+    timed: &TimedSquitter,
+    heard: &Heard,
+)
+    requires { text.old.bytes ≡ [] }
+    ensures { (writers : Writers) → text.new.bytes
+        ≡ track_row_text form number (heard_row writers (Ok (record { timed = timed.now; heard = heard.now }))) }
+{
+    let me = timed.squitter.me();
+    push_line(text, form, number);
+    push_number(text, form, "moment", timed.moment);
+    push_word(text, form, "answer", answer_word(heard));
+    push_hexadecimal_word(
+        text,
+        form,
+        "address",
+        u64::from(timed.squitter.address()),
+        6,
+    );
+    push_word(text, form, "kind", kind_name(&me));
+    push_coordinates(text, form, heard);
+    push_feet(text, form, &me);
+    push_end(text, form);
+}
+
+/// Makes the row of a line that is refused, in an empty text.
+pub(crate) fn push_refused_row(text: &mut LineText, form: Form, number: u64, fault: LineFault)
+    requires { text.old.bytes ≡ [] }
+    ensures { (writers : Writers) → text.new.bytes ≡ track_row_text form number (heard_row writers (Err fault)) }
+{
+    push_line(text, form, number);
+    push_blank(text, form, "moment");
+    push_fault_word(text, form, "answer", fault);
+    push_blank(text, form, "address");
+    push_blank(text, form, "kind");
+    push_no_coordinates(text, form);
+    push_blank(text, form, "feet");
+    push_end(text, form);
+}
+
+// The answer in a word or two.
+fn answer_word(heard: &Heard) -> &'static str
+    ensures text { result.now ≡ answer_word heard.now }
+    ensures short { length result.now ≤ 11 }
+{
+    match heard {
+        Heard::Fix(_) => "fix",
+        Heard::Followed(_) => "followed",
+        Heard::Waiting => "waiting",
+        Heard::Split(_, _) => "split",
+        Heard::Far => "far",
+        Heard::NoSite => "no site",
+        Heard::NotPosition => "no position",
+    }
+}
+
+// Appends the coordinates of the place that was heard, where there is one.
+fn push_coordinates(text: &mut LineText, form: Form, heard: &Heard)
+    requires { array_string_len text.old ≤ 200 }
+    ensures bytes { (decimals : DecimalWriter) → text.new.bytes ≡ text.old.bytes
+        ++ (cell form (codes "lat") (coordinate decimals place_latitude heard.now)
+        ++ cell form (codes "lon") (coordinate decimals place_longitude heard.now)) }
+    ensures len { array_string_len text.new ≤ array_string_len text.old + 38 }
+{
+    match heard {
+        Heard::Fix(place) | Heard::Followed(place) => push_place(text, form, place),
+        Heard::Waiting | Heard::Split(_, _) | Heard::Far | Heard::NoSite | Heard::NotPosition => {
+            push_no_coordinates(text, form);
+        }
+    }
+}
+
+// Appends the coordinates of a place.
+fn push_place(text: &mut LineText, form: Form, place: &Place)
+    requires { array_string_len text.old ≤ 200 }
+    ensures bytes { (decimals : DecimalWriter) → text.new.bytes ≡ text.old.bytes
+        ++ (cell form (codes "lat") (Number (decimals.write (place_latitude place.now)))
+        ++ cell form (codes "lon") (Number (decimals.write (place_longitude place.now)))) }
+    ensures len { array_string_len text.new ≤ array_string_len text.old + 38 }
+{
+    let position = place.position();
+    push_degrees(text, form, "lat", &position.lat());
+    push_degrees(text, form, "lon", &position.lon());
+}
+
+// Appends that there is no place.
+fn push_no_coordinates(text: &mut LineText, form: Form)
+    requires { array_string_len text.old ≤ 200 }
+    ensures bytes { text.new.bytes ≡ text.old.bytes
+        ++ (cell form (codes "lat") Blank ++ cell form (codes "lon") Blank) }
+    ensures len { array_string_len text.new ≤ array_string_len text.old + 38 }
+{
+    push_blank(text, form, "lat");
+    push_blank(text, form, "lon");
+}
