@@ -1,12 +1,5 @@
 -- What entries stand for.
-use Rattle.std.proofs.Common.{◌≡◌, ◌≤◌, ℕ, ◌∷◌, [], Option, Some, None, nat_eq, true, refl, sym, ◌∙◌, ap, subst, arith}
-use Rattle.std.proofs.Props.{props}
-use mathlib.Core.HLevel.{is_prop→PathP}
-use Rattle.sq_angle.specs.declared.position.Position.{Position}
-use Rattle.sq_angle.specs.Angle.{degrees}
-use Rattle.sq_angle.specs.Bounds.{IsAngle, IsPosition}
-use Rattle.sq_angle.specs.Fraction.{Fraction}
-use Rattle.sq_angle.proofs.OneReading.{one_angle}
+use Rattle.std.proofs.Common.{◌≡◌, ◌≤◌, ℕ, ◌∷◌, [], Option, Some, None, nat_eq, true, refl, sym, ◌∙◌, ap, arith}
 use Rattle.sq_bits.specs.Frames.{field_of}
 use Rattle.sq_message.specs.declared.squitter.Me.{Me}
 use Rattle.sq_message.specs.declared.squitter.Me.TheVariants as kinds
@@ -28,34 +21,10 @@ use Rattle.squitter_c.specs.declared.entry.PlainEntry.{PlainEntry}
 use Rattle.squitter_c.specs.declared.entry.PlainFix.{PlainFix}
 use Rattle.squitter_c.specs.declared.entry.PlainReceived.{PlainReceived}
 use Rattle.squitter_c.specs.declared.entry.PlainSide.{PlainSide}
-use Rattle.squitter_c.specs.declared.plain.PlainPosition.{PlainPosition}
-use Rattle.squitter_c.specs.Plain.{IsOfDegrees, PlainIsPosition, fraction_of}
-use Rattle.squitter_c.specs.Reading.{frame_of}
+use Rattle.sq_plain.specs.Plain.{PlainIsPosition}
+use Rattle.sq_plain.specs.Frames.{frame_of}
+use Rattle.sq_plain.proofs.OnePlain.{is_position, one_of_degrees}
 use Rattle.squitter_c.specs.Tracking.{BlankKeepsNothing, IsContactOf, IsFixOf, IsReceivedOf, IsSideOf, blank_side, last_of, no_bytes}
-
--- positions with one latitude and one longitude are one
-pub one_position : (a b : Position) → a.lat ≡ b.lat → a.lon ≡ b.lon → a ≡ b
-one_position a b lat lon =
-    λ i. record {
-      lat = lat i;
-      lon = lon i;
-      in_range = is_prop→PathP (λ j. IsPosition (degrees (lat j)) (degrees (lon j)))
-          (λ j. hlevel props) a.in_range b.in_range i;
-    }
-
--- fractions are those of one position
-pub one_of_degrees : (plain : PlainPosition) (a b : Position) → IsOfDegrees plain a → IsOfDegrees plain b → a ≡ b
-one_of_degrees plain a b x y =
-    one_position a b (one_angle a.lat b.lat (x.lat ∙ sym y.lat)) (one_angle a.lon b.lon (x.lon ∙ sym y.lon))
-
--- a position's fractions are a position
-pub is_position : (plain : PlainPosition) (p : Position) → IsOfDegrees plain p → PlainIsPosition plain
-is_position plain p x = record {
-  lat = subst (λ (f : Fraction). IsAngle f.num f.den) x.lat p.lat.in_range;
-  lon = subst (λ (f : Fraction). IsAngle f.num f.den) x.lon p.lon.in_range;
-  both = subst (λ (f : Fraction). IsPosition f (fraction_of plain.lon)) x.lat
-      (subst (λ (f : Fraction). IsPosition (degrees p.lat) f) x.lon p.in_range);
-}
 
 -- a kept frame stands for one squitter, or for none
 one_received : (plain : PlainReceived) (a b : Option Received) → IsReceivedOf plain a → IsReceivedOf plain b → a ≡ b

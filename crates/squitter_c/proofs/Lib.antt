@@ -1,6 +1,6 @@
 pub mod AsciiTexts
 pub mod Entries
-pub mod Steps
+pub mod Blanks
 pub mod OneAnswers
 pub mod OnePlaces
 pub mod OneFrames

@@ -1,5 +1,5 @@
 -- Calls have one answer.
-use Rattle.std.proofs.Common.{◌≡◌, ◌∙◌, ◌+◌, ◌*◌, ◌^◌, ◌-ℤ◌, ℕ, ℤ, pos, Result, Ok, Err, arith, ap, refl, sym, subst}
+use Rattle.std.proofs.Common.{◌≡◌, ◌∙◌, ◌+◌, ◌*◌, ◌^◌, ◌-ℤ◌, ℕ, ℤ, pos, Result, Ok, Err, arith, ap, sym, subst}
 use Rattle.std.specs.Prelude.{int_lt}
 use Rattle.std.proofs.lemmas.Int.{ints}
 use Rattle.sq_angle.specs.declared.angle.Angle.{Angle}
@@ -8,7 +8,6 @@ use Rattle.sq_angle.specs.Angle.{degrees}
 use Rattle.sq_angle.specs.Bounds.{IsAngle}
 use Rattle.sq_angle.specs.Fraction.{Fraction, magnitude}
 use Rattle.sq_angle.specs.Spelling.{signed}
-use Rattle.sq_angle.proofs.Coprime.{one_lowest_form}
 use Rattle.sq_angle.proofs.OneReading.{one_angle, one_reading as one_angle_reading}
 use Rattle.sq_angle.proofs.Rounding.{nearest_once}
 use Rattle.sq_message.specs.declared.air.Altitude.{Altitude}
@@ -24,34 +23,20 @@ use Rattle.sq_text.proofs.One.{one_answer}
 use Rattle.sq_text.proofs.OneReading.{one_squitter_reading}
 use Rattle.squitter_c.specs.declared.altitudes.PlainAltitude.{PlainAltitude}
 use Rattle.squitter_c.specs.declared.e7.DegreesE7.{DegreesE7}
-use Rattle.squitter_c.specs.declared.faults.Fault.{Fault}
-use Rattle.squitter_c.specs.declared.faults.Refusal.{Refusal}
+use Rattle.sq_plain.specs.declared.faults.Refusal.{Refusal}
 use Rattle.squitter_c.specs.declared.fields.PlainSquitter.{PlainSquitter}
-use Rattle.squitter_c.specs.declared.plain.PlainAngle.{PlainAngle}
-use Rattle.squitter_c.specs.declared.plain.PlainPosition.{PlainPosition}
+use Rattle.sq_plain.specs.declared.plain.PlainAngle.{PlainAngle}
+use Rattle.sq_plain.specs.declared.plain.PlainPosition.{PlainPosition}
 use Rattle.squitter_c.specs.Altitudes.{IsFieldAnswer, IsMeaningAnswer, IsAltitudeItself}
 use Rattle.squitter_c.specs.Angles.{IsAngleAnswer, IsItself, IsLowestAngle, IsZoneAnswer}
 use Rattle.squitter_c.specs.E7.{AreE7Of, IsE7, IsE7Of, IsPositionAnswer}
-use Rattle.squitter_c.specs.Faults.{Tells, as_it_is, of_angles, of_frames, of_lines, of_texts}
+use Rattle.sq_plain.specs.Faults.{as_it_is, of_angles, of_frames, of_lines, of_texts}
 use Rattle.squitter_c.specs.Fields.{HasMeaning, IsPlainAltitude, IsPlainMe, IsPlainSquitter}
 use Rattle.squitter_c.specs.OneAnswers.{OneNumber, OneReading}
-use Rattle.squitter_c.specs.Plain.{IsLowestOf, IsLowestPosition, PlainIsAngle, fraction_of}
+use Rattle.sq_plain.specs.Plain.{PlainIsAngle, fraction_of}
 use Rattle.squitter_c.specs.Reading.{AreBytesOf}
-use Rattle.squitter_c.proofs.Entries.{is_position, one_of_degrees}
-
--- an answer, told twice
-module _ {A B E : Type 0} (P : Result A E → Type 0) (Stands : A → B → Type 0) (named : E → Refusal)
-    (one : (r s : Result A E) → P r → P s → r ≡ s) (same : (a : A) (x y : B) → Stands a x → Stands a y → x ≡ y) where
-  told_twice : (r : Result A E) (old x y : B) (f g : Fault) → Tells Stands named r old x f
-      → Tells Stands named r old y g → (x ≡ y) × (f ≡ g)
-  told_twice (Ok a) old x y f g h k = (same a x y h.0 k.0, h.1 ∙ sym k.1)
-  told_twice (Err e) old x y f g h k = (h.0 ∙ sym k.0, h.1 ∙ sym k.1)
-
-  pub one_telling : (old x y : B) (f g : Fault)
-      → (r : Result A E) × P r × Tells Stands named r old x f → (r : Result A E) × P r × Tells Stands named r old y g
-      → (x ≡ y) × (f ≡ g)
-  one_telling old x y f g (r, p, h) (s, q, k) =
-      told_twice r old x y f g h (subst (λ t. Tells Stands named t old y g) (sym (one r s p q)) k)
+use Rattle.sq_plain.proofs.OnePlain.{is_position, one_lowest, one_of_degrees}
+use Rattle.sq_plain.proofs.OneTelling.{one_telling}
 
 -- ---- squitters in plain numbers
 
@@ -225,22 +210,7 @@ one_field : (feet : ℤ) (f g : ℕ) → IsFieldOfFeet f feet → IsFieldOfFeet 
 one_field feet f g (high, low, is, means) (high', low', is', means') =
     omega (arith, ints, means, means', is.bits, is'.bits, is.four, is'.four)
 
-plain_angle : (x y : PlainAngle) → fraction_of x ≡ fraction_of y → x ≡ y
-plain_angle x y e = λ i. record { num = (e i).num; den = (e i).den }
-
--- an angle has one form in lowest terms
-one_lowest : (a : Angle) (x y : PlainAngle) → IsLowestOf (degrees a) x → IsLowestOf (degrees a) y → x ≡ y
-one_lowest a x y h k =
-    plain_angle x y ((one_lowest_form (degrees a) (degrees a) (fraction_of x) (fraction_of y) a.in_range.positive
-    a.in_range.positive h k).0 refl)
-
-pub one_lowest_position : (p : Position) (x y : PlainPosition) → IsLowestPosition p x → IsLowestPosition p y → x ≡ y
-one_lowest_position p x y h k =
-    let lat = one_lowest p.lat x.lat y.lat h.lat k.lat in
-    let lon = one_lowest p.lon x.lon y.lon h.lon k.lon in
-    λ i. record { lat = lat i; lon = lon i }
-
--- and one number of ten-millionths
+-- a fraction has one number of ten-millionths
 one_e7 : (x : Fraction) (k m : ℤ) → IsE7 x k → IsE7 x m → k ≡ m
 one_e7 x k m (v, v_is, k_is) (w, w_is, m_is) =
     let nearest = nearest_once (magnitude x) 1 10000000 (pos v) (pos w) v_is w_is in

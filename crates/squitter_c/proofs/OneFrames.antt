@@ -8,45 +8,47 @@ use Rattle.sq_cpr.specs.Grid.{Point}
 use Rattle.sq_cpr.proofs.Grids.Points.{rounds_once}
 use Rattle.sq_message.specs.declared.air_head.AirHead.{AirHead}
 use Rattle.sq_message.specs.declared.ground_head.GroundHead.{GroundHead}
-use Rattle.sq_message.specs.Heads.{AirHeadParts, GroundHeadParts, air_head_parts, ground_head_parts}
+use Rattle.sq_message.specs.Kinds.{Kind, HeadParts, InAir, OnGround, span_of}
+use Rattle.sq_message.specs.Heads.{air_head_parts, ground_head_parts}
 use Rattle.sq_message.specs.Parts.{squitter_parts}
-use Rattle.sq_message.specs.Sending.{IsAirSquitter, IsGroundSquitter, IsSentInAir, IsSentOnGround}
+use Rattle.sq_message.specs.Sending.{IsSquitterOf, IsSent}
 use Rattle.sq_message.specs.Spelling.{Spells, bit}
 use Rattle.sq_message.specs.TypeCodes.{IsAirCode, IsGroundCode}
 use Rattle.sq_message.proofs.One.{one_frame}
 use Rattle.sq_message.proofs.Same.{same_air_fields, same_bit, same_ground_fields, same_parity}
-use Rattle.sq_message.proofs.SameZones.{same_sent_in_air, same_sent_on_ground}
-use Rattle.squitter_c.specs.declared.faults.Refusal.{Refusal}
-use Rattle.squitter_c.specs.declared.faults.Refusal.TheVariants as refusals
+use Rattle.sq_message.proofs.SameZones.{same_sent}
+use Rattle.sq_plain.specs.declared.faults.Refusal.{Refusal}
+use Rattle.sq_plain.specs.declared.faults.Refusal.TheVariants as refusals
 use Rattle.squitter_c.specs.declared.heads.PlainAirHead.{PlainAirHead}
 use Rattle.squitter_c.specs.declared.heads.PlainGroundHead.{PlainGroundHead}
-use Rattle.squitter_c.specs.declared.plain.PlainPosition.{PlainPosition}
-use Rattle.squitter_c.specs.Faults.{as_it_is}
+use Rattle.sq_plain.specs.declared.plain.PlainPosition.{PlainPosition}
+use Rattle.sq_plain.specs.Faults.{as_it_is}
 use Rattle.squitter_c.specs.Heads.{IsAirHead, IsGroundHead, PlainIsAirHead, PlainIsGroundHead}
 use Rattle.squitter_c.specs.OneAnswers.{OneSent}
-use Rattle.squitter_c.specs.Plain.{IsFlag, IsOfDegrees, IsParity, PlainIsPosition}
+use Rattle.sq_plain.specs.Plain.{IsFlag, IsOfDegrees, IsParity, PlainIsPosition}
 use Rattle.squitter_c.specs.Reading.{AreBytesOf}
 use Rattle.squitter_c.specs.Sending.{IsAirAnswer, IsGroundAnswer}
-use Rattle.squitter_c.proofs.Entries.{is_position, one_of_degrees}
-use Rattle.squitter_c.proofs.OneAnswers.{one_telling}
+use Rattle.sq_plain.proofs.OnePlain.{is_position, one_of_degrees}
+use Rattle.sq_plain.proofs.OneTelling.{one_telling}
 
 -- ---- one frame of a head, a parity and a position
 
-one_sent_in_air : (head : AirHeadParts) (parity : Parity) (x : Position) (p q : Point) (f g : Frame)
-    → IsSentInAir head parity x p f → IsSentInAir head parity x q g → f ≡ g
-one_sent_in_air head parity x p q f g h k =
-    let point = rounds_once 360 1 _ _ p q (h.of_parity ∙ sym k.of_parity) h.rounds k.rounds in
-    let squitter = same_sent_in_air head p h.squitter k.squitter h.sent
-    (subst (λ t. IsAirSquitter head t (squitter_parts k.squitter)) (sym point) k.sent) in
+one_sent : (kind : Kind) (head : HeadParts kind) (parity : Parity) (x : Position) (p q : Point) (f g : Frame)
+    → IsSent kind head parity x p f → IsSent kind head parity x q g → f ≡ g
+one_sent kind head parity x p q f g h k =
+    let point = rounds_once (span_of kind) _ _ p q (h.of_parity ∙ sym k.of_parity) h.rounds k.rounds in
+    let squitter = same_sent kind head p h.squitter k.squitter h.sent
+    (subst (λ t. IsSquitterOf kind head t (squitter_parts k.squitter)) (sym point) k.sent) in
     one_frame f g h.squitter h.is_frame k.is_frame h.spelled (subst (λ s. Spells g s) (sym squitter) k.spelled)
 
-one_sent_on_ground : (head : GroundHeadParts) (parity : Parity) (x : Position) (p q : Point) (f g : Frame)
-    → IsSentOnGround head parity x p f → IsSentOnGround head parity x q g → f ≡ g
-one_sent_on_ground head parity x p q f g h k =
-    let point = rounds_once 90 4 _ _ p q (h.of_parity ∙ sym k.of_parity) h.rounds k.rounds in
-    let squitter = same_sent_on_ground head p h.squitter k.squitter h.sent
-    (subst (λ t. IsGroundSquitter head t (squitter_parts k.squitter)) (sym point) k.sent) in
-    one_frame f g h.squitter h.is_frame k.is_frame h.spelled (subst (λ s. Spells g s) (sym squitter) k.spelled)
+-- the frame of equal heads, parities and positions is one
+one_of_equals : (kind : Kind) (s t : HeadParts kind) (p q : Parity) (x y : Position) (m n : Point) (f g : Frame)
+    → s ≡ t → p ≡ q → x ≡ y → IsSent kind s p x m f → IsSent kind t q y n g → f ≡ g
+one_of_equals kind s t p q x y m n f g head parity position h k =
+    one_sent kind s p x m n f g h
+    (subst (λ u. IsSent kind u p x n g) (sym head)
+    (subst (λ u. IsSent kind t u x n g) (sym parity)
+    (subst (λ u. IsSent kind t q u n g) (sym position) k)))
 
 -- ---- heads
 
@@ -124,18 +126,13 @@ abbrev SentInAir : PlainAirHead → PlainPosition → Frame → Type 0
 SentInAir plain place frame = (head : AirHead) × IsAirHead plain head
     × ((parity : Parity) × IsParity plain.odd parity
     × ((position : Position) × IsOfDegrees place position
-    × ((point : Point) × IsSentInAir (air_head_parts head) parity position point frame)))
+    × ((point : Point) × IsSent InAir (air_head_parts head) parity position point frame)))
 
 one_in_air : (plain : PlainAirHead) (place : PlainPosition) (f g : Frame) → SentInAir plain place f
     → SentInAir plain place g → f ≡ g
 one_in_air plain place f g (a, a_is, (p, p_is, (x, x_is, (m, h)))) (b, b_is, (q, q_is, (y, y_is, (n, k)))) =
-    let head = one_air_head plain a b a_is b_is in
-    let parity = same_parity p q (sym p_is ∙ q_is) in
-    let position = one_of_degrees place x y x_is y_is in
-    one_sent_in_air (air_head_parts a) p x m n f g h
-    (subst (λ t. IsSentInAir t p x n g) (sym head)
-    (subst (λ t. IsSentInAir (air_head_parts b) t x n g) (sym parity)
-    (subst (λ t. IsSentInAir (air_head_parts b) q t n g) (sym position) k)))
+    one_of_equals InAir (air_head_parts a) (air_head_parts b) p q x y m n f g (one_air_head plain a b a_is b_is)
+    (same_parity p q (sym p_is ∙ q_is)) (one_of_degrees place x y x_is y_is) h k
 
 told_in_air : (plain : PlainAirHead) (place : PlainPosition) (r : Result Frame Refusal) → IsAirAnswer plain place r
     → Told (PlainIsAirHead plain × IsFlag plain.odd) place (SentInAir plain place) (one_in_air plain place) r
@@ -154,6 +151,10 @@ told_in_air plain place (Err refusals.NoAngle) h = absurd h
 told_in_air plain place (Err refusals.NoLatitude) h = absurd h
 told_in_air plain place (Err refusals.NoFeet) h = absurd h
 told_in_air plain place (Err refusals.NoParity) h = absurd h
+told_in_air plain place (Err refusals.Memory) h = absurd h
+told_in_air plain place (Err refusals.NoLimit) h = absurd h
+told_in_air plain place (Err refusals.NoTracker) h = absurd h
+told_in_air plain place (Err refusals.NoAddress) h = absurd h
 
 one_air_answer : (plain : PlainAirHead) (place : PlainPosition) (r s : Result Frame Refusal)
     → IsAirAnswer plain place r → IsAirAnswer plain place s → r ≡ s
@@ -166,18 +167,14 @@ abbrev SentOnGround : PlainGroundHead → PlainPosition → Frame → Type 0
 SentOnGround plain place frame = (head : GroundHead) × IsGroundHead plain head
     × ((parity : Parity) × IsParity plain.odd parity
     × ((position : Position) × IsOfDegrees place position
-    × ((point : Point) × IsSentOnGround (ground_head_parts head) parity position point frame)))
+    × ((point : Point) × IsSent OnGround (ground_head_parts head) parity position point frame)))
 
 one_on_ground : (plain : PlainGroundHead) (place : PlainPosition) (f g : Frame) → SentOnGround plain place f
     → SentOnGround plain place g → f ≡ g
 one_on_ground plain place f g (a, a_is, (p, p_is, (x, x_is, (m, h)))) (b, b_is, (q, q_is, (y, y_is, (n, k)))) =
-    let head = one_ground_head plain a b a_is b_is in
-    let parity = same_parity p q (sym p_is ∙ q_is) in
-    let position = one_of_degrees place x y x_is y_is in
-    one_sent_on_ground (ground_head_parts a) p x m n f g h
-    (subst (λ t. IsSentOnGround t p x n g) (sym head)
-    (subst (λ t. IsSentOnGround (ground_head_parts b) t x n g) (sym parity)
-    (subst (λ t. IsSentOnGround (ground_head_parts b) q t n g) (sym position) k)))
+    one_of_equals OnGround (ground_head_parts a) (ground_head_parts b) p q x y m n f g
+    (one_ground_head plain a b a_is b_is)
+    (same_parity p q (sym p_is ∙ q_is)) (one_of_degrees place x y x_is y_is) h k
 
 told_on_ground : (plain : PlainGroundHead) (place : PlainPosition) (r : Result Frame Refusal)
     → IsGroundAnswer plain place r
@@ -197,6 +194,10 @@ told_on_ground plain place (Err refusals.NoAngle) h = absurd h
 told_on_ground plain place (Err refusals.NoLatitude) h = absurd h
 told_on_ground plain place (Err refusals.NoFeet) h = absurd h
 told_on_ground plain place (Err refusals.NoParity) h = absurd h
+told_on_ground plain place (Err refusals.Memory) h = absurd h
+told_on_ground plain place (Err refusals.NoLimit) h = absurd h
+told_on_ground plain place (Err refusals.NoTracker) h = absurd h
+told_on_ground plain place (Err refusals.NoAddress) h = absurd h
 
 one_ground_answer : (plain : PlainGroundHead) (place : PlainPosition) (r s : Result Frame Refusal)
     → IsGroundAnswer plain place r → IsGroundAnswer plain place s → r ≡ s

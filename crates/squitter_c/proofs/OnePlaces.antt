@@ -1,9 +1,9 @@
 -- Frames have one place, or one fault.
 use Rattle.std.proofs.lemmas.Int.{ints}
-use Rattle.std.proofs.Common.{arith, ℕ, ◌≡◌, ◌∙◌, Option, None, Some, Result, Ok, Err, inl, inr, ◌⊎◌, ap, refl, sym, subst}
+use Rattle.std.proofs.Common.{arith, ◌≡◌, ◌∙◌, Option, None, Some, Result, Ok, Err, inl, inr, ◌⊎◌, ap, refl, sym, subst}
 use Rattle.sq_angle.specs.declared.position.Position.{Position}
-use Rattle.sq_angle.proofs.OneReading.{one_angle}
 use Rattle.sq_bits.specs.declared.frame.Frame.{Frame}
+use Rattle.sq_cpr.specs.Span.{Span, air, ground}
 use Rattle.sq_cpr.specs.Grid.{Point}
 use Rattle.sq_message.specs.declared.place.Place.{Place}
 use Rattle.sq_message.specs.declared.place.Place.TheVariants.{Air, Ground}
@@ -16,17 +16,17 @@ use Rattle.sq_message.specs.Spelling.{IsReading}
 use Rattle.sq_message.proofs.One.{one_reading}
 use Rattle.sq_message.proofs.OnePlace.{one_local_place, one_pair_place}
 use Rattle.sq_text.specs.Faults.{of_frame}
-use Rattle.squitter_c.specs.declared.faults.Refusal.{Refusal}
-use Rattle.squitter_c.specs.declared.faults.Refusal.TheVariants as refusals
-use Rattle.squitter_c.specs.declared.plain.PlainPosition.{PlainPosition}
+use Rattle.sq_plain.specs.declared.faults.Refusal.{Refusal}
+use Rattle.sq_plain.specs.declared.faults.Refusal.TheVariants as refusals
+use Rattle.sq_plain.specs.declared.plain.PlainPosition.{PlainPosition}
 use Rattle.squitter_c.specs.declared.zones.PlainZones.{PlainZones}
 use Rattle.squitter_c.specs.Decoding.{IsLocalAnswer, IsLowestPlace, IsPairAnswer, IsSiteAnswer}
-use Rattle.squitter_c.specs.Faults.{as_it_is}
+use Rattle.sq_plain.specs.Faults.{as_it_is}
 use Rattle.squitter_c.specs.OneAnswers.{OnePlace}
-use Rattle.squitter_c.specs.Plain.{IsLowestPosition, IsOfDegrees, PlainIsPosition}
+use Rattle.sq_plain.specs.Plain.{IsOfDegrees, PlainIsPosition}
 use Rattle.squitter_c.specs.Zones.{AreZonesOf, AreZonesOfPlace}
-use Rattle.squitter_c.proofs.Entries.{is_position, one_of_degrees, one_position}
-use Rattle.squitter_c.proofs.OneAnswers.{one_lowest_position, one_telling}
+use Rattle.sq_plain.proofs.OnePlain.{is_position, one_lowest_place, one_of_degrees}
+use Rattle.sq_plain.proofs.OneTelling.{one_telling}
 
 -- what is answered for a place or its fault
 abbrev Placed : Result Place PlaceFault → Result Place Refusal → Type 0
@@ -123,6 +123,10 @@ near_plain frame plain (Err refusals.NoAngle) h = absurd h
 near_plain frame plain (Err refusals.NoLatitude) h = absurd h
 near_plain frame plain (Err refusals.NoFeet) h = absurd h
 near_plain frame plain (Err refusals.NoParity) h = absurd h
+near_plain frame plain (Err refusals.Memory) h = absurd h
+near_plain frame plain (Err refusals.NoLimit) h = absurd h
+near_plain frame plain (Err refusals.NoTracker) h = absurd h
+near_plain frame plain (Err refusals.NoAddress) h = absurd h
 
 one_near_plain : (frame : Frame) (plain : PlainPosition) (r s : Result Place Refusal) → NearPlain frame plain r
     → NearPlain frame plain s → r ≡ s
@@ -169,6 +173,10 @@ of_pair older newer site (Err refusals.NoAngle) h = absurd h
 of_pair older newer site (Err refusals.NoLatitude) h = absurd h
 of_pair older newer site (Err refusals.NoFeet) h = absurd h
 of_pair older newer site (Err refusals.NoParity) h = absurd h
+of_pair older newer site (Err refusals.Memory) h = absurd h
+of_pair older newer site (Err refusals.NoLimit) h = absurd h
+of_pair older newer site (Err refusals.NoTracker) h = absurd h
+of_pair older newer site (Err refusals.NoAddress) h = absurd h
 
 one_pair : (older newer : Frame) (site : Option Position) (r s : Result Place Refusal)
     → IsPairAnswer older newer site r → IsPairAnswer older newer site s → r ≡ s
@@ -188,16 +196,10 @@ one_pair_at older newer plain r s (inr (site, deg, h)) (inr (other, deg', k)) =
 
 -- ---- what is written of a place
 
-one_lowest_place : (place : Place) (x y : PlainPosition) → IsLowestPlace place x → IsLowestPlace place y → x ≡ y
-one_lowest_place place x y (p, p_is, x_is) (q, q_is, y_is) =
-    let same : p ≡ q = one_position p q (one_angle p.lat q.lat (p_is.lat ∙ sym q_is.lat))
-    (one_angle p.lon q.lon (p_is.lon ∙ sym q_is.lon)) in
-    one_lowest_position p x y x_is (subst (λ r. IsLowestPosition r y) (sym same) y_is)
-
-one_zones_of : (degrees : ℕ) (point : Point) (x y : PlainZones) → AreZonesOf degrees point x
-    → AreZonesOf degrees point y → x ≡ y
-one_zones_of degrees point x y h k =
-    let span = h.span ∙ sym k.span in
+one_zones_of : (span : Span) (point : Point) (x y : PlainZones) → AreZonesOf span point x
+    → AreZonesOf span point y → x ≡ y
+one_zones_of span point x y h k =
+    let degrees = h.degrees ∙ sym k.degrees in
     let odd = h.odd ∙ sym k.odd in
     let lat_zones = h.lat_zones ∙ sym k.lat_zones in
     let count = h.zone_count ∙ sym k.zone_count in
@@ -207,7 +209,7 @@ one_zones_of degrees point x y h k =
     λ i. record {
       lat_zone = lat i;
       lon_zone = lon i;
-      degrees = span i;
+      degrees = degrees i;
       lat_zones = lat_zones i;
       zone_count = count i;
       lon_zones = lon_zones i;
@@ -215,8 +217,8 @@ one_zones_of degrees point x y h k =
     }
 
 one_zones : (place : Place) (x y : PlainZones) → AreZonesOfPlace place x → AreZonesOfPlace place y → x ≡ y
-one_zones (Air point) x y h k = one_zones_of 360 point x y h k
-one_zones (Ground point) x y h k = one_zones_of 90 point x y h k
+one_zones (Air point) x y h k = one_zones_of air point x y h k
+one_zones (Ground point) x y h k = one_zones_of ground point x y h k
 
 pub one_place_of : OnePlace
 one_place_of = record {

@@ -8,7 +8,7 @@ use Rattle.sq_message.specs.Spelling.{bit}
 use Rattle.sq_message.specs.TypeCodes.{IsAirCode, IsGroundCode}
 use Rattle.squitter_c.specs.declared.heads.PlainAirHead.{PlainAirHead}
 use Rattle.squitter_c.specs.declared.heads.PlainGroundHead.{PlainGroundHead}
-use Rattle.squitter_c.specs.Plain.{IsFlag}
+use Rattle.sq_plain.specs.Plain.{IsFlag}
 
 -- each field is in its range
 pub record PlainIsAirHead (plain : PlainAirHead) : Type 0 where

@@ -1,5 +1,3 @@
-pub mod Plain
-pub mod Faults
 pub mod Fields
 pub mod Reading
 pub mod Decoding

@@ -9,14 +9,10 @@ use Rattle.sq_text.specs.declared.faults.LineFault.{LineFault}
 use Rattle.sq_text.specs.declared.frame_text.TextFault.{TextFault}
 use Rattle.sq_text.specs.FrameText.{IsAnswer}
 use Rattle.sq_text.specs.Reading.{IsSquitterReading}
-use Rattle.squitter_c.specs.declared.faults.Fault.{Fault}
+use Rattle.sq_plain.specs.declared.faults.Fault.{Fault}
 use Rattle.squitter_c.specs.declared.fields.PlainSquitter.{PlainSquitter}
-use Rattle.squitter_c.specs.Faults.{Tells, of_frames, of_lines, of_texts}
+use Rattle.sq_plain.specs.Faults.{Tells, of_frames, of_lines, of_texts}
 use Rattle.squitter_c.specs.Fields.{IsPlainSquitter}
-
--- 14 bytes, as a frame
-abbrev pub frame_of : List ℕ → Frame
-frame_of bytes = record { 0 = bytes }
 
 -- the bytes are the frame's
 abbrev pub AreBytesOf : Frame → List ℕ → Type 0

@@ -4,6 +4,8 @@ use Rattle.sq_bits.specs.declared.frame.Frame.{Frame}
 use Rattle.sq_bits.specs.Frames.{IsFrame}
 use Rattle.sq_angle.specs.declared.position.Position.{Position}
 use Rattle.sq_zones.specs.declared.parity.Parity.{Parity}
+use Rattle.sq_cpr.specs.Span.{air, ground}
+use Rattle.sq_cpr.specs.Rounds.{PositionRoundsTo}
 use Rattle.sq_cpr.specs.Grid.{Point}
 use Rattle.sq_message.specs.declared.air_head.AirHead.{AirHead}
 use Rattle.sq_message.specs.declared.ground_head.GroundHead.{GroundHead}
@@ -11,21 +13,22 @@ use Rattle.sq_message.specs.declared.place.Place.{Place}
 use Rattle.sq_message.specs.declared.place.Place.TheVariants.{Air, Ground}
 use Rattle.sq_message.specs.declared.place.PlaceFault.TheVariants.{NotPosition}
 use Rattle.sq_message.specs.declared.squitter.Squitter.{Squitter}
+use Rattle.sq_message.specs.Kinds.{InAir, OnGround}
 use Rattle.sq_message.specs.Heads.{air_head_parts, ground_head_parts}
 use Rattle.sq_message.specs.Parts.{squitter_parts}
 use Rattle.sq_message.specs.Places.{IsPosition, IsSentAt}
-use Rattle.sq_message.specs.Sending.{IsSentInAir, IsSentOnGround, RoundsInAir, RoundsOnGround}
+use Rattle.sq_message.specs.Sending.{IsSent}
 use Rattle.sq_message.specs.Spelling.{Spells}
-use Rattle.squitter_c.specs.declared.faults.Fault.{Fault}
-use Rattle.squitter_c.specs.declared.faults.Refusal.{Refusal}
-use Rattle.squitter_c.specs.declared.faults.Refusal.TheVariants as refusals
+use Rattle.sq_plain.specs.declared.faults.Fault.{Fault}
+use Rattle.sq_plain.specs.declared.faults.Refusal.{Refusal}
+use Rattle.sq_plain.specs.declared.faults.Refusal.TheVariants as refusals
 use Rattle.squitter_c.specs.declared.heads.PlainAirHead.{PlainAirHead}
 use Rattle.squitter_c.specs.declared.heads.PlainGroundHead.{PlainGroundHead}
-use Rattle.squitter_c.specs.declared.plain.PlainPosition.{PlainPosition}
+use Rattle.sq_plain.specs.declared.plain.PlainPosition.{PlainPosition}
 use Rattle.squitter_c.specs.Decoding.{IsFrameFault}
-use Rattle.squitter_c.specs.Faults.{Tells, as_it_is}
+use Rattle.sq_plain.specs.Faults.{Tells, as_it_is}
 use Rattle.squitter_c.specs.Heads.{IsAirHead, IsGroundHead, PlainIsAirHead, PlainIsGroundHead}
-use Rattle.squitter_c.specs.Plain.{IsFlag, IsOfDegrees, IsParity, PlainIsPosition}
+use Rattle.sq_plain.specs.Plain.{IsFlag, IsOfDegrees, IsParity, PlainIsPosition}
 use Rattle.squitter_c.specs.Reading.{AreBytesOf}
 
 -- the frame that is sent in the air; the first fault is the head's or the parity's, then the position's
@@ -33,7 +36,7 @@ unfoldable pub IsAirAnswer : PlainAirHead → PlainPosition → Result Frame Ref
 IsAirAnswer plain place (Ok frame) = (head : AirHead) × IsAirHead plain head
     × ((parity : Parity) × IsParity plain.odd parity
     × ((position : Position) × IsOfDegrees place position
-    × ((point : Point) × IsSentInAir (air_head_parts head) parity position point frame)))
+    × ((point : Point) × IsSent InAir (air_head_parts head) parity position point frame)))
 IsAirAnswer plain place (Err refusals.NoHead) = ¬ (PlainIsAirHead plain × IsFlag plain.odd)
 IsAirAnswer plain place (Err refusals.NoPosition) = PlainIsAirHead plain × IsFlag plain.odd × ¬ (PlainIsPosition place)
 IsAirAnswer plain place (Err other) = ⊥
@@ -43,7 +46,7 @@ unfoldable pub IsGroundAnswer : PlainGroundHead → PlainPosition → Result Fra
 IsGroundAnswer plain place (Ok frame) = (head : GroundHead) × IsGroundHead plain head
     × ((parity : Parity) × IsParity plain.odd parity
     × ((position : Position) × IsOfDegrees place position
-    × ((point : Point) × IsSentOnGround (ground_head_parts head) parity position point frame)))
+    × ((point : Point) × IsSent OnGround (ground_head_parts head) parity position point frame)))
 IsGroundAnswer plain place (Err refusals.NoHead) = ¬ (PlainIsGroundHead plain × IsFlag plain.odd)
 IsGroundAnswer plain place (Err refusals.NoPosition) =
     PlainIsGroundHead plain × IsFlag plain.odd × ¬ (PlainIsPosition place)
@@ -51,8 +54,8 @@ IsGroundAnswer plain place (Err other) = ⊥
 
 -- the place is the point of the parity to which the position rounds
 abbrev pub IsRoundedTo : Parity → Position → Place → Type 0
-IsRoundedTo parity position (Air point) = (point.parity ≡ parity) × RoundsInAir position point
-IsRoundedTo parity position (Ground point) = (point.parity ≡ parity) × RoundsOnGround position point
+IsRoundedTo parity position (Air point) = (point.parity ≡ parity) × PositionRoundsTo air position point
+IsRoundedTo parity position (Ground point) = (point.parity ≡ parity) × PositionRoundsTo ground position point
 
 -- the frame of a squitter that is sent again from a place of its kind
 abbrev pub IsFrameFrom : Squitter → Place → Frame → Type 0

@@ -6,9 +6,9 @@ use Rattle.sq_message.specs.declared.place.PlaceFault.TheVariants as places
 use Rattle.sq_text.specs.declared.faults.LineFault.TheVariants as lines
 use Rattle.sq_text.specs.Faults.{fault_text}
 use Rattle.sq_message.specs.Faults.{place_fault_text}
-use Rattle.squitter_c.specs.declared.faults.Refusal.{Refusal}
-use Rattle.squitter_c.specs.declared.faults.Refusal.TheVariants.{Line, Place, Angle, NoPosition, NoHead, NoAngle, NoLatitude, NoFeet, NoParity}
-use Rattle.squitter_c.specs.Faults.{fault_of}
+use Rattle.sq_plain.specs.declared.faults.Refusal.{Refusal}
+use Rattle.sq_plain.specs.declared.faults.Refusal.TheVariants.{Line, Place, Angle, NoPosition, NoHead, NoAngle, NoLatitude, NoFeet, NoParity, Memory, NoLimit, NoTracker, NoAddress}
+use Rattle.sq_plain.specs.Faults.{fault_of}
 
 -- the text of a reason: that of the program, where it has one
 abbrev pub refusal_text : Refusal → List ℕ
@@ -21,6 +21,10 @@ refusal_text NoAngle = codes "bad angle"
 refusal_text NoLatitude = codes "bad latitude"
 refusal_text NoFeet = codes "bad feet"
 refusal_text NoParity = codes "bad parity"
+refusal_text Memory = codes "out of memory"
+refusal_text NoLimit = codes "limit is 0"
+refusal_text NoTracker = codes "no tracker"
+refusal_text NoAddress = codes "no address"
 
 -- the text of a code of a text, a frame or a moment with its number; of other codes that of the rest
 abbrev pub line_text : (code first : ℕ) → List ℕ → List ℕ
@@ -63,6 +67,15 @@ own_text code rest =
     else if code == 32 then angle_fault_text angles.OutOfRange
     else rest
 
+-- the text of a code, where it is one of a tracker's alone, and else the rest
+abbrev pub tracker_text : (code : ℕ) → List ℕ → List ℕ
+tracker_text code rest =
+    if code == 44 then refusal_text Memory
+    else if code == 45 then refusal_text NoLimit
+    else if code == 46 then refusal_text NoTracker
+    else if code == 47 then refusal_text NoAddress
+    else rest
+
 -- the text of no fault, and of a code that is none
 abbrev pub other_text : (code : ℕ) → List ℕ
 other_text code = if code == 0 then codes "no fault" else codes "unknown fault"
@@ -70,7 +83,7 @@ other_text code = if code == 0 then codes "no fault" else codes "unknown fault"
 -- the text of each value of a fault
 unfoldable pub told_text : (code first second : ℕ) → List ℕ
 told_text code first second =
-    line_text code first (place_text code first second (own_text code (other_text code)))
+    line_text code first (place_text code first second (own_text code (tracker_text code (other_text code))))
 
 -- the text of a fault is that of its reason
 abbrev pub EachText : Type 0

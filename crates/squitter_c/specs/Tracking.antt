@@ -2,10 +2,8 @@
 use Rattle.std.specs.Prelude.{◌≡◌, ◌≤◌, ◌<◌, ◌⊎◌, ◌∷◌, [], ℕ, pos, List, Option, Some, None, Ok}
 use Rattle.sq_angle.specs.declared.position.Position.{Position}
 use Rattle.sq_bits.specs.declared.frame.Frame.{Frame}
-use Rattle.sq_message.specs.declared.place.Place.{Place}
 use Rattle.sq_message.specs.declared.squitter.Squitter.{Squitter}
 use Rattle.sq_message.specs.Parts.{squitter_parts}
-use Rattle.sq_message.specs.Places.{IsPositionOf}
 use Rattle.sq_message.specs.Spelling.{Spells}
 use Rattle.sq_text.specs.declared.faults.LineFault.TheVariants.{MomentBack}
 use Rattle.sq_track.specs.declared.contact.Contact.{Contact}
@@ -13,7 +11,6 @@ use Rattle.sq_track.specs.declared.contact.LastFix.{LastFix}
 use Rattle.sq_track.specs.declared.contact.Received.{Received}
 use Rattle.sq_track.specs.declared.contact.Side.{Side}
 use Rattle.sq_track.specs.declared.heard.Heard.{Heard}
-use Rattle.sq_track.specs.declared.heard.Heard.TheVariants.{Fix, Followed, Waiting, Split, Far, NoSite, NotPosition}
 use Rattle.sq_track.specs.Answers.{IsHeard}
 use Rattle.sq_track.specs.History.{History}
 use Rattle.sq_track.specs.Kept.{Remembers}
@@ -22,16 +19,17 @@ use Rattle.squitter_c.specs.declared.entry.PlainEntry.{PlainEntry}
 use Rattle.squitter_c.specs.declared.entry.PlainFix.{PlainFix}
 use Rattle.squitter_c.specs.declared.entry.PlainReceived.{PlainReceived}
 use Rattle.squitter_c.specs.declared.entry.PlainSide.{PlainSide}
-use Rattle.squitter_c.specs.declared.faults.Fault.{Fault}
-use Rattle.squitter_c.specs.declared.faults.Refusal.{Refusal}
-use Rattle.squitter_c.specs.declared.faults.Refusal.TheVariants as refusals
-use Rattle.squitter_c.specs.declared.hear.PlainHeard.{PlainHeard}
-use Rattle.squitter_c.specs.declared.plain.PlainAngle.{PlainAngle}
-use Rattle.squitter_c.specs.declared.plain.PlainPosition.{PlainPosition}
+use Rattle.sq_plain.specs.declared.faults.Fault.{Fault}
+use Rattle.sq_plain.specs.declared.faults.Refusal.{Refusal}
+use Rattle.sq_plain.specs.declared.faults.Refusal.TheVariants as refusals
+use Rattle.sq_plain.specs.declared.heard.PlainHeard.{PlainHeard}
+use Rattle.sq_plain.specs.declared.plain.PlainAngle.{PlainAngle}
+use Rattle.sq_plain.specs.declared.plain.PlainPosition.{PlainPosition}
 use Rattle.squitter_c.specs.Decoding.{IsFrameFault}
-use Rattle.squitter_c.specs.Faults.{fault_of, none}
-use Rattle.squitter_c.specs.Plain.{IsLowestPosition, IsOfDegrees, PlainIsPosition}
-use Rattle.squitter_c.specs.Reading.{frame_of}
+use Rattle.sq_plain.specs.Faults.{fault_of, none}
+use Rattle.sq_plain.specs.Heard.{IsPlainHeard}
+use Rattle.sq_plain.specs.Plain.{IsOfDegrees, PlainIsPosition}
+use Rattle.sq_plain.specs.Frames.{frame_of}
 
 -- the squitter of a kept frame with its moment; a frame that spells none counts as none
 abbrev pub IsReceivedOf : PlainReceived → Option Received → Type 0
@@ -67,31 +65,6 @@ pub record Keeps (window address : ℕ) (history : History) (plain : PlainEntry)
   pub stands : IsContactOf plain contact
   pub remembers : Remembers window address history contact
   pub last : plain.last ≡ last_of history
-
--- the place that was heard, in lowest terms
-abbrev pub HasPlace : Place → PlainHeard → Type 0
-HasPlace place plain = (position : Position) × IsPositionOf place position × IsLowestPosition position plain.position
-
--- no place: 0/0 and 0/0
-pub record HasNoPlace (plain : PlainHeard) : Type 0 where
-  pub lat : (plain.position.lat.num ≡ pos 0) × (plain.position.lat.den ≡ 0)
-  pub lon : (plain.position.lon.num ≡ pos 0) × (plain.position.lon.den ≡ 0)
-
--- what was heard, as plain numbers: which of the seven, and the zone counts or 0
-pub record IsHeardAs (which first second : ℕ) (plain : PlainHeard) : Type 0 where
-  pub what : plain.what ≡ which
-  pub even : plain.even ≡ first
-  pub odd : plain.odd ≡ second
-
--- each of the seven, with the place where it has one
-abbrev pub IsPlainHeard : Heard → PlainHeard → Type 0
-IsPlainHeard (Fix place) plain = IsHeardAs 1 0 0 plain × HasPlace place plain
-IsPlainHeard (Followed place) plain = IsHeardAs 2 0 0 plain × HasPlace place plain
-IsPlainHeard Waiting plain = IsHeardAs 3 0 0 plain × HasNoPlace plain
-IsPlainHeard (Split even odd) plain = IsHeardAs 4 even odd plain × HasNoPlace plain
-IsPlainHeard Far plain = IsHeardAs 5 0 0 plain × HasNoPlace plain
-IsPlainHeard NoSite plain = IsHeardAs 6 0 0 plain × HasNoPlace plain
-IsPlainHeard NotPosition plain = IsHeardAs 7 0 0 plain × HasNoPlace plain
 
 -- What hearing a squitter makes of an entry: for each history of its address that the entry keeps, what is heard is the
 -- answer by that history, and afterwards the entry keeps the history with the squitter in front.

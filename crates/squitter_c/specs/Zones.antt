@@ -1,31 +1,32 @@
 -- The zones in which a place lies.
-use Rattle.std.specs.Prelude.{◌≡◌, ◌+◌, ◌*◌, ℕ, Result, pos, ◌+ℤ◌, ◌*ℤ◌}
+use Rattle.std.specs.Prelude.{◌≡◌, ◌+◌, ◌*◌, Result, pos, ◌+ℤ◌, ◌*ℤ◌}
 use Rattle.sq_bits.specs.declared.frame.Frame.{Frame}
 use Rattle.sq_zones.specs.Zones.{parity_index, zones_at}
+use Rattle.sq_cpr.specs.Span.{Span, air, ground}
 use Rattle.sq_cpr.specs.Grid.{Point, code_of, codes_of_zone, lat_zones, latitude}
 use Rattle.sq_message.specs.declared.place.Place.{Place}
 use Rattle.sq_message.specs.declared.place.Place.TheVariants.{Air, Ground}
-use Rattle.squitter_c.specs.declared.faults.Fault.{Fault}
-use Rattle.squitter_c.specs.declared.faults.Refusal.{Refusal}
-use Rattle.squitter_c.specs.declared.plain.PlainPosition.{PlainPosition}
+use Rattle.sq_plain.specs.declared.faults.Fault.{Fault}
+use Rattle.sq_plain.specs.declared.faults.Refusal.{Refusal}
+use Rattle.sq_plain.specs.declared.plain.PlainPosition.{PlainPosition}
 use Rattle.squitter_c.specs.declared.zones.PlainZones.{PlainZones}
 use Rattle.squitter_c.specs.Decoding.{IsLocalAnswer}
-use Rattle.squitter_c.specs.Faults.{Tells, as_it_is}
+use Rattle.sq_plain.specs.Faults.{Tells, as_it_is}
 
--- the zones of a point of the grid that spans so many degrees: each index is 2^17 times that of its zone, and the code
-pub record AreZonesOf (degrees : ℕ) (point : Point) (zones : PlainZones) : Type 0 where
-  pub span : zones.degrees ≡ degrees
+-- the zones of a point of a span's grid: each index is 2^17 times that of its zone, and the code
+pub record AreZonesOf (span : Span) (point : Point) (zones : PlainZones) : Type 0 where
+  pub degrees : zones.degrees ≡ span.degrees
   pub odd : zones.odd ≡ parity_index point.parity
   pub lat_zones : zones.lat_zones ≡ lat_zones point.parity
   pub lat_zone : point.lat_index ≡ pos codes_of_zone *ℤ zones.lat_zone +ℤ pos (code_of point).lat
-  pub zone_count : zones.zone_count ≡ zones_at (latitude degrees point)
+  pub zone_count : zones.zone_count ≡ zones_at (latitude span point)
   pub lon_zones : zones.lon_zones ≡ point.zones
   pub lon_zone : point.lon_index ≡ codes_of_zone * zones.lon_zone + (code_of point).lon
 
 -- those of a place, in the air or on the ground
 abbrev pub AreZonesOfPlace : Place → PlainZones → Type 0
-AreZonesOfPlace (Air point) zones = AreZonesOf 360 point zones
-AreZonesOfPlace (Ground point) zones = AreZonesOf 90 point zones
+AreZonesOfPlace (Air point) zones = AreZonesOf air point zones
+AreZonesOfPlace (Ground point) zones = AreZonesOf ground point zones
 
 -- the zones of a place are written, or the fault told
 abbrev pub TellsZones : Result Place Refusal → (old new : PlainZones) → Fault → Type 0

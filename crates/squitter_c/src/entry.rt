@@ -1,13 +1,13 @@
 //! What is kept of an address, in plain numbers, and the contact that it stands for.
 ghost use Rattle.std.specs.Prelude.{◌≡◌};
 ghost use Rattle.sq_angle.specs.Angle.{degrees};
-ghost use Rattle.squitter_c.specs.Plain.{IsOfDegrees, fraction_of};
+ghost use Rattle.sq_plain.specs.Plain.{IsOfDegrees, fraction_of};
 ghost use Rattle.squitter_c.specs.Tracking.{IsContactOf, IsFixOf, IsReceivedOf, IsSideOf};
 
-use crate::plain::{PlainAngle, PlainPosition, position_of};
 use sq_angle::{Angle, Position};
 use sq_bits::Frame;
 use sq_message::{read_frame, write_frame};
+use sq_plain::{PlainAngle, PlainPosition, position_of};
 use sq_track::{Contact, LastFix, Received, Side};
 
 /// A frame and the moment at which it was heard. One that spells no squitter counts as none.

@@ -2,32 +2,18 @@
 ghost use Rattle.std.specs.Prelude.{◌≡◌, ◌≤◌, MatchResult, None, option_copied};
 ghost use Rattle.sq_track.specs.declared.heard.Heard.{Heard};
 ghost use Rattle.sq_track.specs.Kept.{IsStep};
-ghost use Rattle.squitter_c.specs.Faults.{Tells, as_it_is};
-ghost use Rattle.squitter_c.specs.Reading.{frame_of};
-ghost use Rattle.squitter_c.specs.Tracking.{AreOne, HasNoPlace, HasPlace, IsAccepted, IsHeardAs, IsHeardFrame};
-ghost use Rattle.squitter_c.specs.Tracking.{IsHeardFrameAt, IsHearing, IsPlainHeard, IsRefused};
+ghost use Rattle.sq_plain.specs.Faults.{Tells, as_it_is};
+ghost use Rattle.sq_plain.specs.Frames.{frame_of};
+ghost use Rattle.sq_plain.specs.Heard.{IsPlainHeard};
+ghost use Rattle.squitter_c.specs.Tracking.{AreOne, IsAccepted, IsHeardFrame, IsHeardFrameAt, IsHearing, IsRefused};
 
 use crate::entry::{PlainEntry, contact_of, plain_entry};
-use crate::faults::{Fault, NONE, Refusal};
-use crate::plain::{PlainAngle, PlainPosition, plain_position, position_of};
 use sq_angle::Position;
 use sq_bits::Frame;
-use sq_message::{Place, Squitter, read_frame};
+use sq_message::{Squitter, read_frame};
+use sq_plain::{Fault, NONE, PlainHeard, PlainPosition, Refusal, plain_heard, position_of};
 use sq_text::LineFault;
 use sq_track::{Contact, Heard};
-
-/// What is heard of a frame.
-#[repr(C)]
-#[derive(Clone, Copy, Debug, PartialEq, Eq)]
-pub struct PlainHeard {
-    /// The place, or 0/0 where there is none.
-    pub position: PlainPosition,
-    /// 1 for a fix, 2 for a followed place, 3 for waiting, 4 for a split, 5 for far, 6 for no site, 7 for no position.
-    pub what: u8,
-    /// Of a split the zone counts of the even and the odd latitude.
-    pub even: u8,
-    pub odd: u8,
-}
 
 /// Hears a frame of the entry's address, without a site.
 #[unsafe(no_mangle)]
@@ -145,44 +131,4 @@ fn step(
 {
     let heard = contact.hear(window, site, moment, squitter);
     plain_heard(&heard)
-}
-
-// What was heard, as plain numbers.
-fn plain_heard(heard: &Heard) -> PlainHeard
-    ensures { IsPlainHeard heard.now result }
-{
-    match heard {
-        Heard::Fix(place) => at_place(1, place),
-        Heard::Followed(place) => at_place(2, place),
-        Heard::Waiting => nowhere(3, 0, 0),
-        Heard::Split(even, odd) => nowhere(4, *even, *odd),
-        Heard::Far => nowhere(5, 0, 0),
-        Heard::NoSite => nowhere(6, 0, 0),
-        Heard::NotPosition => nowhere(7, 0, 0),
-    }
-}
-
-fn at_place(what: u8, place: &Place) -> PlainHeard
-    ensures { IsHeardAs what 0 0 result × HasPlace place.now result }
-{
-    PlainHeard {
-        position: plain_position(&place.position()),
-        what,
-        even: 0,
-        odd: 0,
-    }
-}
-
-fn nowhere(what: u8, even: u8, odd: u8) -> PlainHeard
-    ensures { IsHeardAs what even odd result × HasNoPlace result }
-{
-    PlainHeard {
-        position: PlainPosition {
-            lat: PlainAngle { num: 0, den: 0 },
-            lon: PlainAngle { num: 0, den: 0 },
-        },
-        what,
-        even,
-        odd,
-    }
 }

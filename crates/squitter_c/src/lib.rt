@@ -12,13 +12,11 @@ mod angles;
 mod decode;
 mod e7;
 mod entry;
-mod faults;
 mod fields;
 mod heads;
 mod hear;
 pub mod laws;
 mod many;
-mod plain;
 mod read;
 mod send;
 #[cfg(test)]

@@ -2,17 +2,16 @@
 //!
 //! The shortest of the arrays counts, and the answer is how many places that are. What lies beyond is as it was.
 ghost use Rattle.std.specs.Prelude.{◌≡◌, length, min};
-ghost use Rattle.squitter_c.specs.Many.{AreAnswered, IsBelow, IsE7At, IsHeardAt, IsHeardNear, IsLocalAt};
-ghost use Rattle.squitter_c.specs.Many.{IsPairNear, IsPairThere, IsReadAt, Leads, shortest};
+ghost use Rattle.sq_plain.specs.Many.{AreAnswered, IsBelow, Leads, shortest};
+ghost use Rattle.squitter_c.specs.Many.{IsE7At, IsHeardAt, IsHeardNear, IsLocalAt, IsPairNear, IsPairThere, IsReadAt};
 
 use crate::decode::{squitter_local, squitter_pair, squitter_pair_at};
 use crate::e7::{DegreesE7, squitter_position_e7};
 use crate::entry::PlainEntry;
-use crate::faults::Fault;
 use crate::fields::PlainSquitter;
-use crate::hear::{PlainHeard, squitter_hear, squitter_hear_at};
-use crate::plain::PlainPosition;
+use crate::hear::{squitter_hear, squitter_hear_at};
 use crate::read::squitter_read_frame;
+use sq_plain::{Fault, PlainHeard, PlainPosition};
 
 /// Reads each frame, as [`squitter_read_frame`] does, into its place of `out`, and answers how many places that
 /// are. The fault of each, or none, stands at its place of `faults`; at a fault that place of `out` is as it was.

@@ -2,13 +2,11 @@
 ghost use Rattle.std.specs.Prelude.{◌≡◌, MatchOption};
 ghost use Rattle.sq_message.specs.Parts.{squitter_parts};
 ghost use Rattle.sq_message.specs.Places.{Fits, IsPosition};
-ghost use Rattle.squitter_c.specs.Reading.{frame_of};
+ghost use Rattle.sq_plain.specs.Frames.{frame_of};
 ghost use Rattle.squitter_c.specs.Sending.{IsAgainAnswer, IsAirAnswer, IsAirSent, IsFrameFrom, IsGroundAnswer};
 ghost use Rattle.squitter_c.specs.Sending.{IsGroundSent, IsRoundedTo, IsSentAgain, TellsFrame};
 
-use crate::faults::{Fault, NONE, Refusal};
 use crate::heads::{PlainAirHead, PlainGroundHead, air_head, ground_head};
-use crate::plain::{PlainPosition, parity_of, position_of};
 use sq_angle::Position;
 use sq_bits::Frame;
 use sq_bits::laws::each_frame;
@@ -16,6 +14,7 @@ use sq_cpr::{Air, Ground, Parity, nearest};
 use sq_message::{
     Me, Place, PlaceFault, Squitter, read_frame, send_air, send_ground, send_point, write_frame,
 };
+use sq_plain::{Fault, NONE, PlainPosition, Refusal, parity_of, position_of};
 
 /// The frame that is sent of a position in the air (ICAO Doc 9871, register 0,5). The first fault is the head's, with
 /// its parity, then the position's.

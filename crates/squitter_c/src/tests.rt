@@ -4,21 +4,20 @@ use crate::angles::{squitter_angle_of_text, squitter_text_of_angle, squitter_zon
 use crate::decode::{squitter_local, squitter_pair, squitter_pair_at};
 use crate::e7::{DegreesE7, squitter_angle_e7, squitter_position_e7};
 use crate::entry::{PlainEntry, PlainFix, PlainReceived, PlainSide};
-use crate::faults::Fault;
 use crate::fields::PlainSquitter;
 use crate::heads::{PlainAirHead, PlainGroundHead};
-use crate::hear::{PlainHeard, squitter_hear, squitter_hear_at};
+use crate::hear::{squitter_hear, squitter_hear_at};
 use crate::many::{
     squitter_hear_at_many, squitter_hear_many, squitter_local_many, squitter_pair_at_many,
     squitter_pair_many, squitter_position_e7_many, squitter_read_many,
 };
-use crate::plain::{PlainAngle, PlainPosition};
 use crate::read::{
     squitter_frame_of_text, squitter_read_frame, squitter_read_text, squitter_text_of_frame,
 };
 use crate::send::{squitter_encode_air, squitter_encode_ground, squitter_send_again};
 use crate::texts::{squitter_text_of_fault, squitter_version};
 use crate::zones::{PlainZones, squitter_local_zones};
+use sq_plain::{Fault, PlainAngle, PlainHeard, PlainPosition};
 use std::process::Abort;
 
 const EVEN: &str = "8D40621D58C382D690C8AC2863A7";

@@ -6,8 +6,8 @@ ghost use Rattle.squitter_c.specs.Angles.{StandsIn};
 ghost use Rattle.squitter_c.specs.Texts.{told_text, version};
 
 use crate::angles::fill;
-use crate::faults::Fault;
 use arrayvec::ArrayString;
+use sq_plain::Fault;
 use sq_text::{push_decimal, push_hexadecimal};
 
 /// The text of a fault, as the program writes it, at most 63 bytes, and zeros after it.
@@ -62,6 +62,10 @@ fn push_told(text: &mut ArrayString<63>, code: u32, first: u64, second: u32)
         41 => text.push_str("bad moment"),
         42 => push_named(text, "moment back ", first),
         43 => text.push_str("table full"),
+        44 => text.push_str("out of memory"),
+        45 => text.push_str("limit is 0"),
+        46 => text.push_str("no tracker"),
+        47 => text.push_str("no address"),
         _ => text.push_str("unknown fault"),
     }
 }

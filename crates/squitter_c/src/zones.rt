@@ -1,13 +1,12 @@
 //! The zones in which a place lies: how the position of a code comes about.
-ghost use Rattle.squitter_c.specs.Reading.{frame_of};
+ghost use Rattle.sq_plain.specs.Frames.{frame_of};
 ghost use Rattle.squitter_c.specs.Zones.{AreZonesOf, AreZonesOfPlace, AreLocalZones, TellsZones};
 
 use crate::decode::near;
-use crate::faults::{Fault, NONE, Refusal};
-use crate::plain::PlainPosition;
 use sq_bits::Frame;
 use sq_cpr::{GridPoint, Span};
 use sq_message::Place;
+use sq_plain::{Fault, NONE, PlainPosition, Refusal};
 use sq_zones::zone_count;
 
 // The codes of a zone, in each coordinate: 2^17.
@@ -73,7 +72,7 @@ fn zones_of_place(place: &Place) -> PlainZones
 
 // The zones of a point: an index counts the codes of whole zones, and then its own code.
 fn zones_of<S: Span>(point: &GridPoint<S>) -> PlainZones
-    ensures { AreZonesOf S.DEGREES point.now result }
+    ensures { AreZonesOf S.span point.now result }
 {
     PlainZones {
         lat_zone: point.lat_index().div_euclid(CODES),

@@ -2,7 +2,7 @@ use Rattle.std.proofs.Common.{refl}
 use Rattle.sq_angle.specs.declared.read.AngleFault.TheVariants as angles
 use Rattle.sq_message.specs.declared.place.PlaceFault.TheVariants as places
 use Rattle.sq_text.specs.declared.faults.LineFault.TheVariants as lines
-use Rattle.squitter_c.specs.declared.faults.Refusal.TheVariants.{Line, Place, Angle, NoPosition, NoHead, NoAngle, NoLatitude, NoFeet, NoParity}
+use Rattle.sq_plain.specs.declared.faults.Refusal.TheVariants.{Line, Place, Angle, NoPosition, NoHead, NoAngle, NoLatitude, NoFeet, NoParity, Memory, NoLimit, NoTracker, NoAddress}
 use Rattle.squitter_c.specs.Texts.{EachText, told_text}
 use Rattle.squitter_c.proofs.laws.each_text.Goals as goal
 
@@ -34,6 +34,10 @@ each_text NoAngle = refl
 each_text NoLatitude = refl
 each_text NoFeet = refl
 each_text NoParity = refl
+each_text Memory = refl
+each_text NoLimit = refl
+each_text NoTracker = refl
+each_text NoAddress = refl
 
 pub returns : goal.returns
 returns c = each_text

@@ -1,7 +1,7 @@
 use Rattle.std.proofs.Common.{arith, ℕ, List, [], length, length-set, get_or, refl, slice_index, ◌<◌}
-use Rattle.squitter_c.proofs.Steps.{leads_on, no_heard, one_below, there}
+use Rattle.sq_plain.proofs.Steps.{leads_on, no_heard, one_below, there}
 use Rattle.squitter_c.specs.Many.{IsHeardNear}
-use Rattle.squitter_c.specs.Reading.{frame_of}
+use Rattle.sq_plain.specs.Frames.{frame_of}
 use Rattle.squitter_c.specs.Tracking.{IsHeardFrameAt}
 use Rattle.squitter_c.proofs.many.squitter_hear_at_many.Goals as goal
 

@@ -1,5 +1,6 @@
 use Rattle.std.proofs.Common.{◌≤◌, length}
-use Rattle.squitter_c.specs.Many.{IsBelow, IsHeardNear, Leads}
+use Rattle.sq_plain.specs.Many.{IsBelow, Leads}
+use Rattle.squitter_c.specs.Many.{IsHeardNear}
 use Rattle.squitter_c.proofs.many.squitter_hear_at_many.Given as goal
 
 abbrev pub invariant-loop-at : goal.invariant-loop-at

@@ -1,5 +1,6 @@
 use Rattle.std.proofs.Common.{◌≤◌, length}
-use Rattle.squitter_c.specs.Many.{IsBelow, IsHeardAt, Leads}
+use Rattle.sq_plain.specs.Many.{IsBelow, Leads}
+use Rattle.squitter_c.specs.Many.{IsHeardAt}
 use Rattle.squitter_c.proofs.many.squitter_hear_many.Given as goal
 
 abbrev pub invariant-loop-at : goal.invariant-loop-at

@@ -1,5 +1,6 @@
 use Rattle.std.proofs.Common.{◌≤◌, length}
-use Rattle.squitter_c.specs.Many.{AreAnswered, IsLocalAt}
+use Rattle.sq_plain.specs.Many.{AreAnswered}
+use Rattle.squitter_c.specs.Many.{IsLocalAt}
 use Rattle.squitter_c.proofs.many.squitter_local_many.Given as goal
 
 abbrev pub invariant-loop-at : goal.invariant-loop-at

@@ -1,5 +1,6 @@
 use Rattle.std.proofs.Common.{◌≤◌, length}
-use Rattle.squitter_c.specs.Many.{AreAnswered, IsPairThere}
+use Rattle.sq_plain.specs.Many.{AreAnswered}
+use Rattle.squitter_c.specs.Many.{IsPairThere}
 use Rattle.squitter_c.proofs.many.squitter_pair_many.Given as goal
 
 abbrev pub invariant-loop-at : goal.invariant-loop-at

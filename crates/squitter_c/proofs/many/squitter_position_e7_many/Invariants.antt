@@ -1,5 +1,6 @@
 use Rattle.std.proofs.Common.{◌≤◌, length}
-use Rattle.squitter_c.specs.Many.{AreAnswered, IsE7At}
+use Rattle.sq_plain.specs.Many.{AreAnswered}
+use Rattle.squitter_c.specs.Many.{IsE7At}
 use Rattle.squitter_c.proofs.many.squitter_position_e7_many.Given as goal
 
 abbrev pub invariant-loop-at : goal.invariant-loop-at

@@ -1,5 +1,6 @@
 use Rattle.std.proofs.Common.{◌≤◌, length}
-use Rattle.squitter_c.specs.Many.{AreAnswered, IsReadAt}
+use Rattle.sq_plain.specs.Many.{AreAnswered}
+use Rattle.squitter_c.specs.Many.{IsReadAt}
 use Rattle.squitter_c.proofs.many.squitter_read_many.Given as goal
 
 abbrev pub invariant-loop-at : goal.invariant-loop-at

@@ -1,12 +1,9 @@
 -- Many calls in one: one call more.
 use Rattle.std.proofs.Common.{◌≡◌, ◌<◌, ◌≤◌, ◌+◌, ◌∙◌, ◌≢◌, ℕ, zero, suc, pos, add-one, List, length, get_or, set, refl, sym, subst, subst₂, arith, inl, inr, ◌⊎◌}
 use Rattle.std.proofs.lemmas.List.{length-set, get_or-set_same, get_or-set_other, get_or_default}
-use Rattle.squitter_c.specs.declared.e7.DegreesE7.{DegreesE7}
-use Rattle.squitter_c.specs.declared.fields.PlainSquitter.{PlainSquitter}
-use Rattle.squitter_c.specs.declared.hear.PlainHeard.{PlainHeard}
-use Rattle.squitter_c.specs.declared.plain.PlainPosition.{PlainPosition}
-use Rattle.squitter_c.specs.Tracking.{no_angle}
-use Rattle.squitter_c.specs.Many.{AreAnswered, IsBelow, Leads}
+use Rattle.sq_plain.specs.declared.heard.PlainHeard.{PlainHeard}
+use Rattle.sq_plain.specs.declared.plain.PlainPosition.{PlainPosition}
+use Rattle.sq_plain.specs.Many.{AreAnswered, IsBelow, Leads}
 
 -- below n + 1 is below n, or n
 below_next : (k n : ℕ) → k < n + 1 → (k < n) ⊎ (k ≡ n)
@@ -91,31 +88,7 @@ module _ {S B C : Type 0} (At : ℕ → S → S → B → B → C → Type 0) (f
 
 -- what stands for a place past an end
 abbrev pub no_place : PlainPosition
-no_place = record { lat = no_angle; lon = no_angle }
+no_place = record { lat = record { num = pos 0; den = 0 }; lon = record { num = pos 0; den = 0 } }
 
 abbrev pub no_heard : PlainHeard
 no_heard = record { position = no_place; what = 0; even = 0; odd = 0 }
-
-abbrev pub no_degrees : DegreesE7
-no_degrees = record { lat = pos 0; lon = pos 0 }
-
-abbrev pub no_fields : PlainSquitter
-no_fields = record {
-  raw = 0;
-  address = 0;
-  lat = 0;
-  lon = 0;
-  feet = pos 0;
-  altitude = 0;
-  altitude_form = 0;
-  kind = 0;
-  ca = 0;
-  type_code = 0;
-  odd = 0;
-  time = 0;
-  status = 0;
-  flag = 0;
-  movement = 0;
-  track_status = 0;
-  track = 0;
-}

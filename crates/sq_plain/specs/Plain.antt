@@ -9,8 +9,8 @@ use Rattle.sq_angle.specs.Lowest.{IsLowestFormOf}
 use Rattle.sq_angle.specs.Position.{lat_of, lon_of}
 use Rattle.sq_zones.specs.declared.parity.Parity.{Parity}
 use Rattle.sq_zones.specs.Zones.{parity_index}
-use Rattle.squitter_c.specs.declared.plain.PlainAngle.{PlainAngle}
-use Rattle.squitter_c.specs.declared.plain.PlainPosition.{PlainPosition}
+use Rattle.sq_plain.specs.declared.plain.PlainAngle.{PlainAngle}
+use Rattle.sq_plain.specs.declared.plain.PlainPosition.{PlainPosition}
 
 -- its value in degrees
 abbrev pub fraction_of : PlainAngle → Fraction

@@ -1,8 +1,8 @@
 //! Plain values that cross, and what they stand for.
 ghost use Rattle.std.specs.Prelude.{◌≡◌, ◌↔◌, IfSome, IsSome};
 ghost use Rattle.sq_angle.specs.Angle.{degrees};
-ghost use Rattle.squitter_c.specs.Plain.{IsAngleOf, IsFlag, IsLowestOf, IsLowestPosition, IsOfDegrees, IsParity};
-ghost use Rattle.squitter_c.specs.Plain.{PlainIsAngle, PlainIsPosition};
+ghost use Rattle.sq_plain.specs.Plain.{IsAngleOf, IsFlag, IsLowestOf, IsLowestPosition, IsOfDegrees, IsParity};
+ghost use Rattle.sq_plain.specs.Plain.{PlainIsAngle, PlainIsPosition};
 
 use sq_angle::{Angle, Position};
 use sq_zones::Parity;
@@ -23,16 +23,17 @@ pub struct PlainPosition {
     pub lon: PlainAngle,
 }
 
-// The angle of a fraction; None exactly where it is none.
-pub(crate) fn angle_of(plain: &PlainAngle) -> Option<Angle>
+/// The angle of a fraction of degrees. None exactly where it is none: see [`Angle::new`] for the limits.
+pub fn angle_of(plain: &PlainAngle) -> Option<Angle>
     ensures variant { IsSome result ↔ PlainIsAngle plain.now }
     ensures value { IfSome result (IsAngleOf plain.now) }
 {
     Angle::new(plain.num, plain.den)
 }
 
-// The position of two fractions; None exactly where they are none.
-pub(crate) fn position_of(plain: &PlainPosition) -> Option<Position>
+/// The position of two fractions of degrees. None exactly where one of them is no angle, or the two are no position:
+/// see [`Position::new`] for the limits.
+pub fn position_of(plain: &PlainPosition) -> Option<Position>
     ensures variant { IsSome result ↔ PlainIsPosition plain.now }
     ensures value { IfSome result (IsOfDegrees plain.now) }
 {
@@ -41,8 +42,8 @@ pub(crate) fn position_of(plain: &PlainPosition) -> Option<Position>
     Position::new(lat, lon)
 }
 
-// A position in lowest terms.
-pub(crate) fn plain_position(position: &Position) -> PlainPosition
+/// A position in degrees, both fractions in lowest terms.
+pub fn plain_position(position: &Position) -> PlainPosition
     ensures { IsLowestPosition position.now result }
 {
     PlainPosition {
@@ -51,16 +52,16 @@ pub(crate) fn plain_position(position: &Position) -> PlainPosition
     }
 }
 
-// An angle in lowest terms.
-pub(crate) fn plain_angle(angle: &Angle) -> PlainAngle
+/// An angle in degrees, in lowest terms.
+pub fn plain_angle(angle: &Angle) -> PlainAngle
     ensures { IsLowestOf (degrees angle.now) result }
 {
     let (num, den) = angle.reduced();
     PlainAngle { num, den }
 }
 
-// 0 is even and 1 is odd; None for any other number.
-pub(crate) fn parity_of(odd: u8) -> Option<Parity>
+/// The parity of a number: 0 is even and 1 is odd. None for any other number.
+pub fn parity_of(odd: u8) -> Option<Parity>
     ensures variant { IsSome result ↔ IsFlag odd }
     ensures value { IfSome result (IsParity odd) }
 {

@@ -1,6 +1,6 @@
 //! What a call answers: 0 for an answer, else what is at fault.
 ghost use Rattle.std.specs.Prelude.{◌≡◌};
-ghost use Rattle.squitter_c.specs.Faults.{fault_of, fault_of_angle, fault_of_line, fault_of_place, told};
+ghost use Rattle.sq_plain.specs.Faults.{fault_of, fault_of_angle, fault_of_line, fault_of_place, told};
 
 use sq_angle::AngleFault;
 use sq_message::PlaceFault;
@@ -36,18 +36,26 @@ pub enum Refusal {
     NoFeet,
     /// The parity is neither 0 nor 1.
     NoParity,
+    /// An allocation failed.
+    Memory,
+    /// The limit of a tracker is 0.
+    NoLimit,
+    /// There is no tracker.
+    NoTracker,
+    /// No address of a tracker stands at the index.
+    NoAddress,
 }
 
-// There is an answer.
-pub(crate) const NONE: Fault = Fault {
+/// There is an answer: code 0.
+pub const NONE: Fault = Fault {
     code: 0,
     second: 0,
     first: 0,
 };
 
 impl Fault {
-    // The code and the numbers of a reason.
-    pub(crate) fn of(refusal: Refusal) -> Fault
+    /// The code and the numbers of a reason, 0 where it has none.
+    pub fn of(refusal: Refusal) -> Fault
         ensures { result ≡ fault_of refusal }
     {
         match refusal {
@@ -60,6 +68,10 @@ impl Fault {
             Refusal::NoLatitude => plain(23),
             Refusal::NoFeet => plain(24),
             Refusal::NoParity => plain(25),
+            Refusal::Memory => plain(44),
+            Refusal::NoLimit => plain(45),
+            Refusal::NoTracker => plain(46),
+            Refusal::NoAddress => plain(47),
         }
     }
 }

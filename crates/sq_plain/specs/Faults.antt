@@ -9,9 +9,9 @@ use Rattle.sq_text.specs.declared.faults.LineFault.{LineFault}
 use Rattle.sq_text.specs.declared.faults.LineFault.TheVariants as lines
 use Rattle.sq_text.specs.declared.frame_text.TextFault.{TextFault}
 use Rattle.sq_text.specs.Faults.{of_frame, of_text}
-use Rattle.squitter_c.specs.declared.faults.Fault.{Fault}
-use Rattle.squitter_c.specs.declared.faults.Refusal.{Refusal}
-use Rattle.squitter_c.specs.declared.faults.Refusal.TheVariants.{Line, Place, Angle, NoPosition, NoHead, NoAngle, NoLatitude, NoFeet, NoParity}
+use Rattle.sq_plain.specs.declared.faults.Fault.{Fault}
+use Rattle.sq_plain.specs.declared.faults.Refusal.{Refusal}
+use Rattle.sq_plain.specs.declared.faults.Refusal.TheVariants.{Line, Place, Angle, NoPosition, NoHead, NoAngle, NoLatitude, NoFeet, NoParity, Memory, NoLimit, NoTracker, NoAddress}
 
 -- a code with two numbers
 abbrev pub told : (code first second : ℕ) → Fault
@@ -61,6 +61,10 @@ fault_of NoAngle = told 22 0 0
 fault_of NoLatitude = told 23 0 0
 fault_of NoFeet = told 24 0 0
 fault_of NoParity = told 25 0 0
+fault_of Memory = told 44 0 0
+fault_of NoLimit = told 45 0 0
+fault_of NoTracker = told 46 0 0
+fault_of NoAddress = told 47 0 0
 
 -- the reasons of texts, frames and moments with 0 for their numbers
 abbrev pub kind_of_line : LineFault → LineFault
@@ -96,6 +100,10 @@ kind_of NoAngle = NoAngle
 kind_of NoLatitude = NoLatitude
 kind_of NoFeet = NoFeet
 kind_of NoParity = NoParity
+kind_of Memory = Memory
+kind_of NoLimit = NoLimit
+kind_of NoTracker = NoTracker
+kind_of NoAddress = NoAddress
 
 -- a code is that of one kind of reason, whatever the numbers
 abbrev pub OneCode : Type 0

@@ -1,4 +1,4 @@
-use Rattle.squitter_c.proofs.laws.answered_exactly.Goals as goal
+use Rattle.sq_plain.proofs.laws.answered_exactly.Goals as goal
 
 pub returns : goal.returns
 returns g c out fault was is before after n = (

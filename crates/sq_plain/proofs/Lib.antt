@@ -1,0 +1,4 @@
+pub mod Steps
+pub mod OneTelling
+pub mod OnePlain
+pub mod OneHeard
