@@ -1,6 +1,7 @@
 #!/usr/bin/env python3
 """batch.py [FRAMES [ROUNDS]]: squitter.batch beside the calls and the program that do the same: the nanoseconds of a
-frame, and frames a second, of `read` beside C's squitter_read_many, and of `track` beside `squitter track`.
+frame, and frames a second, of `read` beside C's squitter_read_many, and of `track` beside C's squitter_tracker_hear_many, by
+itself and with the degrees that `track` answers, and beside `squitter track`.
 
 A million frames (or so many FRAMES) of 900 aircraft, made by gen.c. Each is run in turn for five ROUNDS (or so many),
 `read` ten times a round as C's is, and the fastest counts, so that what else the machine does weighs on all alike.
@@ -40,7 +41,8 @@ def timed(count: int, call: Callable[[], object], times: int = 1) -> float:
 
 
 def log_of(folder: str, count: int) -> Tuple[NDArray[Any], NDArray[Any], NDArray[Any]]:
-    """A log: its moments, the texts of its frames, and these as bytes. It stays in the folder, as do its frames."""
+    """A log: its moments, the texts of its frames, and these as bytes. It stays in the folder, as do its
+    frames and its moments."""
     words = [built(folder, "gen", "-lm"), "track", str(count), "1", str(AIRCRAFT)]
     log = subprocess.run(words, stdout=subprocess.PIPE, check=True).stdout
     with open(f"{folder}/log", "wb") as file:
@@ -49,6 +51,7 @@ def log_of(folder: str, count: int) -> Tuple[NDArray[Any], NDArray[Any], NDArray
     moments, texts = np.array(parts[::2], "S20").astype(np.uint64), np.array(parts[1::2], "S28")
     frames = np.frombuffer(bytes.fromhex(b"".join(parts[1::2]).decode()), np.uint8).reshape(-1, 14)
     frames.tofile(f"{folder}/frames")
+    moments.tofile(f"{folder}/moments")
     return moments, texts, frames
 
 
@@ -58,7 +61,7 @@ def figures(folder: str, count: int) -> Dict[str, Callable[[], float]]:
     from squitter import batch
 
     moments, texts, frames = log_of(folder, count)
-    from_c = built(folder, "read_many", os.path.join(CLIB, "libsquitter.a"))
+    from_c, tracker = (built(folder, name, os.path.join(CLIB, "libsquitter.a")) for name in ("read_many", "track_many"))
     program = subprocess.run([f"{HERE}/../dist/program"], stdout=subprocess.PIPE, text=True, check=True).stdout.strip()
     site = squitter.Position(Fraction(521, 10), Fraction(47, 10))
     fields, faults = batch.read(frames)
@@ -67,6 +70,10 @@ def figures(folder: str, count: int) -> Dict[str, Callable[[], float]]:
 
     def by_c() -> float:
         return float(subprocess.run([from_c, f"{folder}/frames"], stdout=subprocess.PIPE, check=True).stdout)
+
+    def by_tracker(place: int) -> Callable[[], float]:
+        words = [tracker, f"{folder}/moments", f"{folder}/frames"]
+        return lambda: float(subprocess.run(words, stdout=subprocess.PIPE, check=True).stdout.split()[place])
 
     def by_program() -> None:
         with open(f"{folder}/log", "rb") as source, open(f"{folder}/answers", "wb") as answers:
@@ -82,6 +89,8 @@ def figures(folder: str, count: int) -> Dict[str, Callable[[], float]]:
         "batch.read, new arrays": lambda: timed(count, lambda: batch.read(frames), 10),
         "batch.read of S28": lambda: timed(count, lambda: batch.read(texts), 10),
         "squitter.read, one by one": lambda: timed(len(ones), lambda: [squitter.read(one) for one in ones]),
+        "squitter_tracker_hear_many": by_tracker(0),
+        "and degrees, C": by_tracker(1),
         "squitter track": lambda: timed(count, by_program),
         "batch.track, arrays given": lambda: timed(
             count, lambda: batch.track(moments, frames, site=site, out=heard, faults=told)),
@@ -99,7 +108,7 @@ def main() -> None:
             [run() for run in measured.values()] for _ in range(rounds))))}
     print(f"{count} frames of {AIRCRAFT} aircraft, the fastest of {rounds} rounds")
     for name, took in best.items():
-        beside = best["squitter track" if "track" in name else "squitter_read_many, C"]
+        beside = best["squitter_tracker_hear_many" if "track" in name or "degrees" in name else "squitter_read_many, C"]
         print(f"{name:26} {took:8.1f} ns {1e9 / took:12,.0f} a second {beside / took:6.2f}")
 
 

@@ -18,7 +18,8 @@
  *   - a text is `length` bytes, has no need of a zero at its end, and is shorter than 2^63 bytes.
  *
  * No call takes memory, keeps a pointer, blocks, has state or touches errno: calls may run side by side on threads, and in
- * signal handlers. Structs are laid out as written, and the bytes between fields mean nothing. */
+ * signal handlers. Those of a tracker (squitter_tracker_*) alone take memory, by malloc and realloc, and give it back, by free: they
+ * may run side by side for different trackers. Structs are laid out as written, and the bytes between fields mean nothing. */
 #ifndef SQUITTER_H
 #define SQUITTER_H
 
@@ -98,7 +99,12 @@ enum {
   /* of the program's logs; no call here answers one of these */
   SQUITTER_LONG_LINE = 40,       /* a line has more than 64 bytes */
   SQUITTER_BAD_MOMENT = 41,      /* a line does not begin with a moment */
-  SQUITTER_TABLE_FULL = 43       /* the table of addresses is full */
+  /* of trackers */
+  SQUITTER_TABLE_FULL = 43,      /* as many other addresses as the limit are present */
+  SQUITTER_NO_MEMORY = 44,       /* an allocation failed */
+  SQUITTER_NO_LIMIT = 45,        /* the limit is 0 */
+  SQUITTER_NO_TRACKER = 46,      /* there is no tracker */
+  SQUITTER_NO_ADDRESS = 47       /* no address stands at the index */
 };
 
 /* num / den degrees. An angle has a den from 1 to 10^12 and a magnitude of at most 360 degrees. What a call writes is in
@@ -227,6 +233,20 @@ typedef struct squitter_heard {
   uint8_t even, odd;          /* of SPLIT; else 0 */
 } squitter_heard;
 
+/* A tracker of all addresses at once, as `squitter track` has it: squitter_tracker_new makes it, and squitter_tracker_free gives its
+ * memory back. The caller lends these 16 bytes, all 0 at first (`squitter_tracker tracker = {0, 0};`), which is no tracker, and then
+ * neither writes to them nor uses a copy of them: what they hold is the library's own. */
+typedef struct squitter_tracker {
+  uint64_t full;
+  void *at;
+} squitter_tracker;
+
+/* An address that is present in a tracker, and the moment of its newest position. */
+typedef struct squitter_present {
+  uint64_t moment;
+  uint32_t address;
+} squitter_present;
+
 /* ---- Texts and frames ---- */
 
 /* The frame of a frame text: 28 hexadecimal digits of either case, bare or between `*` and `;`.
@@ -281,6 +301,41 @@ squitter_fault squitter_hear(squitter_entry *SQUITTER_RESTRICT entry, uint64_t w
 squitter_fault squitter_hear_at(squitter_entry *SQUITTER_RESTRICT entry, uint64_t window, const squitter_position *site,
                                 uint64_t moment, const uint8_t SQUITTER_CONST_BYTES(frame, 14),
                                 squitter_heard *SQUITTER_RESTRICT out) SQUITTER_CALL;
+
+/* ---- A tracker ---- */
+
+/* Makes an empty tracker for up to `limit` addresses, without a site. An address is present while it has a position that is at most
+ * the window older than the last moment that was heard. A tracker that is there is freed first; at a fault there is none. Faults:
+ * NO_LIMIT (the limit is 0), NO_MEMORY. The program has a limit of 1000 and a window of 10000 milliseconds. */
+squitter_fault squitter_tracker_new(squitter_tracker *tracker, uint32_t limit, uint64_t window) SQUITTER_CALL;
+
+/* The same with a site, which pairs on the ground want. Faults: BAD_POSITION (the site), and then those of squitter_tracker_new. */
+squitter_fault squitter_tracker_new_at(squitter_tracker *SQUITTER_RESTRICT tracker, uint32_t limit, uint64_t window,
+                                       const squitter_position *site) SQUITTER_CALL;
+
+/* Frees a tracker, with all memory that it took: there is none afterwards. It does nothing where there is none. */
+void squitter_tracker_free(squitter_tracker *tracker) SQUITTER_WRITE;
+
+/* Hears a frame: what is heard of it, by the frames that the tracker accepted before. Memory is taken for an address that is not
+ * present alone, and the time of a call does not grow with the number of addresses. At a fault the tracker and *out are as they were.
+ * Faults: NO_TRACKER, NOT_DF17, PARITY, MOMENT_BACK, TABLE_FULL, NO_MEMORY. */
+squitter_fault squitter_tracker_hear(squitter_tracker *SQUITTER_RESTRICT tracker, uint64_t moment,
+                                     const uint8_t SQUITTER_CONST_BYTES(frame, 14),
+                                     squitter_heard *SQUITTER_RESTRICT out) SQUITTER_CALL;
+
+/* squitter_tracker_hear of each frame at its moment, one after the other, as the calls of arrays below do: the answer is how many. */
+size_t squitter_tracker_hear_many(squitter_tracker *SQUITTER_RESTRICT tracker, const uint64_t *moments, size_t moments_count,
+                                  const uint8_t (*frames)[14], size_t frames_count, squitter_heard *SQUITTER_RESTRICT out,
+                                  size_t out_count, squitter_fault *SQUITTER_RESTRICT faults,
+                                  size_t faults_count) SQUITTER_CALL;
+
+/* How many addresses are present, at most the limit; 0 where there is no tracker. */
+size_t squitter_tracker_len(squitter_tracker *tracker) SQUITTER_CALL;
+
+/* The present address at an index, the longest unheard first. The time grows with the index. Faults: NO_TRACKER, NO_ADDRESS (from
+ * squitter_tracker_len on). */
+squitter_fault squitter_tracker_get(squitter_tracker *SQUITTER_RESTRICT tracker, size_t index,
+                                    squitter_present *SQUITTER_RESTRICT out) SQUITTER_CALL;
 
 /* ---- Arrays ---- */
 
@@ -395,6 +450,8 @@ SQUITTER_SIZE(squitter_side, 88);
 SQUITTER_SIZE(squitter_entry, 192);
 SQUITTER_SIZE(squitter_heard, 40);
 SQUITTER_SIZE(squitter_degrees_e7, 8);
+SQUITTER_SIZE(squitter_tracker, 16);
+SQUITTER_SIZE(squitter_present, 16);
 
 #ifdef __cplusplus
 }

@@ -1,29 +1,13 @@
 /* decode_log LOG: what is heard of each line of a log, a moment in milliseconds and a frame, as `squitter track` says it, line by
- * line. Addresses with a position of the last WINDOW milliseconds stand in a small table of entries, which the library fills. */
+ * line. A tracker of the library keeps what is heard. */
 #include "squitter.h"
 #include <errno.h>
 #include <inttypes.h>
 #include <stdbool.h>
 #include <stdio.h>
-#include <stdlib.h>
 #include <string.h>
 
 enum { MOST = 1000, WINDOW = 10000, LINE = 64, MOMENT_DIGITS = 20 };
-
-static struct { uint32_t address; squitter_entry entry; } table[MOST];
-static size_t used;
-
-/* What is kept of an address at this moment; none where the table is full of others that are as recent as the window. */
-static squitter_entry *entry_of(uint32_t address, uint64_t moment) {
-  size_t at = used;
-  for (size_t i = 0; i < used; i++) if (table[i].address == address) return &table[i].entry;
-  if (used < MOST) used++;
-  else for (at = 0; at < MOST && moment - table[at].entry.newest <= WINDOW; at++);
-  if (at == MOST) return 0;
-  table[at].address = address;
-  memset(&table[at].entry, 0, sizeof table[at].entry); /* all zero: nothing heard */
-  return &table[at].entry;
-}
 
 static void show_place(const char *word, uint32_t address, const squitter_position *place) {
   char lat[SQUITTER_ANGLE_TEXT_BYTES], lon[SQUITTER_ANGLE_TEXT_BYTES];
@@ -56,32 +40,17 @@ static bool read_moment(const char *text, size_t length, uint64_t *moment) {
   return true;
 }
 
-/* One line: the fault, or what is heard. `last` is the moment of the last line that was heard. */
-static squitter_fault hear_line(const char *line, size_t length, uint64_t *last) {
+/* One line: the fault, or what is heard. */
+static squitter_fault hear_line(squitter_tracker *tracker, const char *line, size_t length) {
   const char *space = memchr(line, ' ', length);
   squitter_fault fault = {SQUITTER_BAD_MOMENT, 0, 0};
-  squitter_fields fields;
   squitter_heard heard;
-  squitter_entry other = {0}, *entry = &other; /* of a message without a position nothing is kept */
   uint8_t frame[SQUITTER_FRAME_BYTES];
   uint64_t moment;
   if (!space || !read_moment(line, (size_t)(space - line), &moment)) return fault;
   fault = squitter_frame_of_text(space + 1, length - (size_t)(space + 1 - line), frame);
-  if (!fault.code) fault = squitter_read_frame(frame, &fields);
-  if (fault.code) return fault;
-  if (moment < *last) {
-    squitter_fault back = {SQUITTER_MOMENT_BACK, 0, *last};
-    return back;
-  }
-  if (fields.kind != SQUITTER_OTHER) entry = entry_of(fields.address, moment);
-  if (!entry) {
-    squitter_fault full = {SQUITTER_TABLE_FULL, 0, 0};
-    return full;
-  }
-  fault = squitter_hear(entry, WINDOW, moment, frame, &heard);
-  if (fault.code) return fault;
-  *last = moment;
-  show(fields.address, &heard);
+  if (!fault.code) fault = squitter_tracker_hear(tracker, moment, frame, &heard);
+  if (!fault.code) show((uint32_t)frame[1] << 16 | (uint32_t)frame[2] << 8 | frame[3], &heard);
   return fault;
 }
 
@@ -96,12 +65,16 @@ static long next_line(FILE *log, char line[LINE]) {
 
 int main(int argc, char **argv) {
   char line[LINE], words[SQUITTER_FAULT_TEXT_BYTES];
-  uint64_t last = 0;
   long length;
+  squitter_tracker tracker = {0, 0}; /* none */
   FILE *log = argc == 2 ? fopen(argv[1], "rb") : 0;
   if (!log) {
     fprintf(stderr, "decode_log: %s\n", argc == 2 ? strerror(errno) : "give a log");
     return 2;
+  }
+  if (squitter_tracker_new(&tracker, MOST, WINDOW).code) {
+    fprintf(stderr, "decode_log: out of memory\n");
+    return 3;
   }
   for (long number = 1; (length = next_line(log, line)) >= 0; number++) {
     squitter_fault fault = {SQUITTER_LONG_LINE, 0, 0};
@@ -109,11 +82,12 @@ int main(int argc, char **argv) {
     if (!is_long && length > 0 && line[length - 1] == '\r') length--;
     if (length == 0) continue; /* an empty line is counted, and not answered */
     printf("%ld ", number);
-    if (!is_long) fault = hear_line(line, (size_t)length, &last);
+    if (!is_long) fault = hear_line(&tracker, line, (size_t)length);
     if (fault.code) {
       squitter_text_of_fault(&fault, words);
       printf("%s\n", words);
     }
   }
+  squitter_tracker_free(&tracker);
   return ferror(log) || fclose(log) != 0 || fflush(stdout) != 0;
 }

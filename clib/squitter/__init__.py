@@ -17,6 +17,8 @@ import ctypes
 import enum
 import operator
 import os
+import threading
+import weakref
 from ctypes.util import find_library
 from dataclasses import dataclass
 from fractions import Fraction
@@ -25,7 +27,7 @@ from typing import Iterable, Iterator, List, NamedTuple, Optional, Sequence, Tup
 
 __all__ = [
     "AirHead", "Altitude", "AltitudeForm", "Code", "Contact", "Fault", "Fields", "Frame", "GroundHead", "Heard", "Kind",
-    "Position", "What", "Zones", "angle", "angle_e7", "angle_text", "encode", "fault_text", "feet_of_field",
+    "Position", "Present", "Tracker", "What", "Zones", "angle", "angle_e7", "angle_text", "encode", "fault_text", "feet_of_field",
     "field_of_feet", "frame", "frame_text", "local", "local_many", "local_zones", "pair", "pair_many", "position_e7",
     "read", "read_many", "send_again", "version", "zone_count",
 ]
@@ -70,6 +72,10 @@ class Code(enum.IntEnum):
     LONG_LINE = 40
     BAD_MOMENT = 41
     TABLE_FULL = 43
+    NO_MEMORY = 44
+    NO_LIMIT = 45
+    NO_TRACKER = 46
+    NO_ADDRESS = 47
 
 
 class Kind(enum.IntEnum):
@@ -201,6 +207,13 @@ class Heard(NamedTuple):
     odd: int
 
 
+class Present(NamedTuple):
+    """An address that is present in a tracker, and the moment of its newest position."""
+
+    address: int
+    moment: int
+
+
 # ---- the library ----
 
 
@@ -284,6 +297,14 @@ class _DegreesE7(ctypes.Structure):
     _fields_ = [("lat", ctypes.c_int32), ("lon", ctypes.c_int32)]
 
 
+class _Tracker(ctypes.Structure):
+    _fields_ = [("full", ctypes.c_uint64), ("at", ctypes.c_void_p)]
+
+
+class _Present(ctypes.Structure):
+    _fields_ = [("moment", ctypes.c_uint64), ("address", ctypes.c_uint32)]
+
+
 # What each call takes.
 _CALLS = {
     "frame_of_text": [ctypes.c_char_p, ctypes.c_size_t, _P(_FRAME)],
@@ -305,6 +326,10 @@ _CALLS = {
     "field_of_feet": [ctypes.c_int32, _P(ctypes.c_uint16)],
     "angle_e7": [_P(_Angle), _P(ctypes.c_int64)],
     "position_e7": [_P(_Position), _P(_DegreesE7)],
+    "tracker_new": [_P(_Tracker), ctypes.c_uint32, ctypes.c_uint64],
+    "tracker_new_at": [_P(_Tracker), ctypes.c_uint32, ctypes.c_uint64, _P(_Position)],
+    "tracker_hear": [_P(_Tracker), ctypes.c_uint64, ctypes.c_char_p, _P(_Heard)],
+    "tracker_get": [_P(_Tracker), ctypes.c_size_t, _P(_Present)],
 }
 
 # And each call of arrays, which are handed over as an address and a number of elements.
@@ -317,6 +342,7 @@ _MANY = {
     "hear_many": [_P(_Entry), ctypes.c_uint64, *(4 * _ARRAY)],
     "hear_at_many": [_P(_Entry), ctypes.c_uint64, _P(_Position), *(4 * _ARRAY)],
     "position_e7_many": 3 * _ARRAY,
+    "tracker_hear_many": [_P(_Tracker), *(4 * _ARRAY)],
 }
 
 
@@ -341,6 +367,8 @@ def _load() -> ctypes.CDLL:
     library.squitter_text_of_frame.restype = None
     library.squitter_text_of_fault.argtypes = [_P(_Fault), ctypes.c_char_p]
     library.squitter_text_of_fault.restype = None
+    library.squitter_tracker_len.argtypes, library.squitter_tracker_len.restype = [_P(_Tracker)], ctypes.c_size_t
+    library.squitter_tracker_free.argtypes, library.squitter_tracker_free.restype = [_P(_Tracker)], None
     library.squitter_version.argtypes, library.squitter_version.restype = [], ctypes.c_uint32
     return library
 
@@ -589,11 +617,7 @@ class Contact:
         """What is heard of each frame at its moment, one after the other, or its fault, which is not raised. Other than
         one moment a frame is a ValueError."""
         source, count = _frames(frames)
-        if len(moments) != count:
-            raise ValueError(f"{count} frames and {len(moments)} moments")
-        if not all(_fits(moment, 64) for moment in moments):
-            raise ValueError("a moment is a whole number below 2**64")
-        times = (ctypes.c_uint64 * count)(*map(operator.index, moments))
+        times = _times(moments, count)
         arrays = (ctypes.addressof(times), count, source, count)
         entry = ctypes.byref(self._entry)
         if self._site is None:
@@ -611,6 +635,97 @@ class Contact:
     def newest(self) -> int:
         """The moment of the newest position, 0 where none was heard."""
         return int(self._entry.newest)
+
+
+def _times(moments: Sequence[int], count: int) -> ctypes.Array[ctypes.c_uint64]:
+    """The moments of so many frames, as C takes them."""
+    if len(moments) != count:
+        raise ValueError(f"{count} frames and {len(moments)} moments")
+    if not all(_fits(moment, 64) for moment in moments):
+        raise ValueError("a moment is a whole number below 2**64")
+    return (ctypes.c_uint64 * count)(*map(operator.index, moments))
+
+
+class Tracker:
+    """All addresses at once, as the program ``squitter track`` hears them: what each frame answers by those before it.
+
+    Its memory is the library's, and is given back by :meth:`close`, at the end of a ``with``, or with the tracker itself;
+    afterwards each call raises the Fault NO_TRACKER. Calls from several threads wait for one another. A tracker has no
+    copy and no pickle: :class:`Contact` and ``squitter.batch.Tracker`` have.
+
+    >>> with Tracker(window=10_000) as tracker:
+    ...     tracker.hear(0, "8D40621D58C386435CC412692AD6").what.name
+    ...     tracker.hear(400, "8D40621D58C382D690C8AC2863A7").position
+    ...     len(tracker), tracker[0]
+    'WAITING'
+    Position(lat=Fraction(428091, 8192), lon=Fraction(64215, 16384))
+    (1, Present(address=4219421, moment=400))
+    """
+
+    __slots__ = ("_free", "_lock", "_tracker", "__weakref__")
+
+    def __init__(self, window: int = 10_000, site: Optional[Position] = None, limit: int = 1000) -> None:
+        """A tracker that has heard nothing. The site is for pairs on the ground. At most `limit` addresses are present,
+        each while it has a position that is at most the window older than the last moment."""
+        if not _fits(window, 64):
+            raise ValueError("a window is a whole number below 2**64")
+        if not _fits(limit, 32):
+            raise ValueError("a limit is a whole number below 2**32")
+        held = _Tracker()
+        tracker = ctypes.byref(held)
+        if site is None:
+            _done(_lib.squitter_tracker_new(tracker, limit, window))
+        else:
+            _done(_lib.squitter_tracker_new_at(tracker, limit, window, ctypes.byref(_position(site))))
+        self._tracker, self._lock = held, threading.Lock()
+        self._free = weakref.finalize(self, _lib.squitter_tracker_free, held)
+
+    def close(self) -> None:
+        """Gives the memory back. What is closed may be closed again."""
+        with self._lock:
+            self._free()
+
+    def __enter__(self) -> Tracker:
+        return self
+
+    def __exit__(self, *fault: object) -> None:
+        self.close()
+
+    def __reduce__(self) -> str:
+        raise TypeError("a tracker has no copy and no pickle")
+
+    def hear(self, moment: int, source: Frame) -> Heard:
+        """What is heard of a frame. A Fault leaves the tracker as it was."""
+        times, bytes_of, out = _times([moment], 1), frame(source), _Heard()
+        with self._lock:
+            _done(_lib.squitter_tracker_hear(ctypes.byref(self._tracker), times[0], bytes_of, ctypes.byref(out)))
+        return _read_heard(out)
+
+    def hear_many(self, moments: Sequence[int], frames: Frames) -> List[Union[Heard, Fault]]:
+        """What is heard of each frame at its moment, one after the other, or its fault, which is not raised. Other than
+        one moment a frame is a ValueError."""
+        source, count = _frames(frames)
+        times = _times(moments, count)
+        with self._lock:
+            answers = list(_many("tracker_hear_many", _Heard, count, ctypes.byref(self._tracker), ctypes.addressof(times),
+                                 count, source, count))
+        return [fault or _read_heard(out) for out, fault in answers]
+
+    def __len__(self) -> int:
+        """How many addresses are present, at most the limit; 0 of one that is closed."""
+        with self._lock:
+            return int(_lib.squitter_tracker_len(ctypes.byref(self._tracker)))
+
+    def __getitem__(self, index: int) -> Present:
+        """The present address at an index, the longest unheard first; below 0 from the newest on. The time grows with the
+        index."""
+        place, out = operator.index(index), _Present()
+        with self._lock:
+            count = int(_lib.squitter_tracker_len(ctypes.byref(self._tracker)))
+            if not -count <= place < count:
+                raise IndexError(f"{count} addresses are present")
+            _done(_lib.squitter_tracker_get(ctypes.byref(self._tracker), place % count, ctypes.byref(out)))
+        return Present(out.address, out.moment)
 
 
 def _read_heard(out: _Heard) -> Heard:

@@ -72,6 +72,8 @@ _HEARD = np.dtype([*POSITION.descr, ("what", "u1"), ("even", "u1"), ("odd", "u1"
 _DEGREES_E7 = np.dtype([("lat", "i4"), ("lon", "i4")], align=True)
 _ENTRY_WORDS = ctypes.sizeof(squitter._Entry) // 8
 _BLOCK = 1 << 18  # lines that are heard at once, so that what is needed beside the answers stays small
+_PART = 1 << 14  # and few enough to stay in the processor's cache
+_ADDRESSES = 1 << 24  # as many as there are
 _lib = squitter._lib
 
 
@@ -368,7 +370,57 @@ def track(
     the answers are those of `track --limit=16777216`, which is as many addresses as there are. A site that is no
     position is the Fault BAD_POSITION.
     """
-    return Tracker(window, site, limit).hear(moments, frames, out, faults)
+    source = _frames("frames", frames)
+    count = len(source.bytes)
+    times = _moments(moments, count)
+    out, faults = _rooms(count, TRACKED, out, faults, source.bytes, times)
+    _look_at(window, limit)
+    room = [np.zeros(min(count, _PART), dtype) for dtype in (_HEARD, POSITION, _DEGREES_E7, FAULT)]
+    with squitter.Tracker(window, site, _ADDRESSES if limit is None else limit) as tracker:
+        for at in range(0, count, _PART):
+            part = slice(at, min(at + _PART, count))
+            there = [array[:part.stop - at] for array in room]
+            _track_part(tracker, times[part], source.bytes[part], there, out[part], faults[part])
+    # (where a text is no frame, the bytes that were heard are 0, which is refused and changes nothing)
+    faults[source.bad] = source.faults
+    return out, faults
+
+
+def _look_at(window: int, limit: Optional[int]) -> None:
+    """Raises ValueError for a window or a limit that is none."""
+    if not squitter._fits(window, 64):
+        raise ValueError("a window is a whole number below 2**64")
+    if limit is not None and not (squitter._fits(limit, 32) and limit):
+        raise ValueError("a limit is a whole number from 1, below 2**32")
+
+
+def _track_part(
+    tracker: squitter.Tracker, times: npt.NDArray[np.uint64], frames: npt.NDArray[np.uint8], room: Sequence[Records],
+    out: Records, faults: Records,
+) -> None:
+    """Hears some lines, and writes what is heard of them. The room is for what is heard, the places, these in degrees, and
+    which of them are none."""
+    heard, places, degrees, nowhere = room
+    lines_of = [word for array in (times, frames, heard, faults) for word in _given(array)]
+    _lib.squitter_tracker_hear_many(ctypes.byref(tracker._tracker), *lines_of)
+    bad = np.flatnonzero(faults["code"])
+    if (faults["code"][bad] == Code.NO_MEMORY).any():
+        raise MemoryError(squitter.fault_text(Code.NO_MEMORY))
+    before = _whole(out)[bad]
+    _words_of_places(places)[:] = _words_of_places(heard)
+    degrees.fill(0)  # where there is no place, both stay 0
+    _lib.squitter_position_e7_many(*_given(places), *_given(degrees), *_given(nowhere))
+    _words_of_places(out)[:] = _words_of_places(places)
+    out["lat_e7"], out["lon_e7"], out["address"] = degrees["lat"], degrees["lon"], _addresses(frames)
+    for field in ("what", "even", "odd"):
+        out[field] = heard[field]
+    _whole(out)[bad] = before
+
+
+def _addresses(frames: npt.NDArray[np.uint8]) -> npt.NDArray[np.uint32]:
+    """The addresses of frames: the second byte of each, the third and the fourth."""
+    high, middle, low = (frames[:, byte].astype(np.uint32) for byte in (1, 2, 3))
+    return high << np.uint32(16) | middle << np.uint32(8) | low
 
 
 class Tracker:
@@ -389,10 +441,7 @@ class Tracker:
         self, window: int = 10_000, site: Optional[Position] = None, limit: Optional[int] = 1000
     ) -> None:
         """A tracker that has heard nothing."""
-        if not squitter._fits(window, 64):
-            raise ValueError("a window is a whole number below 2**64")
-        if limit is not None and not (squitter._fits(limit, 32) and limit):
-            raise ValueError("a limit is a whole number from 1, below 2**32")
+        _look_at(window, limit)
         self._window, self._limit = operator.index(window), limit if limit is None else operator.index(limit)
         self._site = None if site is None else bytes(squitter._position(site))
         squitter._look(None if site is None else squitter._position(site))

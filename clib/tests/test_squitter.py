@@ -3,15 +3,17 @@
 import array
 import copy
 import doctest
+import gc
 import os
 import pickle
 import sys
+import threading
 import unittest
 from fractions import Fraction
 
 sys.path.insert(0, os.path.join(os.path.dirname(os.path.abspath(__file__)), ".."))
 import squitter  # noqa: E402
-from squitter import AirHead, AltitudeForm, Code, Contact, Fault, GroundHead, Kind, Position, What  # noqa: E402
+from squitter import AirHead, AltitudeForm, Code, Contact, Fault, GroundHead, Kind, Position, Tracker, What  # noqa: E402
 
 EVEN = "8D40621D58C382D690C8AC2863A7"
 ODD = "8D40621D58C386435CC412692AD6"
@@ -178,6 +180,86 @@ class Calls(unittest.TestCase):
         for window, moment in ((-1, 1), (1 << 64, 1), (10, -1), (10, 1 << 64)):
             with self.assertRaises(ValueError):
                 Contact(window).hear(moment, EVEN)
+
+    def test_tracker(self):
+        with Tracker(10_000, SITE) as tracker:
+            self.assertEqual(tracker.hear(5, ODD), (What.WAITING, None, 0, 0))
+            self.assertEqual(tracker.hear(6, GROUND_OLDER).what, What.WAITING)
+            self.assertEqual(tracker.hear(10_005, EVEN), (What.FIX, PLACE, 0, 0))
+            self.assertEqual(tracker.hear(10_006, GROUND_NEWER), (What.FIX, GROUND_PLACE, 0, 0))
+            self.refused(Code.MOMENT_BACK, tracker.hear, 10_005, ODD, first=10_006)
+            self.refused(Code.PARITY, tracker.hear, 1, ODD[:-1] + "7", first=1)
+            self.refused(Code.SHORT, tracker.hear, 1, ODD[:14])
+            self.assertEqual(len(tracker), 2)
+            self.assertEqual(list(tracker), [(0x40621D, 10_005), (0x484175, 10_006)])
+            self.assertEqual((tracker[1], tracker[-1], tracker[-2]), (*list(tracker)[1:], *list(tracker)[::-1]))
+            for index in (2, -3, 1 << 64):
+                with self.assertRaises(IndexError):
+                    tracker[index]
+            with self.assertRaises(TypeError):
+                tracker["0"]
+        self.assertEqual(len(tracker), 0)
+        self.refused(Code.NO_TRACKER, tracker.hear, 10_007, EVEN)
+        self.assertEqual([fault.code for fault in tracker.hear_many([1, 2], bytes(28))], [Code.NO_TRACKER] * 2)
+        tracker.close()
+        with self.assertRaises(IndexError):
+            tracker[0]
+
+    def test_tracker_of_many(self):
+        frames = [squitter.frame(text) for text in (ODD, GROUND_OLDER, EVEN, GROUND_NEWER)]
+        source, moments = b"".join(frames) + bytes(14), [5, 6, 4, 7, 8]
+        one, many = Tracker(limit=2), Tracker(limit=2)
+        heard = many.hear_many(moments, source)
+        self.assertEqual([answer.what for answer in (heard[0], heard[1], heard[3])],
+                         [What.WAITING, What.WAITING, What.WITHOUT_SITE])
+        self.assertEqual([(fault.code, fault.first) for fault in (heard[2], heard[4])],
+                         [(Code.MOMENT_BACK, 6), (Code.NOT_DF17, 0)])
+        for moment, frame, answer in zip(moments, frames, heard):
+            if isinstance(answer, Fault):
+                self.refused(answer.code, one.hear, moment, frame, first=answer.first)
+            else:
+                self.assertEqual(one.hear(moment, frame), answer)
+        self.assertEqual(many.hear_many([], b""), [])
+        for wrong in ([1], [1, -1], [1, 1 << 64]):
+            with self.assertRaises(ValueError):
+                many.hear_many(wrong, bytes(28))
+        full = Tracker(limit=1)
+        full.hear(0, ODD)
+        self.refused(Code.TABLE_FULL, full.hear, 10_000, GROUND_OLDER)
+        self.assertEqual(full.hear(10_001, GROUND_OLDER).what, What.WAITING)
+
+    def test_tracker_and_its_memory(self):
+        self.refused(Code.NO_LIMIT, Tracker, 10_000, None, 0)
+        self.refused(Code.BAD_POSITION, Tracker, 10_000, Position(91, 0))
+        for wrong in ({"window": -1}, {"window": 1 << 64}, {"limit": -1}, {"limit": 1 << 32}):
+            with self.assertRaises(ValueError):
+                Tracker(**wrong)
+        with self.assertRaises(TypeError):
+            Tracker(limit=1.0)
+        tracker = Tracker()
+        for taken in (copy.copy, copy.deepcopy, pickle.dumps):
+            with self.assertRaises(TypeError):
+                taken(tracker)
+        tracker.hear(1, ODD)
+        held, free = tracker._tracker, tracker._free
+        self.assertTrue(held.full and held.at and free.alive)
+        del tracker
+        gc.collect()
+        self.assertFalse(held.full or held.at or free.alive)
+
+    def test_tracker_of_threads(self):
+        tracker, heard = Tracker(), []
+
+        def hear():
+            heard.extend(tracker.hear(7, ODD).what for _ in range(200))
+
+        threads = [threading.Thread(target=hear) for _ in range(4)]
+        for thread in threads:
+            thread.start()
+        tracker.hear_many([7] * 500, squitter.frame(ODD) * 500)
+        for thread in threads:
+            thread.join()
+        self.assertEqual((len(heard), set(heard), len(tracker)), (800, {What.WAITING}, 1))
 
     def test_copies(self):
         contact = Contact(10_000, SITE)

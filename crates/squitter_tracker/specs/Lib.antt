@@ -1,0 +1,2 @@
+pub mod Trackers
+pub mod OneAnswers

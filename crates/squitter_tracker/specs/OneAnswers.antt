@@ -1,0 +1,50 @@
+-- A call has one answer, unless it is out of memory: what two contracts of one call, with one `out` before it, say is
+-- one.
+use Rattle.std.specs.Prelude.{◌≡◌, ◌≢◌, ◌↔◌, ◌∷◌, [], ℕ, List, Option, Some}
+use Rattle.sq_angle.specs.declared.position.Position.{Position}
+use Rattle.sq_bits.specs.declared.frame.Frame.{Frame}
+use Rattle.sq_plain.specs.declared.faults.Fault.{Fault}
+use Rattle.sq_plain.specs.declared.faults.Refusal.TheVariants as refusals
+use Rattle.sq_plain.specs.declared.heard.PlainHeard.{PlainHeard}
+use Rattle.sq_plain.specs.declared.plain.PlainPosition.{PlainPosition}
+use Rattle.sq_plain.specs.Faults.{fault_of}
+use Rattle.sq_plain.specs.Frames.{frame_of}
+use Rattle.sq_track.specs.Held.{Held, StandsFor}
+use Rattle.sq_track.specs.History.{History}
+use Rattle.squitter_tracker.specs.declared.present.PlainPresent.{PlainPresent}
+use Rattle.squitter_tracker.specs.Trackers.{IsGot, IsHeardThere, IsMade, IsMadeAt, IsTrackerHeard}
+
+-- the fault of an allocation that failed
+abbrev pub no_memory : Fault
+no_memory = fault_of refusals.Memory
+
+-- two trackers are made alike
+abbrev pub OneMade : Type 0
+OneMade = (limit window : ℕ) (site : Option Position) (x y : Option Held) (fault why : Fault)
+    → IsMade limit window site x fault → IsMade limit window site y why → fault ≢ no_memory → why ≢ no_memory
+    → (x ≡ y) × (fault ≡ why)
+
+-- two trackers with a site are made alike
+abbrev pub OneMadeAt : Type 0
+OneMadeAt = (limit window : ℕ) (plain : PlainPosition) (x y : Option Held) (fault why : Fault)
+    → IsMadeAt limit window plain x fault → IsMadeAt limit window plain y why → fault ≢ no_memory → why ≢ no_memory
+    → (x ≡ y) × (fault ≡ why)
+
+-- what is heard of a frame is one, and so is a history that the tracker stands for afterwards
+abbrev pub OneHearing : Type 0
+OneHearing = (moment : ℕ) (frame : Frame) (t u v : Held) (old new other : PlainHeard) (fault why : Fault)
+    → IsTrackerHeard moment frame (Some t) (Some u) old new fault
+    → IsTrackerHeard moment frame (Some t) (Some v) old other why
+    → fault ≢ no_memory → why ≢ no_memory → (h : History) → StandsFor t h
+    → (new ≡ other) × (fault ≡ why) × ((later : History) × StandsFor u later × StandsFor v later)
+
+-- what is heard of an array of one frame is what is heard of the frame
+abbrev pub OneOfMany : Type 0
+OneOfMany = (moment : ℕ) (frame : List ℕ) (held after : Option Held) (old new : PlainHeard) (fault : Fault)
+    → IsHeardThere (moment ∷ []) (frame ∷ []) 0 held after old new fault
+    ↔ IsTrackerHeard moment (frame_of frame) held after old new fault
+
+-- what stands at an index is one
+abbrev pub OneGot : Type 0
+OneGot = (held : Option Held) (index : ℕ) (old new other : PlainPresent) (fault why : Fault)
+    → IsGot held index old new fault → IsGot held index old other why → (new ≡ other) × (fault ≡ why)

@@ -1,0 +1,23 @@
+//! Laws of the trackers that C holds: each call has one answer, unless it is out of memory.
+ghost use Rattle.squitter_tracker.specs.OneAnswers.{OneGot, OneHearing, OneMade, OneMadeAt, OneOfMany};
+
+/// What is made of a limit, a window and a site is one, with a site and without.
+pub fn one_tracker()
+    ensures made { OneMade }
+    ensures with_site { OneMadeAt }
+{}
+
+/// What is heard of a frame is one, and afterwards there is a history that the tracker stands for either way.
+pub fn one_hearing()
+    ensures { OneHearing }
+{}
+
+/// What is heard of arrays of one frame is what is heard of the frame.
+pub fn one_of_many()
+    ensures { OneOfMany }
+{}
+
+/// What stands at an index is one.
+pub fn one_present()
+    ensures { OneGot }
+{}
