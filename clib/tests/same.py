@@ -1,8 +1,8 @@
 #!/usr/bin/env python3
-"""same.py: holds squitter.h and the module squitter to the crate.
+"""same.py: holds squitter.h and the module squitter to the crates.
 
-The structs of the crate's sources, with the sizes and offsets that C gives them; the types of its exports; the codes of
-faults as its specs state them; and the symbols that the archive and the shared object export and want. Wants a C compiler and
+The structs of the crates' sources, with the sizes and offsets that C gives them; the types of the exports; the codes of
+faults as the specs state them; and the symbols that the archive and the shared object export and want. Wants a C compiler and
 nm; says what differs, and ends with status 1."""
 import ctypes
 import os
@@ -13,14 +13,15 @@ import tempfile
 
 HERE = os.path.dirname(os.path.abspath(__file__))
 CLIB = os.path.dirname(HERE)
-CRATE = os.path.join(os.path.dirname(CLIB), "crates", "squitter_c")
+CRATES = [os.path.join(os.path.dirname(CLIB), "crates", name) for name in ("sq_plain", "squitter_c", "squitter_tracker")]
 sys.path.insert(0, CLIB)
 os.environ.setdefault("LIBSQUITTER", os.path.join(CLIB, "libsquitter.so.0"))
 import squitter  # noqa: E402
 
 CC = os.environ.get("CC", "cc")
-NUMBERS = {"u8": "uint8_t", "u16": "uint16_t", "u32": "uint32_t", "u64": "uint64_t", "i32": "int32_t", "i64": "int64_t"}
-# The crate's structs, as C and Python name them.
+NUMBERS = {"u8": "uint8_t", "u16": "uint16_t", "u32": "uint32_t", "u64": "uint64_t", "i32": "int32_t", "i64": "int64_t",
+           "usize": "size_t", "*mut u8": "void *"}
+# The crates' structs, as C and Python name them.
 STRUCTS = {
     "Fault": ("squitter_fault", "_Fault"), "PlainAngle": ("squitter_angle", "_Angle"),
     "PlainPosition": ("squitter_position", "_Position"), "PlainSquitter": ("squitter_fields", "_Fields"),
@@ -29,16 +30,17 @@ STRUCTS = {
     "PlainFix": ("squitter_last_fix", "_LastFix"), "PlainSide": ("squitter_side", "_Side"),
     "PlainEntry": ("squitter_entry", "_Entry"), "PlainHeard": ("squitter_heard", "_Heard"),
     "DegreesE7": ("squitter_degrees_e7", "_DegreesE7"), "PlainZones": ("squitter_zones", "_Zones"),
+    "PlainPresent": ("squitter_present", "_Present"), "Slot": ("squitter_tracker", "_Tracker"),
 }
 # Reasons whose code has another name in C.
 RENAMED = {
     "NoPosition": "BAD_POSITION", "NoHead": "BAD_FIELDS", "NoAngle": "BAD_ANGLE", "NoLatitude": "BAD_LATITUDE",
     "NoFeet": "BAD_FEET", "NoParity": "BAD_PARITY", "angles.OutOfRange": "ANGLE_RANGE", "lines.Moment": "BAD_MOMENT",
-    "lines.Full": "TABLE_FULL", "lines.NotDf17": "NOT_DF17",
+    "lines.Full": "TABLE_FULL", "lines.NotDf17": "NOT_DF17", "Memory": "NO_MEMORY",
 }
-# What the libraries may want: no function of the C library but these, which compilers call by themselves, and of the
-# archive the divisions of libgcc.
-WANTED = {"memcpy", "memset", "memmove", "memcmp", "__udivti3", "__umodti3"}
+# What the libraries may want: no function of the C library but these, which compilers call by themselves, the heap of the
+# tracker, and of the archive the divisions of libgcc.
+WANTED = {"memcpy", "memset", "memmove", "memcmp", "malloc", "realloc", "free", "__udivti3", "__umodti3"}
 differences = []
 
 
@@ -48,11 +50,12 @@ def differ(text):
 
 
 def sources():
-    folder = os.path.join(CRATE, "src")
-    for name in sorted(os.listdir(folder)):
-        if name.endswith(".rt") and name != "tests.rt":
-            with open(os.path.join(folder, name), encoding="utf-8") as file:
-                yield file.read()
+    for crate in CRATES:
+        folder = os.path.join(crate, "src")
+        for name in sorted(os.listdir(folder)):
+            if name.endswith(".rt") and name != "tests.rt":
+                with open(os.path.join(folder, name), encoding="utf-8") as file:
+                    yield file.read()
 
 
 def c_type(rust):
@@ -63,8 +66,20 @@ def c_type(rust):
     return (NUMBERS[rust] if rust in NUMBERS else STRUCTS[rust][0]), ""
 
 
+def slot_fields():
+    """The fields of the crate's Slot, in which those of the seal stand in its place."""
+    texts = {}
+    for name in ("slot", "seal"):
+        with open(os.path.join(os.path.dirname(CRATES[0]), "sq_seal", "src", f"{name}.rt"), encoding="utf-8") as file:
+            body = re.search(r"#\[repr\(C\)\]\npub struct \w+ \{\n(.*?)\n\}", file.read(), re.S)[1]
+        texts[name] = re.findall(r"^    (?:pub )?(\w+): ([\w* ]+),$", body, re.M)
+    for name, kind in texts["slot"]:
+        yield from texts["seal"] if kind == "Seal" else [(name, kind)]
+
+
 def structs():
     """Each #[repr(C)] struct with its fields, in order."""
+    yield "Slot", list(slot_fields())
     for source in sources():
         for name, body in re.findall(r"#\[repr\(C\)\]\n(?:#\[[^\n]*\]\n)*pub struct (\w+) \{\n(.*?)\n\}", source, re.S):
             yield name, re.findall(r"^    pub (\w+): (.*),$", body, re.M)
@@ -74,7 +89,9 @@ def exports():
     """Each export: its name, its parameters and what it answers."""
     for source in sources():
         for name, parameters, answer in re.findall(r"pub extern \"C\" fn (\w+)\((.*?)\)(?: -> (\w+))?\n", source, re.S):
-            yield name, re.findall(r"(\w+): (&?(?:mut )?(?:\[+\w+(?:; \d+)?\]+|\w+))", parameters), answer
+            found = re.findall(r"(\w+): (&?(?:mut )?(?:\[+\w+(?:; \d+)?\]+|\w+))", parameters)
+            # (an allocator has no size, and does not cross)
+            yield name, [(parameter, kind) for parameter, kind in found if kind != "Global"], answer
 
 
 def c_parameter(name, rust, texts):
@@ -95,7 +112,7 @@ def c_parameter(name, rust, texts):
 
 
 def c_checks():
-    """A C file of assertions, each true where the header is the crate."""
+    """A C file of assertions, each true where the header is as the crates."""
     yield '#include "squitter.h"\n#include <stddef.h>\n'
     seen = set()
     for name, fields in structs():
@@ -111,7 +128,7 @@ def c_checks():
             if not c_type(kind)[1]:
                 yield f'_Static_assert(_Generic({one}, {c_type(kind)[0]}: 1, default: 0), "type of {field} of {here}");'
     for name in set(STRUCTS) - seen:
-        differ(f"the crate has no struct {name}")
+        differ(f"the crates have no struct {name}")
     for name, parameters, answer in exports():
         texts = name.startswith("squitter_text_of")
         kinds = ", ".join(c_parameter(n, t, texts) for n, t in parameters) or "void"
@@ -138,7 +155,8 @@ def check_python_structs():
         if [n for n, _ in here._fields_] != [n for n, _ in fields]:
             differ(f"fields of {here.__name__} in the module")
         for (field, rust), (_, kind) in zip(fields, here._fields_):
-            if rust in NUMBERS and kind is not getattr(ctypes, "c_" + NUMBERS[rust][:-2]):
+            plain = "c_void_p" if rust == "*mut u8" else "c_" + NUMBERS.get(rust, "")[:-2]
+            if rust in NUMBERS and kind is not getattr(ctypes, plain):
                 differ(f"type of {field} of {here.__name__} in the module")
 
 
@@ -149,7 +167,7 @@ def header():
 
 def check_codes():
     """The codes: those of the specs, each once, in the header and in the module."""
-    with open(os.path.join(CRATE, "specs", "Faults.antt"), encoding="utf-8") as file:
+    with open(os.path.join(CRATES[0], "specs", "Faults.antt"), encoding="utf-8") as file:
         stated = re.findall(r"^fault_of\w* \(?([\w.]+)[^=]*= told (\d+) ", file.read(), re.M)
     codes = {"OK": 0}
     for variant, code in stated:
@@ -168,16 +186,35 @@ def check_codes():
         differ("codes of the module")
 
 
+def definitions(crate, file, pattern):
+    """What a definition says of each case, as numbers by the names of the cases."""
+    with open(os.path.join(os.path.dirname(CRATES[0]), crate, "specs", file), encoding="utf-8") as text:
+        return {name: int(number) for name, number in re.findall(pattern, text.read(), re.M)}
+
+
 def check_enums():
-    """The other enums: the module has the header's."""
-    for kind, prefix in ((squitter.Kind, ""), (squitter.What, "")):
-        for one in kind:
-            if not re.search(rf"SQUITTER_{prefix}{one.name} = {one.value}\b", header()):
-                differ(f"{one!r} of the module")
-    forms = {"NONE": "NO_ALTITUDE", "FEET": "FEET", "OTHER": "OTHER_ALTITUDE"}
-    for one in squitter.AltitudeForm:
-        if not re.search(rf"SQUITTER_{forms[one.name]} = {one.value}\b", header()):
-            differ(f"{one!r} of the module")
+    """The other enums: the kind of a squitter, the form of its altitude and what is heard have in the header and in the module the
+    numbers that the definitions say."""
+    kinds = definitions("squitter_c", "Fields.antt", r"^pub record IsPlain(\w+) .*\n  pub kind : plain\.kind ≡ (\d+)$")
+    forms = definitions("squitter_c", "Fields.antt", r"^IsPlainAltitude \(?altitudes\.(\w+)[^=]*= \(form ≡ (\d+)\)")
+    heard = definitions("sq_plain", "Heard.antt", r"^IsPlainHeard \(?(\w+)[^=]*= IsHeardAs (\d+) ")
+    rows = (  # the enum of the module, what the definitions say, and the names of the cases in the module and in the header
+        (squitter.Kind, kinds, {"Other": "OTHER OTHER", "Airborne": "AIR AIR", "Surface": "GROUND GROUND"}),
+        (squitter.AltitudeForm, forms, {"Missing": "NONE NO_ALTITUDE", "Feet": "FEET FEET", "Raw": "OTHER OTHER_ALTITUDE"}),
+        (squitter.What, heard, {
+            "Fix": "FIX FIX", "Followed": "FOLLOWED FOLLOWED", "Waiting": "WAITING WAITING", "Split": "SPLIT SPLIT",
+            "Far": "FAR FAR", "NoSite": "WITHOUT_SITE WITHOUT_SITE", "NotPosition": "NO_PLACE NO_PLACE"}),
+    )
+    blocks = [{name: int(number) for name, number in re.findall(r"SQUITTER_(\w+) = (\d+)", block)}
+              for block in re.findall(r"^enum \{\n(.*?)^\};", header(), re.M | re.S)]
+    for kind, stated, named in rows:
+        if set(stated) != set(named):
+            differ(f"the definitions of {kind.__name__} have {sorted(stated)}")
+            continue
+        if {one.name: one.value for one in kind} != {names.split()[0]: stated[case] for case, names in named.items()}:
+            differ(f"{kind.__name__} of the module and of the definitions")
+        if {names.split()[1]: stated[case] for case, names in named.items()} not in blocks:
+            differ(f"{kind.__name__} of squitter.h and of the definitions")
 
 
 def symbols(*words):
@@ -200,12 +237,23 @@ def check_symbols():
             differ(f"{file} wants {sorted(wanted - WANTED)}")
     called = {f"squitter_{name}" for name in {**squitter._CALLS, **squitter._MANY}}
     called |= {"squitter_text_of_frame", "squitter_text_of_fault", "squitter_version"}
+    called |= {"squitter_tracker_len", "squitter_tracker_free"}
     if called != names:
         differ(f"calls of the module: {sorted(called ^ names)}")
 
 
+def check_heap():
+    """The heap of the tracker: that of the program, line by line."""
+    with open(os.path.join(CLIB, "heap.c"), encoding="utf-8") as file:
+        ours = file.read().partition("#include <stdlib.h>\n\n")[2]
+    with open(os.path.join(os.path.dirname(CLIB), "dist", "os.c"), encoding="utf-8") as file:
+        if not ours or not file.read().endswith("\n" + ours):
+            differ("heap.c and dist/os.c")
+
+
 def main():
     check_c()
+    check_heap()
     check_python_structs()
     check_codes()
     check_enums()
