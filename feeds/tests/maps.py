@@ -81,6 +81,36 @@ def flights() -> None:
     expect(crossings == 1, crossings, "lines begin at 180 degrees")
 
 
+def rows() -> None:
+    """Of rows in either form the map is that of the lines, with the altitudes; there it needs no log."""
+    with open(LOG) as file:
+        log = file.read()
+    wanted = drawn(log, answers())
+    same(wanted[0], 0)
+    for form in ("csv", "json"):
+        with open(LOG, "rb") as given:
+            told = subprocess.run([program(), "track", f"--format={form}", *SITE], stdin=given, stdout=subprocess.PIPE).stdout
+        done = subprocess.run([MAPS, "-"], input=told, capture_output=True, timeout=60)
+        same((done.returncode, done.stdout.decode(), done.stderr), (0, wanted[1], b""))
+    header = "line,moment,answer,address,kind,lat,lon,feet\n"
+    table = header + ("1,0,fix,40621D,air,52.0000000,179.9999999,-25\n2,1,waiting,40621D,air,,,\n"
+                      "3,9,followed,40621D,air,52.0000002,-179.9999999,\n4,,bad moment,,,,,\n")
+    one = features(drawn(table, "")[1])["40621D"]
+    same(one["geometry"]["type"], "MultiLineString")
+    same(one["properties"]["feet"], [[-25, None], [None, None]])
+    same(one["properties"]["moments"], [[0, 5], [5, 9]])
+    same(drawn(table, "", "-")[0], 2)
+    for text in (header, ""):
+        done = subprocess.run([MAPS, "-"], input=text.encode(), capture_output=True, timeout=60)
+        same((done.returncode, json.loads(done.stdout)["features"]), (0, []))
+    for row in ("1,0,fix,40621D,air,52.0,4.0,\n", "1,,fix,40621D,air,52.0000000,4.0000000,\n", "1,0,fix,x,air,52.0000000,4.0000000,\n",
+                "1,0,fix\n", "\n", "1,0,fix,40621D,air,52.0000000,4.0000000,high\n"):
+        status, text, report = drawn(header + row, "")
+        same((status, text, "row 1 is no answer of track" in report), (1, "", True), row)
+    for line in ('{"line":1}', '{"line":1', "null"):
+        same(drawn('{"line":' + line[8:] + "\n" if line.startswith('{"line"') else f'{{"line":1,}}\n{line}\n', "")[0], 1, line)
+
+
 def cut() -> None:
     """Lines that are cut at 180 degrees, both ways, with the point between, and where an aircraft fell silent."""
     log, text = log_of_places(
