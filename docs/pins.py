@@ -263,9 +263,13 @@ class Book:
     def sort_out(self) -> None:
         """Which definitions are relations, statements, types of plain data, and values.
 
-        A record is a relation where a field says something; what abbreviates a type of the library is as its parts."""
+        A record is a relation where a field says something; what abbreviates a type of the library is as its parts, and
+        so is what abbreviates one type or another by cases."""
         types = {name: one for name, one in self.definitions.items() if one.kind == "Type"}
-        facts = {name for name, one in types.items() if not one.is_type and one.parts[0][0] not in CONTAINERS}
+        plain_types = {name for name, one in types.items() if one.is_type or one.parts[0][0] in CONTAINERS}
+        plain_types |= {name for name, one in types.items()
+                        if all(len(part) == 1 and self.known[name].get(part[0]) in plain_types for part in one.parts)}
+        facts = types.keys() - plain_types
         while True:
             more = {name for name, one in types.items() if name not in facts and self.is_fact(one, facts)}
             if not more:
