@@ -6,6 +6,11 @@ returns-in-Some-clause-some c = (
   c.in-Some.contact.now,
   c.hear.new.self,
   search rules,
-  record { answers = c.hear.ensures.heard; remembers = c.hear.ensures.after; kept = c.hear.ensures.contact },
+  record {
+    answers = c.hear.ensures.heard;
+    remembers = c.hear.ensures.after;
+    by_kept = c.hear.ensures.kept;
+    kept = c.hear.ensures.contact;
+  },
   search rules,
 )

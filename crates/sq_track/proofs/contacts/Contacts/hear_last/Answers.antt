@@ -117,6 +117,7 @@ returns-after-insert-clause-ok c =
             (record {
               answers = c.hear-heard.ensures.heard;
               remembers = c.hear-heard.ensures.after;
+              by_kept = c.hear-heard.ensures.kept;
               kept = c.hear-heard.ensures.contact;
             }),
         ap (entries_in fs) c.in_ok-touch.ensures.ok
