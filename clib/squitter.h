@@ -291,8 +291,10 @@ squitter_fault squitter_pair_at(const uint8_t SQUITTER_CONST_BYTES(older, 14),
 /* Hears one frame more of an address: what is heard of it, by the frames that were heard before it, as the program
  * `squitter track` answers. `entry` is what is kept of the frame's address: the caller looks it up by the address that
  * squitter_read_frame answers, and lets it hear no frame of another address. Moments and the window are in milliseconds, or
- * in any other unit. The other frame of a fix, and the last fix that is followed, are at most the window older. At a fault
- * *entry and *out are as they were. Faults: NOT_DF17, PARITY, MOMENT_BACK. */
+ * in any other unit. The other frame of a fix, and the last fix that is followed, are at most the window older. Whatever an
+ * entry keeps, also one from elsewhere, what is heard is that of its frames and fix, and all of them stay but those that this
+ * frame replaces: so the window may grow from call to call. At a fault *entry and *out are as they were. Faults: NOT_DF17,
+ * PARITY, MOMENT_BACK. */
 squitter_fault squitter_hear(squitter_entry *SQUITTER_RESTRICT entry, uint64_t window, uint64_t moment,
                              const uint8_t SQUITTER_CONST_BYTES(frame, 14),
                              squitter_heard *SQUITTER_RESTRICT out) SQUITTER_CALL;

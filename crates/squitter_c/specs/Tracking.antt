@@ -13,7 +13,7 @@ use Rattle.sq_track.specs.declared.contact.Side.{Side}
 use Rattle.sq_track.specs.declared.heard.Heard.{Heard}
 use Rattle.sq_track.specs.Answers.{IsHeard}
 use Rattle.sq_track.specs.History.{History}
-use Rattle.sq_track.specs.Kept.{Remembers}
+use Rattle.sq_track.specs.Kept.{IsFixAfter, IsHeardBy, Remembers, contact_with, fix_in}
 use Rattle.sq_track.specs.Replies.{Settings, IsReply, of_address}
 use Rattle.squitter_c.specs.declared.entry.PlainEntry.{PlainEntry}
 use Rattle.squitter_c.specs.declared.entry.PlainFix.{PlainFix}
@@ -74,6 +74,19 @@ IsHearing window site moment q old new heard = (history : History) → Keeps win
     → IsHeard window site history moment q heard
     × Keeps window (squitter_parts q).address (record { moment = moment; squitter = q; heard = heard } ∷ history) new
 
+-- What hearing a squitter makes of an entry, whatever the entry keeps: what is heard is that of the frames and the fix
+-- that it keeps. Afterwards it keeps them, but for the squitter in place of the one of its kind and parity, and the fix
+-- that this leaves.
+pub record IsHeardByEntry (window : ℕ) (site : Option Position) (moment : ℕ) (q : Squitter) (old new : PlainEntry)
+    (heard : Heard) : Type 0 where
+  pub before : Contact
+  pub stands : IsContactOf old before
+  pub by_kept : IsHeardBy window site before moment q heard
+  pub fix : Option LastFix
+  pub fix_after : IsFixAfter moment heard (fix_in before (squitter_parts q).me) fix
+  pub after : IsContactOf new (contact_with (squitter_parts q).me (record { moment = moment; squitter = q }) fix before)
+  pub last : new.last ≡ moment
+
 -- a frame that is heard: its squitter is, and what is heard is written
 pub record IsAccepted (window : ℕ) (site : Option Position) (moment : ℕ) (frame : Frame) (old new : PlainEntry)
     (plain : PlainHeard) : Type 0 where
@@ -82,6 +95,7 @@ pub record IsAccepted (window : ℕ) (site : Option Position) (moment : ℕ) (fr
   pub in_time : old.last ≤ moment
   pub heard : Heard
   pub hearing : IsHearing window site moment squitter old new heard
+  pub by_entry : IsHeardByEntry window site moment squitter old new heard
   pub written : IsPlainHeard heard plain
 
 -- why a frame is not heard: its own fault, and then a moment before the last
@@ -146,3 +160,8 @@ AsTheTracker =
     → (heard ≡ reply)
     × Keeps settings.window (squitter_parts q).address
     (of_address (squitter_parts q).address (record { moment = moment; squitter = q; heard = reply } ∷ history)) new
+
+-- by what an entry keeps one thing is heard of a squitter
+abbrev pub OneHeardByEntry : Type 0
+OneHeardByEntry = (window : ℕ) (site : Option Position) (moment : ℕ) (q : Squitter) (old a b : PlainEntry) (x y : Heard)
+    → IsHeardByEntry window site moment q old a x → IsHeardByEntry window site moment q old b y → x ≡ y

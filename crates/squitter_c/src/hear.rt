@@ -5,7 +5,8 @@ ghost use Rattle.sq_track.specs.Kept.{IsStep};
 ghost use Rattle.sq_plain.specs.Faults.{Tells, as_it_is};
 ghost use Rattle.sq_plain.specs.Frames.{frame_of};
 ghost use Rattle.sq_plain.specs.Heard.{IsPlainHeard};
-ghost use Rattle.squitter_c.specs.Tracking.{AreOne, IsAccepted, IsHeardFrame, IsHeardFrameAt, IsHearing, IsRefused};
+ghost use Rattle.squitter_c.specs.Tracking.{AreOne, IsAccepted, IsHeardByEntry, IsHeardFrame, IsHeardFrameAt};
+ghost use Rattle.squitter_c.specs.Tracking.{IsHearing, IsRefused};
 
 use crate::entry::{PlainEntry, contact_of, plain_entry};
 use sq_angle::Position;
@@ -108,6 +109,7 @@ fn hear_squitter(
     requires { entry.old.last ≤ moment }
     ensures { (heard : Heard)
         × IsHearing window (option_copied site.entry) moment squitter.now entry.old entry.new heard
+        × IsHeardByEntry window (option_copied site.entry) moment squitter.now entry.old entry.new heard
         × IsPlainHeard heard result }
 {
     let mut contact = contact_of(entry);

@@ -1,9 +1,9 @@
 //! Laws of the texts of faults, of entries, and of one answer, over the definitions alone.
 ghost use Rattle.squitter_c.specs.OneAnswers.{OneNumber, OnePlace, OneReading, OneSent};
 ghost use Rattle.squitter_c.specs.Texts.{EachText};
-ghost use Rattle.squitter_c.specs.Tracking.{AsTheTracker, BlankKeepsNothing};
+ghost use Rattle.squitter_c.specs.Tracking.{AsTheTracker, BlankKeepsNothing, OneHeardByEntry};
 
-use sq_track::laws::{one_address_alone, one_answer};
+use sq_track::laws::{one_address_alone, one_answer, one_answer_by_kept};
 
 /// The text of a fault is that of its reason.
 pub fn each_text()
@@ -22,6 +22,13 @@ pub fn as_the_tracker()
 {
     one_answer();
     one_address_alone();
+}
+
+/// By what an entry keeps, whatever that is, one thing is heard of a squitter.
+pub fn one_heard_by_entry()
+    ensures { OneHeardByEntry }
+{
+    one_answer_by_kept();
 }
 
 /// A text and a frame have one answer: what is written in `out` and the fault are one.

@@ -2,6 +2,7 @@ use Rattle.sq_message.specs.Parts.{squitter_parts}
 use Rattle.sq_track.specs.declared.contact.Contact.{Contact}
 use Rattle.sq_track.specs.Kept.{Remembers}
 use Rattle.std.proofs.Common.{subst}
+use Rattle.squitter_c.specs.Tracking.{IsContactOf}
 use Rattle.squitter_c.proofs.Entries.{in_time, one_contact}
 use Rattle.squitter_c.proofs.hear.hear_squitter.Goals as goal
 
@@ -22,5 +23,14 @@ returns c = (
           last = c.plain_entry-after.ensures.last;
         },
       ),
+  record {
+    before = c.contact_of-contact.result;
+    stands = c.contact_of-contact.ensures;
+    by_kept = c.step-heard.ensures.1.by_kept;
+    fix = c.step-heard.ensures.1.kept.0;
+    fix_after = c.step-heard.ensures.1.kept.1;
+    after = subst (IsContactOf c.plain_entry-after.result) c.step-heard.ensures.1.kept.2 c.plain_entry-after.ensures.contact;
+    last = c.plain_entry-after.ensures.last;
+  },
   c.step-heard.ensures.2,
 )
