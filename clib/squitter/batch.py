@@ -27,7 +27,9 @@ from __future__ import annotations
 import ctypes
 import operator
 from collections import OrderedDict
-from typing import Any, Callable, Iterable, Iterator, NamedTuple, Optional, Sequence, Tuple
+from concurrent.futures import ThreadPoolExecutor
+from contextlib import closing
+from typing import Any, Callable, Generator, Iterable, Iterator, NamedTuple, Optional, Sequence, Tuple
 
 import numpy as np
 import numpy.typing as npt
@@ -62,7 +64,7 @@ DEGREES = np.dtype([("lat_e7", "i8"), ("lon_e7", "i8")], align=True)
 """A latitude and a longitude in whole numbers of 10^-7 degree, rounded, ties away from zero. They would fit 32 bits;
 the difference of two longitudes would not."""
 
-TRACKED = np.dtype([*POSITION.descr, *DEGREES.descr, ("address", "u4"), ("what", "u1"), ("even", "u1"), ("odd", "u1")],
+TRACKED = np.dtype([*POSITION.descr, ("what", "u1"), ("even", "u1"), ("odd", "u1"), ("address", "u4"), *DEGREES.descr],
                    align=True)
 """What is heard of a line of a log. `address` is the ICAO address, and `what` one of :class:`squitter.What`. Of FIX
 and FOLLOWED the place stands in the fields of POSITION and of DEGREES, which are else all 0: a longitude of 0 is a
@@ -375,12 +377,23 @@ def track(
     times = _moments(moments, count)
     out, faults = _rooms(count, TRACKED, out, faults, source.bytes, times)
     _look_at(window, limit)
-    room = [np.zeros(min(count, _PART), dtype) for dtype in (_HEARD, POSITION, _DEGREES_E7, FAULT)]
-    with squitter.Tracker(window, site, _ADDRESSES if limit is None else limit) as tracker:
-        for at in range(0, count, _PART):
-            part = slice(at, min(at + _PART, count))
-            there = [array[:part.stop - at] for array in room]
-            _track_part(tracker, times[part], source.bytes[part], there, out[part], faults[part])
+    at_once = min(count, _PART)
+    parts = [slice(at, min(at + at_once, count)) for at in range(0, count, at_once or 1)]
+    heard_in_turn = [np.zeros(at_once, _HEARD) for _ in parts[:2]]
+    room = [np.zeros(at_once, dtype) for dtype in (POSITION, _DEGREES_E7, FAULT)]
+
+    def hear(number: int) -> Records:
+        part = parts[number]
+        heard = heard_in_turn[number % 2][:part.stop - part.start]
+        lines_of = [word for array in (times[part], source.bytes[part], heard, faults[part]) for word in _given(array)]
+        _lib.squitter_tracker_hear_many(ctypes.byref(tracker._tracker), *lines_of)
+        return heard
+
+    with squitter.Tracker(window, site, _ADDRESSES if limit is None else limit) as tracker, closing(
+        _one_ahead(hear, len(parts))
+    ) as hearing:
+        for part, heard in zip(parts, hearing):
+            _write_part(heard, source.bytes[part], [array[:len(heard)] for array in room], out[part], faults[part])
     # (where a text is no frame, the bytes that were heard are 0, which is refused and changes nothing)
     faults[source.bad] = source.faults
     return out, faults
@@ -394,33 +407,47 @@ def _look_at(window: int, limit: Optional[int]) -> None:
         raise ValueError("a limit is a whole number from 1, below 2**32")
 
 
-def _track_part(
-    tracker: squitter.Tracker, times: npt.NDArray[np.uint64], frames: npt.NDArray[np.uint8], room: Sequence[Records],
-    out: Records, faults: Records,
+def _one_ahead(call: Callable[[int], Records], count: int) -> Generator[Records, None, None]:
+    """What the call answers for 0, 1 and so on. While its caller has one answer, the next call runs in another thread."""
+    if count < 2:
+        yield from map(call, range(count))
+        return
+    with ThreadPoolExecutor(1) as beside:
+        under_way = beside.submit(call, 0)
+        for number in range(count):
+            answer = under_way.result()
+            if number + 1 < count:
+                under_way = beside.submit(call, number + 1)
+            yield answer
+
+
+def _write_part(
+    heard: Records, frames: npt.NDArray[np.uint8], room: Sequence[Records], out: Records, faults: Records
 ) -> None:
-    """Hears some lines, and writes what is heard of them. The room is for what is heard, the places, these in degrees, and
-    which of them are none."""
-    heard, places, degrees, nowhere = room
-    lines_of = [word for array in (times, frames, heard, faults) for word in _given(array)]
-    _lib.squitter_tracker_hear_many(ctypes.byref(tracker._tracker), *lines_of)
+    """Writes what was heard of some lines. The room is for the places, these in degrees, and which of them are none."""
+    places, degrees, nowhere = room
     bad = np.flatnonzero(faults["code"])
     if (faults["code"][bad] == Code.NO_MEMORY).any():
         raise MemoryError(squitter.fault_text(Code.NO_MEMORY))
     before = _whole(out)[bad]
-    _words_of_places(places)[:] = _words_of_places(heard)
-    degrees.fill(0)  # where there is no place, both stay 0
+    _front(places, POSITION)[:] = _front(heard, POSITION)
+    degrees.view(np.uint64).fill(0)  # where there is no place, both stay 0
     _lib.squitter_position_e7_many(*_given(places), *_given(degrees), *_given(nowhere))
-    _words_of_places(out)[:] = _words_of_places(places)
-    out["lat_e7"], out["lon_e7"], out["address"] = degrees["lat"], degrees["lon"], _addresses(frames)
-    for field in ("what", "even", "odd"):
-        out[field] = heard[field]
+    _front(out, _HEARD)[:] = _front(heard, _HEARD)
+    # (the front of a record has room for an address behind what was heard, so it comes after that)
+    np.bitwise_and(_first_words(frames), np.uint32(0xFFFFFF), out=out["address"])
+    out["lat_e7"], out["lon_e7"] = degrees["lat"], degrees["lon"]
     _whole(out)[bad] = before
 
 
-def _addresses(frames: npt.NDArray[np.uint8]) -> npt.NDArray[np.uint32]:
-    """The addresses of frames: the second byte of each, the third and the fourth."""
-    high, middle, low = (frames[:, byte].astype(np.uint32) for byte in (1, 2, 3))
-    return high << np.uint32(16) | middle << np.uint32(8) | low
+def _front(records: Records, dtype: np.dtype[Any]) -> npt.NDArray[np.void]:
+    """The front of each record, as large as a record of this type, which NumPy moves whole, and not field by field."""
+    return np.ndarray(records.shape, f"V{dtype.itemsize}", records, 0, records.strides)
+
+
+def _first_words(frames: npt.NDArray[np.uint8]) -> npt.NDArray[np.uint32]:
+    """The first four bytes of each frame, of which the last three are its address."""
+    return np.ndarray(len(frames), ">u4", frames, 0, frames.strides[:1])
 
 
 class Tracker:

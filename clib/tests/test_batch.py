@@ -12,9 +12,11 @@ import random
 import re
 import subprocess
 import sys
+import threading
 import unittest
 from fractions import Fraction
 from typing import Any, Callable, Dict, Iterable, Iterator, List, Sequence, Tuple
+from unittest import mock
 
 import numpy as np
 
@@ -216,6 +218,21 @@ class Track(unittest.TestCase):
         self.assertEqual(pieces, answers)
         return answers
 
+    def test_breaks_off(self) -> None:
+        """Where a part cannot be written, the part that is heard meanwhile ends, before the tracker is freed."""
+        running, others = [], threading.active_count()
+        close = squitter.Tracker.close
+
+        def closed(tracker: squitter.Tracker) -> None:
+            running.append(threading.active_count() - others)
+            close(tracker)
+
+        frames = np.tile(np.frombuffer(bytes.fromhex(EVEN), np.uint8), (60_000, 1))
+        with mock.patch.object(squitter.Tracker, "close", closed):
+            with mock.patch.object(batch, "_write_part", side_effect=KeyboardInterrupt):
+                self.assertRaises(KeyboardInterrupt, batch.track, range(60_000), frames)
+        self.assertEqual(running, [0])
+
     def test_log_of_the_repository(self) -> None:
         with open(os.path.join(TOP, "examples", "flights.log"), encoding="ascii") as log:
             words, texts = zip(*(line.split() for line in log))
@@ -289,7 +306,7 @@ class Track(unittest.TestCase):
         self.assertEqual(list(map(squitter.position_e7, places)), heard[["lat_e7", "lon_e7"]].tolist()[1:])
         self.assertEqual(heard["what"].tolist(), [What.WAITING, What.FIX, What.FIX])
         self.assertEqual(heard["address"].tolist(), [0x40621D] * 3)
-        self.assertEqual(heard[0].tolist(), (0, 0, 0, 0, 0, 0, 0x40621D, What.WAITING, 0, 0))
+        self.assertEqual(heard[0].tolist(), (0, 0, 0, 0, What.WAITING, 0, 0, 0x40621D, 0, 0))
 
     def test_tracker(self) -> None:
         tracker = batch.Tracker()
