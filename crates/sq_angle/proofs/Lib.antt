@@ -16,5 +16,6 @@ pub mod OneText
 pub mod OneSpelling
 pub mod Texts
 pub mod OneReading
+pub mod OnePosition
 pub mod SomeText
 pub mod Reciprocals

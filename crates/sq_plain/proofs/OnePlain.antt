@@ -1,29 +1,18 @@
 -- Plain values stand for one value, and a value has one plain form.
 use Rattle.std.proofs.Common.{◌≡◌, ◌∙◌, refl, sym, subst}
-use Rattle.std.proofs.Props.{props}
-use mathlib.Core.HLevel.{is_prop→PathP}
 use Rattle.sq_angle.specs.declared.angle.Angle.{Angle}
 use Rattle.sq_angle.specs.declared.position.Position.{Position}
 use Rattle.sq_angle.specs.Angle.{degrees}
 use Rattle.sq_angle.specs.Bounds.{IsAngle, IsPosition}
 use Rattle.sq_angle.specs.Fraction.{Fraction}
 use Rattle.sq_angle.proofs.Coprime.{one_lowest_form}
+use Rattle.sq_angle.proofs.OnePosition.{one_position}
 use Rattle.sq_angle.proofs.OneReading.{one_angle}
 use Rattle.sq_message.specs.declared.place.Place.{Place}
 use Rattle.sq_message.specs.Places.{IsPositionOf}
 use Rattle.sq_plain.specs.declared.plain.PlainAngle.{PlainAngle}
 use Rattle.sq_plain.specs.declared.plain.PlainPosition.{PlainPosition}
 use Rattle.sq_plain.specs.Plain.{IsLowestOf, IsLowestPosition, IsOfDegrees, PlainIsPosition, fraction_of}
-
--- positions with one latitude and one longitude are one
-pub one_position : (a b : Position) → a.lat ≡ b.lat → a.lon ≡ b.lon → a ≡ b
-one_position a b lat lon =
-    λ i. record {
-      lat = lat i;
-      lon = lon i;
-      in_range = is_prop→PathP (λ j. IsPosition (degrees (lat j)) (degrees (lon j)))
-          (λ j. hlevel props) a.in_range b.in_range i;
-    }
 
 -- fractions are those of one position
 pub one_of_degrees : (plain : PlainPosition) (a b : Position) → IsOfDegrees plain a → IsOfDegrees plain b → a ≡ b
