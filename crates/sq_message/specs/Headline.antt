@@ -82,6 +82,12 @@ SentAgain kind =
     → IsSent kind head parity position rounded again
     → again ≡ frame
 
+-- with one head, of one parity and one position, one frame is sent
+abbrev pub OneFrameSent : Kind → Type 0
+OneFrameSent kind =
+    (head : HeadParts kind) (parity : Parity) (position : Position) (p q : Point) (f g : Frame)
+    → IsSent kind head parity position p f → IsSent kind head parity position q g → f ≡ g
+
 -- near a reference there is one answer
 abbrev pub OneLocalPlace : Type 0
 OneLocalPlace =

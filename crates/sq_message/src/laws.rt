@@ -23,7 +23,7 @@ ghost use Rattle.sq_message.specs.Kinds.{InAir, OnGround};
 ghost use Rattle.sq_message.specs.Altitudes.{IsAltitude, IsFieldOfFeet};
 ghost use Rattle.sq_message.specs.Calls.{DecodedIsSentAgain, HasNoPlaceNear, HaveNoPlace, IsPlaceOfPair, IsAnswerNear, IsPlaceOfNewer, IsAnswerOfPair, IsSentAgain};
 ghost use Rattle.sq_message.specs.Heads.{air_head_parts, ground_head_parts};
-ghost use Rattle.sq_message.specs.Headline.{ClosePair, OneLocalPlace, OnePairPlace, SomeLocalPlace, SomePairPlace, WrittenAgain, NearReference, SentAgain};
+ghost use Rattle.sq_message.specs.Headline.{ClosePair, OneFrameSent, OneLocalPlace, OnePairPlace, SomeLocalPlace, SomePairPlace, WrittenAgain, NearReference, SentAgain};
 ghost use Rattle.sq_message.specs.Parts.{squitter_parts};
 ghost use Rattle.sq_message.specs.Pinned.{DecodedByCalls, EachHasItsZones, NearReferenceExactly, LieAtExactly};
 ghost use Rattle.sq_message.specs.Places.{IsLocalPlace, IsSentAt};
@@ -150,6 +150,12 @@ pub fn frames_on_ground(
     each_frame(&from_there);
     (from_here, from_there)
 }
+
+/// What is sent with one head, of one parity and one position, is one frame.
+pub fn one_frame_sent()
+    ensures in_air { OneFrameSent InAir }
+    ensures on_ground { OneFrameSent OnGround }
+{}
 
 /// Decoding a squitter near a reference has one answer.
 pub fn one_local_place()

@@ -5,18 +5,15 @@ use Rattle.sq_bits.specs.declared.frame.Frame.{Frame}
 use Rattle.sq_zones.specs.declared.parity.Parity.{Parity}
 use Rattle.sq_zones.specs.declared.parity.Parity.TheVariants.{Even, Odd}
 use Rattle.sq_cpr.specs.Grid.{Point}
-use Rattle.sq_cpr.proofs.Grids.Points.{rounds_once}
 use Rattle.sq_message.specs.declared.air_head.AirHead.{AirHead}
 use Rattle.sq_message.specs.declared.ground_head.GroundHead.{GroundHead}
-use Rattle.sq_message.specs.Kinds.{Kind, HeadParts, InAir, OnGround, span_of}
+use Rattle.sq_message.specs.Kinds.{Kind, HeadParts, InAir, OnGround}
 use Rattle.sq_message.specs.Heads.{air_head_parts, ground_head_parts}
-use Rattle.sq_message.specs.Parts.{squitter_parts}
-use Rattle.sq_message.specs.Sending.{IsSquitterOf, IsSent}
-use Rattle.sq_message.specs.Spelling.{Spells, bit}
+use Rattle.sq_message.specs.Sending.{IsSent}
+use Rattle.sq_message.specs.Spelling.{bit}
 use Rattle.sq_message.specs.TypeCodes.{IsAirCode, IsGroundCode}
-use Rattle.sq_message.proofs.One.{one_frame}
+use Rattle.sq_message.proofs.OneSent.{one_sent}
 use Rattle.sq_message.proofs.Same.{same_air_fields, same_bit, same_ground_fields, same_parity}
-use Rattle.sq_message.proofs.SameZones.{same_sent}
 use Rattle.sq_plain.specs.declared.faults.Refusal.{Refusal}
 use Rattle.sq_plain.specs.declared.faults.Refusal.TheVariants as refusals
 use Rattle.squitter_c.specs.declared.heads.PlainAirHead.{PlainAirHead}
@@ -32,14 +29,6 @@ use Rattle.sq_plain.proofs.OnePlain.{is_position, one_of_degrees}
 use Rattle.sq_plain.proofs.OneTelling.{one_telling}
 
 -- ---- one frame of a head, a parity and a position
-
-one_sent : (kind : Kind) (head : HeadParts kind) (parity : Parity) (x : Position) (p q : Point) (f g : Frame)
-    → IsSent kind head parity x p f → IsSent kind head parity x q g → f ≡ g
-one_sent kind head parity x p q f g h k =
-    let point = rounds_once (span_of kind) _ _ p q (h.of_parity ∙ sym k.of_parity) h.rounds k.rounds in
-    let squitter = same_sent kind head p h.squitter k.squitter h.sent
-    (subst (λ t. IsSquitterOf kind head t (squitter_parts k.squitter)) (sym point) k.sent) in
-    one_frame f g h.squitter h.is_frame k.is_frame h.spelled (subst (λ s. Spells g s) (sym squitter) k.spelled)
 
 -- the frame of equal heads, parities and positions is one
 one_of_equals : (kind : Kind) (s t : HeadParts kind) (p q : Parity) (x y : Position) (m n : Point) (f g : Frame)
