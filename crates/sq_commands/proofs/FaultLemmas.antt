@@ -21,7 +21,7 @@ one_angle_fault limit word f g (inr (is, (angle, reads, out))) (inl y) = absurd 
 one_angle_fault limit word f g (inr (is, p)) (inr (same, q)) = is ∙ sym same
 
 -- a good angle has none
-good_angle : (limit : ℕ) (word : List ℕ) (f : AngleFault) → IsAngleWord limit word → IsAngleFault limit word f → ⊥
+pub good_angle : (limit : ℕ) (word : List ℕ) (f : AngleFault) → IsAngleWord limit word → IsAngleFault limit word f → ⊥
 good_angle limit word f (angle, reads, within) (inl x) = no_angle_read word f angle x reads
 good_angle limit word f (angle, reads, within) (inr (is, (other, reads', out))) =
     out (subst (λ (a : Angle). IsWithin limit (degrees a)) (one_angle_read word angle other reads reads') within)

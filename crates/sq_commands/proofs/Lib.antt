@@ -4,5 +4,6 @@ pub mod FaultLemmas
 pub mod FormatLemmas
 pub mod Headers
 pub mod HeardLemmas
+pub mod OneRuns
 pub mod SomeWriters
 pub mod TrackLemmas

@@ -14,4 +14,5 @@ pub mod Heard
 pub mod Tracking
 pub mod Track
 pub mod Runs
+pub mod OneRun
 pub mod Laws

@@ -10,6 +10,7 @@ ghost use Rattle.sq_commands.specs.Check.{IsCheckRunIn, IsChecked, IsNoFormat};
 ghost use Rattle.sq_commands.specs.Formats.{IsFormatWord, Writers};
 ghost use Rattle.sq_commands.specs.Heard.{heard_telling};
 ghost use Rattle.sq_commands.specs.Laws.{OneEncodeFault, OnePositionFault, OneSiteFault, OneTrackFault};
+ghost use Rattle.sq_commands.specs.OneRun.{AlikeOutputsEndAlike, OneRun, OneRunAside};
 ghost use Rattle.sq_commands.specs.Outputs.{effects, outputs};
 ghost use Rattle.sq_commands.specs.Squitters.{squitter_telling};
 ghost use Rattle.sq_commands.specs.Track.{IsLogRun, IsTracked};
@@ -54,4 +55,17 @@ pub fn ended_exactly<S: Source, K: Sink, F: Sink>()
         first last) × WroteNothing (written_on F.Sink before after) }
     ensures misused_log { (options : Options) (from to : S) (old new : K) (before after : F)
         → ¬ IsLogRun options Misused (effects S.Source from to (outputs K.Sink F.Sink old new before after)) }
+{}
+
+/// A request has one run, whatever the devices are. Where no device failed and memory was granted, two runs of it have
+/// one status, write one text or nothing on the output, report one line or nothing, and leave the same of the input.
+/// The same bytes are to come, or, of commands that read no lines, any.
+pub fn one_run<S: Source, K: Sink, F: Sink, T: Source, L: Sink, G: Sink>()
+    ensures alike { OneRun S.Source K.Sink F.Sink T.Source L.Sink G.Sink }
+    ensures aside { OneRunAside S.Source K.Sink F.Sink T.Source L.Sink G.Sink }
+{}
+
+/// Outputs that began with the same bytes, and on which the same was written, end with the same bytes.
+pub fn alike_outputs_end_alike<K: Sink, L: Sink>()
+    ensures { AlikeOutputsEndAlike K.Sink L.Sink }
 {}

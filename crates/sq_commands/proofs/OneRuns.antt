@@ -1,0 +1,8 @@
+-- Two runs of one request, neither broken off, have one status and write the same.
+pub mod Alike
+pub mod Words
+pub mod Frames
+pub mod Lines
+pub mod Logs
+pub mod Sent
+pub mod Runs

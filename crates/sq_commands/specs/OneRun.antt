@@ -1,0 +1,56 @@
+-- What two runs of one request have in common.
+use Rattle.std.specs.Prelude.{◌≡◌, ◌≢◌, ◌⊎◌, ℕ, List, Option, Some, false}
+use Rattle.sq_devices.specs.Changes.{WroteLast, WroteNothing, Written, written_on}
+use Rattle.sq_devices.specs.declared.device.Sink.{Ghosts as SinkGhosts}
+use Rattle.sq_devices.specs.declared.device.Source.{Ghosts as SourceGhosts}
+use Rattle.sq_requests.specs.Requests.{Asked, AskedTrack, Check, Text, Track}
+use Rattle.sq_commands.specs.declared.status.Status.{Status}
+use Rattle.sq_commands.specs.declared.status.Status.TheVariants.{Broken}
+use Rattle.sq_commands.specs.Outputs.{Effects, effects, outputs}
+use Rattle.sq_commands.specs.Runs.{IsRun}
+
+-- an input, an output and a sink for faults
+pub record Devices (S K F : Type 0) : Type 0 where
+  pub input : S
+  pub output : K
+  pub faults : F
+
+-- what was done to devices that were these, and are those
+abbrev pub between : {S K F : Type 0} → SourceGhosts S → SinkGhosts K → SinkGhosts F → (old new : Devices S K F)
+    → Effects
+between s k f old new =
+    effects s old.input new.input (outputs k f old.output new.output old.faults new.faults)
+
+-- both outputs were left alone, or the one text was written on both, each of which was then finished once
+abbrev pub WroteAlike : Written → Written → Type 0
+WroteAlike v w = (WroteNothing v × WroteNothing w) ⊎ ((text : List ℕ) × WroteLast v text × WroteLast w text)
+
+-- outputs that begin with the same bytes, and on which the same was written, end with the same bytes
+abbrev pub AlikeOutputsEndAlike : {K L : Type 0} → SinkGhosts K → SinkGhosts L → Type 0
+AlikeOutputsEndAlike {K} {L} k l = (old new : K) (other last : L) (bytes : List ℕ)
+    → WroteAlike (written_on k old new) (written_on l other last)
+    → k.written old ≡ Some bytes → l.written other ≡ Some bytes → k.written new ≡ l.written last
+
+-- Two runs of one request have one status, and do the same: where the same bytes are to come, no device failed and
+-- memory was granted, so that neither run was broken off and each could report. The devices may be of other kinds.
+abbrev pub OneRun : {S K F T L G : Type 0} → SourceGhosts S → SinkGhosts K → SinkGhosts F → SourceGhosts T
+    → SinkGhosts L → SinkGhosts G → Type 0
+OneRun {S} {K} {F} {T} {L} {G} s k f t l g =
+    (words : Asked) (a b : Status) (old new : Devices S K F) (other last : Devices T L G) (bytes : List ℕ)
+    → s.to_come old.input ≡ Some bytes → t.to_come other.input ≡ Some bytes
+    → IsRun words a (between s k f old new) → IsRun words b (between t l g other last)
+    → a ≢ Broken → b ≢ Broken → f.has_failed new.faults ≡ false → g.has_failed last.faults ≡ false
+    → (a ≡ b) × WroteAlike (written_on k old.output new.output) (written_on l other.output last.output)
+    × WroteAlike (written_on f old.faults new.faults) (written_on g other.faults last.faults)
+    × (s.to_come new.input ≡ t.to_come last.input)
+
+-- two runs of a command that reads no lines have one status, and write the same, whatever is to come
+abbrev pub OneRunAside : {S K F T L G : Type 0} → SourceGhosts S → SinkGhosts K → SinkGhosts F → SourceGhosts T
+    → SinkGhosts L → SinkGhosts G → Type 0
+OneRunAside {S} {K} {F} {T} {L} {G} s k f t l g =
+    (words : Asked) (a b : Status) (old new : Devices S K F) (other last : Devices T L G)
+    → ((format : Option Text) → words ≢ Check format) → ((log : AskedTrack) → words ≢ Track log)
+    → IsRun words a (between s k f old new) → IsRun words b (between t l g other last)
+    → a ≢ Broken → b ≢ Broken → f.has_failed new.faults ≡ false → g.has_failed last.faults ≡ false
+    → (a ≡ b) × WroteAlike (written_on k old.output new.output) (written_on l other.output last.output)
+    × WroteAlike (written_on f old.faults new.faults) (written_on g other.faults last.faults)
