@@ -1,4 +1,4 @@
-//! Worked zone counts, and the lanes against a plain loop over the limits.
+//! Worked zone counts, and the bands against a plain loop over the limits.
 use sq_zones::{Angle, Parity, lon_zones, zone_count};
 use std::process::Abort;
 
@@ -147,7 +147,7 @@ fn parity_indices(rt: HostRuntime) {
     assert_eq!(rt; Parity::Odd.index(), 1);
 }
 
-// Asserts the lanes against the loop at so many tenths of a degree, as a fraction of this denominator.
+// Asserts the zone count against the loop at so many tenths of a degree, as a fraction of this denominator.
 fn assert_tenths(rt: &impl Abort, tenths: u64, den: u64) {
     let num = i64::try_from(tenths.saturating_mul(den / 10)).expect(rt, "a latitude");
     let zones = Some(count_by_loop(num, den));
@@ -159,7 +159,7 @@ fn assert_tenths(rt: &impl Abort, tenths: u64, den: u64) {
 }
 
 // Zone counts at so many tenths of a degree, with denominators of few and of many digits.
-fn assert_lanes(rt: &impl Abort, tenths: u64) {
+fn assert_tenths_by_each(rt: &impl Abort, tenths: u64) {
     let dens = [
         10,
         70,
@@ -175,8 +175,8 @@ fn assert_lanes(rt: &impl Abort, tenths: u64) {
 }
 
 #[test]
-fn lanes_as_the_loop(rt: HostRuntime) {
+fn bands_as_the_loop(rt: HostRuntime) {
     for tenths in 0..901u64 {
-        assert_lanes(&rt, tenths);
+        assert_tenths_by_each(&rt, tenths);
     }
 }
