@@ -17,12 +17,15 @@ import time
 import unittest
 from fractions import Fraction
 from typing import Iterator, List, Tuple
+from unittest import mock
+
+import numpy as np
 
 HERE = os.path.dirname(os.path.abspath(__file__))
 TOP = os.path.join(HERE, "..", "..")
 sys.path.insert(0, os.path.join(HERE, ".."))
 import squitter  # noqa: E402
-from squitter import AirHead, GroundHead, Position  # noqa: E402
+from squitter import AirHead, GroundHead, Position, batch  # noqa: E402
 
 PROGRAM = os.environ.get("PROGRAM") or os.path.join(TOP, "squitter")
 ARCHIVE = os.path.join(TOP, "examples", "archive.py")
@@ -105,6 +108,14 @@ def answers(paths: List[str], folder: str) -> bytes:
     return b"".join(said)
 
 
+# In place of pyarrow, which Debian has not: a table is its columns, and is written as NumPy writes them.
+STAND_IN = {
+    "__init__.py": "def table(columns):\n    return columns\n",
+    "parquet.py": "import numpy\n\ndef write_table(table, path):\n    with open(path, 'wb') as file:\n"
+                  "        numpy.savez(file, **table)\n",
+}
+
+
 def workers(parent: int) -> List[int]:
     """The processes that work for this one."""
     found = []
@@ -136,6 +147,31 @@ class Archive(unittest.TestCase):
         run = subprocess.Popen([sys.executable, ARCHIVE, *SITE, *words, to, *self.paths], env=ENVIRONMENT,
                                stdout=subprocess.DEVNULL, stderr=subprocess.PIPE, text=True)
         return run, to
+
+    def test_columns(self) -> None:
+        """The columns that go to Parquet say what the rows say."""
+        package = f"{self.folder.name}/stand_in/pyarrow"
+        os.makedirs(package)
+        for name, text in STAND_IN.items():
+            with open(f"{package}/{name}", "w", encoding="ascii") as file:
+                file.write(text)
+        path = os.pathsep.join([os.path.dirname(package), ENVIRONMENT["PYTHONPATH"]])
+        with mock.patch.dict(ENVIRONMENT, PYTHONPATH=path):
+            run, to = self.started("--workers=2", "--hours=3", "--parquet")
+        _, said = run.communicate(timeout=300)
+        self.assertEqual(run.returncode, 0, said)
+        self.assertEqual(answers(self.paths, to), self.wanted)
+        first, rows = 1, b""
+        for name in map(os.path.basename, self.paths):
+            with np.load(f"{to}/{name}.parquet") as columns:
+                heard, faults = (np.zeros(len(columns["moment"]), dtype) for dtype in (batch.TRACKED, batch.FAULT))
+                for field in batch.TRACKED.names:
+                    heard[field] = columns[field]
+                for field in batch.FAULT.names:
+                    faults[field] = columns[f"fault_{field}"]
+                rows += batch.lines(heard, faults, first)
+                first += len(heard)
+        self.assertEqual(rows, self.wanted)
 
     def test_one_is_killed(self) -> None:
         run, to = self.started("--workers=4", "--hours=3", "--parts=5")
