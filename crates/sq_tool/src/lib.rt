@@ -4,6 +4,7 @@
 //! words and the texts are crates of their own below.
 #![tactic(auto)]
 
+pub mod laws;
 mod program;
 
 pub use program::run;
