@@ -18,7 +18,8 @@ near_of_position : (last : Option Place) (fix : Option Position) (q : Squitter) 
 near_of_position None None q of_pair heard at near = near
 near_of_position None (Some position) q of_pair heard at near = absurd at
 near_of_position (Some place) None q of_pair heard at near = absurd at
-near_of_position (Some place) (Some position) q of_pair heard at (answer, local, is) = (answer, (position, at, local), is)
+near_of_position (Some place) (Some position) q of_pair heard at (answer, local, is) =
+    (answer, (position, at, local), is)
 
 -- what looks to the position of a place looks to the place
 after_of_position : (last : Option Place) (fix : Option Position) (q : Squitter) (of_pair heard : Heard)

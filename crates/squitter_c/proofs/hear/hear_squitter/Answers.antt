@@ -29,7 +29,9 @@ returns c = (
     by_kept = c.step-heard.ensures.1.by_kept;
     fix = c.step-heard.ensures.1.kept.0;
     fix_after = c.step-heard.ensures.1.kept.1;
-    after = subst (IsContactOf c.plain_entry-after.result) c.step-heard.ensures.1.kept.2 c.plain_entry-after.ensures.contact;
+    after =
+        subst (IsContactOf c.plain_entry-after.result) c.step-heard.ensures.1.kept.2
+        c.plain_entry-after.ensures.contact;
     last = c.plain_entry-after.ensures.last;
   },
   c.step-heard.ensures.2,
