@@ -375,7 +375,10 @@ def track(
     source = _frames("frames", frames)
     count = len(source.bytes)
     times = _moments(moments, count)
-    out, faults = _rooms(count, TRACKED, out, faults, source.bytes, times)
+    # New arrays are written part by part, so that their pages come beside what is heard.
+    blank = None if out is not None else np.zeros(1, TRACKED)
+    rooms = [np.empty(count, dtype) if room is None else room for room, dtype in ((out, TRACKED), (faults, FAULT))]
+    out, faults = _rooms(count, TRACKED, *rooms, source.bytes, times)
     _look_at(window, limit)
     at_once = min(count, _PART)
     parts = [slice(at, min(at + at_once, count)) for at in range(0, count, at_once or 1)]
@@ -393,7 +396,8 @@ def track(
         _one_ahead(hear, len(parts))
     ) as hearing:
         for part, heard in zip(parts, hearing):
-            _write_part(heard, source.bytes[part], [array[:len(heard)] for array in room], out[part], faults[part])
+            parts_of_room = [array[:len(heard)] for array in room]
+            _write_part(heard, source.bytes[part], parts_of_room, blank, out[part], faults[part])
     # (where a text is no frame, the bytes that were heard are 0, which is refused and changes nothing)
     faults[source.bad] = source.faults
     return out, faults
@@ -422,14 +426,16 @@ def _one_ahead(call: Callable[[int], Records], count: int) -> Generator[Records,
 
 
 def _write_part(
-    heard: Records, frames: npt.NDArray[np.uint8], room: Sequence[Records], out: Records, faults: Records
+    heard: Records, frames: npt.NDArray[np.uint8], room: Sequence[Records], blank: Optional[Records], out: Records,
+    faults: Records,
 ) -> None:
-    """Writes what was heard of some lines. The room is for the places, these in degrees, and which of them are none."""
+    """Writes what was heard of some lines. The room is for the places, these in degrees, and which of them are none. At a
+    fault the record stays as it was, or is blank."""
     places, degrees, nowhere = room
     bad = np.flatnonzero(faults["code"])
     if (faults["code"][bad] == Code.NO_MEMORY).any():
         raise MemoryError(squitter.fault_text(Code.NO_MEMORY))
-    before = _whole(out)[bad]
+    before = _whole(out)[bad] if blank is None else _whole(blank)
     _front(places, POSITION)[:] = _front(heard, POSITION)
     degrees.view(np.uint64).fill(0)  # where there is no place, both stay 0
     _lib.squitter_position_e7_many(*_given(places), *_given(degrees), *_given(nowhere))
