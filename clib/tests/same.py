@@ -1,5 +1,5 @@
 #!/usr/bin/env python3
-"""same.py: holds squitter.h and the module squitter to the crates.
+"""same.py: holds squitter.h, the module squitter and that of the page to the crates.
 
 The structs of the crates' sources, with the sizes and offsets that C gives them; the types of the exports; the codes of
 faults as the specs state them; and the symbols that the archive and the shared object export and want. Wants a C compiler and
@@ -38,6 +38,8 @@ RENAMED = {
     "NoFeet": "BAD_FEET", "NoParity": "BAD_PARITY", "angles.OutOfRange": "ANGLE_RANGE", "lines.Moment": "BAD_MOMENT",
     "lines.Full": "TABLE_FULL", "lines.NotDf17": "NOT_DF17", "Memory": "NO_MEMORY",
 }
+# Reasons of the tracker alone, which is in no page.
+OF_TRACKER = {"NO_MEMORY", "NO_LIMIT", "NO_TRACKER", "NO_ADDRESS"}
 # What the libraries may want: no function of the C library but these, which compilers call by themselves, the heap of the
 # tracker, and of the archive the divisions of libgcc.
 WANTED = {"memcpy", "memset", "memmove", "memcmp", "malloc", "realloc", "free", "__udivti3", "__umodti3"}
@@ -184,6 +186,19 @@ def check_codes():
         differ(f"codes of squitter.h: {sorted(set(named.items()) ^ set(codes.items()))}")
     if {code.name: code.value for code in squitter.Code} != codes:
         differ("codes of the module")
+    without_tracker = {name: code for name, code in codes.items() if name not in OF_TRACKER}
+    for file, told in in_page("Code"):
+        if told != without_tracker:
+            differ(f"codes of {file}: {sorted(set(told.items()) ^ set(without_tracker.items()))}")
+
+
+def in_page(enum):
+    """What the module for JavaScript and its types say of an enum, by the names of the files."""
+    for file, start, number in (("squitter.js", rf"export const {enum} = ", r"(\w+): (\d+)"),
+                                ("squitter.d.ts", rf"export declare const {enum}: ", r"readonly (\w+): (\d+);")):
+        with open(os.path.join(os.path.dirname(CLIB), "web", file), encoding="utf-8") as text:
+            block = re.search(start + r".*?\}", text.read(), re.S)
+        yield file, {name: int(code) for name, code in re.findall(number, block[0])} if block else {}
 
 
 def definitions(crate, file, pattern):
@@ -213,6 +228,9 @@ def check_enums():
             continue
         if {one.name: one.value for one in kind} != {names.split()[0]: stated[case] for case, names in named.items()}:
             differ(f"{kind.__name__} of the module and of the definitions")
+        for file, told in in_page(kind.__name__):
+            if told != {one.name: one.value for one in kind}:
+                differ(f"{kind.__name__} of {file} and of the definitions")
         if {names.split()[1]: stated[case] for case, names in named.items()} not in blocks:
             differ(f"{kind.__name__} of squitter.h and of the definitions")
 
