@@ -10,7 +10,7 @@ use Rattle.sq_track.specs.declared.heard.Heard.TheVariants.{Fix, Followed, Waiti
 use Rattle.sq_track.specs.Answers.{IsHeardAfter, IsHeardByKept, IsHeardNear, IsHeardNearPosition, IsHeardWith, LooksToFix, heard_near}
 use Rattle.sq_track.specs.Kept.{IsFixAt, fix_in, pair_in, recent_position, recent_squitter}
 use Rattle.sq_track.specs.Laws.{OneAnswerByKept}
-use Rattle.sq_track.proofs.Histories.OneAnswer.{one_of_pair}
+use Rattle.sq_track.proofs.Histories.OneAnswer.{one_after, one_of_pair}
 
 -- near the position of a place is near the place
 near_of_position : (last : Option Place) (fix : Option Position) (q : Squitter) (of_pair heard : Heard)
@@ -49,21 +49,10 @@ one_near_position None q of_pair x y h k = h ∙ sym k
 one_near_position (Some position) q of_pair x y (answer, h, is) (other, k, be) =
     is ∙ ap (heard_near of_pair) (one_local_place q position answer other h k) ∙ sym be
 
--- after one pair one thing is heard
-one_after_position : (fix : Option Position) (q : Squitter) (of_pair x y : Heard)
-    → LooksToFix (IsHeardNearPosition fix q) of_pair x → LooksToFix (IsHeardNearPosition fix q) of_pair y → x ≡ y
-one_after_position fix q (Fix place) x y h k = h ∙ sym k
-one_after_position fix q (Followed place) x y h k = h ∙ sym k
-one_after_position fix q Waiting x y h k = one_near_position fix q Waiting x y h k
-one_after_position fix q (Split e o) x y h k = one_near_position fix q (Split e o) x y h k
-one_after_position fix q Far x y h k = h ∙ sym k
-one_after_position fix q NoSite x y h k = h ∙ sym k
-one_after_position fix q NotPosition x y h k = h ∙ sym k
-
 pub one_answer_by_kept : OneAnswerByKept
 one_answer_by_kept window site contact moment q x y h k =
     let older = recent_squitter window moment (pair_in contact (squitter_parts q).me) in
     let fix = recent_position window moment (fix_in contact (squitter_parts q).me) in
     let same : h.of_pair ≡ k.of_pair = one_of_pair site older q h.of_pair k.of_pair h.pair k.pair in
-    one_after_position fix q k.of_pair x y
+    one_after (IsHeardNearPosition fix q) (one_near_position fix q) k.of_pair x y
     (subst (λ of_pair. LooksToFix (IsHeardNearPosition fix q) of_pair x) same h.after) k.after
