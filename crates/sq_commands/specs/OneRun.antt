@@ -15,6 +15,11 @@ pub record Devices (S K F : Type 0) : Type 0 where
   pub output : K
   pub faults : F
 
+-- any three devices can be taken together, and are then these three
+abbrev pub AnyDevices : (S K F : Type 0) → Type 0
+AnyDevices S K F = (input : S) (output : K) (faults : F)
+    → (d : Devices S K F) × (d.input ≡ input) × (d.output ≡ output) × (d.faults ≡ faults)
+
 -- what was done to devices that were these, and are those
 abbrev pub between : {S K F : Type 0} → SourceGhosts S → SinkGhosts K → SinkGhosts F → (old new : Devices S K F)
     → Effects

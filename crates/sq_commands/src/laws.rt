@@ -10,7 +10,7 @@ ghost use Rattle.sq_commands.specs.Check.{IsCheckRunIn, IsChecked, IsNoFormat};
 ghost use Rattle.sq_commands.specs.Formats.{IsFormatWord, Writers};
 ghost use Rattle.sq_commands.specs.Heard.{heard_telling};
 ghost use Rattle.sq_commands.specs.Laws.{OneEncodeFault, OnePositionFault, OneSiteFault, OneTrackFault};
-ghost use Rattle.sq_commands.specs.OneRun.{AlikeOutputsEndAlike, OneRun, OneRunAside};
+ghost use Rattle.sq_commands.specs.OneRun.{AlikeOutputsEndAlike, AnyDevices, OneRun, OneRunAside};
 ghost use Rattle.sq_commands.specs.Outputs.{effects, outputs};
 ghost use Rattle.sq_commands.specs.Squitters.{squitter_telling};
 ghost use Rattle.sq_commands.specs.Track.{IsLogRun, IsTracked};
@@ -63,6 +63,12 @@ pub fn ended_exactly<S: Source, K: Sink, F: Sink>()
 pub fn one_run<S: Source, K: Sink, F: Sink, T: Source, L: Sink, G: Sink>()
     ensures alike { OneRun S.Source K.Sink F.Sink T.Source L.Sink G.Sink }
     ensures aside { OneRunAside S.Source K.Sink F.Sink T.Source L.Sink G.Sink }
+{}
+
+/// An input, an output and a sink for faults can be taken together, whichever they are, so that the law of one run
+/// leaves none out.
+pub fn any_devices<S: Source, K: Sink, F: Sink>()
+    ensures { AnyDevices S K F }
 {}
 
 /// Outputs that began with the same bytes, and on which the same was written, end with the same bytes.
