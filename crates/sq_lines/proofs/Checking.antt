@@ -26,13 +26,13 @@ consumes_hidden (Some x) (Some y) (Some z) bs p q = p ∙ ap (λ l. bs ++ l) (sy
 -- one more piece, by one get, which is no more than a get a byte where the piece is not empty
 pub read_on : {State Past Found : Type 0} {how : Manner State Past Found} {start now next : State}
     (old_input input : Taken) (more : ℕ) {Wrote Writes : List ℕ → Type 0} {old new : LineRun}
-    {read : List ℕ} (h : HasRead how start old_input 0 Wrote old now read)
+    {front behind read : List ℕ} (h : HasRead how start old_input 0 Wrote old front now read)
     → old_input.before ≡ input.before → old_input.gets_before ≡ input.gets_before
     → input.gets + 1 ≡ old_input.gets
     → (on : (piece : List ℕ) × Consumes old_input.after input.after piece
-    × HasAnswered how start Writes new next (read ++ piece))
+    × HasAnswered how start Writes new behind next (read ++ piece))
     → 1 ≤ length on.0 + more
-    → HasRead how start input more Writes new next (read ++ on.0)
+    → HasRead how start input more Writes new behind next (read ++ on.0)
 read_on old_input input more {read = read} h same_before same_gets one (piece, consumed, answered) some = record {
   consumed = subst (λ (b : Option (List ℕ)). Consumes b input.after (read ++ piece)) same_before
       (Consumes-trans old_input.before old_input.after input.after read piece h.consumed consumed);
@@ -84,7 +84,8 @@ of_pieces pieces read (b ∷ bs) Of whole none of = absurd (omega (arith, none))
 
 -- the answers to the ended lines of what was read
 pub told_read : {State Past Found : Type 0} {how : Manner State Past Found} {start now : State}
-    {Wrote : List ℕ → Type 0} {run : LineRun} {read : List ℕ} (h : HasAnswered how start Wrote run now read)
+    {Wrote : List ℕ → Type 0} {run : LineRun} {front read : List ℕ}
+    (h : HasAnswered how start Wrote run front now read)
     → HasTold how start now Wrote (ended_lines read)
 told_read {how = how} {start} {now} {Wrote} {read = read} h =
     subst (λ (ls : List (List ℕ)). HasTold how start now Wrote ls) (sym (ended_lines-cut read h.lines h.rest h.cut))

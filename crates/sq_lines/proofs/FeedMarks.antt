@@ -1,13 +1,13 @@
 -- Masks whose bits mark the line feeds of a piece.
-use Rattle.std.proofs.Common.{◌≡◌, ◌+◌, ◌-◌, ◌/◌, ◌%◌, ◌^◌, ◌<◌, ◌≤◌, ◌∙◌, inl, inr, ℕ, Bool, true, false, cond, eqb, List, length, take, drop, map, min, refl, sym, ap, subst, arith, w64, eq-zero-or-pos, shr-shr}
+use Rattle.std.proofs.Common.{◌≡◌, ◌+◌, ◌-◌, ◌/◌, ◌%◌, ◌^◌, ◌<◌, ◌≤◌, ◌∙◌, inl, inr, ℕ, Bool, true, false, cond, eqb, List, length, take, drop, get_or, map, min, refl, sym, ap, subst, arith, w64, eq-zero-or-pos, shr-shr}
 use Rattle.std.specs.Int.{bit_at, trailing_zeros}
 use Rattle.std.specs.Int.Count.{count_trailing_zeros}
 use Rattle.std.specs.List.{position_or_len}
 use Rattle.std.proofs.Math.ListN.{get_or-map}
-use Rattle.std.proofs.lemmas.List.{length-drop, take_rest}
+use Rattle.std.proofs.lemmas.List.{get_or-drop, get_or-take, length-drop, length-take}
 use Rattle.std.proofs.lemmas.List.Sums.{position_or_len_is}
 use Rattle.std.proofs.lemmas.Nat.Bits.{bit_at-trailing_zeros, bit_at-zero}
-use Rattle.std.proofs.lemmas.Simd.{bit_mask_l, get_or-chunk}
+use Rattle.std.proofs.lemmas.Simd.{bit_mask_l}
 use Rattle.std.specs.Simd.Lanes.{mask_l}
 use Rattle.sq_lines.specs.Lines.{is_feed, MarksFeeds}
 
@@ -15,13 +15,22 @@ use Rattle.sq_lines.specs.Lines.{is_feed, MarksFeeds}
 pub marks_lanes : (bytes : List ℕ) → MarksFeeds (mask_l (map (λ x. eqb x 10) bytes)) bytes
 marks_lanes bytes k within = bit_mask_l (map is_feed bytes) k ∙ ap (λ b. cond b 1 0) (get_or-map is_feed bytes k 0)
 
--- the mask of what stands after a place
-pub marks_rest : (piece : List ℕ) (at feeds : ℕ) → MarksFeeds feeds piece
-    → MarksFeeds (feeds / 2 ^ at) (take (length piece - at) (drop at piece))
-marks_rest piece at feeds marked k within =
-    let short : k < length piece - at = omega (arith, ap length (take_rest piece at), length-drop at piece) in
-    ap (λ x. x % 2) (shr-shr feeds at k) ∙ marked (at + k) (omega arith)
-    ∙ ap (λ b. cond (is_feed b) 1 0) (sym (get_or-chunk at (length piece - at) piece k 0 short))
+-- the mask of the first bytes
+pub marks_front : (piece : List ℕ) (n feeds : ℕ) → MarksFeeds feeds piece → MarksFeeds feeds (take n piece)
+marks_front piece n feeds marked k within =
+    let here : (k < n) × (k < length piece) = (omega (arith, length-take n piece), omega (arith, length-take n piece)) in
+    marked k here.1 ∙ ap (λ b. cond (is_feed b) 1 0) (sym (get_or-take n piece k 0 here.0))
+
+-- the mask of what stands after the byte at a place
+pub marks_after : (bytes : List ℕ) (at place feeds : ℕ) → MarksFeeds feeds (drop at bytes)
+    → MarksFeeds (feeds / 2 ^ place / 2) (drop (at + place + 1) bytes)
+marks_after bytes at place feeds marked k within =
+    let there : place + (1 + k) < length (drop at bytes) =
+    omega (arith, length-drop at bytes, length-drop (at + place + 1) bytes) in
+    let far : at + (place + (1 + k)) ≡ at + place + 1 + k = omega arith in
+    ap (λ x. x % 2) (shr-shr (feeds / 2 ^ place) 1 k ∙ shr-shr feeds place (1 + k)) ∙ marked (place + (1 + k)) there
+    ∙ ap (λ b. cond (is_feed b) 1 0) (get_or-drop at bytes (place + (1 + k)) 0 ∙ ap (λ n. get_or bytes n 0) far
+    ∙ sym (get_or-drop (at + place + 1) bytes k 0))
 
 unset : (b : Bool) → cond {A = ℕ} b 1 0 ≡ 0 → b ≡ false
 unset true e = absurd (omega arith)

@@ -7,4 +7,5 @@ pub mod Tallying
 pub mod Running
 pub mod Checking
 pub mod Contents
+pub mod Fronts
 pub mod Told

@@ -10,8 +10,9 @@ use Rattle.sq_devices.proofs.Puts.{Appends-hidden, HasPut-nil, HasPut-trans}
 use Rattle.sq_devices.specs.Calls.{HasPut}
 use Rattle.sq_devices.specs.declared.device.Sink.{Ghosts as SinkGhosts}
 use Rattle.sq_lines.specs.Lines.{is_feed, HasNoFeed, Cuts, ended_lines, lines_of, as_last_line}
-use Rattle.sq_lines.specs.Held.{Held, Holds, GoesOn, empty_line}
-use Rattle.sq_lines.specs.Answers.{answers_to, Manner, WantsAt, after_line, answer_line, past_after, answer_text, output_of, tally_of, noted}
+use Rattle.sq_lines.specs.Content.{Content, answer_content, content}
+use Rattle.sq_lines.specs.Held.{IsHeldAs}
+use Rattle.sq_lines.specs.Answers.{answers_to, Manner, WantsAt, after_content, after_line, answer_line, past_after, answer_text, output_of, tally_of, noted}
 use Rattle.sq_lines.specs.Runs.{HasAnswered, HasTold, HasToldPart, StoppedIn}
 use Rattle.sq_lines.specs.declared.faults.Unanswered.{Unanswered}
 use Rattle.sq_lines.specs.declared.faults.Unanswered.TheVariants.{Write, Memory}
@@ -19,6 +20,7 @@ use Rattle.sq_lines.specs.declared.runs.LineRun.{LineRun}
 use Rattle.sq_lines.specs.declared.tallies.Tally.{Tally}
 use Rattle.sq_lines.proofs.Feeds.{through_first, all_before, before_has_none}
 use Rattle.sq_lines.proofs.Cutting.{cuts_nothing, cuts_more, cuts_ended, ended_lines-cut, last_part-cut, ended_lines-append}
+use Rattle.sq_lines.proofs.Fronts.{held_by, held_on, same_content}
 use Rattle.sq_lines.proofs.Tallying.{past_push, output_push, output_none, output_but_last, but_last-push, tally_push, tally_nothing}
 
 -- ---- fronts
@@ -36,16 +38,15 @@ prefix_trans xs ys zs p q = (p.0 ++ q.0, q.1 ∙ ap (λ l. l ++ q.0) p.1 ∙ app
 -- ---- the start
 
 pub starts : {State Past Found : Type 0} (how : Manner State Past Found)
-    {K : Type 0} (k : SinkGhosts K) (start : State) (sink : K) (run : LineRun)
-    → run.number ≡ 0 → run.cutter ≡ empty_line
-    → (let none : Tally = record { good = 0; refused = 0 } in run.tally ≡ none)
-    → HasAnswered how start (HasPut k sink sink) run start []
-starts how k start sink run number cutter tally = record {
+    {K : Type 0} (k : SinkGhosts K) (start : State) (sink : K) (run : LineRun) (front : List ℕ)
+    → run.number ≡ 0 → (let none : Tally = record { good = 0; refused = 0 } in run.tally ≡ none) → front ≡ []
+    → HasAnswered how start (HasPut k sink sink) run front start []
+starts how k start sink run front number tally empty = record {
   lines = [];
   rest = [];
   cut = cuts_nothing;
   number = number;
-  held = subst (λ h. GoesOn h []) (sym cutter) (record { front = refl; more = refl });
+  held = inl empty;
   tally = λ past st. tally ∙ sym (tally_nothing how.way past);
   told = λ past st. (st, subst (HasPut k sink sink) (sym (output_none how.way past)) (HasPut-nil k sink));
 }
@@ -66,10 +67,29 @@ LineToldPart {Past = Past} how old now next a b line = (past first : Past) → h
     → how.stands_for next (after_line how.way past line)
     × WroteFront a b (answer_text (how.way.text first) (old.number + 1) (answer_line how.way past line))
 
+-- ---- bytes on which the same stands
+
+module _ {State Past Found : Type 0} (how : Manner State Past Found) (old : LineRun) (now next : State)
+    (bytes line : List ℕ) (same : content bytes ≡ content line) where
+  pub told_alike : (new : LineRun) (Wrote : List ℕ → Type 0) → LineTold how old new now next Wrote bytes
+      → LineTold how old new now next Wrote line
+  told_alike new Wrote told past first st =
+      subst (λ (stands : Content). how.stands_for next (after_content (how.way.after past) past stands)
+      × (new.tally ≡ noted old.tally (answer_content (how.way.answer past) stands))
+      × Wrote (answer_text (how.way.text first) (old.number + 1) (answer_content (how.way.answer past) stands)))
+      same (told past first st)
+
+  part_alike : (a b : Option (List ℕ)) → LineToldPart how old now next a b bytes
+      → LineToldPart how old now next a b line
+  part_alike a b told past first st =
+      subst (λ (stands : Content). how.stands_for next (after_content (how.way.after past) past stands)
+      × WroteFront a b (answer_text (how.way.text first) (old.number + 1) (answer_content (how.way.answer past) stands)))
+      same (told past first st)
+
 module _ {State Past Found : Type 0} (how : Manner State Past Found) {K : Type 0} (k : SinkGhosts K) (start : State)
     (before a b : K)
-    (old new : LineRun) (now next : State) (read : List ℕ)
-    (h : HasAnswered how start (HasPut k before a) old now read) where
+    (old new : LineRun) (now next : State) (front read : List ℕ)
+    (h : HasAnswered how start (HasPut k before a) old front now read) where
   output_through : (past : Past) (line : List ℕ)
       → output_of how.way past h.lines ++ answer_text (how.way.text past) (old.number + 1)
       (answer_line how.way (past_after how.way past h.lines) line) ≡ output_of how.way past (h.lines ++ line ∷ [])
@@ -116,20 +136,21 @@ module _ {State Past Found : Type 0} (how : Manner State Past Found) {K : Type 0
       )
 
   -- the line was not answered, or not all of its text was written
-  pub stopped_line : (line : List ℕ) (complete : List (List ℕ)) (fault : Unanswered)
-      → (fault ≡ Memory → (next ≡ now) × (k.written b ≡ k.written a) × WantsAt how now line)
+  pub stopped_line : (bytes line : List ℕ) (complete : List (List ℕ)) (fault : Unanswered)
+      → content bytes ≡ content line
+      → (fault ≡ Memory → (next ≡ now) × (k.written b ≡ k.written a) × WantsAt how now bytes)
       → ((past first : Past) → how.stands_for now past → fault ≡ Write
-      → how.stands_for next (after_line how.way past line)
+      → how.stands_for next (after_line how.way past bytes)
       × WroteFront (k.written a) (k.written b)
-      (answer_text (how.way.text first) (old.number + 1) (answer_line how.way past line)))
+      (answer_text (how.way.text first) (old.number + 1) (answer_line how.way past bytes)))
       → IsPrefixOf (h.lines ++ line ∷ []) complete
       → StoppedIn fault how start next (k.written before) (k.written b) complete
-  stopped_line line complete Memory memory part first =
+  stopped_line bytes line complete Memory alike memory part first =
       let same = memory refl in (
         h.lines,
         line,
         first,
-        subst (λ (s : State). WantsAt how s line) (sym same.0) same.2,
+        subst (λ (s : State). WantsAt how s line) (sym same.0) (same.2.0, sym alike ∙ same.2.1, same.2.2),
         λ past st.
             let told = h.told past st in (
               subst (λ (s : State). how.stands_for s (past_after how.way past h.lines)) (sym same.0) told.0,
@@ -137,28 +158,35 @@ module _ {State Past Found : Type 0} (how : Manner State Past Found) {K : Type 0
                   (sym same.1) told.1.0,
             ),
       )
-  stopped_line line complete Write memory part first =
-      (h.lines ++ line ∷ [], first, told_part line (λ past first st. part past first st refl))
+  stopped_line bytes line complete Write alike memory part first = (
+    h.lines ++ line ∷ [],
+    first,
+    told_part line
+        (part_alike how old now next bytes line alike (k.written a) (k.written b)
+        (λ past first st. part past first st refl)),
+  )
 
-  pub stopped_result : (line : List ℕ) (complete : List (List ℕ)) (result : Result (Unit {0}) Unanswered)
-      → IfErr result (λ fault. fault ≡ Memory → (next ≡ now) × (k.written b ≡ k.written a) × WantsAt how now line)
+  pub stopped_result : (bytes line : List ℕ) (complete : List (List ℕ)) (result : Result (Unit {0}) Unanswered)
+      → content bytes ≡ content line
+      → IfErr result (λ fault. fault ≡ Memory → (next ≡ now) × (k.written b ≡ k.written a) × WantsAt how now bytes)
       → ((past first : Past) → how.stands_for now past → IfErr result (λ fault. fault ≡ Write
-      → how.stands_for next (after_line how.way past line)
+      → how.stands_for next (after_line how.way past bytes)
       × WroteFront (k.written a) (k.written b)
-      (answer_text (how.way.text first) (old.number + 1) (answer_line how.way past line))))
+      (answer_text (how.way.text first) (old.number + 1) (answer_line how.way past bytes))))
       → IsPrefixOf (h.lines ++ line ∷ []) complete
       → IfErr result (λ fault. StoppedIn fault how start next (k.written before) (k.written b) complete)
-  stopped_result line complete (Ok u) memory part first = tt
-  stopped_result line complete (Err fault) memory part first = stopped_line line complete fault memory part first
+  stopped_result bytes line complete (Ok u) alike memory part first = tt
+  stopped_result bytes line complete (Err fault) alike memory part first =
+      stopped_line bytes line complete fault alike memory part first
 
--- ---- one take of a cutter
+-- ---- one line feed more, or none
 
 abbrev place : List ℕ → ℕ
 place piece = position_or_len is_feed piece
 
 module _ {State Past Found : Type 0} {how : Manner State Past Found} {K : Type 0} (k : SinkGhosts K) {start : State}
-    {before a : K} {old : LineRun} {now : State} {read : List ℕ}
-    (h : HasAnswered how start (HasPut k before a) old now read) where
+    {before a : K} {old : LineRun} {now : State} {front read : List ℕ}
+    (h : HasAnswered how start (HasPut k before a) old front now read) where
   abbrev pub line_in : List ℕ → List ℕ
   line_in piece = h.rest ++ before_first is_feed piece
 
@@ -182,39 +210,60 @@ module _ {State Past Found : Type 0} {how : Manner State Past Found} {K : Type 0
             ∙ ap (λ (ls : List (List ℕ)). ls ++ longer.0) (ended_lines-cut _ _ _ cut),
       )
 
+  -- the same stands on the bytes that are held of the line
+  pub same_line : (piece : List ℕ) → content (front ++ before_first is_feed piece) ≡ content (line_in piece)
+  same_line piece =
+      same_content (front ++ before_first is_feed piece) (line_in piece)
+      (held_on front h.rest (before_first is_feed piece) h.held)
+
   -- the piece completes the line, and it was answered
   pub answered_feed : (new : LineRun) (next : State) (b : K) (piece : List ℕ)
-      → place piece < length piece → new.number ≡ old.number + 1 → new.cutter.is_complete ≡ true
-      → LineTold how old new now next (HasPut k a b) (line_in piece)
-      → HasAnswered how start (HasPut k before b) new next (read ++ take (place piece + 1) piece)
-  answered_feed new next b piece there number complete more = record {
-    lines = h.lines ++ line_in piece ∷ [];
-    rest = [];
-    cut = cut_through piece there;
-    number = number ∙ ap (λ n. n + 1) h.number ∙ sym (length_push h.lines (line_in piece));
-    held = subst (λ t. MatchBool t (◌≡◌ {A = List ℕ} [] []) (Holds new.cutter [])) (sym complete) refl;
-    tally = tally_line how k start before a b old new now next read h (line_in piece) more;
-    told = told_line how k start before a b old new now next read h (line_in piece) more;
-  }
-
-  -- the piece goes on with the line
-  pub answered_no_feed : (new : LineRun) (piece : List ℕ)
-      → length piece ≤ place piece → new.number ≡ old.number → new.tally ≡ old.tally → new.cutter.is_complete ≡ false
-      → Holds new.cutter (line_in piece) → HasAnswered how start (HasPut k before a) new now (read ++ piece)
-  answered_no_feed new piece past number tally unended held =
-      let all = all_before piece past in
+      → place piece < length piece → new.number ≡ old.number + 1
+      → LineTold how old new now next (HasPut k a b) (front ++ before_first is_feed piece)
+      → HasAnswered how start (HasPut k before b) new [] next (read ++ take (place piece + 1) piece)
+  answered_feed new next b piece there number told =
+      let more = told_alike how old now next _ (line_in piece) (same_line piece) new (HasPut k a b) told in
       record {
-        lines = h.lines;
-        rest = h.rest ++ piece;
-        cut = cuts_more read h.lines h.rest piece h.cut (subst HasNoFeed all (before_has_none piece));
-        number = number ∙ h.number;
-        held = subst (λ t. MatchBool t (h.rest ++ piece ≡ []) (Holds new.cutter (h.rest ++ piece))) (sym unended)
-            (subst (λ (l : List ℕ). Holds new.cutter (h.rest ++ l)) all held);
-        tally = λ from st. tally ∙ h.tally from st;
-        told = h.told;
+        lines = h.lines ++ line_in piece ∷ [];
+        rest = [];
+        cut = cut_through piece there;
+        number = number ∙ ap (λ n. n + 1) h.number ∙ sym (length_push h.lines (line_in piece));
+        held = inl refl;
+        tally = tally_line how k start before a b old new now next front read h (line_in piece) more;
+        told = told_line how k start before a b old new now next front read h (line_in piece) more;
       }
 
+  -- the piece goes on with the line
+  pub answered_no_feed : (piece : List ℕ) → length piece ≤ place piece
+      → HasAnswered how start (HasPut k before a) old (front ++ piece) now (read ++ piece)
+  answered_no_feed piece past = record {
+    lines = h.lines;
+    rest = h.rest ++ piece;
+    cut = cuts_more read h.lines h.rest piece h.cut (subst HasNoFeed (all_before piece past) (before_has_none piece));
+    number = h.number;
+    held = held_on front h.rest piece h.held;
+    tally = h.tally;
+    told = h.told;
+  }
+
+  -- other bytes stand for the front
+  pub answered_slid : (fewer : List ℕ) → IsHeldAs fewer front
+      → HasAnswered how start (HasPut k before a) old fewer now read
+  answered_slid fewer held = record {
+    lines = h.lines;
+    rest = h.rest;
+    cut = h.cut;
+    number = h.number;
+    held = held_by fewer front h.rest held h.held;
+    tally = h.tally;
+    told = h.told;
+  }
+
   -- ---- the end of the input
+
+  -- the last line by other bytes, which are those that are held
+  pub last_line : (line : List ℕ) → line ≡ front → HasAnswered how start (HasPut k before a) old line now read
+  last_line line same = answered_slid line (inl same)
 
   lines_of-read : lines_of read ≡ h.lines ++ as_last_line h.rest
   lines_of-read =
@@ -245,32 +294,21 @@ module _ {State Past Found : Type 0} {how : Manner State Past Found} {K : Type 0
   pub finished_line : (new : LineRun) (next : State) (b : K) (result : Result (Unit {0}) Unanswered)
       → 0 < length h.rest
       → ((past first : Past) → how.stands_for now past → OnOk result (
-      how.stands_for next (after_line how.way past h.rest)
-      × (new.tally ≡ noted old.tally (answer_line how.way past h.rest))
-      × HasPut k a b (answer_text (how.way.text first) (old.number + 1) (answer_line how.way past h.rest))))
+      how.stands_for next (after_line how.way past front)
+      × (new.tally ≡ noted old.tally (answer_line how.way past front))
+      × HasPut k a b (answer_text (how.way.text first) (old.number + 1) (answer_line how.way past front))))
       → OnOk result (HasTold how start next (HasPut k before b) (lines_of read)
       × ((past : Past) → how.stands_for start past → new.tally ≡ tally_of (answers_to how.way past (lines_of read))))
-  finished_line new next b (Err fault) some more = tt
-  finished_line new next b (Ok u) some more =
-      let same = a_last some in (
+  finished_line new next b (Err fault) some told = tt
+  finished_line new next b (Ok u) some told =
+      let same = a_last some in
+      let alike = same_content front h.rest h.held in
+      let more = told_alike how old now next front h.rest alike new (HasPut k a b) told in (
         subst (λ (ls : List (List ℕ)). HasTold how start next (HasPut k before b) ls) same
-            (told_line how k start before a b old new now next read h h.rest more),
-        λ past st. tally_line how k start before a b old new now next read h h.rest more past st
+            (told_line how k start before a b old new now next front read h h.rest more),
+        λ past st. tally_line how k start before a b old new now next front read h h.rest more past st
             ∙ ap (λ (ls : List (List ℕ)). tally_of (answers_to how.way past ls)) same,
       )
-
-pub held_rest : (held : Held) (rest : List ℕ) → Holds held (rest ++ []) → Holds held rest
-held_rest held rest h = subst (Holds held) (append-nil rest) h
-
-pub empty_rest : (held : Held) (rest : List ℕ) → Holds held rest → (length held.line == 0) ≡ true → length rest ≡ 0
-empty_rest held rest h none = omega (arith, eqb-true (length held.line) 0 none, ap length h.front, length-take 64 rest)
-
-pub some_rest : (held : Held) (rest : List ℕ) → Holds held rest → (length held.line == 0) ≡ false → 0 < length rest
-some_rest held rest h some =
-    elim (cases_lt 0 (length rest)) [
-      | inl l ↦ l
-      | inr none ↦ absurd (eqb-false (length held.line) 0 some (omega (arith, ap length h.front, length-take 64 rest)))
-    ]
 
 -- ---- all was written, and then the sink failed
 pub told_unfinished : {State Past Found : Type 0} (how : Manner State Past Found)

@@ -1,5 +1,5 @@
--- What a cutter holds.
-use Rattle.std.specs.Prelude.{◌≡◌, ◌+◌, ℕ, Bool, List, [], length, take, nat_lt, false, MatchBool, if◌then◌else◌}
+-- What is held of a line.
+use Rattle.std.specs.Prelude.{◌≡◌, ◌+◌, ◌<◌, ◌⊎◌, ℕ, Bool, List, [], length, take, nat_lt, false, MatchBool, if◌then◌else◌}
 use Rattle.std.specs.List.{position_or_len}
 use Rattle.sq_lines.specs.Lines.{is_feed}
 
@@ -28,3 +28,7 @@ has_feed piece = nat_lt (position_or_len is_feed piece) (length piece)
 -- the bytes up to and including the first line feed, or all of them, counted
 abbrev pub count_through : List ℕ → ℕ
 count_through piece = if has_feed piece then position_or_len is_feed piece + 1 else length piece
+
+-- these bytes stand for the line: they are the line, or both are too long
+abbrev pub IsHeldAs : List ℕ → List ℕ → Type 0
+IsHeldAs bytes line = (bytes ≡ line) ⊎ ((64 < length bytes) × (64 < length line))

@@ -1,16 +1,17 @@
 -- What a run over an input has come to.
-use Rattle.std.specs.Prelude.{◌≡◌, ◌-◌, ◌++◌, ◌+◌, ◌<◌, ◌≤◌, ◌⊎◌, ℕ, List, [], ◌∷◌, Option, length, take}
+use Rattle.std.specs.Prelude.{◌≡◌, ◌-◌, ◌++◌, ◌+◌, ◌<◌, ◌≤◌, ◌⊎◌, ℕ, List, [], ◌∷◌, Option, drop, length, take}
 use Rattle.std.specs.List.{All, concat}
 use Rattle.std.specs.Io.KnownBytes.{Appends, Consumes, IsAtEnd}
 use Rattle.sq_devices.specs.Changes.{GotAtMost, Taken}
 use Rattle.sq_devices.specs.Device.{AppendsOrHides, IsPrefixOf}
 use Rattle.sq_lines.specs.Lines.{Cuts, ended_lines, lines_of}
-use Rattle.sq_lines.specs.Held.{GoesOn}
+use Rattle.sq_lines.specs.Held.{IsHeldAs}
 use Rattle.sq_lines.specs.Answers.{answers_to, Answerer, Manner, WantsAt, past_after, output_of, tally_of}
 use Rattle.sq_lines.specs.declared.faults.Unanswered.{Unanswered}
 use Rattle.sq_lines.specs.declared.faults.Unanswered.TheVariants.{Write, Memory}
 use Rattle.sq_lines.specs.declared.runs.LineRun.{LineRun}
 use Rattle.sq_lines.specs.declared.tallies.Tally.{Tally}
+use Rattle.sq_lines.specs.declared.window.Window.{Window}
 
 abbrev pub but_last : List (List ℕ) → List (List ℕ)
 but_last lines = take (length lines - 1) lines
@@ -53,26 +54,30 @@ StoppedIn Memory how start now before after complete =
     (lines : List (List ℕ)) × (next : List ℕ) × IsPrefixOf (with_next lines next) complete × WantsAt how now next
     × HasTold how start now (Appends before after) lines
 
--- the run has read these bytes, and the lines that they end were answered
+-- the bytes of the line that is not complete
+abbrev pub front_of : Window → List ℕ
+front_of window = drop window.begin (take 65 window.bytes)
+
+-- the run has read these bytes, and the lines that they end were answered; the front stands for what is behind them
 pub record HasAnswered {State Past Found : Type 0} (how : Manner State Past Found)
     (start : State) (Wrote : List ℕ → Type 0)
-    (run : LineRun) (now : State) (read : List ℕ) : Type 0 where
+    (run : LineRun) (front : List ℕ) (now : State) (read : List ℕ) : Type 0 where
   pub lines : List (List ℕ)
   pub rest : List ℕ
   pub cut : Cuts read lines rest
   pub number : run.number ≡ length lines
-  pub held : GoesOn run.cutter rest
+  pub held : IsHeldAs front rest
   pub tally : (past : Past) → how.stands_for start past → run.tally ≡ tally_of (answers_to how.way past lines)
   pub told : HasTold how start now Wrote lines
 
 -- the source gave these bytes, by at most one get a byte and some more, and the run answered the lines that they end
 pub record HasRead {State Past Found : Type 0} (how : Manner State Past Found)
     (start : State) (input : Taken) (more : ℕ) (Wrote : List ℕ → Type 0)
-    (run : LineRun) (now : State) (read : List ℕ) : Type 0 where
+    (run : LineRun) (front : List ℕ) (now : State) (read : List ℕ) : Type 0 where
   pub consumed : Consumes input.before input.after read
   pub few : GotAtMost input (length read + more)
   pub back : input.gets ≤ input.gets_before
-  pub answered : HasAnswered how start Wrote run now read
+  pub answered : HasAnswered how start Wrote run front now read
 
 -- the pieces that the gets answered so far, none of them empty, are what was read
 pub record IsMadeOf (input : Taken) (read : List ℕ) : Type 0 where

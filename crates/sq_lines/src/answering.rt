@@ -1,12 +1,10 @@
 //! What answers texts, one after the other, and by that lines.
 ghost use Rattle.std.specs.Prelude.{◌≡◌, [], List, ℕ, Err};
 ghost use Rattle.sq_lines.specs.Answers.{Manner};
-ghost use Rattle.sq_lines.specs.Held.{Holds};
 ghost use Rattle.sq_lines.specs.Outcomes.{IsLineAnswered, IsTextAnswered};
 
-use crate::cutter::Cutter;
 use crate::faults::Outcome;
-use crate::lines::{Line, content_of};
+use crate::lines::{Line, content_in};
 use arrayvec::ArrayString;
 use sq_text::LineFault;
 
@@ -43,19 +41,18 @@ pub trait Answering {
         ensures { (first : Past) → into.new.bytes ≡ how.way.text first number (Err fault) };
 }
 
-// Answers the held line, which has this number, in an empty text; an empty line is not answered.
-pub(crate) fn answer_held<A: Answering>(
+// Answers the line of these bytes, which has this number, in an empty text; an empty line is not answered.
+pub(crate) fn answer_content<A: Answering>(
     client: &mut A,
-    cutter: &Cutter,
+    line: &[u8],
     number: u64,
     text: &mut LineText,
 ) -> Option<Outcome>
     requires { text.old.bytes ≡ [] }
-    ensures answered { (line : List ℕ) → Holds cutter.now line
-        → IsLineAnswered A.how result number line client.old client.new text.new.bytes }
+    ensures answered { IsLineAnswered A.how result number line.now client.old client.new text.new.bytes }
     ensures lasting { A.lasting client.new ≡ A.lasting client.old }
 {
-    match content_of(cutter) {
+    match content_in(line) {
         Line::Empty => None,
         Line::Long => {
             client.refuse(number, LineFault::LongLine, text);

@@ -1,10 +1,9 @@
 //! One line at a time, out of pieces of any length.
 ghost use Rattle.std.specs.Prelude.{◌≡◌, ◌++◌, ◌||◌, List, ℕ, [], length, take, nat_lt, ◌≤◌, position};
 ghost use Rattle.std.specs.List.{before_first, position_or_len};
-ghost use Rattle.sq_lines.specs.Lines.{MarksFeeds, is_feed};
+ghost use Rattle.sq_lines.specs.Lines.{is_feed};
 ghost use Rattle.sq_lines.specs.Held.{GoesOn, Holds, count_through, empty_line, has_feed};
 
-use crate::marks::marked_place;
 use arrayvec::ArrayVec;
 use std::marker::Model;
 
@@ -47,32 +46,7 @@ impl Cutter {
         ensures held { (line : List ℕ) → GoesOn self.old line
             → Holds self.new (line ++ before_first is_feed piece.now) }
     {
-        self.take_to(piece, feed_place(piece))
-    }
-
-    // Takes from a piece of at most 64 bytes, whose line feeds are marked, what `take` takes.
-    pub(crate) fn take_marked(&mut self, piece: &[u8], feeds: u64) -> (usize, bool)
-        requires short { length piece.now ≤ 64 }
-        requires marked { MarksFeeds feeds piece.now }
-        ensures count { result.0 ≡ count_through piece.now }
-        ensures complete { result.1 ≡ has_feed piece.now }
-        ensures noted { self.new.is_complete ≡ has_feed piece.now }
-        ensures held { (line : List ℕ) → GoesOn self.old line
-            → Holds self.new (line ++ before_first is_feed piece.now) }
-    {
-        self.take_to(piece, marked_place(piece, feeds))
-    }
-
-    // Takes the bytes through this place, that of the first line feed.
-    fn take_to(&mut self, piece: &[u8], place: usize) -> (usize, bool)
-        requires place { place ≡ position_or_len is_feed piece.now }
-        requires within { place ≤ length piece.now }
-        ensures count { result.0 ≡ count_through piece.now }
-        ensures complete { result.1 ≡ has_feed piece.now }
-        ensures noted { self.new.is_complete ≡ has_feed piece.now }
-        ensures held { (line : List ℕ) → GoesOn self.old line
-            → Holds self.new (line ++ before_first is_feed piece.now) }
-    {
+        let place = feed_place(piece);
         self.begin();
         self.append(&piece[..place]);
         self.is_complete = place < piece.len();

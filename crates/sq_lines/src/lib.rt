@@ -1,7 +1,7 @@
 //! The lines of an input, one at a time, and an answer to each.
 //!
 //! A [`Cutter`] cuts an input that comes in pieces into lines of at most 64 bytes. [`run_lines`] answers each line of a
-//! source on a sink, as soon as its line feed was got. Long lines, empty ones, carriage returns and numbers are the
+//! source on a sink, as soon as its line feed was got, from where the get put it. Long lines, empty ones, carriage returns and numbers are the
 //! run's; a client answers texts, by what came before them ([`Answering`]). What was written is a stated function of
 //! the lines. A run keeps one line and takes no memory of its own.
 #![tactic(auto)]
@@ -15,6 +15,7 @@ mod marks;
 mod runs;
 mod streams;
 mod tallies;
+mod window;
 
 pub use answering::{Answering, LineText};
 pub use cutter::Cutter;

@@ -6,6 +6,8 @@ ghost use Rattle.sq_lines.specs.Content.{content_by, content};
 
 use crate::cutter::Cutter;
 
+const LINE_LIMIT: usize = 64;
+
 /// What stands on a line, but for one carriage return at its end.
 #[derive(Clone, Copy, Debug)]
 pub enum Line<'a> {
@@ -24,7 +26,17 @@ pub fn content_of(cutter: &Cutter) -> Line<'_>
     if cutter.long() {
         return Line::Long;
     }
-    let text = without_return(cutter.line());
+    content_in(cutter.line())
+}
+
+// What stands on a line of these bytes.
+pub(crate) fn content_in(line: &[u8]) -> Line<'_>
+    ensures { content_by result ≡ content line.now }
+{
+    if line.len() > LINE_LIMIT {
+        return Line::Long;
+    }
+    let text = without_return(line);
     if text.is_empty() {
         return Line::Empty;
     }

@@ -5,11 +5,12 @@ ghost use Rattle.sq_lines.specs.Lines.{MarksFeeds, is_feed};
 
 use std::simd::prelude::*;
 
-// The mask of all of these bytes.
-pub(crate) fn feeds_of(bytes: &[u8; 64]) -> u64
+// The mask of these 64 bytes.
+pub(crate) fn feeds_of(bytes: &[u8]) -> u64
+    requires { length bytes.now ≡ 64 }
     ensures { MarksFeeds result bytes.now }
 {
-    u8x64::from_array(*bytes)
+    u8x64::from_slice(bytes)
         .simd_eq(u8x64::splat(b'\n'))
         .to_bitmask()
 }

@@ -9,6 +9,7 @@ use crate::answering::Answering;
 use crate::faults::{RunFault, Unanswered};
 use crate::runs::LineRun;
 use crate::tallies::Tally;
+use crate::window::Window;
 use sq_devices::{Failed, Sink, Source};
 
 /// Answers the lines of the source until its end.
@@ -46,13 +47,14 @@ pub fn run_lines<S: Source, K: Sink, A: Answering>(
         (StoppedIn Unanswered.Write A.how client.old client.new (K.written sink.old) (K.written sink.new)))) }
 {
     let mut run = LineRun::new();
+    let mut window = Window::new();
     'pieces: loop {
-        let has_more = run.answer_next(client, source, sink)?;
+        let has_more = run.answer_next(&mut window, client, source, sink)?;
         if !has_more {
             break;
         }
     }
-    match run.answer_last(client, sink) {
+    match run.answer_last(client, sink, window.front()) {
         Ok(()) => {}
         Err(Unanswered::Write) => return Err(RunFault::Write),
         Err(Unanswered::Memory) => return Err(RunFault::Memory),

@@ -10,7 +10,7 @@ use Rattle.sq_lines.specs.Lines.{ended_lines, lines_of}
 use Rattle.sq_lines.specs.Runs.{HasRun, HasTold, StoppedIn}
 use Rattle.sq_lines.specs.declared.faults.Unanswered.{Unanswered}
 use Rattle.sq_lines.proofs.Checking.{consumes_hidden, got_up_to_end, made_of_more, made_of_nothing, of_pieces, read_on, told_as, told_read}
-use Rattle.sq_lines.proofs.Running.{starts, told_unfinished}
+use Rattle.sq_lines.proofs.Running.{last_line, starts, told_unfinished}
 use Rattle.sq_lines.proofs.streams.run_lines.Goals as goal
 
 pub pieces-init : goal.pieces-init
@@ -23,8 +23,8 @@ pieces-init g c = record {
     consumed = Consumes-nil _;
     few = omega arith;
     back = omega arith;
-    answered = starts g.A.Answering.how g.K.Sink _ _ _ c.new-run.ensures.number c.new-run.ensures.cutter
-        c.new-run.ensures.tally;
+    answered = starts g.A.Answering.how g.K.Sink _ _ _ _ c.new-run.ensures.number c.new-run.ensures.tally
+        c.new-window.ensures;
   };
   made = made_of_nothing g.S.Source c.args.source.now;
 }
@@ -122,7 +122,7 @@ returns-in-Err-Write-clause-unwritten g c = λ is.
           subst (λ (fault : Unanswered).
               StoppedIn fault g.A.Answering.how c.args.client.now c.answer_last.new.client
               (g.K.Sink.written c.args.sink.now) (g.K.Sink.written c.answer_last.new.sink) (lines_of (read ++ last.0)))
-              c.in-Err-Write.field-0-is (c.in-Err-Write.ensures.stopped _ _ _ on.answered),
+              c.in-Err-Write.field-0-is (c.in-Err-Write.ensures.stopped _ _ _ (last_line g.K.Sink on.answered _ c.front.ensures)),
         ),
       ),
     )
@@ -143,7 +143,7 @@ returns-in-Err-Memory-clause-unanswered g c = λ is.
         subst (λ (fault : Unanswered).
             StoppedIn fault g.A.Answering.how c.args.client.now c.answer_last.new.client
             (g.K.Sink.written c.args.sink.now) (g.K.Sink.written c.answer_last.new.sink) (lines_of (read ++ last.0)))
-            c.in-Err-Memory.field-0-is (c.in-Err-Memory.ensures.stopped _ _ _ on.answered),
+            c.in-Err-Memory.field-0-is (c.in-Err-Memory.ensures.stopped _ _ _ (last_line g.K.Sink on.answered _ c.front.ensures)),
       ),
     )
 
@@ -155,7 +155,7 @@ returns-in-Err-clause-unwritten g c = λ is.
     let on = read_on (taken_from g.S.Source c.args.source.now c.pieces.source)
     (taken_from g.S.Source c.args.source.now c.answer_next.new.source) 1 h refl refl c.in_ok-has_more.ensures.used
     (last.0, last.1, last.3) (omega arith) in
-    let done = c.in-Ok.ensures.answered _ _ _ on.answered in (
+    let done = c.in-Ok.ensures.answered _ _ _ (last_line g.K.Sink on.answered _ c.front.ensures) in (
       c.in-Err.ensures.failed,
       (
         read ++ last.0,
@@ -176,7 +176,7 @@ whole g c =
     let on = read_on (taken_from g.S.Source c.args.source.now c.pieces.source)
     (taken_from g.S.Source c.args.source.now c.answer_next.new.source) 1 h refl refl c.in_ok-has_more.ensures.used
     (last.0, last.1, last.3) (omega arith) in
-    let done = c.in-Ok.ensures.answered _ _ _ on.answered in
+    let done = c.in-Ok.ensures.answered _ _ _ (last_line g.K.Sink on.answered _ c.front.ensures) in
     let made = c.pieces.invariant.made in
     let none = last.5 c.if-not-has_more.true in
     let first = c.args.sink.now in

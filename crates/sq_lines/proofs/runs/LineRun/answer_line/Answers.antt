@@ -7,41 +7,41 @@ use Rattle.sq_lines.proofs.Told.{put_line, put_line_part}
 use Rattle.sq_lines.proofs.runs.LineRun.answer_line.Goals as goal
 
 pub returns-in-Some-Good-clause-answered : goal.returns-in-Some-Good-clause-answered
-returns-in-Some-Good-clause-answered g c line past first holds st =
+returns-in-Some-Good-clause-answered g c past first st =
     let n = c.args.self.now.number + 1 in
     let heard = subst (λ (o : Outcome).
-    IsLineAnswered g.A.Answering.how (Some o) n line c.args.client.now c.answer_held.new.client
-    c.answer_held.new.text.bytes) c.in-Some-Good.field-0-is (c.in-Some-Good.ensures.answered line holds) in
-    put_line g.A.Answering.how Good n line c.args.client.now c.answer_held.new.client
-    c.answer_held.new.text.bytes c.args.self.now.tally heard (HasPut g.K.Sink c.args.sink.now c.put_text.new.sink)
+    IsLineAnswered g.A.Answering.how (Some o) n c.args.line.now c.args.client.now c.answer_content.new.client
+    c.answer_content.new.text.bytes) c.in-Some-Good.field-0-is (c.in-Some-Good.ensures.answered) in
+    put_line g.A.Answering.how Good n c.args.line.now c.args.client.now c.answer_content.new.client
+    c.answer_content.new.text.bytes c.args.self.now.tally heard (HasPut g.K.Sink c.args.sink.now c.put_text.new.sink)
     c.put_text.result c.put_text.ensures.put past first st
 
 pub returns-in-Some-Good-clause-part : goal.returns-in-Some-Good-clause-part
-returns-in-Some-Good-clause-part g c line past first holds st =
+returns-in-Some-Good-clause-part g c past first st =
     let n = c.args.self.now.number + 1 in
     let heard = subst (λ (o : Outcome).
-    IsLineAnswered g.A.Answering.how (Some o) n line c.args.client.now c.answer_held.new.client
-    c.answer_held.new.text.bytes) c.in-Some-Good.field-0-is (c.in-Some-Good.ensures.answered line holds) in
-    put_line_part g.A.Answering.how Good n line c.args.client.now c.answer_held.new.client
-    c.answer_held.new.text.bytes c.args.self.now.tally heard _ _ c.put_text.result c.put_text.ensures.part past first st
+    IsLineAnswered g.A.Answering.how (Some o) n c.args.line.now c.args.client.now c.answer_content.new.client
+    c.answer_content.new.text.bytes) c.in-Some-Good.field-0-is (c.in-Some-Good.ensures.answered) in
+    put_line_part g.A.Answering.how Good n c.args.line.now c.args.client.now c.answer_content.new.client
+    c.answer_content.new.text.bytes c.args.self.now.tally heard _ _ c.put_text.result c.put_text.ensures.part past first st
 
 pub returns-in-Some-Refused-clause-answered : goal.returns-in-Some-Refused-clause-answered
-returns-in-Some-Refused-clause-answered g c line past first holds st =
+returns-in-Some-Refused-clause-answered g c past first st =
     let n = c.args.self.now.number + 1 in
     let heard = subst (λ (o : Outcome).
-    IsLineAnswered g.A.Answering.how (Some o) n line c.args.client.now c.answer_held.new.client
-    c.answer_held.new.text.bytes) c.in-Some-Refused.field-0-is (c.in-Some-Refused.ensures.answered line holds) in
-    put_line g.A.Answering.how Refused n line c.args.client.now c.answer_held.new.client
-    c.answer_held.new.text.bytes c.args.self.now.tally heard
+    IsLineAnswered g.A.Answering.how (Some o) n c.args.line.now c.args.client.now c.answer_content.new.client
+    c.answer_content.new.text.bytes) c.in-Some-Refused.field-0-is (c.in-Some-Refused.ensures.answered) in
+    put_line g.A.Answering.how Refused n c.args.line.now c.args.client.now c.answer_content.new.client
+    c.answer_content.new.text.bytes c.args.self.now.tally heard
     (HasPut g.K.Sink c.args.sink.now c.put_text-in-Some-Refused.new.sink) c.put_text-in-Some-Refused.result
     c.put_text-in-Some-Refused.ensures.put past first st
 
 pub returns-in-Some-Refused-clause-part : goal.returns-in-Some-Refused-clause-part
-returns-in-Some-Refused-clause-part g c line past first holds st =
+returns-in-Some-Refused-clause-part g c past first st =
     let n = c.args.self.now.number + 1 in
     let heard = subst (λ (o : Outcome).
-    IsLineAnswered g.A.Answering.how (Some o) n line c.args.client.now c.answer_held.new.client
-    c.answer_held.new.text.bytes) c.in-Some-Refused.field-0-is (c.in-Some-Refused.ensures.answered line holds) in
-    put_line_part g.A.Answering.how Refused n line c.args.client.now c.answer_held.new.client
-    c.answer_held.new.text.bytes c.args.self.now.tally heard _ _ c.put_text-in-Some-Refused.result
+    IsLineAnswered g.A.Answering.how (Some o) n c.args.line.now c.args.client.now c.answer_content.new.client
+    c.answer_content.new.text.bytes) c.in-Some-Refused.field-0-is (c.in-Some-Refused.ensures.answered) in
+    put_line_part g.A.Answering.how Refused n c.args.line.now c.args.client.now c.answer_content.new.client
+    c.answer_content.new.text.bytes c.args.self.now.tally heard _ _ c.put_text-in-Some-Refused.result
     c.put_text-in-Some-Refused.ensures.part past first st

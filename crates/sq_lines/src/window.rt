@@ -1,0 +1,50 @@
+//! The bytes that a run holds: the end of what came, and behind it what the next get brings.
+ghost use Rattle.std.specs.Prelude.{◌≡◌, ◌+◌, ◌≤◌, [], drop, take};
+
+use std::simd::prelude::*;
+
+/// A get brings at most so many bytes.
+pub(crate) const PIECE: usize = 64;
+
+/// Where a get's bytes stand: behind the last 64 bytes before them, and one more. A line that begins with that one is
+/// longer than 64 bytes, so its bytes do not matter.
+pub(crate) const FRONT: usize = 65;
+
+/// The last bytes that came, and where the line begins in them that is not complete.
+#[derive(Drop)]
+pub(crate) struct Window {
+    pub(crate) bytes: [u8; 129],
+    pub(crate) begin: usize,
+    ghost within: { begin ≤ 65 },
+}
+
+impl Window {
+    ghost use Rattle.sq_lines.specs.Held.{IsHeldAs};
+    ghost use Rattle.sq_lines.specs.Runs.{front_of};
+
+    pub(crate) fn new() -> Self
+        ensures { front_of result ≡ [] }
+    {
+        Window {
+            bytes: [0; 129],
+            begin: FRONT,
+        }
+    }
+
+    /// The line that is not complete.
+    pub(crate) fn front(&self) -> &[u8]
+        ensures { result.now ≡ front_of self.now }
+    {
+        &self.bytes[self.begin..FRONT]
+    }
+
+    /// Moves the last bytes to the front, where a get brought so many, and the line that is not complete begins here.
+    pub(crate) fn slide(&mut self, begin: usize, count: usize)
+        requires few { count ≤ 64 }
+        requires within { begin ≤ 65 + count }
+        ensures { IsHeldAs (front_of self.new) (drop begin (take (65 + count) self.old.bytes)) }
+    {
+        u8x64::from_slice(&self.bytes[count + 1..count + FRONT]).copy_to_slice(&mut self.bytes[1..FRONT]);
+        self.begin = begin.saturating_sub(count);
+    }
+}
