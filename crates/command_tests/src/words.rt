@@ -1,5 +1,5 @@
 //! Command lines read and refused. What is reported of some stands in `tests/worked/squitter.txt`.
-use sq_words::{Refusal, read_request};
+use sq_tool::{Refusal, read_request};
 use std::alloc::{AllocError, Global};
 use std::process::Abort;
 

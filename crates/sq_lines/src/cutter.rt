@@ -4,10 +4,9 @@ ghost use Rattle.std.specs.List.{before_first, position_or_len};
 ghost use Rattle.sq_lines.specs.Lines.{is_feed};
 ghost use Rattle.sq_lines.specs.Held.{GoesOn, Holds, count_through, empty_line, has_feed};
 
+use crate::lines::LINE_LIMIT;
 use arrayvec::ArrayVec;
 use std::marker::Model;
-
-const LINE_LIMIT: usize = 64;
 
 /// Holds one line of at most 64 bytes, or the first part of a longer one.
 #[derive(Drop)]

@@ -6,7 +6,8 @@ ghost use Rattle.sq_lines.specs.Content.{content_by, content};
 
 use crate::cutter::Cutter;
 
-const LINE_LIMIT: usize = 64;
+/// A line has at most so many bytes.
+pub(crate) const LINE_LIMIT: usize = 64;
 
 /// What stands on a line, but for one carriage return at its end.
 #[derive(Clone, Copy, Debug)]

@@ -3,14 +3,11 @@ ghost use Rattle.std.specs.Prelude.{◌≡◌, ◌+◌, ◌≤◌, [], drop, tak
 
 use std::simd::prelude::*;
 
-/// A get brings at most so many bytes.
-pub(crate) const PIECE: usize = 64;
-
-/// Where a get's bytes stand: behind the last 64 bytes before them, and one more. A line that begins with that one is
-/// longer than 64 bytes, so its bytes do not matter.
+/// Where a get's bytes stand, 64 at most: behind the last 64 bytes that came before them, and one byte more. A line that
+/// begins with that one is longer than 64 bytes, whatever it is.
 pub(crate) const FRONT: usize = 65;
 
-/// The last bytes that came, and where the line begins in them that is not complete.
+/// What came last, and where the line begins in it that is not complete.
 #[derive(Drop)]
 pub(crate) struct Window {
     pub(crate) bytes: [u8; 129],

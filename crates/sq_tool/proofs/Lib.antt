@@ -1,1 +1,5 @@
+pub mod Accepted
+pub mod Building
+pub mod Full
+pub mod Reading
 pub mod OneRuns

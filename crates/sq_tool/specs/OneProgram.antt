@@ -4,7 +4,7 @@ use Rattle.sq_devices.specs.Changes.{written_on}
 use Rattle.sq_devices.specs.declared.device.Sink.{Ghosts as SinkGhosts}
 use Rattle.sq_devices.specs.declared.device.Source.{Ghosts as SourceGhosts}
 use Rattle.sq_requests.specs.Requests.{Text}
-use Rattle.sq_words.specs.Requests.{IsFaulty}
+use Rattle.sq_tool.specs.Requests.{IsFaulty}
 use Rattle.sq_commands.specs.declared.status.Status.{Status}
 use Rattle.sq_commands.specs.declared.status.Status.TheVariants.{Broken}
 use Rattle.sq_commands.specs.OneRun.{Devices, WroteAlike, between}
