@@ -1,4 +1,5 @@
 pub mod ArgumentLemmas
+pub mod BrokenRuns
 pub mod CheckLemmas
 pub mod FaultLemmas
 pub mod FormatLemmas

@@ -1,5 +1,5 @@
 -- What a run that broke off did, in the words of its devices.
-use Rattle.std.specs.Prelude.{◌≡◌, ◌≢◌, ◌==◌, ◌⊎◌, ◌×◌, ◌-◌, ◌≤◌, ◌++◌, ◌∷◌, [], ℕ, List, Option, None, codes, find, length, take, true}
+use Rattle.std.specs.Prelude.{◌≡◌, ◌≢◌, ◌==◌, ◌⊎◌, ◌-◌, ◌≤◌, ◌++◌, ◌∷◌, [], ℕ, List, Option, None, codes, find, length, take, true}
 use Rattle.std.specs.Io.KnownBytes.{Appends, IsAtEnd}
 use Rattle.sq_devices.specs.Changes.{TookNothing, TookPart, TookSome, WroteNothing, WroteOrFailed, taken_from, written_on}
 use Rattle.sq_devices.specs.Device.{AppendsOrHides, IsPrefixOf, WroteFront}
@@ -50,10 +50,10 @@ module _ {S K F : Type 0} (s : SourceGhosts S) (k : SinkGhosts K) (f : SinkGhost
 
   -- the tracker may want memory for this line: a position on it, of an address that is not present, would be accepted
   abbrev pub WantsSome : Held → List ℕ → Type 0
-  WantsSome t line = (text : List ℕ) × (content line ≡ Stands text) × (timed : TimedSquitter) × IsTimedText text timed
+  WantsSome t line = (text : List ℕ) × (content line ≡ Stands text) × ((timed : TimedSquitter) × IsTimedText text timed
       × (IsPosition (squitter_parts timed.squitter).me
       × (find (λ entry. entry.0 == (squitter_parts timed.squitter).address) (present_of t) ≡ None))
-      × ((h : History) → StandsFor t h → IsAcceptable (settings t) h timed.moment timed.squitter)
+      × ((h : History) → StandsFor t h → IsAcceptable (settings t) h timed.moment timed.squitter))
 
   -- a run of `track`, by a tracker that had heard nothing: a get failed; or the output did within the answers to some
   -- lines, all but the last one's written whole; or there was no memory at a line that may want some

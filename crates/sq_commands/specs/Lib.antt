@@ -15,4 +15,5 @@ pub mod Tracking
 pub mod Track
 pub mod Runs
 pub mod OneRun
+pub mod BrokenOff
 pub mod Laws

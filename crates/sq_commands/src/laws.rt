@@ -1,11 +1,12 @@
 //! Laws over the definitions that the contracts name.
-ghost use Rattle.std.specs.Prelude.{◌≡◌, ◌≢◌, ◌↔◌, [], List, ℕ, None, Ok, Option, Some, codes};
+ghost use Rattle.std.specs.Prelude.{◌≡◌, ◌≢◌, ◌↔◌, [], List, ℕ, IsTrue, None, Ok, Option, Some, codes};
 ghost use Rattle.sq_devices.specs.Changes.{WroteNothing, taken_from, written_on};
 ghost use Rattle.sq_lines.specs.declared.tallies.Tally.{Tally};
 ghost use Rattle.sq_track.specs.Held.{Held, StandsFor, made_with, settings};
 ghost use Rattle.sq_commands.specs.declared.arguments.TrackOptions.{TrackOptions as Options};
 ghost use Rattle.sq_commands.specs.declared.formats.Format.{Format};
 ghost use Rattle.sq_commands.specs.declared.status.Status.TheVariants.{Good, Misused};
+ghost use Rattle.sq_commands.specs.BrokenOff.{BrokenAnswers, BrokenAside, BrokenChecks, BrokenLogs};
 ghost use Rattle.sq_commands.specs.Check.{IsCheckRunIn, IsChecked, IsNoFormat};
 ghost use Rattle.sq_commands.specs.Formats.{IsFormatWord, Writers};
 ghost use Rattle.sq_commands.specs.Heard.{heard_telling};
@@ -15,6 +16,7 @@ ghost use Rattle.sq_commands.specs.Outputs.{effects, outputs};
 ghost use Rattle.sq_commands.specs.Squitters.{squitter_telling};
 ghost use Rattle.sq_commands.specs.Track.{IsLogRun, IsTracked};
 
+use crate::status::Status;
 use sq_devices::{Sink, Source};
 
 /// There is a way to write places and altitudes.
@@ -37,6 +39,13 @@ pub fn one_format()
         ↔ (word ≢ None) × (word ≢ Some (codes "lines")) × (word ≢ Some (codes "csv")) × (word ≢ Some (codes "json")) }
 {}
 
+/// Whether two ways to end are equal by `==`: exactly if they are one.
+pub fn equal_statuses(status: &Status, other: &Status) -> bool
+    ensures { IsTrue result ↔ (status.now ≡ other.now) }
+{
+    status == other
+}
+
 /// How a run of `check` or of `track` ended says what it did: good where no line was refused, and the answers to all
 /// were written; never as a misuse.
 pub fn ended_exactly<S: Source, K: Sink, F: Sink>()
@@ -55,6 +64,16 @@ pub fn ended_exactly<S: Source, K: Sink, F: Sink>()
         first last) × WroteNothing (written_on F.Sink before after) }
     ensures misused_log { (options : Options) (from to : S) (old new : K) (before after : F)
         → ¬ IsLogRun options Misused (effects S.Source from to (outputs K.Sink F.Sink old new before after)) }
+{}
+
+/// What a run that broke off did, in the words of its devices: `check` and `track` answered what was read until a get
+/// failed, or the output failed within the answers, or, of `track` alone, a line may want memory; a command that reads
+/// no lines left the input alone. What broke it off was reported in a line.
+pub fn broken_exactly<S: Source, K: Sink, F: Sink>()
+    ensures check { BrokenChecks S.Source K.Sink F.Sink }
+    ensures track { BrokenLogs S.Source K.Sink F.Sink }
+    ensures answer { BrokenAnswers S.Source K.Sink F.Sink }
+    ensures aside { BrokenAside S.Source K.Sink F.Sink }
 {}
 
 /// A request has one run, whatever the devices are. Where no device failed and memory was granted, two runs of it have

@@ -1,7 +1,6 @@
 -- What a run has answered after one more part of the input.
-use Rattle.std.proofs.Common.{◌≡◌, ◌+◌, ◌<◌, ◌≤◌, ◌++◌, ◌∙◌, ℕ, Bool, true, false, List, [], ◌∷◌, Option, None, Some, Result, Ok, Err, OnOk, IfErr, length, take, drop, ap, sym, subst, arith, refl, append_assoc, take-append-drop, append-nil, ap₂, cond, inl, inr, length-take}
-use Rattle.std.specs.Prelude.{MatchBool, ◌==◌}
-use Rattle.std.proofs.lemmas.Bool.{cases_lt, eq-eqb, ne_eqb, eqb-true, eqb-false}
+use Rattle.std.proofs.Common.{◌≡◌, ◌+◌, ◌<◌, ◌≤◌, ◌++◌, ◌∙◌, ℕ, Bool, List, [], ◌∷◌, Option, None, Some, Result, Ok, Err, OnOk, IfErr, length, take, drop, ap, sym, subst, arith, refl, append_assoc, take-append-drop, append-nil, ap₂, cond, inl}
+use Rattle.std.proofs.lemmas.Bool.{eq-eqb, ne_eqb}
 use Rattle.std.proofs.lemmas.List.{length_push}
 use Rattle.std.specs.List.{position_or_len, before_first}
 use Rattle.std.specs.Io.KnownBytes.{Appends}

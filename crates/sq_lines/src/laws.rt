@@ -2,10 +2,10 @@
 //!
 //! A function with an empty body does nothing: its contract is the law. The others make the call or the test that they
 //! speak of.
-ghost use Rattle.std.specs.Prelude.{◌≡◌, ◌↔◌, ◌⊎◌, ◌++◌, ◌∷◌, [], List, ℕ, IsTrue, Ok, Err, Option, Result};
+ghost use Rattle.std.specs.Prelude.{◌≡◌, ◌↔◌, ◌⊎◌, ◌++◌, ◌-◌, ◌∷◌, [], List, ℕ, IsTrue, Ok, Err, Option, Result, length, take};
 ghost use Rattle.std.specs.Io.KnownBytes.{Appends, IsAtEnd};
 ghost use Rattle.sq_devices.specs.Changes.{taken_from};
-ghost use Rattle.sq_devices.specs.Device.{IsPrefixOf};
+ghost use Rattle.sq_devices.specs.Device.{AppendsOrHides, IsPrefixOf};
 ghost use Rattle.sq_text.specs.declared.faults.LineFault.{LineFault as Fault};
 ghost use Rattle.sq_lines.specs.declared.faults.Outcome.TheVariants.{Good, NoMemory, Refused};
 ghost use Rattle.sq_lines.specs.declared.faults.Unanswered.TheVariants.{Memory, Write};
@@ -16,11 +16,11 @@ ghost use Rattle.sq_lines.specs.Held.{Held, count_through, has_feed};
 ghost use Rattle.sq_lines.specs.Lines.{ended_lines, lines_of};
 ghost use Rattle.sq_lines.specs.Outcomes.{IsTextAnswered};
 ghost use Rattle.sq_lines.specs.Pieces.{AreTakes, GivesTheLines, IsTake, Step};
-ghost use Rattle.sq_lines.specs.Runs.{HasRun, HasTold, HasToldPart, OfLines, StoppedIn, WroteIntoLast};
+ghost use Rattle.sq_lines.specs.Runs.{HasRun, HasTold, HasToldPart, OfLines, StoppedIn};
 
 use crate::answering::Answering;
 use crate::cutter::Cutter;
-use crate::faults::{Outcome, RunFault};
+use crate::faults::{Outcome, RunFault, Unanswered};
 use crate::tallies::Tally;
 use sq_devices::Source;
 
@@ -70,7 +70,7 @@ pub fn answered_exactly<A: Answering>()
 {}
 
 /// What a run has come to: from each past that the client stood for, it stands for the past after the lines, and this
-/// output was written; the tally counts their answers.
+/// output was written; the tally counts their answers. In part, it was written up to some place in the last one's text.
 pub fn told_exactly<A: Answering>()
     ensures told { (start now : A) (written : List ℕ) (lines : List (List ℕ))
         → HasTold A.how start now (λ text. text ≡ written) lines
@@ -84,7 +84,8 @@ pub fn told_exactly<A: Answering>()
     ensures part { (start now : A) (before after : Option (List ℕ)) (lines : List (List ℕ))
         → HasToldPart A.how start now before after lines
         ↔ ((past : A.Past) → A.how.stands_for start past → A.how.stands_for now (past_after A.how.way past lines)
-        × WroteIntoLast A.how.way past lines before after) }
+        × ((part : List ℕ) × IsPrefixOf (output_of A.how.way past (take (length lines - 1) lines)) part
+        × IsPrefixOf part (output_of A.how.way past lines) × AppendsOrHides before after part)) }
 {}
 
 /// Where a run was stopped: after some of the lines, of which the last was written in part, or before the line for
@@ -118,6 +119,13 @@ pub fn equal_outcomes(outcome: &Outcome, other: &Outcome) -> bool
     ensures { IsTrue result ↔ (outcome.now ≡ other.now) }
 {
     outcome == other
+}
+
+/// Whether two causes that a line has no whole answer are equal by `==`: exactly if they are one.
+pub fn equal_causes(cause: &Unanswered, other: &Unanswered) -> bool
+    ensures { IsTrue result ↔ (cause.now ≡ other.now) }
+{
+    cause == other
 }
 
 /// Whether two faults of runs are equal by `==`: exactly if they are one.

@@ -186,7 +186,13 @@ impl LineRun {
             return Err(RunFault::Read);
         };
         let feeds = feeds_of(&window.bytes[FRONT..]);
-        match self.answer_lines(client, sink, &window.bytes[..FRONT + count], window.begin, feeds) {
+        match self.answer_lines(
+            client,
+            sink,
+            &window.bytes[..FRONT + count],
+            window.begin,
+            feeds,
+        ) {
             Ok(begin) => {
                 window.slide(begin, count);
                 Ok(count > 0)

@@ -41,7 +41,9 @@ impl Window {
         requires within { begin ≤ 65 + count }
         ensures { IsHeldAs (front_of self.new) (drop begin (take (65 + count) self.old.bytes)) }
     {
-        u8x64::from_slice(&self.bytes[count + 1..count + FRONT]).copy_to_slice(&mut self.bytes[1..FRONT]);
+        u8x64::from_slice(&self.bytes[count + 1..count + FRONT]).copy_to_slice(
+            &mut self.bytes[1..FRONT],
+        );
         self.begin = begin.saturating_sub(count);
     }
 }

@@ -6,7 +6,7 @@ use Rattle.sq_requests.specs.Requests.{Asked}
 use Rattle.sq_tool.specs.Requests.{OneRequest}
 use Rattle.sq_commands.specs.OneRun.{OneRun, between}
 use Rattle.sq_commands.specs.Runs.{IsRun}
-use Rattle.sq_tool.specs.OneProgram.{OneProgramRun}
+use Rattle.sq_tool.specs.OneProgram.{BrokenProgram, OneProgramRun}
 
 -- where words ask for one thing and a request has one run, a command line has one run
 pub one_program_run : {S K F T L G : Type 0} (s : SourceGhosts S) (k : SinkGhosts K) (f : SinkGhosts F)
@@ -31,3 +31,9 @@ one_program_run s k f t l g one_request one_run words a b old new other last byt
     unbroken unbroken' reported reported' = absurd (unbroken' q.1.0)
 one_program_run s k f t l g one_request one_run words a b old new other last bytes here there (inr (inl p))
     (inr (inr q)) unbroken unbroken' reported reported' = absurd (unbroken' q.1.0)
+
+-- what broke off is a request, or there was no memory
+pub broken_program : {S K F : Type 0} (s : SourceGhosts S) (k : SinkGhosts K) (f : SinkGhosts F) → BrokenProgram s k f
+broken_program s k f words from to old new before after (inl run) = inl run
+broken_program s k f words from to old new before after (inr (inl refused)) = absurd (cc refused.1)
+broken_program s k f words from to old new before after (inr (inr unread)) = inr (unread.0, unread.1.1, unread.1.2)

@@ -1,13 +1,15 @@
--- What two runs of the program with one command line have in common.
-use Rattle.std.specs.Prelude.{◌≡◌, ◌≢◌, ◌⊎◌, ℕ, List, Some, false}
-use Rattle.sq_devices.specs.Changes.{written_on}
+-- What two runs of the program with one command line have in common, and what one did that broke off.
+use Rattle.std.specs.Prelude.{◌≡◌, ◌≢◌, ◌⊎◌, ℕ, List, Some, codes, false}
+use Rattle.sq_devices.specs.Changes.{TookNothing, WroteNothing, WroteOrFailed, taken_from, written_on}
 use Rattle.sq_devices.specs.declared.device.Sink.{Ghosts as SinkGhosts}
 use Rattle.sq_devices.specs.declared.device.Source.{Ghosts as SourceGhosts}
-use Rattle.sq_requests.specs.Requests.{Text}
-use Rattle.sq_tool.specs.Requests.{IsFaulty}
+use Rattle.sq_requests.specs.Requests.{Asked, Text}
+use Rattle.sq_tool.specs.Requests.{Asks, IsFaulty}
 use Rattle.sq_commands.specs.declared.status.Status.{Status}
 use Rattle.sq_commands.specs.declared.status.Status.TheVariants.{Broken}
 use Rattle.sq_commands.specs.OneRun.{Devices, WroteAlike, between}
+use Rattle.sq_commands.specs.Outputs.{effects, outputs}
+use Rattle.sq_commands.specs.Runs.{IsRun}
 use Rattle.sq_tool.specs.Program.{IsProgramRun}
 
 -- Two runs with one command line have one status, and do the same: where the same bytes are to come, no device failed
@@ -23,3 +25,11 @@ OneProgramRun {S} {K} {F} {T} {L} {G} s k f t l g =
     × (IsFaulty words
     ⊎ WroteAlike (written_on f old.faults new.faults) (written_on g other.faults last.faults))
     × (s.to_come new.input ≡ t.to_come last.input)
+
+-- A run of the program that broke off: the request that the words ask for did, or there was no memory to read them.
+abbrev pub BrokenProgram : {S K F : Type 0} → SourceGhosts S → SinkGhosts K → SinkGhosts F → Type 0
+BrokenProgram {S} {K} {F} s k f = (words : List Text) (from to : S) (old new : K) (before after : F)
+    → IsProgramRun words Broken (effects s from to (outputs k f old new before after))
+    → ((asked : Asked) × Asks words asked × IsRun asked Broken (effects s from to (outputs k f old new before after)))
+    ⊎ (TookNothing (taken_from s from to) × WroteNothing (written_on k old new)
+    × WroteOrFailed (written_on f before after) (codes "out of memory\n"))

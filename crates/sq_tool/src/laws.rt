@@ -1,5 +1,5 @@
 //! Laws of command lines and of the program, over the definitions that the contracts name.
-ghost use Rattle.sq_tool.specs.OneProgram.{OneProgramRun};
+ghost use Rattle.sq_tool.specs.OneProgram.{BrokenProgram, OneProgramRun};
 ghost use Rattle.sq_tool.specs.Requests.{AcceptedWordsAsk, OneRequest, RefusedWordsAskNothing};
 
 use sq_devices::{Sink, Source};
@@ -19,6 +19,12 @@ pub fn accepted_words_ask()
 /// one of the two.
 pub fn refused_words_ask_nothing()
     ensures { RefusedWordsAskNothing }
+{}
+
+/// What the program did where a device or memory failed: what a request that the words ask for comes to, broken off;
+/// or there was no memory to read the words, so that nothing was read or written, and that was reported.
+pub fn broken_program_exactly<S: Source, K: Sink, F: Sink>()
+    ensures { BrokenProgram S.Source K.Sink F.Sink }
 {}
 
 /// A command line has one run, whatever the devices are. Where the same bytes are to come, no device failed and memory
