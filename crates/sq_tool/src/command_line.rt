@@ -291,16 +291,13 @@ fn track_request<'a>(values: &ArgMatches<'a>) -> Request<'a>
 
 const FRAME: &str = "28 hexadecimal digits, bare or between '*' and ';'";
 
-const OLDER: &str =
-    "The frame that came first: 28 hexadecimal digits, bare or between '*' and ';'";
+const OLDER: &str = "The frame that came first: 28 hexadecimal digits, bare or between '*' and ';'";
 
-const NEWER: &str =
-    "The frame that came last, of the same aircraft and the other parity";
+const NEWER: &str = "The frame that came last, of the same aircraft and the other parity";
 
 const KIND: &str = "In the air or on the ground";
 
-const PARITY: &str =
-    "Which of the two grids: an aircraft sends even and odd frames in turn";
+const PARITY: &str = "Which of the two grids: an aircraft sends even and odd frames in turn";
 
 const ADDRESS: &str = "The address, six hexadecimal digits, as 40621D";
 
@@ -311,25 +308,20 @@ const LAT: &str = "The latitude in degrees, from -90 to 90; south as --lat=-33.9
 
 const LON: &str = "The longitude in degrees, from -180 to 180; west as --lon=-0.45";
 
-const NEAR_LAT: &str =
-    "The reference's latitude in degrees, from -90 to 90; south as --lat=-33.9";
+const NEAR_LAT: &str = "The reference's latitude in degrees, from -90 to 90; south as --lat=-33.9";
 
 const NEAR_LON: &str =
     "The reference's longitude in degrees, from -180 to 180; west as --lon=-0.45";
 
-const SITE_LAT: &str =
-    "The site's latitude in degrees, from -90 to 90; south as --lat=-33.9.
+const SITE_LAT: &str = "The site's latitude in degrees, from -90 to 90; south as --lat=-33.9.
 Needed for aircraft on the ground alone, within 45 degrees of them";
 
-const SITE_LON: &str =
-    "The site's longitude in degrees, from -180 to 180; west as --lon=-0.45.
+const SITE_LON: &str = "The site's longitude in degrees, from -180 to 180; west as --lon=-0.45.
 Give both or neither";
 
-const FORMAT: &str =
-    "How answers are told: lines, csv or json, an object a line [default: lines]";
+const FORMAT: &str = "How answers are told: lines, csv or json, an object a line [default: lines]";
 
-const LIMIT: &str =
-    "How many addresses are kept at most, from 1 to 4294967295 [default: 1000]";
+const LIMIT: &str = "How many addresses are kept at most, from 1 to 4294967295 [default: 1000]";
 
 const WINDOW: &str = "How old a frame or a fix may be, in milliseconds, to be paired or
 followed, from 0 to 18446744073709551615 [default: 10000]";

@@ -5,8 +5,8 @@ ghost use Rattle.sq_requests.specs.Requests.{asked_by};
 ghost use Rattle.sq_tool.specs.Requests.{Asks, IsFaulty};
 
 use crate::command_line::{request_of, squitter_command};
-use clap::error::ErrorKind;
 use clap::Error;
+use clap::error::ErrorKind;
 use sq_requests::Request;
 use std::alloc::{AllocError, Global};
 
