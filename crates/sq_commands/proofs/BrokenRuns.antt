@@ -1,5 +1,5 @@
 -- A run that broke off did what its devices show.
-use Rattle.std.proofs.Common.{◌≡◌, ◌≢◌, ℕ, Bool, List, Option, Result, Ok, Err, true, false, inl, inr, refl}
+use Rattle.std.proofs.Common.{◌≡◌, ℕ, Bool, List, Option, Result, Ok, Err, true, false, inl, inr, refl}
 use Rattle.std.specs.Prelude.{◌==◌, if◌then◌else◌}
 use Rattle.sq_devices.specs.declared.device.Sink.{Ghosts as SinkGhosts}
 use Rattle.sq_devices.specs.declared.device.Source.{Ghosts as SourceGhosts}
@@ -7,11 +7,10 @@ use Rattle.sq_lines.specs.declared.faults.RunFault.TheVariants.{Read, Write, Mem
 use Rattle.sq_lines.specs.declared.tallies.Tally.{Tally}
 use Rattle.sq_message.specs.declared.place.Place.{Place}
 use Rattle.sq_message.specs.declared.place.PlaceFault.{PlaceFault}
-use Rattle.sq_requests.specs.Requests.{Asked, AskedEncode, AskedTrack, Text, Show, Encode, Local, Pair, Check, Track}
+use Rattle.sq_requests.specs.Requests.{Text, Show, Encode, Local, Pair, Check, Track}
 use Rattle.sq_commands.specs.declared.status.Status.TheVariants.{Good, Refused, Broken}
 use Rattle.sq_commands.specs.BrokenOff.{BrokenAnswers, BrokenAside, BrokenChecks, BrokenLogs}
 use Rattle.sq_commands.specs.Check.{status_of}
-use Rattle.sq_commands.specs.Encode.{IsEncodeRun}
 use Rattle.sq_commands.specs.Local.{IsLocalRun, IsPlaceRun}
 use Rattle.sq_commands.specs.Outputs.{IsAnswer, Outputs, outputs}
 use Rattle.sq_commands.specs.Pair.{IsPairRun}

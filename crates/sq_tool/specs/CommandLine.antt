@@ -1,4 +1,4 @@
--- The command line of the program, in clap's words: its commands, each with its arguments and options, and their values.
+-- The command line, in clap's words: its commands, each with its arguments and options, and their values.
 use Rattle.std.specs.Prelude.{◌≡◌, List, Some, codes, true}
 use Rattle.clap.specs.Words.{App, Row, Rule, Text, first_of, new_app, new_rule, with_rule, with_subcommand}
 use Rattle.sq_requests.specs.Requests.{Asked, Show, Encode, Local, Pair, Check, Track}
