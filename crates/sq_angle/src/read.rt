@@ -27,6 +27,22 @@ pub enum AngleFault {
     OutOfRange,
 }
 
+impl AngleFault {
+    ghost use Rattle.sq_angle.specs.Faults.{angle_fault_text};
+
+    /// Its text, which has no number, at most 17 bytes.
+    pub fn words(self) -> &'static str
+        ensures value { result.now ≡ angle_fault_text self }
+        ensures short { length result.now ≤ 17 }
+    {
+        match self {
+            AngleFault::NotANumber => "not a number",
+            AngleFault::TooManyDecimals => "too many decimals",
+            AngleFault::OutOfRange => "out of range",
+        }
+    }
+}
+
 impl fmt::Display for AngleFault {
     ghost use Rattle.std.specs.Prelude.{Some};
     ghost use Rattle.sq_angle.specs.Faults.{angle_fault_text};
@@ -34,11 +50,7 @@ impl fmt::Display for AngleFault {
     ghost output = { λ fault. Some (angle_fault_text fault) };
 
     fn fmt<W: fmt::Write>(&self, f: &mut fmt::Formatter<W>) -> fmt::Result {
-        match self {
-            AngleFault::NotANumber => f.write_str("not a number"),
-            AngleFault::TooManyDecimals => f.write_str("too many decimals"),
-            AngleFault::OutOfRange => f.write_str("out of range"),
-        }
+        f.write_str(self.words())
     }
 }
 

@@ -1,6 +1,8 @@
 -- What is reported of arguments at fault.
 use Rattle.std.specs.Prelude.{◌++◌, ℕ, List, Result, MatchResult, codes}
 use Rattle.sq_angle.specs.Faults.{angle_fault_text}
+use Rattle.sq_track.specs.Faults.{track_fault_text}
+use Rattle.sq_track.specs.declared.heard.TrackFault.TheVariants as tracks
 use Rattle.sq_commands.specs.declared.arguments.ArgumentFault.{ArgumentFault}
 use Rattle.sq_commands.specs.declared.arguments.ArgumentFault.TheVariants.{Format, Kind, Parity, Address, Feet, Limit, NoLimit, Window, Site, Lat, Lon}
 use Rattle.sq_commands.specs.declared.status.Status.{Status}
@@ -15,7 +17,7 @@ argument_text Parity = codes "bad parity"
 argument_text Address = codes "bad address"
 argument_text Feet = codes "bad feet"
 argument_text Limit = codes "bad limit"
-argument_text NoLimit = codes "limit is 0"
+argument_text NoLimit = track_fault_text tracks.NoLimit
 argument_text Window = codes "bad window"
 argument_text Site = codes "site needs lat and lon"
 argument_text (Lat fault) = codes "lat " ++ angle_fault_text fault

@@ -1,5 +1,5 @@
 //! The arguments of the commands, read from their words.
-ghost use Rattle.std.specs.Prelude.{◌≡◌, ◌≢◌, ◌≤◌, ◌<◌, ◌^◌, ◌++◌, ◌∷◌, List, ℤ, ℕ, IfErr, IfOk, IfSome, OnErr, codes, length, option_copied, MatchOption, Some};
+ghost use Rattle.std.specs.Prelude.{◌≡◌, ◌≢◌, ◌+◌, ◌≤◌, ◌<◌, ◌^◌, ◌++◌, ◌∷◌, List, ℤ, ℕ, IfErr, IfOk, IfSome, OnErr, length, option_copied, MatchOption, Some};
 ghost use Rattle.std.specs.Bool.{OnFalse};
 ghost use Rattle.std.specs.Char.{IsAsciiDigit};
 ghost use Rattle.std.specs.Int.Digits.{number_from_digits};
@@ -7,7 +7,9 @@ ghost use Rattle.sq_angle.specs.Spelling.{minus};
 ghost use Rattle.sq_angle.specs.Spelling.{signed as signed_number};
 ghost use Rattle.std.specs.List.{AllByRecursion};
 ghost use Rattle.std.specs.Str.Parse.{digits_value};
+ghost use Rattle.arrayvec.specs.ArrayString.{array_string_len};
 ghost use Rattle.sq_angle.specs.Angle.{degrees};
+ghost use Rattle.sq_angle.specs.Faults.{angle_fault_text};
 ghost use Rattle.sq_angle.specs.Fraction.{IsWithin};
 ghost use Rattle.sq_angle.specs.Reading.{IsReading};
 ghost use Rattle.sq_zones.specs.declared.parity.Parity.{Parity};
@@ -23,10 +25,12 @@ ghost use Rattle.sq_commands.specs.Arguments.{IsAddress, IsAngleFault, IsFeet, I
 ghost use Rattle.sq_commands.specs.Track.{IsLimit, IsTrackReading, IsWindow};
 
 use crate::formats::Format;
+use arrayvec::ArrayString;
 use sq_angle::{Angle, AngleFault, Position};
 use sq_message::{Parity, field_of_feet};
 use sq_requests::TrackWords;
 use sq_text::read_decimal;
+use sq_track::TrackFault;
 
 /// The kinds of squitter that `encode` writes.
 #[derive(Clone, Copy, Debug, PartialEq, Eq)]
@@ -61,28 +65,37 @@ pub(crate) enum ArgumentFault {
 }
 
 impl ArgumentFault {
-    /// The line that is reported of it.
-    pub(crate) fn line(self) -> &'static str
-        ensures { result.now ≡ argument_text self ++ codes "\n" }
+    /// Appends what is reported of it, at most 22 bytes.
+    pub(crate) fn push<const N: usize>(self, text: &mut ArrayString<N>)
+        requires { array_string_len text.old + 22 ≤ N }
+        ensures bytes { text.new.bytes ≡ text.old.bytes ++ argument_text self }
+        ensures len { array_string_len text.new ≤ array_string_len text.old + 22 }
     {
         match self {
-            ArgumentFault::Format => "bad format\n",
-            ArgumentFault::Kind => "bad kind\n",
-            ArgumentFault::Parity => "bad parity\n",
-            ArgumentFault::Address => "bad address\n",
-            ArgumentFault::Feet => "bad feet\n",
-            ArgumentFault::Limit => "bad limit\n",
-            ArgumentFault::NoLimit => "limit is 0\n",
-            ArgumentFault::Window => "bad window\n",
-            ArgumentFault::Site => "site needs lat and lon\n",
-            ArgumentFault::Lat(AngleFault::NotANumber) => "lat not a number\n",
-            ArgumentFault::Lat(AngleFault::TooManyDecimals) => "lat too many decimals\n",
-            ArgumentFault::Lat(AngleFault::OutOfRange) => "lat out of range\n",
-            ArgumentFault::Lon(AngleFault::NotANumber) => "lon not a number\n",
-            ArgumentFault::Lon(AngleFault::TooManyDecimals) => "lon too many decimals\n",
-            ArgumentFault::Lon(AngleFault::OutOfRange) => "lon out of range\n",
+            ArgumentFault::Format => text.push_str("bad format"),
+            ArgumentFault::Kind => text.push_str("bad kind"),
+            ArgumentFault::Parity => text.push_str("bad parity"),
+            ArgumentFault::Address => text.push_str("bad address"),
+            ArgumentFault::Feet => text.push_str("bad feet"),
+            ArgumentFault::Limit => text.push_str("bad limit"),
+            ArgumentFault::NoLimit => text.push_str(TrackFault::NoLimit.words()),
+            ArgumentFault::Window => text.push_str("bad window"),
+            ArgumentFault::Site => text.push_str("site needs lat and lon"),
+            ArgumentFault::Lat(fault) => push_coordinate(text, "lat ", fault),
+            ArgumentFault::Lon(fault) => push_coordinate(text, "lon ", fault),
         }
     }
+}
+
+// Appends a coordinate's name of four bytes and the fault of its angle.
+fn push_coordinate<const N: usize>(text: &mut ArrayString<N>, name: &str, fault: AngleFault)
+    requires room { array_string_len text.old + 22 ≤ N }
+    requires short { length name.now ≤ 4 }
+    ensures bytes { text.new.bytes ≡ text.old.bytes ++ (name.now ++ angle_fault_text fault) }
+    ensures len { array_string_len text.new ≤ array_string_len text.old + 22 }
+{
+    text.push_str(name);
+    text.push_str(fault.words());
 }
 
 /// `lines`, `csv` or `json`; lines where none is given.

@@ -48,7 +48,10 @@ pub(crate) fn report_argument<F: Sink>(fault: ArgumentFault, faults: &mut F) -> 
     ensures status { result ≡ Status.Misused }
     ensures reported { WroteOrFailed (written_on F.Sink faults.old faults.new) (argument_text fault ++ codes "\n") }
 {
-    report(fault.line(), faults);
+    let mut text = ArrayString::<24>::new();
+    fault.push(&mut text);
+    text.push('\n');
+    report(text.as_str(), faults);
     Status::Misused
 }
 

@@ -1,6 +1,6 @@
 //! Why codes are decoded to no point.
-ghost use Rattle.std.specs.Prelude.{Some};
-ghost use Rattle.sq_cpr.specs.Faults.{local_fault_text, pair_fault_text};
+ghost use Rattle.std.specs.Prelude.{◌≡◌, ◌≤◌, length, Some};
+ghost use Rattle.sq_cpr.specs.Faults.{local_fault_text, pair_fault_text, pair_fault_words};
 
 use std::error::Error;
 use std::fmt;
@@ -12,13 +12,23 @@ pub enum LocalFault {
     OutOfRange,
 }
 
+impl LocalFault {
+    /// Its text, which has no number, at most 21 bytes.
+    pub fn words(self) -> &'static str
+        ensures value { result.now ≡ local_fault_text self }
+        ensures short { length result.now ≤ 21 }
+    {
+        match self {
+            LocalFault::OutOfRange => "latitude out of range",
+        }
+    }
+}
+
 impl fmt::Display for LocalFault {
     ghost output = { λ fault. Some (local_fault_text fault) };
 
     fn fmt<W: fmt::Write>(&self, f: &mut fmt::Formatter<W>) -> fmt::Result {
-        match self {
-            LocalFault::OutOfRange => write!(f, "latitude out of range"),
-        }
+        f.write_str(self.words())
     }
 }
 
@@ -33,13 +43,26 @@ pub enum PairFault {
     ZoneCounts(u8, u8),
 }
 
+impl PairFault {
+    /// Its text up to its numbers, at most 21 bytes.
+    pub fn words(self) -> &'static str
+        ensures value { result.now ≡ pair_fault_words self }
+        ensures short { length result.now ≤ 21 }
+    {
+        match self {
+            PairFault::OutOfRange => LocalFault::OutOfRange.words(),
+            PairFault::ZoneCounts(_, _) => "zone counts ",
+        }
+    }
+}
+
 impl fmt::Display for PairFault {
     ghost output = { λ fault. Some (pair_fault_text fault) };
 
     fn fmt<W: fmt::Write>(&self, f: &mut fmt::Formatter<W>) -> fmt::Result {
         match self {
-            PairFault::OutOfRange => write!(f, "latitude out of range"),
-            PairFault::ZoneCounts(even, odd) => write!(f, "zone counts {even} {odd}"),
+            PairFault::OutOfRange => f.write_str(self.words()),
+            PairFault::ZoneCounts(even, odd) => write!(f, "{}{even} {odd}", self.words()),
         }
     }
 }

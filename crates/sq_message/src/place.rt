@@ -1,5 +1,5 @@
 //! Places: the points that squitters are decoded to, and what is sent of a point.
-ghost use Rattle.std.specs.Prelude.{◌≡◌, ◌↔◌, IsTrue, option_copied};
+ghost use Rattle.std.specs.Prelude.{◌≡◌, ◌≤◌, ◌↔◌, IsTrue, length, option_copied};
 ghost use Rattle.sq_cpr.specs.Code.{numbers_of};
 ghost use Rattle.sq_message.specs.Parts.{squitter_parts};
 ghost use Rattle.sq_message.specs.Places.{Fits, IsAirPairPlace, IsGroundPairPlace, IsLocalPlace, IsPairPlace, IsPosition, IsPositionOf, IsSentAt, NeedsTwoParities, even_of, odd_of, of_local, of_pair};
@@ -52,6 +52,26 @@ pub enum PlaceFault {
     ZoneCounts(u8, u8),
 }
 
+impl PlaceFault {
+    ghost use Rattle.sq_message.specs.Faults.{place_fault_words};
+
+    /// Its text up to its numbers, at most 21 bytes.
+    pub fn words(self) -> &'static str
+        ensures value { result.now ≡ place_fault_words self }
+        ensures short { length result.now ≤ 21 }
+    {
+        match self {
+            PlaceFault::NotPosition => "not a position",
+            PlaceFault::OtherAddress => "other address",
+            PlaceFault::OtherKind => "other kind",
+            PlaceFault::SameParity => "same parity",
+            PlaceFault::NoSite => "no site",
+            PlaceFault::OutOfRange => LocalFault::OutOfRange.words(),
+            PlaceFault::ZoneCounts(even, odd) => PairFault::ZoneCounts(even, odd).words(),
+        }
+    }
+}
+
 impl fmt::Display for PlaceFault {
     ghost use Rattle.std.specs.Prelude.{Some};
     ghost use Rattle.sq_message.specs.Faults.{place_fault_text};
@@ -59,14 +79,11 @@ impl fmt::Display for PlaceFault {
     ghost output = { λ fault. Some (place_fault_text fault) };
 
     fn fmt<W: fmt::Write>(&self, f: &mut fmt::Formatter<W>) -> fmt::Result {
-        match self {
-            PlaceFault::NotPosition => write!(f, "not a position"),
-            PlaceFault::OtherAddress => write!(f, "other address"),
-            PlaceFault::OtherKind => write!(f, "other kind"),
-            PlaceFault::SameParity => write!(f, "same parity"),
-            PlaceFault::NoSite => write!(f, "no site"),
-            PlaceFault::OutOfRange => write!(f, "latitude out of range"),
-            PlaceFault::ZoneCounts(even, odd) => write!(f, "zone counts {even} {odd}"),
+        match *self {
+            PlaceFault::ZoneCounts(even, odd) => {
+                fmt::Display::fmt(&PairFault::ZoneCounts(even, odd), f)
+            }
+            _ => f.write_str(self.words()),
         }
     }
 }

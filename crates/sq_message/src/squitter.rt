@@ -1,5 +1,5 @@
 //! A squitter: capability, address and message.
-ghost use Rattle.std.specs.Prelude.{◌≡◌, ◌<◌, ◌^◌, ◌↔◌, IfSome, IsSome};
+ghost use Rattle.std.specs.Prelude.{◌≡◌, ◌<◌, ◌≤◌, ◌^◌, ◌↔◌, IfSome, IsSome, length};
 
 use crate::{Airborne, Other, Surface};
 use std::error::Error;
@@ -79,6 +79,21 @@ pub enum FrameFault {
     Parity(u32),
 }
 
+impl FrameFault {
+    ghost use Rattle.sq_message.specs.Faults.{frame_fault_words};
+
+    /// Its text up to its number, at most 9 bytes.
+    pub fn words(self) -> &'static str
+        ensures value { result.now ≡ frame_fault_words self }
+        ensures short { length result.now ≤ 9 }
+    {
+        match self {
+            FrameFault::NotDf17(_) => "not DF17 ",
+            FrameFault::Parity(_) => "parity ",
+        }
+    }
+}
+
 impl fmt::Display for FrameFault {
     ghost use Rattle.std.specs.Prelude.{Some};
     ghost use Rattle.sq_message.specs.Faults.{frame_fault_text};
@@ -87,8 +102,8 @@ impl fmt::Display for FrameFault {
 
     fn fmt<W: fmt::Write>(&self, f: &mut fmt::Formatter<W>) -> fmt::Result {
         match self {
-            FrameFault::NotDf17(format) => write!(f, "not DF17 {format}"),
-            FrameFault::Parity(remainder) => write!(f, "parity {remainder:06X}"),
+            FrameFault::NotDf17(format) => write!(f, "{}{format}", self.words()),
+            FrameFault::Parity(remainder) => write!(f, "{}{remainder:06X}", self.words()),
         }
     }
 }

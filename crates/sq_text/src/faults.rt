@@ -1,9 +1,9 @@
 //! Why a line is refused.
-ghost use Rattle.std.specs.Prelude.{◌≡◌, ◌+◌, ◌≤◌, ◌++◌, decimal, length, Some};
+ghost use Rattle.std.specs.Prelude.{◌≡◌, ◌+◌, ◌≤◌, ◌++◌, length, Some};
 ghost use Rattle.arrayvec.specs.ArrayString.{array_string_len};
-ghost use Rattle.sq_text.specs.Faults.{fault_text, of_frame, of_text};
+ghost use Rattle.sq_text.specs.Faults.{fault_text, fault_words, of_frame, of_text};
 
-use crate::digits::{push_decimal, push_hexadecimal};
+use crate::digits::{push_decimal, push_six_places};
 use crate::frame_text::TextFault;
 use arrayvec::ArrayString;
 use sq_message::FrameFault;
@@ -33,6 +33,27 @@ pub enum LineFault {
     MomentBack(u64),
     /// The table of addresses is full.
     Full,
+}
+
+impl LineFault {
+    /// Its text up to its number, at most 12 bytes.
+    pub fn words(self) -> &'static str
+        ensures value { result.now ≡ fault_words self }
+        ensures short { length result.now ≤ 12 }
+    {
+        match self {
+            LineFault::LongLine => "long line",
+            LineFault::Moment => "bad moment",
+            LineFault::Wrap => "bad wrapping",
+            LineFault::Short => "short frame",
+            LineFault::Length(_) => "bad length ",
+            LineFault::Digit(_) => "bad digit ",
+            LineFault::NotDf17(format) => FrameFault::NotDf17(format).words(),
+            LineFault::Parity(remainder) => FrameFault::Parity(remainder).words(),
+            LineFault::MomentBack(_) => "moment back ",
+            LineFault::Full => "table full",
+        }
+    }
 }
 
 impl From<TextFault> for LineFault {
@@ -87,30 +108,17 @@ pub fn push_fault<const N: usize>(text: &mut ArrayString<N>, fault: LineFault)
     ensures bytes { text.new.bytes ≡ text.old.bytes ++ fault_text fault }
     ensures len { array_string_len text.new ≤ array_string_len text.old + 32 }
 {
+    text.push_str(fault.words());
     match fault {
-        LineFault::LongLine => text.push_str("long line"),
-        LineFault::Moment => text.push_str("bad moment"),
-        LineFault::Wrap => text.push_str("bad wrapping"),
-        LineFault::Short => text.push_str("short frame"),
-        LineFault::Length(length) => push_named(text, "bad length ", length as u64),
-        LineFault::Digit(place) => push_named(text, "bad digit ", place as u64),
-        LineFault::NotDf17(format) => push_named(text, "not DF17 ", u64::from(format)),
-        LineFault::Parity(remainder) => {
-            text.push_str("parity ");
-            push_hexadecimal(text, u64::from(remainder), 6);
-        }
-        LineFault::MomentBack(moment) => push_named(text, "moment back ", moment),
-        LineFault::Full => text.push_str("table full"),
+        LineFault::Length(length) => push_decimal(text, length as u64),
+        LineFault::Digit(place) => push_decimal(text, place as u64),
+        LineFault::NotDf17(format) => push_decimal(text, u64::from(format)),
+        LineFault::Parity(remainder) => push_six_places(text, remainder),
+        LineFault::MomentBack(moment) => push_decimal(text, moment),
+        LineFault::LongLine
+        | LineFault::Moment
+        | LineFault::Wrap
+        | LineFault::Short
+        | LineFault::Full => {}
     }
-}
-
-// Appends a name of at most 12 bytes and a number.
-fn push_named<const N: usize>(text: &mut ArrayString<N>, name: &str, number: u64)
-    requires room { array_string_len text.old + 32 ≤ N }
-    requires short { length name.now ≤ 12 }
-    ensures bytes { text.new.bytes ≡ text.old.bytes ++ (name.now ++ decimal number) }
-    ensures len { array_string_len text.new ≤ array_string_len text.old + 32 }
-{
-    text.push_str(name);
-    push_decimal(text, number);
 }

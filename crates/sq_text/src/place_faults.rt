@@ -13,19 +13,11 @@ pub fn push_place_fault<const N: usize>(text: &mut ArrayString<N>, fault: PlaceF
     ensures bytes { text.new.bytes ≡ text.old.bytes ++ place_fault_text fault }
     ensures len { array_string_len text.new ≤ array_string_len text.old + 32 }
 {
-    match fault {
-        PlaceFault::NotPosition => text.push_str("not a position"),
-        PlaceFault::OtherAddress => text.push_str("other address"),
-        PlaceFault::OtherKind => text.push_str("other kind"),
-        PlaceFault::SameParity => text.push_str("same parity"),
-        PlaceFault::NoSite => text.push_str("no site"),
-        PlaceFault::OutOfRange => text.push_str("latitude out of range"),
-        PlaceFault::ZoneCounts(even, odd) => {
-            text.push_str("zone counts ");
-            push_count(text, even);
-            text.push_str(" ");
-            push_count(text, odd);
-        }
+    text.push_str(fault.words());
+    if let PlaceFault::ZoneCounts(even, odd) = fault {
+        push_count(text, even);
+        text.push_str(" ");
+        push_count(text, odd);
     }
 }
 

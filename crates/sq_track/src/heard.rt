@@ -1,6 +1,10 @@
 //! What is heard of a squitter, and why a tracker refuses one.
+ghost use Rattle.std.specs.Prelude.{◌≡◌, ◌≤◌, length, Some};
+ghost use Rattle.sq_track.specs.Faults.{track_fault_text, track_fault_words};
+
 use sq_message::Place;
-use thiserror::Error;
+use std::error::Error;
+use std::fmt;
 
 /// What is heard of an accepted squitter: the first of these that applies.
 #[derive(Clone, Copy, Debug, PartialEq, Eq)]
@@ -24,18 +28,42 @@ pub enum Heard {
 }
 
 /// Why a tracker refuses a call: the first of these that applies, where `Memory` comes last.
-#[derive(Clone, Copy, Debug, PartialEq, Eq, Error)]
+#[derive(Clone, Copy, Debug, PartialEq, Eq)]
 pub enum TrackFault {
     /// The limit of addresses is 0.
-    #[error("limit is 0")]
     NoLimit,
     /// An allocation failed.
-    #[error("out of memory")]
     Memory,
     /// The moment is below that of the last accepted call, which is this.
-    #[error("moment back {0}")]
     MomentBack(u64),
     /// The squitter is a position, and as many other addresses as the limit have one that is at most the window older.
-    #[error("table full")]
     Full,
 }
+
+impl TrackFault {
+    /// Its text up to its number, at most 13 bytes.
+    pub fn words(self) -> &'static str
+        ensures value { result.now ≡ track_fault_words self }
+        ensures short { length result.now ≤ 13 }
+    {
+        match self {
+            TrackFault::NoLimit => "limit is 0",
+            TrackFault::Memory => "out of memory",
+            TrackFault::MomentBack(_) => "moment back ",
+            TrackFault::Full => "table full",
+        }
+    }
+}
+
+impl fmt::Display for TrackFault {
+    ghost output = { λ fault. Some (track_fault_text fault) };
+
+    fn fmt<W: fmt::Write>(&self, f: &mut fmt::Formatter<W>) -> fmt::Result {
+        match self {
+            TrackFault::MomentBack(last) => write!(f, "{}{last}", self.words()),
+            _ => f.write_str(self.words()),
+        }
+    }
+}
+
+impl Error for TrackFault {}

@@ -6,6 +6,8 @@ use Rattle.sq_message.specs.declared.place.PlaceFault.TheVariants as places
 use Rattle.sq_text.specs.declared.faults.LineFault.TheVariants as lines
 use Rattle.sq_text.specs.Faults.{fault_text}
 use Rattle.sq_message.specs.Faults.{place_fault_text}
+use Rattle.sq_track.specs.Faults.{track_fault_text}
+use Rattle.sq_track.specs.declared.heard.TrackFault.TheVariants as tracks
 use Rattle.sq_plain.specs.declared.faults.Refusal.{Refusal}
 use Rattle.sq_plain.specs.declared.faults.Refusal.TheVariants.{Line, Place, Angle, NoPosition, NoHead, NoAngle, NoLatitude, NoFeet, NoParity, Memory, NoLimit, NoTracker, NoAddress}
 use Rattle.sq_plain.specs.Faults.{fault_of}
@@ -21,8 +23,8 @@ refusal_text NoAngle = codes "bad angle"
 refusal_text NoLatitude = codes "bad latitude"
 refusal_text NoFeet = codes "bad feet"
 refusal_text NoParity = codes "bad parity"
-refusal_text Memory = codes "out of memory"
-refusal_text NoLimit = codes "limit is 0"
+refusal_text Memory = track_fault_text tracks.Memory
+refusal_text NoLimit = track_fault_text tracks.NoLimit
 refusal_text NoTracker = codes "no tracker"
 refusal_text NoAddress = codes "no address"
 

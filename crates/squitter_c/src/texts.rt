@@ -1,14 +1,18 @@
 //! The texts of faults, and the version.
-ghost use Rattle.std.specs.Prelude.{◌≡◌, ◌+◌, ◌≤◌, ◌++◌, codes, decimal, length};
+ghost use Rattle.std.specs.Prelude.{◌≡◌, ◌≤◌, ◌++◌, decimal};
 ghost use Rattle.arrayvec.specs.ArrayString.{array_string_len};
-ghost use Rattle.sq_text.specs.Digits.{hexadecimal};
+ghost use Rattle.sq_message.specs.Faults.{place_fault_text};
+ghost use Rattle.sq_text.specs.Faults.{fault_text, fault_words};
 ghost use Rattle.squitter_c.specs.Angles.{StandsIn};
 ghost use Rattle.squitter_c.specs.Texts.{told_text, version};
 
 use crate::angles::fill;
 use arrayvec::ArrayString;
+use sq_angle::AngleFault;
+use sq_message::PlaceFault;
 use sq_plain::Fault;
-use sq_text::{push_decimal, push_hexadecimal};
+use sq_text::{LineFault, push_decimal, push_hexadecimal};
+use sq_track::TrackFault;
 
 /// The text of a fault, as the program writes it, at most 63 bytes, and zeros after it.
 #[unsafe(no_mangle)]
@@ -36,18 +40,18 @@ fn push_told(text: &mut ArrayString<63>, code: u32, first: u64, second: u32)
 {
     match code {
         0 => text.push_str("no fault"),
-        1 => text.push_str("bad wrapping"),
-        2 => text.push_str("short frame"),
-        3 => push_named(text, "bad length ", first),
-        4 => push_named(text, "bad digit ", first),
-        5 => push_named(text, "not DF17 ", first),
+        1 => text.push_str(LineFault::Wrap.words()),
+        2 => text.push_str(LineFault::Short.words()),
+        3 => push_named(text, LineFault::Length(0), first),
+        4 => push_named(text, LineFault::Digit(0), first),
+        5 => push_named(text, LineFault::NotDf17(0), first),
         6 => push_remainder(text, first),
-        10 => text.push_str("not a position"),
-        11 => text.push_str("other address"),
-        12 => text.push_str("other kind"),
-        13 => text.push_str("same parity"),
-        14 => text.push_str("no site"),
-        15 => text.push_str("latitude out of range"),
+        10 => text.push_str(PlaceFault::NotPosition.words()),
+        11 => text.push_str(PlaceFault::OtherAddress.words()),
+        12 => text.push_str(PlaceFault::OtherKind.words()),
+        13 => text.push_str(PlaceFault::SameParity.words()),
+        14 => text.push_str(PlaceFault::NoSite.words()),
+        15 => text.push_str(PlaceFault::OutOfRange.words()),
         16 => push_counts(text, first, u64::from(second)),
         20 => text.push_str("bad position"),
         21 => text.push_str("bad fields"),
@@ -55,46 +59,45 @@ fn push_told(text: &mut ArrayString<63>, code: u32, first: u64, second: u32)
         23 => text.push_str("bad latitude"),
         24 => text.push_str("bad feet"),
         25 => text.push_str("bad parity"),
-        30 => text.push_str("not a number"),
-        31 => text.push_str("too many decimals"),
-        32 => text.push_str("out of range"),
-        40 => text.push_str("long line"),
-        41 => text.push_str("bad moment"),
-        42 => push_named(text, "moment back ", first),
-        43 => text.push_str("table full"),
-        44 => text.push_str("out of memory"),
-        45 => text.push_str("limit is 0"),
+        30 => text.push_str(AngleFault::NotANumber.words()),
+        31 => text.push_str(AngleFault::TooManyDecimals.words()),
+        32 => text.push_str(AngleFault::OutOfRange.words()),
+        40 => text.push_str(LineFault::LongLine.words()),
+        41 => text.push_str(LineFault::Moment.words()),
+        42 => push_named(text, LineFault::MomentBack(0), first),
+        43 => text.push_str(LineFault::Full.words()),
+        44 => text.push_str(TrackFault::Memory.words()),
+        45 => text.push_str(TrackFault::NoLimit.words()),
         46 => text.push_str("no tracker"),
         47 => text.push_str("no address"),
         _ => text.push_str("unknown fault"),
     }
 }
 
-// Appends a name of at most 12 bytes and a number.
-fn push_named(text: &mut ArrayString<63>, name: &str, number: u64)
-    requires room { array_string_len text.old ≤ 0 }
-    requires short { length name.now ≤ 12 }
-    ensures { text.new.bytes ≡ text.old.bytes ++ (name.now ++ decimal number) }
+// Appends the words of a fault and a number.
+fn push_named(text: &mut ArrayString<63>, fault: LineFault, number: u64)
+    requires { array_string_len text.old ≤ 0 }
+    ensures { text.new.bytes ≡ text.old.bytes ++ (fault_words fault ++ decimal number) }
 {
-    text.push_str(name);
+    text.push_str(fault.words());
     push_decimal(text, number);
 }
 
 // Appends a remainder, of which the lowest 24 bits are written.
 fn push_remainder(text: &mut ArrayString<63>, remainder: u64)
     requires { array_string_len text.old ≤ 0 }
-    ensures { text.new.bytes ≡ text.old.bytes ++ (codes "parity " ++ hexadecimal 6 remainder) }
+    ensures { text.new.bytes ≡ text.old.bytes ++ fault_text (LineFault.Parity remainder) }
 {
-    text.push_str("parity ");
+    text.push_str(LineFault::Parity(0).words());
     push_hexadecimal(text, remainder, 6);
 }
 
 // Appends two zone counts.
 fn push_counts(text: &mut ArrayString<63>, even: u64, odd: u64)
     requires { array_string_len text.old ≤ 0 }
-    ensures { text.new.bytes ≡ text.old.bytes ++ (codes "zone counts " ++ decimal even ++ codes " " ++ decimal odd) }
+    ensures { text.new.bytes ≡ text.old.bytes ++ place_fault_text (PlaceFault.ZoneCounts even odd) }
 {
-    text.push_str("zone counts ");
+    text.push_str(PlaceFault::ZoneCounts(0, 0).words());
     push_decimal(text, even);
     text.push_str(" ");
     push_decimal(text, odd);

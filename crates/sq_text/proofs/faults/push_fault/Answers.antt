@@ -3,8 +3,5 @@ use Rattle.sq_text.proofs.faults.push_fault.Goals as goal
 
 pub returns-in-Parity-clause-bytes : goal.returns-in-Parity-clause-bytes
 returns-in-Parity-clause-bytes g c =
-    rw (c.in-Parity.is, c.push_hexadecimal.ensures.bytes, c.push_str-in-Parity.ensures.bytes, c.from-in-Parity.ensures)
+    rw (c.push_six_places.ensures.bytes, c.push_str.ensures.bytes, c.words.ensures.value, c.in-Parity.is)
     (simp append_assoc refl)
-
-pub returns-in-MomentBack-clause-bytes : goal.returns-in-MomentBack-clause-bytes
-returns-in-MomentBack-clause-bytes g c = rw (c.in-MomentBack.is, c.push_named-in-MomentBack.ensures.bytes) refl

@@ -1,0 +1,16 @@
+-- The texts of faults.
+use Rattle.std.specs.Prelude.{◌++◌, ℕ, List, codes, decimal}
+use Rattle.sq_track.specs.declared.heard.TrackFault.{TrackFault}
+use Rattle.sq_track.specs.declared.heard.TrackFault.TheVariants.{NoLimit, Memory, MomentBack, Full}
+
+-- what is printed of a refused call, up to the number
+abbrev pub track_fault_words : TrackFault → List ℕ
+track_fault_words NoLimit = codes "limit is 0"
+track_fault_words Memory = codes "out of memory"
+track_fault_words (MomentBack last) = codes "moment back "
+track_fault_words Full = codes "table full"
+
+-- what is printed of a refused call
+abbrev pub track_fault_text : TrackFault → List ℕ
+track_fault_text (MomentBack last) = track_fault_words (MomentBack last) ++ decimal last
+track_fault_text fault = track_fault_words fault
