@@ -14,7 +14,7 @@ congruent_refl m a = record { times = pos 0; apart = omega (arith, ints) }
 pub congruent_sym : {m : ℕ} {a b : ℤ} → IsCongruent m a b → IsCongruent m b a
 congruent_sym {m} {a} {b} h = record { times = neg_ℤ h.times; apart = simp scales (omega (arith, ints)) }
 
--- and from one number to the next
+-- congruence goes from one number to the next
 pub congruent_trans : {m : ℕ} {a b c : ℤ} → IsCongruent m a b → IsCongruent m b c → IsCongruent m a c
 congruent_trans {m} {a} {b} {c} h k = record { times = h.times +ℤ k.times; apart = simp scales (omega (arith, ints)) }
 

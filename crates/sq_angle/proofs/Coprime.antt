@@ -62,7 +62,7 @@ one_lowest_form x y p q some_x some_y a b = (
       value_trans x p y a.terms.positive (value_sym p x a.value) p_is_y,
 )
 
--- the same of angles and of what `==` tests
+-- one lowest form, of angles and of what `==` tests
 pub one_lowest_form_of_angles : OneLowestFormOfAngles
 one_lowest_form_of_angles x y p q a b =
     let fractions = one_lowest_form (record { num = x.num; den = x.den })

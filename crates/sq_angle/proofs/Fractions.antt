@@ -38,7 +38,7 @@ trans_below x y z p h k =
 pub value_sym : (x y : Fraction) → x ≃ y → y ≃ x
 value_sym x y e = sym e
 
--- and from one fraction to the next
+-- one value goes from one fraction to the next
 pub value_trans : (x y z : Fraction) → 0 < y.den → x ≃ y → y ≃ z → x ≃ z
 value_trans x y z p e f =
     same_of_scale y.den (pos z.den *ℤ x.num) (pos x.den *ℤ z.num) p

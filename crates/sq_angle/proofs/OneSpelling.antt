@@ -11,7 +11,7 @@ use Rattle.sq_angle.specs.Laws.{OneSpelling}
 same_head : (x y : ℕ) (xs ys : List ℕ) → x ∷ xs ≡ y ∷ ys → x ≡ y
 same_head x y xs ys e = cc
 
--- and go on equally
+-- equal lists go on equally
 same_tail : (x y : ℕ) (xs ys : List ℕ) → x ∷ xs ≡ y ∷ ys → xs ≡ ys
 same_tail x y xs ys e = cc
 

@@ -22,7 +22,7 @@ ranked x y o e =
 pub same_angle-value : (x y : Angle) → IsTrue (same_angle x y) ↔ (degrees x ≃ degrees y)
 same_angle-value x y = search (rules, Decides-int_eq (pos y.den *ℤ x.num) (pos x.den *ℤ y.num))
 
--- and `<` whether one is below the other
+-- `<` tests whether one fraction is below the other
 pub ordered_by_value : OrderedByValue
 ordered_by_value x y = (
   same_angle-value x y,

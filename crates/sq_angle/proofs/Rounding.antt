@@ -31,7 +31,7 @@ rounded_once k e a b p q =
 pub odd_below : (a : ℤ) (e : ℕ) → pos e *ℤ (pos 2 *ℤ a -ℤ pos 1) ≡ pos (2 * e) *ℤ a -ℤ pos e
 odd_below a e = simp scales (omega (arith, ints))
 
--- the same with one more
+-- an odd number of halves of e, one more than an even one
 pub odd_above : (a : ℤ) (e : ℕ) → pos e *ℤ (pos 2 *ℤ a +ℤ pos 1) ≡ pos (2 * e) *ℤ a +ℤ pos e
 odd_above a e = simp scales (omega (arith, ints))
 
@@ -47,7 +47,7 @@ nearest_from_rounded x w d a r =
     let above = scale-scale x.den w (pos 2 *ℤ a +ℤ pos 1) ∙ odd_above a (x.den * w) in
     record { from = omega (arith, ints); below = omega (arith, ints) }
 
--- and back
+-- the number of steps nearest to x is rounded
 pub rounded_from_nearest : (x : Fraction) (w d : ℕ) (a : ℤ) → IsNearest x (step_of w d) a
     → IsRounded (pos (2 * d) *ℤ x.num) (x.den * w) a
 rounded_from_nearest x w d a r =
@@ -85,7 +85,7 @@ nearest_itself a w d p q =
     nearest_from_rounded (record { num = pos w *ℤ a; den = d }) w d a
     (record { from = omega (arith, ints); below = omega (arith, ints) })
 
--- the same over natural numbers, as a body computes it
+-- the nearest number of steps as a quotient of natural numbers, as a body computes it
 pub nearest_quotient : (n xd w d v : ℕ) → v ≡ (2 * d * n + xd * w) / (2 * (xd * w)) → 0 < xd → 0 < w
     → IsNearest (record { num = pos n; den = xd }) (step_of w d) (pos v)
 nearest_quotient n xd w d v e p q =
@@ -93,7 +93,7 @@ nearest_quotient n xd w d v e p q =
     let r = rounded (pos (2 * d * n)) (xd * w) positive in
     nearest_from_rounded (record { num = pos n; den = xd }) w d (pos v) (rw e r)
 
--- the same for units of 1/d
+-- the nearest number of units of 1/d
 pub nearest_unit : (n xd d : ℕ) → 0 < xd
     → IsNearest (record { num = pos n; den = xd }) (step_of 1 d) (pos ((2 * d * n + xd) / (2 * xd)))
 nearest_unit n xd d p =
@@ -101,7 +101,7 @@ nearest_unit n xd d p =
     nearest_quotient n xd 1 d ((2 * d * n + xd) / (2 * xd)) (ap (λ e. (2 * d * n + e) / (2 * e)) (sym one)) p
     (omega arith)
 
--- the same as a distance: twice the way from a steps to x is from minus one step up to, and not at, one step
+-- Nearest, as a distance: twice the way from a steps to x is from minus one step up to, and not at, one step.
 pub nearest_distance : (x : Fraction) (w d : ℕ) (a : ℤ) →
     IsNearest x (step_of w d) a ↔
     ((neg_ℤ (pos (x.den * w)) ≤ℤ (pos 2 *ℤ (pos d *ℤ x.num -ℤ pos (x.den * w) *ℤ a)))

@@ -44,7 +44,7 @@ after_parts n (y ∷ ys) =
     let none = after_parts (0 * 256 + y) ys in
     rw wide (omega (arith, more, none))
 
--- the same power to either base
+-- one power to either base
 pow_256 : (k : ℕ) → 256 ^ k ≡ 2 ^ (8 * k)
 pow_256 zero = refl
 pow_256 (suc k) =

@@ -8,7 +8,7 @@ pub no_common_place : (start len first count : ℕ) → (start + len ≤ first) 
 no_common_place start len first count (inl before) place from below first_from first_below = absurd (omega arith)
 no_common_place start len first count (inr after) place from below first_from first_below = absurd (omega arith)
 
--- and where none is, the one ends before the other begins
+-- where no place is common, one range ends before the other begins
 pub ends_before : (start len first count : ℕ) → 0 < len → 0 < count
     → ((place : ℕ) → start ≤ place → place < start + len → first ≤ place → place < first + count → ⊥)
     → (start + len ≤ first) ⊎ (first + count ≤ start)

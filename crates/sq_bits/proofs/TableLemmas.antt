@@ -48,7 +48,7 @@ IsRemainder-of_byte b small =
 table_is : REMAINDERS ≡ map of_byte (range_with_len 0 256)
 table_is = refl
 
--- that the table is this
+-- each entry of the table is the remainder of its byte
 pub IsRemainder-entry : (b : ℕ) → b < 256 → IsRemainder (b * 2 ^ 24) (get_or REMAINDERS b 0)
 IsRemainder-entry b small =
     let entry : get_or REMAINDERS b 0 ≡ of_byte b

@@ -11,11 +11,11 @@ use Rattle.sq_cpr.specs.Grid.{Point, codes_of_zone, lat_zones, grid_latitude}
 use Rattle.sq_cpr.specs.Near.{angle_at}
 
 -- x - y, changed by so many turns of so many degrees
-abbrev pub difference : ℕ → Fraction → Fraction → ℤ → Fraction
+abbrev pub difference : (degrees : ℕ) → (x y : Fraction) → (turns : ℤ) → Fraction
 difference degrees x y turns = plus (minus x y) (record { num = pos degrees *ℤ turns; den = 1 })
 
 -- how far close angles may lie apart: the span over twice the product of both numbers of zones
-abbrev pub closeness : ℕ → ℕ → ℕ → Fraction
+abbrev pub closeness : (degrees even_zones odd_zones : ℕ) → Fraction
 closeness degrees even_zones odd_zones = record { num = pos degrees; den = 2 * even_zones * odd_zones }
 
 -- The angle of the even index p and that of the odd index q are close: -k ≤ p - q < k, changed by some whole number of
@@ -34,19 +34,19 @@ pub record IsClosePair (degrees even_zones odd_zones even odd : ℕ) (p q : ℤ)
   pub close : IsClose degrees even_zones odd_zones p q
 
 -- latitudes are close by 60 and 59 zones
-abbrev pub AreCloseLatitudes : ℕ → ℤ → ℤ → Type 0
+abbrev pub AreCloseLatitudes : (degrees : ℕ) → (p q : ℤ) → Type 0
 AreCloseLatitudes degrees p q = IsClose degrees (lat_zones Even) (lat_zones Odd) p q
 
 -- the zone count of a latitude index
-abbrev pub count_at : ℕ → Parity → ℤ → ℕ
+abbrev pub count_at : (degrees : ℕ) → Parity → (lat_index : ℤ) → ℕ
 count_at degrees parity lat_index = zones_at (grid_latitude degrees parity lat_index)
 
 -- the longitude zones of a parity where the zone count is `count`: one less for odd, and at least one
-abbrev pub zones_of : Parity → ℕ → ℕ
+abbrev pub zones_of : Parity → (count : ℕ) → ℕ
 zones_of parity count = max (count - parity_index parity) 1
 
 -- both latitudes have one zone count
-abbrev pub HaveOneCount : ℕ → ℤ → ℤ → Type 0
+abbrev pub HaveOneCount : (degrees : ℕ) → (p q : ℤ) → Type 0
 HaveOneCount degrees p q = count_at degrees Even p ≡ count_at degrees Odd q
 
 -- an even and an odd point are close: in both coordinates, with one zone count

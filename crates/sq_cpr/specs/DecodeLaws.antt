@@ -15,7 +15,7 @@ use Rattle.sq_cpr.specs.Near.{IsNear, IsStrictlyNear, IsRepresentative, half_zon
 use Rattle.sq_cpr.specs.Close.{IsClose, IsClosePair, zones_of, AreClosePoints, AreTamePoints}
 use Rattle.sq_cpr.specs.Multiplied.{LiesWithin, LiesStrictlyWithin, LiesClose}
 use Rattle.sq_cpr.specs.Local.{IsNearLatitude, LocalAnswer}
-use Rattle.sq_cpr.specs.Pair.{of_parity, HaveTwoCounts, AirPairAnswer, PairAnswer, PairAnswerAt}
+use Rattle.sq_cpr.specs.Pair.{CodePair, of_parity, HaveTwoCounts, AirPairAnswer, PairAnswer, PairAnswerAt}
 use Rattle.sq_cpr.specs.Rounds.{PositionRoundsTo}
 use Rattle.sq_cpr.specs.Slow.{AreSlow, AreSlowForFollowing, AreWithin, IsPointWithin}
 
@@ -84,12 +84,13 @@ pub record IndexPair : Type 0 where
   pub even : ℕ
   pub odd : ℕ
 
--- Any two codes have exactly one close pair on grids of n and of m zones. Angles that differ by whole spans count as
+-- Any two codes have exactly one close pair on an even and an odd grid. Angles that differ by whole spans count as
 -- one: each index is below the steps of a span.
-abbrev pub HaveOneClosePair : ℕ → ℕ → ℕ → Type 0
-HaveOneClosePair degrees n m =
-    (even odd : ℕ) → ExactlyOne (λ (pair : IndexPair). (pair.even < n * codes_of_zone) × (pair.odd < m * codes_of_zone)
-    × IsClosePair degrees n m even odd (pos pair.even) (pos pair.odd))
+abbrev pub HaveOneClosePair : (degrees even_zones odd_zones : ℕ) → Type 0
+HaveOneClosePair degrees even_zones odd_zones =
+    (even odd : ℕ) → ExactlyOne (λ (pair : IndexPair). (pair.even < even_zones * codes_of_zone)
+    × (pair.odd < odd_zones * codes_of_zone)
+    × IsClosePair degrees even_zones odd_zones even odd (pos pair.even) (pos pair.odd))
 
 abbrev pub OneCloseLatitudes : Span → Type 0
 OneCloseLatitudes span = HaveOneClosePair span.degrees (lat_zones Even) (lat_zones Odd)
@@ -105,43 +106,43 @@ OneZoneIsClose span = (p q : ℤ) → IsClose span.degrees 1 1 p q
 -- decoding a pair has one answer
 abbrev pub OnePairAnswer : Span → Type 0
 OnePairAnswer span =
-    (even odd : CodeNumbers) (newest : Parity) (lat lon : Fraction) (answer other : Result Point PairFault)
+    (codes : CodePair) (lat lon : Fraction) (answer other : Result Point PairFault)
     → 0 < lat.den → 0 < lon.den
-    → PairAnswer span even odd newest lat lon answer
-    → PairAnswer span even odd newest lat lon other → answer ≡ other
+    → PairAnswer span codes lat lon answer
+    → PairAnswer span codes lat lon other → answer ≡ other
 
 abbrev pub OneAirPairAnswer : Type 0
 OneAirPairAnswer =
-    (even odd : CodeNumbers) (newest : Parity) (answer other : Result Point PairFault)
-    → AirPairAnswer even odd newest answer → AirPairAnswer even odd newest other → answer ≡ other
+    (codes : CodePair) (answer other : Result Point PairFault)
+    → AirPairAnswer codes answer → AirPairAnswer codes other → answer ≡ other
 
 -- the decoded point has the newest code and parity
 abbrev pub PairKeepsCode : Span → Type 0
 PairKeepsCode span =
-    (even odd : CodeNumbers) (newest : Parity) (lat lon : Fraction) (point : Point)
-    → PairAnswer span even odd newest lat lon (Ok point) → (point.parity ≡ newest)
-    × HasCode point (of_parity newest even odd)
+    (codes : CodePair) (lat lon : Fraction) (point : Point)
+    → PairAnswer span codes lat lon (Ok point) → (point.parity ≡ codes.newest)
+    × HasCode point (of_parity codes.newest codes.even codes.odd)
 
 abbrev pub AirPairKeepsCode : Type 0
 AirPairKeepsCode =
-    (even odd : CodeNumbers) (newest : Parity) (point : Point)
-    → AirPairAnswer even odd newest (Ok point) → (point.parity ≡ newest) × HasCode point (of_parity newest even odd)
+    (codes : CodePair) (point : Point)
+    → AirPairAnswer codes (Ok point) → (point.parity ≡ codes.newest) × HasCode point (of_parity codes.newest codes.even codes.odd)
 
 -- close points in the air are answered by the newest
 abbrev pub CloseAirPointsAreAnswered : Type 0
 CloseAirPointsAreAnswered =
-    (even odd : CodeNumbers) (newest : Parity) (answer : Result Point PairFault) (a b : Point)
-    → AirPairAnswer even odd newest answer → IsGridPoint air a → IsGridPoint air b → HasCode a even → HasCode b odd
-    → AreClosePoints air a b → answer ≡ Ok (of_parity newest a b)
+    (codes : CodePair) (answer : Result Point PairFault) (a b : Point)
+    → AirPairAnswer codes answer → IsGridPoint air a → IsGridPoint air b → HasCode a codes.even → HasCode b codes.odd
+    → AreClosePoints air a b → answer ≡ Ok (of_parity codes.newest a b)
 
 -- close points on the ground are answered by the newest, where both lie less than 45 degrees from the site
 abbrev pub CloseGroundPointsAreAnswered : Type 0
 CloseGroundPointsAreAnswered =
-    (even odd : CodeNumbers) (newest : Parity) (site : Position) (answer : Result Point PairFault) (a b : Point)
-    → PairAnswerAt ground even odd newest site answer
-    → IsGridPoint ground a → IsGridPoint ground b → HasCode a even → HasCode b odd
+    (codes : CodePair) (site : Position) (answer : Result Point PairFault) (a b : Point)
+    → PairAnswerAt ground codes site answer
+    → IsGridPoint ground a → IsGridPoint ground b → HasCode a codes.even → HasCode b codes.odd
     → AreClosePoints ground a b → IsPointWithin 45 ground a site → IsPointWithin 45 ground b site
-    → answer ≡ Ok (of_parity newest a b)
+    → answer ≡ Ok (of_parity codes.newest a b)
 
 -- what tame points a and b are decoded to: the newest, or their zone counts, which differ; never out of range
 abbrev pub TameAnswer : Span → Parity → Point → Point → Result Point PairFault → Type 0
@@ -152,17 +153,17 @@ TameAnswer span newest a b (Err (ZoneCounts even_count odd_count)) =
 
 abbrev pub TameAirPointsAreAnswered : Type 0
 TameAirPointsAreAnswered =
-    (even odd : CodeNumbers) (newest : Parity) (answer : Result Point PairFault) (a b : Point)
-    → AirPairAnswer even odd newest answer → IsGridPoint air a → IsGridPoint air b → HasCode a even → HasCode b odd
-    → AreTamePoints air a b → TameAnswer air newest a b answer
+    (codes : CodePair) (answer : Result Point PairFault) (a b : Point)
+    → AirPairAnswer codes answer → IsGridPoint air a → IsGridPoint air b → HasCode a codes.even → HasCode b codes.odd
+    → AreTamePoints air a b → TameAnswer air codes.newest a b answer
 
 abbrev pub TameGroundPointsAreAnswered : Type 0
 TameGroundPointsAreAnswered =
-    (even odd : CodeNumbers) (newest : Parity) (site : Position) (answer : Result Point PairFault) (a b : Point)
-    → PairAnswerAt ground even odd newest site answer
-    → IsGridPoint ground a → IsGridPoint ground b → HasCode a even → HasCode b odd
+    (codes : CodePair) (site : Position) (answer : Result Point PairFault) (a b : Point)
+    → PairAnswerAt ground codes site answer
+    → IsGridPoint ground a → IsGridPoint ground b → HasCode a codes.even → HasCode b codes.odd
     → AreTamePoints ground a b → IsPointWithin 45 ground a site → IsPointWithin 45 ground b site
-    → TameAnswer ground newest a b answer
+    → TameAnswer ground codes.newest a b answer
 
 -- slow positions round to tame points
 abbrev pub SlowIsTame : Span → Type 0
@@ -194,10 +195,10 @@ SomeLocalAnswer span =
 -- decoding a pair at a place has an answer
 abbrev pub SomePairAnswer : Span → Type 0
 SomePairAnswer span =
-    (even odd : CodeNumbers) (newest : Parity) (lat lon : Fraction) → 0 < lat.den → 0 < lon.den
-    → (answer : Result Point PairFault) × PairAnswer span even odd newest lat lon answer
+    (codes : CodePair) (lat lon : Fraction) → 0 < lat.den → 0 < lon.den
+    → (answer : Result Point PairFault) × PairAnswer span codes lat lon answer
 
 -- decoding a pair in the air has an answer
 abbrev pub SomeAirPairAnswer : Type 0
-SomeAirPairAnswer = (even odd : CodeNumbers) (newest : Parity) → (answer : Result Point PairFault)
-    × AirPairAnswer even odd newest answer
+SomeAirPairAnswer = (codes : CodePair) → (answer : Result Point PairFault)
+    × AirPairAnswer codes answer

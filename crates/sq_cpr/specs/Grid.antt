@@ -16,7 +16,7 @@ pub record Point : Type 0 where
   pub lon_index : ℕ
 
 -- the point of these parts
-abbrev pub point_at : Parity → ℤ → ℕ → ℕ → Point
+abbrev pub point_at : Parity → (lat_index : ℤ) → (zones lon_index : ℕ) → Point
 point_at parity lat_index zones lon_index =
     record { parity = parity; lat_index = lat_index; zones = zones; lon_index = lon_index }
 
@@ -25,11 +25,11 @@ abbrev pub codes_of_zone : ℕ
 codes_of_zone = 2 ^ 17
 
 -- a number of steps of a grid
-abbrev pub steps : ℤ → Fraction → Fraction
+abbrev pub steps : (k : ℤ) → (step : Fraction) → Fraction
 steps k step = record { num = step.num *ℤ k; den = step.den }
 
 -- one step is a span over its zones and over the codes of a zone
-abbrev pub step : ℕ → ℕ → Fraction
+abbrev pub step : (degrees zones : ℕ) → Fraction
 step degrees zones = record { num = pos degrees; den = zones * codes_of_zone }
 
 -- the latitude zones of a parity: 60 even, 59 odd
@@ -37,15 +37,15 @@ abbrev pub lat_zones : Parity → ℕ
 lat_zones parity = 60 - parity_index parity
 
 -- the longitude steps of a circle of so many zones a span
-abbrev pub circle : ℕ → ℕ → ℕ
+abbrev pub circle : (zones repeats : ℕ) → ℕ
 circle zones repeats = zones * codes_of_zone * repeats
 
 -- the latitude of an index
-abbrev pub grid_latitude : ℕ → Parity → ℤ → Fraction
+abbrev pub grid_latitude : (degrees : ℕ) → Parity → (lat_index : ℤ) → Fraction
 grid_latitude degrees parity lat_index = steps lat_index (step degrees (lat_zones parity))
 
 -- the longitude of an index of the circle: so many steps, less 360 degrees from 180 up
-abbrev pub grid_longitude : ℕ → ℕ → ℕ → Fraction
+abbrev pub grid_longitude : (degrees zones lon_index : ℕ) → Fraction
 grid_longitude degrees zones lon_index =
     let den = zones * codes_of_zone in
     let num = degrees * lon_index in
@@ -58,7 +58,7 @@ abbrev pub longitude : Span → Point → Fraction
 longitude span point = grid_longitude span.degrees point.zones point.lon_index
 
 -- the latitude of the index lies in -90 to 90
-abbrev pub IsLatitude : ℕ → Parity → ℤ → Type 0
+abbrev pub IsLatitude : (degrees : ℕ) → Parity → (lat_index : ℤ) → Type 0
 IsLatitude degrees parity lat_index = IsWithin 90 (grid_latitude degrees parity lat_index)
 
 -- a point of the grid: its latitude is one, its zones are those of its own latitude, and its longitude index is on the
@@ -69,7 +69,7 @@ pub record IsGridPoint (span : Span) (point : Point) : Type 0 where
   pub east_west : point.lon_index < circle point.zones span.repeats
 
 -- the grid has a point with these indices
-abbrev pub HasPoint : Span → Parity → ℤ → ℕ → Type 0
+abbrev pub HasPoint : Span → Parity → (lat_index : ℤ) → (lon_index : ℕ) → Type 0
 HasPoint span parity lat_index lon_index =
     (zones : ℕ) × IsGridPoint span (point_at parity lat_index zones lon_index)
 

@@ -27,7 +27,7 @@ pub record IsLocalPoint (span : Span) (code : CodeNumbers) (parity : Parity) (la
   pub near : IsNearPoint span lat lon point
 
 -- what a code is decoded to near (lat, lon): such a point, or that the near latitude lies outside -90 to 90
-abbrev pub LocalAnswer : Span → CodeNumbers → Parity → Fraction → Fraction → Result Point LocalFault → Type 0
+abbrev pub LocalAnswer : Span → CodeNumbers → Parity → (lat lon : Fraction) → Result Point LocalFault → Type 0
 LocalAnswer span code parity lat lon (Ok point) = IsLocalPoint span code parity lat lon point
 LocalAnswer span code parity lat lon (Err OutOfRange) =
     (index : ℤ) × IsNearLatitude span.degrees parity lat code.lat index × ¬ IsLatitude span.degrees parity index

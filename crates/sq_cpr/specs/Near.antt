@@ -19,34 +19,34 @@ pub record IsStrictlyNear (h r x : Fraction) : Type 0 where
   pub below : x ≺ plus r h
 
 -- half a zone, of so many zones to a span
-abbrev pub half_zone : ℕ → ℕ → Fraction
+abbrev pub half_zone : (degrees zones : ℕ) → Fraction
 half_zone degrees zones = record { num = pos degrees; den = 2 * zones }
 
 -- half the degrees of a span
-abbrev pub half_span : ℕ → Fraction
+abbrev pub half_span : (degrees : ℕ) → Fraction
 half_span degrees = record { num = pos degrees; den = 2 }
 
 -- of the angles that differ by whole spans, x is the one that represents them at r: r - W/2 < x ≤ r + W/2
-abbrev pub IsRepresentative : ℕ → Fraction → Fraction → Type 0
+abbrev pub IsRepresentative : (degrees : ℕ) → (r x : Fraction) → Type 0
 IsRepresentative degrees r x = IsNear (half_span degrees) r x
 
 -- the angle of an index of so many zones to a span
-abbrev pub angle_at : ℕ → ℕ → ℤ → Fraction
+abbrev pub angle_at : (degrees zones : ℕ) → (index : ℤ) → Fraction
 angle_at degrees zones index = steps index (step degrees zones)
 
 -- Some angle that differs from that of the index by whole turns of 360 degrees has the property: a turn is the circle's
 -- steps.
-abbrev pub OnSomeTurn : ℕ → ℕ → (ℤ → Type 0) → Type 0
+abbrev pub OnSomeTurn : (circle index : ℕ) → (ℤ → Type 0) → Type 0
 OnSomeTurn circle index P = (turned : ℤ) × IsCongruent circle turned (pos index) × P turned
 
 -- the longitude of the index is near, modulo 360 degrees: within half a longitude zone
-abbrev pub IsNearLongitude : Span → ℕ → Fraction → ℕ → Type 0
+abbrev pub IsNearLongitude : Span → (zones : ℕ) → (lon : Fraction) → (index : ℕ) → Type 0
 IsNearLongitude span zones lon index =
     OnSomeTurn (circle zones span.repeats) index
     (λ turned. IsNear (half_zone span.degrees zones) lon (angle_at span.degrees zones turned))
 
 -- the longitude of the index lies less than half a zone from `lon`, with both ends of the interval left out
-abbrev pub IsStrictlyNearLongitude : Span → ℕ → Fraction → ℕ → Type 0
+abbrev pub IsStrictlyNearLongitude : Span → (zones : ℕ) → (lon : Fraction) → (index : ℕ) → Type 0
 IsStrictlyNearLongitude span zones lon index =
     OnSomeTurn (circle zones span.repeats) index
     (λ turned. IsStrictlyNear (half_zone span.degrees zones) lon (angle_at span.degrees zones turned))

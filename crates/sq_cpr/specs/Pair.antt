@@ -17,12 +17,21 @@ use Rattle.sq_cpr.specs.Near.{IsRepresentative, angle_at}
 use Rattle.sq_cpr.specs.Close.{IsClosePair, count_at, zones_of, HaveOneCount}
 
 -- the one of the parity
-abbrev pub of_parity : {A : Type 0} → Parity → A → A → A
+abbrev pub of_parity : {A : Type 0} → Parity → (even odd : A) → A
 of_parity Even even odd = even
 of_parity Odd even odd = odd
 
+-- an even and an odd code, and the parity of the newer
+pub record CodePair : Type 0 where
+  pub even : CodeNumbers
+  pub odd : CodeNumbers
+  pub newest : Parity
+
+abbrev pub code_pair : (even odd : CodeNumbers) (newest : Parity) → CodePair
+code_pair even odd newest = record { even = even; odd = odd; newest = newest }
+
 -- p and q are the latitude indices of a close pair with these codes
-abbrev pub AreLatitudes : ℕ → CodeNumbers → CodeNumbers → ℤ → ℤ → Type 0
+abbrev pub AreLatitudes : (degrees : ℕ) → (even odd : CodeNumbers) → (p q : ℤ) → Type 0
 AreLatitudes degrees even odd p q = IsClosePair degrees (lat_zones Even) (lat_zones Odd) even.lat odd.lat p q
 
 -- both latitudes lie in -90 to 90
@@ -37,21 +46,21 @@ pub record AreAt (degrees : ℕ) (lat : Fraction) (p q : ℤ) : Type 0 where
 
 -- The newest point of a close pair with these codes: both latitudes lie in -90 to 90 and have one zone count, and the
 -- longitudes are close by the zones of that count.
-pub record IsPointOfPair (span : Span) (even odd : CodeNumbers) (newest : Parity) (point : Point) : Type 0 where
+pub record IsPointOfPair (span : Span) (codes : CodePair) (point : Point) : Type 0 where
   pub even_lat : ℤ
   pub odd_lat : ℤ
   pub even_lon : ℤ
   pub odd_lon : ℤ
-  pub latitudes : AreLatitudes span.degrees even odd even_lat odd_lat
+  pub latitudes : AreLatitudes span.degrees codes.even codes.odd even_lat odd_lat
   pub in_range : AreInRange span.degrees even_lat odd_lat
   pub counts : HaveOneCount span.degrees even_lat odd_lat
   pub longitudes : IsClosePair span.degrees (zones_of Even (count_at span.degrees Even even_lat))
-      (zones_of Odd (count_at span.degrees Even even_lat)) even.lon odd.lon even_lon odd_lon
+      (zones_of Odd (count_at span.degrees Even even_lat)) codes.even.lon codes.odd.lon even_lon odd_lon
   pub of_grid : IsGridPoint span point
-  pub parity : point.parity ≡ newest
-  pub lat_index : point.lat_index ≡ of_parity newest even_lat odd_lat
+  pub parity : point.parity ≡ codes.newest
+  pub lat_index : point.lat_index ≡ of_parity codes.newest even_lat odd_lat
   pub lon_index : IsCongruent (circle point.zones span.repeats) (pos point.lon_index)
-      (of_parity newest even_lon odd_lon)
+      (of_parity codes.newest even_lon odd_lon)
 
 -- both latitudes lie in -90 to 90, and their zone counts are these two, which differ
 pub record HaveTwoCounts (degrees : ℕ) (p q : ℤ) (even_count odd_count : ℕ) : Type 0 where
@@ -62,34 +71,31 @@ pub record HaveTwoCounts (degrees : ℕ) (p q : ℤ) (even_count odd_count : ℕ
 
 -- What a pair of codes in the air is decoded to: the newest point of the close pair; or that the close latitudes are
 -- not both in -90 to 90; or their two zone counts.
-abbrev pub AirPairAnswer : CodeNumbers → CodeNumbers → Parity → Result Point PairFault → Type 0
-AirPairAnswer even odd newest (Ok point) = IsPointOfPair air even odd newest point
-AirPairAnswer even odd newest (Err OutOfRange) =
-    (p q : ℤ) → AreLatitudes air.degrees even odd p q → ¬ AreInRange air.degrees p q
-AirPairAnswer even odd newest (Err (ZoneCounts even_count odd_count)) =
-    (p q : ℤ) × AreLatitudes air.degrees even odd p q × HaveTwoCounts air.degrees p q even_count odd_count
+abbrev pub AirPairAnswer : CodePair → Result Point PairFault → Type 0
+AirPairAnswer codes (Ok point) = IsPointOfPair air codes point
+AirPairAnswer codes (Err OutOfRange) =
+    (p q : ℤ) → AreLatitudes air.degrees codes.even codes.odd p q → ¬ AreInRange air.degrees p q
+AirPairAnswer codes (Err (ZoneCounts even_count odd_count)) = (p q : ℤ)
+    × AreLatitudes air.degrees codes.even codes.odd p q × HaveTwoCounts air.degrees p q even_count odd_count
 
 -- the newest point of the close pair, each coordinate by its representative at the place
-pub record IsPointOfPairAt (span : Span) (even odd : CodeNumbers) (newest : Parity) (lat lon : Fraction)
-    (point : Point) : Type 0 where
-  pub of_pair : IsPointOfPair span even odd newest point
+pub record IsPointOfPairAt (span : Span) (codes : CodePair) (lat lon : Fraction) (point : Point) : Type 0 where
+  pub of_pair : IsPointOfPair span codes point
   pub lat_at : AreAt span.degrees lat of_pair.even_lat of_pair.odd_lat
   pub lon_at : IsRepresentative span.degrees lon
-      (angle_at span.degrees point.zones (of_parity newest of_pair.even_lon of_pair.odd_lon))
+      (angle_at span.degrees point.zones (of_parity codes.newest of_pair.even_lon of_pair.odd_lon))
 
 -- What a pair of codes is decoded to at the place (lat, lon): each latitude by its representative there, whatever the
 -- other's is.
-abbrev pub PairAnswer : Span → CodeNumbers → CodeNumbers → Parity → Fraction → Fraction → Result Point PairFault
-    → Type 0
-PairAnswer span even odd newest lat lon (Ok point) =
-    IsPointOfPairAt span even odd newest lat lon point
-PairAnswer span even odd newest lat lon (Err OutOfRange) =
-    (p q : ℤ) × AreLatitudes span.degrees even odd p q × AreAt span.degrees lat p q × ¬ AreInRange span.degrees p q
-PairAnswer span even odd newest lat lon (Err (ZoneCounts even_count odd_count)) =
-    (p q : ℤ) × AreLatitudes span.degrees even odd p q × AreAt span.degrees lat p q
+abbrev pub PairAnswer : Span → CodePair → (lat lon : Fraction) → Result Point PairFault → Type 0
+PairAnswer span codes lat lon (Ok point) = IsPointOfPairAt span codes lat lon point
+PairAnswer span codes lat lon (Err OutOfRange) = (p q : ℤ) × AreLatitudes span.degrees codes.even codes.odd p q
+    × AreAt span.degrees lat p q × ¬ AreInRange span.degrees p q
+PairAnswer span codes lat lon (Err (ZoneCounts even_count odd_count)) = (p q : ℤ)
+    × AreLatitudes span.degrees codes.even codes.odd p q × AreAt span.degrees lat p q
     × HaveTwoCounts span.degrees p q even_count odd_count
 
 -- what a pair of codes is decoded to at a position
-abbrev pub PairAnswerAt : Span → CodeNumbers → CodeNumbers → Parity → Position → Result Point PairFault → Type 0
-PairAnswerAt span even odd newest place answer =
-    PairAnswer span even odd newest (degrees_of (lat_of place)) (degrees_of (lon_of place)) answer
+abbrev pub PairAnswerAt : Span → CodePair → Position → Result Point PairFault → Type 0
+PairAnswerAt span codes place answer =
+    PairAnswer span codes (degrees_of (lat_of place)) (degrees_of (lon_of place)) answer

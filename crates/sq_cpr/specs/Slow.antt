@@ -16,15 +16,15 @@ pub record IsSmallerThan (limit d : Fraction) : Type 0 where
   pub below : d ≺ limit
 
 -- x and y differ by less than the limit
-abbrev pub DifferByLess : Fraction → Fraction → Fraction → Type 0
+abbrev pub DifferByLess : (limit x y : Fraction) → Type 0
 DifferByLess limit x y = IsSmallerThan limit (minus x y)
 
 -- x and y differ by less than the limit, modulo 360 degrees
-abbrev pub DifferByLessAround : Fraction → Fraction → Fraction → Type 0
+abbrev pub DifferByLessAround : (limit x y : Fraction) → Type 0
 DifferByLessAround limit x y = (turns : ℤ) × IsSmallerThan limit (difference 360 x y turns)
 
 -- how far slow positions may lie apart: the closeness of the angles to which they round, less the odd grid's step
-abbrev pub slow_limit : ℕ → ℕ → ℕ → Fraction
+abbrev pub slow_limit : (degrees even_zones odd_zones : ℕ) → Fraction
 slow_limit degrees even_zones odd_zones = minus (closeness degrees even_zones odd_zones) (step degrees odd_zones)
 
 -- The true positions x and y, which round to a and to b, are slow: their latitudes, and where the points have one zone
@@ -37,7 +37,7 @@ pub record AreSlow (span : Span) (a b : Point) (x y : Position) : Type 0 where
 
 -- how far positions that are slow for following may lie apart: half a zone of the larger number of zones, less a step
 -- of the smaller
-abbrev pub following_limit : ℕ → ℕ → ℕ → Fraction
+abbrev pub following_limit : (degrees larger smaller : ℕ) → Fraction
 following_limit degrees larger smaller = minus (half_zone degrees larger) (step degrees smaller)
 
 -- The true positions x and y, which round to a and to b, are slow for following. The latitudes are held against the

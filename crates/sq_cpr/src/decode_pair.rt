@@ -9,7 +9,7 @@ ghost use Rattle.sq_cpr.specs.Near.{angle_at as angle_of_index};
 ghost use Rattle.sq_cpr.specs.Close.{IsClosePair};
 ghost use Rattle.sq_cpr.specs.Close.{zones_of as zones_of_count};
 ghost use Rattle.sq_cpr.specs.Span.{ground};
-ghost use Rattle.sq_cpr.specs.Pair.{of_parity, AreLatitudes, AreAt, AirPairAnswer, PairAnswerAt};
+ghost use Rattle.sq_cpr.specs.Pair.{code_pair, of_parity, AreLatitudes, AreAt, AirPairAnswer, PairAnswerAt};
 
 use crate::code::Code;
 use crate::faults::PairFault;
@@ -121,7 +121,7 @@ fn pair<S: Span>(
     newest: Parity,
     place: &Position,
 ) -> Result<GridPoint<S>, PairFault>
-    ensures { PairAnswerAt S.span (numbers_of even) (numbers_of odd) newest place.now result }
+    ensures { PairAnswerAt S.span (code_pair (numbers_of even) (numbers_of odd) newest) place.now result }
 {
     let span = degrees_of::<S>();
     let lats = close_latitudes(span, even, odd, &place.lat());
@@ -158,7 +158,7 @@ fn origin() -> Position
 /// `ZoneCounts` exactly where their zone counts differ, the even one's first. RTCA DO-260B, appendix on compact
 /// position reporting, globally unambiguous airborne decoding.
 pub fn pair_air(even: Code, odd: Code, newest: Parity) -> Result<GridPoint<Air>, PairFault>
-    ensures { AirPairAnswer (numbers_of even) (numbers_of odd) newest result }
+    ensures { AirPairAnswer (code_pair (numbers_of even) (numbers_of odd) newest) result }
 {
     pair::<Air>(even, odd, newest, &origin())
 }
@@ -177,7 +177,7 @@ pub fn pair_ground(
     newest: Parity,
     site: &Position,
 ) -> Result<GridPoint<Ground>, PairFault>
-    ensures { PairAnswerAt ground (numbers_of even) (numbers_of odd) newest site.now result }
+    ensures { PairAnswerAt ground (code_pair (numbers_of even) (numbers_of odd) newest) site.now result }
 {
     pair::<Ground>(even, odd, newest, site)
 }

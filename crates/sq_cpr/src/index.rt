@@ -8,7 +8,7 @@ ghost use Rattle.sq_angle.specs.Fraction.{IsWithin};
 ghost use Rattle.sq_angle.specs.Nearest.{IsNearest};
 ghost use Rattle.sq_angle.specs.Whole.{IsCongruent};
 ghost use Rattle.sq_cpr.specs.Grid.{codes_of_zone, circle, step};
-ghost use Rattle.sq_cpr.specs.Multiplied.{apart, LiesWithin, IsZone};
+ghost use Rattle.sq_cpr.specs.Multiplied.{apart, LiesWithin, IsZoneIndex};
 
 use crate::code::CODES;
 use sq_angle::Angle;
@@ -125,7 +125,7 @@ pub(crate) fn pair_zone(even_zones: u8, odd_zones: u8, even: u32, odd: u32) -> i
     requires odd_zones_small { odd_zones ≤ 60 }
     requires even_small { even < 2 ^ 17 }
     requires odd_small { odd < 2 ^ 17 }
-    ensures zone { IsZone even_zones odd_zones even odd result }
+    ensures zone { IsZoneIndex even_zones odd_zones even odd result }
     ensures small { unsigned_abs result < 2 ^ 24 }
 {
     let above = odd_zones as u64 * even as u64;

@@ -18,7 +18,7 @@ use Rattle.sq_message.specs.declared.place.Place.{Place}
 use Rattle.sq_message.specs.declared.place.Place.TheVariants.{Air, Ground}
 use Rattle.sq_message.specs.declared.place.PlaceFault.{PlaceFault}
 use Rattle.sq_message.specs.Parts.{squitter_parts}
-use Rattle.sq_message.specs.Places.{place_of, of_local, of_pair, even_of, odd_of, IsLocalPlace, IsAirPairPlace, IsGroundPairPlace, NeedsTwoParities, IsPlaceOfOneAddress}
+use Rattle.sq_message.specs.Places.{place_of, of_local, of_pair, pair_by_parity, IsLocalPlace, IsAirPairPlace, IsGroundPairPlace, NeedsTwoParities, IsPlaceOfOneAddress}
 use Rattle.sq_message.specs.Headline.{OneLocalPlace, OnePairPlace}
 use Rattle.sq_message.proofs.PlaceLemmas.{past_or_fault}
 
@@ -51,17 +51,15 @@ one_of_parities Odd Odd x y A B one h k = h.0 refl ∙ sym (k.0 refl)
 
 one_in_air : (o n : Airborne) (x y : Result Place PlaceFault) → IsAirPairPlace o n x → IsAirPairPlace o n y → x ≡ y
 one_in_air o n x y (found, h, is) (other, k, be) =
-    let even = even_of n.parity (numbers_of o.code) (numbers_of n.code) in
-    let odd = odd_of n.parity (numbers_of o.code) (numbers_of n.code) in
-    is ∙ ap (place_of Air of_pair) (one_air_pair_answer even odd n.parity found other h k) ∙ sym be
+    let codes = pair_by_parity n.parity o.code n.code in
+    is ∙ ap (place_of Air of_pair) (one_air_pair_answer codes found other h k) ∙ sym be
 
 one_on_ground : (o n : Surface) (site : Option Position) (x y : Result Place PlaceFault) → IsGroundPairPlace o n site x
     → IsGroundPairPlace o n site y → x ≡ y
 one_on_ground o n None x y h k = h ∙ sym k
 one_on_ground o n (Some site) x y (found, h, is) (other, k, be) =
-    let even = even_of n.parity (numbers_of o.code) (numbers_of n.code) in
-    let odd = odd_of n.parity (numbers_of o.code) (numbers_of n.code) in
-    let same = one_pair_answer ground refl even odd n.parity (degrees (lat_of site)) (degrees (lon_of site)) found other
+    let codes = pair_by_parity n.parity o.code n.code in
+    let same = one_pair_answer ground refl codes (degrees (lat_of site)) (degrees (lon_of site)) found other
     site.lat.in_range.positive site.lon.in_range.positive h k in
     is ∙ ap (place_of Ground of_pair) same ∙ sym be
 

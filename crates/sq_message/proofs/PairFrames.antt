@@ -4,7 +4,6 @@ use Rattle.sq_angle.specs.declared.position.Position.{Position}
 use Rattle.sq_zones.specs.declared.parity.Parity.{Parity}
 use Rattle.sq_zones.specs.declared.parity.Parity.TheVariants.{Even, Odd}
 use Rattle.sq_cpr.specs.declared.code.Code.{Code}
-use Rattle.sq_cpr.specs.Code.{numbers_of}
 use Rattle.sq_cpr.specs.Span.{ground}
 use Rattle.sq_cpr.specs.Grid.{Point, IsGridPoint, HasCode}
 use Rattle.sq_cpr.specs.Close.{AreClosePoints}
@@ -17,7 +16,7 @@ use Rattle.sq_message.specs.declared.place.Place.TheVariants.{Air, Ground}
 use Rattle.sq_message.specs.declared.place.PlaceFault.{PlaceFault}
 use Rattle.sq_message.specs.Kinds.{Kind, HeadParts, InAir, OnGround, me_of, place_at, span_of}
 use Rattle.sq_message.specs.Parts.{squitter_parts}
-use Rattle.sq_message.specs.Places.{IsPlaceOfOneAddress, IsPairPlace, IsPosition, even_of, odd_of, of_pair, place_of}
+use Rattle.sq_message.specs.Places.{IsPlaceOfOneAddress, IsPairPlace, IsPosition, of_pair, pair_by_parity, place_of}
 use Rattle.sq_message.specs.Headline.{ClosePair, LieAt}
 use Rattle.sq_message.proofs.One.{read_exactly}
 use Rattle.sq_message.proofs.PlaceLemmas.{has_code}
@@ -51,28 +50,23 @@ kindred older newer m n site answer is_m is_n first second address h =
 decoded_close : (kind : Kind) (site : Option Position) (first second : HeadParts kind) (p q newest : Parity)
     (c d : Code) (answer : Result Place PlaceFault) (a b : Point)
     → p ≢ q → q ≡ newest → IsGridPoint (span_of kind) a → IsGridPoint (span_of kind) b
-    → HasCode a (even_of newest (numbers_of c) (numbers_of d))
-    → HasCode b (odd_of newest (numbers_of c) (numbers_of d))
+    → HasCode a (pair_by_parity newest c d).even
+    → HasCode b (pair_by_parity newest c d).odd
     → AreClosePoints (span_of kind) a b → LieAt kind site a b
     → IsPlaceOfOneAddress (me_of kind first p c) (me_of kind second q d) site answer
     → answer ≡ Ok (place_at kind (of_parity newest a b))
 decoded_close InAir site first second p q newest c d answer a b differ at a_is b_is a_code b_code near lie h =
     let (found, decoded, is) = h.1 differ in
-    let even = λ (r : Parity). even_of r (numbers_of c) (numbers_of d) in
-    let odd = λ (r : Parity). odd_of r (numbers_of c) (numbers_of d) in
-    let there = subst (λ r. AirPairAnswer (even r) (odd r) r found) at decoded in
+    let there = subst (λ r. AirPairAnswer (pair_by_parity r c d) found) at decoded in
     is ∙ ap (place_of Air of_pair)
-    (close_air_points_are_answered (even newest) (odd newest) newest found a b there a_is b_is a_code b_code near)
+    (close_air_points_are_answered (pair_by_parity newest c d) found a b there a_is b_is a_code b_code near)
 decoded_close OnGround None first second p q newest c d answer a b differ at a_is b_is a_code b_code near lie h =
     absurd lie
 decoded_close OnGround (Some site) first second p q newest c d answer a b differ at a_is b_is a_code b_code near lie h =
     let (found, decoded, is) = h.1 differ in
-    let even = λ (r : Parity). even_of r (numbers_of c) (numbers_of d) in
-    let odd = λ (r : Parity). odd_of r (numbers_of c) (numbers_of d) in
-    let there = subst (λ r. PairAnswerAt ground (even r) (odd r) r site found) at decoded in
+    let there = subst (λ r. PairAnswerAt ground (pair_by_parity r c d) site found) at decoded in
     is ∙ ap (place_of Ground of_pair)
-    (close_ground_points_are_answered (even newest)
-    (odd newest) newest site found a b there a_is b_is a_code b_code near lie.0 lie.1)
+    (close_ground_points_are_answered (pair_by_parity newest c d) site found a b there a_is b_is a_code b_code near lie.0 lie.1)
 
 pub close_pair : (kind : Kind) → ClosePair kind
 close_pair kind even_head odd_head x y a b even odd Even site address h k near lie earlier later first second = (

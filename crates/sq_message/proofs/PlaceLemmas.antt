@@ -25,7 +25,7 @@ use Rattle.sq_message.specs.declared.place.Place.{Place}
 use Rattle.sq_message.specs.declared.place.Place.TheVariants.{Air, Ground}
 use Rattle.sq_message.specs.declared.place.PlaceFault.{PlaceFault}
 use Rattle.sq_message.specs.Parts.{SquitterParts}
-use Rattle.sq_message.specs.Places.{place_of, of_local, of_pair, even_of, odd_of, IsPosition, IsLocalPlace, IsAirPairPlace, IsGroundPairPlace, NeedsTwoParities, IsPlaceOfOneAddress, IsPairPlace, IsDecoded}
+use Rattle.sq_message.specs.Places.{place_of, of_local, of_pair, pair_by_parity, IsPosition, IsLocalPlace, IsAirPairPlace, IsGroundPairPlace, NeedsTwoParities, IsPlaceOfOneAddress, IsPairPlace, IsDecoded}
 
 -- ---- places and points
 
@@ -118,8 +118,9 @@ pub record IsPointOf (span : Span) (code : CodeNumbers) (parity : Parity) (point
   pub has_code : HasCode point code
 
 -- the newer code of an even and an odd one
-newest_code : (newest : Parity) (older newer : CodeNumbers)
-    → of_parity newest (even_of newest older newer) (odd_of newest older newer) ≡ newer
+newest_code : (newest : Parity) (older newer : Code)
+    → of_parity newest (pair_by_parity newest older newer).even (pair_by_parity newest older newer).odd
+    ≡ numbers_of newer
 newest_code Even older newer = refl
 newest_code Odd older newer = refl
 
@@ -131,30 +132,27 @@ local_point span code parity lat lon found p is h =
     let here = subst (LocalAnswer span code parity lat lon) is h in
     record { of_grid = here.of_grid; of_parity = here.of_parity; has_code = here.has_code }
 
-air_pair_point : (newest : Parity) (older newer : CodeNumbers) (found : Result Point PairFault) (p : Point)
+air_pair_point : (newest : Parity) (older newer : Code) (found : Result Point PairFault) (p : Point)
     → found ≡ Ok p
-    → AirPairAnswer (even_of newest older newer) (odd_of newest older newer) newest found
-    → IsPointOf air newer newest p
+    → AirPairAnswer (pair_by_parity newest older newer) found → IsPointOf air (numbers_of newer) newest p
 air_pair_point newest older newer found p is h =
-    let even = even_of newest older newer in
-    let odd = odd_of newest older newer in
-    let here = subst (AirPairAnswer even odd newest) is h in
-    let kept = air_pair_keeps_code even odd newest p here in
+    let codes = pair_by_parity newest older newer in
+    let here = subst (AirPairAnswer codes) is h in
+    let kept = air_pair_keeps_code codes p here in
     record {
       of_grid = here.of_grid;
       of_parity = here.parity;
       has_code = subst (HasCode p) (newest_code newest older newer) kept.1;
     }
 
-ground_pair_point : (newest : Parity) (older newer : CodeNumbers) (lat lon : Fraction) (found : Result Point PairFault)
+ground_pair_point : (newest : Parity) (older newer : Code) (lat lon : Fraction) (found : Result Point PairFault)
     (p : Point) → found ≡ Ok p
-    → PairAnswer ground (even_of newest older newer) (odd_of newest older newer) newest lat lon found
-    → IsPointOf ground newer newest p
+    → PairAnswer ground (pair_by_parity newest older newer) lat lon found
+    → IsPointOf ground (numbers_of newer) newest p
 ground_pair_point newest older newer lat lon found p is h =
-    let even = even_of newest older newer in
-    let odd = odd_of newest older newer in
-    let here = subst (PairAnswer ground even odd newest lat lon) is h in
-    let kept = pair_keeps_code ground even odd newest lat lon p here in
+    let codes = pair_by_parity newest older newer in
+    let here = subst (PairAnswer ground codes lat lon) is h in
+    let kept = pair_keeps_code ground codes lat lon p here in
     record {
       of_grid = here.of_pair.of_grid;
       of_parity = here.of_pair.parity;
@@ -168,7 +166,7 @@ kindred_in_air : (older : Me) (newer : Airborne) (site : Option Position) (p : P
 kindred_in_air (kinds.Airborne older) newer site p h =
     let (found, decoded, is) = two_parities older.parity newer.parity (Air p)
     (IsAirPairPlace older newer (Ok (Air p))) h in
-    air_pair_point newer.parity (numbers_of older.code) (numbers_of newer.code) found p
+    air_pair_point newer.parity older.code newer.code found p
     (placed_in_air of_pair found p is) decoded
 kindred_in_air (kinds.Surface older) newer site p h = no_fault (Air p) _ h
 kindred_in_air (kinds.Other older) newer site p h = absurd h
@@ -178,7 +176,7 @@ ground_pair : (older newer : Surface) (site : Option Position) (p : Point)
     → IsGroundPairPlace older newer site (Ok (Ground p)) → IsPointOf ground (numbers_of newer.code) newer.parity p
 ground_pair older newer None p h = no_fault (Ground p) _ h
 ground_pair older newer (Some site) p (found, decoded, is) =
-    ground_pair_point newer.parity (numbers_of older.code) (numbers_of newer.code) (degrees (lat_of site))
+    ground_pair_point newer.parity older.code newer.code (degrees (lat_of site))
     (degrees (lon_of site)) found p (placed_on_ground of_pair found p is) decoded
 
 kindred_on_ground : (older : Me) (newer : Surface) (site : Option Position) (p : Point)
@@ -203,7 +201,7 @@ decoded_in_air squitter a p is (inr (older, site, h)) =
     kindred_in_air older.me a site p
     (subst (λ me. IsPlaceOfOneAddress older.me me site (Ok (Air p))) is (h.kindred here.positions here.address))
 
--- the same on the ground
+-- the point of a place on the ground that a squitter is decoded to has the squitter's code
 pub decoded_on_ground : (squitter : SquitterParts) (s : Surface) (p : Point) → squitter.me ≡ kinds.Surface s
     → IsDecoded squitter (Ground p)
     → IsPointOf ground (numbers_of s.code) s.parity p

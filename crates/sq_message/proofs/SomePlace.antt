@@ -17,25 +17,25 @@ use Rattle.sq_message.specs.declared.place.Place.{Place}
 use Rattle.sq_message.specs.declared.place.Place.TheVariants.{Air, Ground}
 use Rattle.sq_message.specs.declared.place.PlaceFault.{PlaceFault}
 use Rattle.sq_message.specs.declared.place.PlaceFault.TheVariants.{NotPosition, OtherAddress, OtherKind, SameParity, NoSite}
-use Rattle.sq_message.specs.Places.{place_of, of_local, of_pair, even_of, odd_of, IsPosition, IsLocalPlace, IsAirPairPlace, IsGroundPairPlace, NeedsTwoParities, IsPlaceOfOneAddress}
+use Rattle.sq_message.specs.Places.{place_of, of_local, of_pair, pair_by_parity, IsPosition, IsLocalPlace, IsAirPairPlace, IsGroundPairPlace, NeedsTwoParities, IsPlaceOfOneAddress}
 use Rattle.sq_message.specs.Headline.{SomeLocalPlace, SomePairPlace}
 use Rattle.sq_message.proofs.PlaceLemmas.{both_positions}
 
-some_near : (me : Me) (reference : Position) → (answer : Result Place PlaceFault) × IsLocalPlace me reference answer
-some_near (kinds.Airborne a) reference =
+pub some_local : (me : Me) (reference : Position) → (answer : Result Place PlaceFault) × IsLocalPlace me reference answer
+some_local (kinds.Airborne a) reference =
     let found = some_local_answer air refl (numbers_of a.code) a.parity (degrees (lat_of reference))
     (degrees (lon_of reference))
     reference.lat.in_range.positive reference.lon.in_range.positive in
     (place_of Air of_local found.0, (found.0, found.1, refl))
-some_near (kinds.Surface s) reference =
+some_local (kinds.Surface s) reference =
     let found = some_local_answer ground refl (numbers_of s.code) s.parity (degrees (lat_of reference))
     (degrees (lon_of reference))
     reference.lat.in_range.positive reference.lon.in_range.positive in
     (place_of Ground of_local found.0, (found.0, found.1, refl))
-some_near (kinds.Other o) reference = (Err NotPosition, refl)
+some_local (kinds.Other o) reference = (Err NotPosition, refl)
 
 pub some_local_place : SomeLocalPlace
-some_local_place q reference = some_near q.me reference
+some_local_place q reference = some_local q.me reference
 
 -- one parity has a fault, and two have what there is of them
 some_of_parities : (p q : Parity) (A : Result Place PlaceFault → Type 0)
@@ -50,16 +50,14 @@ some_of_parities Odd Odd A some =
 
 some_in_air : (o n : Airborne) → (answer : Result Place PlaceFault) × IsAirPairPlace o n answer
 some_in_air o n =
-    let found = some_air_pair_answer (even_of n.parity (numbers_of o.code) (numbers_of n.code))
-    (odd_of n.parity (numbers_of o.code) (numbers_of n.code)) n.parity in
+    let found = some_air_pair_answer (pair_by_parity n.parity o.code n.code) in
     (place_of Air of_pair found.0, (found.0, found.1, refl))
 
 some_on_ground : (o n : Surface) (site : Option Position)
     → (answer : Result Place PlaceFault) × IsGroundPairPlace o n site answer
 some_on_ground o n None = (Err NoSite, refl)
 some_on_ground o n (Some site) =
-    let found = some_pair_answer ground refl (even_of n.parity (numbers_of o.code) (numbers_of n.code))
-    (odd_of n.parity (numbers_of o.code) (numbers_of n.code)) n.parity
+    let found = some_pair_answer ground refl (pair_by_parity n.parity o.code n.code)
     (degrees (lat_of site)) (degrees (lon_of site)) site.lat.in_range.positive site.lon.in_range.positive in
     (place_of Ground of_pair found.0, (found.0, found.1, refl))
 

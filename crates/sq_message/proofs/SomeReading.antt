@@ -34,7 +34,7 @@ some_bit n small = elim (cases_eq n 1) [
   | inr other ↦ let none : n ≡ 0 = omega arith in (false, none)
 ]
 
--- and one of a parity
+-- a bit is that of a parity
 some_parity : (n : ℕ) → n < 2 → (p : Parity) × (n ≡ parity_index p)
 some_parity n small = elim (cases_eq n 1) [
   | inl one ↦ (Odd, one)

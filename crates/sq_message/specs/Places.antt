@@ -6,6 +6,7 @@ use Rattle.sq_angle.specs.Angle.{degrees}
 use Rattle.sq_angle.specs.Fraction.{Fraction}
 use Rattle.sq_angle.specs.Position.{lat_of, lon_of}
 use Rattle.sq_zones.specs.declared.parity.Parity.{Parity}
+use Rattle.sq_cpr.specs.declared.code.Code.{Code}
 use Rattle.sq_cpr.specs.declared.faults.LocalFault.{LocalFault}
 use Rattle.sq_cpr.specs.declared.faults.LocalFault.TheVariants as locals
 use Rattle.sq_cpr.specs.declared.faults.PairFault.{PairFault}
@@ -14,7 +15,7 @@ use Rattle.sq_cpr.specs.Code.{numbers_of}
 use Rattle.sq_cpr.specs.Span.{air, ground}
 use Rattle.sq_cpr.specs.Grid.{Point, latitude, longitude}
 use Rattle.sq_cpr.specs.Local.{LocalAnswerNear}
-use Rattle.sq_cpr.specs.Pair.{of_parity, AirPairAnswer, PairAnswerAt}
+use Rattle.sq_cpr.specs.Pair.{CodePair, of_parity, AirPairAnswer, PairAnswerAt}
 use Rattle.sq_message.specs.declared.air.Airborne.{Airborne}
 use Rattle.sq_message.specs.declared.ground.Surface.{Surface}
 use Rattle.sq_message.specs.declared.squitter.Me.{Me}
@@ -99,29 +100,26 @@ IsLocalPlace (kinds.Surface surface) reference answer = (found : Result Point Lo
     × (answer ≡ place_of Ground of_local found)
 IsLocalPlace (kinds.Other other) reference answer = answer ≡ Err NotPosition
 
--- the even one of two, where the newer is of this parity
-abbrev pub even_of : {A : Type 0} → Parity → (older newer : A) → A
-even_of newest older newer = of_parity newest newer older
-
--- the odd one of two, where the newer is of this parity
-abbrev pub odd_of : {A : Type 0} → Parity → (older newer : A) → A
-odd_of newest older newer = of_parity newest older newer
+-- the even and the odd one of two codes, where the newer is of this parity
+abbrev pub pair_by_parity : (newest : Parity) → (older newer : Code) → CodePair
+pair_by_parity newest older newer = record {
+  even = numbers_of (of_parity newest newer older);
+  odd = numbers_of (of_parity newest older newer);
+  newest = newest;
+}
 
 -- two positions in the air, of different parity: what their codes are decoded to
 abbrev pub IsAirPairPlace : (older newer : Airborne) → Result Place PlaceFault → Type 0
 IsAirPairPlace older newer answer =
-    let even = even_of newer.parity (numbers_of older.code) (numbers_of newer.code) in
-    let odd = odd_of newer.parity (numbers_of older.code) (numbers_of newer.code) in
-    (found : Result Point PairFault) × AirPairAnswer even odd newer.parity found × (answer ≡ place_of Air of_pair found)
+    (found : Result Point PairFault) × AirPairAnswer (pair_by_parity newer.parity older.code newer.code) found
+    × (answer ≡ place_of Air of_pair found)
 
 -- two positions on the ground, of different parity: without a site none; else what their codes are decoded to there
 abbrev pub IsGroundPairPlace : (older newer : Surface) → Option Position → Result Place PlaceFault → Type 0
 IsGroundPairPlace older newer None answer = answer ≡ Err NoSite
 IsGroundPairPlace older newer (Some site) answer =
-    let even = even_of newer.parity (numbers_of older.code) (numbers_of newer.code) in
-    let odd = odd_of newer.parity (numbers_of older.code) (numbers_of newer.code) in
     (found : Result Point PairFault)
-    × PairAnswerAt ground even odd newer.parity site found
+    × PairAnswerAt ground (pair_by_parity newer.parity older.code newer.code) site found
     × (answer ≡ place_of Ground of_pair found)
 
 -- one parity is a fault; of two parities there is this answer

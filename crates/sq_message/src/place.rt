@@ -2,7 +2,7 @@
 ghost use Rattle.std.specs.Prelude.{◌≡◌, ◌≤◌, ◌↔◌, IsTrue, length, option_copied};
 ghost use Rattle.sq_cpr.specs.Code.{numbers_of};
 ghost use Rattle.sq_message.specs.Parts.{squitter_parts};
-ghost use Rattle.sq_message.specs.Places.{Fits, IsAirPairPlace, IsGroundPairPlace, IsLocalPlace, IsPairPlace, IsPosition, IsPositionOf, IsSentAt, NeedsTwoParities, even_of, odd_of, of_local, of_pair};
+ghost use Rattle.sq_message.specs.Places.{Fits, IsAirPairPlace, IsGroundPairPlace, IsLocalPlace, IsPairPlace, IsPosition, IsPositionOf, IsSentAt, NeedsTwoParities, of_local, of_pair, pair_by_parity};
 
 use crate::{Airborne, Me, Squitter, Surface};
 use sq_angle::Position;
@@ -215,8 +215,8 @@ struct Codes {
 
 // The codes of two parities, of which this is the newer's.
 fn by_parity(newest: Parity, older: Code, newer: Code) -> Codes
-    ensures even { numbers_of result.even ≡ even_of newest (numbers_of older) (numbers_of newer) }
-    ensures odd { numbers_of result.odd ≡ odd_of newest (numbers_of older) (numbers_of newer) }
+    ensures even { numbers_of result.even ≡ (pair_by_parity newest older newer).even }
+    ensures odd { numbers_of result.odd ≡ (pair_by_parity newest older newer).odd }
 {
     match newest {
         Parity::Even => Codes {

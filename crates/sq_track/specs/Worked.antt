@@ -71,7 +71,7 @@ TwoAreSlow =
     (site : Option Position) (a b : Arrival) → IsFirst a → IsSecond b
     → IsSlow 10000 site (a ∷ b ∷ []) × IsSlowForFollowing 10000 (a ∷ b ∷ [])
 
--- so a tracker that hears these two says true places alone
+-- a tracker that hears these two says true places alone
 abbrev pub TwoAreTrue : Type 0
 TwoAreTrue =
     (limit : ℕ) (site : Option Position) (a b : Arrival) (replies : List (Result Heard TrackFault))
@@ -85,7 +85,7 @@ SecondIsFixed =
     (site : Option Position) (a b : Arrival) → IsFirst a → IsSecond b
     → IsHeard 10000 site (as_waiting a ∷ []) 6000 b.squitter (Fix (Air second_point))
 
--- and so it is where another address, 484175, was heard between the two
+-- the second is fixed where another address, 484175, was heard between the two
 abbrev pub SecondIsFixedAmongOthers : Type 0
 SecondIsFixedAmongOthers =
     (site : Option Position) (a b : Arrival) (other : Entry) → (squitter_parts other.squitter).address ≡ 0x484175

@@ -8,7 +8,7 @@ ghost use Rattle.indexmap.specs.IndexMap.{get, spare, IsUnchanged};
 ghost use Rattle.lru.specs.LruCache.{LruCache};
 ghost use Rattle.sq_message.specs.Parts.{squitter_parts};
 ghost use Rattle.sq_track.specs.Held.{contact_of};
-ghost use Rattle.sq_track.specs.Kept.{IsStep};
+ghost use Rattle.sq_track.specs.Kept.{IsContactHearing};
 ghost use Rattle.sq_track.specs.declared.contact.Contact.{Contact};
 ghost use Rattle.sq_track.specs.Ordered.{blank_contact, others_in, others_than, has_address, heard_order, IsUnbounded};
 
@@ -160,7 +160,7 @@ fn hear_known(
 ) -> Option<Heard>
     ensures some { IfSome result (λ heard. (before after : Contact)
         × (lookup (nat_eq address) table.old.entries ≡ Some before)
-        × IsStep window_ms (option_copied site.entry) moment squitter.now before heard after
+        × IsContactHearing window_ms (option_copied site.entry) moment squitter.now before heard after
         × (lookup (nat_eq address) table.new.entries ≡ Some after)) }
     ensures none { IfNone result ((lookup (nat_eq address) table.old.entries ≡ None) × (table.new ≡ table.old)) }
     ensures others { (k : ℕ) → k ≢ address → lookup (nat_eq k) table.new.entries ≡ lookup (nat_eq k) table.old.entries }
@@ -250,7 +250,7 @@ impl Contacts {
     ) -> Result<Heard, AllocError>
         requires { (squitter_parts squitter.now).address ≡ address }
         ensures ok { IfOk result (λ heard. (after : Contact)
-            × IsStep window_ms (option_copied site.entry) moment squitter.now (contact_of self.old address) heard after
+            × IsContactHearing window_ms (option_copied site.entry) moment squitter.now (contact_of self.old address) heard after
             × (self.new ≡ others_in address self.old ++ (address, after) ∷ [])) }
         ensures err { OnErr result (self.new ≡ self.old) }
         ensures absent { OnErr result (lookup (nat_eq address) self.old ≡ None) }

@@ -11,7 +11,7 @@ pub zones_at-least : (lat : Fraction) → 1 ≤ zones_at lat
 unfolding zones_at
 zones_at-least lat = omega arith
 
--- and at most 59
+-- there are at most 59 zones
 pub zones_at-most : (lat : Fraction) → zones_at lat ≤ 59
 unfolding zones_at zone_limits
 zones_at-most lat = omega (
@@ -23,7 +23,7 @@ zones_at-most lat = omega (
 pub lon_zones_at-least : (parity : Parity) (lat : Fraction) → 1 ≤ lon_zones_at parity lat
 lon_zones_at-least parity lat = omega arith
 
--- and at most 59
+-- of each parity there are at most 59
 pub lon_zones_at-most : (parity : Parity) (lat : Fraction) → lon_zones_at parity lat ≤ 59
 lon_zones_at-most Even lat = omega (arith, zones_at-most lat)
 lon_zones_at-most Odd lat = omega (arith, zones_at-most lat)

@@ -1,7 +1,7 @@
 //! Hearing: one frame more of an address.
 ghost use Rattle.std.specs.Prelude.{◌≡◌, ◌≤◌, MatchResult, None, option_copied};
 ghost use Rattle.sq_track.specs.declared.heard.Heard.{Heard};
-ghost use Rattle.sq_track.specs.Kept.{IsStep};
+ghost use Rattle.sq_track.specs.Kept.{IsContactHearing};
 ghost use Rattle.sq_plain.specs.Faults.{Tells, as_it_is};
 ghost use Rattle.sq_plain.specs.Frames.{frame_of};
 ghost use Rattle.sq_plain.specs.Heard.{IsPlainHeard};
@@ -128,7 +128,7 @@ fn step(
     squitter: &Squitter,
 ) -> PlainHeard
     ensures { (heard : Heard)
-        × IsStep window (option_copied site.entry) moment squitter.now contact.old heard contact.new
+        × IsContactHearing window (option_copied site.entry) moment squitter.now contact.old heard contact.new
         × IsPlainHeard heard result }
 {
     let heard = contact.hear(window, site, moment, squitter);

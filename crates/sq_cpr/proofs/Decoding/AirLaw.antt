@@ -14,7 +14,7 @@ use Rattle.sq_cpr.specs.Span.{air}
 use Rattle.sq_cpr.specs.Grid.{Point, codes_of_zone, circle}
 use Rattle.sq_cpr.specs.Near.{IsRepresentative, angle_at}
 use Rattle.sq_cpr.specs.Close.{IsClosePair, count_at, zones_of}
-use Rattle.sq_cpr.specs.Pair.{of_parity, AreLatitudes, AreInRange, AreAt, IsPointOfPair, IsPointOfPairAt, PairAnswer, AirPairAnswer}
+use Rattle.sq_cpr.specs.Pair.{CodePair, of_parity, AreLatitudes, AreInRange, AreAt, IsPointOfPair, IsPointOfPairAt, PairAnswer, AirPairAnswer}
 use Rattle.sq_cpr.specs.DecodeLaws.{OneAirPairAnswer}
 use Rattle.sq_cpr.proofs.Decoding.Pairs.{some_zones, close_pair, paired_latitudes, one_representative, turned_even, turned_odd}
 use Rattle.sq_cpr.proofs.Decoding.PairLaw.{out_and_in, zones_of_pair, one_pair_answer}
@@ -29,13 +29,13 @@ at_zero zones (negsuc n) h k = record { above = omega (arith, ints); at_most = o
 pub both_at_zero : (p q : ℤ) → AreInRange 360 p q → AreAt 360 (whole 0) p q
 both_at_zero p q h = record { even = at_zero 60 p (omega arith) h.even; odd = at_zero 59 q (omega arith) h.odd }
 
-pub air_answer : (even odd : CodeNumbers) (newest : Parity) (lon : Fraction) (answer : Result Point PairFault) →
-    PairAnswer air even odd newest (whole 0) lon answer → AirPairAnswer even odd newest answer
-air_answer even odd newest lon (Ok p) k = k.of_pair
-air_answer even odd newest lon (Err OutOfRange) k =
-    λ p q pair inside. out_and_in 360 even odd (whole 0) k.0 k.1 p q (omega arith) (omega arith) k.2 k.3 k.4 pair
+pub air_answer : (codes : CodePair) (lon : Fraction) (answer : Result Point PairFault) →
+    PairAnswer air codes (whole 0) lon answer → AirPairAnswer codes answer
+air_answer codes lon (Ok p) k = k.of_pair
+air_answer codes lon (Err OutOfRange) k =
+    λ p q pair inside. out_and_in 360 codes.even codes.odd (whole 0) k.0 k.1 p q (omega arith) (omega arith) k.2 k.3 k.4 pair
     (both_at_zero p q inside) inside
-air_answer even odd newest lon (Err (ZoneCounts a b)) k = (k.0, k.1, k.2, k.4)
+air_answer codes lon (Err (ZoneCounts a b)) k = (k.0, k.1, k.2, k.4)
 
 -- close latitudes have representatives at any reference
 pub some_latitudes : (w : ℕ) (even odd : CodeNumbers) (lat : Fraction) → 0 < w → 0 < lat.den
@@ -51,7 +51,7 @@ some_latitudes w even odd lat h d =
       record { even = a.1.1; odd = b.1.1 },
     )
 
--- and so has the newest of close longitudes
+-- the newest of close longitudes has a representative at any reference
 turned_newest : (w n m even odd : ℕ) (newest : Parity) (b c r : ℤ) → 0 < w → 0 < n → 0 < m
     → IsClosePair w n m even odd b c →
     IsCongruent (of_parity newest n m * codes_of_zone) r (of_parity newest b c)
@@ -65,18 +65,18 @@ zones_of_newest Even count = refl
 zones_of_newest Odd count = refl
 
 -- a point of a pair in the air, where the longitude's representative at 0 is known
-air_point_with : (even odd : CodeNumbers) (newest : Parity) (p : Point) (k : IsPointOfPair air even odd newest p)
+air_point_with : (codes : CodePair) (p : Point) (k : IsPointOfPair air codes p)
     (b c r : ℤ) →
     IsClosePair 360 (zones_of Even (count_at 360 Even k.even_lat))
-    (zones_of Odd (count_at 360 Even k.even_lat)) even.lon odd.lon b c → of_parity newest b c ≡ r →
-    IsCongruent (zones_of newest (count_at 360 Even k.even_lat) * codes_of_zone) r
-    (of_parity newest k.even_lon k.odd_lon) →
-    IsRepresentative 360 (whole 0) (angle_at 360 (zones_of newest (count_at 360 Even k.even_lat)) r)
-    → IsPointOfPairAt air even odd newest (whole 0) (whole 0) p
-air_point_with even odd newest p k b c r pair e around there =
+    (zones_of Odd (count_at 360 Even k.even_lat)) codes.even.lon codes.odd.lon b c → of_parity codes.newest b c ≡ r →
+    IsCongruent (zones_of codes.newest (count_at 360 Even k.even_lat) * codes_of_zone) r
+    (of_parity codes.newest k.even_lon k.odd_lon) →
+    IsRepresentative 360 (whole 0) (angle_at 360 (zones_of codes.newest (count_at 360 Even k.even_lat)) r)
+    → IsPointOfPairAt air codes (whole 0) (whole 0) p
+air_point_with codes p k b c r pair e around there =
     let count : ℕ = count_at 360 Even k.even_lat in
-    let zones : p.zones ≡ zones_of newest count = zones_of_pair air even odd newest p k in
-    let full : circle p.zones 1 ≡ zones_of newest count * codes_of_zone = rw zones (omega arith) in
+    let zones : p.zones ≡ zones_of codes.newest count = zones_of_pair air codes.even codes.odd codes.newest p k in
+    let full : circle p.zones 1 ≡ zones_of codes.newest count * codes_of_zone = rw zones (omega arith) in
     record {
       of_pair = record {
         even_lat = k.even_lat;
@@ -96,28 +96,28 @@ air_point_with even odd newest p k b c r pair e around there =
       lon_at = rw (zones, e) there;
     }
 
-air_point_at : (even odd : CodeNumbers) (newest : Parity) (p : Point) → IsPointOfPair air even odd newest p
-    → IsPointOfPairAt air even odd newest (whole 0) (whole 0) p
-air_point_at even odd newest p k =
+air_point_at : (codes : CodePair) (p : Point) → IsPointOfPair air codes p
+    → IsPointOfPairAt air codes (whole 0) (whole 0) p
+air_point_at codes p k =
     let count : ℕ = count_at 360 Even k.even_lat in
-    let one = one_representative 360 (zones_of newest count) (of_parity newest k.even_lon k.odd_lon) (whole 0)
-    (omega arith) (some_zones newest count) (omega arith) in
-    let around : IsCongruent (of_parity newest (zones_of Even count) (zones_of Odd count) * codes_of_zone) one.0
-    (of_parity newest k.even_lon k.odd_lon) = rw (zones_of_newest newest count) one.1.0 in
+    let one = one_representative 360 (zones_of codes.newest count) (of_parity codes.newest k.even_lon k.odd_lon) (whole 0)
+    (omega arith) (some_zones codes.newest count) (omega arith) in
+    let around : IsCongruent (of_parity codes.newest (zones_of Even count) (zones_of Odd count) * codes_of_zone) one.0
+    (of_parity codes.newest k.even_lon k.odd_lon) = rw (zones_of_newest codes.newest count) one.1.0 in
     let pair = turned_newest 360 (zones_of Even count)
-    (zones_of Odd count) even.lon odd.lon newest k.even_lon k.odd_lon one.0 (omega arith) (some_zones Even count)
+    (zones_of Odd count) codes.even.lon codes.odd.lon codes.newest k.even_lon k.odd_lon one.0 (omega arith) (some_zones Even count)
     (some_zones Odd count) k.longitudes around in
-    air_point_with even odd newest p k pair.0 pair.1 one.0 pair.2 pair.3 one.1.0 one.1.1
+    air_point_with codes p k pair.0 pair.1 one.0 pair.2 pair.3 one.1.0 one.1.1
 
-pub air_is_at_origin : (even odd : CodeNumbers) (newest : Parity) (answer : Result Point PairFault) →
-    AirPairAnswer even odd newest answer → PairAnswer air even odd newest (whole 0) (whole 0) answer
-air_is_at_origin even odd newest (Ok p) k = air_point_at even odd newest p k
-air_is_at_origin even odd newest (Err OutOfRange) k =
-    let found = some_latitudes 360 even odd (whole 0) (omega arith) (omega arith) in
+pub air_is_at_origin : (codes : CodePair) (answer : Result Point PairFault) →
+    AirPairAnswer codes answer → PairAnswer air codes (whole 0) (whole 0) answer
+air_is_at_origin codes (Ok p) k = air_point_at codes p k
+air_is_at_origin codes (Err OutOfRange) k =
+    let found = some_latitudes 360 codes.even codes.odd (whole 0) (omega arith) (omega arith) in
     (found.0, found.1, found.2, found.3, k found.0 found.1 found.2)
-air_is_at_origin even odd newest (Err (ZoneCounts a b)) k = (k.0, k.1, k.2, both_at_zero k.0 k.1 k.3.in_range, k.3)
+air_is_at_origin codes (Err (ZoneCounts a b)) k = (k.0, k.1, k.2, both_at_zero k.0 k.1 k.3.in_range, k.3)
 
 pub one_air_pair_answer : OneAirPairAnswer
-one_air_pair_answer even odd newest answer other h k =
-    one_pair_answer air refl even odd newest (whole 0) (whole 0) answer other (omega arith) (omega arith)
-    (air_is_at_origin even odd newest answer h) (air_is_at_origin even odd newest other k)
+one_air_pair_answer codes answer other h k =
+    one_pair_answer air refl codes (whole 0) (whole 0) answer other (omega arith) (omega arith)
+    (air_is_at_origin codes answer h) (air_is_at_origin codes other k)

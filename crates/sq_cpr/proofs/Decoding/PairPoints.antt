@@ -17,7 +17,7 @@ use Rattle.sq_cpr.specs.Span.{Span, FitsCircle, air, ground}
 use Rattle.sq_cpr.specs.Grid.{grid_latitude, Point, IsGridPoint, HasCode, codes_of_zone, circle, lat_zones}
 use Rattle.sq_cpr.specs.Near.{IsRepresentative, OnSomeTurn, angle_at}
 use Rattle.sq_cpr.specs.Close.{IsClosePair, count_at, zones_of, AreCloseLatitudes, HaveOneCount, AreClosePoints, AreTamePoints}
-use Rattle.sq_cpr.specs.Pair.{of_parity, AreLatitudes, AreInRange, AreAt, IsPointOfPair, IsPointOfPairAt, PairAnswer}
+use Rattle.sq_cpr.specs.Pair.{CodePair, code_pair, of_parity, AreLatitudes, AreInRange, AreAt, IsPointOfPair, IsPointOfPairAt, PairAnswer}
 use Rattle.sq_cpr.specs.Slow.{IsSmallerThan, IsPointWithin}
 use Rattle.sq_cpr.specs.DecodeLaws.{PairKeepsCode, AirPairKeepsCode, CloseAirPointsAreAnswered, CloseGroundPointsAreAnswered, TameAnswer, TameAirPointsAreAnswered, TameGroundPointsAreAnswered}
 use Rattle.sq_cpr.proofs.Decoding.AirLaw.{at_zero, air_is_at_origin}
@@ -82,7 +82,7 @@ module _ (span : Span) (some : 0 < span.degrees) (even odd : CodeNumbers) (lat l
     close = close.longitudes;
   }
 
-  found_even : IsPointOfPairAt span even odd Even lat lon a
+  found_even : IsPointOfPairAt span (code_pair even odd Even) lat lon a
   found_even =
       let t = here.first.east_west in
       let turned : IsClosePair span.degrees a.zones b.zones even.lon odd.lon t.0 (pos b.lon_index) =
@@ -108,7 +108,7 @@ module _ (span : Span) (some : 0 < span.degrees) (even odd : CodeNumbers) (lat l
         lon_at = t.2;
       }
 
-  found_odd : IsPointOfPairAt span even odd Odd lat lon b
+  found_odd : IsPointOfPairAt span (code_pair even odd Odd) lat lon b
   found_odd =
       let t = here.second.east_west in
       let turned : IsClosePair span.degrees a.zones b.zones even.lon odd.lon (pos a.lon_index) t.0 =
@@ -134,31 +134,31 @@ module _ (span : Span) (some : 0 < span.degrees) (even odd : CodeNumbers) (lat l
         lon_at = t.2;
       }
 
-  found : (newest : Parity) → PairAnswer span even odd newest lat lon (Ok (of_parity newest a b))
+  found : (newest : Parity) → PairAnswer span (code_pair even odd newest) lat lon (Ok (of_parity newest a b))
   found Even = found_even
   found Odd = found_odd
 
 pub close_points_are_answered : (span : Span) → FitsCircle span
-    → (even odd : CodeNumbers) (newest : Parity) (lat lon : Fraction) (answer : Result Point PairFault) (a b : Point)
+    → (codes : CodePair) (lat lon : Fraction) (answer : Result Point PairFault) (a b : Point)
     → 0 < lat.den → 0 < lon.den →
-    PairAnswer span even odd newest lat lon answer → ArePointsOf span even odd a b → AreClosePoints span a b
-    → ArePointsAt span lat lon a b → answer ≡ Ok (of_parity newest a b)
-close_points_are_answered span e even odd newest lat lon answer a b d f answered points close there =
-    one_pair_answer span e even odd newest lat lon answer (Ok (of_parity newest a b)) d f answered
-    (found span (span_limits span e).0 even odd lat lon a b points close there newest)
+    PairAnswer span codes lat lon answer → ArePointsOf span codes.even codes.odd a b → AreClosePoints span a b
+    → ArePointsAt span lat lon a b → answer ≡ Ok (of_parity codes.newest a b)
+close_points_are_answered span e codes lat lon answer a b d f answered points close there =
+    one_pair_answer span e codes lat lon answer (Ok (of_parity codes.newest a b)) d f answered
+    (found span (span_limits span e).0 codes.even codes.odd lat lon a b points close there codes.newest)
 
 pub tame_points_are_answered : (span : Span) → FitsCircle span
-    → (even odd : CodeNumbers) (newest : Parity) (lat lon : Fraction) (answer : Result Point PairFault) (a b : Point)
+    → (codes : CodePair) (lat lon : Fraction) (answer : Result Point PairFault) (a b : Point)
     → 0 < lat.den → 0 < lon.den →
-    PairAnswer span even odd newest lat lon answer → ArePointsOf span even odd a b → AreTamePoints span a b
-    → ArePointsAt span lat lon a b → TameAnswer span newest a b answer
-tame_points_are_answered span e even odd newest lat lon (Ok p) a b d f k points tame there =
-    let same = same_latitudes span.degrees even odd lat k.of_pair.even_lat k.of_pair.odd_lat a.lat_index b.lat_index
+    PairAnswer span codes lat lon answer → ArePointsOf span codes.even codes.odd a b → AreTamePoints span a b
+    → ArePointsAt span lat lon a b → TameAnswer span codes.newest a b answer
+tame_points_are_answered span e codes lat lon (Ok p) a b d f k points tame there =
+    let same = same_latitudes span.degrees codes.even codes.odd lat k.of_pair.even_lat k.of_pair.odd_lat a.lat_index b.lat_index
     (span_limits span e).0 d k.of_pair.latitudes k.lat_at
-    (latitudes_of span even odd a b points tame.latitudes) (lat_at_of span lat lon a b tame.even tame.odd there) in
+    (latitudes_of span codes.even codes.odd a b points tame.latitudes) (lat_at_of span lat lon a b tame.even tame.odd there) in
     let counts : HaveOneCount span.degrees a.lat_index b.lat_index = rw (same.0, same.1) at k.of_pair.counts in
-    let equal : Ok p ≡ Ok (of_parity newest a b) =
-    close_points_are_answered span e even odd newest lat lon (Ok p) a b d f k points
+    let equal : Ok p ≡ Ok (of_parity codes.newest a b) =
+    close_points_are_answered span e codes lat lon (Ok p) a b d f k points
     (record {
       even = tame.even;
       odd = tame.odd;
@@ -167,13 +167,13 @@ tame_points_are_answered span e even odd newest lat lon (Ok p) a b d f k points 
       longitudes = tame.longitudes counts;
     }) there in
     cc
-tame_points_are_answered span e even odd newest lat lon (Err OutOfRange) a b d f k points tame there =
-    out_and_in span.degrees even odd lat k.0 k.1 a.lat_index b.lat_index (span_limits span e).0 d k.2 k.3 k.4
-    (latitudes_of span even odd a b points tame.latitudes) (lat_at_of span lat lon a b tame.even tame.odd there)
-    (in_range_of span even odd a b tame.even tame.odd points)
-tame_points_are_answered span e even odd newest lat lon (Err (ZoneCounts m n)) a b d f k points tame there =
-    let same = same_latitudes span.degrees even odd lat k.0 k.1 a.lat_index b.lat_index (span_limits span e).0 d k.2 k.3
-    (latitudes_of span even odd a b points tame.latitudes) (lat_at_of span lat lon a b tame.even tame.odd there) in
+tame_points_are_answered span e codes lat lon (Err OutOfRange) a b d f k points tame there =
+    out_and_in span.degrees codes.even codes.odd lat k.0 k.1 a.lat_index b.lat_index (span_limits span e).0 d k.2 k.3 k.4
+    (latitudes_of span codes.even codes.odd a b points tame.latitudes) (lat_at_of span lat lon a b tame.even tame.odd there)
+    (in_range_of span codes.even codes.odd a b tame.even tame.odd points)
+tame_points_are_answered span e codes lat lon (Err (ZoneCounts m n)) a b d f k points tame there =
+    let same = same_latitudes span.degrees codes.even codes.odd lat k.0 k.1 a.lat_index b.lat_index (span_limits span e).0 d k.2 k.3
+    (latitudes_of span codes.even codes.odd a b points tame.latitudes) (lat_at_of span lat lon a b tame.even tame.odd there) in
     rw (same.0, same.1) at k.4
 
 -- in the air each point is its own representative at 0
@@ -216,29 +216,29 @@ at_site p site h = record {
 }
 
 pub close_air_points_are_answered : CloseAirPointsAreAnswered
-close_air_points_are_answered even odd newest answer a b k a_is b_is a_code b_code close =
-    close_points_are_answered air refl even odd newest (whole 0) (whole 0) answer a b (omega arith) (omega arith)
-    (air_is_at_origin even odd newest answer k)
+close_air_points_are_answered codes answer a b k a_is b_is a_code b_code close =
+    close_points_are_answered air refl codes (whole 0) (whole 0) answer a b (omega arith) (omega arith)
+    (air_is_at_origin codes answer k)
     (record { even_is = a_is; odd_is = b_is; even_code = a_code; odd_code = b_code }) close
     (record { first = at_origin a a_is; second = at_origin b b_is })
 
 pub close_ground_points_are_answered : CloseGroundPointsAreAnswered
-close_ground_points_are_answered even odd newest site answer a b k a_is b_is a_code b_code close a_at b_at =
-    close_points_are_answered ground refl even odd newest _ _ answer a b site.lat.in_range.positive
+close_ground_points_are_answered codes site answer a b k a_is b_is a_code b_code close a_at b_at =
+    close_points_are_answered ground refl codes _ _ answer a b site.lat.in_range.positive
     site.lon.in_range.positive k
     (record { even_is = a_is; odd_is = b_is; even_code = a_code; odd_code = b_code }) close
     (record { first = at_site a site a_at; second = at_site b site b_at })
 
 pub tame_air_points_are_answered : TameAirPointsAreAnswered
-tame_air_points_are_answered even odd newest answer a b k a_is b_is a_code b_code tame =
-    tame_points_are_answered air refl even odd newest (whole 0) (whole 0) answer a b (omega arith) (omega arith)
-    (air_is_at_origin even odd newest answer k)
+tame_air_points_are_answered codes answer a b k a_is b_is a_code b_code tame =
+    tame_points_are_answered air refl codes (whole 0) (whole 0) answer a b (omega arith) (omega arith)
+    (air_is_at_origin codes answer k)
     (record { even_is = a_is; odd_is = b_is; even_code = a_code; odd_code = b_code }) tame
     (record { first = at_origin a a_is; second = at_origin b b_is })
 
 pub tame_ground_points_are_answered : TameGroundPointsAreAnswered
-tame_ground_points_are_answered even odd newest site answer a b k a_is b_is a_code b_code tame a_at b_at =
-    tame_points_are_answered ground refl even odd newest _ _ answer a b site.lat.in_range.positive
+tame_ground_points_are_answered codes site answer a b k a_is b_is a_code b_code tame a_at b_at =
+    tame_points_are_answered ground refl codes _ _ answer a b site.lat.in_range.positive
     site.lon.in_range.positive k
     (record { even_is = a_is; odd_is = b_is; even_code = a_code; odd_code = b_code }) tame
     (record { first = at_site a site a_at; second = at_site b site b_at })
@@ -255,20 +255,20 @@ newest_code : (newest : Parity) (even odd : CodeNumbers) (p : Point)
 newest_code Even even odd p h k = record { latitude = h; longitude = k }
 newest_code Odd even odd p h k = record { latitude = h; longitude = k }
 
-keeps_code : (span : Span) (even odd : CodeNumbers) (newest : Parity) (p : Point) → IsPointOfPair span even odd newest p
-    → (p.parity ≡ newest) × HasCode p (of_parity newest even odd)
-keeps_code span even odd newest p k = (
+keeps_code : (span : Span) (codes : CodePair) (p : Point) → IsPointOfPair span codes p
+    → (p.parity ≡ codes.newest) × HasCode p (of_parity codes.newest codes.even codes.odd)
+keeps_code span codes p k = (
   k.parity,
-  newest_code newest even odd p
-      (rw k.lat_index (code_of_newest span.degrees 60 59 even.lat odd.lat newest k.even_lat k.odd_lat k.latitudes))
+  newest_code codes.newest codes.even codes.odd p
+      (rw k.lat_index (code_of_newest span.degrees 60 59 codes.even.lat codes.odd.lat codes.newest k.even_lat k.odd_lat k.latitudes))
       (congruent_trans (code_of_circle p.zones span.repeats k.lon_index)
       (code_of_newest span.degrees (zones_of Even (count_at span.degrees Even k.even_lat))
-      (zones_of Odd (count_at span.degrees Even k.even_lat)) even.lon odd.lon newest k.even_lon k.odd_lon
+      (zones_of Odd (count_at span.degrees Even k.even_lat)) codes.even.lon codes.odd.lon codes.newest k.even_lon k.odd_lon
       k.longitudes)),
 )
 
 pub pair_keeps_code : (span : Span) → PairKeepsCode span
-pair_keeps_code span even odd newest lat lon p k = keeps_code span even odd newest p k.of_pair
+pair_keeps_code span codes lat lon p k = keeps_code span codes p k.of_pair
 
 pub air_pair_keeps_code : AirPairKeepsCode
-air_pair_keeps_code even odd newest p k = keeps_code air even odd newest p k
+air_pair_keeps_code codes p k = keeps_code air codes p k

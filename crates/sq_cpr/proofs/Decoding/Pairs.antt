@@ -8,7 +8,7 @@ use Rattle.sq_zones.specs.declared.parity.Parity.TheVariants.{Even, Odd}
 use Rattle.sq_cpr.specs.Grid.{codes_of_zone}
 use Rattle.sq_cpr.specs.Near.{IsRepresentative, angle_at}
 use Rattle.sq_cpr.specs.Close.{IsClosePair, zones_of}
-use Rattle.sq_cpr.specs.Multiplied.{IsZone}
+use Rattle.sq_cpr.specs.Multiplied.{IsZoneIndex}
 use Rattle.sq_cpr.specs.Pair.{of_parity}
 use Rattle.sq_cpr.proofs.Distances.Agree.{close_from_lies, lies_from_close, representative_from_within, within_from_representative}
 use Rattle.sq_cpr.proofs.Decoding.OneWithin.{one_within}
@@ -24,7 +24,7 @@ pub paired_longitudes : (count : ℕ) → 0 < count → Paired (zones_of Even co
 paired_longitudes count h = let e : max (count - 0) 1 ≡ count = omega arith in rw e (paired_zones count h)
 
 -- indices that lie t zones above their codes are a close pair
-pub close_pair : (w n m y0 y1 : ℕ) (t a0 a1 : ℤ) → 0 < w → 0 < n → 0 < m → Paired n m → IsZone n m y0 y1 t →
+pub close_pair : (w n m y0 y1 : ℕ) (t a0 a1 : ℤ) → 0 < w → 0 < n → 0 < m → Paired n m → IsZoneIndex n m y0 y1 t →
     IsCongruent (n * codes_of_zone) a0 (pos y0 +ℤ pos codes_of_zone *ℤ t)
     → IsCongruent (m * codes_of_zone) a1 (pos y1 +ℤ pos codes_of_zone *ℤ t) → IsClosePair w n m y0 y1 a0 a1
 close_pair w n m y0 y1 t a0 a1 p q r e z h k =
@@ -34,8 +34,8 @@ close_pair w n m y0 y1 t a0 a1 p q r e z h k =
       close = close_from_lies w n m a0 a1 p q r (close_at n m y0 y1 t a0 a1 e z h k);
     }
 
--- and both of a close pair lie t zones above their codes
-pub pair_at : (w n m y0 y1 : ℕ) (t p q : ℤ) → 0 < w → 0 < n → 0 < m → Paired n m → IsZone n m y0 y1 t
+-- both of a close pair lie t zones above their codes
+pub pair_at : (w n m y0 y1 : ℕ) (t p q : ℤ) → 0 < w → 0 < n → 0 < m → Paired n m → IsZoneIndex n m y0 y1 t
     → IsClosePair w n m y0 y1 p q →
     IsCongruent (n * codes_of_zone) p (pos y0 +ℤ pos codes_of_zone *ℤ t)
     × IsCongruent (m * codes_of_zone) q (pos y1 +ℤ pos codes_of_zone *ℤ t)
@@ -83,7 +83,7 @@ same_representative w n base a b r p q s j k l m =
 
 -- the newest of a pair of indices that lie t zones above their codes
 pub newest_of_pair : (w count y0 y1 : ℕ) (newest : Parity) (t index : ℤ) → 0 < w → 0 < count
-    → IsZone (zones_of Even count) (zones_of Odd count) y0 y1 t →
+    → IsZoneIndex (zones_of Even count) (zones_of Odd count) y0 y1 t →
     IsCongruent (zones_of newest count * codes_of_zone) index (pos (of_parity newest y0 y1) +ℤ pos codes_of_zone *ℤ t) →
     (p q : ℤ) × IsClosePair w (zones_of Even count) (zones_of Odd count) y0 y1 p q × (index ≡ of_parity newest p q)
 newest_of_pair w count y0 y1 Even t index p h z k =

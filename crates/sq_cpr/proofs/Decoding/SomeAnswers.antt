@@ -11,12 +11,11 @@ use Rattle.sq_zones.specs.declared.parity.Parity.TheVariants.{Even, Odd}
 use Rattle.sq_zones.proofs.ZoneBounds.{lon_zones_at-least}
 use Rattle.sq_cpr.specs.declared.faults.LocalFault.TheVariants as locals
 use Rattle.sq_cpr.specs.declared.faults.PairFault.TheVariants as pairs
-use Rattle.sq_cpr.specs.Code.{CodeNumbers}
 use Rattle.sq_cpr.specs.Span.{Span, FitsCircle, air}
 use Rattle.sq_cpr.specs.Grid.{Point, IsLatitude, circle, codes_of_zone, grid_latitude}
 use Rattle.sq_cpr.specs.Near.{IsRepresentative, angle_at}
 use Rattle.sq_cpr.specs.Close.{HaveOneCount, count_at, zones_of}
-use Rattle.sq_cpr.specs.Pair.{AreAt, AreInRange, AreLatitudes, IsPointOfPairAt, of_parity}
+use Rattle.sq_cpr.specs.Pair.{CodePair, AreAt, AreInRange, AreLatitudes, IsPointOfPairAt, of_parity}
 use Rattle.sq_cpr.specs.DecodeLaws.{SomeAirPairAnswer, SomeLocalAnswer, SomePairAnswer}
 use Rattle.sq_cpr.proofs.Decoding.AirLaw.{air_answer, some_latitudes}
 use Rattle.sq_cpr.proofs.Distances.CloseLaw.{residue}
@@ -66,27 +65,27 @@ some_local_answer span e code parity lat lon s t =
     ]
 
 -- the newest point of close latitudes with one zone count
-some_point : (span : Span) → FitsCircle span → (even odd : CodeNumbers) (newest : Parity) (lat lon : Fraction) (p q : ℤ)
+some_point : (span : Span) → FitsCircle span → (codes : CodePair) (lat lon : Fraction) (p q : ℤ)
     → 0 < lon.den
-    → AreLatitudes span.degrees even odd p q → AreAt span.degrees lat p q → AreInRange span.degrees p q
+    → AreLatitudes span.degrees codes.even codes.odd p q → AreAt span.degrees lat p q → AreInRange span.degrees p q
     → HaveOneCount span.degrees p q
-    → (point : Point) × IsPointOfPairAt span even odd newest lat lon point
-some_point span e even odd newest lat lon p q t pair at inside same =
+    → (point : Point) × IsPointOfPairAt span codes lat lon point
+some_point span e codes lat lon p q t pair at inside same =
     let h : 0 < span.degrees = (span_limits span e).0 in
     let count : ℕ = count_at span.degrees Even p in
-    let z = zone_exists (zones_of Even count) (zones_of Odd count) even.lon odd.lon in
-    let one = one_representative span.degrees (zones_of newest count)
-    (pos (of_parity newest even.lon odd.lon) +ℤ pos codes_of_zone *ℤ z.0) lon h (some_zones newest count) t in
-    let lons = newest_of_pair span.degrees count even.lon odd.lon newest z.0 one.0 h (some_count span.degrees Even p)
+    let z = zone_exists (zones_of Even count) (zones_of Odd count) codes.even.lon codes.odd.lon in
+    let one = one_representative span.degrees (zones_of codes.newest count)
+    (pos (of_parity codes.newest codes.even.lon codes.odd.lon) +ℤ pos codes_of_zone *ℤ z.0) lon h (some_zones codes.newest count) t in
+    let lons = newest_of_pair span.degrees count codes.even.lon codes.odd.lon codes.newest z.0 one.0 h (some_count span.degrees Even p)
     z.1 one.1.0 in
-    let around : 0 < circle (zones_of newest count) span.repeats =
-    mul_pos (zones_of newest count * codes_of_zone) span.repeats
-    (mul_pos (zones_of newest count) codes_of_zone (some_zones newest count) (omega arith)) (span_limits span e).2 in
-    let b = residue (circle (zones_of newest count) span.repeats) one.0 around in
+    let around : 0 < circle (zones_of codes.newest count) span.repeats =
+    mul_pos (zones_of codes.newest count * codes_of_zone) span.repeats
+    (mul_pos (zones_of codes.newest count) codes_of_zone (some_zones codes.newest count) (omega arith)) (span_limits span e).2 in
+    let b = residue (circle (zones_of codes.newest count) span.repeats) one.0 around in
     let point : Point = record {
-      parity = newest;
-      lat_index = of_parity newest p q;
-      zones = zones_of newest count;
+      parity = codes.newest;
+      lat_index = of_parity codes.newest p q;
+      zones = zones_of codes.newest count;
       lon_index = b.0;
     } in (
       point,
@@ -100,21 +99,21 @@ some_point span e even odd newest lat lon p q t pair at inside same =
           in_range = inside;
           counts = same;
           longitudes = lons.2;
-          of_grid = point_of_pair span newest point p q inside same refl refl refl b.1;
+          of_grid = point_of_pair span codes.newest point p q inside same refl refl refl b.1;
           parity = refl;
           lat_index = refl;
-          lon_index = subst (λ (i : ℤ). IsCongruent (circle (zones_of newest count) span.repeats) (pos b.0) i) lons.3
+          lon_index = subst (λ (i : ℤ). IsCongruent (circle (zones_of codes.newest count) span.repeats) (pos b.0) i) lons.3
               b.2;
         };
         lat_at = at;
-        lon_at = subst (λ (i : ℤ). IsRepresentative span.degrees lon (angle_at span.degrees (zones_of newest count) i))
+        lon_at = subst (λ (i : ℤ). IsRepresentative span.degrees lon (angle_at span.degrees (zones_of codes.newest count) i))
             lons.3 one.1.1;
       },
     )
 
 pub some_pair_answer : (span : Span) → FitsCircle span → SomePairAnswer span
-some_pair_answer span e even odd newest lat lon s t =
-    let (p, q, pair, at) = some_latitudes span.degrees even odd lat (span_limits span e).0 s in
+some_pair_answer span e codes lat lon s t =
+    let (p, q, pair, at) = some_latitudes span.degrees codes.even codes.odd lat (span_limits span e).0 s in
     elim (both_latitudes span.degrees p q) [
       | inr out ↦ (Err pairs.OutOfRange, (p, q, pair, at, out))
       | inl inside ↦ elim (cases_eq (count_at span.degrees Even p) (count_at span.degrees Odd q)) [
@@ -123,12 +122,12 @@ some_pair_answer span e even odd newest lat lon s t =
           (p, q, pair, at, record { in_range = inside; even = refl; odd = refl; differ = differ }),
         )
         | inl same ↦
-            let found = some_point span e even odd newest lat lon p q t pair at inside same in
+            let found = some_point span e codes lat lon p q t pair at inside same in
             (Ok found.0, found.1)
       ]
     ]
 
 pub some_air_pair_answer : SomeAirPairAnswer
-some_air_pair_answer even odd newest =
-    let found = some_pair_answer air refl even odd newest (whole 0) (whole 0) (omega arith) (omega arith) in
-    (found.0, air_answer even odd newest (whole 0) found.0 found.1)
+some_air_pair_answer codes =
+    let found = some_pair_answer air refl codes (whole 0) (whole 0) (omega arith) (omega arith) in
+    (found.0, air_answer codes (whole 0) found.0 found.1)

@@ -7,7 +7,7 @@ use Rattle.sq_angle.specs.Scale.{scales}
 use Rattle.sq_angle.proofs.Floors.{div_euclid-le, div_euclid-lt}
 use Rattle.sq_angle.proofs.Congruence.{congruent_trans}
 use Rattle.sq_cpr.specs.Grid.{codes_of_zone}
-use Rattle.sq_cpr.specs.Multiplied.{LiesClose, IsZone}
+use Rattle.sq_cpr.specs.Multiplied.{LiesClose, IsZoneIndex}
 
 -- indices that differ by whole turns of n zones have one code
 pub code_of_turn : (n : ℕ) {a b : ℤ} → IsCongruent (n * codes_of_zone) a b → IsCongruent codes_of_zone a b
@@ -36,7 +36,7 @@ zone_apart1 n m y1 t j0 j1 w a1 e s h =
 
 -- Where the even circle has one zone more than the odd one: t zones after the codes.
 -- a0 = y0 + M*t + M*n*u, a1 = y1 + M*t + M*m*v, where n = m + 1
-pub close_from_zone : (n m : ℕ) (y0 y1 : ℕ) (t a0 a1 : ℤ) → n ≡ m + 1 → IsZone n m y0 y1 t →
+pub close_from_zone : (n m : ℕ) (y0 y1 : ℕ) (t a0 a1 : ℤ) → n ≡ m + 1 → IsZoneIndex n m y0 y1 t →
     IsCongruent (n * codes_of_zone) a0 (pos y0 +ℤ pos codes_of_zone *ℤ t)
     → IsCongruent (m * codes_of_zone) a1 (pos y1 +ℤ pos codes_of_zone *ℤ t) → LiesClose n m a0 a1
 close_from_zone n m y0 y1 t a0 a1 e z h k =
@@ -48,7 +48,7 @@ close_from_zone n m y0 y1 t a0 a1 e z h k =
     (k.times -ℤ h.times, rw (h.apart, k.apart, same) (z.from, z.below))
 
 -- one zone each: any two are close
-close_in_one : (y0 y1 : ℕ) (t a0 a1 : ℤ) → IsZone 1 1 y0 y1 t →
+close_in_one : (y0 y1 : ℕ) (t a0 a1 : ℤ) → IsZoneIndex 1 1 y0 y1 t →
     IsCongruent (1 * codes_of_zone) a0 (pos y0 +ℤ pos codes_of_zone *ℤ t)
     → IsCongruent (1 * codes_of_zone) a1 (pos y1 +ℤ pos codes_of_zone *ℤ t) → LiesClose 1 1 a0 a1
 close_in_one y0 y1 t a0 a1 z h k =
@@ -59,8 +59,8 @@ close_in_one y0 y1 t a0 a1 z h k =
     simp scales (omega (arith, ints)) in
     (turns, rw (h.apart, k.apart, same) (z.from, z.below))
 
--- and in the other direction
-zone_by_turns : (n m y0 y1 : ℕ) (t j0 j1 w : ℤ) → IsZone n m y0 y1 t →
+-- close indices of two codes lie in the zone of their index, but for turns
+zone_by_turns : (n m y0 y1 : ℕ) (t j0 j1 w : ℤ) → IsZoneIndex n m y0 y1 t →
     neg_ℤ (pos codes_of_zone) ≤ℤ (pos 2 *ℤ
     (pos m *ℤ (pos y0 +ℤ pos codes_of_zone *ℤ j0) -ℤ pos n *ℤ (pos y1 +ℤ pos codes_of_zone *ℤ j1) +ℤ pos
     (n * m * codes_of_zone) *ℤ w)) →
@@ -79,7 +79,7 @@ zone_by_turns n m y0 y1 t j0 j1 w z low high =
     rw same at high in
     within_one (pos (m * y0) -ℤ pos (n * y1)) t s z.from z.below below above
 
-pub zone_from_close : (n m : ℕ) (y0 y1 : ℕ) (t a0 a1 : ℤ) → n ≡ m + 1 → IsZone n m y0 y1 t →
+pub zone_from_close : (n m : ℕ) (y0 y1 : ℕ) (t a0 a1 : ℤ) → n ≡ m + 1 → IsZoneIndex n m y0 y1 t →
     IsCongruent codes_of_zone a0 (pos y0) → IsCongruent codes_of_zone a1 (pos y1) → LiesClose n m a0 a1 →
     IsCongruent (n * codes_of_zone) a0 (pos y0 +ℤ pos codes_of_zone *ℤ t)
     × IsCongruent (m * codes_of_zone) a1 (pos y1 +ℤ pos codes_of_zone *ℤ t)
@@ -117,14 +117,14 @@ one_or_more zones h = grind arith
 pub paired_zones : (zones : ℕ) → 1 ≤ zones → Paired zones (max (zones - 1) 1)
 paired_zones zones h = ⊎_elim (λ e. inr (e, omega arith)) (λ more. inl (omega arith)) (one_or_more zones h)
 
-pub close_at : (n m : ℕ) (y0 y1 : ℕ) (t a0 a1 : ℤ) → Paired n m → IsZone n m y0 y1 t →
+pub close_at : (n m : ℕ) (y0 y1 : ℕ) (t a0 a1 : ℤ) → Paired n m → IsZoneIndex n m y0 y1 t →
     IsCongruent (n * codes_of_zone) a0 (pos y0 +ℤ pos codes_of_zone *ℤ t)
     → IsCongruent (m * codes_of_zone) a1 (pos y1 +ℤ pos codes_of_zone *ℤ t) → LiesClose n m a0 a1
 close_at n m y0 y1 t a0 a1 e z h k =
     ⊎_elim (λ e. close_from_zone n m y0 y1 t a0 a1 e z h k)
     (λ e. rw (e.0, e.1) (close_in_one y0 y1 t a0 a1 (rw (e.0, e.1) at z) (rw e.0 at h) (rw e.1 at k))) e
 
-pub zone_at : (n m : ℕ) (y0 y1 : ℕ) (t a0 a1 : ℤ) → Paired n m → IsZone n m y0 y1 t →
+pub zone_at : (n m : ℕ) (y0 y1 : ℕ) (t a0 a1 : ℤ) → Paired n m → IsZoneIndex n m y0 y1 t →
     IsCongruent codes_of_zone a0 (pos y0) → IsCongruent codes_of_zone a1 (pos y1) → LiesClose n m a0 a1 →
     IsCongruent (n * codes_of_zone) a0 (pos y0 +ℤ pos codes_of_zone *ℤ t)
     × IsCongruent (m * codes_of_zone) a1 (pos y1 +ℤ pos codes_of_zone *ℤ t)
@@ -134,7 +134,7 @@ zone_at n m y0 y1 t a0 a1 e z h k c =
 
 -- the zone is the quotient that rounds to the nearest, a half going up
 pub zone_of : (n m y0 y1 : ℕ) (t : ℤ)
-    → t ≡ int_div_euclid (pos (m * y0) -ℤ pos (n * y1) +ℤ pos 65536) (pos codes_of_zone) → IsZone n m y0 y1 t
+    → t ≡ int_div_euclid (pos (m * y0) -ℤ pos (n * y1) +ℤ pos 65536) (pos codes_of_zone) → IsZoneIndex n m y0 y1 t
 zone_of n m y0 y1 t e =
     let d : ℤ = pos (m * y0) -ℤ pos (n * y1) +ℤ pos 65536 in
     let low : (pos codes_of_zone *ℤ t) ≤ℤ d = rw e (div_euclid-le d codes_of_zone (omega arith)) in
@@ -150,7 +150,7 @@ pub has_code : (n y : ℕ) (t a : ℤ) → IsCongruent (n * codes_of_zone) a (po
     → IsCongruent codes_of_zone a (pos y)
 has_code n y t a h = congruent_trans (code_of_turn n h) (code_shift y t)
 
-pub zone_exists : (n m y0 y1 : ℕ) → (t : ℤ) × IsZone n m y0 y1 t
+pub zone_exists : (n m y0 y1 : ℕ) → (t : ℤ) × IsZoneIndex n m y0 y1 t
 zone_exists n m y0 y1 =
     let t : ℤ = int_div_euclid (pos (m * y0) +ℤ neg_ℤ (pos (n * y1)) +ℤ pos 65536) (pos codes_of_zone) in
     (t, zone_of n m y0 y1 t refl)

@@ -19,7 +19,7 @@ use Rattle.sq_cpr.specs.Zones.{turned}
 same_fraction : (x y : Fraction) → x.num ≡ y.num → x.den ≡ y.den → x ≡ y
 same_fraction x y num den = λ i. record { num = num i; den = den i }
 
--- the same inequalities, multiplied out
+-- the inequalities of a limit, multiplied out
 over_is : (xd yd ld : ℕ) (xn yn ln : ℤ)
     → (pos ld *ℤ (pos yd *ℤ xn -ℤ pos xd *ℤ yn)) -ℤ (pos (xd * yd) *ℤ ln)
     ≡ (pos (yd * ld) *ℤ xn) -ℤ (pos xd *ℤ (pos ld *ℤ yn +ℤ pos yd *ℤ ln))

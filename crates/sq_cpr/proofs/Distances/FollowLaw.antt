@@ -193,7 +193,7 @@ longitude_turns w r zones b full = by (nat_lt (w * b) (180 * (zones * codes_of_z
         ≡ pos w *ℤ (pos b +ℤ pos (circle zones r) *ℤ neg_ℤ (pos 1)) = simp scales (omega (arith, ints)) in
         (neg_ℤ (pos 1), ap (λ (n : ℤ). let x : Fraction = record { num = n; den = zones * codes_of_zone } in x) e)
 
--- and that of one that differs from another turn's index
+-- the longitude of an index that differs from another turn's
 longitude_from : (w r zones b : ℕ) (t : ℤ) → w * r ≡ 360 → IsCongruent (circle zones r) t (pos b)
     → (s : ℤ) × (grid_longitude w zones b ≡ angle_at w zones (t +ℤ pos (circle zones r) *ℤ s))
 longitude_from w r zones b t full h =

@@ -43,7 +43,7 @@ zones_of span e parity lat lon zones h =
       lon_below = lon_index.1;
     }
 
--- the same for any point to which the position rounds
+-- the zones of any point to which the position rounds
 zones_of_point : (span : Span) → FitsCircle span → (parity : Parity) (lat lon : Fraction) (zones : ZonePair) (p : Point)
     → IsInZones span parity lat lon zones → p.parity ≡ parity → RoundsTo span lat lon p → AreZonesOf zones p
 zones_of_point span e parity lat lon zones p h same rounds =
@@ -113,7 +113,7 @@ has_own_code p = record {
   longitude = congruent_mod p.lon_index 131072 (omega arith);
 }
 
--- and no other of 17 bits
+-- a point has no other code of 17 bits
 code_once : (p : Point) (code : CodeNumbers) → HasCode p code → code.lat < 131072 → code.lon < 131072 → code_of p ≡ code
 code_once p code h low_lat low_lon =
     let own = has_own_code p in

@@ -67,7 +67,7 @@ rounds_once span lat lon p q same a b =
     (congruent_trans (congruent_sym congruent) b.east_west.2) in
     point_same p q same lat_same zone_same lon_same
 
--- and to one, which the nearest indices make
+-- a position rounds to a point, which the nearest indices make
 pub rounds_somewhere : (span : Span) → FitsCircle span → (parity : Parity) (lat lon : Fraction) → 0 < lat.den
     → 0 < lon.den
     → IsPosition lat lon

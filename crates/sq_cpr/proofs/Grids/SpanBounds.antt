@@ -46,7 +46,7 @@ pub lat_zones_at-least : (parity : Parity) → 59 ≤ lat_zones parity
 lat_zones_at-least Even = omega arith
 lat_zones_at-least Odd = omega arith
 
--- and at most 60
+-- of each parity there are at most 60 latitude zones
 pub lat_zones_at-most : (parity : Parity) → lat_zones parity ≤ 60
 lat_zones_at-most Even = omega arith
 lat_zones_at-most Odd = omega arith

@@ -23,7 +23,7 @@ module _ (x : Fraction) (w d : ℕ) (a j : ℤ) (n : IsNearest x (step_of w d) a
       quotient_below (pos 131072 *ℤ j) a m (2 * e) (omega (arith, ints)) r.below in
       omega (arith, ints)
 
-  -- and below the next zone's first
+  -- the index lies below the next zone's first
   pub zone_below : IsInZone x (step_of w d) j → a <ℤ (pos 131072 *ℤ j +ℤ pos 131072)
   zone_below zone =
       let e = x.den * w in
@@ -36,7 +36,7 @@ module _ (x : Fraction) (w d : ℕ) (a j : ℤ) (n : IsNearest x (step_of w d) a
       let h : a <ℤ next = lt_of_scale (2 * e) a next (omega (arith, ints)) in
       omega (arith, ints)
 
-  -- and where it is one of these, the zone is that one
+  -- where the index is one of a zone's, the zone is that one
   pub zone_of_index : (pos 131072 *ℤ j) ≤ℤ a → a <ℤ (pos 131072 *ℤ j +ℤ pos 131072) → IsInZone x (step_of w d) j
   zone_of_index low high =
       let e = x.den * w in

@@ -19,7 +19,7 @@ use Rattle.sq_track.proofs.Lists.Found.{none_is_some, same_some, each_weaker}
 abbrev pub Arrived : World → Entry → Type 0
 Arrived world entry = (arrival : Arrival) × Contains world arrival × IsEntryOf arrival entry
 
--- and is no later than the moment
+-- the entry was an arrival of the world, no later than the moment
 abbrev pub IsKnown : World → ℕ → Entry → Type 0
 IsKnown world moment entry = (arrival : Arrival) × Contains world arrival × IsEntryOf arrival entry
     × (entry.moment ≤ moment)

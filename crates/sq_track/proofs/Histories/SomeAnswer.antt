@@ -12,10 +12,8 @@ use Rattle.sq_angle.specs.Position.{lat_of, lon_of}
 use Rattle.sq_zones.specs.declared.parity.Parity.{Parity}
 use Rattle.sq_zones.specs.declared.parity.Parity.TheVariants.{Even, Odd}
 use Rattle.sq_zones.proofs.ZoneBounds.{lon_zones_at-least, lon_zones_at-most}
-use Rattle.sq_cpr.specs.Code.{numbers_of}
 use Rattle.sq_cpr.specs.Span.{Span, air, ground}
 use Rattle.sq_cpr.specs.Grid.{Point, IsGridPoint, IsLatitude, grid_latitude, grid_longitude, latitude, longitude}
-use Rattle.sq_cpr.proofs.Decoding.SomeAnswers.{some_local_answer, some_pair_answer, some_air_pair_answer}
 use Rattle.sq_message.specs.declared.air.Airborne.{Airborne}
 use Rattle.sq_message.specs.declared.ground.Surface.{Surface}
 use Rattle.sq_message.specs.declared.squitter.Me.{Me}
@@ -26,7 +24,9 @@ use Rattle.sq_message.specs.declared.place.Place.TheVariants.{Air, Ground}
 use Rattle.sq_message.specs.declared.place.PlaceFault.{PlaceFault}
 use Rattle.sq_message.specs.declared.place.PlaceFault.TheVariants as faults
 use Rattle.sq_message.specs.Parts.{SquitterParts, squitter_parts}
-use Rattle.sq_message.specs.Places.{IsPosition, IsPositionOf, IsLocalPlace, IsPairPlace, IsPlaceOfOneAddress, IsAirPairPlace, IsGroundPairPlace, NeedsTwoParities, even_of, odd_of, of_local, of_pair, place_of}
+use Rattle.sq_message.specs.Places.{IsPositionOf, IsLocalPlace, IsPairPlace, IsPlaceOfOneAddress, IsAirPairPlace, IsGroundPairPlace, NeedsTwoParities, place_of}
+use Rattle.sq_message.proofs.PlaceLemmas.{both_positions}
+use Rattle.sq_message.proofs.SomePlace.{some_local, some_pair_place}
 use Rattle.sq_track.specs.declared.heard.Heard.{Heard}
 use Rattle.sq_track.specs.declared.heard.Heard.TheVariants.{Fix, Followed, Waiting, Split, Far, NoSite, NotPosition}
 use Rattle.sq_track.specs.declared.heard.TrackFault.TheVariants.{MomentBack, Full}
@@ -42,98 +42,6 @@ use Rattle.sq_track.proofs.Histories.Entries.{recent_is}
 fault_is_place : {A : Type 0} (place : Place) (fault : PlaceFault)
     → ◌≡◌ {A = Result Place PlaceFault} (Ok place) (Err fault) → A
 fault_is_place place fault e = absurd (cc e)
-
--- ---- decoding has an answer
-
-pub some_local : (me : Me) (reference : Position) → (answer : Result Place PlaceFault)
-    × IsLocalPlace me reference answer
-some_local (kinds.Airborne a) r =
-    let found = some_local_answer air refl (numbers_of a.code) a.parity (degrees (lat_of r))
-    (degrees (lon_of r)) r.lat.in_range.positive r.lon.in_range.positive in
-    (place_of Air of_local found.0, (found.0, found.1, refl))
-some_local (kinds.Surface s) r =
-    let found = some_local_answer ground refl (numbers_of s.code) s.parity (degrees (lat_of r))
-    (degrees (lon_of r)) r.lat.in_range.positive r.lon.in_range.positive in
-    (place_of Ground of_local found.0, (found.0, found.1, refl))
-some_local (kinds.Other o) r = (Err faults.NotPosition, refl)
-
--- of one parity, or of two
-some_of_parities : (p q : Parity) (Rest : Result Place PlaceFault → Type 0)
-    → (answer : Result Place PlaceFault) × Rest answer
-    → (answer : Result Place PlaceFault) × NeedsTwoParities p q answer (Rest answer)
-some_of_parities Even Even Rest some = (Err faults.SameParity, (λ e. refl, λ differ. absurd (differ refl)))
-some_of_parities Odd Odd Rest some = (Err faults.SameParity, (λ e. refl, λ differ. absurd (differ refl)))
-some_of_parities Even Odd Rest some = (some.0, (λ (e : ◌≡◌ {A = Parity} Even Odd). absurd (cc e), λ differ. some.1))
-some_of_parities Odd Even Rest some = (some.0, (λ (e : ◌≡◌ {A = Parity} Odd Even). absurd (cc e), λ differ. some.1))
-
-some_in_air : (o n : Airborne) → (answer : Result Place PlaceFault) × IsAirPairPlace o n answer
-some_in_air o n =
-    let found = some_air_pair_answer (even_of n.parity (numbers_of o.code) (numbers_of n.code))
-    (odd_of n.parity (numbers_of o.code) (numbers_of n.code)) n.parity in
-    (place_of Air of_pair found.0, (found.0, found.1, refl))
-
-some_on_ground : (o n : Surface) (site : Option Position)
-    → (answer : Result Place PlaceFault) × IsGroundPairPlace o n site answer
-some_on_ground o n None = (Err faults.NoSite, refl)
-some_on_ground o n (Some s) =
-    let found = some_pair_answer ground refl (even_of n.parity (numbers_of o.code) (numbers_of n.code))
-    (odd_of n.parity (numbers_of o.code) (numbers_of n.code)) n.parity
-    (degrees (lat_of s)) (degrees (lon_of s)) s.lat.in_range.positive s.lon.in_range.positive in
-    (place_of Ground of_pair found.0, (found.0, found.1, refl))
-
-some_kindred : (m n : Me) (site : Option Position) → IsPosition m × IsPosition n
-    → (answer : Result Place PlaceFault) × IsPlaceOfOneAddress m n site answer
-some_kindred (kinds.Airborne o) (kinds.Airborne n) site h =
-    some_of_parities o.parity n.parity (IsAirPairPlace o n) (some_in_air o n)
-some_kindred (kinds.Surface o) (kinds.Surface n) site h =
-    some_of_parities o.parity n.parity (IsGroundPairPlace o n site) (some_on_ground o n site)
-some_kindred (kinds.Airborne o) (kinds.Surface n) site h = (Err faults.OtherKind, refl)
-some_kindred (kinds.Surface o) (kinds.Airborne n) site h = (Err faults.OtherKind, refl)
-some_kindred (kinds.Airborne o) (kinds.Other n) site h = absurd h.1
-some_kindred (kinds.Surface o) (kinds.Other n) site h = absurd h.1
-some_kindred (kinds.Other o) n site h = absurd h.0
-
-positions : (m : Me) → IsPosition m ⊎ (¬ (IsPosition m))
-positions (kinds.Airborne a) = inl tt
-positions (kinds.Surface s) = inl tt
-positions (kinds.Other o) = inr (λ x. x)
-
-both : (m n : Me) → (IsPosition m × IsPosition n) ⊎ (¬ (IsPosition m × IsPosition n))
-both m n = elim (positions m) [
-  | inl a ↦ elim (positions n) [
-    | inl b ↦ inl (a, b)
-    | inr never ↦ inr (λ h. never h.1)
-  ]
-  | inr never ↦ inr (λ h. never h.0)
-]
-
-pub some_pair : (older newer : SquitterParts) (site : Option Position)
-    → (answer : Result Place PlaceFault) × IsPairPlace older newer site answer
-some_pair older newer site = elim (both older.me newer.me) [
-  | inr never ↦ (
-    Err faults.NotPosition,
-    record { other = λ h. refl; strangers = λ h differ. absurd (never h); kindred = λ h same. absurd (never h) },
-  )
-  | inl two ↦ elim (cases_eq older.address newer.address) [
-    | inr differ ↦ (
-      Err faults.OtherAddress,
-      record {
-        other = λ never. absurd (never two);
-        strangers = λ h d. refl;
-        kindred = λ h same. absurd (differ same);
-      },
-    )
-    | inl same ↦
-        let some = some_kindred older.me newer.me site two in (
-          some.0,
-          record {
-            other = λ never. absurd (never two);
-            strangers = λ h differ. absurd (differ same);
-            kindred = λ h s. some.1;
-          },
-        )
-  ]
-]
 
 -- ---- what was heard lies on a grid, so it has a position
 
@@ -193,7 +101,7 @@ kindred_on_grid (kinds.Other o) n site answer h = absurd h
 
 pair_on_grid : (older newer : SquitterParts) (site : Option Position) (answer : Result Place PlaceFault)
     → IsPairPlace older newer site answer → IfPlace answer
-pair_on_grid older newer site answer h = elim (both older.me newer.me) [
+pair_on_grid older newer site answer h = elim (both_positions older.me newer.me) [
   | inr never ↦ subst IfPlace (sym (h.other never)) tt
   | inl two ↦ elim (cases_eq older.address newer.address) [
     | inr differ ↦ subst IfPlace (sym (h.strangers two differ)) tt
@@ -339,7 +247,7 @@ some_of_pair : (site : Option Position) (older : Option Squitter) (q : Squitter)
     → (heard : Heard) × IsHeardOfPair site older q heard
 some_of_pair site None q = (heard_alone (squitter_parts q).me, refl)
 some_of_pair site (Some older) q =
-    let some = some_pair (squitter_parts older) (squitter_parts q) site in
+    let some = some_pair_place older q site in
     (heard_of_pair some.0, (some.0, some.1, refl))
 
 some_near : (fix : Option Place) (q : Squitter) (of_pair : Heard)

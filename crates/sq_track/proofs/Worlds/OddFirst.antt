@@ -8,7 +8,6 @@ use Rattle.sq_zones.specs.declared.parity.Parity.TheVariants.{Even, Odd}
 use Rattle.sq_cpr.specs.declared.faults.PairFault.{PairFault}
 use Rattle.sq_cpr.specs.declared.faults.PairFault.TheVariants as pairs
 use Rattle.sq_cpr.specs.Close.{HaveOneCount}
-use Rattle.sq_cpr.specs.Code.{numbers_of}
 use Rattle.sq_cpr.specs.Span.{air, ground}
 use Rattle.sq_cpr.specs.DecodeLaws.{TameAnswer}
 use Rattle.sq_cpr.specs.Grid.{Point}
@@ -23,7 +22,7 @@ use Rattle.sq_message.specs.declared.place.Place.{Place}
 use Rattle.sq_message.specs.declared.place.Place.TheVariants.{Air, Ground}
 use Rattle.sq_message.specs.declared.place.PlaceFault.{PlaceFault}
 use Rattle.sq_message.specs.Parts.{squitter_parts}
-use Rattle.sq_message.specs.Places.{IsPlaceOfOneAddress, even_of, odd_of, of_pair, place_of}
+use Rattle.sq_message.specs.Places.{IsPlaceOfOneAddress, of_pair, pair_by_parity, place_of}
 use Rattle.sq_message.proofs.PlaceLemmas.{has_code}
 use Rattle.sq_track.specs.History.{parity_of}
 use Rattle.sq_track.specs.Worlds.{IsPlaceOf, HasCodeOf, IsEncodedFrom}
@@ -59,11 +58,9 @@ slow_pair (kinds.Airborne o) (kinds.Airborne n) x y p q site answer (Air a, h, h
     let b_is : ◌≡◌ {A = Place} (Air b) (Air q) = one_place (kinds.Airborne n) y (Air b) (Air q) k q_is in
     let p_code : HasCodeOf (kinds.Airborne o) (Air p) = subst (HasCodeOf (kinds.Airborne o)) a_is h_code in
     let q_code : HasCodeOf (kinds.Airborne n) (Air q) = subst (HasCodeOf (kinds.Airborne n)) b_is k_code in
-    let there = subst (λ r. AirPairAnswer (even_of r (numbers_of o.code) (numbers_of n.code))
-    (odd_of r (numbers_of o.code) (numbers_of n.code)) r found) n_even decoded in
+    let there = subst (λ r. AirPairAnswer (pair_by_parity r o.code n.code) found) n_even decoded in
     let tame = slow_is_tame air refl y x q p q_is.1 p_is.1 (q_is.0 ∙ n_even) (p_is.0 ∙ o_odd) slow in
-    let law = tame_air_points_are_answered (numbers_of n.code)
-    (numbers_of o.code) Even found q p there q_is.1.of_grid p_is.1.of_grid (has_code q n.code q_code)
+    let law = tame_air_points_are_answered (pair_by_parity Even o.code n.code) found q p there q_is.1.of_grid p_is.1.of_grid (has_code q n.code q_code)
     (has_code p o.code p_code) tame in
     is ∙ even_count q p found same law
 slow_pair (kinds.Airborne o) (kinds.Airborne n) x y p q site answer (Air a, h, h_code)
@@ -101,14 +98,12 @@ slow_ground_pair (kinds.Surface o) (kinds.Surface n) x y p q site answer (Ground
     let b_is : ◌≡◌ {A = Place} (Ground b) (Ground q) = one_place (kinds.Surface n) y (Ground b) (Ground q) k q_is in
     let p_code : HasCodeOf (kinds.Surface o) (Ground p) = subst (HasCodeOf (kinds.Surface o)) a_is h_code in
     let q_code : HasCodeOf (kinds.Surface n) (Ground q) = subst (HasCodeOf (kinds.Surface n)) b_is k_code in
-    let there = subst (λ r. PairAnswer ground (even_of r (numbers_of o.code) (numbers_of n.code))
-    (odd_of r (numbers_of o.code) (numbers_of n.code)) r (degrees_of (lat_of site))
+    let there = subst (λ r. PairAnswer ground (pair_by_parity r o.code n.code) (degrees_of (lat_of site))
     (degrees_of (lon_of site)) found) n_even decoded in
     let tame = slow_is_tame ground refl y x q p q_is.1 p_is.1 (q_is.0 ∙ n_even) (p_is.0 ∙ o_odd) slow.0 in
     let q_near = rounds_near_site ground refl y site q q_is.1 slow.1 in
     let p_near = rounds_near_site ground refl x site p p_is.1 slow.2 in
-    let law = tame_ground_points_are_answered (numbers_of n.code)
-    (numbers_of o.code) Even site found q p there q_is.1.of_grid p_is.1.of_grid (has_code q n.code q_code)
+    let law = tame_ground_points_are_answered (pair_by_parity Even o.code n.code) site found q p there q_is.1.of_grid p_is.1.of_grid (has_code q n.code q_code)
     (has_code p o.code p_code) tame q_near p_near in
     is ∙ even_count_on_ground q p found same law
 slow_ground_pair (kinds.Surface o) (kinds.Surface n) x y p q site answer (Ground a, h, h_code)

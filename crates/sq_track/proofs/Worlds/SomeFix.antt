@@ -9,7 +9,6 @@ use Rattle.sq_zones.specs.declared.parity.Parity.TheVariants.{Even, Odd}
 use Rattle.sq_cpr.specs.declared.faults.PairFault.{PairFault}
 use Rattle.sq_cpr.specs.declared.faults.PairFault.TheVariants as pairs
 use Rattle.sq_cpr.specs.Close.{HaveOneCount}
-use Rattle.sq_cpr.specs.Code.{numbers_of}
 use Rattle.sq_cpr.specs.Span.{air, ground}
 use Rattle.sq_cpr.specs.DecodeLaws.{TameAnswer}
 use Rattle.sq_cpr.specs.Grid.{Point}
@@ -24,7 +23,7 @@ use Rattle.sq_message.specs.declared.place.Place.{Place}
 use Rattle.sq_message.specs.declared.place.Place.TheVariants.{Air, Ground}
 use Rattle.sq_message.specs.declared.place.PlaceFault.{PlaceFault}
 use Rattle.sq_message.specs.Parts.{squitter_parts}
-use Rattle.sq_message.specs.Places.{IsPosition, IsPlaceOfOneAddress, even_of, odd_of, of_pair, place_of}
+use Rattle.sq_message.specs.Places.{IsPosition, IsPlaceOfOneAddress, of_pair, pair_by_parity, place_of}
 use Rattle.sq_message.proofs.PlaceLemmas.{has_code}
 use Rattle.sq_track.specs.declared.heard.Heard.TheVariants.{Fix, Waiting}
 use Rattle.sq_track.specs.History.{Entry, are_of_one_sender, are_even_and_odd, are_a_pair, parity_of, if_recent, counterpart, squitter_of}
@@ -36,7 +35,7 @@ use Rattle.sq_track.proofs.Histories.Entries.{sender_parts}
 use Rattle.sq_track.proofs.Lists.Found.{same_some}
 use Rattle.sq_track.proofs.Worlds.ByPairs.{slow_pair_exactly}
 use Rattle.sq_track.proofs.Worlds.Places.{one_place}
-use Rattle.sq_track.proofs.Histories.SomeAnswer.{some_pair}
+use Rattle.sq_message.proofs.SomePlace.{some_pair_place}
 
 -- what was found of tame points with one zone count is the newer
 one_count : (a b : Point) (found : Result Point PairFault) → HaveOneCount 360 a.lat_index b.lat_index
@@ -62,11 +61,9 @@ slow_pair (kinds.Airborne o) (kinds.Airborne n) x y p q site answer (Air a, h, h
     let b_is : ◌≡◌ {A = Place} (Air b) (Air q) = one_place (kinds.Airborne n) y (Air b) (Air q) k q_is in
     let p_code : HasCodeOf (kinds.Airborne o) (Air p) = subst (HasCodeOf (kinds.Airborne o)) a_is h_code in
     let q_code : HasCodeOf (kinds.Airborne n) (Air q) = subst (HasCodeOf (kinds.Airborne n)) b_is k_code in
-    let there = subst (λ r. AirPairAnswer (even_of r (numbers_of o.code) (numbers_of n.code))
-    (odd_of r (numbers_of o.code) (numbers_of n.code)) r found) n_odd decoded in
+    let there = subst (λ r. AirPairAnswer (pair_by_parity r o.code n.code) found) n_odd decoded in
     let tame = slow_is_tame air refl x y p q p_is.1 q_is.1 (p_is.0 ∙ o_even) (q_is.0 ∙ n_odd) slow in
-    let law = tame_air_points_are_answered (numbers_of o.code)
-    (numbers_of n.code) Odd found p q there p_is.1.of_grid q_is.1.of_grid (has_code p o.code p_code)
+    let law = tame_air_points_are_answered (pair_by_parity Odd o.code n.code) found p q there p_is.1.of_grid q_is.1.of_grid (has_code p o.code p_code)
     (has_code q n.code q_code) tame in
     is ∙ one_count p q found same law
 slow_pair (kinds.Airborne o) (kinds.Airborne n) x y p q site answer (Air a, h, h_code)
@@ -104,14 +101,12 @@ slow_ground_pair (kinds.Surface o) (kinds.Surface n) x y p q site answer (Ground
     let b_is : ◌≡◌ {A = Place} (Ground b) (Ground q) = one_place (kinds.Surface n) y (Ground b) (Ground q) k q_is in
     let p_code : HasCodeOf (kinds.Surface o) (Ground p) = subst (HasCodeOf (kinds.Surface o)) a_is h_code in
     let q_code : HasCodeOf (kinds.Surface n) (Ground q) = subst (HasCodeOf (kinds.Surface n)) b_is k_code in
-    let there = subst (λ r. PairAnswer ground (even_of r (numbers_of o.code) (numbers_of n.code))
-    (odd_of r (numbers_of o.code) (numbers_of n.code)) r (degrees_of (lat_of site))
+    let there = subst (λ r. PairAnswer ground (pair_by_parity r o.code n.code) (degrees_of (lat_of site))
     (degrees_of (lon_of site)) found) n_odd decoded in
     let tame = slow_is_tame ground refl x y p q p_is.1 q_is.1 (p_is.0 ∙ o_even) (q_is.0 ∙ n_odd) slow.0 in
     let p_near = rounds_near_site ground refl x site p p_is.1 slow.1 in
     let q_near = rounds_near_site ground refl y site q q_is.1 slow.2 in
-    let law = tame_ground_points_are_answered (numbers_of o.code)
-    (numbers_of n.code) Odd site found p q there p_is.1.of_grid q_is.1.of_grid (has_code p o.code p_code)
+    let law = tame_ground_points_are_answered (pair_by_parity Odd o.code n.code) site found p q there p_is.1.of_grid q_is.1.of_grid (has_code p o.code p_code)
     (has_code q n.code q_code) tame p_near q_near in
     is ∙ one_count_on_ground p q found same law
 slow_ground_pair (kinds.Surface o) (kinds.Surface n) x y p q site answer (Ground a, h, h_code)
@@ -163,7 +158,7 @@ fixed window site a b p q together two h k decoded =
     let older : counterpart window (entry ∷ []) b.moment b.squitter ≡ Some a.squitter =
     ap (λ t. squitter_of (if_recent window b.moment (cond t (Some entry) None))) pairs_up
     ∙ ap (λ t. squitter_of (cond t (Some entry) None)) recent in
-    let some = some_pair (squitter_parts a.squitter) (squitter_parts b.squitter) site in
+    let some = some_pair_place a.squitter b.squitter site in
     let here = some.1.kindred (positions_of m n a.position b.position p q h k)
     (sender_parts a.squitter b.squitter together.sender).0 in
     record {

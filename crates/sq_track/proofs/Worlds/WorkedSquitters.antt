@@ -74,7 +74,7 @@ position_of lat m lon n m_some m_most n_some n_most north east = (
 code_of_numbers : (lat lon : ℕ) → lat < 131072 → lon < 131072 → Code
 code_of_numbers lat lon north east = record { lat = lat; lon = lon; lat_below = north; lon_below = east }
 
--- such an arrival is one from this position
+-- an arrival with these numbers is one from this position
 is_arrival : (time : ℕ) (point : Point) (code : Code) (x : Position) (north east : Fraction)
     (same : numbers_of code ≡ code_of point) (rounds : PositionRoundsTo air x point) → degrees (lat_of x) ≡ north
     → degrees (lon_of x) ≡ east

@@ -6,7 +6,7 @@ use Rattle.sq_angle.proofs.Sizes.{back}
 use Rattle.sq_zones.specs.declared.parity.Parity.TheVariants.{Even, Odd}
 use Rattle.sq_cpr.specs.Grid.{codes_of_zone}
 use Rattle.sq_cpr.specs.Close.{zones_of}
-use Rattle.sq_cpr.specs.Multiplied.{IsZone}
+use Rattle.sq_cpr.specs.Multiplied.{IsZoneIndex}
 use Rattle.sq_cpr.specs.Pair.{of_parity}
 use Rattle.sq_cpr.proofs.Distances.Agree.{representative_from_within}
 use Rattle.sq_cpr.proofs.Grids.Bits32.{back32}
@@ -23,7 +23,7 @@ base c = back c.index_of.result c.index_of.type_inv
     ) at c.index_of.ensures.value)
 
 zone : (c : goal.After-index_within)
-    → IsZone (zones_of Even c.args.count)
+    → IsZoneIndex (zones_of Even c.args.count)
     (zones_of Odd c.args.count) c.args.even.lon c.args.odd.lon c.pair_zone-zone.result
 zone c = rw (
   c.zones_of.ensures.value,

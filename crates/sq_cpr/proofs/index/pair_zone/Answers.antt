@@ -2,7 +2,7 @@ use Rattle.std.proofs.Common.{◌*◌, ◌≤◌, arith}
 use Rattle.std.proofs.lemmas.Int.{ints}
 use Rattle.std.proofs.lemmas.Nat.{mul-le}
 use Rattle.sq_cpr.specs.Grid.{codes_of_zone}
-use Rattle.sq_cpr.specs.Multiplied.{IsZone}
+use Rattle.sq_cpr.specs.Multiplied.{IsZoneIndex}
 use Rattle.sq_angle.proofs.Sizes.{back}
 use Rattle.sq_cpr.proofs.index.pair_zone.Goals as goal
 
@@ -13,7 +13,7 @@ below_size : (c : goal.After-quotient_down) → c.args.even_zones * c.args.odd �
 below_size c = mul-le c.args.even_zones c.args.odd 60 codes_of_zone c.requires.even_zones_small (omega arith)
 
 zone : (c : goal.After-quotient_down)
-    → IsZone c.args.even_zones c.args.odd_zones c.args.even c.args.odd c.quotient_down.result
+    → IsZoneIndex c.args.even_zones c.args.odd_zones c.args.even c.args.odd c.quotient_down.result
 zone c = record {
   from = omega (arith, ints, above_size c, below_size c, c.quotient_down.ensures.reached);
   below = omega (arith, ints, above_size c, below_size c, c.quotient_down.ensures.next);

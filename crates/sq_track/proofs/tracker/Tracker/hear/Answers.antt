@@ -9,7 +9,7 @@ use Rattle.sq_track.specs.declared.heard.TrackFault.TheVariants.{Memory, Full}
 use Rattle.sq_track.specs.History.{History}
 use Rattle.sq_track.specs.Answers.{IsHeard}
 use Rattle.sq_track.specs.Replies.{IsReply}
-use Rattle.sq_track.specs.Kept.{IsStep}
+use Rattle.sq_track.specs.Kept.{IsContactHearing}
 use Rattle.sq_track.specs.Entries.{fresh_entry, IsOrdered, IsSound}
 use Rattle.sq_track.specs.Ordered.{others_in}
 use Rattle.sq_track.specs.Held.{Held, StandsFor, contact_of, settings, present_of}
@@ -89,7 +89,7 @@ keep_recent-self-inside-requires-in-Ok c =
     let a = (squitter_parts q).address in
     let here = position_of (squitter_parts q).me (c.is_position.ensures.0 c.if-not-is_position.false) in
     let (new, step_at, put_at) = c.in-Ok.ensures.ok in
-    let step = subst (λ a. IsStep t.window (option_copied c.as_ref-site.result) m q
+    let step = subst (λ a. IsContactHearing t.window (option_copied c.as_ref-site.result) m q
     (contact_of t.contacts a) c.in-Ok.heard new) c.address-address.ensures.value step_at in
     let moment = moment_after m q c.in-Ok.heard (contact_of t.contacts a) new here step.kept in
     let put = subst (λ x. c.hear_last.new.self ≡ others_in x t.contacts
@@ -111,7 +111,7 @@ invariant_of-self-in-Ok c =
     (filter (fresh_entry t.window m) t.contacts)))) c.address-address.ensures.value c.is_full.ensures in
     let old : Contact = contact_of t.contacts (squitter_parts q).address in
     let (new, step_at, put_at) = c.in-Ok.ensures.ok in
-    let step = subst (λ a. IsStep t.window (option_copied c.as_ref-site.result) m q
+    let step = subst (λ a. IsContactHearing t.window (option_copied c.as_ref-site.result) m q
     (contact_of t.contacts a) c.in-Ok.heard new) c.address-address.ensures.value step_at in
     let moment = moment_after m q heard old new here step.kept in
     let put = subst (λ x. c.hear_last.new.self ≡ others_in x t.contacts
@@ -131,7 +131,7 @@ returns-in-Ok-clause-reply c =
     let q = c.args.squitter.now in
     let heard = c.in-Ok.heard in
     let (new, step_at, put_at) = c.in-Ok.ensures.ok in
-    let step = subst (λ a. IsStep t.window (option_copied c.as_ref-site.result) m q
+    let step = subst (λ a. IsContactHearing t.window (option_copied c.as_ref-site.result) m q
     (contact_of t.contacts a) c.in-Ok.heard new) c.address-address.ensures.value step_at in
     let full = subst (λ a. c.is_full.result
     ≡ leb t.limit (length (others_in a
@@ -158,7 +158,7 @@ returns-in-Ok-clause-ok c =
     (filter (fresh_entry t.window m) t.contacts)))) c.address-address.ensures.value c.is_full.ensures in
     let old : Contact = contact_of t.contacts (squitter_parts q).address in
     let (new, step_at, put_at) = c.in-Ok.ensures.ok in
-    let step = subst (λ a. IsStep t.window (option_copied c.as_ref-site.result) m q
+    let step = subst (λ a. IsContactHearing t.window (option_copied c.as_ref-site.result) m q
     (contact_of t.contacts a) c.in-Ok.heard new) c.address-address.ensures.value step_at in
     let moment = moment_after m q heard old new here step.kept in
     let put = subst (λ x. c.hear_last.new.self ≡ others_in x t.contacts
