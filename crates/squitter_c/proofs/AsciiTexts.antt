@@ -17,7 +17,7 @@ ascii_minus : (negative : Bool) → IsAscii (minus negative)
 ascii_minus true = IsAscii-cons 45 [] (omega arith) IsAscii-nil
 ascii_minus false = IsAscii-nil
 
--- and what stands from the point on
+-- what stands from the point on is ASCII
 ascii_fraction : (ds : List ℕ) → AllByRecursion IsAsciiDigit ds → IsAscii (fraction ds)
 ascii_fraction [] h = IsAscii-nil
 ascii_fraction (d ∷ ds) h = IsAscii-cons 46 (d ∷ ds) (omega arith) (ascii_digits (d ∷ ds) h)

@@ -5,10 +5,7 @@ use Rattle.sq_bits.specs.declared.frame.Frame.{Frame}
 use Rattle.sq_zones.specs.declared.parity.Parity.{Parity}
 use Rattle.sq_zones.specs.declared.parity.Parity.TheVariants.{Even, Odd}
 use Rattle.sq_cpr.specs.Grid.{Point}
-use Rattle.sq_message.specs.declared.air_head.AirHead.{AirHead}
-use Rattle.sq_message.specs.declared.ground_head.GroundHead.{GroundHead}
 use Rattle.sq_message.specs.Kinds.{Kind, HeadParts, InAir, OnGround}
-use Rattle.sq_message.specs.Heads.{air_head_parts, ground_head_parts}
 use Rattle.sq_message.specs.Sending.{IsSent}
 use Rattle.sq_message.specs.Spelling.{bit}
 use Rattle.sq_message.specs.TypeCodes.{IsAirCode, IsGroundCode}
@@ -16,15 +13,13 @@ use Rattle.sq_message.proofs.OneSent.{one_sent}
 use Rattle.sq_message.proofs.Same.{same_air_fields, same_bit, same_ground_fields, same_parity}
 use Rattle.sq_plain.specs.declared.faults.Refusal.{Refusal}
 use Rattle.sq_plain.specs.declared.faults.Refusal.TheVariants as refusals
-use Rattle.squitter_c.specs.declared.heads.PlainAirHead.{PlainAirHead}
-use Rattle.squitter_c.specs.declared.heads.PlainGroundHead.{PlainGroundHead}
 use Rattle.sq_plain.specs.declared.plain.PlainPosition.{PlainPosition}
 use Rattle.sq_plain.specs.Faults.{as_it_is}
-use Rattle.squitter_c.specs.Heads.{IsAirHead, IsGroundHead, PlainIsAirHead, PlainIsGroundHead}
+use Rattle.squitter_c.specs.Heads.{Head, IsHead, PlainHead, PlainIsHead, head_parts, odd_of}
 use Rattle.squitter_c.specs.OneAnswers.{OneSent}
 use Rattle.sq_plain.specs.Plain.{IsFlag, IsOfDegrees, IsParity, PlainIsPosition}
 use Rattle.squitter_c.specs.Reading.{AreBytesOf}
-use Rattle.squitter_c.specs.Sending.{IsAirAnswer, IsGroundAnswer}
+use Rattle.squitter_c.specs.Sending.{IsSendAnswer}
 use Rattle.sq_plain.proofs.OnePlain.{is_position, one_of_degrees}
 use Rattle.sq_plain.proofs.OneTelling.{one_telling}
 
@@ -41,19 +36,16 @@ one_of_equals kind s t p q x y m n f g head parity position h k =
 
 -- ---- heads
 
-one_air_head : (plain : PlainAirHead) (a b : AirHead) → IsAirHead plain a → IsAirHead plain b
-    → air_head_parts a ≡ air_head_parts b
-one_air_head plain a b h k =
+one_head : (kind : Kind) (plain : PlainHead kind) (a b : Head kind) → IsHead kind plain a → IsHead kind plain b
+    → head_parts kind a ≡ head_parts kind b
+one_head InAir plain a b h k =
     let ca = h.ca ∙ sym k.ca in
     let address = h.address ∙ sym k.address in
     let fields = same_air_fields a.fields b.fields (h.type_code ∙ sym k.type_code) (h.status ∙ sym k.status)
     (same_bit a.fields.flag b.fields.flag (h.flag ∙ sym k.flag)) (h.altitude ∙ sym k.altitude)
     (same_bit a.fields.time b.fields.time (h.time ∙ sym k.time)) in
     λ i. record { ca = ca i; address = address i; fields = fields i }
-
-one_ground_head : (plain : PlainGroundHead) (a b : GroundHead) → IsGroundHead plain a → IsGroundHead plain b
-    → ground_head_parts a ≡ ground_head_parts b
-one_ground_head plain a b h k =
+one_head OnGround plain a b h k =
     let ca = h.ca ∙ sym k.ca in
     let address = h.address ∙ sym k.address in
     let fields = same_ground_fields a.fields b.fields (h.type_code ∙ sym k.type_code) (h.movement ∙ sym k.movement)
@@ -69,27 +61,32 @@ parity_is_flag : (n : ℕ) (p : Parity) → IsParity n p → IsFlag n
 parity_is_flag n Even e = omega (arith, e)
 parity_is_flag n Odd e = omega (arith, e)
 
-is_air_head : (plain : PlainAirHead) (a : AirHead) → IsAirHead plain a → PlainIsAirHead plain
-is_air_head plain a h = record {
-  address = omega (arith, h.address, a.address_in);
-  ca = omega (arith, h.ca, a.ca_in);
-  type_code = subst IsAirCode h.type_code a.fields.type_code_in;
-  status = omega (arith, h.status, a.fields.status_in);
-  altitude = omega (arith, h.altitude, a.fields.altitude_in);
-  flag = subst IsFlag h.flag (bit_is_flag a.fields.flag);
-  time = subst IsFlag h.time (bit_is_flag a.fields.time);
-}
-
-is_ground_head : (plain : PlainGroundHead) (a : GroundHead) → IsGroundHead plain a → PlainIsGroundHead plain
-is_ground_head plain a h = record {
-  address = omega (arith, h.address, a.address_in);
-  ca = omega (arith, h.ca, a.ca_in);
-  type_code = subst IsGroundCode h.type_code a.fields.type_code_in;
-  movement = omega (arith, h.movement, a.fields.movement_in);
-  track = omega (arith, h.track, a.fields.track_in);
-  track_status = subst IsFlag h.track_status (bit_is_flag a.fields.track_status);
-  time = subst IsFlag h.time (bit_is_flag a.fields.time);
-}
+is_head : (kind : Kind) (plain : PlainHead kind) (a : Head kind) (p : Parity) → IsHead kind plain a
+    → IsParity (odd_of kind plain) p → PlainIsHead kind plain
+is_head InAir plain a p h parity = (
+  record {
+    address = omega (arith, h.address, a.address_in);
+    ca = omega (arith, h.ca, a.ca_in);
+    type_code = subst IsAirCode h.type_code a.fields.type_code_in;
+    status = omega (arith, h.status, a.fields.status_in);
+    altitude = omega (arith, h.altitude, a.fields.altitude_in);
+    flag = subst IsFlag h.flag (bit_is_flag a.fields.flag);
+    time = subst IsFlag h.time (bit_is_flag a.fields.time);
+  },
+  parity_is_flag plain.odd p parity,
+)
+is_head OnGround plain a p h parity = (
+  record {
+    address = omega (arith, h.address, a.address_in);
+    ca = omega (arith, h.ca, a.ca_in);
+    type_code = subst IsGroundCode h.type_code a.fields.type_code_in;
+    movement = omega (arith, h.movement, a.fields.movement_in);
+    track = omega (arith, h.track, a.fields.track_in);
+    track_status = subst IsFlag h.track_status (bit_is_flag a.fields.track_status);
+    time = subst IsFlag h.time (bit_is_flag a.fields.time);
+  },
+  parity_is_flag plain.odd p parity,
+)
 
 -- ---- what is answered for a head and a position: one frame, or the first fault
 
@@ -110,92 +107,48 @@ module _ (Head : Type 0) (plain : PlainPosition) (Sent : Frame → Type 0)
   one_told r s (inr (a, inr h)) (inr (b, inl k)) = absurd (k.0 h.0)
   one_told r s (inr (a, inr (_, (f, h, r_is)))) (inr (b, inr (_, (g, k, s_is)))) = r_is ∙ ap Ok (one f g h k) ∙ sym s_is
 
--- a frame is sent in the air of what these stand for
-abbrev SentInAir : PlainAirHead → PlainPosition → Frame → Type 0
-SentInAir plain place frame = (head : AirHead) × IsAirHead plain head
-    × ((parity : Parity) × IsParity plain.odd parity
+-- a frame is sent of what these stand for
+abbrev Sent : (kind : Kind) → PlainHead kind → PlainPosition → Frame → Type 0
+Sent kind plain place frame = (head : Head kind) × IsHead kind plain head
+    × ((parity : Parity) × IsParity (odd_of kind plain) parity
     × ((position : Position) × IsOfDegrees place position
-    × ((point : Point) × IsSent InAir (air_head_parts head) parity position point frame)))
+    × ((point : Point) × IsSent kind (head_parts kind head) parity position point frame)))
 
-one_in_air : (plain : PlainAirHead) (place : PlainPosition) (f g : Frame) → SentInAir plain place f
-    → SentInAir plain place g → f ≡ g
-one_in_air plain place f g (a, a_is, (p, p_is, (x, x_is, (m, h)))) (b, b_is, (q, q_is, (y, y_is, (n, k)))) =
-    one_of_equals InAir (air_head_parts a) (air_head_parts b) p q x y m n f g (one_air_head plain a b a_is b_is)
+one_frame : (kind : Kind) (plain : PlainHead kind) (place : PlainPosition) (f g : Frame) → Sent kind plain place f
+    → Sent kind plain place g → f ≡ g
+one_frame kind plain place f g (a, a_is, (p, p_is, (x, x_is, (m, h)))) (b, b_is, (q, q_is, (y, y_is, (n, k)))) =
+    one_of_equals kind (head_parts kind a) (head_parts kind b) p q x y m n f g (one_head kind plain a b a_is b_is)
     (same_parity p q (sym p_is ∙ q_is)) (one_of_degrees place x y x_is y_is) h k
 
-told_in_air : (plain : PlainAirHead) (place : PlainPosition) (r : Result Frame Refusal) → IsAirAnswer plain place r
-    → Told (PlainIsAirHead plain × IsFlag plain.odd) place (SentInAir plain place) (one_in_air plain place) r
-unfolding IsAirAnswer
-told_in_air plain place (Ok f) (a, a_is, (p, p_is, (x, x_is, sent))) =
+told : (kind : Kind) (plain : PlainHead kind) (place : PlainPosition) (r : Result Frame Refusal)
+    → IsSendAnswer kind plain place r
+    → Told (PlainIsHead kind plain) place (Sent kind plain place) (one_frame kind plain place) r
+unfolding IsSendAnswer
+told kind plain place (Ok f) (a, a_is, (p, p_is, (x, x_is, sent))) =
     inr (
-      (is_air_head plain a a_is, parity_is_flag plain.odd p p_is),
+      is_head kind plain a p a_is p_is,
       inr (is_position place x x_is, (f, (a, a_is, (p, p_is, (x, x_is, sent))), refl)),
     )
-told_in_air plain place (Err refusals.NoHead) h = inl (h, refl)
-told_in_air plain place (Err refusals.NoPosition) h = inr ((h.0, h.1), inl (h.2, refl))
-told_in_air plain place (Err (refusals.Line fault)) h = absurd h
-told_in_air plain place (Err (refusals.Place fault)) h = absurd h
-told_in_air plain place (Err (refusals.Angle fault)) h = absurd h
-told_in_air plain place (Err refusals.NoAngle) h = absurd h
-told_in_air plain place (Err refusals.NoLatitude) h = absurd h
-told_in_air plain place (Err refusals.NoFeet) h = absurd h
-told_in_air plain place (Err refusals.NoParity) h = absurd h
-told_in_air plain place (Err refusals.Memory) h = absurd h
-told_in_air plain place (Err refusals.NoLimit) h = absurd h
-told_in_air plain place (Err refusals.NoTracker) h = absurd h
-told_in_air plain place (Err refusals.NoAddress) h = absurd h
+told kind plain place (Err refusals.NoHead) h = inl (h, refl)
+told kind plain place (Err refusals.NoPosition) h = inr (h.0, inl (h.1, refl))
+told kind plain place (Err (refusals.Line fault)) h = absurd h
+told kind plain place (Err (refusals.Place fault)) h = absurd h
+told kind plain place (Err (refusals.Angle fault)) h = absurd h
+told kind plain place (Err refusals.NoAngle) h = absurd h
+told kind plain place (Err refusals.NoLatitude) h = absurd h
+told kind plain place (Err refusals.NoFeet) h = absurd h
+told kind plain place (Err refusals.NoParity) h = absurd h
+told kind plain place (Err refusals.Memory) h = absurd h
+told kind plain place (Err refusals.NoLimit) h = absurd h
+told kind plain place (Err refusals.NoTracker) h = absurd h
+told kind plain place (Err refusals.NoAddress) h = absurd h
 
-one_air_answer : (plain : PlainAirHead) (place : PlainPosition) (r s : Result Frame Refusal)
-    → IsAirAnswer plain place r → IsAirAnswer plain place s → r ≡ s
-one_air_answer plain place r s h k =
-    one_told (PlainIsAirHead plain × IsFlag plain.odd) place (SentInAir plain place) (one_in_air plain place) r s
-    (told_in_air plain place r h) (told_in_air plain place s k)
+one_send_answer : (kind : Kind) (plain : PlainHead kind) (place : PlainPosition) (r s : Result Frame Refusal)
+    → IsSendAnswer kind plain place r → IsSendAnswer kind plain place s → r ≡ s
+one_send_answer kind plain place r s h k =
+    one_told (PlainIsHead kind plain) place (Sent kind plain place) (one_frame kind plain place) r s
+    (told kind plain place r h) (told kind plain place s k)
 
--- the same on the ground
-abbrev SentOnGround : PlainGroundHead → PlainPosition → Frame → Type 0
-SentOnGround plain place frame = (head : GroundHead) × IsGroundHead plain head
-    × ((parity : Parity) × IsParity plain.odd parity
-    × ((position : Position) × IsOfDegrees place position
-    × ((point : Point) × IsSent OnGround (ground_head_parts head) parity position point frame)))
-
-one_on_ground : (plain : PlainGroundHead) (place : PlainPosition) (f g : Frame) → SentOnGround plain place f
-    → SentOnGround plain place g → f ≡ g
-one_on_ground plain place f g (a, a_is, (p, p_is, (x, x_is, (m, h)))) (b, b_is, (q, q_is, (y, y_is, (n, k)))) =
-    one_of_equals OnGround (ground_head_parts a) (ground_head_parts b) p q x y m n f g
-    (one_ground_head plain a b a_is b_is)
-    (same_parity p q (sym p_is ∙ q_is)) (one_of_degrees place x y x_is y_is) h k
-
-told_on_ground : (plain : PlainGroundHead) (place : PlainPosition) (r : Result Frame Refusal)
-    → IsGroundAnswer plain place r
-    → Told (PlainIsGroundHead plain × IsFlag plain.odd) place (SentOnGround plain place) (one_on_ground plain place) r
-unfolding IsGroundAnswer
-told_on_ground plain place (Ok f) (a, a_is, (p, p_is, (x, x_is, sent))) =
-    inr (
-      (is_ground_head plain a a_is, parity_is_flag plain.odd p p_is),
-      inr (is_position place x x_is, (f, (a, a_is, (p, p_is, (x, x_is, sent))), refl)),
-    )
-told_on_ground plain place (Err refusals.NoHead) h = inl (h, refl)
-told_on_ground plain place (Err refusals.NoPosition) h = inr ((h.0, h.1), inl (h.2, refl))
-told_on_ground plain place (Err (refusals.Line fault)) h = absurd h
-told_on_ground plain place (Err (refusals.Place fault)) h = absurd h
-told_on_ground plain place (Err (refusals.Angle fault)) h = absurd h
-told_on_ground plain place (Err refusals.NoAngle) h = absurd h
-told_on_ground plain place (Err refusals.NoLatitude) h = absurd h
-told_on_ground plain place (Err refusals.NoFeet) h = absurd h
-told_on_ground plain place (Err refusals.NoParity) h = absurd h
-told_on_ground plain place (Err refusals.Memory) h = absurd h
-told_on_ground plain place (Err refusals.NoLimit) h = absurd h
-told_on_ground plain place (Err refusals.NoTracker) h = absurd h
-told_on_ground plain place (Err refusals.NoAddress) h = absurd h
-
-one_ground_answer : (plain : PlainGroundHead) (place : PlainPosition) (r s : Result Frame Refusal)
-    → IsGroundAnswer plain place r → IsGroundAnswer plain place s → r ≡ s
-one_ground_answer plain place r s h k =
-    one_told (PlainIsGroundHead plain × IsFlag plain.odd) place (SentOnGround plain place)
-    (one_on_ground plain place) r s (told_on_ground plain place r h) (told_on_ground plain place s k)
-
-pub one_sent_of : OneSent
-one_sent_of = record {
-  air = λ head place. one_telling _ AreBytesOf as_it_is (one_air_answer head place) (λ a x y h k. h ∙ sym k);
-  surface = λ head place. one_telling _ AreBytesOf as_it_is (one_ground_answer head place) (λ a x y h k. h ∙ sym k);
-}
+pub one_sent_of : (kind : Kind) → OneSent kind
+one_sent_of kind head place =
+    one_telling _ AreBytesOf as_it_is (one_send_answer kind head place) (λ a x y h k. h ∙ sym k)

@@ -1,8 +1,9 @@
 -- What a plain head stands for: all of a position squitter but its place.
-use Rattle.std.specs.Prelude.{◌≡◌, ◌<◌, ◌^◌}
+use Rattle.std.specs.Prelude.{◌≡◌, ◌<◌, ◌^◌, ℕ}
 use Rattle.sq_message.specs.declared.air_head.AirHead.{AirHead}
 use Rattle.sq_message.specs.declared.ground_head.GroundHead.{GroundHead}
 use Rattle.sq_message.specs.Heads.{air_head_parts, ground_head_parts}
+use Rattle.sq_message.specs.Kinds.{Kind, HeadParts, InAir, OnGround}
 use Rattle.sq_message.specs.Parts.{air_parts, ground_parts}
 use Rattle.sq_message.specs.Spelling.{bit}
 use Rattle.sq_message.specs.TypeCodes.{IsAirCode, IsGroundCode}
@@ -47,3 +48,32 @@ pub record IsGroundHead (plain : PlainGroundHead) (head : GroundHead) : Type 0 w
   pub track : (ground_parts (ground_head_parts head).fields).track ≡ plain.track
   pub track_status : bit (ground_parts (ground_head_parts head).fields).track_status ≡ plain.track_status
   pub time : bit (ground_parts (ground_head_parts head).fields).time ≡ plain.time
+
+-- a plain head of the kind
+abbrev pub PlainHead : Kind → Type 0
+PlainHead InAir = PlainAirHead
+PlainHead OnGround = PlainGroundHead
+
+-- a head of the kind
+abbrev pub Head : Kind → Type 0
+Head InAir = AirHead
+Head OnGround = GroundHead
+
+abbrev pub head_parts : (kind : Kind) → Head kind → HeadParts kind
+head_parts InAir head = air_head_parts head
+head_parts OnGround head = ground_head_parts head
+
+-- the number of a head's parity
+abbrev pub odd_of : (kind : Kind) → PlainHead kind → ℕ
+odd_of InAir plain = plain.odd
+odd_of OnGround plain = plain.odd
+
+-- each field is in its range, and the parity is
+abbrev pub PlainIsHead : (kind : Kind) → PlainHead kind → Type 0
+PlainIsHead InAir plain = PlainIsAirHead plain × IsFlag plain.odd
+PlainIsHead OnGround plain = PlainIsGroundHead plain × IsFlag plain.odd
+
+-- the head has these fields
+abbrev pub IsHead : (kind : Kind) → PlainHead kind → Head kind → Type 0
+IsHead InAir plain head = IsAirHead plain head
+IsHead OnGround plain head = IsGroundHead plain head

@@ -1,12 +1,11 @@
 -- A call has one answer: what two contracts of one call with one `out` before it say of `out` and of the fault is one.
 use Rattle.std.specs.Prelude.{◌≡◌, ℕ, ℤ, List}
 use Rattle.sq_bits.specs.declared.frame.Frame.{Frame}
+use Rattle.sq_message.specs.Kinds.{Kind}
 use Rattle.squitter_c.specs.declared.altitudes.PlainAltitude.{PlainAltitude}
 use Rattle.squitter_c.specs.declared.e7.DegreesE7.{DegreesE7}
 use Rattle.sq_plain.specs.declared.faults.Fault.{Fault}
 use Rattle.squitter_c.specs.declared.fields.PlainSquitter.{PlainSquitter}
-use Rattle.squitter_c.specs.declared.heads.PlainAirHead.{PlainAirHead}
-use Rattle.squitter_c.specs.declared.heads.PlainGroundHead.{PlainGroundHead}
 use Rattle.sq_plain.specs.declared.plain.PlainAngle.{PlainAngle}
 use Rattle.sq_plain.specs.declared.plain.PlainPosition.{PlainPosition}
 use Rattle.squitter_c.specs.declared.zones.PlainZones.{PlainZones}
@@ -14,7 +13,8 @@ use Rattle.squitter_c.specs.Altitudes.{IsFeetOfField, IsFieldWritten}
 use Rattle.squitter_c.specs.Angles.{IsAngleRead, IsZoneCount}
 use Rattle.squitter_c.specs.Decoding.{IsLocal, IsPair, IsPairAt}
 use Rattle.squitter_c.specs.E7.{IsAngleE7, IsPositionE7}
-use Rattle.squitter_c.specs.Sending.{IsAirSent, IsGroundSent}
+use Rattle.squitter_c.specs.Heads.{PlainHead}
+use Rattle.squitter_c.specs.Sending.{IsSentFrame}
 use Rattle.squitter_c.specs.Reading.{IsFrameOfText, IsFrameRead, IsTextRead}
 use Rattle.squitter_c.specs.Zones.{AreLocalZones}
 
@@ -58,10 +58,7 @@ pub record OneNumber : Type 0 where
       → IsFieldWritten feet old new fault → IsFieldWritten feet old other why → (new ≡ other) × (fault ≡ why)
 
 -- of what is sent
-pub record OneSent : Type 0 where
-  pub air : (head : PlainAirHead) (position : PlainPosition) (old new other : List ℕ) (fault why : Fault)
-      → IsAirSent head position old new fault → IsAirSent head position old other why
-      → (new ≡ other) × (fault ≡ why)
-  pub surface : (head : PlainGroundHead) (position : PlainPosition) (old new other : List ℕ) (fault why : Fault)
-      → IsGroundSent head position old new fault → IsGroundSent head position old other why
-      → (new ≡ other) × (fault ≡ why)
+abbrev pub OneSent : Kind → Type 0
+OneSent kind = (head : PlainHead kind) (position : PlainPosition) (old new other : List ℕ) (fault why : Fault)
+    → IsSentFrame kind head position old new fault → IsSentFrame kind head position old other why
+    → (new ≡ other) × (fault ≡ why)

@@ -7,14 +7,11 @@ use Rattle.sq_zones.specs.declared.parity.Parity.{Parity}
 use Rattle.sq_cpr.specs.Span.{air, ground}
 use Rattle.sq_cpr.specs.Rounds.{PositionRoundsTo}
 use Rattle.sq_cpr.specs.Grid.{Point}
-use Rattle.sq_message.specs.declared.air_head.AirHead.{AirHead}
-use Rattle.sq_message.specs.declared.ground_head.GroundHead.{GroundHead}
 use Rattle.sq_message.specs.declared.place.Place.{Place}
 use Rattle.sq_message.specs.declared.place.Place.TheVariants.{Air, Ground}
 use Rattle.sq_message.specs.declared.place.PlaceFault.TheVariants.{NotPosition}
 use Rattle.sq_message.specs.declared.squitter.Squitter.{Squitter}
-use Rattle.sq_message.specs.Kinds.{InAir, OnGround}
-use Rattle.sq_message.specs.Heads.{air_head_parts, ground_head_parts}
+use Rattle.sq_message.specs.Kinds.{Kind, InAir, OnGround}
 use Rattle.sq_message.specs.Parts.{squitter_parts}
 use Rattle.sq_message.specs.Places.{IsPosition, IsSentAt}
 use Rattle.sq_message.specs.Sending.{IsSent}
@@ -22,35 +19,22 @@ use Rattle.sq_message.specs.Spelling.{Spells}
 use Rattle.sq_plain.specs.declared.faults.Fault.{Fault}
 use Rattle.sq_plain.specs.declared.faults.Refusal.{Refusal}
 use Rattle.sq_plain.specs.declared.faults.Refusal.TheVariants as refusals
-use Rattle.squitter_c.specs.declared.heads.PlainAirHead.{PlainAirHead}
-use Rattle.squitter_c.specs.declared.heads.PlainGroundHead.{PlainGroundHead}
 use Rattle.sq_plain.specs.declared.plain.PlainPosition.{PlainPosition}
 use Rattle.squitter_c.specs.Decoding.{IsFrameFault}
 use Rattle.sq_plain.specs.Faults.{Tells, as_it_is}
-use Rattle.squitter_c.specs.Heads.{IsAirHead, IsGroundHead, PlainIsAirHead, PlainIsGroundHead}
+use Rattle.squitter_c.specs.Heads.{Head, IsHead, PlainHead, PlainIsHead, head_parts, odd_of}
 use Rattle.sq_plain.specs.Plain.{IsFlag, IsOfDegrees, IsParity, PlainIsPosition}
 use Rattle.squitter_c.specs.Reading.{AreBytesOf}
 
--- the frame that is sent in the air; the first fault is the head's or the parity's, then the position's
-unfoldable pub IsAirAnswer : PlainAirHead → PlainPosition → Result Frame Refusal → Type 0
-IsAirAnswer plain place (Ok frame) = (head : AirHead) × IsAirHead plain head
-    × ((parity : Parity) × IsParity plain.odd parity
+-- the frame that is sent; the first fault is the head's or the parity's, then the position's
+unfoldable pub IsSendAnswer : (kind : Kind) → PlainHead kind → PlainPosition → Result Frame Refusal → Type 0
+IsSendAnswer kind plain place (Ok frame) = (head : Head kind) × IsHead kind plain head
+    × ((parity : Parity) × IsParity (odd_of kind plain) parity
     × ((position : Position) × IsOfDegrees place position
-    × ((point : Point) × IsSent InAir (air_head_parts head) parity position point frame)))
-IsAirAnswer plain place (Err refusals.NoHead) = ¬ (PlainIsAirHead plain × IsFlag plain.odd)
-IsAirAnswer plain place (Err refusals.NoPosition) = PlainIsAirHead plain × IsFlag plain.odd × ¬ (PlainIsPosition place)
-IsAirAnswer plain place (Err other) = ⊥
-
--- the frame that is sent on the ground; the first fault is the head's or the parity's, then the position's
-unfoldable pub IsGroundAnswer : PlainGroundHead → PlainPosition → Result Frame Refusal → Type 0
-IsGroundAnswer plain place (Ok frame) = (head : GroundHead) × IsGroundHead plain head
-    × ((parity : Parity) × IsParity plain.odd parity
-    × ((position : Position) × IsOfDegrees place position
-    × ((point : Point) × IsSent OnGround (ground_head_parts head) parity position point frame)))
-IsGroundAnswer plain place (Err refusals.NoHead) = ¬ (PlainIsGroundHead plain × IsFlag plain.odd)
-IsGroundAnswer plain place (Err refusals.NoPosition) =
-    PlainIsGroundHead plain × IsFlag plain.odd × ¬ (PlainIsPosition place)
-IsGroundAnswer plain place (Err other) = ⊥
+    × ((point : Point) × IsSent kind (head_parts kind head) parity position point frame)))
+IsSendAnswer kind plain place (Err refusals.NoHead) = ¬ (PlainIsHead kind plain)
+IsSendAnswer kind plain place (Err refusals.NoPosition) = PlainIsHead kind plain × ¬ (PlainIsPosition place)
+IsSendAnswer kind plain place (Err other) = ⊥
 
 -- the place is the point of the parity to which the position rounds
 abbrev pub IsRoundedTo : Parity → Position → Place → Type 0
@@ -81,15 +65,10 @@ IsAgainAnswer frame odd plain (Err other) = ⊥
 abbrev pub TellsFrame : Result Frame Refusal → (old new : List ℕ) → Fault → Type 0
 TellsFrame answer old new fault = Tells AreBytesOf as_it_is answer old new fault
 
--- of a frame that is sent in the air
-abbrev pub IsAirSent : PlainAirHead → PlainPosition → (old new : List ℕ) → Fault → Type 0
-IsAirSent head position old new fault =
-    (answer : Result Frame Refusal) × IsAirAnswer head position answer × TellsFrame answer old new fault
-
--- of a frame that is sent on the ground
-abbrev pub IsGroundSent : PlainGroundHead → PlainPosition → (old new : List ℕ) → Fault → Type 0
-IsGroundSent head position old new fault =
-    (answer : Result Frame Refusal) × IsGroundAnswer head position answer × TellsFrame answer old new fault
+-- of a frame that is sent
+abbrev pub IsSentFrame : (kind : Kind) → PlainHead kind → PlainPosition → (old new : List ℕ) → Fault → Type 0
+IsSentFrame kind head position old new fault =
+    (answer : Result Frame Refusal) × IsSendAnswer kind head position answer × TellsFrame answer old new fault
 
 -- of a frame that is sent again
 abbrev pub IsSentAgain : Frame → (odd : ℕ) → PlainPosition → (old new : List ℕ) → Fault → Type 0

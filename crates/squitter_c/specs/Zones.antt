@@ -23,7 +23,7 @@ pub record AreZonesOf (span : Span) (point : Point) (zones : PlainZones) : Type 
   pub lon_zones : zones.lon_zones ≡ point.zones
   pub lon_zone : point.lon_index ≡ codes_of_zone * zones.lon_zone + (code_of point).lon
 
--- those of a place, in the air or on the ground
+-- the zones of a place, in the air or on the ground
 abbrev pub AreZonesOfPlace : Place → PlainZones → Type 0
 AreZonesOfPlace (Air point) zones = AreZonesOf air point zones
 AreZonesOfPlace (Ground point) zones = AreZonesOf ground point zones

@@ -1,4 +1,5 @@
 //! Laws of the texts of faults, of entries, and of one answer, over the definitions alone.
+ghost use Rattle.sq_message.specs.Kinds.{InAir, OnGround};
 ghost use Rattle.squitter_c.specs.OneAnswers.{OneNumber, OnePlace, OneReading, OneSent};
 ghost use Rattle.squitter_c.specs.Texts.{EachText};
 ghost use Rattle.squitter_c.specs.Tracking.{AsTheTracker, BlankKeepsNothing, OneHeardByEntry};
@@ -36,17 +37,18 @@ pub fn one_reading()
     ensures { OneReading }
 {}
 
-/// So have a frame near a reference and a pair, with a site and without.
+/// A frame near a reference and a pair, with a site and without, have one answer.
 pub fn one_place()
     ensures { OnePlace }
 {}
 
-/// So have an angle, its zone count, its ten-millionths, an altitude field and feet.
+/// An angle, its zone count, its ten-millionths, an altitude field and feet have one answer.
 pub fn one_number()
     ensures { OneNumber }
 {}
 
-/// So have a head and a position that are sent in the air or on the ground.
+/// A head and a position that are sent have one frame or one fault, in the air and on the ground.
 pub fn one_frame_sent()
-    ensures { OneSent }
+    ensures in_air { OneSent InAir }
+    ensures on_ground { OneSent OnGround }
 {}

@@ -1,10 +1,11 @@
 //! Encoding: the frame that is sent of a position.
 ghost use Rattle.std.specs.Prelude.{◌≡◌, MatchOption};
+ghost use Rattle.sq_message.specs.Kinds.{InAir, OnGround};
 ghost use Rattle.sq_message.specs.Parts.{squitter_parts};
 ghost use Rattle.sq_message.specs.Places.{Fits, IsPosition};
 ghost use Rattle.sq_plain.specs.Frames.{frame_of};
-ghost use Rattle.squitter_c.specs.Sending.{IsAgainAnswer, IsAirAnswer, IsAirSent, IsFrameFrom, IsGroundAnswer};
-ghost use Rattle.squitter_c.specs.Sending.{IsGroundSent, IsRoundedTo, IsSentAgain, TellsFrame};
+ghost use Rattle.squitter_c.specs.Sending.{IsAgainAnswer, IsFrameFrom, IsRoundedTo, IsSendAnswer, IsSentAgain};
+ghost use Rattle.squitter_c.specs.Sending.{IsSentFrame, TellsFrame};
 
 use crate::heads::{PlainAirHead, PlainGroundHead, air_head, ground_head};
 use sq_angle::Position;
@@ -24,7 +25,7 @@ pub extern "C" fn squitter_encode_air(
     position: &PlainPosition,
     out: &mut [u8; 14],
 ) -> Fault
-    ensures { IsAirSent head.now position.now out.old out.new result }
+    ensures { IsSentFrame InAir head.now position.now out.old out.new result }
 {
     give(air_frame(head, position), out)
 }
@@ -37,7 +38,7 @@ pub extern "C" fn squitter_encode_ground(
     position: &PlainPosition,
     out: &mut [u8; 14],
 ) -> Fault
-    ensures { IsGroundSent head.now position.now out.old out.new result }
+    ensures { IsSentFrame OnGround head.now position.now out.old out.new result }
 {
     give(ground_frame(head, position), out)
 }
@@ -71,9 +72,9 @@ fn give(answer: Result<Frame, Refusal>, out: &mut [u8; 14]) -> Fault
 }
 
 // The frame that is sent in the air.
-#[tactic(auto, unfolding(crate::specs::Sending::IsAirAnswer))]
+#[tactic(auto, unfolding(crate::specs::Sending::IsSendAnswer))]
 fn air_frame(plain: &PlainAirHead, position: &PlainPosition) -> Result<Frame, Refusal>
-    ensures { IsAirAnswer plain.now position.now result }
+    ensures { IsSendAnswer InAir plain.now position.now result }
 {
     let Some(head) = air_head(plain) else {
         return Err(Refusal::NoHead);
@@ -90,9 +91,9 @@ fn air_frame(plain: &PlainAirHead, position: &PlainPosition) -> Result<Frame, Re
 }
 
 // The frame that is sent on the ground.
-#[tactic(auto, unfolding(crate::specs::Sending::IsGroundAnswer))]
+#[tactic(auto, unfolding(crate::specs::Sending::IsSendAnswer))]
 fn ground_frame(plain: &PlainGroundHead, position: &PlainPosition) -> Result<Frame, Refusal>
-    ensures { IsGroundAnswer plain.now position.now result }
+    ensures { IsSendAnswer OnGround plain.now position.now result }
 {
     let Some(head) = ground_head(plain) else {
         return Err(Refusal::NoHead);

@@ -1,8 +1,8 @@
-use Rattle.squitter_c.specs.Sending.{IsAirAnswer}
+use Rattle.squitter_c.specs.Sending.{IsSendAnswer}
 use Rattle.squitter_c.proofs.send.air_frame.Goals as goal
 
 pub returns : goal.returns
-unfolding IsAirAnswer
+unfolding IsSendAnswer
 returns c =
     let sent = c.send_air.ensures.sent in (
       c.in-Some.head,

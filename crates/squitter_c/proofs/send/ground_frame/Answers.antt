@@ -1,8 +1,8 @@
-use Rattle.squitter_c.specs.Sending.{IsGroundAnswer}
+use Rattle.squitter_c.specs.Sending.{IsSendAnswer}
 use Rattle.squitter_c.proofs.send.ground_frame.Goals as goal
 
 pub returns : goal.returns
-unfolding IsGroundAnswer
+unfolding IsSendAnswer
 returns c =
     let sent = c.send_ground.ensures.sent in (
       c.in-Some.head,
