@@ -7,7 +7,6 @@ pub mod Pairs
 pub mod Pinned
 pub mod Places
 pub mod SlowWorlds
-pub mod OddFirst
 pub mod SomeFix
 pub mod Standing
 pub mod TrueWorlds

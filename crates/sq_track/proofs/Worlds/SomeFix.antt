@@ -2,17 +2,15 @@
 use Rattle.std.proofs.Common.{◌≡◌, ◌≢◌, ◌∙◌, ◌+◌, ℕ, true, cond, leb, [], ◌∷◌, Option, Some, None, Result, Ok, Err, refl, sym, ap, subst}
 use Rattle.std.proofs.lemmas.Bool.{le-leb, and_from}
 use Rattle.sq_angle.specs.declared.position.Position.{Position}
-use Rattle.sq_angle.specs.Angle.{degrees as degrees_of}
-use Rattle.sq_angle.specs.Position.{lat_of, lon_of}
 use Rattle.sq_zones.specs.declared.parity.Parity.{Parity}
 use Rattle.sq_zones.specs.declared.parity.Parity.TheVariants.{Even, Odd}
 use Rattle.sq_cpr.specs.declared.faults.PairFault.{PairFault}
 use Rattle.sq_cpr.specs.declared.faults.PairFault.TheVariants as pairs
 use Rattle.sq_cpr.specs.Close.{HaveOneCount}
-use Rattle.sq_cpr.specs.Span.{air, ground}
+use Rattle.sq_cpr.specs.Span.{Span, air, ground}
 use Rattle.sq_cpr.specs.DecodeLaws.{TameAnswer}
 use Rattle.sq_cpr.specs.Grid.{Point}
-use Rattle.sq_cpr.specs.Pair.{AirPairAnswer, PairAnswer}
+use Rattle.sq_cpr.specs.Pair.{AirPairAnswer, PairAnswerAt, of_parity}
 use Rattle.sq_cpr.specs.Slow.{AreSlow}
 use Rattle.sq_cpr.proofs.Decoding.PairPoints.{tame_air_points_are_answered, tame_ground_points_are_answered}
 use Rattle.sq_cpr.proofs.Distances.SiteLaw.{rounds_near_site}
@@ -30,95 +28,105 @@ use Rattle.sq_track.specs.History.{Entry, are_of_one_sender, are_even_and_odd, a
 use Rattle.sq_track.specs.Worlds.{Arrival, IsPlaceOf, HasCodeOf, IsEncodedFrom, IsTruePlace}
 use Rattle.sq_track.specs.Answers.{heard_of_pair, IsHeard, IsHeardOfPair}
 use Rattle.sq_track.specs.Tame.{AreTogether, AreSlowPlaces}
-use Rattle.sq_track.specs.Laws.{SlowPairIsFixed, SlowPairIsFixedOnGround}
-use Rattle.sq_track.proofs.Histories.Entries.{sender_parts}
+use Rattle.sq_track.specs.Laws.{OddFirstIsFixed, OddFirstIsFixedOnGround, SlowPairIsFixed, SlowPairIsFixedOnGround}
+use Rattle.sq_track.proofs.Histories.Entries.{sender_parts, together_sym}
 use Rattle.sq_track.proofs.Lists.Found.{same_some}
 use Rattle.sq_track.proofs.Worlds.ByPairs.{slow_pair_exactly}
 use Rattle.sq_track.proofs.Worlds.Places.{one_place}
 use Rattle.sq_message.proofs.SomePlace.{some_pair_place}
 
--- what was found of tame points with one zone count is the newer
-one_count : (a b : Point) (found : Result Point PairFault) → HaveOneCount 360 a.lat_index b.lat_index
-    → TameAnswer air Odd a b found → place_of Air of_pair found ≡ Ok (Air b)
-one_count a b (Ok p) same h = ap (λ x. Ok (Air x)) h
-one_count a b (Err pairs.OutOfRange) same h = absurd h
-one_count a b (Err (pairs.ZoneCounts even odd)) same h = absurd (h.differ (h.even ∙ same ∙ sym h.odd))
+-- what was found of tame points with one zone count is the newest
+one_count : (span : Span) (named : Point → Place) (newest : Parity) (a b : Point) (found : Result Point PairFault)
+    → HaveOneCount span.degrees a.lat_index b.lat_index → TameAnswer span newest a b found
+    → place_of named of_pair found ≡ Ok (named (of_parity newest a b))
+one_count span named newest a b (Ok p) same h = ap (λ x. Ok (named x)) h
+one_count span named newest a b (Err pairs.OutOfRange) same h = absurd h
+one_count span named newest a b (Err (pairs.ZoneCounts even odd)) same h =
+    absurd (h.differ (h.even ∙ same ∙ sym h.odd))
 
--- an even and an odd message that were encoded from slow positions
-slow_pair : (m n : Me) (x y : Position) (p q : Point) (site : Option Position) (answer : Result Place PlaceFault)
-    → IsEncodedFrom m x → IsEncodedFrom n y → parity_of m ≡ Some Even → parity_of n ≡ Some Odd → IsPlaceOf m x (Air p)
-    → IsPlaceOf n y (Air q)
-    → AreSlow air p q x y → HaveOneCount 360 p.lat_index q.lat_index → IsPlaceOfOneAddress m n site answer
-    → answer ≡ Ok (Air q)
-slow_pair (kinds.Airborne o) (kinds.Airborne n) x y p q site answer (Air a, h, h_code)
-    (Air b, k, k_code) even odd p_is q_is slow same here =
+-- an even and an odd parity differ, in both orders
+differ : (p q : Parity) → p ≡ Even → q ≡ Odd → (p ≢ q) × (q ≢ p)
+differ p q even odd =
+    let never : ◌≢◌ {A = Parity} Even Odd = λ bad. absurd (cc bad) in
+    (λ e. never (sym even ∙ e ∙ odd), λ e. never (sym even ∙ sym e ∙ odd))
+
+-- a message has the code of the place that it was encoded from
+code_of_place : (m : Me) (x : Position) (p : Place) → IsEncodedFrom m x → IsPlaceOf m x p → HasCodeOf m p
+code_of_place (kinds.Airborne o) x p (a, h, code) p_is =
+    subst (HasCodeOf (kinds.Airborne o)) (one_place (kinds.Airborne o) x a p h p_is) code
+code_of_place (kinds.Surface o) x p (a, h, code) p_is =
+    subst (HasCodeOf (kinds.Surface o)) (one_place (kinds.Surface o) x a p h p_is) code
+code_of_place (kinds.Other o) x p first p_is = absurd p_is
+
+-- Two messages that were encoded in the air from slow positions, of which the newer has this parity. Slowness is of the
+-- even one and the odd one, in this order.
+slow_pair : (newest : Parity) (m n : Me) (x y : Position) (p q : Point) (site : Option Position)
+    (answer : Result Place PlaceFault)
+    → IsEncodedFrom m x → IsEncodedFrom n y → parity_of (of_parity newest n m) ≡ Some Even
+    → parity_of (of_parity newest m n) ≡ Some Odd → IsPlaceOf m x (Air p) → IsPlaceOf n y (Air q)
+    → AreSlow air (of_parity newest q p) (of_parity newest p q) (of_parity newest y x) (of_parity newest x y)
+    → HaveOneCount 360 (of_parity newest q p).lat_index (of_parity newest p q).lat_index
+    → IsPlaceOfOneAddress m n site answer → answer ≡ Ok (Air q)
+slow_pair Odd (kinds.Airborne o) (kinds.Airborne n) x y p q site answer first second even odd p_is q_is slow same here =
     let o_even : o.parity ≡ Even = same_some o.parity Even even in
     let n_odd : n.parity ≡ Odd = same_some n.parity Odd odd in
-    let differ : o.parity ≢ n.parity =
-    λ e. let bad : ◌≡◌ {A = Parity} Even Odd = sym o_even ∙ e ∙ n_odd in absurd (cc bad) in
-    let (found, decoded, is) = here.1 differ in
-    let a_is : ◌≡◌ {A = Place} (Air a) (Air p) = one_place (kinds.Airborne o) x (Air a) (Air p) h p_is in
-    let b_is : ◌≡◌ {A = Place} (Air b) (Air q) = one_place (kinds.Airborne n) y (Air b) (Air q) k q_is in
-    let p_code : HasCodeOf (kinds.Airborne o) (Air p) = subst (HasCodeOf (kinds.Airborne o)) a_is h_code in
-    let q_code : HasCodeOf (kinds.Airborne n) (Air q) = subst (HasCodeOf (kinds.Airborne n)) b_is k_code in
+    let (found, decoded, is) = here.1 (differ o.parity n.parity o_even n_odd).0 in
     let there = subst (λ r. AirPairAnswer (pair_by_parity r o.code n.code) found) n_odd decoded in
     let tame = slow_is_tame air refl x y p q p_is.1 q_is.1 (p_is.0 ∙ o_even) (q_is.0 ∙ n_odd) slow in
-    let law = tame_air_points_are_answered (pair_by_parity Odd o.code n.code) found p q there p_is.1.of_grid q_is.1.of_grid (has_code p o.code p_code)
-    (has_code q n.code q_code) tame in
-    is ∙ one_count p q found same law
-slow_pair (kinds.Airborne o) (kinds.Airborne n) x y p q site answer (Air a, h, h_code)
-    (Ground b, k, k_code) even odd p_is q_is slow same here = absurd k
-slow_pair (kinds.Airborne o) (kinds.Airborne n) x y p q site answer
-    (Ground a, h, h_code) second even odd p_is q_is slow same here = absurd h
-slow_pair (kinds.Airborne o) (kinds.Surface n) x y p q site answer first second even odd p_is q_is slow same here =
-    absurd q_is
-slow_pair (kinds.Airborne o) (kinds.Other n) x y p q site answer first second even odd p_is q_is slow same here =
-    absurd q_is
-slow_pair (kinds.Surface o) n x y p q site answer first second even odd p_is q_is slow same here = absurd p_is
-slow_pair (kinds.Other o) n x y p q site answer first second even odd p_is q_is slow same here = absurd p_is
+    let law = tame_air_points_are_answered (pair_by_parity Odd o.code n.code) found p q there
+    p_is.1.of_grid q_is.1.of_grid (has_code p o.code (code_of_place (kinds.Airborne o) x (Air p) first p_is))
+    (has_code q n.code (code_of_place (kinds.Airborne n) y (Air q) second q_is)) tame in
+    is ∙ one_count air Air Odd p q found same law
+slow_pair Even (kinds.Airborne o) (kinds.Airborne n) x y p q site answer first second even odd p_is q_is slow same here =
+    let n_even : n.parity ≡ Even = same_some n.parity Even even in
+    let o_odd : o.parity ≡ Odd = same_some o.parity Odd odd in
+    let (found, decoded, is) = here.1 (differ n.parity o.parity n_even o_odd).1 in
+    let there = subst (λ r. AirPairAnswer (pair_by_parity r o.code n.code) found) n_even decoded in
+    let tame = slow_is_tame air refl y x q p q_is.1 p_is.1 (q_is.0 ∙ n_even) (p_is.0 ∙ o_odd) slow in
+    let law = tame_air_points_are_answered (pair_by_parity Even o.code n.code) found q p there
+    q_is.1.of_grid p_is.1.of_grid (has_code q n.code (code_of_place (kinds.Airborne n) y (Air q) second q_is))
+    (has_code p o.code (code_of_place (kinds.Airborne o) x (Air p) first p_is)) tame in
+    is ∙ one_count air Air Even q p found same law
+slow_pair newest (kinds.Airborne o) (kinds.Surface n) x y p q site answer first second even odd p_is q_is slow same here = absurd q_is
+slow_pair newest (kinds.Airborne o) (kinds.Other n) x y p q site answer first second even odd p_is q_is slow same here = absurd q_is
+slow_pair newest (kinds.Surface o) n x y p q site answer first second even odd p_is q_is slow same here = absurd p_is
+slow_pair newest (kinds.Other o) n x y p q site answer first second even odd p_is q_is slow same here = absurd p_is
 
--- what was found of tame points on the ground with one zone count is the newer
-one_count_on_ground : (a b : Point) (found : Result Point PairFault) → HaveOneCount 90 a.lat_index b.lat_index
-    → TameAnswer ground Odd a b found → place_of Ground of_pair found ≡ Ok (Ground b)
-one_count_on_ground a b (Ok p) same h = ap (λ x. Ok (Ground x)) h
-one_count_on_ground a b (Err pairs.OutOfRange) same h = absurd h
-one_count_on_ground a b (Err (pairs.ZoneCounts even odd)) same h = absurd (h.differ (h.even ∙ same ∙ sym h.odd))
-
--- an even and an odd message that were encoded on the ground from slow positions near the site
-slow_ground_pair : (m n : Me) (x y : Position) (p q : Point) (site : Position) (answer : Result Place PlaceFault)
-    → IsEncodedFrom m x → IsEncodedFrom n y → parity_of m ≡ Some Even → parity_of n ≡ Some Odd
-    → IsPlaceOf m x (Ground p) → IsPlaceOf n y (Ground q)
-    → AreSlowPlaces (Some site) (Ground p) (Ground q) x y → HaveOneCount 90 p.lat_index q.lat_index
+-- two messages that were encoded on the ground from slow positions near the site, of which the newer has this parity
+slow_ground_pair : (newest : Parity) (m n : Me) (x y : Position) (p q : Point) (site : Position)
+    (answer : Result Place PlaceFault)
+    → IsEncodedFrom m x → IsEncodedFrom n y → parity_of (of_parity newest n m) ≡ Some Even
+    → parity_of (of_parity newest m n) ≡ Some Odd → IsPlaceOf m x (Ground p) → IsPlaceOf n y (Ground q)
+    → AreSlowPlaces (Some site) (Ground (of_parity newest q p)) (Ground (of_parity newest p q)) (of_parity newest y x)
+    (of_parity newest x y)
+    → HaveOneCount 90 (of_parity newest q p).lat_index (of_parity newest p q).lat_index
     → IsPlaceOfOneAddress m n (Some site) answer → answer ≡ Ok (Ground q)
-slow_ground_pair (kinds.Surface o) (kinds.Surface n) x y p q site answer (Ground a, h, h_code)
-    (Ground b, k, k_code) even odd p_is q_is slow same here =
+slow_ground_pair Odd (kinds.Surface o) (kinds.Surface n) x y p q site answer first second even odd p_is q_is slow same here =
     let o_even : o.parity ≡ Even = same_some o.parity Even even in
     let n_odd : n.parity ≡ Odd = same_some n.parity Odd odd in
-    let differ : o.parity ≢ n.parity =
-    λ e. let bad : ◌≡◌ {A = Parity} Even Odd = sym o_even ∙ e ∙ n_odd in absurd (cc bad) in
-    let (found, decoded, is) = here.1 differ in
-    let a_is : ◌≡◌ {A = Place} (Ground a) (Ground p) = one_place (kinds.Surface o) x (Ground a) (Ground p) h p_is in
-    let b_is : ◌≡◌ {A = Place} (Ground b) (Ground q) = one_place (kinds.Surface n) y (Ground b) (Ground q) k q_is in
-    let p_code : HasCodeOf (kinds.Surface o) (Ground p) = subst (HasCodeOf (kinds.Surface o)) a_is h_code in
-    let q_code : HasCodeOf (kinds.Surface n) (Ground q) = subst (HasCodeOf (kinds.Surface n)) b_is k_code in
-    let there = subst (λ r. PairAnswer ground (pair_by_parity r o.code n.code) (degrees_of (lat_of site))
-    (degrees_of (lon_of site)) found) n_odd decoded in
+    let (found, decoded, is) = here.1 (differ o.parity n.parity o_even n_odd).0 in
+    let there = subst (λ r. PairAnswerAt ground (pair_by_parity r o.code n.code) site found) n_odd decoded in
     let tame = slow_is_tame ground refl x y p q p_is.1 q_is.1 (p_is.0 ∙ o_even) (q_is.0 ∙ n_odd) slow.0 in
-    let p_near = rounds_near_site ground refl x site p p_is.1 slow.1 in
-    let q_near = rounds_near_site ground refl y site q q_is.1 slow.2 in
-    let law = tame_ground_points_are_answered (pair_by_parity Odd o.code n.code) site found p q there p_is.1.of_grid q_is.1.of_grid (has_code p o.code p_code)
-    (has_code q n.code q_code) tame p_near q_near in
-    is ∙ one_count_on_ground p q found same law
-slow_ground_pair (kinds.Surface o) (kinds.Surface n) x y p q site answer (Ground a, h, h_code)
-    (Air b, k, k_code) even odd p_is q_is slow same here = absurd k
-slow_ground_pair (kinds.Surface o) (kinds.Surface n) x y p q site answer
-    (Air a, h, h_code) second even odd p_is q_is slow same here = absurd h
-slow_ground_pair (kinds.Surface o)
-    (kinds.Airborne n) x y p q site answer first second even odd p_is q_is slow same here = absurd q_is
-slow_ground_pair (kinds.Surface o) (kinds.Other n) x y p q site answer first second even odd p_is q_is slow same here =
-    absurd q_is
-slow_ground_pair (kinds.Airborne o) n x y p q site answer first second even odd p_is q_is slow same here = absurd p_is
-slow_ground_pair (kinds.Other o) n x y p q site answer first second even odd p_is q_is slow same here = absurd p_is
+    let law = tame_ground_points_are_answered (pair_by_parity Odd o.code n.code) site found p q there
+    p_is.1.of_grid q_is.1.of_grid (has_code p o.code (code_of_place (kinds.Surface o) x (Ground p) first p_is))
+    (has_code q n.code (code_of_place (kinds.Surface n) y (Ground q) second q_is)) tame
+    (rounds_near_site ground refl x site p p_is.1 slow.1) (rounds_near_site ground refl y site q q_is.1 slow.2) in
+    is ∙ one_count ground Ground Odd p q found same law
+slow_ground_pair Even (kinds.Surface o) (kinds.Surface n) x y p q site answer first second even odd p_is q_is slow same here =
+    let n_even : n.parity ≡ Even = same_some n.parity Even even in
+    let o_odd : o.parity ≡ Odd = same_some o.parity Odd odd in
+    let (found, decoded, is) = here.1 (differ n.parity o.parity n_even o_odd).1 in
+    let there = subst (λ r. PairAnswerAt ground (pair_by_parity r o.code n.code) site found) n_even decoded in
+    let tame = slow_is_tame ground refl y x q p q_is.1 p_is.1 (q_is.0 ∙ n_even) (p_is.0 ∙ o_odd) slow.0 in
+    let law = tame_ground_points_are_answered (pair_by_parity Even o.code n.code) site found q p there
+    q_is.1.of_grid p_is.1.of_grid (has_code q n.code (code_of_place (kinds.Surface n) y (Ground q) second q_is))
+    (has_code p o.code (code_of_place (kinds.Surface o) x (Ground p) first p_is)) tame
+    (rounds_near_site ground refl y site q q_is.1 slow.1) (rounds_near_site ground refl x site p p_is.1 slow.2) in
+    is ∙ one_count ground Ground Even q p found same law
+slow_ground_pair newest (kinds.Surface o) (kinds.Airborne n) x y p q site answer first second even odd p_is q_is slow same here = absurd q_is
+slow_ground_pair newest (kinds.Surface o) (kinds.Other n) x y p q site answer first second even odd p_is q_is slow same here = absurd q_is
+slow_ground_pair newest (kinds.Airborne o) n x y p q site answer first second even odd p_is q_is slow same here = absurd p_is
+slow_ground_pair newest (kinds.Other o) n x y p q site answer first second even odd p_is q_is slow same here = absurd p_is
 
 -- two messages with places are positions
 positions_of : (m n : Me) (x y : Position) (p q : Place) → IsPlaceOf m x p → IsPlaceOf n y q
@@ -135,7 +143,7 @@ positions_of (kinds.Other a) n x y p q h k = absurd h
 even_then_odd : (o n : Option Parity) → o ≡ Some Even → n ≡ Some Odd → are_even_and_odd o n ≡ true
 even_then_odd o n even odd = ap (λ x. are_even_and_odd x n) even ∙ ap (are_even_and_odd (Some Even)) odd
 
-pub odd_then_even : (o n : Option Parity) → o ≡ Some Odd → n ≡ Some Even → are_even_and_odd o n ≡ true
+odd_then_even : (o n : Option Parity) → o ≡ Some Odd → n ≡ Some Even → are_even_and_odd o n ≡ true
 odd_then_even o n odd even = ap (λ x. are_even_and_odd x n) odd ∙ ap (are_even_and_odd (Some Odd)) even
 
 -- the newer arrival of a pair is heard as the fix of a place where the two are decoded to nothing else
@@ -171,7 +179,7 @@ fixed window site a b p q together two h k decoded =
 pub slow_pair_is_fixed : SlowPairIsFixed
 slow_pair_is_fixed window site a b p q pair h k slow same =
     fixed window site a b (Air p) (Air q) pair.together (even_then_odd _ _ pair.even pair.odd) h k
-    (λ answer. slow_pair (squitter_parts a.squitter).me
+    (λ answer. slow_pair Odd (squitter_parts a.squitter).me
     (squitter_parts b.squitter).me a.position b.position p q site answer a.encoded b.encoded pair.even pair.odd h k
     slow same)
 
@@ -180,6 +188,24 @@ slow_pair_is_fixed_on_ground window site a b p q pair h k slow same =
     let places : AreSlowPlaces (Some site) (Ground p) (Ground q) a.position b.position =
     (slow_pair_exactly window (Some site) a b (Ground p) (Ground q) pair h k).0 slow in
     fixed window (Some site) a b (Ground p) (Ground q) pair.together (even_then_odd _ _ pair.even pair.odd) h k
-    (λ answer. slow_ground_pair (squitter_parts a.squitter).me
+    (λ answer. slow_ground_pair Odd (squitter_parts a.squitter).me
+    (squitter_parts b.squitter).me a.position b.position p q site answer a.encoded b.encoded pair.even pair.odd h k
+    places same)
+
+pub odd_first_is_fixed : OddFirstIsFixed
+odd_first_is_fixed window site a b p q pair h k slow same =
+    fixed window site a b (Air p) (Air q) (together_sym window b a pair.together)
+    (odd_then_even _ _ pair.odd pair.even) h k
+    (λ answer. slow_pair Even (squitter_parts a.squitter).me
+    (squitter_parts b.squitter).me a.position b.position p q site answer a.encoded b.encoded pair.even pair.odd h k
+    slow same)
+
+pub odd_first_is_fixed_on_ground : OddFirstIsFixedOnGround
+odd_first_is_fixed_on_ground window site a b p q pair h k slow same =
+    let places : AreSlowPlaces (Some site) (Ground q) (Ground p) b.position a.position =
+    (slow_pair_exactly window (Some site) b a (Ground q) (Ground p) pair k h).0 slow in
+    fixed window (Some site) a b (Ground p) (Ground q) (together_sym window b a pair.together)
+    (odd_then_even _ _ pair.odd pair.even) h k
+    (λ answer. slow_ground_pair Even (squitter_parts a.squitter).me
     (squitter_parts b.squitter).me a.position b.position p q site answer a.encoded b.encoded pair.even pair.odd h k
     places same)

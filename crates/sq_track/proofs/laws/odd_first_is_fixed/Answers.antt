@@ -1,4 +1,4 @@
-use Rattle.sq_track.proofs.Worlds.OddFirst.{odd_first_is_fixed as the_law}
+use Rattle.sq_track.proofs.Worlds.SomeFix.{odd_first_is_fixed as the_law}
 use Rattle.sq_track.proofs.laws.odd_first_is_fixed.Goals as goal
 
 pub returns : goal.returns
