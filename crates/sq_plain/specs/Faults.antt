@@ -66,44 +66,29 @@ fault_of NoLimit = told 45 0 0
 fault_of NoTracker = told 46 0 0
 fault_of NoAddress = told 47 0 0
 
--- the reasons of texts, frames and moments with 0 for their numbers
-abbrev pub kind_of_line : LineFault → LineFault
-kind_of_line lines.Wrap = lines.Wrap
-kind_of_line lines.Short = lines.Short
-kind_of_line (lines.Length n) = lines.Length 0
-kind_of_line (lines.Digit place) = lines.Digit 0
-kind_of_line (lines.NotDf17 format) = lines.NotDf17 0
-kind_of_line (lines.Parity remainder) = lines.Parity 0
-kind_of_line lines.LongLine = lines.LongLine
-kind_of_line lines.Moment = lines.Moment
-kind_of_line (lines.MomentBack last) = lines.MomentBack 0
-kind_of_line lines.Full = lines.Full
+-- the reason of a text, a frame or a moment with this number, where it has one
+abbrev pub line_with : (first : ℕ) → LineFault → LineFault
+line_with first (lines.Length n) = lines.Length first
+line_with first (lines.Digit place) = lines.Digit first
+line_with first (lines.NotDf17 format) = lines.NotDf17 first
+line_with first (lines.Parity remainder) = lines.Parity first
+line_with first (lines.MomentBack last) = lines.MomentBack first
+line_with first fault = fault
 
--- the reasons of places with 0 for their numbers
-abbrev pub kind_of_place : PlaceFault → PlaceFault
-kind_of_place places.NotPosition = places.NotPosition
-kind_of_place places.OtherAddress = places.OtherAddress
-kind_of_place places.OtherKind = places.OtherKind
-kind_of_place places.SameParity = places.SameParity
-kind_of_place places.NoSite = places.NoSite
-kind_of_place places.OutOfRange = places.OutOfRange
-kind_of_place (places.ZoneCounts even odd) = places.ZoneCounts 0 0
+-- the reason of a place with these numbers, where it has some
+abbrev pub place_with : (first second : ℕ) → PlaceFault → PlaceFault
+place_with first second (places.ZoneCounts even odd) = places.ZoneCounts first second
+place_with first second fault = fault
+
+-- the reason with these numbers, where it has some
+abbrev pub with_numbers : (first second : ℕ) → Refusal → Refusal
+with_numbers first second (Line fault) = Line (line_with first fault)
+with_numbers first second (Place fault) = Place (place_with first second fault)
+with_numbers first second refusal = refusal
 
 -- a reason with 0 for its numbers: two reasons have one kind if they differ in their numbers at most
 abbrev pub kind_of : Refusal → Refusal
-kind_of (Line fault) = Line (kind_of_line fault)
-kind_of (Place fault) = Place (kind_of_place fault)
-kind_of (Angle fault) = Angle fault
-kind_of NoPosition = NoPosition
-kind_of NoHead = NoHead
-kind_of NoAngle = NoAngle
-kind_of NoLatitude = NoLatitude
-kind_of NoFeet = NoFeet
-kind_of NoParity = NoParity
-kind_of Memory = Memory
-kind_of NoLimit = NoLimit
-kind_of NoTracker = NoTracker
-kind_of NoAddress = NoAddress
+kind_of refusal = with_numbers 0 0 refusal
 
 -- a code is that of one kind of reason, whatever the numbers
 abbrev pub OneCode : Type 0

@@ -12,7 +12,7 @@ use Rattle.sq_track.specs.declared.contact.LastFix.{LastFix}
 use Rattle.sq_track.specs.declared.contact.Received.{Received}
 use Rattle.sq_track.specs.declared.contact.Side.{Side}
 use Rattle.sq_track.specs.History.{History}
-use Rattle.sq_track.specs.Kept.{fix_in, frame_opposite, pair_in, recent_position, recent_squitter}
+use Rattle.sq_track.specs.Kept.{fix_in, of_other_parity, pair_in, recent_position, recent_squitter}
 use Rattle.sq_track.specs.Ordered.{blank_contact}
 use Rattle.sq_track.specs.Replies.{IsInTime}
 use Rattle.sq_zones.specs.declared.parity.Parity.{Parity}
@@ -79,7 +79,7 @@ blank_is_side : IsSideOf blank_side blank_contact.airborne
 blank_is_side = record { even = nothing_spelled; odd = nothing_spelled; fix = no_fix_kept }
 
 -- nothing is kept in a blank contact
-no_frame : (parity : Parity) → frame_opposite parity blank_contact.airborne ≡ None
+no_frame : (parity : Parity) → of_other_parity parity blank_contact.airborne ≡ None
 no_frame Even = refl
 no_frame Odd = refl
 

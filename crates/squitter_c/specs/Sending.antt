@@ -11,7 +11,7 @@ use Rattle.sq_message.specs.declared.place.Place.{Place}
 use Rattle.sq_message.specs.declared.place.Place.TheVariants.{Air, Ground}
 use Rattle.sq_message.specs.declared.place.PlaceFault.TheVariants.{NotPosition}
 use Rattle.sq_message.specs.declared.squitter.Squitter.{Squitter}
-use Rattle.sq_message.specs.Kinds.{Kind, InAir, OnGround}
+use Rattle.sq_message.specs.Kinds.{Kind}
 use Rattle.sq_message.specs.Parts.{squitter_parts}
 use Rattle.sq_message.specs.Places.{IsPosition, IsSentAt}
 use Rattle.sq_message.specs.Sending.{IsSent}
