@@ -268,7 +268,7 @@ class Book:
         types = {name: one for name, one in self.definitions.items() if one.kind == "Type"}
         plain_types = {name for name, one in types.items() if one.is_type or one.parts[0][0] in CONTAINERS}
         plain_types |= {name for name, one in types.items()
-                        if all(len(part) == 1 and self.known[name].get(part[0]) in plain_types for part in one.parts)}
+                        if all(len(part) == 1 and self.is_plain(part[0], self.known[name], plain_types) for part in one.parts)}
         facts = types.keys() - plain_types
         while True:
             more = {name for name, one in types.items() if name not in facts and self.is_fact(one, facts)}
@@ -278,6 +278,11 @@ class Book:
         for name, one in types.items():
             plain = one.is_type or one.parts[0][0] in CONTAINERS
             one.kind = "type" if name not in facts else "relation" if one.takes or plain else "statement"
+
+    @staticmethod
+    def is_plain(word: str, known: dict[str, Name], plain_types: set[Name]) -> bool:
+        """Whether the word is a type of plain data, of specs/ or of the code."""
+        return known[word] in plain_types if word in known else word[0].isupper() and word not in FACTS
 
     def is_fact(self, one: Definition, facts: set[Name]) -> bool:
         known = self.known[one.name]
