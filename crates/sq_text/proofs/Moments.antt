@@ -1,5 +1,6 @@
 -- Moments and the spaces after them.
-use Rattle.std.proofs.Common.{◌≡◌, ◌+◌, ◌<◌, ◌++◌, ◌*◌, ◌^◌, ℕ, List, [], ◌∷◌, length, get_or, suc, zero, sym, arith, refl, ap₂}
+use Rattle.std.proofs.Common.{◌≡◌, ◌+◌, ◌<◌, ◌≤◌, ◌++◌, ◌*◌, ◌^◌, ℕ, List, [], ◌∷◌, length, take, get_or, suc, zero, sym, subst, arith, refl, ap₂, add-one}
+use Rattle.std.proofs.Math.Nat.{pow-le-pow_right}
 use Rattle.std.proofs.lemmas.Nat.{pow-add}
 use Rattle.std.specs.Char.{IsAsciiDigit}
 use Rattle.std.specs.List.{AllByRecursion}
@@ -40,3 +41,20 @@ no_front (x ∷ xs) (y ∷ ys) rest none is = let others : xs ≡ ys ++ 32 ∷ r
 
 pub pow_ten : (n : ℕ) → 10 ^ (n + 1) ≡ 10 ^ n * 10
 pow_ten n = pow-add 10 n 1
+
+-- what fits some digits fits more
+pub fits_more : (n i value : ℕ) → i ≤ n → value < 10 ^ i → value < 10 ^ n
+fits_more n i value few small =
+    let most : 10 ^ i ≤ 10 ^ n = pow-le-pow_right (omega arith) few in omega (arith, most, small)
+
+-- one more digit after digits
+pub digits_suc : (text : List ℕ) (i : ℕ) → i < length text → AllByRecursion IsAsciiDigit (take i text)
+    → IsAsciiDigit (get_or text i 0) → AllByRecursion IsAsciiDigit (take (suc i) text)
+digits_suc [] i within before digit = absurd (omega (arith, within))
+digits_suc (x ∷ xs) zero within before digit = (digit, tt)
+digits_suc (x ∷ xs) (suc i) within before digit = (before.0, digits_suc xs i (omega (arith, within)) before.1 digit)
+
+pub digits_more : (text : List ℕ) (i : ℕ) → i < length text → AllByRecursion IsAsciiDigit (take i text)
+    → IsAsciiDigit (get_or text i 0) → AllByRecursion IsAsciiDigit (take (i + 1) text)
+digits_more text i within before digit =
+    subst (λ j. AllByRecursion IsAsciiDigit (take j text)) (sym (add-one i)) (digits_suc text i within before digit)

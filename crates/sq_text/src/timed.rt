@@ -1,5 +1,5 @@
 //! Squitters with their moments.
-ghost use Rattle.std.specs.Prelude.{◌≡◌, ◌≤◌, ◌∷◌, ◌++◌, ◌↔◌, ◌^◌, ◌<◌, ℕ, List, IsTrue, IfSome, IfNone, length};
+ghost use Rattle.std.specs.Prelude.{◌≡◌, ◌≤◌, ◌∷◌, ◌++◌, ◌↔◌, ◌^◌, ◌<◌, ℕ, List, IsTrue, IfSome, IfNone, length, take};
 ghost use Rattle.std.specs.Char.{IsAsciiDigit};
 ghost use Rattle.std.specs.List.{AllByRecursion};
 ghost use Rattle.std.specs.Str.Parse.{digits_value};
@@ -37,7 +37,42 @@ pub fn read_timed(text: &[u8]) -> Result<TimedSquitter, LineFault>
 }
 
 // The moment at the front of the text, and what follows the space after it.
+#[inline(always)]
 fn split_moment(text: &[u8]) -> Option<(u64, &[u8])>
+    ensures some { IfSome result (λ parts. IsMomentLine text.now parts.1.now parts.0) }
+    ensures none { IfNone result (HasNoMoment text.now) }
+{
+    let (moment, count) = leading_number(text);
+    if count > 0 && count < text.len() && text[count] == b' ' {
+        return Some((moment, &text[count + 1..]));
+    }
+    split_any(text)
+}
+
+// The number that the digits at the front of a text write, up to 19 of them, and how many they are: the common case.
+#[inline(always)]
+fn leading_number(text: &[u8]) -> (u64, usize)
+    ensures within { result.1 ≤ length text.now }
+    ensures few { result.1 < 20 }
+    ensures digits { AllByRecursion IsAsciiDigit (take result.1 text.now) }
+    ensures value { result.0 ≡ digits_value 10 (take result.1 text.now) }
+{
+    let most = text.len().min(DIGITS - 1);
+    let mut number = 0;
+    for count in 0..most {
+        let byte = text[count];
+        if !byte.is_ascii_digit() {
+            return (number, count);
+        }
+        number = number * 10 + u64::from(byte - b'0');
+    }
+    (number, most)
+}
+
+// The moment of any text: slower, and apart from the common case.
+#[cold]
+#[inline(never)]
+fn split_any(text: &[u8]) -> Option<(u64, &[u8])>
     ensures some { IfSome result (λ parts. IsMomentLine text.now parts.1.now parts.0) }
     ensures none { IfNone result (HasNoMoment text.now) }
 {

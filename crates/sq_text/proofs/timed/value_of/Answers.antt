@@ -1,10 +1,9 @@
 use Rattle.std.proofs.Common.{◌≡◌, ◌+◌, ◌*◌, ◌<◌, ◌≤◌, ◌^◌, ℕ, get_or, take, length, arith}
-use Rattle.std.proofs.Math.Nat.{pow-le-pow_right}
 use Rattle.std.specs.Char.{digit_value}
 use Rattle.std.specs.Str.Parse.{digits_value}
 use Rattle.std.proofs.lemmas.Int.Digits.{digits_value_more}
 use Rattle.std.proofs.lemmas.Str.{digit_value_digit}
-use Rattle.sq_text.proofs.Moments.{digit_at, pow_ten}
+use Rattle.sq_text.proofs.Moments.{digit_at, fits_more, pow_ten}
 use Rattle.sq_text.proofs.timed.value_of.Goals as goal
 
 pub loop-digit-preserved : goal.loop-digit-preserved
@@ -21,26 +20,21 @@ loop-digit-preserved c =
       omega (arith, digit, value, pow_ten i, c.loop-digit.invariant.1, digit_at ds i c.requires.digits within),
     )
 
--- what fits some digits fits more
-below : (n i value : ℕ) → i ≤ n → value < 10 ^ i → value < 10 ^ n
-below n i value few small =
-    let most : 10 ^ i ≤ 10 ^ n = pow-le-pow_right (omega arith) few in omega (arith, most, small)
-
 pub overflow_mul-value : goal.overflow_mul-value
 overflow_mul-value c =
-    let small = below 18 c.loop-digit.digit-index c.loop-digit.value
+    let small = fits_more 18 c.loop-digit.digit-index c.loop-digit.value
     (omega (arith, c.loop-digit-test.true, c.requires.short)) c.loop-digit.invariant.1 in
     search (arith, small)
 
 pub overflow_add-value : goal.overflow_add-value
 overflow_add-value c =
     let ds = c.args.digits.now in
-    let small = below 18 c.loop-digit.digit-index c.loop-digit.value
+    let small = fits_more 18 c.loop-digit.digit-index c.loop-digit.value
     (omega (arith, c.loop-digit-test.true, c.requires.short)) c.loop-digit.invariant.1 in
     let digit = digit_at ds c.loop-digit.digit-index c.requires.digits (omega (arith, c.loop-digit-test.true)) in
     search (arith, small, digit, c.from.ensures)
 
 pub returns-clause-small : goal.returns-clause-small
 returns-clause-small c =
-    below 19 c.loop-digit.digit-index c.loop-digit.value
+    fits_more 19 c.loop-digit.digit-index c.loop-digit.value
     (omega (arith, c.loop-digit.auto.digit-index-end, c.requires.short)) c.loop-digit.invariant.1

@@ -1,7 +1,7 @@
 use Rattle.std.proofs.Common.{◌∙◌, subst, sym}
 use Rattle.sq_text.specs.Timed.{IsDecimalText}
 use Rattle.sq_text.proofs.Moments.{digits_without_space, no_front, one_front}
-use Rattle.sq_text.proofs.timed.split_moment.Goals as goal
+use Rattle.sq_text.proofs.timed.split_any.Goals as goal
 
 pub returns-in-None-clause-none : goal.returns-in-None-clause-none
 returns-in-None-clause-none c rest moment line =
