@@ -30,6 +30,16 @@ impl Angle {
         Some(Angle { num, den })
     }
 
+    /// The angle of `num / den` degrees, which are known to be one: it is not tested again. The denominator is from 1 to
+    /// [`MAX_DENOMINATOR`], and the magnitude at most 360 degrees.
+    #[inline(always)]
+    pub fn known(num: i64, den: u64) -> Angle
+        requires { IsAngle num den }
+        ensures { degrees result ≡ record { num = num; den = den } }
+    {
+        Angle { num, den }
+    }
+
     /// The numerator, as it was given.
     pub fn num(&self) -> i64
         ensures { result ≡ (degrees self.now).num }

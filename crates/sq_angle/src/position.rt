@@ -30,6 +30,17 @@ impl Position {
         Some(Position { lat, lon })
     }
 
+    /// The position of a latitude and a longitude that are known to be within 90 and 180 degrees: they are not tested
+    /// again.
+    #[inline(always)]
+    pub fn known(lat: Angle, lon: Angle) -> Position
+        requires { IsPosition (degrees lat) (degrees lon) }
+        ensures lat { lat_of result ≡ lat }
+        ensures lon { lon_of result ≡ lon }
+    {
+        Position { lat, lon }
+    }
+
     /// The latitude in degrees, as it was given.
     pub fn lat(&self) -> Angle
         ensures { result ≡ lat_of self.now }

@@ -123,9 +123,9 @@ impl<S: Span> GridPoint<S> {
         ensures lat { degrees (lat_of result) ≡ latitude S.span self.now }
         ensures lon { degrees (lon_of result) ≡ longitude S.span self.now }
     {
-        let lat = angle_at::<S>(self.parity, self.lat_index).unwrap();
+        let lat = lat_angle::<S>(self.parity, self.lat_index);
         let lon = lon_angle::<S>(self.zones, self.lon_index);
-        Position::new(lat, lon).unwrap()
+        Position::known(lat, lon)
     }
 }
 
@@ -134,6 +134,16 @@ pub(crate) fn lat_zones(parity: Parity) -> u8
     ensures { result ≡ lat_zones_of parity }
 {
     60 - parity.index()
+}
+
+// The latitude at an index of a point.
+fn lat_angle<S: Span>(parity: Parity, lat_index: i32) -> Angle
+    requires { IsLatitude S.span.degrees parity lat_index }
+    ensures value { degrees result ≡ grid_latitude S.span.degrees parity lat_index }
+    ensures within { IsWithin 90 (degrees result) }
+{
+    let num = i64::from(degrees_of::<S>()) * i64::from(lat_index);
+    Angle::known(num, u64::from(lat_zones(parity)) * CODES)
 }
 
 // The latitude at an index, where it is one.
@@ -160,7 +170,7 @@ fn lon_angle<S: Span>(zones: u8, lon_index: u32) -> Angle
     let den = u64::from(zones) * CODES;
     let east = u64::from(degrees_of::<S>()) * u64::from(lon_index);
     let num = west_from_180(east, den);
-    Angle::new(num, den).unwrap()
+    Angle::known(num, den)
 }
 
 // `east / den` degrees, less 360 degrees from 180 up, over `den`.
