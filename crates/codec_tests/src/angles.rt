@@ -1,8 +1,8 @@
 //! Worked angles: limits, values, texts read and written, positions.
 use crate::rows::{read_angle, read_fraction, read_position};
-use arrayvec::ArrayString;
 use sq_angle::laws::{equal_angles, equal_positions, is_below};
-use sq_angle::{Angle, AngleFault, Position, push_digit, push_pair, quotient};
+use sq_digits::TextBuffer;
+use sq_angle::{Angle, AngleFault, Position, quotient};
 use std::process::Abort;
 
 #[test]
@@ -317,13 +317,21 @@ fn quotients(rt: HostRuntime) {
 }
 
 #[test]
-fn digits_one_after_another(rt: HostRuntime) {
-    let mut text = ArrayString::<32>::new();
-    push_pair(&mut text, 7);
-    push_pair(&mut text, 42);
-    push_digit(&mut text, 9);
-    text.push_str(" ");
+fn appends_an_angle(rt: HostRuntime) {
+    let mut text = TextBuffer::<20>::new();
+    text.push_str("at ");
     let west = Angle::new(-1, 2).expect(&rt, "an angle");
     west.push_decimal7(&mut text);
-    assert_eq!(rt; text.as_str(), "07429 -0.5000000");
+    assert_eq!(rt; text.as_str(), "at -0.5000000");
+}
+
+#[test]
+fn known_angles_and_positions(rt: HostRuntime) {
+    let north = Angle::known(181, 2);
+    assert!(rt; Angle::new(181, 2) == Some(north));
+    let lat = Angle::known(-90, 1);
+    let lon = Angle::known(1_799, 10);
+    let position = Position::known(lat, lon);
+    assert!(rt; Position::new(lat, lon) == Some(position));
+    assert!(rt; position.lat() == lat && position.lon() == lon);
 }

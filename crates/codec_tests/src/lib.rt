@@ -8,6 +8,8 @@ mod bits;
 #[cfg(test)]
 mod decoding;
 #[cfg(test)]
+mod digits;
+#[cfg(test)]
 mod points;
 #[cfg(test)]
 mod rows;

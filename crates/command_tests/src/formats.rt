@@ -2,7 +2,7 @@
 //! `tests/worked/check.txt` and `tests/worked/track.txt`.
 use crate::faulty_devices::{End, get, room_of, sink_of, source_of, taken};
 use crate::outcomes::{assert_outcome, assert_reported, outcome_on, status_of};
-use arrayvec::ArrayString;
+use sq_digits::TextBuffer;
 use sq_angle::Angle;
 use sq_commands::Status;
 use sq_message::{Me, Squitter};
@@ -25,8 +25,8 @@ fn squitter_of(rt: &impl Abort, text: &[u8]) -> Squitter {
 }
 
 // A row with a value of each sort.
-fn row_of(rt: &impl Abort, form: Form, me: &Me) -> ArrayString<256> {
-    let mut text = ArrayString::new();
+fn row_of(rt: &impl Abort, form: Form, me: &Me) -> TextBuffer<256> {
+    let mut text = TextBuffer::new();
     push_line(&mut text, form, 7);
     push_blank(&mut text, form, "none");
     push_number(&mut text, form, "count", 42);
@@ -60,7 +60,7 @@ fn makes_rows(rt: HostRuntime) {
 
 #[test]
 fn tells_feet_of_airborne_positions_alone(rt: HostRuntime) {
-    let mut text = ArrayString::<64>::new();
+    let mut text = TextBuffer::<64>::new();
     push_feet(
         &mut text,
         Form::Csv,

@@ -1,6 +1,7 @@
 //! Texts of faults: as they are pushed, and as the faults of the crates below show themselves.
 use arrayvec::ArrayString;
 use sq_cpr::{LocalFault, PairFault};
+use sq_digits::TextBuffer;
 use sq_text::{FrameFault, LineFault, PlaceFault, TextFault, push_fault, push_place_fault};
 use std::fmt;
 use std::fmt::Write;
@@ -12,14 +13,14 @@ fn shown(fault: impl fmt::Display + Drop) -> ArrayString<32> {
     text
 }
 
-fn line_text(fault: LineFault) -> ArrayString<32> {
-    let mut text = ArrayString::new();
+fn line_text(fault: LineFault) -> TextBuffer<32> {
+    let mut text = TextBuffer::new();
     push_fault(&mut text, fault);
     text
 }
 
-fn place_text(fault: PlaceFault) -> ArrayString<32> {
-    let mut text = ArrayString::new();
+fn place_text(fault: PlaceFault) -> TextBuffer<32> {
+    let mut text = TextBuffer::new();
     push_place_fault(&mut text, fault);
     text
 }

@@ -2,7 +2,7 @@
 use sq_angle::{Angle, Position};
 use sq_message::{AirFields, Airborne, Code, Frame, FrameFault, Me, Parity, Squitter, write_frame};
 use sq_text::{
-    ArrayString, LineFault, ShowText, TextFault, laws, place_text, push_decimal, push_hexadecimal,
+    TextBuffer, LineFault, ShowText, TextFault, laws, place_text, push_decimal, push_hexadecimal,
     push_summary, read_squitter, read_text, show_text,
 };
 use std::process::Abort;
@@ -59,11 +59,11 @@ fn converts_faults(rt: HostRuntime) {
 
 #[test]
 fn writes_numbers(rt: HostRuntime) {
-    let mut text = arrayvec::ArrayString::<64>::new();
+    let mut text = TextBuffer::<64>::new();
     push_decimal(&mut text, 0);
-    text.push(' ');
+    text.push(b' ');
     push_decimal(&mut text, 18_446_744_073_709_551_615);
-    text.push(' ');
+    text.push(b' ');
     push_hexadecimal(&mut text, 0x1A0F, 3);
     push_hexadecimal(&mut text, 0x1A0F, 6);
     assert!(rt; text.as_str() == "0 18446744073709551615 A0F001A0F");
@@ -107,9 +107,9 @@ fn shows_each_altitude(rt: HostRuntime) {
     );
 }
 
-fn summary_of(rt: &impl Abort, text: &str) -> arrayvec::ArrayString<72> {
+fn summary_of(rt: &impl Abort, text: &str) -> TextBuffer<72> {
     let squitter = read_squitter(text.as_bytes()).expect(rt, "a squitter");
-    let mut summary = arrayvec::ArrayString::new();
+    let mut summary = TextBuffer::new();
     push_summary(&mut summary, &squitter);
     summary
 }

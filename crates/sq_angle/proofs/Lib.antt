@@ -10,8 +10,6 @@ pub mod Orders
 pub mod LowestTerms
 pub mod Twos
 pub mod Coprime
-pub mod Decimals
-pub mod DigitTexts
 pub mod OneText
 pub mod OneSpelling
 pub mod Texts

@@ -2,20 +2,12 @@
 use Rattle.std.specs.Prelude.{◌≡◌, ◌≤◌, ℕ, zero, suc, ◌/◌, ◌%◌, ◌^◌, Bool, ◌&&◌, List, [], ◌∷◌, ◌++◌, pos, int_lt, nat_lt, decimal, if◌then◌else◌}
 use Rattle.sq_angle.specs.Fraction.{Fraction, magnitude}
 use Rattle.sq_angle.specs.Nearest.{IsNearest}
-use Rattle.sq_angle.specs.Characters.{decimal_point, digit, minus_sign}
+use Rattle.sq_digits.specs.Characters.{decimal_point, minus_sign}
+use Rattle.sq_digits.specs.Digits.{fixed_digits}
 
 -- 10^-7, a unit of the last of seven decimals
 abbrev pub ten_millionth : Fraction
 ten_millionth = record { num = pos 1; den = 10 ^ 7 }
-
--- a number below 100 in two digits
-abbrev pub two_digits : ℕ → List ℕ
-two_digits n = digit (n / 10) ∷ digit (n % 10) ∷ []
-
--- n in so many digits
-abbrev pub fixed_digits : ℕ → ℕ → List ℕ
-fixed_digits zero n = []
-fixed_digits (suc places) n = fixed_digits places (n / 10) ++ digit (n % 10) ∷ []
 
 -- v ten-millionths as text: the sign where a digit is not 0, the whole degrees, a point and seven digits
 abbrev pub seven_places : Bool → ℕ → List ℕ

@@ -1,4 +1,3 @@
-pub mod Characters
 pub mod Fraction
 pub mod Whole
 pub mod Scale

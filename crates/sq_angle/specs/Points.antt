@@ -2,7 +2,7 @@
 use Rattle.std.specs.Prelude.{◌≡◌, ◌≢◌, ℕ, List, [], ◌∷◌, ◌++◌}
 use Rattle.std.specs.List.{AllByRecursion}
 use Rattle.sq_angle.specs.Spelling.{fraction}
-use Rattle.sq_angle.specs.Characters.{decimal_point}
+use Rattle.sq_digits.specs.Characters.{decimal_point}
 
 -- no point stands among the characters
 abbrev pub HasNoPoint : List ℕ → Type 0

@@ -4,7 +4,7 @@ use Rattle.std.specs.Char.{IsAsciiDigit}
 use Rattle.std.specs.List.{AllByRecursion}
 use Rattle.std.specs.Str.Parse.{digits_value}
 use Rattle.sq_angle.specs.Fraction.{Fraction}
-use Rattle.sq_angle.specs.Characters.{decimal_point, minus_sign}
+use Rattle.sq_digits.specs.Characters.{decimal_point, minus_sign}
 
 -- what a text is made of: its sign, the digits before the point and those after it
 pub record Parts : Type 0 where

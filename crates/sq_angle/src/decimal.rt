@@ -1,15 +1,17 @@
 //! An angle as text with seven decimals.
 ghost use Rattle.std.specs.Prelude.{◌≡◌, ◌+◌, ◌*◌, ◌^◌, ◌<◌, ◌≤◌, ◌++◌, List, ℕ, pos, decimal};
 ghost use Rattle.arrayvec.specs.ArrayString.{array_string_len};
+ghost use Rattle.sq_digits.specs.Buffer.{text_len};
+ghost use Rattle.sq_digits.specs.Digits.{fixed_digits};
 ghost use Rattle.sq_angle.specs.Angle.{degrees};
-ghost use Rattle.sq_angle.specs.Decimal.{IsDecimal7, fixed_digits, ten_millionth};
+ghost use Rattle.sq_angle.specs.Decimal.{IsDecimal7, ten_millionth};
 ghost use Rattle.sq_angle.specs.Fraction.{IsWithin, magnitude};
 ghost use Rattle.sq_angle.specs.Nearest.{IsNearest};
 
 use crate::angle::Angle;
-use crate::digits::{push_digit, push_pair};
 use crate::quotients::quotient;
 use arrayvec::ArrayString;
+use sq_digits::{TextBuffer, push_digit, push_leading, push_three};
 
 impl Angle {
     /// The value in degrees as text with seven decimals, rounded, ties away from zero. At least one digit stands before
@@ -18,25 +20,27 @@ impl Angle {
         ensures text { IsDecimal7 (degrees self.now) result.bytes }
         ensures short { array_string_len result ≤ 12 }
     {
-        let mut text = ArrayString::new();
+        let mut text = TextBuffer::<16>::new();
         self.push_decimal7(&mut text);
-        text
+        let mut shown = ArrayString::new();
+        shown.push_str(text.as_str());
+        shown
     }
 
     /// Appends the text of [`Angle::decimal7`], at most 12 bytes.
-    pub fn push_decimal7<const N: usize>(&self, text: &mut ArrayString<N>)
-        requires { array_string_len text.old + 12 ≤ N }
+    pub fn push_decimal7<const N: usize>(&self, text: &mut TextBuffer<N>)
+        requires { text_len text.old + 12 ≤ N }
         ensures bytes { (part : List ℕ) × IsDecimal7 (degrees self.now) part
             × (text.new.bytes ≡ text.old.bytes ++ part) }
-        ensures len { array_string_len text.new ≤ array_string_len text.old + 12 }
+        ensures len { text_len text.new ≤ text_len text.old + 12 }
     {
         let places = self.ten_millionths();
         if self.num() < 0 && places > 0 {
-            text.push_str("-");
+            text.push(b'-');
         }
-        push_whole(text, places / 10_000_000);
-        text.push_str(".");
-        push_fraction(text, places % 10_000_000);
+        push_leading(text, places / 10_000_000);
+        text.push(b'.');
+        push_seven(text, places % 10_000_000);
     }
 
     /// The magnitude in whole ten-millionths of a degree, rounded, ties away from zero: the seven decimals of the text.
@@ -52,35 +56,15 @@ impl Angle {
     }
 }
 
-// Appends a number below 1000.
-#[inline(always)]
-#[tactic(auto, using(crate::proofs::Decimals::decimals))]
-fn push_whole<const N: usize>(text: &mut ArrayString<N>, n: u64)
-    requires small { n < 1000 }
-    requires room { array_string_len text.old + 3 ≤ N }
-    ensures bytes { text.new.bytes ≡ text.old.bytes ++ decimal n }
-    ensures len { array_string_len text.new ≤ array_string_len text.old + 3 }
-{
-    if n >= 100 {
-        push_digit(text, n / 100);
-        push_pair(text, n % 100);
-    } else if n >= 10 {
-        push_pair(text, n);
-    } else {
-        push_digit(text, n);
-    }
-}
-
 // Appends a number below 10^7 in seven digits.
 #[inline(always)]
-fn push_fraction<const N: usize>(text: &mut ArrayString<N>, n: u64)
-    requires small { n < 10 ^ 7 }
-    requires room { array_string_len text.old + 7 ≤ N }
-    ensures bytes { text.new.bytes ≡ text.old.bytes ++ fixed_digits 7 n }
-    ensures len { array_string_len text.new ≡ array_string_len text.old + 7 }
+fn push_seven<const N: usize>(text: &mut TextBuffer<N>, number: u64)
+    requires small { number < 10 ^ 7 }
+    requires room { text_len text.old + 7 ≤ N }
+    ensures bytes { text.new.bytes ≡ text.old.bytes ++ fixed_digits 7 number }
+    ensures len { text_len text.new ≡ text_len text.old + 7 }
 {
-    push_digit(text, n / 1_000_000);
-    push_pair(text, n / 10_000 % 100);
-    push_pair(text, n / 100 % 100);
-    push_pair(text, n % 100);
+    push_digit(text, number / 1_000_000);
+    push_three(text, number / 1_000 % 1_000);
+    push_three(text, number % 1_000);
 }

@@ -12,7 +12,6 @@
 
 pub mod angle;
 mod decimal;
-mod digits;
 pub mod laws;
 mod lowest;
 mod order;
@@ -21,7 +20,6 @@ mod quotients;
 pub mod read;
 
 pub use angle::{Angle, MAX_DENOMINATOR};
-pub use digits::{push_digit, push_pair};
 pub use position::Position;
 pub use quotients::quotient;
 pub use read::AngleFault;

@@ -9,7 +9,7 @@ use Rattle.sq_message.specs.declared.squitter.Me.TheVariants as kinds
 use Rattle.sq_message.specs.declared.squitter.Squitter.{Squitter}
 use Rattle.sq_message.specs.Parts.{air_parts, ground_parts, raw_of, squitter_parts}
 use Rattle.sq_text.specs.declared.faults.LineFault.{LineFault}
-use Rattle.sq_text.specs.Digits.{hexadecimal}
+use Rattle.sq_digits.specs.Digits.{hexadecimal}
 use Rattle.sq_text.specs.Faults.{fault_text}
 use Rattle.sq_text.specs.Show.{parity_name}
 use Rattle.sq_text.specs.Summary.{summary}

@@ -7,7 +7,7 @@ ghost use Rattle.sq_angle.specs.Spelling.{minus};
 ghost use Rattle.sq_angle.specs.Spelling.{signed as signed_number};
 ghost use Rattle.std.specs.List.{AllByRecursion};
 ghost use Rattle.std.specs.Str.Parse.{digits_value};
-ghost use Rattle.arrayvec.specs.ArrayString.{array_string_len};
+ghost use Rattle.sq_digits.specs.Buffer.{text_len};
 ghost use Rattle.sq_angle.specs.Angle.{degrees};
 ghost use Rattle.sq_angle.specs.Faults.{angle_fault_text};
 ghost use Rattle.sq_angle.specs.Fraction.{IsWithin};
@@ -25,7 +25,7 @@ ghost use Rattle.sq_commands.specs.Arguments.{IsAddress, IsAngleFault, IsFeet, I
 ghost use Rattle.sq_commands.specs.Track.{IsLimit, IsTrackReading, IsWindow};
 
 use crate::formats::Format;
-use arrayvec::ArrayString;
+use sq_digits::TextBuffer;
 use sq_angle::{Angle, AngleFault, Position};
 use sq_message::{Parity, field_of_feet};
 use sq_requests::TrackWords;
@@ -66,10 +66,10 @@ pub(crate) enum ArgumentFault {
 
 impl ArgumentFault {
     /// Appends what is reported of it, at most 22 bytes.
-    pub(crate) fn push<const N: usize>(self, text: &mut ArrayString<N>)
-        requires { array_string_len text.old + 22 ≤ N }
+    pub(crate) fn push<const N: usize>(self, text: &mut TextBuffer<N>)
+        requires { text_len text.old + 22 ≤ N }
         ensures bytes { text.new.bytes ≡ text.old.bytes ++ argument_text self }
-        ensures len { array_string_len text.new ≤ array_string_len text.old + 22 }
+        ensures len { text_len text.new ≤ text_len text.old + 22 }
     {
         match self {
             ArgumentFault::Format => text.push_str("bad format"),
@@ -88,11 +88,11 @@ impl ArgumentFault {
 }
 
 // Appends a coordinate's name of four bytes and the fault of its angle.
-fn push_coordinate<const N: usize>(text: &mut ArrayString<N>, name: &str, fault: AngleFault)
-    requires room { array_string_len text.old + 22 ≤ N }
+fn push_coordinate<const N: usize>(text: &mut TextBuffer<N>, name: &str, fault: AngleFault)
+    requires room { text_len text.old + 22 ≤ N }
     requires short { length name.now ≤ 4 }
     ensures bytes { text.new.bytes ≡ text.old.bytes ++ (name.now ++ angle_fault_text fault) }
-    ensures len { array_string_len text.new ≤ array_string_len text.old + 22 }
+    ensures len { text_len text.new ≤ text_len text.old + 22 }
 {
     text.push_str(name);
     text.push_str(fault.words());

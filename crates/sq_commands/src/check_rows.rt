@@ -1,12 +1,12 @@
 //! The rows of `check`: what stands in a frame, in named columns.
 ghost use Rattle.std.specs.Prelude.{◌≡◌, ◌+◌, ◌≤◌, ◌++◌, [], Ok, Err, codes, decimal, length};
-ghost use Rattle.arrayvec.specs.ArrayString.{array_string_len};
+ghost use Rattle.sq_digits.specs.Buffer.{text_len};
 ghost use Rattle.sq_cpr.specs.Code.{numbers_of};
 ghost use Rattle.sq_message.specs.Parts.{air_parts, ground_parts};
 ghost use Rattle.sq_rows.specs.Altitudes.{AltitudeReader};
 ghost use Rattle.sq_rows.specs.Rows.{Blank, Number, Word, cell};
 ghost use Rattle.sq_rows.specs.Squitters.{bit_cell, feet_cell};
-ghost use Rattle.sq_text.specs.Digits.{hexadecimal};
+ghost use Rattle.sq_digits.specs.Digits.{hexadecimal};
 ghost use Rattle.sq_text.specs.Show.{parity_name};
 ghost use Rattle.sq_commands.specs.Formats.{Writers};
 ghost use Rattle.sq_commands.specs.Squitters.{air_row, ground_row, message_row, message_text, no_message, other_row, squitter_row_text};
@@ -52,10 +52,10 @@ pub(crate) fn push_refused_frame(text: &mut LineText, form: Form, number: u64, f
 
 // Appends the columns of a message.
 fn push_message(text: &mut LineText, form: Form, me: &Me)
-    requires { array_string_len text.old ≤ 100 }
+    requires { text_len text.old ≤ 100 }
     ensures bytes { (altitudes : AltitudeReader)
         → text.new.bytes ≡ text.old.bytes ++ message_text form (message_row altitudes me.now) }
-    ensures len { array_string_len text.new ≤ array_string_len text.old + 400 }
+    ensures len { text_len text.new ≤ text_len text.old + 400 }
 {
     match me {
         Me::Airborne(airborne) => push_airborne(text, form, airborne),
@@ -66,10 +66,10 @@ fn push_message(text: &mut LineText, form: Form, me: &Me)
 
 // Appends the columns of an airborne position.
 fn push_airborne(text: &mut LineText, form: Form, airborne: &Airborne)
-    requires { array_string_len text.old ≤ 100 }
+    requires { text_len text.old ≤ 100 }
     ensures bytes { (altitudes : AltitudeReader)
         → text.new.bytes ≡ text.old.bytes ++ message_text form (air_row altitudes airborne.now) }
-    ensures len { array_string_len text.new ≤ array_string_len text.old + 400 }
+    ensures len { text_len text.new ≤ text_len text.old + 400 }
 {
     push_number(text, form, "type", u64::from(airborne.fields.type_code()));
     push_word(text, form, "kind", "air");
@@ -87,9 +87,9 @@ fn push_airborne(text: &mut LineText, form: Form, airborne: &Airborne)
 
 // Appends the columns of a surface position.
 fn push_surface(text: &mut LineText, form: Form, surface: &Surface)
-    requires { array_string_len text.old ≤ 100 }
+    requires { text_len text.old ≤ 100 }
     ensures bytes { text.new.bytes ≡ text.old.bytes ++ message_text form (ground_row surface.now) }
-    ensures len { array_string_len text.new ≤ array_string_len text.old + 400 }
+    ensures len { text_len text.new ≤ text_len text.old + 400 }
 {
     push_number(text, form, "type", u64::from(surface.fields.type_code()));
     push_word(text, form, "kind", "ground");
@@ -107,9 +107,9 @@ fn push_surface(text: &mut LineText, form: Form, surface: &Surface)
 
 // Appends the columns of another message.
 fn push_other(text: &mut LineText, form: Form, other: &Other)
-    requires { array_string_len text.old ≤ 100 }
+    requires { text_len text.old ≤ 100 }
     ensures bytes { text.new.bytes ≡ text.old.bytes ++ message_text form (other_row other.now) }
-    ensures len { array_string_len text.new ≤ array_string_len text.old + 400 }
+    ensures len { text_len text.new ≤ text_len text.old + 400 }
 {
     push_number(text, form, "type", u64::from(other.type_code()));
     push_word(text, form, "kind", "other");
@@ -121,9 +121,9 @@ fn push_other(text: &mut LineText, form: Form, other: &Other)
 
 // Appends that there is no message.
 fn push_no_message(text: &mut LineText, form: Form)
-    requires { array_string_len text.old ≤ 100 }
+    requires { text_len text.old ≤ 100 }
     ensures bytes { text.new.bytes ≡ text.old.bytes ++ message_text form no_message }
-    ensures len { array_string_len text.new ≤ array_string_len text.old + 400 }
+    ensures len { text_len text.new ≤ text_len text.old + 400 }
 {
     push_blank(text, form, "type");
     push_blank(text, form, "kind");
@@ -135,12 +135,12 @@ fn push_no_message(text: &mut LineText, form: Form)
 
 // Appends what a position of either kind has: the parity, the code and T.
 fn push_code(text: &mut LineText, form: Form, parity: Parity, code: &Code, time: bool)
-    requires { array_string_len text.old ≤ 200 }
+    requires { text_len text.old ≤ 200 }
     ensures bytes { text.new.bytes ≡ text.old.bytes ++ (cell form (codes "parity") (Word (parity_name parity))
         ++ cell form (codes "lat_code") (Number (decimal (numbers_of code.now).lat))
         ++ cell form (codes "lon_code") (Number (decimal (numbers_of code.now).lon))
         ++ cell form (codes "time") (bit_cell time)) }
-    ensures len { array_string_len text.new ≤ array_string_len text.old + 110 }
+    ensures len { text_len text.new ≤ text_len text.old + 110 }
 {
     push_word(text, form, "parity", parity_name(parity));
     push_number(text, form, "lat_code", u64::from(code.lat()));
@@ -160,11 +160,11 @@ fn parity_name(parity: Parity) -> &'static str
 
 // Appends that there is no position.
 fn push_no_code(text: &mut LineText, form: Form)
-    requires { array_string_len text.old ≤ 200 }
+    requires { text_len text.old ≤ 200 }
     ensures bytes { text.new.bytes ≡ text.old.bytes ++ (cell form (codes "parity") Blank
         ++ cell form (codes "lat_code") Blank ++ cell form (codes "lon_code") Blank
         ++ cell form (codes "time") Blank) }
-    ensures len { array_string_len text.new ≤ array_string_len text.old + 110 }
+    ensures len { text_len text.new ≤ text_len text.old + 110 }
 {
     push_blank(text, form, "parity");
     push_blank(text, form, "lat_code");
@@ -174,13 +174,13 @@ fn push_no_code(text: &mut LineText, form: Form)
 
 // Appends what an airborne position alone has.
 fn push_air_fields(text: &mut LineText, form: Form, airborne: &Airborne)
-    requires { array_string_len text.old ≤ 300 }
+    requires { text_len text.old ≤ 300 }
     ensures bytes { (altitudes : AltitudeReader) → text.new.bytes ≡ text.old.bytes
         ++ (cell form (codes "feet") (feet_cell (altitudes.read airborne.now.fields))
         ++ cell form (codes "altitude") (Word (hexadecimal 3 (air_parts airborne.now.fields).altitude))
         ++ cell form (codes "status") (Number (decimal (air_parts airborne.now.fields).status))
         ++ cell form (codes "flag") (bit_cell (air_parts airborne.now.fields).flag)) }
-    ensures len { array_string_len text.new ≤ array_string_len text.old + 100 }
+    ensures len { text_len text.new ≤ text_len text.old + 100 }
 {
     let fields = airborne.fields;
     push_airborne_feet(text, form, airborne);
@@ -191,10 +191,10 @@ fn push_air_fields(text: &mut LineText, form: Form, airborne: &Airborne)
 
 // Appends that there is no airborne position.
 fn push_no_air_fields(text: &mut LineText, form: Form)
-    requires { array_string_len text.old ≤ 300 }
+    requires { text_len text.old ≤ 300 }
     ensures bytes { text.new.bytes ≡ text.old.bytes ++ (cell form (codes "feet") Blank
         ++ cell form (codes "altitude") Blank ++ cell form (codes "status") Blank ++ cell form (codes "flag") Blank) }
-    ensures len { array_string_len text.new ≤ array_string_len text.old + 60 }
+    ensures len { text_len text.new ≤ text_len text.old + 60 }
 {
     push_blank(text, form, "feet");
     push_blank(text, form, "altitude");
@@ -204,12 +204,12 @@ fn push_no_air_fields(text: &mut LineText, form: Form)
 
 // Appends what a surface position alone has.
 fn push_ground_fields(text: &mut LineText, form: Form, surface: &Surface)
-    requires { array_string_len text.old ≤ 350 }
+    requires { text_len text.old ≤ 350 }
     ensures bytes { text.new.bytes ≡ text.old.bytes
         ++ (cell form (codes "movement") (Number (decimal (ground_parts surface.now.fields).movement))
         ++ cell form (codes "track_status") (bit_cell (ground_parts surface.now.fields).track_status)
         ++ cell form (codes "track") (Number (decimal (ground_parts surface.now.fields).track))) }
-    ensures len { array_string_len text.new ≤ array_string_len text.old + 100 }
+    ensures len { text_len text.new ≤ text_len text.old + 100 }
 {
     let fields = surface.fields;
     push_number(text, form, "movement", u64::from(fields.movement()));
@@ -219,10 +219,10 @@ fn push_ground_fields(text: &mut LineText, form: Form, surface: &Surface)
 
 // Appends that there is no surface position.
 fn push_no_ground_fields(text: &mut LineText, form: Form)
-    requires { array_string_len text.old ≤ 400 }
+    requires { text_len text.old ≤ 400 }
     ensures bytes { text.new.bytes ≡ text.old.bytes ++ (cell form (codes "movement") Blank
         ++ cell form (codes "track_status") Blank ++ cell form (codes "track") Blank) }
-    ensures len { array_string_len text.new ≤ array_string_len text.old + 50 }
+    ensures len { text_len text.new ≤ text_len text.old + 50 }
 {
     push_blank(text, form, "movement");
     push_blank(text, form, "track_status");

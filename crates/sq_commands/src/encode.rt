@@ -11,7 +11,7 @@ use crate::arguments::{
 };
 use crate::reports::{break_off, report_argument, write_text};
 use crate::status::Status;
-use arrayvec::ArrayString;
+use sq_digits::TextBuffer;
 use sq_angle::Position;
 use sq_bits::laws::each_frame;
 use sq_devices::Sink;
@@ -119,7 +119,7 @@ fn ground_head(address: u32) -> GroundHead
 }
 
 // The frame's digits and a line feed; `None` where allocation fails.
-fn frame_line(alloc: Global, frame: &Frame) -> Option<ArrayString<29>>
+fn frame_line(alloc: Global, frame: &Frame) -> Option<TextBuffer<29>>
     ensures { IfSome result (λ line. line.bytes ≡ line_of frame.now) }
 {
     each_frame(frame);
@@ -129,12 +129,12 @@ fn frame_line(alloc: Global, frame: &Frame) -> Option<ArrayString<29>>
     }
 }
 
-fn as_line(text: &str) -> ArrayString<29>
+fn as_line(text: &str) -> TextBuffer<29>
     requires { length text.now ≤ 28 }
     ensures { result.bytes ≡ text.now ++ codes "\n" }
 {
-    let mut line = ArrayString::new();
+    let mut line = TextBuffer::new();
     line.push_str(text);
-    line.push('\n');
+    line.push(b'\n');
     line
 }

@@ -1,8 +1,8 @@
 //! The text of what was heard of an address.
 ghost use Rattle.std.specs.Prelude.{◌≡◌, ◌+◌, ◌≤◌, ◌++◌, codes, decimal, length};
-ghost use Rattle.arrayvec.specs.ArrayString.{array_string_len};
+ghost use Rattle.sq_digits.specs.Buffer.{text_len};
 ghost use Rattle.sq_angle.specs.Decimal.{DecimalWriter};
-ghost use Rattle.sq_text.specs.Digits.{hexadecimal};
+ghost use Rattle.sq_digits.specs.Digits.{hexadecimal};
 ghost use Rattle.sq_commands.specs.Heard.{heard_words, place_words};
 
 use sq_lines::LineText;
@@ -11,10 +11,10 @@ use sq_track::{Heard, Place};
 
 /// Appends what `track` says of an address, at most 72 bytes.
 pub(crate) fn push_heard(text: &mut LineText, address: u32, heard: &Heard)
-    requires { array_string_len text.old ≤ 21 }
+    requires { text_len text.old ≤ 21 }
     ensures bytes { (decimals : DecimalWriter) → text.new.bytes
         ≡ text.old.bytes ++ heard_words decimals (hexadecimal 6 address) heard.now }
-    ensures len { array_string_len text.new ≤ array_string_len text.old + 72 }
+    ensures len { text_len text.new ≤ text_len text.old + 72 }
 {
     match heard {
         Heard::Fix(place) => push_place(text, "fix ", address, place),
@@ -30,9 +30,9 @@ pub(crate) fn push_heard(text: &mut LineText, address: u32, heard: &Heard)
 // Appends a word and the address.
 fn push_address(text: &mut LineText, word: &str, address: u32)
     requires word { length word.now ≤ 12 }
-    requires room { array_string_len text.old ≤ 21 }
+    requires room { text_len text.old ≤ 21 }
     ensures bytes { text.new.bytes ≡ text.old.bytes ++ (word.now ++ hexadecimal 6 address) }
-    ensures len { array_string_len text.new ≤ array_string_len text.old + 18 }
+    ensures len { text_len text.new ≤ text_len text.old + 18 }
 {
     text.push_str(word);
     push_six_places(text, address);
@@ -41,10 +41,10 @@ fn push_address(text: &mut LineText, word: &str, address: u32)
 // Appends a word, the address, and the place with seven decimals.
 fn push_place(text: &mut LineText, word: &str, address: u32, place: &Place)
     requires word { length word.now ≤ 12 }
-    requires room { array_string_len text.old ≤ 21 }
+    requires room { text_len text.old ≤ 21 }
     ensures bytes { (decimals : DecimalWriter) → text.new.bytes
         ≡ text.old.bytes ++ (word.now ++ hexadecimal 6 address ++ codes " " ++ place_words decimals place.now) }
-    ensures len { array_string_len text.new ≤ array_string_len text.old + 72 }
+    ensures len { text_len text.new ≤ text_len text.old + 72 }
 {
     push_address(text, word, address);
     let position = place.position();
@@ -56,10 +56,10 @@ fn push_place(text: &mut LineText, word: &str, address: u32, place: &Place)
 
 // Appends the address and both zone counts.
 fn push_split(text: &mut LineText, address: u32, even: u8, odd: u8)
-    requires { array_string_len text.old ≤ 21 }
+    requires { text_len text.old ≤ 21 }
     ensures bytes { text.new.bytes ≡ text.old.bytes
         ++ (codes "split " ++ hexadecimal 6 address ++ codes " " ++ (decimal even ++ codes " " ++ decimal odd)) }
-    ensures len { array_string_len text.new ≤ array_string_len text.old + 72 }
+    ensures len { text_len text.new ≤ text_len text.old + 72 }
 {
     push_address(text, "split ", address);
     text.push_str(" ");

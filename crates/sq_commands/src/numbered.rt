@@ -1,6 +1,6 @@
 //! Answers that are told in lines: the number of a line, and what was found on it.
 ghost use Rattle.std.specs.Prelude.{◌≡◌, ◌+◌, ◌≤◌, ◌++◌, [], codes, decimal};
-ghost use Rattle.arrayvec.specs.ArrayString.{array_string_len};
+ghost use Rattle.sq_digits.specs.Buffer.{text_len};
 ghost use Rattle.sq_text.specs.Faults.{fault_text};
 ghost use Rattle.sq_commands.specs.Heard.{heard_lines};
 ghost use Rattle.sq_commands.specs.Squitters.{squitter_lines};
@@ -66,16 +66,16 @@ fn push_refused(text: &mut LineText, number: u64, fault: LineFault)
 fn push_number(text: &mut LineText, number: u64)
     requires { text.old.bytes ≡ [] }
     ensures bytes { text.new.bytes ≡ decimal number ++ codes " " }
-    ensures len { array_string_len text.new ≤ 21 }
+    ensures len { text_len text.new ≤ 21 }
 {
     push_decimal(text, number);
-    text.push(' ');
+    text.push(b' ');
 }
 
 // Ends the text.
 fn push_end(text: &mut LineText)
-    requires { array_string_len text.old ≤ 93 }
+    requires { text_len text.old ≤ 93 }
     ensures { text.new.bytes ≡ text.old.bytes ++ codes "\n" }
 {
-    text.push('\n');
+    text.push(b'\n');
 }

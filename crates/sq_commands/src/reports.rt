@@ -9,7 +9,7 @@ ghost use Rattle.sq_commands.specs.Outputs.{IsAnswer, broken_text, outputs};
 
 use crate::arguments::ArgumentFault;
 use crate::status::Status;
-use arrayvec::ArrayString;
+use sq_digits::TextBuffer;
 use sq_devices::{Failed, Sink, put_last};
 use sq_lines::RunFault;
 use sq_message::{Place, PlaceFault};
@@ -48,9 +48,9 @@ pub(crate) fn report_argument<F: Sink>(fault: ArgumentFault, faults: &mut F) -> 
     ensures status { result ≡ Status.Misused }
     ensures reported { WroteOrFailed (written_on F.Sink faults.old faults.new) (argument_text fault ++ codes "\n") }
 {
-    let mut text = ArrayString::<24>::new();
+    let mut text = TextBuffer::<24>::new();
     fault.push(&mut text);
-    text.push('\n');
+    text.push(b'\n');
     report(text.as_str(), faults);
     Status::Misused
 }
@@ -60,9 +60,9 @@ pub(crate) fn report_frame<F: Sink>(fault: LineFault, faults: &mut F) -> Status
     ensures status { result ≡ Status.Refused }
     ensures reported { WroteOrFailed (written_on F.Sink faults.old faults.new) (fault_text fault ++ codes "\n") }
 {
-    let mut text = ArrayString::<48>::new();
+    let mut text = TextBuffer::<48>::new();
     push_fault(&mut text, fault);
-    text.push('\n');
+    text.push(b'\n');
     report(text.as_str(), faults);
     Status::Refused
 }
@@ -72,9 +72,9 @@ fn report_place<F: Sink>(fault: PlaceFault, faults: &mut F) -> Status
     ensures status { result ≡ Status.Refused }
     ensures reported { WroteOrFailed (written_on F.Sink faults.old faults.new) (place_fault_text fault ++ codes "\n") }
 {
-    let mut text = ArrayString::<48>::new();
+    let mut text = TextBuffer::<48>::new();
     push_place_fault(&mut text, fault);
-    text.push('\n');
+    text.push(b'\n');
     report(text.as_str(), faults);
     Status::Refused
 }

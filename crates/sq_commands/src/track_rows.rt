@@ -1,6 +1,6 @@
 //! The rows of `track`: what was heard on a line, in named columns.
 ghost use Rattle.std.specs.Prelude.{◌≡◌, ◌+◌, ◌≤◌, ◌++◌, [], Ok, Err, codes, length};
-ghost use Rattle.arrayvec.specs.ArrayString.{array_string_len};
+ghost use Rattle.sq_digits.specs.Buffer.{text_len};
 ghost use Rattle.sq_angle.specs.Decimal.{DecimalWriter};
 ghost use Rattle.sq_message.specs.Places.{place_latitude, place_longitude};
 ghost use Rattle.sq_rows.specs.Rows.{Blank, Number, cell};
@@ -81,11 +81,11 @@ fn answer_word(heard: &Heard) -> &'static str
 
 // Appends the coordinates of the place that was heard, where there is one.
 fn push_coordinates(text: &mut LineText, form: Form, heard: &Heard)
-    requires { array_string_len text.old ≤ 200 }
+    requires { text_len text.old ≤ 200 }
     ensures bytes { (decimals : DecimalWriter) → text.new.bytes ≡ text.old.bytes
         ++ (cell form (codes "lat") (coordinate decimals place_latitude heard.now)
         ++ cell form (codes "lon") (coordinate decimals place_longitude heard.now)) }
-    ensures len { array_string_len text.new ≤ array_string_len text.old + 38 }
+    ensures len { text_len text.new ≤ text_len text.old + 38 }
 {
     match heard {
         Heard::Fix(place) | Heard::Followed(place) => push_place(text, form, place),
@@ -97,11 +97,11 @@ fn push_coordinates(text: &mut LineText, form: Form, heard: &Heard)
 
 // Appends the coordinates of a place.
 fn push_place(text: &mut LineText, form: Form, place: &Place)
-    requires { array_string_len text.old ≤ 200 }
+    requires { text_len text.old ≤ 200 }
     ensures bytes { (decimals : DecimalWriter) → text.new.bytes ≡ text.old.bytes
         ++ (cell form (codes "lat") (Number (decimals.write (place_latitude place.now)))
         ++ cell form (codes "lon") (Number (decimals.write (place_longitude place.now)))) }
-    ensures len { array_string_len text.new ≤ array_string_len text.old + 38 }
+    ensures len { text_len text.new ≤ text_len text.old + 38 }
 {
     let position = place.position();
     push_degrees(text, form, "lat", &position.lat());
@@ -110,10 +110,10 @@ fn push_place(text: &mut LineText, form: Form, place: &Place)
 
 // Appends that there is no place.
 fn push_no_coordinates(text: &mut LineText, form: Form)
-    requires { array_string_len text.old ≤ 200 }
+    requires { text_len text.old ≤ 200 }
     ensures bytes { text.new.bytes ≡ text.old.bytes
         ++ (cell form (codes "lat") Blank ++ cell form (codes "lon") Blank) }
-    ensures len { array_string_len text.new ≤ array_string_len text.old + 38 }
+    ensures len { text_len text.new ≤ text_len text.old + 38 }
 {
     push_blank(text, form, "lat");
     push_blank(text, form, "lon");

@@ -5,11 +5,11 @@ ghost use Rattle.sq_lines.specs.Outcomes.{IsLineAnswered, IsTextAnswered};
 
 use crate::faults::Outcome;
 use crate::lines::{Line, content_in};
-use arrayvec::ArrayString;
+use sq_digits::TextBuffer;
 use sq_text::LineFault;
 
 /// The text of one line of output.
-pub type LineText = ArrayString<512>;
+pub type LineText = TextBuffer<512>;
 
 /// Answers texts: each by itself and by what came before it.
 pub trait Answering {

@@ -8,7 +8,7 @@ use Rattle.sq_message.specs.declared.squitter.Me.TheVariants as kinds
 use Rattle.sq_message.specs.declared.squitter.Squitter.{Squitter}
 use Rattle.sq_message.specs.Parts.{squitter_parts}
 use Rattle.sq_message.specs.Spelling.{bit}
-use Rattle.sq_text.specs.Digits.{hexadecimal}
+use Rattle.sq_digits.specs.Digits.{hexadecimal}
 use Rattle.sq_rows.specs.Altitudes.{AltitudeReader}
 use Rattle.sq_rows.specs.Rows.{Cell, Blank, Number, Word}
 

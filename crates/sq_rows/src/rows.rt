@@ -1,11 +1,11 @@
 //! The values of a row.
 ghost use Rattle.std.specs.Prelude.{◌≡◌, ◌+◌, ◌≤◌, ◌++◌, decimal, length};
 ghost use Rattle.std.specs.Fmt.{signed_decimal};
-ghost use Rattle.arrayvec.specs.ArrayString.{array_string_len};
-ghost use Rattle.sq_text.specs.Digits.{hexadecimal};
+ghost use Rattle.sq_digits.specs.Buffer.{text_len};
+ghost use Rattle.sq_digits.specs.Digits.{hexadecimal};
 ghost use Rattle.sq_rows.specs.Rows.{Blank, Number, Word, between, cell, line_number, no_value, quote, row_end, row_start};
 
-use arrayvec::ArrayString;
+use sq_digits::TextBuffer;
 use itoa::Buffer;
 use sq_text::{push_decimal, push_hexadecimal};
 
@@ -20,10 +20,10 @@ pub enum Form {
 
 /// Begins the row of the line with this number, with at most 28 bytes.
 #[tactic(auto, unfolding(crate::specs::Rows::line_number))]
-pub fn push_line<const N: usize>(text: &mut ArrayString<N>, form: Form, line: u64)
-    requires { array_string_len text.old + 28 ≤ N }
+pub fn push_line<const N: usize>(text: &mut TextBuffer<N>, form: Form, line: u64)
+    requires { text_len text.old + 28 ≤ N }
     ensures bytes { text.new.bytes ≡ text.old.bytes ++ line_number form line }
-    ensures len { array_string_len text.new ≤ array_string_len text.old + 28 }
+    ensures len { text_len text.new ≤ text_len text.old + 28 }
 {
     text.push_str(row_start(form));
     push_decimal(text, line);
@@ -41,10 +41,10 @@ fn row_start(form: Form) -> &'static str
 
 /// Appends no value, with at most 8 bytes beside its name: nothing in CSV, `null` in JSON.
 #[tactic(auto, unfolding(crate::specs::Rows::cell))]
-pub fn push_blank<const N: usize>(text: &mut ArrayString<N>, form: Form, name: &str)
-    requires { array_string_len text.old + length name.now + 8 ≤ N }
+pub fn push_blank<const N: usize>(text: &mut TextBuffer<N>, form: Form, name: &str)
+    requires { text_len text.old + length name.now + 8 ≤ N }
     ensures bytes { text.new.bytes ≡ text.old.bytes ++ cell form name.now Blank }
-    ensures len { array_string_len text.new ≤ array_string_len text.old + length name.now + 8 }
+    ensures len { text_len text.new ≤ text_len text.old + length name.now + 8 }
 {
     push_name(text, form, name);
     text.push_str(no_value(form));
@@ -62,10 +62,10 @@ fn no_value(form: Form) -> &'static str
 
 /// Appends a number in decimal digits, with at most 24 bytes beside its name.
 #[tactic(auto, unfolding(crate::specs::Rows::cell))]
-pub fn push_number<const N: usize>(text: &mut ArrayString<N>, form: Form, name: &str, number: u64)
-    requires { array_string_len text.old + length name.now + 24 ≤ N }
+pub fn push_number<const N: usize>(text: &mut TextBuffer<N>, form: Form, name: &str, number: u64)
+    requires { text_len text.old + length name.now + 24 ≤ N }
     ensures bytes { text.new.bytes ≡ text.old.bytes ++ cell form name.now (Number (decimal number)) }
-    ensures len { array_string_len text.new ≤ array_string_len text.old + length name.now + 24 }
+    ensures len { text_len text.new ≤ text_len text.old + length name.now + 24 }
 {
     push_name(text, form, name);
     push_decimal(text, number);
@@ -73,10 +73,10 @@ pub fn push_number<const N: usize>(text: &mut ArrayString<N>, form: Form, name: 
 
 /// Appends a number with its sign, with at most 15 bytes beside its name.
 #[tactic(auto, unfolding(crate::specs::Rows::cell))]
-pub fn push_signed<const N: usize>(text: &mut ArrayString<N>, form: Form, name: &str, number: i32)
-    requires { array_string_len text.old + length name.now + 15 ≤ N }
+pub fn push_signed<const N: usize>(text: &mut TextBuffer<N>, form: Form, name: &str, number: i32)
+    requires { text_len text.old + length name.now + 15 ≤ N }
     ensures bytes { text.new.bytes ≡ text.old.bytes ++ cell form name.now (Number (signed_decimal number)) }
-    ensures len { array_string_len text.new ≤ array_string_len text.old + length name.now + 15 }
+    ensures len { text_len text.new ≤ text_len text.old + length name.now + 15 }
 {
     push_name(text, form, name);
     let mut buffer = Buffer::new();
@@ -86,10 +86,10 @@ pub fn push_signed<const N: usize>(text: &mut ArrayString<N>, form: Form, name: 
 /// Appends a word, in quotes in JSON, with at most 6 bytes beside it and its name. The word has no comma, quote or
 /// backslash.
 #[tactic(auto, unfolding(crate::specs::Rows::cell))]
-pub fn push_word<const N: usize>(text: &mut ArrayString<N>, form: Form, name: &str, word: &str)
-    requires { array_string_len text.old + length name.now + length word.now + 6 ≤ N }
+pub fn push_word<const N: usize>(text: &mut TextBuffer<N>, form: Form, name: &str, word: &str)
+    requires { text_len text.old + length name.now + length word.now + 6 ≤ N }
     ensures bytes { text.new.bytes ≡ text.old.bytes ++ cell form name.now (Word word.now) }
-    ensures len { array_string_len text.new ≤ array_string_len text.old + length name.now + length word.now + 6 }
+    ensures len { text_len text.new ≤ text_len text.old + length name.now + length word.now + 6 }
 {
     push_quoted_name(text, form, name);
     text.push_str(word);
@@ -99,16 +99,16 @@ pub fn push_word<const N: usize>(text: &mut ArrayString<N>, form: Form, name: &s
 /// Appends the lowest so many places of a number, at most 16, as a word of upper-case hexadecimal digits.
 #[tactic(auto, unfolding(crate::specs::Rows::cell))]
 pub fn push_hexadecimal_word<const N: usize>(
-    text: &mut ArrayString<N>,
+    text: &mut TextBuffer<N>,
     form: Form,
     name: &str,
     number: u64,
     places: u8,
 )
     requires some { places ≤ 16 }
-    requires room { array_string_len text.old + length name.now + places + 6 ≤ N }
+    requires room { text_len text.old + length name.now + places + 6 ≤ N }
     ensures bytes { text.new.bytes ≡ text.old.bytes ++ cell form name.now (Word (hexadecimal places number)) }
-    ensures len { array_string_len text.new ≤ array_string_len text.old + length name.now + places + 6 }
+    ensures len { text_len text.new ≤ text_len text.old + length name.now + places + 6 }
 {
     push_quoted_name(text, form, name);
     push_hexadecimal(text, number, places);
@@ -116,10 +116,10 @@ pub fn push_hexadecimal_word<const N: usize>(
 }
 
 /// Ends a row with a line feed, with at most 2 bytes.
-pub fn push_end<const N: usize>(text: &mut ArrayString<N>, form: Form)
-    requires { array_string_len text.old + 2 ≤ N }
+pub fn push_end<const N: usize>(text: &mut TextBuffer<N>, form: Form)
+    requires { text_len text.old + 2 ≤ N }
     ensures bytes { text.new.bytes ≡ text.old.bytes ++ row_end form }
-    ensures len { array_string_len text.new ≤ array_string_len text.old + 2 }
+    ensures len { text_len text.new ≤ text_len text.old + 2 }
 {
     text.push_str(match form {
         Form::Csv => "\n",
@@ -128,10 +128,10 @@ pub fn push_end<const N: usize>(text: &mut ArrayString<N>, form: Form)
 }
 
 // Appends what stands before a value.
-pub(crate) fn push_name<const N: usize>(text: &mut ArrayString<N>, form: Form, name: &str)
-    requires { array_string_len text.old + length name.now + 4 ≤ N }
+pub(crate) fn push_name<const N: usize>(text: &mut TextBuffer<N>, form: Form, name: &str)
+    requires { text_len text.old + length name.now + 4 ≤ N }
     ensures bytes { text.new.bytes ≡ text.old.bytes ++ between form name.now }
-    ensures len { array_string_len text.new ≤ array_string_len text.old + length name.now + 4 }
+    ensures len { text_len text.new ≤ text_len text.old + length name.now + 4 }
 {
     match form {
         Form::Csv => text.push_str(","),
@@ -144,10 +144,10 @@ pub(crate) fn push_name<const N: usize>(text: &mut ArrayString<N>, form: Form, n
 }
 
 // Appends what stands before a word.
-pub(crate) fn push_quoted_name<const N: usize>(text: &mut ArrayString<N>, form: Form, name: &str)
-    requires { array_string_len text.old + length name.now + 5 ≤ N }
+pub(crate) fn push_quoted_name<const N: usize>(text: &mut TextBuffer<N>, form: Form, name: &str)
+    requires { text_len text.old + length name.now + 5 ≤ N }
     ensures bytes { text.new.bytes ≡ text.old.bytes ++ (between form name.now ++ quote form) }
-    ensures len { array_string_len text.new ≤ array_string_len text.old + length name.now + 5 }
+    ensures len { text_len text.new ≤ text_len text.old + length name.now + 5 }
 {
     push_name(text, form, name);
     text.push_str(quote(form));

@@ -1,6 +1,6 @@
 //! The columns of a squitter.
 ghost use Rattle.std.specs.Prelude.{◌≡◌, ◌+◌, ◌≤◌, ◌++◌, List, ℕ, codes, length};
-ghost use Rattle.arrayvec.specs.ArrayString.{array_string_len};
+ghost use Rattle.sq_digits.specs.Buffer.{text_len};
 ghost use Rattle.sq_angle.specs.Angle.{degrees};
 ghost use Rattle.sq_angle.specs.Decimal.{IsDecimal7};
 ghost use Rattle.sq_text.specs.Faults.{fault_text};
@@ -9,7 +9,7 @@ ghost use Rattle.sq_rows.specs.Rows.{Number, Word, cell};
 ghost use Rattle.sq_rows.specs.Squitters.{bit_cell, feet_cell, feet_of, kind_name};
 
 use crate::rows::{Form, push_blank, push_name, push_number, push_quoted_name, push_signed, quote};
-use arrayvec::ArrayString;
+use sq_digits::TextBuffer;
 use sq_angle::Angle;
 use sq_message::{Airborne, Altitude, Me, altitude};
 use sq_text::{LineFault, push_decimals, push_fault};
@@ -28,11 +28,11 @@ pub fn kind_name(me: &Me) -> &'static str
 
 /// Appends the altitude of a message in feet as `feet`, at most 19 bytes: no value, where it has none in steps of 25
 /// feet.
-pub fn push_feet<const N: usize>(text: &mut ArrayString<N>, form: Form, me: &Me)
-    requires { array_string_len text.old + 19 ≤ N }
+pub fn push_feet<const N: usize>(text: &mut TextBuffer<N>, form: Form, me: &Me)
+    requires { text_len text.old + 19 ≤ N }
     ensures bytes { (altitudes : AltitudeReader)
         → text.new.bytes ≡ text.old.bytes ++ cell form (codes "feet") (feet_of altitudes me.now) }
-    ensures len { array_string_len text.new ≤ array_string_len text.old + 19 }
+    ensures len { text_len text.new ≤ text_len text.old + 19 }
 {
     match me {
         Me::Airborne(airborne) => push_airborne_feet(text, form, airborne),
@@ -43,14 +43,14 @@ pub fn push_feet<const N: usize>(text: &mut ArrayString<N>, form: Form, me: &Me)
 /// Appends the altitude of an airborne position in feet as `feet`, at most 19 bytes: no value, where it has none in
 /// steps of 25 feet (ICAO Doc 9871, register 0,5).
 pub fn push_airborne_feet<const N: usize>(
-    text: &mut ArrayString<N>,
+    text: &mut TextBuffer<N>,
     form: Form,
     airborne: &Airborne,
 )
-    requires { array_string_len text.old + 19 ≤ N }
+    requires { text_len text.old + 19 ≤ N }
     ensures bytes { (altitudes : AltitudeReader) → text.new.bytes
         ≡ text.old.bytes ++ cell form (codes "feet") (feet_cell (altitudes.read airborne.now.fields)) }
-    ensures len { array_string_len text.new ≤ array_string_len text.old + 19 }
+    ensures len { text_len text.new ≤ text_len text.old + 19 }
 {
     match altitude(airborne) {
         Altitude::Feet(feet) => push_signed(text, form, "feet", feet),
@@ -59,10 +59,10 @@ pub fn push_airborne_feet<const N: usize>(
 }
 
 /// Appends a bit as 0 or 1, with at most 24 bytes beside its name.
-pub fn push_bit<const N: usize>(text: &mut ArrayString<N>, form: Form, name: &str, bit: bool)
-    requires { array_string_len text.old + length name.now + 24 ≤ N }
+pub fn push_bit<const N: usize>(text: &mut TextBuffer<N>, form: Form, name: &str, bit: bool)
+    requires { text_len text.old + length name.now + 24 ≤ N }
     ensures bytes { text.new.bytes ≡ text.old.bytes ++ cell form name.now (bit_cell bit) }
-    ensures len { array_string_len text.new ≤ array_string_len text.old + length name.now + 24 }
+    ensures len { text_len text.new ≤ text_len text.old + length name.now + 24 }
 {
     push_number(text, form, name, u64::from(bit));
 }
@@ -70,15 +70,15 @@ pub fn push_bit<const N: usize>(text: &mut ArrayString<N>, form: Form, name: &st
 /// Appends an angle in degrees with seven decimals, with at most 16 bytes beside its name.
 #[tactic(auto, unfolding(crate::specs::Rows::cell))]
 pub fn push_degrees<const N: usize>(
-    text: &mut ArrayString<N>,
+    text: &mut TextBuffer<N>,
     form: Form,
     name: &str,
     angle: &Angle,
 )
-    requires { array_string_len text.old + length name.now + 16 ≤ N }
+    requires { text_len text.old + length name.now + 16 ≤ N }
     ensures bytes { (part : List ℕ) × IsDecimal7 (degrees angle.now) part
         × (text.new.bytes ≡ text.old.bytes ++ cell form name.now (Number part)) }
-    ensures len { array_string_len text.new ≤ array_string_len text.old + length name.now + 16 }
+    ensures len { text_len text.new ≤ text_len text.old + length name.now + 16 }
 {
     push_name(text, form, name);
     push_decimals(text, angle);
@@ -87,14 +87,14 @@ pub fn push_degrees<const N: usize>(
 /// Appends why a line is refused, as a word, with at most 38 bytes beside its name.
 #[tactic(auto, unfolding(crate::specs::Rows::cell))]
 pub fn push_fault_word<const N: usize>(
-    text: &mut ArrayString<N>,
+    text: &mut TextBuffer<N>,
     form: Form,
     name: &str,
     fault: LineFault,
 )
-    requires { array_string_len text.old + length name.now + 38 ≤ N }
+    requires { text_len text.old + length name.now + 38 ≤ N }
     ensures bytes { text.new.bytes ≡ text.old.bytes ++ cell form name.now (Word (fault_text fault)) }
-    ensures len { array_string_len text.new ≤ array_string_len text.old + length name.now + 38 }
+    ensures len { text_len text.new ≤ text_len text.old + length name.now + 38 }
 {
     push_quoted_name(text, form, name);
     push_fault(text, fault);

@@ -7,7 +7,7 @@ use Rattle.sq_text.specs.declared.frame_text.TextFault.{TextFault}
 use Rattle.sq_text.specs.declared.frame_text.TextFault.TheVariants as of_texts
 use Rattle.sq_text.specs.declared.faults.LineFault.{LineFault}
 use Rattle.sq_text.specs.declared.faults.LineFault.TheVariants.{LongLine, Moment, Wrap, Short, Length, Digit, NotDf17, Parity, MomentBack, Full}
-use Rattle.sq_text.specs.Digits.{hexadecimal}
+use Rattle.sq_digits.specs.Digits.{hexadecimal}
 
 -- a text's fault, as a line's
 abbrev pub of_text : TextFault → LineFault

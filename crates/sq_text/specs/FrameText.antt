@@ -3,7 +3,7 @@
 use Rattle.std.specs.Prelude.{◌≡◌, ◌≢◌, ℕ, ◌+◌, ◌*◌, ◌<◌, ◌⊎◌, List, [], ◌∷◌, ◌++◌, length, take, slice_index, false, Result, Ok, MatchResult}
 use Rattle.std.specs.List.{AllPass}
 use Rattle.hex.specs.Hex.{decode_of, is_hex_digit, pair_value}
-use Rattle.sq_angle.specs.Characters.{semicolon, star}
+use Rattle.sq_digits.specs.Characters.{semicolon, star}
 use Rattle.sq_bits.specs.declared.frame.Frame.{Frame}
 use Rattle.sq_text.specs.declared.frame_text.TextFault.{TextFault}
 use Rattle.sq_text.specs.declared.frame_text.TextFault.TheVariants.{Wrap, Short, Length, Digit}

@@ -1,5 +1,4 @@
 pub mod FrameText
-pub mod Digits
 pub mod Faults
 pub mod Reading
 pub mod Timed

@@ -15,7 +15,7 @@ use Rattle.sq_message.specs.declared.squitter.Squitter.{Squitter}
 use Rattle.sq_message.specs.Parts.{air_parts, ground_parts, raw_of, SquitterParts, squitter_parts}
 use Rattle.sq_message.specs.Altitudes.{IsAltitude}
 use Rattle.sq_message.specs.Spelling.{bit}
-use Rattle.sq_text.specs.Digits.{hexadecimal}
+use Rattle.sq_digits.specs.Digits.{hexadecimal}
 
 -- a line: a name, a space and a word
 unfoldable pub line : List ℕ → List ℕ → List ℕ

@@ -6,7 +6,7 @@ use Rattle.sq_message.specs.declared.squitter.Me.{Me}
 use Rattle.sq_message.specs.declared.squitter.Me.TheVariants as kinds
 use Rattle.sq_message.specs.declared.squitter.Squitter.{Squitter}
 use Rattle.sq_message.specs.Parts.{raw_of, squitter_parts}
-use Rattle.sq_text.specs.Digits.{hexadecimal}
+use Rattle.sq_digits.specs.Digits.{hexadecimal}
 use Rattle.sq_text.specs.Show.{parity_name}
 
 -- the two numbers of a code

@@ -3,7 +3,7 @@ use Rattle.std.specs.Prelude.{◌≡◌, ◌≤◌, ◌<◌, ◌^◌, ◌++◌, 
 use Rattle.std.specs.Char.{IsAsciiDigit}
 use Rattle.std.specs.List.{AllByRecursion}
 use Rattle.std.specs.Str.Parse.{digits_value}
-use Rattle.sq_angle.specs.Characters.{space}
+use Rattle.sq_digits.specs.Characters.{space}
 use Rattle.sq_text.specs.declared.faults.LineFault.{LineFault}
 use Rattle.sq_text.specs.declared.faults.LineFault.TheVariants.{Moment}
 use Rattle.sq_text.specs.declared.timed.TimedSquitter.{TimedSquitter}

@@ -1,11 +1,10 @@
 //! Why a line is refused.
 ghost use Rattle.std.specs.Prelude.{◌≡◌, ◌+◌, ◌≤◌, ◌++◌, length, Some};
-ghost use Rattle.arrayvec.specs.ArrayString.{array_string_len};
+ghost use Rattle.sq_digits.specs.Buffer.{text_len};
 ghost use Rattle.sq_text.specs.Faults.{fault_text, fault_words, of_frame, of_text};
 
-use crate::digits::{push_decimal, push_six_places};
 use crate::frame_text::TextFault;
-use arrayvec::ArrayString;
+use sq_digits::{TextBuffer, push_decimal, push_six_places};
 use sq_message::FrameFault;
 use std::error::Error;
 use std::fmt;
@@ -84,7 +83,7 @@ impl fmt::Display for LineFault {
     ghost output = { λ fault. Some (fault_text fault) };
 
     fn fmt<W: fmt::Write>(&self, f: &mut fmt::Formatter<W>) -> fmt::Result {
-        let mut text = ArrayString::<32>::new();
+        let mut text = TextBuffer::<32>::new();
         push_fault(&mut text, *self);
         f.write_str(text.as_str())
     }
@@ -103,10 +102,10 @@ impl fmt::Display for TextFault {
 impl Error for TextFault {}
 
 /// Appends the text of a fault, of at most 32 bytes; it is also what the fault's `Display` writes.
-pub fn push_fault<const N: usize>(text: &mut ArrayString<N>, fault: LineFault)
-    requires { array_string_len text.old + 32 ≤ N }
+pub fn push_fault<const N: usize>(text: &mut TextBuffer<N>, fault: LineFault)
+    requires { text_len text.old + 32 ≤ N }
     ensures bytes { text.new.bytes ≡ text.old.bytes ++ fault_text fault }
-    ensures len { array_string_len text.new ≤ array_string_len text.old + 32 }
+    ensures len { text_len text.new ≤ text_len text.old + 32 }
 {
     text.push_str(fault.words());
     match fault {

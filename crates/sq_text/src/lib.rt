@@ -5,7 +5,6 @@
 #![tactic(auto)]
 
 mod digit_values;
-mod digits;
 mod faults;
 mod frame_text;
 pub mod laws;
@@ -16,14 +15,13 @@ mod show;
 mod summary;
 mod timed;
 
-pub use arrayvec::ArrayString;
-pub use digits::{push_decimal, push_hexadecimal, push_six_places};
 pub use faults::{LineFault, push_fault};
 pub use frame_text::{TextFault, read_text};
 pub use place::{PlaceText, place_text, push_decimals};
 pub use place_faults::push_place_fault;
 pub use reading::read_squitter;
 pub use show::{ShowText, show_text};
+pub use sq_digits::{TextBuffer, push_decimal, push_hexadecimal, push_six_places};
 pub use sq_message::{Frame, FrameFault, PlaceFault, Position, Squitter};
 pub use summary::push_summary;
 pub use timed::{TimedSquitter, read_decimal, read_timed};

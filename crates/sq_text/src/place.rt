@@ -1,18 +1,17 @@
 //! A position in two lines.
 ghost use Rattle.std.specs.Prelude.{◌≡◌, ◌+◌, ◌≤◌, ◌<◌, ◌^◌, ◌++◌, List, ℕ, codes, decimal, length, unsigned_abs};
 ghost use Rattle.std.specs.Fmt.{signed_decimal};
-ghost use Rattle.arrayvec.specs.ArrayString.{array_string_len};
+ghost use Rattle.sq_digits.specs.Buffer.{text_len};
 ghost use Rattle.sq_angle.specs.Angle.{degrees};
 ghost use Rattle.sq_angle.specs.Decimal.{IsDecimal7};
 ghost use Rattle.sq_text.specs.Place.{IsFractionText, IsPlaceText};
 
-use crate::digits::push_decimal;
-use arrayvec::ArrayString;
+use sq_digits::{TextBuffer, push_decimal};
 use itoa::Buffer;
 use sq_angle::{Angle, Position};
 
 /// The text of a position: two lines.
-pub type PlaceText = ArrayString<160>;
+pub type PlaceText = TextBuffer<160>;
 
 /// The position in two lines: latitude and longitude with seven decimals, and then both in lowest terms, as `num/den`.
 pub fn place_text(position: &Position) -> PlaceText
@@ -31,19 +30,19 @@ pub fn place_text(position: &Position) -> PlaceText
 }
 
 /// Appends an angle with seven decimals, at most 12 bytes.
-pub fn push_decimals<const N: usize>(text: &mut ArrayString<N>, angle: &Angle)
-    requires { array_string_len text.old + 12 ≤ N }
+pub fn push_decimals<const N: usize>(text: &mut TextBuffer<N>, angle: &Angle)
+    requires { text_len text.old + 12 ≤ N }
     ensures bytes { (part : List ℕ) × IsDecimal7 (degrees angle.now) part × (text.new.bytes ≡ text.old.bytes ++ part) }
-    ensures len { array_string_len text.new ≤ array_string_len text.old + 12 }
+    ensures len { text_len text.new ≤ text_len text.old + 12 }
 {
     angle.push_decimal7(text);
 }
 
 fn push_fraction(text: &mut PlaceText, angle: &Angle)
-    requires { array_string_len text.old ≤ 100 }
+    requires { text_len text.old ≤ 100 }
     ensures bytes { (part : List ℕ) × IsFractionText (degrees angle.now) part
         × (text.new.bytes ≡ text.old.bytes ++ part) }
-    ensures len { array_string_len text.new ≤ array_string_len text.old + 41 }
+    ensures len { text_len text.new ≤ text_len text.old + 41 }
 {
     let (num, den) = angle.reduced();
     let mut buffer = Buffer::new();

@@ -1,17 +1,17 @@
 //! Why squitters are decoded to no place.
 ghost use Rattle.std.specs.Prelude.{◌≡◌, ◌+◌, ◌≤◌, ◌++◌, decimal};
-ghost use Rattle.arrayvec.specs.ArrayString.{array_string_len};
+ghost use Rattle.sq_digits.specs.Buffer.{text_len};
 ghost use Rattle.sq_message.specs.Faults.{place_fault_text};
 
-use arrayvec::ArrayString;
+use sq_digits::TextBuffer;
 use itoa::Buffer;
 use sq_message::PlaceFault;
 
 /// Appends the text of a place's fault, of at most 32 bytes.
-pub fn push_place_fault<const N: usize>(text: &mut ArrayString<N>, fault: PlaceFault)
-    requires { array_string_len text.old + 32 ≤ N }
+pub fn push_place_fault<const N: usize>(text: &mut TextBuffer<N>, fault: PlaceFault)
+    requires { text_len text.old + 32 ≤ N }
     ensures bytes { text.new.bytes ≡ text.old.bytes ++ place_fault_text fault }
-    ensures len { array_string_len text.new ≤ array_string_len text.old + 32 }
+    ensures len { text_len text.new ≤ text_len text.old + 32 }
 {
     text.push_str(fault.words());
     if let PlaceFault::ZoneCounts(even, odd) = fault {
@@ -22,10 +22,10 @@ pub fn push_place_fault<const N: usize>(text: &mut ArrayString<N>, fault: PlaceF
 }
 
 // Appends a zone count, at most 3 digits.
-fn push_count<const N: usize>(text: &mut ArrayString<N>, count: u8)
-    requires { array_string_len text.old + 3 ≤ N }
+fn push_count<const N: usize>(text: &mut TextBuffer<N>, count: u8)
+    requires { text_len text.old + 3 ≤ N }
     ensures bytes { text.new.bytes ≡ text.old.bytes ++ decimal count }
-    ensures len { array_string_len text.new ≤ array_string_len text.old + 3 }
+    ensures len { text_len text.new ≤ text_len text.old + 3 }
 {
     let mut buffer = Buffer::new();
     text.push_str(buffer.format(count));

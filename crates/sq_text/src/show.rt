@@ -1,19 +1,18 @@
 //! The text of a squitter.
 ghost use Rattle.std.specs.Prelude.{◌≡◌, ◌+◌, ◌≤◌, ◌++◌, List, ℕ, codes, length};
-ghost use Rattle.arrayvec.specs.ArrayString.{array_string_len};
+ghost use Rattle.sq_digits.specs.Buffer.{text_len};
 ghost use Rattle.sq_cpr.specs.Code.{numbers_of};
 ghost use Rattle.sq_text.specs.Show.{IsShown, IsShownAirborne, IsShownMe, altitude_line, line, number_line, other_lines, parity_name, place_lines, surface_lines};
-ghost use Rattle.sq_text.specs.Digits.{hexadecimal};
+ghost use Rattle.sq_digits.specs.Digits.{hexadecimal};
 ghost use Rattle.sq_message.specs.Spelling.{bit};
 
-use crate::digits::{push_decimal, push_hexadecimal};
-use arrayvec::ArrayString;
+use sq_digits::{TextBuffer, push_decimal, push_hexadecimal};
 use itoa::Buffer;
 use sq_cpr::{Code, Parity};
 use sq_message::{Airborne, Altitude, Me, Other, Squitter, Surface, altitude};
 
 /// The text of a squitter: one line a field.
-pub type ShowText = ArrayString<320>;
+pub type ShowText = TextBuffer<320>;
 
 /// The fields of a squitter, one a line: its address, capability and type code, its kind, and then the fields of the
 /// kind. The address and the bits of a message of kind other are upper-case hexadecimal digits, other numbers are
@@ -30,9 +29,9 @@ pub fn show_text(squitter: &Squitter) -> ShowText
 
 #[tactic(auto, unfolding(crate::specs::Show::line))]
 fn push_address(text: &mut ShowText, address: u32)
-    requires { array_string_len text.old ≤ 250 }
+    requires { text_len text.old ≤ 250 }
     ensures bytes { text.new.bytes ≡ text.old.bytes ++ line (codes "address") (hexadecimal 6 address) }
-    ensures len { array_string_len text.new ≤ array_string_len text.old + 15 }
+    ensures len { text_len text.new ≤ text_len text.old + 15 }
 {
     text.push_str("address ");
     push_hexadecimal(text, u64::from(address), 6);
@@ -40,7 +39,7 @@ fn push_address(text: &mut ShowText, address: u32)
 }
 
 fn push_me(text: &mut ShowText, me: &Me)
-    requires { array_string_len text.old ≤ 39 }
+    requires { text_len text.old ≤ 39 }
     ensures { (rest : List ℕ) × IsShownMe me.now rest × (text.new.bytes ≡ text.old.bytes ++ rest) }
 {
     match me {
@@ -51,7 +50,7 @@ fn push_me(text: &mut ShowText, me: &Me)
 }
 
 fn push_airborne(text: &mut ShowText, airborne: &Airborne)
-    requires { array_string_len text.old ≤ 39 }
+    requires { text_len text.old ≤ 39 }
     ensures { (rest : List ℕ) × IsShownAirborne airborne.now rest × (text.new.bytes ≡ text.old.bytes ++ rest) }
 {
     let fields = airborne.fields;
@@ -65,7 +64,7 @@ fn push_airborne(text: &mut ShowText, airborne: &Airborne)
 }
 
 fn push_surface(text: &mut ShowText, surface: &Surface)
-    requires { array_string_len text.old ≤ 39 }
+    requires { text_len text.old ≤ 39 }
     ensures { text.new.bytes ≡ text.old.bytes ++ surface_lines surface.now }
 {
     let fields = surface.fields;
@@ -79,7 +78,7 @@ fn push_surface(text: &mut ShowText, surface: &Surface)
 }
 
 fn push_other(text: &mut ShowText, other: &Other)
-    requires { array_string_len text.old ≤ 39 }
+    requires { text_len text.old ≤ 39 }
     ensures { text.new.bytes ≡ text.old.bytes ++ other_lines other.now }
 {
     push_number(text, "type", u32::from(other.type_code()));
@@ -88,9 +87,9 @@ fn push_other(text: &mut ShowText, other: &Other)
 }
 
 fn push_altitude(text: &mut ShowText, altitude: Altitude)
-    requires { array_string_len text.old ≤ 200 }
+    requires { text_len text.old ≤ 200 }
     ensures bytes { text.new.bytes ≡ text.old.bytes ++ altitude_line altitude }
-    ensures len { array_string_len text.new ≤ array_string_len text.old + 33 }
+    ensures len { text_len text.new ≤ text_len text.old + 33 }
 {
     match altitude {
         Altitude::Missing => text.push_str("altitude none\n"),
@@ -109,7 +108,7 @@ fn push_altitude(text: &mut ShowText, altitude: Altitude)
 }
 
 fn push_place(text: &mut ShowText, parity: Parity, code: &Code)
-    requires { array_string_len text.old ≤ 250 }
+    requires { text_len text.old ≤ 250 }
     ensures { text.new.bytes ≡ text.old.bytes ++ place_lines parity (numbers_of code.now) }
 {
     push_parity(text, parity);
@@ -118,9 +117,9 @@ fn push_place(text: &mut ShowText, parity: Parity, code: &Code)
 }
 
 fn push_parity(text: &mut ShowText, parity: Parity)
-    requires { array_string_len text.old ≤ 250 }
+    requires { text_len text.old ≤ 250 }
     ensures bytes { text.new.bytes ≡ text.old.bytes ++ line (codes "parity") (parity_name parity) }
-    ensures len { array_string_len text.new ≤ array_string_len text.old + 12 }
+    ensures len { text_len text.new ≤ text_len text.old + 12 }
 {
     match parity {
         Parity::Even => push_line(text, "parity", "even"),
@@ -130,7 +129,7 @@ fn push_parity(text: &mut ShowText, parity: Parity)
 
 #[tactic(auto, unfolding(crate::specs::Show::line))]
 fn push_raw(text: &mut ShowText, raw: u64)
-    requires { array_string_len text.old ≤ 250 }
+    requires { text_len text.old ≤ 250 }
     ensures { text.new.bytes ≡ text.old.bytes ++ line (codes "me") (hexadecimal 14 raw) }
 {
     text.push_str("me ");
@@ -140,9 +139,9 @@ fn push_raw(text: &mut ShowText, raw: u64)
 
 // Appends a name and a one-bit field as a line.
 fn push_flag(text: &mut ShowText, name: &str, flag: bool)
-    requires { array_string_len text.old + length name.now + 22 ≤ 320 }
+    requires { text_len text.old + length name.now + 22 ≤ 320 }
     ensures bytes { text.new.bytes ≡ text.old.bytes ++ number_line name.now (bit flag) }
-    ensures len { array_string_len text.new ≤ array_string_len text.old + length name.now + 22 }
+    ensures len { text_len text.new ≤ text_len text.old + length name.now + 22 }
 {
     push_number(text, name, u32::from(flag));
 }
@@ -150,9 +149,9 @@ fn push_flag(text: &mut ShowText, name: &str, flag: bool)
 // Appends a name and a number as a line.
 #[tactic(auto, unfolding(crate::specs::Show::line))]
 fn push_number(text: &mut ShowText, name: &str, number: u32)
-    requires { array_string_len text.old + length name.now + 22 ≤ 320 }
+    requires { text_len text.old + length name.now + 22 ≤ 320 }
     ensures bytes { text.new.bytes ≡ text.old.bytes ++ number_line name.now number }
-    ensures len { array_string_len text.new ≤ array_string_len text.old + length name.now + 22 }
+    ensures len { text_len text.new ≤ text_len text.old + length name.now + 22 }
 {
     text.push_str(name);
     text.push_str(" ");
@@ -163,9 +162,9 @@ fn push_number(text: &mut ShowText, name: &str, number: u32)
 // Appends a name and a word as a line.
 #[tactic(auto, unfolding(crate::specs::Show::line))]
 fn push_line(text: &mut ShowText, name: &str, word: &str)
-    requires { array_string_len text.old + length name.now + length word.now + 2 ≤ 320 }
+    requires { text_len text.old + length name.now + length word.now + 2 ≤ 320 }
     ensures bytes { text.new.bytes ≡ text.old.bytes ++ line name.now word.now }
-    ensures len { array_string_len text.new ≤ array_string_len text.old + length name.now + length word.now + 2 }
+    ensures len { text_len text.new ≤ text_len text.old + length name.now + length word.now + 2 }
 {
     text.push_str(name);
     text.push_str(" ");

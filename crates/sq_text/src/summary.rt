@@ -1,36 +1,44 @@
 //! A squitter in one line.
-ghost use Rattle.std.specs.Prelude.{◌≡◌, ◌+◌, ◌≤◌, ◌++◌, codes, length};
-ghost use Rattle.arrayvec.specs.ArrayString.{array_string_len};
+ghost use Rattle.std.specs.Prelude.{◌≡◌, ◌+◌, ◌≤◌, ◌++◌, codes, length, take};
+ghost use Rattle.std.specs.Str.{IsAscii};
+ghost use Rattle.sq_digits.specs.Buffer.{text_len};
 ghost use Rattle.sq_cpr.specs.Code.{numbers_of};
-ghost use Rattle.sq_text.specs.Digits.{hexadecimal};
+ghost use Rattle.sq_digits.specs.Digits.{hexadecimal};
 ghost use Rattle.sq_text.specs.Show.{parity_name};
 ghost use Rattle.sq_text.specs.Summary.{code_words, me_words, summary};
 
-use crate::digits::{push_decimal, push_six_places};
-use arrayvec::ArrayString;
+use sq_digits::{TextBuffer, push_decimal, push_six_places};
 use sq_cpr::{Code, Parity};
 use sq_message::{Me, Squitter};
 
 /// Appends what `check` says of a good frame, at most 72 bytes: `ok`, the address, and for a position its kind, parity
 /// and code, for another message `other` and the type code.
-pub fn push_summary<const N: usize>(text: &mut ArrayString<N>, squitter: &Squitter)
-    requires { array_string_len text.old + 72 ≤ N }
+pub fn push_summary<const N: usize>(text: &mut TextBuffer<N>, squitter: &Squitter)
+    requires { text_len text.old + 72 ≤ N }
     ensures bytes { text.new.bytes ≡ text.old.bytes ++ summary squitter.now }
-    ensures len { array_string_len text.new ≤ array_string_len text.old + 72 }
+    ensures len { text_len text.new ≤ text_len text.old + 72 }
 {
     text.push_str("ok ");
     push_six_places(text, squitter.address());
     push_me(text, &squitter.me());
 }
 
-fn push_me<const N: usize>(text: &mut ArrayString<N>, me: &Me)
-    requires { array_string_len text.old + 63 ≤ N }
+fn push_me<const N: usize>(text: &mut TextBuffer<N>, me: &Me)
+    requires { text_len text.old + 63 ≤ N }
     ensures bytes { text.new.bytes ≡ text.old.bytes ++ me_words me.now }
-    ensures len { array_string_len text.new ≤ array_string_len text.old + 63 }
+    ensures len { text_len text.new ≤ text_len text.old + 63 }
 {
     match me {
-        Me::Airborne(airborne) => push_place(text, air_words(airborne.parity), &airborne.code),
-        Me::Surface(surface) => push_place(text, ground_words(surface.parity), &surface.code),
+        Me::Airborne(airborne) => {
+            let (words, count) = air_words(airborne.parity);
+            text.push_front(words, count);
+            push_code(text, &airborne.code);
+        }
+        Me::Surface(surface) => {
+            let (words, count) = ground_words(surface.parity);
+            text.push_front(words, count);
+            push_code(text, &surface.code);
+        }
         Me::Other(other) => {
             text.push_str(" other ");
             push_decimal(text, u64::from(other.type_code()));
@@ -38,39 +46,41 @@ fn push_me<const N: usize>(text: &mut ArrayString<N>, me: &Me)
     }
 }
 
-// The kind and the parity of an airborne position, as one text: a choice of texts costs less than a jump that no one
-// foresees.
-fn air_words(parity: Parity) -> &'static str
-    ensures words { result.now ≡ codes " air " ++ parity_name parity ++ codes " " }
-    ensures short { length result.now ≤ 13 }
-{
-    match parity {
-        Parity::Even => " air even ",
-        Parity::Odd => " air odd ",
-    }
-}
-
-// The kind and the parity of a surface position, as one text.
-fn ground_words(parity: Parity) -> &'static str
-    ensures words { result.now ≡ codes " ground " ++ parity_name parity ++ codes " " }
-    ensures short { length result.now ≤ 13 }
-{
-    match parity {
-        Parity::Even => " ground even ",
-        Parity::Odd => " ground odd ",
-    }
-}
-
-// Appends the kind and the parity, with spaces around them, and the code.
+// The kind and the parity of an airborne position with spaces around them, and how many characters these are: a choice of
+// texts of one length costs less than a jump that no one foresees.
 #[inline(always)]
-fn push_place<const N: usize>(text: &mut ArrayString<N>, words: &str, code: &Code)
-    requires short { length words.now ≤ 13 }
-    requires room { array_string_len text.old + 63 ≤ N }
-    ensures bytes { text.new.bytes ≡ text.old.bytes ++ (words.now ++ code_words (numbers_of code.now)) }
-    ensures len { array_string_len text.new ≤ array_string_len text.old + 63 }
+fn air_words(parity: Parity) -> (&'static [u8; 10], usize)
+    ensures ascii { IsAscii result.0.now }
+    ensures within { result.1 ≤ 10 }
+    ensures words { take result.1 result.0.now ≡ codes " air " ++ parity_name parity ++ codes " " }
 {
-    text.push_str(words);
+    match parity {
+        Parity::Even => (b" air even ", 10),
+        Parity::Odd => (b" air odd  ", 9),
+    }
+}
+
+// The kind and the parity of a surface position with spaces around them, and how many characters these are.
+#[inline(always)]
+fn ground_words(parity: Parity) -> (&'static [u8; 13], usize)
+    ensures ascii { IsAscii result.0.now }
+    ensures within { result.1 ≤ 13 }
+    ensures words { take result.1 result.0.now ≡ codes " ground " ++ parity_name parity ++ codes " " }
+{
+    match parity {
+        Parity::Even => (b" ground even ", 13),
+        Parity::Odd => (b" ground odd  ", 12),
+    }
+}
+
+// Appends a code.
+#[inline(always)]
+fn push_code<const N: usize>(text: &mut TextBuffer<N>, code: &Code)
+    requires { text_len text.old + 41 ≤ N }
+    ensures bytes { text.new.bytes ≡ text.old.bytes ++ code_words (numbers_of code.now) }
+    ensures len { text_len text.new ≤ text_len text.old + 41 }
+{
     push_decimal(text, u64::from(code.lat()));
-    text.push_str(" ");
+    text.push(b' ');
     push_decimal(text, u64::from(code.lon()));
 }

@@ -1,13 +1,13 @@
 //! The texts of faults, and the version.
 ghost use Rattle.std.specs.Prelude.{◌≡◌, ◌≤◌, ◌++◌, decimal};
-ghost use Rattle.arrayvec.specs.ArrayString.{array_string_len};
+ghost use Rattle.sq_digits.specs.Buffer.{text_len};
 ghost use Rattle.sq_message.specs.Faults.{place_fault_text};
 ghost use Rattle.sq_text.specs.Faults.{fault_text, fault_words};
 ghost use Rattle.squitter_c.specs.Angles.{StandsIn};
 ghost use Rattle.squitter_c.specs.Texts.{told_text, version};
 
 use crate::angles::fill;
-use arrayvec::ArrayString;
+use sq_digits::TextBuffer;
 use sq_angle::AngleFault;
 use sq_message::PlaceFault;
 use sq_plain::Fault;
@@ -24,18 +24,18 @@ pub extern "C" fn squitter_text_of_fault(fault: &Fault, out: &mut [u8; 64])
 }
 
 // The text of a code and its numbers.
-fn text_of(code: u32, first: u64, second: u32) -> ArrayString<63>
+fn text_of(code: u32, first: u64, second: u32) -> TextBuffer<63>
     ensures { result.bytes ≡ told_text code first second }
 {
-    let mut text = ArrayString::new();
+    let mut text = TextBuffer::new();
     push_told(&mut text, code, first, second);
     text
 }
 
 // Appends the text of a code and its numbers.
 #[tactic(auto, unfolding(crate::specs::Texts::told_text))]
-fn push_told(text: &mut ArrayString<63>, code: u32, first: u64, second: u32)
-    requires { array_string_len text.old ≤ 0 }
+fn push_told(text: &mut TextBuffer<63>, code: u32, first: u64, second: u32)
+    requires { text_len text.old ≤ 0 }
     ensures { text.new.bytes ≡ text.old.bytes ++ told_text code first second }
 {
     match code {
@@ -75,8 +75,8 @@ fn push_told(text: &mut ArrayString<63>, code: u32, first: u64, second: u32)
 }
 
 // Appends the words of a fault and a number.
-fn push_named(text: &mut ArrayString<63>, fault: LineFault, number: u64)
-    requires { array_string_len text.old ≤ 0 }
+fn push_named(text: &mut TextBuffer<63>, fault: LineFault, number: u64)
+    requires { text_len text.old ≤ 0 }
     ensures { text.new.bytes ≡ text.old.bytes ++ (fault_words fault ++ decimal number) }
 {
     text.push_str(fault.words());
@@ -84,8 +84,8 @@ fn push_named(text: &mut ArrayString<63>, fault: LineFault, number: u64)
 }
 
 // Appends a remainder, of which the lowest 24 bits are written.
-fn push_remainder(text: &mut ArrayString<63>, remainder: u64)
-    requires { array_string_len text.old ≤ 0 }
+fn push_remainder(text: &mut TextBuffer<63>, remainder: u64)
+    requires { text_len text.old ≤ 0 }
     ensures { text.new.bytes ≡ text.old.bytes ++ fault_text (LineFault.Parity remainder) }
 {
     text.push_str(LineFault::Parity(0).words());
@@ -93,8 +93,8 @@ fn push_remainder(text: &mut ArrayString<63>, remainder: u64)
 }
 
 // Appends two zone counts.
-fn push_counts(text: &mut ArrayString<63>, even: u64, odd: u64)
-    requires { array_string_len text.old ≤ 0 }
+fn push_counts(text: &mut TextBuffer<63>, even: u64, odd: u64)
+    requires { text_len text.old ≤ 0 }
     ensures { text.new.bytes ≡ text.old.bytes ++ place_fault_text (PlaceFault.ZoneCounts even odd) }
 {
     text.push_str(PlaceFault::ZoneCounts(0, 0).words());

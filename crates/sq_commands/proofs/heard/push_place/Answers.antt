@@ -1,7 +1,7 @@
 use Rattle.std.proofs.Common.{◌∙◌, ap}
 use Rattle.sq_angle.specs.Angle.{degrees}
 use Rattle.sq_message.specs.Places.{place_latitude, place_longitude}
-use Rattle.sq_text.specs.Digits.{hexadecimal}
+use Rattle.sq_digits.specs.Digits.{hexadecimal}
 use Rattle.sq_commands.proofs.HeardLemmas.{pushed, written}
 use Rattle.sq_commands.proofs.heard.push_place.Goals as goal
 

@@ -1,6 +1,6 @@
 use Rattle.std.proofs.Common.{ap}
 use Rattle.std.specs.Prelude.{codes, decimal}
-use Rattle.sq_text.specs.Digits.{hexadecimal}
+use Rattle.sq_digits.specs.Digits.{hexadecimal}
 use Rattle.sq_commands.proofs.HeardLemmas.{pushed}
 use Rattle.sq_commands.proofs.heard.push_split.Goals as goal
 

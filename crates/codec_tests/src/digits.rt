@@ -1,0 +1,78 @@
+//! Texts in buffers, and numbers as digits in them.
+use sq_digits::{
+    TextBuffer, push_decimal, push_digit, push_hexadecimal, push_leading, push_six_places,
+    push_three,
+};
+
+// The number in decimal digits.
+fn decimal(number: u64) -> TextBuffer<20> {
+    let mut text = TextBuffer::new();
+    push_decimal(&mut text, number);
+    text
+}
+
+// Numbers at each change of their length, as decimal digits.
+const DECIMALS: [(u64, &str); 14] = [
+    (0, "0"),
+    (9, "9"),
+    (10, "10"),
+    (99, "99"),
+    (100, "100"),
+    (999, "999"),
+    (1_000, "1000"),
+    (10_007, "10007"),
+    (999_999, "999999"),
+    (1_000_000, "1000000"),
+    (12_000_345, "12000345"),
+    (999_999_999, "999999999"),
+    (1_000_000_000, "1000000000"),
+    (18_446_744_073_709_551_615, "18446744073709551615"),
+];
+
+#[test]
+fn decimals_of_each_length(rt: HostRuntime) {
+    for (number, digits) in DECIMALS {
+        assert!(rt; decimal(number).as_str() == digits, "{digits}");
+    }
+}
+
+#[test]
+fn short_numbers(rt: HostRuntime) {
+    let mut text = TextBuffer::<32>::new();
+    push_leading(&mut text, 7);
+    push_leading(&mut text, 42);
+    push_leading(&mut text, 900);
+    text.push(b' ');
+    push_three(&mut text, 7);
+    push_three(&mut text, 42);
+    push_three(&mut text, 999);
+    push_digit(&mut text, 0);
+    assert!(rt; text.as_str() == "742900 0070429990");
+}
+
+#[test]
+fn hexadecimal_places(rt: HostRuntime) {
+    let mut text = TextBuffer::<28>::new();
+    push_six_places(&mut text, 0xFEDC_BA98);
+    push_six_places(&mut text, 0x0A);
+    push_hexadecimal(&mut text, 0x1_23AF, 4);
+    push_hexadecimal(&mut text, 0x1F, 12);
+    assert!(rt; text.as_str() == "DCBA9800000A23AF00000000001F");
+    assert!(rt; text.len() == 28);
+}
+
+#[test]
+fn a_text_grows_and_is_cleared(rt: HostRuntime) {
+    let mut text = TextBuffer::<6>::new();
+    assert!(rt; text.is_empty());
+    text.push_front(b"even", 2);
+    text.push_str("\u{b0}");
+    text.push_front(b"ab", 0);
+    text.push(b'!');
+    assert!(rt; text.as_bytes() == b"ev\xC2\xB0!".as_slice());
+    assert!(rt; text.len() == 5 && !text.is_empty());
+    text.clear();
+    assert!(rt; text.is_empty() && text.as_str() == "");
+    text.push_str("sixsix");
+    assert!(rt; text.as_str() == "sixsix");
+}

@@ -1,0 +1,14 @@
+-- Numbers in so many digits.
+use Rattle.std.specs.Prelude.{ℕ, zero, suc, ◌/◌, ◌%◌, List, [], ◌∷◌, ◌++◌, true}
+use Rattle.std.specs.Fmt.{digit_glyph}
+use Rattle.sq_digits.specs.Characters.{digit}
+
+-- the lowest so many places of a number, in decimal digits
+abbrev pub fixed_digits : ℕ → ℕ → List ℕ
+fixed_digits zero n = []
+fixed_digits (suc places) n = fixed_digits places (n / 10) ++ digit (n % 10) ∷ []
+
+-- the lowest so many places of a number, in upper-case hexadecimal digits
+abbrev pub hexadecimal : ℕ → ℕ → List ℕ
+hexadecimal zero n = []
+hexadecimal (suc places) n = hexadecimal places (n / 16) ++ digit_glyph true (n % 16) ∷ []
