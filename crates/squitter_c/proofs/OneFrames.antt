@@ -131,17 +131,7 @@ told kind plain place (Ok f) (a, a_is, (p, p_is, (x, x_is, sent))) =
     )
 told kind plain place (Err refusals.NoHead) h = inl (h, refl)
 told kind plain place (Err refusals.NoPosition) h = inr (h.0, inl (h.1, refl))
-told kind plain place (Err (refusals.Line fault)) h = absurd h
-told kind plain place (Err (refusals.Place fault)) h = absurd h
-told kind plain place (Err (refusals.Angle fault)) h = absurd h
-told kind plain place (Err refusals.NoAngle) h = absurd h
-told kind plain place (Err refusals.NoLatitude) h = absurd h
-told kind plain place (Err refusals.NoFeet) h = absurd h
-told kind plain place (Err refusals.NoParity) h = absurd h
-told kind plain place (Err refusals.Memory) h = absurd h
-told kind plain place (Err refusals.NoLimit) h = absurd h
-told kind plain place (Err refusals.NoTracker) h = absurd h
-told kind plain place (Err refusals.NoAddress) h = absurd h
+told kind plain place (Err other) h = absurd h
 
 one_send_answer : (kind : Kind) (plain : PlainHead kind) (place : PlainPosition) (r s : Result Frame Refusal)
     → IsSendAnswer kind plain place r → IsSendAnswer kind plain place s → r ≡ s

@@ -117,16 +117,7 @@ near_plain frame plain (Err (refusals.Place fault)) (reference, deg, (q, spells,
     ),
   ),
 )
-near_plain frame plain (Err (refusals.Angle fault)) h = absurd h
-near_plain frame plain (Err refusals.NoHead) h = absurd h
-near_plain frame plain (Err refusals.NoAngle) h = absurd h
-near_plain frame plain (Err refusals.NoLatitude) h = absurd h
-near_plain frame plain (Err refusals.NoFeet) h = absurd h
-near_plain frame plain (Err refusals.NoParity) h = absurd h
-near_plain frame plain (Err refusals.Memory) h = absurd h
-near_plain frame plain (Err refusals.NoLimit) h = absurd h
-near_plain frame plain (Err refusals.NoTracker) h = absurd h
-near_plain frame plain (Err refusals.NoAddress) h = absurd h
+near_plain frame plain (Err other) h = absurd h
 
 one_near_plain : (frame : Frame) (plain : PlainPosition) (r s : Result Place Refusal) → NearPlain frame plain r
     → NearPlain frame plain s → r ≡ s
@@ -166,17 +157,7 @@ of_pair older newer site (Err (refusals.Line fault)) (inr ((o, o_is), (of, of_is
     (Ok o, o_is, (Err of, of_is, ap (λ f. Err (refusals.Line f)) is))
 of_pair older newer site (Err (refusals.Place fault)) (o, o_is, (n, n_is, pair)) =
     (Ok o, o_is, (Ok n, n_is, (Err fault, pair, refl)))
-of_pair older newer site (Err (refusals.Angle fault)) h = absurd h
-of_pair older newer site (Err refusals.NoPosition) h = absurd h
-of_pair older newer site (Err refusals.NoHead) h = absurd h
-of_pair older newer site (Err refusals.NoAngle) h = absurd h
-of_pair older newer site (Err refusals.NoLatitude) h = absurd h
-of_pair older newer site (Err refusals.NoFeet) h = absurd h
-of_pair older newer site (Err refusals.NoParity) h = absurd h
-of_pair older newer site (Err refusals.Memory) h = absurd h
-of_pair older newer site (Err refusals.NoLimit) h = absurd h
-of_pair older newer site (Err refusals.NoTracker) h = absurd h
-of_pair older newer site (Err refusals.NoAddress) h = absurd h
+of_pair older newer site (Err other) h = absurd h
 
 one_pair : (older newer : Frame) (site : Option Position) (r s : Result Place Refusal)
     → IsPairAnswer older newer site r → IsPairAnswer older newer site s → r ≡ s
