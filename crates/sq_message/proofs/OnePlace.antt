@@ -72,9 +72,7 @@ one_kindred (kinds.Surface o) (kinds.Surface n) site x y h k =
     (one_on_ground o n site x y) h k
 one_kindred (kinds.Airborne o) (kinds.Surface n) site x y h k = h ∙ sym k
 one_kindred (kinds.Surface o) (kinds.Airborne n) site x y h k = h ∙ sym k
-one_kindred (kinds.Airborne o) (kinds.Other n) site x y h k = absurd h
-one_kindred (kinds.Surface o) (kinds.Other n) site x y h k = absurd h
-one_kindred (kinds.Other o) n site x y h k = absurd h
+one_kindred m n site x y h k = absurd h
 
 pub one_pair_place : OnePairPlace
 one_pair_place older newer site x y h k = elim (past_or_fault (squitter_parts older) (squitter_parts newer) site) [

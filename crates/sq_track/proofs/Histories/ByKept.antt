@@ -6,7 +6,7 @@ use Rattle.sq_message.specs.declared.place.Place.{Place}
 use Rattle.sq_message.specs.Parts.{squitter_parts}
 use Rattle.sq_message.proofs.OnePlace.{one_local_place}
 use Rattle.sq_track.specs.declared.heard.Heard.{Heard}
-use Rattle.sq_track.specs.declared.heard.Heard.TheVariants.{Fix, Followed, Waiting, Split, Far, NoSite, NotPosition}
+use Rattle.sq_track.specs.declared.heard.Heard.TheVariants.{Waiting, Split}
 use Rattle.sq_track.specs.Answers.{IsHeardAfter, IsHeardByKept, IsHeardNear, IsHeardNearPosition, IsHeardWith, LooksToFix, heard_near}
 use Rattle.sq_track.specs.Kept.{IsFixAt, fix_in, pair_in, recent_position, recent_squitter}
 use Rattle.sq_track.specs.Laws.{OneAnswerByKept}
@@ -24,13 +24,9 @@ near_of_position (Some place) (Some position) q of_pair heard at (answer, local,
 -- what looks to the position of a place looks to the place
 after_of_position : (last : Option Place) (fix : Option Position) (q : Squitter) (of_pair heard : Heard)
     → IsFixAt last fix → LooksToFix (IsHeardNearPosition fix q) of_pair heard → IsHeardAfter last q of_pair heard
-after_of_position last fix q (Fix place) heard at is = is
-after_of_position last fix q (Followed place) heard at is = is
 after_of_position last fix q Waiting heard at is = near_of_position last fix q Waiting heard at is
 after_of_position last fix q (Split e o) heard at is = near_of_position last fix q (Split e o) heard at is
-after_of_position last fix q Far heard at is = is
-after_of_position last fix q NoSite heard at is = is
-after_of_position last fix q NotPosition heard at is = is
+after_of_position last fix q of_pair heard at is = is
 
 -- what is heard by what is kept is heard with the place of the kept position
 pub heard_with_place : (site : Option Position) (older : Option Squitter) (last : Option Place) (fix : Option Position)

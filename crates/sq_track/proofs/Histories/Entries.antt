@@ -65,12 +65,8 @@ recent_is window moment (Some x) entry e = by (leb moment (x.moment + window)) r
 
 kind_sym : (m n : Me) → are_of_one_kind m n ≡ true → are_of_one_kind n m ≡ true
 kind_sym (kinds.Airborne a) (kinds.Airborne b) e = refl
-kind_sym (kinds.Airborne a) (kinds.Surface b) e = absurd (false≢true e)
-kind_sym (kinds.Airborne a) (kinds.Other b) e = absurd (false≢true e)
-kind_sym (kinds.Surface a) (kinds.Airborne b) e = absurd (false≢true e)
 kind_sym (kinds.Surface a) (kinds.Surface b) e = refl
-kind_sym (kinds.Surface a) (kinds.Other b) e = absurd (false≢true e)
-kind_sym (kinds.Other a) n e = absurd (false≢true e)
+kind_sym m n e = absurd (false≢true e)
 
 -- the parts of one sender
 pub sender_parts : (q r : Squitter) → are_of_one_sender q r ≡ true

@@ -28,7 +28,7 @@ use Rattle.sq_message.specs.Places.{IsPositionOf, IsLocalPlace, IsPairPlace, IsP
 use Rattle.sq_message.proofs.PlaceLemmas.{both_positions}
 use Rattle.sq_message.proofs.SomePlace.{some_local, some_pair_place}
 use Rattle.sq_track.specs.declared.heard.Heard.{Heard}
-use Rattle.sq_track.specs.declared.heard.Heard.TheVariants.{Fix, Followed, Waiting, Split, Far, NoSite, NotPosition}
+use Rattle.sq_track.specs.declared.heard.Heard.TheVariants.{Fix, Followed, Waiting, Split, NoSite, NotPosition}
 use Rattle.sq_track.specs.declared.heard.TrackFault.TheVariants.{MomentBack, Full}
 use Rattle.sq_track.specs.History.{Entry, History, counterpart, last_fix, if_recent, is_fix_of, place_heard}
 use Rattle.sq_track.specs.History as past
@@ -95,9 +95,7 @@ kindred_on_grid (kinds.Surface o) (kinds.Surface n) site answer h =
     parities_on_grid o.parity n.parity answer (IsGroundPairPlace o n site answer) (ground_on_grid o n site answer) h
 kindred_on_grid (kinds.Airborne o) (kinds.Surface n) site answer is = subst IfPlace (sym is) tt
 kindred_on_grid (kinds.Surface o) (kinds.Airborne n) site answer is = subst IfPlace (sym is) tt
-kindred_on_grid (kinds.Airborne o) (kinds.Other n) site answer h = absurd h
-kindred_on_grid (kinds.Surface o) (kinds.Other n) site answer h = absurd h
-kindred_on_grid (kinds.Other o) n site answer h = absurd h
+kindred_on_grid m n site answer h = absurd h
 
 pair_on_grid : (older newer : SquitterParts) (site : Option Position) (answer : Result Place PlaceFault)
     → IsPairPlace older newer site answer → IfPlace answer
@@ -149,13 +147,9 @@ near_on_grid (Some fix) q of_pair heard h (answer, (r, at, local), is) =
 
 after_on_grid : (fix : Option Place) (q : Squitter) (of_pair heard : Heard) → IfHeardPlace of_pair
     → IsHeardAfter fix q of_pair heard → IfHeardPlace heard
-after_on_grid fix q (Fix place) heard h is = subst IfHeardPlace (sym is) h
-after_on_grid fix q (Followed place) heard h is = subst IfHeardPlace (sym is) h
 after_on_grid fix q Waiting heard h is = near_on_grid fix q Waiting heard h is
 after_on_grid fix q (Split even odd) heard h is = near_on_grid fix q (Split even odd) heard h is
-after_on_grid fix q Far heard h is = subst IfHeardPlace (sym is) h
-after_on_grid fix q NoSite heard h is = subst IfHeardPlace (sym is) h
-after_on_grid fix q NotPosition heard h is = subst IfHeardPlace (sym is) h
+after_on_grid fix q of_pair heard h is = subst IfHeardPlace (sym is) h
 
 each_on_grid : (s : Settings) (history : History) → IsHistory s history
     → AllByRecursion (λ entry. IfHeardPlace entry.heard) history
@@ -170,11 +164,7 @@ each_on_grid s (entry ∷ earlier) h = (
 heard_on_grid : (heard : Heard) (place : Place) → place_heard heard ≡ Some place → IfHeardPlace heard → IsOnGrid place
 heard_on_grid (Fix p) place e h = subst IsOnGrid (cc e) h
 heard_on_grid (Followed p) place e h = subst IsOnGrid (cc e) h
-heard_on_grid Waiting place e h = none_is_some place e
-heard_on_grid (Split even odd) place e h = none_is_some place e
-heard_on_grid Far place e h = none_is_some place e
-heard_on_grid NoSite place e h = none_is_some place e
-heard_on_grid NotPosition place e h = none_is_some place e
+heard_on_grid heard place e h = none_is_some place e
 
 last_on_grid : (s : Settings) (history : History) (moment : ℕ) (q : Squitter) (place : Place) → IsHistory s history
     → last_fix s.window history moment q ≡ Some place → IsOnGrid place
@@ -260,13 +250,9 @@ some_near (Some fix) q of_pair h =
 
 some_after : (fix : Option Place) (q : Squitter) (of_pair : Heard)
     → ((place : Place) → fix ≡ Some place → IsOnGrid place) → (heard : Heard) × IsHeardAfter fix q of_pair heard
-some_after fix q (Fix place) h = (Fix place, refl)
-some_after fix q (Followed place) h = (Followed place, refl)
 some_after fix q Waiting h = some_near fix q Waiting h
 some_after fix q (Split even odd) h = some_near fix q (Split even odd) h
-some_after fix q Far h = (Far, refl)
-some_after fix q NoSite h = (NoSite, refl)
-some_after fix q NotPosition h = (NotPosition, refl)
+some_after fix q of_pair h = (of_pair, refl)
 
 pub some_answer : SomeAnswer
 some_answer s history moment q accepted =

@@ -87,10 +87,8 @@ slow_pair Even (kinds.Airborne o) (kinds.Airborne n) x y p q site answer first s
     q_is.1.of_grid p_is.1.of_grid (has_code q n.code (code_of_place (kinds.Airborne n) y (Air q) second q_is))
     (has_code p o.code (code_of_place (kinds.Airborne o) x (Air p) first p_is)) tame in
     is ∙ one_count air Air Even q p found same law
-slow_pair newest (kinds.Airborne o) (kinds.Surface n) x y p q site answer first second even odd p_is q_is slow same here = absurd q_is
-slow_pair newest (kinds.Airborne o) (kinds.Other n) x y p q site answer first second even odd p_is q_is slow same here = absurd q_is
-slow_pair newest (kinds.Surface o) n x y p q site answer first second even odd p_is q_is slow same here = absurd p_is
-slow_pair newest (kinds.Other o) n x y p q site answer first second even odd p_is q_is slow same here = absurd p_is
+slow_pair newest (kinds.Airborne o) n x y p q site answer first second even odd p_is q_is slow same here = absurd q_is
+slow_pair newest m n x y p q site answer first second even odd p_is q_is slow same here = absurd p_is
 
 -- two messages that were encoded on the ground from slow positions near the site, of which the newer has this parity
 slow_ground_pair : (newest : Parity) (m n : Me) (x y : Position) (p q : Point) (site : Position)
@@ -123,10 +121,8 @@ slow_ground_pair Even (kinds.Surface o) (kinds.Surface n) x y p q site answer fi
     (has_code p o.code (code_of_place (kinds.Surface o) x (Ground p) first p_is)) tame
     (rounds_near_site ground refl y site q q_is.1 slow.1) (rounds_near_site ground refl x site p p_is.1 slow.2) in
     is ∙ one_count ground Ground Even q p found same law
-slow_ground_pair newest (kinds.Surface o) (kinds.Airborne n) x y p q site answer first second even odd p_is q_is slow same here = absurd q_is
-slow_ground_pair newest (kinds.Surface o) (kinds.Other n) x y p q site answer first second even odd p_is q_is slow same here = absurd q_is
-slow_ground_pair newest (kinds.Airborne o) n x y p q site answer first second even odd p_is q_is slow same here = absurd p_is
-slow_ground_pair newest (kinds.Other o) n x y p q site answer first second even odd p_is q_is slow same here = absurd p_is
+slow_ground_pair newest (kinds.Surface o) n x y p q site answer first second even odd p_is q_is slow same here = absurd q_is
+slow_ground_pair newest m n x y p q site answer first second even odd p_is q_is slow same here = absurd p_is
 
 -- two messages with places are positions
 positions_of : (m n : Me) (x y : Position) (p q : Place) → IsPlaceOf m x p → IsPlaceOf n y q
