@@ -28,7 +28,7 @@ use Rattle.sq_message.specs.Places.{IsPositionOf, IsLocalPlace, IsPairPlace, IsP
 use Rattle.sq_message.proofs.PlaceLemmas.{both_positions}
 use Rattle.sq_message.proofs.SomePlace.{some_local, some_pair_place}
 use Rattle.sq_track.specs.declared.heard.Heard.{Heard}
-use Rattle.sq_track.specs.declared.heard.Heard.TheVariants.{Fix, Followed, Waiting, Split, NoSite, NotPosition}
+use Rattle.sq_track.specs.declared.heard.Heard.TheVariants.{Fix, Followed, Waiting, Split}
 use Rattle.sq_track.specs.declared.heard.TrackFault.TheVariants.{MomentBack, Full}
 use Rattle.sq_track.specs.History.{Entry, History, counterpart, last_fix, if_recent, is_fix_of, place_heard}
 use Rattle.sq_track.specs.History as past
