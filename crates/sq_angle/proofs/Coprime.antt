@@ -1,5 +1,6 @@
 -- A fraction has one form in lowest terms.
-use Rattle.std.proofs.Common.{◌≡◌, ℕ, zero, suc, ◌-◌, ◌*◌, ◌/◌, ◌%◌, ◌≤◌, pos, ◌*ℤ◌, unsigned_abs, refl, ap, ◌∙◌, sym, subst, arith, one-mul, mul_comm, div-add-mod'}
+use Rattle.std.proofs.Common.{◌≡◌, ℕ, zero, suc, ◌-◌, ◌*◌, ◌/◌, ◌%◌, ◌≤◌, pos, ◌*ℤ◌, unsigned_abs, refl, ap, ◌∙◌, sym}
+use Rattle.std.proofs.Common.{subst, arith, one-mul, mul_comm, div-add-mod'}
 use Rattle.std.specs.Int.{IsGcd, ◌∣◌}
 use Rattle.std.proofs.Math.Nat.{dvd-sub, dvd-mul_left_of_dvd, dvd-mul_right, dvd_antisymm}
 use Rattle.std.proofs.lemmas.Nat.Gcd.{IsGcd-from_zero, IsGcd-from_mod, same_from_IsGcd}

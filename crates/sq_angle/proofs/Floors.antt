@@ -1,5 +1,6 @@
 -- Division that rounds down, of a signed by a positive natural number, and blocks of d numbers.
-use Rattle.std.proofs.Common.{◌≡◌, ℕ, ◌+◌, ◌*◌, ◌/◌, ◌<◌, ◌≤◌, ℤ, pos, ◌+ℤ◌, ◌*ℤ◌, ◌≤ℤ◌, ◌<ℤ◌, ap₂, ◌∙◌, sym, arith, unsigned_abs, mul-le-mul_left}
+use Rattle.std.proofs.Common.{◌≡◌, ℕ, ◌+◌, ◌*◌, ◌/◌, ◌<◌, ◌≤◌, ℤ, pos, ◌+ℤ◌, ◌*ℤ◌, ◌≤ℤ◌, ◌<ℤ◌, ap₂, ◌∙◌, sym, arith}
+use Rattle.std.proofs.Common.{unsigned_abs, mul-le-mul_left}
 use Rattle.std.proofs.Math.IntN.{negsuc}
 use Rattle.std.proofs.lemmas.Int.{ints, by_lt_z}
 use Rattle.std.specs.Int.{int_div_euclid, int_rem_euclid}

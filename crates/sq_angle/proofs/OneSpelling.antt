@@ -1,5 +1,6 @@
 -- A text of an angle has one spelling, and where the parts of a text are no spelling it has none.
-use Rattle.std.proofs.Common.{◌≡◌, ◌≢◌, ℕ, ◌≤◌, Bool, true, false, List, [], ◌∷◌, ◌++◌, length, refl, ap₂, ◌∙◌, sym, arith}
+use Rattle.std.proofs.Common.{◌≡◌, ◌≢◌, ℕ, ◌≤◌, Bool, true, false, List, [], ◌∷◌, ◌++◌, length, refl, ap₂, ◌∙◌, sym}
+use Rattle.std.proofs.Common.{arith}
 use Rattle.std.specs.Bool.{OnFalse}
 use Rattle.std.specs.Char.{IsAsciiDigit}
 use Rattle.std.specs.List.{AllByRecursion}

@@ -1,5 +1,6 @@
 -- Quotients by products with reciprocals.
-use Rattle.std.proofs.Common.{◌≡◌, ℕ, zero, suc, ◌+◌, ◌*◌, ◌/◌, ◌%◌, ◌<◌, ◌≤◌, ◌^◌, map, get_or, refl, ap, ◌∙◌, arith, mul-le-mul_left, mul-le-mul_right, lt_of_mul-lt-mul_right}
+use Rattle.std.proofs.Common.{◌≡◌, ℕ, zero, suc, ◌+◌, ◌*◌, ◌/◌, ◌%◌, ◌<◌, ◌≤◌, ◌^◌, map, get_or, refl, ap, ◌∙◌, arith}
+use Rattle.std.proofs.Common.{mul-le-mul_left, mul-le-mul_right, lt_of_mul-lt-mul_right}
 use Rattle.std.proofs.Math.Nat.{div-mul-le_self, lt-div-mul-add, div-div-eq-div-mul}
 use Rattle.std.proofs.lemmas.Grind.{div_ceil_times}
 use Rattle.std.proofs.lemmas.List.FromFn.{get_or-map-range_with_len}

@@ -1,5 +1,6 @@
 -- A fraction has a text with seven decimals.
-use Rattle.std.proofs.Common.{◌≡◌, ◌+◌, ◌*◌, ◌≤◌, ◌⊎◌, inl, inr, ℕ, ℤ, List, [], pos, neg_ℤ, ◌*ℤ◌, ◌<ℤ◌, ◌+ℤ◌, refl, subst, int_lt, arith, unsigned_abs}
+use Rattle.std.proofs.Common.{◌≡◌, ◌+◌, ◌*◌, ◌≤◌, ◌⊎◌, inl, inr, ℕ, ℤ, List, [], pos, neg_ℤ, ◌*ℤ◌, ◌<ℤ◌, ◌+ℤ◌, refl}
+use Rattle.std.proofs.Common.{subst, int_lt, arith, unsigned_abs}
 use Rattle.std.proofs.Math.IntN.{negsuc}
 use Rattle.std.proofs.lemmas.Bool.{cases_lt}
 use Rattle.std.proofs.lemmas.Int.{ints}

@@ -1,6 +1,8 @@
 -- Common divisors where powers of two are taken out.
-use Rattle.std.proofs.Common.{◌≡◌, ◌⊎◌, inl, inr, ◌+◌, ◌*◌, ◌/◌, ◌%◌, ◌<◌, ◌≤◌, ℕ, zero, suc, ap, ◌∙◌, sym, subst, refl, arith, mul-le-mul_left}
-use Rattle.std.proofs.Math.Nat.{mul-div_cancel', mul_assoc, mul_comm, add-mul, dvd-mul_right, dvd-mul_left_of_dvd, mul-dvd-mul_left, dvd_of_mul-dvd-mul_left}
+use Rattle.std.proofs.Common.{◌≡◌, ◌⊎◌, inl, inr, ◌+◌, ◌*◌, ◌/◌, ◌%◌, ◌<◌, ◌≤◌, ℕ, zero, suc, ap, ◌∙◌, sym, subst, refl}
+use Rattle.std.proofs.Common.{arith, mul-le-mul_left}
+use Rattle.std.proofs.Math.Nat.{mul-div_cancel', mul_assoc, mul_comm, add-mul, dvd-mul_right, dvd-mul_left_of_dvd}
+use Rattle.std.proofs.Math.Nat.{mul-dvd-mul_left, dvd_of_mul-dvd-mul_left}
 use Rattle.std.specs.Int.{IsGcd, ◌∣◌}
 
 -- a number is even or odd

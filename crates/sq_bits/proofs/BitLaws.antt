@@ -1,5 +1,6 @@
 -- The number of a frame has the frame's bits.
-use Rattle.std.proofs.Common.{◌≡◌, ℕ, ◌+◌, ◌-◌, ◌*◌, ◌/◌, ◌%◌, ◌<◌, ◌≤◌, ◌^◌, List, [], ◌∷◌, ◌++◌, length, take, drop, get_or, refl, sym, ap, ◌∙◌, subst, arith, suc, zero, add-one}
+use Rattle.std.proofs.Common.{◌≡◌, ℕ, ◌+◌, ◌-◌, ◌*◌, ◌/◌, ◌%◌, ◌<◌, ◌≤◌, ◌^◌, List, [], ◌∷◌, ◌++◌, length, take, drop}
+use Rattle.std.proofs.Common.{get_or, refl, sym, ap, ◌∙◌, subst, arith, suc, zero, add-one}
 use Rattle.std.proofs.lemmas.Nat.{shr-shr, shr_high, mod_low, field_of as field_as_mod}
 use Rattle.std.proofs.lemmas.Int.Digits.{number_more, number_lt, number_after_append, number_push}
 use Rattle.std.proofs.lemmas.List.{length-drop, take-append-drop}

@@ -1,5 +1,6 @@
 -- Bytes as the digits of a number.
-use Rattle.std.proofs.Common.{◌≡◌, ℕ, ◌+◌, ◌-◌, ◌*◌, ◌/◌, ◌<◌, ◌≤◌, ◌^◌, List, length, take, set, get_or, refl, sym, ap, ap₂, ◌∙◌, arith, bit_and, [], ◌∷◌, ◌++◌}
+use Rattle.std.proofs.Common.{◌≡◌, ℕ, ◌+◌, ◌-◌, ◌*◌, ◌/◌, ◌<◌, ◌≤◌, ◌^◌, List, length, take, set, get_or, refl, sym, ap}
+use Rattle.std.proofs.Common.{ap₂, ◌∙◌, arith, bit_and, [], ◌∷◌, ◌++◌}
 use Rattle.std.proofs.lemmas.Nat.{pow-add, shr-shr, shr_split, and_mask, and_le_r}
 use Rattle.std.proofs.lemmas.Int.Digits.{number_more}
 use Rattle.std.proofs.Math.ListN.{length-set}

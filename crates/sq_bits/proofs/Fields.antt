@@ -1,6 +1,8 @@
 -- Fields of a number: reading one, and replacing one.
-use Rattle.std.proofs.Common.{◌≡◌, ℕ, ◌+◌, ◌-◌, ◌*◌, ◌/◌, ◌%◌, ◌<◌, ◌≤◌, ◌^◌, inl, inr, refl, sym, ap, subst, ◌∙◌, arith}
-use Rattle.std.proofs.lemmas.Nat.{pow-add, pow_pos, shr-shr, shr_split, shr_high, mod_low, mod-pow-add, field_of as field_as_mod, mul-add-lt, mod_below, shr_below, shl_whole}
+use Rattle.std.proofs.Common.{◌≡◌, ℕ, ◌+◌, ◌-◌, ◌*◌, ◌/◌, ◌%◌, ◌<◌, ◌≤◌, ◌^◌, inl, inr, refl, sym, ap, subst, ◌∙◌}
+use Rattle.std.proofs.Common.{arith}
+use Rattle.std.proofs.lemmas.Nat.{pow-add, pow_pos, shr-shr, shr_split, shr_high, mod_low, mod-pow-add}
+use Rattle.std.proofs.lemmas.Nat.{field_of as field_as_mod, mul-add-lt, mod_below, shr_below, shl_whole}
 use Rattle.sq_bits.specs.declared.frame.Frame.{Frame}
 use Rattle.sq_bits.specs.Frames.{frame_number, IsApart}
 use Rattle.sq_bits.proofs.Quotient.{field_at, quotient_of}

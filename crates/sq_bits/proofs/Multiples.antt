@@ -1,5 +1,6 @@
 -- Multiples of the generator: closed under sums and shifts, and none but 0 below 2^24.
-use Rattle.std.proofs.Common.{◌≡◌, ℕ, ◌+◌, ◌*◌, ◌/◌, ◌<◌, ◌≤◌, ◌^◌, Bool, true, false, cond, List, [], ◌∷◌, bit_xor, refl, sym, ap, ◌∙◌, arith, inl, inr, ◌⊎◌}
+use Rattle.std.proofs.Common.{◌≡◌, ℕ, ◌+◌, ◌*◌, ◌/◌, ◌<◌, ◌≤◌, ◌^◌, Bool, true, false, cond, List, [], ◌∷◌, bit_xor}
+use Rattle.std.proofs.Common.{refl, sym, ap, ◌∙◌, arith, inl, inr, ◌⊎◌}
 use Rattle.std.proofs.lemmas.Nat.{xor_comm, xor_lt, xor_shr}
 use lib.Bits.{xor_assoc, xor_self, xor_zero_r, xor_block}
 use Rattle.sq_bits.specs.Parity.{generator, carryless_product, IsMultiple, IsRemainder}

@@ -1,12 +1,14 @@
 -- Steps of the remainder.
-use Rattle.std.proofs.Common.{◌≡◌, ℕ, ◌+◌, ◌-◌, ◌*◌, ◌/◌, ◌%◌, ◌<◌, ◌≤◌, ◌^◌, bit_xor, refl, sym, ap, ◌∙◌, arith, zero, suc, subst, inl, inr}
+use Rattle.std.proofs.Common.{◌≡◌, ℕ, ◌+◌, ◌-◌, ◌*◌, ◌/◌, ◌%◌, ◌<◌, ◌≤◌, ◌^◌, bit_xor, refl, sym, ap, ◌∙◌, arith, zero}
+use Rattle.std.proofs.Common.{suc, subst, inl, inr}
 use Rattle.std.proofs.Math.Nat.{pow-suc}
 use Rattle.std.proofs.lemmas.Bool.{cases_lt}
 use Rattle.std.proofs.lemmas.Nat.{xor_comm, xor_shr, shr-shr}
 use lib.Bits.{xor_assoc, xor_self, xor_zero_r, xor_block, xor_shifted}
 use Rattle.sq_bits.proofs.Quotient.{field_at}
 use Rattle.sq_bits.specs.Parity.{generator, IsMultiple, IsRemainder}
-use Rattle.sq_bits.proofs.Multiples.{IsMultiple-zero, IsMultiple-xor, IsMultiple-twice, IsMultiple-twice_more, IsRemainder-sum}
+use Rattle.sq_bits.proofs.Multiples.{IsMultiple-zero, IsMultiple-xor, IsMultiple-twice, IsMultiple-twice_more}
+use Rattle.sq_bits.proofs.Multiples.{IsRemainder-sum}
 
 pub IsRemainder-zero : IsRemainder 0 0
 IsRemainder-zero = (omega arith, IsMultiple-zero)

@@ -24,7 +24,8 @@ use Rattle.sq_commands.specs.Heard.{HeardSquitter}
 
 -- ---- by the history
 
--- what is found of a squitter by the tracker's reply: what was heard of its address, or why it is refused
+-- What is found of a squitter by the tracker's reply: what was heard of its address, or why it is refused. Besides a
+-- moment back, a full table is the one fault that a reply has where memory holds.
 abbrev pub found_of : TimedSquitter → Result Heard TrackFault → Result HeardSquitter LineFault
 found_of timed (Ok heard) = Ok (record { timed = timed; heard = heard })
 found_of timed (Err (MomentBack last)) = Err (line_faults.MomentBack last)

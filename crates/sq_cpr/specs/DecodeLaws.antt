@@ -11,7 +11,8 @@ use Rattle.sq_cpr.specs.declared.faults.PairFault.TheVariants.{OutOfRange, ZoneC
 use Rattle.sq_cpr.specs.Code.{CodeNumbers}
 use Rattle.sq_cpr.specs.Span.{Span, air, ground}
 use Rattle.sq_cpr.specs.Grid.{Point, IsGridPoint, HasCode, codes_of_zone, lat_zones, circle, latitude, longitude}
-use Rattle.sq_cpr.specs.Near.{IsNear, IsStrictlyNear, IsRepresentative, half_zone, angle_at, IsNearLongitude, IsNearPoint, IsStrictlyNearPoint}
+use Rattle.sq_cpr.specs.Near.{IsNear, IsStrictlyNear, IsRepresentative, half_zone, angle_at, IsNearLongitude}
+use Rattle.sq_cpr.specs.Near.{IsNearPoint, IsStrictlyNearPoint}
 use Rattle.sq_cpr.specs.Close.{IsClose, IsClosePair, zones_of, AreClosePoints, AreTamePoints}
 use Rattle.sq_cpr.specs.Multiplied.{LiesWithin, LiesStrictlyWithin, LiesClose}
 use Rattle.sq_cpr.specs.Local.{IsNearLatitude, LocalAnswer}
@@ -126,7 +127,8 @@ PairKeepsCode span =
 abbrev pub AirPairKeepsCode : Type 0
 AirPairKeepsCode =
     (codes : CodePair) (point : Point)
-    → AirPairAnswer codes (Ok point) → (point.parity ≡ codes.newest) × HasCode point (of_parity codes.newest codes.even codes.odd)
+    → AirPairAnswer codes (Ok point)
+    → (point.parity ≡ codes.newest) × HasCode point (of_parity codes.newest codes.even codes.odd)
 
 -- close points in the air are answered by the newest
 abbrev pub CloseAirPointsAreAnswered : Type 0

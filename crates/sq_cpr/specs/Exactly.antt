@@ -10,7 +10,8 @@ use Rattle.sq_cpr.specs.Span.{Span, air, ground}
 use Rattle.sq_cpr.specs.Grid.{Point, latitude, lat_zones, longitude, codes_of_zone}
 use Rattle.sq_cpr.specs.Near.{IsStrictlyNear, IsStrictlyNearLongitude, IsStrictlyNearPoint, half_zone}
 use Rattle.sq_cpr.specs.Close.{AreCloseLatitudes, AreClosePoints, AreTamePoints, HaveOneCount, IsClose, count_at}
-use Rattle.sq_cpr.specs.Slow.{AreSlow, AreSlowForFollowing, AreWithin, DifferByLess, DifferByLessAround, IsPointWithin, following_limit, slow_limit}
+use Rattle.sq_cpr.specs.Slow.{AreSlow, AreSlowForFollowing, AreWithin, DifferByLess, DifferByLessAround, IsPointWithin}
+use Rattle.sq_cpr.specs.Slow.{following_limit, slow_limit}
 use Rattle.sq_cpr.specs.Zones.{turned}
 
 -- angles differ by less than a limit exactly where each lies below the other and the limit together

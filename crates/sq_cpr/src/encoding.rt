@@ -6,7 +6,8 @@ ghost use Rattle.sq_angle.specs.Nearest.{IsNearest};
 ghost use Rattle.sq_angle.specs.Position.{lat_of, lon_of};
 ghost use Rattle.sq_angle.specs.Whole.{IsCongruent};
 ghost use Rattle.sq_cpr.specs.Code.{numbers_of};
-ghost use Rattle.sq_cpr.specs.Grid.{Point, IsGridPoint, IsLatitude, step, circle, lat_zones as lat_zones_of, latitude, longitude, code_of};
+ghost use Rattle.sq_cpr.specs.Grid.{Point, IsGridPoint, IsLatitude, step, circle, lat_zones as lat_zones_of, latitude};
+ghost use Rattle.sq_cpr.specs.Grid.{longitude, code_of};
 ghost use Rattle.sq_cpr.specs.Rounds.{PositionRoundsTo};
 
 use crate::code::Code;

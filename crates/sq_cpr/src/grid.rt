@@ -4,7 +4,8 @@ ghost use Rattle.sq_angle.specs.Angle.{degrees};
 ghost use Rattle.sq_angle.specs.Fraction.{IsWithin};
 ghost use Rattle.sq_angle.specs.Position.{lat_of, lon_of};
 ghost use Rattle.sq_cpr.specs.Code.{numbers_of};
-ghost use Rattle.sq_cpr.specs.Grid.{Point, IsGridPoint, HasPoint, IsLatitude, circle, lat_zones as lat_zones_of, grid_latitude, grid_longitude, latitude, longitude, code_of, point_at};
+ghost use Rattle.sq_cpr.specs.Grid.{Point, IsGridPoint, HasPoint, IsLatitude, circle, lat_zones as lat_zones_of};
+ghost use Rattle.sq_cpr.specs.Grid.{grid_latitude, grid_longitude, latitude, longitude, code_of, point_at};
 
 use crate::code::{CODES, Code};
 use crate::span::{Span, degrees_of};

@@ -4,10 +4,18 @@
 ghost use Rattle.std.specs.Prelude.{◌≡◌, ◌↔◌, IsTrue};
 ghost use Rattle.sq_cpr.specs.Code.{numbers_of};
 ghost use Rattle.sq_cpr.specs.Laws.{RoundsToOne, RoundsToItself, OnePairOfZones, SameZones, SamePoints, OneCode};
-ghost use Rattle.sq_cpr.specs.DecodeLaws.{FractionsAgree, OneNearLatitude, OneNearLongitude, OneLocalAnswer, StrictlyNearIsNear, NearPointIsLocal, StrictlyNearPointIsLocal, LocalKeepsCode};
-ghost use Rattle.sq_cpr.specs.DecodeLaws.{OneCloseLatitudes, OneCloseLongitudes, OneZoneIsClose, OnePairAnswer, OneAirPairAnswer, PairKeepsCode, AirPairKeepsCode, CloseAirPointsAreAnswered, CloseGroundPointsAreAnswered};
-ghost use Rattle.sq_cpr.specs.DecodeLaws.{TameAirPointsAreAnswered, TameGroundPointsAreAnswered, SlowIsTame, RoundsNearSite, FollowingIsNear, SomeLocalAnswer, SomePairAnswer, SomeAirPairAnswer};
-ghost use Rattle.sq_cpr.specs.Exactly.{Across180Degrees, AtTheLimits, CloseExactly, DifferAroundExactly, DifferExactly, FollowingExactly, LimitsAsNumbers, LimitsInWords, PointWithinExactly, SlowExactly, TurnsChangeNothing, WithinExactly};
+ghost use Rattle.sq_cpr.specs.DecodeLaws.{FractionsAgree, OneNearLatitude, OneNearLongitude, OneLocalAnswer};
+ghost use Rattle.sq_cpr.specs.DecodeLaws.{StrictlyNearIsNear, NearPointIsLocal, StrictlyNearPointIsLocal};
+ghost use Rattle.sq_cpr.specs.DecodeLaws.{LocalKeepsCode};
+ghost use Rattle.sq_cpr.specs.DecodeLaws.{OneCloseLatitudes, OneCloseLongitudes, OneZoneIsClose, OnePairAnswer};
+ghost use Rattle.sq_cpr.specs.DecodeLaws.{OneAirPairAnswer, PairKeepsCode, AirPairKeepsCode, CloseAirPointsAreAnswered};
+ghost use Rattle.sq_cpr.specs.DecodeLaws.{CloseGroundPointsAreAnswered};
+ghost use Rattle.sq_cpr.specs.DecodeLaws.{TameAirPointsAreAnswered, TameGroundPointsAreAnswered, SlowIsTame};
+ghost use Rattle.sq_cpr.specs.DecodeLaws.{RoundsNearSite, FollowingIsNear, SomeLocalAnswer, SomePairAnswer};
+ghost use Rattle.sq_cpr.specs.DecodeLaws.{SomeAirPairAnswer};
+ghost use Rattle.sq_cpr.specs.Exactly.{Across180Degrees, AtTheLimits, CloseExactly, DifferAroundExactly, DifferExactly};
+ghost use Rattle.sq_cpr.specs.Exactly.{FollowingExactly, LimitsAsNumbers, LimitsInWords, PointWithinExactly};
+ghost use Rattle.sq_cpr.specs.Exactly.{SlowExactly, TurnsChangeNothing, WithinExactly};
 ghost use Rattle.sq_cpr.specs.Exactly.{NearThreeDecimals, StrictlyNearExactly, TameExactly, WindowExactly};
 
 use crate::code::Code;

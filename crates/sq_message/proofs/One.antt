@@ -19,7 +19,8 @@ use Rattle.sq_cpr.specs.declared.code.Code.{Code}
 use Rattle.sq_cpr.specs.Code.{CodeNumbers, numbers_of}
 use Rattle.sq_cpr.proofs.Grids.SameCode.{same_code}
 use Rattle.sq_message.specs.Spelling.{IsFault, IsReading, Spells, SpellsMe, SpellsAirborne, SpellsSurface, SpellsPlace}
-use Rattle.sq_message.proofs.Same.{same_bit, same_parity, same_air_fields, same_ground_fields, same_other, same_squitter}
+use Rattle.sq_message.proofs.Same.{same_bit, same_parity, same_air_fields, same_ground_fields, same_other}
+use Rattle.sq_message.proofs.Same.{same_squitter}
 
 -- two places at the same bits are one
 same_place : (f : Frame) (p q : Parity) (a b : Code) → SpellsPlace f p (numbers_of a) → SpellsPlace f q (numbers_of b)

@@ -18,7 +18,8 @@ use Rattle.sq_message.specs.declared.place.Place.{Place}
 use Rattle.sq_message.specs.declared.place.Place.TheVariants.{Air, Ground}
 use Rattle.sq_message.specs.declared.place.PlaceFault.{PlaceFault}
 use Rattle.sq_message.specs.Parts.{squitter_parts}
-use Rattle.sq_message.specs.Places.{place_of, of_local, of_pair, pair_by_parity, IsLocalPlace, IsAirPairPlace, IsGroundPairPlace, NeedsTwoParities, IsPlaceOfOneAddress}
+use Rattle.sq_message.specs.Places.{place_of, of_local, of_pair, pair_by_parity, IsLocalPlace, IsAirPairPlace}
+use Rattle.sq_message.specs.Places.{IsGroundPairPlace, NeedsTwoParities, IsPlaceOfOneAddress}
 use Rattle.sq_message.specs.Headline.{OneLocalPlace, OnePairPlace}
 use Rattle.sq_message.proofs.PlaceLemmas.{past_or_fault}
 

@@ -66,7 +66,8 @@ decoded_close OnGround (Some site) first second p q newest c d answer a b differ
     let (found, decoded, is) = h.1 differ in
     let there = subst (λ r. PairAnswerAt ground (pair_by_parity r c d) site found) at decoded in
     is ∙ ap (place_of Ground of_pair)
-    (close_ground_points_are_answered (pair_by_parity newest c d) site found a b there a_is b_is a_code b_code near lie.0 lie.1)
+    (close_ground_points_are_answered (pair_by_parity newest c d) site found a b there a_is b_is a_code
+    b_code near lie.0 lie.1)
 
 pub close_pair : (kind : Kind) → ClosePair kind
 close_pair kind even_head odd_head x y a b even odd Even site address h k near lie earlier later first second = (

@@ -25,7 +25,9 @@ use Rattle.sq_message.specs.declared.place.Place.{Place}
 use Rattle.sq_message.specs.declared.place.Place.TheVariants.{Air, Ground}
 use Rattle.sq_message.specs.declared.place.PlaceFault.{PlaceFault}
 use Rattle.sq_message.specs.Parts.{SquitterParts}
-use Rattle.sq_message.specs.Places.{place_of, of_local, of_pair, pair_by_parity, IsPosition, IsLocalPlace, IsAirPairPlace, IsGroundPairPlace, NeedsTwoParities, IsPlaceOfOneAddress, IsPairPlace, IsDecoded}
+use Rattle.sq_message.specs.Places.{place_of, of_local, of_pair, pair_by_parity, IsPosition, IsLocalPlace}
+use Rattle.sq_message.specs.Places.{IsAirPairPlace, IsGroundPairPlace, NeedsTwoParities, IsPlaceOfOneAddress}
+use Rattle.sq_message.specs.Places.{IsPairPlace, IsDecoded}
 
 -- ---- places and points
 

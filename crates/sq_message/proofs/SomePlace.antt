@@ -16,12 +16,15 @@ use Rattle.sq_message.specs.declared.squitter.Me.TheVariants as kinds
 use Rattle.sq_message.specs.declared.place.Place.{Place}
 use Rattle.sq_message.specs.declared.place.Place.TheVariants.{Air, Ground}
 use Rattle.sq_message.specs.declared.place.PlaceFault.{PlaceFault}
-use Rattle.sq_message.specs.declared.place.PlaceFault.TheVariants.{NotPosition, OtherAddress, OtherKind, SameParity, NoSite}
-use Rattle.sq_message.specs.Places.{place_of, of_local, of_pair, pair_by_parity, IsPosition, IsLocalPlace, IsAirPairPlace, IsGroundPairPlace, NeedsTwoParities, IsPlaceOfOneAddress}
+use Rattle.sq_message.specs.declared.place.PlaceFault.TheVariants.{NotPosition, OtherAddress, OtherKind, SameParity}
+use Rattle.sq_message.specs.declared.place.PlaceFault.TheVariants.{NoSite}
+use Rattle.sq_message.specs.Places.{place_of, of_local, of_pair, pair_by_parity, IsPosition, IsLocalPlace}
+use Rattle.sq_message.specs.Places.{IsAirPairPlace, IsGroundPairPlace, NeedsTwoParities, IsPlaceOfOneAddress}
 use Rattle.sq_message.specs.Headline.{SomeLocalPlace, SomePairPlace}
 use Rattle.sq_message.proofs.PlaceLemmas.{both_positions}
 
-pub some_local : (me : Me) (reference : Position) → (answer : Result Place PlaceFault) × IsLocalPlace me reference answer
+pub some_local : (me : Me) (reference : Position)
+    → (answer : Result Place PlaceFault) × IsLocalPlace me reference answer
 some_local (kinds.Airborne a) reference =
     let found = some_local_answer air refl (numbers_of a.code) a.parity (degrees (lat_of reference))
     (degrees (lon_of reference))

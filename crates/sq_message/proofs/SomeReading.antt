@@ -1,5 +1,6 @@
 -- Each frame has a reading.
-use Rattle.std.proofs.Common.{◌≡◌, ◌/◌, ◌<◌, ◌^◌, ℕ, Bool, true, false, Result, Ok, Err, refl, sym, subst, inl, inr, arith}
+use Rattle.std.proofs.Common.{◌≡◌, ◌/◌, ◌<◌, ◌^◌, ℕ, Bool, true, false, Result, Ok, Err, refl, sym, subst, inl, inr}
+use Rattle.std.proofs.Common.{arith}
 use Rattle.std.proofs.lemmas.Bool.{cases_lt, cases_eq}
 use lib.Bits.{xor_zero_r}
 use Rattle.sq_bits.specs.declared.frame.Frame.{Frame}
@@ -25,7 +26,8 @@ use Rattle.sq_message.specs.declared.squitter.FrameFault.{FrameFault}
 use Rattle.sq_message.specs.declared.squitter.FrameFault.TheVariants as faults
 use Rattle.sq_message.specs.TypeCodes.{IsAirCode, IsGroundCode, IsOtherCode}
 use Rattle.sq_message.specs.Parts.{air_parts, ground_parts}
-use Rattle.sq_message.specs.Spelling.{bit, IsReading, Spells, SpellsMe, SpellsAirFields, SpellsGroundFields, SpellsPlace}
+use Rattle.sq_message.specs.Spelling.{bit, IsReading, Spells, SpellsMe, SpellsAirFields, SpellsGroundFields}
+use Rattle.sq_message.specs.Spelling.{SpellsPlace}
 
 -- a one-bit field is one of a Boolean
 some_bit : (n : ℕ) → n < 2 → (b : Bool) × (n ≡ bit b)

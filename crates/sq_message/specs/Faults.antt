@@ -7,7 +7,8 @@ use Rattle.sq_cpr.specs.declared.faults.PairFault.TheVariants as pairs
 use Rattle.sq_message.specs.declared.squitter.FrameFault.{FrameFault}
 use Rattle.sq_message.specs.declared.squitter.FrameFault.TheVariants.{NotDf17, Parity}
 use Rattle.sq_message.specs.declared.place.PlaceFault.{PlaceFault}
-use Rattle.sq_message.specs.declared.place.PlaceFault.TheVariants.{NotPosition, OtherAddress, OtherKind, SameParity, NoSite, OutOfRange, ZoneCounts}
+use Rattle.sq_message.specs.declared.place.PlaceFault.TheVariants.{NotPosition, OtherAddress, OtherKind, SameParity}
+use Rattle.sq_message.specs.declared.place.PlaceFault.TheVariants.{NoSite, OutOfRange, ZoneCounts}
 
 -- upper-case hexadecimal digits, with zeros in front of fewer than six
 abbrev pub six_hexadecimal : ℕ → List ℕ

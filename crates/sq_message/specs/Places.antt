@@ -23,7 +23,8 @@ use Rattle.sq_message.specs.declared.squitter.Me.TheVariants as kinds
 use Rattle.sq_message.specs.declared.place.Place.{Place}
 use Rattle.sq_message.specs.declared.place.Place.TheVariants.{Air, Ground}
 use Rattle.sq_message.specs.declared.place.PlaceFault.{PlaceFault}
-use Rattle.sq_message.specs.declared.place.PlaceFault.TheVariants.{NotPosition, OtherAddress, OtherKind, SameParity, NoSite, OutOfRange, ZoneCounts}
+use Rattle.sq_message.specs.declared.place.PlaceFault.TheVariants.{NotPosition, OtherAddress, OtherKind, SameParity}
+use Rattle.sq_message.specs.declared.place.PlaceFault.TheVariants.{NoSite, OutOfRange, ZoneCounts}
 use Rattle.sq_message.specs.Kinds.{InAir, OnGround}
 use Rattle.sq_message.specs.Heads.{AirHeadParts, GroundHeadParts}
 use Rattle.sq_message.specs.Parts.{SquitterParts}

@@ -2,7 +2,8 @@
 //!
 //! A function with an empty body does nothing: its contract is the law. The others make the calls that they speak of,
 //! and answer what each of them answered.
-ghost use Rattle.std.specs.Prelude.{◌≡◌, ◌≤◌, ◌↔◌, IsTrue, ℕ, ℤ, None, Some, Result, Ok, Err, IfErr, IfOk, IfSome, option_copied};
+ghost use Rattle.std.specs.Prelude.{◌≡◌, ◌≤◌, ◌↔◌, IsTrue, ℕ, ℤ, None, Some, Result, Ok, Err, IfErr, IfOk, IfSome};
+ghost use Rattle.std.specs.Prelude.{option_copied};
 ghost use Rattle.sq_bits.specs.declared.frame.Frame.{Frame};
 ghost use Rattle.sq_bits.specs.Frames.{IsFrame};
 ghost use Rattle.sq_message.specs.declared.air.Altitude.{Altitude};
@@ -21,9 +22,11 @@ ghost use Rattle.sq_cpr.specs.Slow.{IsPointWithin};
 ghost use Rattle.sq_cpr.specs.Zones.{ZonePair, PositionIsInZones};
 ghost use Rattle.sq_message.specs.Kinds.{InAir, OnGround};
 ghost use Rattle.sq_message.specs.Altitudes.{IsAltitude, IsFieldOfFeet};
-ghost use Rattle.sq_message.specs.Calls.{DecodedIsSentAgain, HasNoPlaceNear, HaveNoPlace, IsPlaceOfPair, IsAnswerNear, IsPlaceOfNewer, IsAnswerOfPair, IsSentAgain};
+ghost use Rattle.sq_message.specs.Calls.{DecodedIsSentAgain, HasNoPlaceNear, HaveNoPlace, IsPlaceOfPair, IsAnswerNear};
+ghost use Rattle.sq_message.specs.Calls.{IsPlaceOfNewer, IsAnswerOfPair, IsSentAgain};
 ghost use Rattle.sq_message.specs.Heads.{air_head_parts, ground_head_parts};
-ghost use Rattle.sq_message.specs.Headline.{ClosePair, OneFrameSent, OneLocalPlace, OnePairPlace, SomeLocalPlace, SomePairPlace, WrittenAgain, NearReference, SentAgain};
+ghost use Rattle.sq_message.specs.Headline.{ClosePair, OneFrameSent, OneLocalPlace, OnePairPlace, SomeLocalPlace};
+ghost use Rattle.sq_message.specs.Headline.{SomePairPlace, WrittenAgain, NearReference, SentAgain};
 ghost use Rattle.sq_message.specs.Parts.{squitter_parts};
 ghost use Rattle.sq_message.specs.Pinned.{DecodedByCalls, EachHasItsZones, NearReferenceExactly, LieAtExactly};
 ghost use Rattle.sq_message.specs.Places.{IsLocalPlace, IsSentAt};

@@ -2,7 +2,9 @@
 ghost use Rattle.std.specs.Prelude.{◌≡◌, ◌≤◌, ◌↔◌, IsTrue, length, option_copied};
 ghost use Rattle.sq_cpr.specs.Code.{numbers_of};
 ghost use Rattle.sq_message.specs.Parts.{squitter_parts};
-ghost use Rattle.sq_message.specs.Places.{Fits, IsAirPairPlace, IsGroundPairPlace, IsLocalPlace, IsPairPlace, IsPosition, IsPositionOf, IsSentAt, NeedsTwoParities, of_local, of_pair, pair_by_parity};
+ghost use Rattle.sq_message.specs.Places.{Fits, IsAirPairPlace, IsGroundPairPlace, IsLocalPlace, IsPairPlace};
+ghost use Rattle.sq_message.specs.Places.{IsPosition, IsPositionOf, IsSentAt, NeedsTwoParities, of_local, of_pair};
+ghost use Rattle.sq_message.specs.Places.{pair_by_parity};
 
 use crate::{Airborne, Me, Squitter, Surface};
 use sq_angle::Position;

@@ -4,7 +4,8 @@ ghost use Rattle.sq_bits.specs.declared.frame.Frame.{Frame};
 ghost use Rattle.sq_bits.specs.Frames.{IsFrame, KeepsFieldsBefore};
 ghost use Rattle.sq_cpr.specs.Code.{numbers_of};
 ghost use Rattle.sq_message.specs.Parts.{air_parts, ground_parts};
-ghost use Rattle.sq_message.specs.Spelling.{Spells, SpellsAirborne, SpellsAirFields, SpellsGroundFields, SpellsMe, SpellsPlace, SpellsSurface};
+ghost use Rattle.sq_message.specs.Spelling.{Spells, SpellsAirborne, SpellsAirFields, SpellsGroundFields, SpellsMe};
+ghost use Rattle.sq_message.specs.Spelling.{SpellsPlace, SpellsSurface};
 
 use crate::{AirFields, Airborne, GroundFields, Me, Squitter, Surface};
 use sq_bits::{Frame, sealed};

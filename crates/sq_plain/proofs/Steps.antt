@@ -1,5 +1,6 @@
 -- Many calls in one: one call more.
-use Rattle.std.proofs.Common.{◌≡◌, ◌<◌, ◌≤◌, ◌+◌, ◌∙◌, ◌≢◌, ℕ, zero, suc, pos, add-one, List, length, get_or, set, refl, sym, subst, subst₂, arith, inl, inr, ◌⊎◌}
+use Rattle.std.proofs.Common.{◌≡◌, ◌<◌, ◌≤◌, ◌+◌, ◌∙◌, ◌≢◌, ℕ, zero, suc, pos, add-one, List, length, get_or, set, refl}
+use Rattle.std.proofs.Common.{sym, subst, subst₂, arith, inl, inr, ◌⊎◌}
 use Rattle.std.proofs.lemmas.List.{length-set, get_or-set_same, get_or-set_other, get_or_default}
 use Rattle.sq_plain.specs.declared.heard.PlainHeard.{PlainHeard}
 use Rattle.sq_plain.specs.declared.plain.PlainPosition.{PlainPosition}

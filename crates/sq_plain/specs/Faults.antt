@@ -11,7 +11,9 @@ use Rattle.sq_text.specs.declared.frame_text.TextFault.{TextFault}
 use Rattle.sq_text.specs.Faults.{of_frame, of_text}
 use Rattle.sq_plain.specs.declared.faults.Fault.{Fault}
 use Rattle.sq_plain.specs.declared.faults.Refusal.{Refusal}
-use Rattle.sq_plain.specs.declared.faults.Refusal.TheVariants.{Line, Place, Angle, NoPosition, NoHead, NoAngle, NoLatitude, NoFeet, NoParity, Memory, NoLimit, NoTracker, NoAddress}
+use Rattle.sq_plain.specs.declared.faults.Refusal.TheVariants.{Line, Place, Angle, NoPosition, NoHead, NoAngle}
+use Rattle.sq_plain.specs.declared.faults.Refusal.TheVariants.{NoLatitude, NoFeet, NoParity, Memory, NoLimit, NoTracker}
+use Rattle.sq_plain.specs.declared.faults.Refusal.TheVariants.{NoAddress}
 
 -- a code with two numbers
 abbrev pub told : (code first second : ℕ) → Fault

@@ -18,7 +18,8 @@ use Rattle.sq_track.specs.declared.heard.TrackFault.TheVariants.{Memory}
 use Rattle.sq_track.specs.History.{Entry, History, are_of_one_sender, parity_of}
 use Rattle.sq_track.specs.Replies.{Settings, IsAcceptable, IsReply, of_address}
 use Rattle.sq_track.specs.Worlds.{Arrival, World, IsEncodedFrom, IsTruePlace, IsTrueFix, IsTruePlaceHeard, IfHeard}
-use Rattle.sq_track.specs.Tame.{AreTamePlaces, AreSlowPlaces, AreNearPlaces, AreSlowToFollow, ArePairTogether, IsTame, IsSlow, IsNearSite, IsPositionNearSite}
+use Rattle.sq_track.specs.Tame.{AreTamePlaces, AreSlowPlaces, AreNearPlaces, AreSlowToFollow, ArePairTogether, IsTame}
+use Rattle.sq_track.specs.Tame.{IsSlow, IsNearSite, IsPositionNearSite}
 use Rattle.sq_track.specs.Standing.{IsStanding}
 
 -- any squitter may arrive at any moment, from each position that its code was encoded from

@@ -250,7 +250,8 @@ impl Contacts {
     ) -> Result<Heard, AllocError>
         requires { (squitter_parts squitter.now).address ≡ address }
         ensures ok { IfOk result (λ heard. (after : Contact)
-            × IsContactHearing window_ms (option_copied site.entry) moment squitter.now (contact_of self.old address) heard after
+            × IsContactHearing window_ms (option_copied site.entry) moment squitter.now
+            (contact_of self.old address) heard after
             × (self.new ≡ others_in address self.old ++ (address, after) ∷ [])) }
         ensures err { OnErr result (self.new ≡ self.old) }
         ensures absent { OnErr result (lookup (nat_eq address) self.old ≡ None) }

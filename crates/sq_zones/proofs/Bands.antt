@@ -1,5 +1,7 @@
 -- Bands of latitudes: how many limits a number does not pass.
-use Rattle.std.proofs.Common.{◌≡◌, ℕ, zero, suc, ◌+◌, ◌-◌, ◌*◌, ◌/◌, ◌^◌, ◌<◌, ◌≤◌, Bool, true, false, cond, ◌&&◌, nat_le, nat_lt, List, [], ◌∷◌, map, length, take, drop, get_or, slice_index, count_by, refl, ap, ◌∙◌, sym, subst, arith, true≢false, inl, inr, leb-true, le-leb, ltb-true}
+use Rattle.std.proofs.Common.{◌≡◌, ℕ, zero, suc, ◌+◌, ◌-◌, ◌*◌, ◌/◌, ◌^◌, ◌<◌, ◌≤◌, Bool, true, false, cond, ◌&&◌}
+use Rattle.std.proofs.Common.{nat_le, nat_lt, List, [], ◌∷◌, map, length, take, drop, get_or, slice_index, count_by}
+use Rattle.std.proofs.Common.{refl, ap, ◌∙◌, sym, subst, arith, true≢false, inl, inr, leb-true, le-leb, ltb-true}
 use Rattle.std.proofs.lemmas.Bool.{cases_lt, lt-ltb}
 use Rattle.std.proofs.lemmas.List.{length-drop}
 use Rattle.std.proofs.lemmas.List.FromFn.{get_or-map-range_with_len}

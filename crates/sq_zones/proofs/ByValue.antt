@@ -1,5 +1,7 @@
 -- The zone count goes by the magnitude of a latitude, and falls with it.
-use Rattle.std.proofs.Common.{IsTrue, ◌≡◌, ℕ, ◌+◌, ◌*◌, ◌^◌, ◌<◌, ◌≤◌, Bool, true, false, cond, List, [], ◌∷◌, count_by, nat_le, unsigned_abs, arith, leb-true, le-leb, le_of_mul-le-mul_right, mul-le-mul_right, refl}
+use Rattle.std.proofs.Common.{IsTrue, ◌≡◌, ℕ, ◌+◌, ◌*◌, ◌^◌, ◌<◌, ◌≤◌, Bool, true, false, cond, List, [], ◌∷◌, count_by}
+use Rattle.std.proofs.Common.{nat_le, unsigned_abs, arith, leb-true, le-leb, le_of_mul-le-mul_right, mul-le-mul_right}
+use Rattle.std.proofs.Common.{refl}
 use Rattle.std.proofs.lemmas.Int.{ints}
 use Rattle.std.proofs.lemmas.List.Sums.{sum_by-cons}
 use Rattle.sq_angle.specs.Fraction.{◌≼◌, magnitude}

@@ -1,5 +1,6 @@
 -- Counts over limits of a quotient rounded up.
-use Rattle.std.proofs.Common.{◌≡◌, ℕ, ◌+◌, ◌*◌, ◌<◌, ◌≤◌, Bool, cond, List, [], ◌∷◌, count_by, refl, ap₂, ◌∙◌, sym, arith, leb, nat_le, leb-true, le-leb, mul-le-mul_right, lt_of_mul-lt-mul_right}
+use Rattle.std.proofs.Common.{◌≡◌, ℕ, ◌+◌, ◌*◌, ◌<◌, ◌≤◌, Bool, cond, List, [], ◌∷◌, count_by, refl, ap₂, ◌∙◌, sym}
+use Rattle.std.proofs.Common.{arith, leb, nat_le, leb-true, le-leb, mul-le-mul_right, lt_of_mul-lt-mul_right}
 use Rattle.std.proofs.lemmas.List.Sums.{sum_by-cons}
 use Rattle.std.proofs.lemmas.Grind.{div_ceil_times}
 use Rattle.std.specs.Int.{div_ceil}

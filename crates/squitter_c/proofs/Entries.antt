@@ -24,7 +24,8 @@ use Rattle.squitter_c.specs.declared.entry.PlainSide.{PlainSide}
 use Rattle.sq_plain.specs.Plain.{PlainIsPosition}
 use Rattle.sq_plain.specs.Frames.{frame_of}
 use Rattle.sq_plain.proofs.OnePlain.{is_position, one_of_degrees}
-use Rattle.squitter_c.specs.Tracking.{BlankKeepsNothing, IsContactOf, IsFixOf, IsReceivedOf, IsSideOf, blank_side, last_of, no_bytes}
+use Rattle.squitter_c.specs.Tracking.{BlankKeepsNothing, IsContactOf, IsFixOf, IsReceivedOf, IsSideOf, blank_side}
+use Rattle.squitter_c.specs.Tracking.{last_of, no_bytes}
 
 -- a kept frame stands for one squitter, or for none
 one_received : (plain : PlainReceived) (a b : Option Received) → IsReceivedOf plain a → IsReceivedOf plain b → a ≡ b

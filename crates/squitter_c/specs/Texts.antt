@@ -9,7 +9,9 @@ use Rattle.sq_message.specs.Faults.{place_fault_text}
 use Rattle.sq_track.specs.Faults.{track_fault_text}
 use Rattle.sq_track.specs.declared.heard.TrackFault.TheVariants as tracks
 use Rattle.sq_plain.specs.declared.faults.Refusal.{Refusal}
-use Rattle.sq_plain.specs.declared.faults.Refusal.TheVariants.{Line, Place, Angle, NoPosition, NoHead, NoAngle, NoLatitude, NoFeet, NoParity, Memory, NoLimit, NoTracker, NoAddress}
+use Rattle.sq_plain.specs.declared.faults.Refusal.TheVariants.{Line, Place, Angle, NoPosition, NoHead, NoAngle}
+use Rattle.sq_plain.specs.declared.faults.Refusal.TheVariants.{NoLatitude, NoFeet, NoParity, Memory, NoLimit, NoTracker}
+use Rattle.sq_plain.specs.declared.faults.Refusal.TheVariants.{NoAddress}
 use Rattle.sq_plain.specs.Faults.{fault_of, with_numbers}
 
 -- the text of a reason: that of the program, where it has one

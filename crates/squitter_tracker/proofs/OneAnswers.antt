@@ -1,5 +1,6 @@
 -- A call has one answer, unless it is out of memory.
-use Rattle.std.proofs.Common.{◌≡◌, ◌≢◌, ◌∙◌, ℕ, List, [], ◌∷◌, Option, Some, None, Result, Ok, Err, ap, arith, inl, inr, length, map, refl, slice_get, sym, subst}
+use Rattle.std.proofs.Common.{◌≡◌, ◌≢◌, ◌∙◌, ℕ, List, [], ◌∷◌, Option, Some, None, Result, Ok, Err, ap, arith, inl, inr}
+use Rattle.std.proofs.Common.{length, map, refl, slice_get, sym, subst}
 use Rattle.sq_message.specs.declared.squitter.FrameFault.{FrameFault}
 use Rattle.sq_message.specs.declared.squitter.Squitter.{Squitter}
 use Rattle.sq_message.proofs.One.{one_reading}

@@ -14,9 +14,11 @@ use Rattle.sq_cpr.specs.Span.{air}
 use Rattle.sq_cpr.specs.Grid.{Point, codes_of_zone, circle}
 use Rattle.sq_cpr.specs.Near.{IsRepresentative, angle_at}
 use Rattle.sq_cpr.specs.Close.{IsClosePair, count_at, zones_of}
-use Rattle.sq_cpr.specs.Pair.{CodePair, of_parity, AreLatitudes, AreInRange, AreAt, IsPointOfPair, IsPointOfPairAt, PairAnswer, AirPairAnswer}
+use Rattle.sq_cpr.specs.Pair.{CodePair, of_parity, AreLatitudes, AreInRange, AreAt, IsPointOfPair, IsPointOfPairAt}
+use Rattle.sq_cpr.specs.Pair.{PairAnswer, AirPairAnswer}
 use Rattle.sq_cpr.specs.DecodeLaws.{OneAirPairAnswer}
-use Rattle.sq_cpr.proofs.Decoding.Pairs.{some_zones, close_pair, paired_latitudes, one_representative, turned_even, turned_odd}
+use Rattle.sq_cpr.proofs.Decoding.Pairs.{some_zones, close_pair, paired_latitudes, one_representative, turned_even}
+use Rattle.sq_cpr.proofs.Decoding.Pairs.{turned_odd}
 use Rattle.sq_cpr.proofs.Decoding.PairLaw.{out_and_in, zones_of_pair, one_pair_answer}
 use Rattle.sq_cpr.proofs.Decoding.ZonePairs.{zone_exists}
 
@@ -33,8 +35,8 @@ pub air_answer : (codes : CodePair) (lon : Fraction) (answer : Result Point Pair
     PairAnswer air codes (whole 0) lon answer → AirPairAnswer codes answer
 air_answer codes lon (Ok p) k = k.of_pair
 air_answer codes lon (Err OutOfRange) k =
-    λ p q pair inside. out_and_in 360 codes.even codes.odd (whole 0) k.0 k.1 p q (omega arith) (omega arith) k.2 k.3 k.4 pair
-    (both_at_zero p q inside) inside
+    λ p q pair inside. out_and_in 360 codes.even codes.odd (whole 0) k.0 k.1 p q (omega arith) (omega arith) k.2 k.3
+    k.4 pair (both_at_zero p q inside) inside
 air_answer codes lon (Err (ZoneCounts a b)) k = (k.0, k.1, k.2, k.4)
 
 -- close latitudes have representatives at any reference
@@ -100,12 +102,13 @@ air_point_at : (codes : CodePair) (p : Point) → IsPointOfPair air codes p
     → IsPointOfPairAt air codes (whole 0) (whole 0) p
 air_point_at codes p k =
     let count : ℕ = count_at 360 Even k.even_lat in
-    let one = one_representative 360 (zones_of codes.newest count) (of_parity codes.newest k.even_lon k.odd_lon) (whole 0)
-    (omega arith) (some_zones codes.newest count) (omega arith) in
+    let one = one_representative 360 (zones_of codes.newest count) (of_parity codes.newest k.even_lon k.odd_lon)
+    (whole 0) (omega arith) (some_zones codes.newest count) (omega arith) in
     let around : IsCongruent (of_parity codes.newest (zones_of Even count) (zones_of Odd count) * codes_of_zone) one.0
     (of_parity codes.newest k.even_lon k.odd_lon) = rw (zones_of_newest codes.newest count) one.1.0 in
     let pair = turned_newest 360 (zones_of Even count)
-    (zones_of Odd count) codes.even.lon codes.odd.lon codes.newest k.even_lon k.odd_lon one.0 (omega arith) (some_zones Even count)
+    (zones_of Odd count) codes.even.lon codes.odd.lon codes.newest k.even_lon k.odd_lon one.0 (omega arith)
+    (some_zones Even count)
     (some_zones Odd count) k.longitudes around in
     air_point_with codes p k pair.0 pair.1 one.0 pair.2 pair.3 one.1.0 one.1.1
 

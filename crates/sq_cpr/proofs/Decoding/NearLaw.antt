@@ -13,7 +13,8 @@ use Rattle.sq_cpr.specs.Span.{Span, FitsCircle}
 use Rattle.sq_cpr.specs.Grid.{Point, codes_of_zone, lat_zones, circle}
 use Rattle.sq_cpr.specs.Near.{IsNear, IsStrictlyNear, IsNearLongitude, half_zone, angle_at}
 use Rattle.sq_cpr.specs.Local.{IsNearLatitude, IsLocalPoint}
-use Rattle.sq_cpr.specs.DecodeLaws.{OneNearLatitude, OneNearLongitude, OneLocalAnswer, StrictlyNearIsNear, NearPointIsLocal, StrictlyNearPointIsLocal, LocalKeepsCode}
+use Rattle.sq_cpr.specs.DecodeLaws.{OneNearLatitude, OneNearLongitude, OneLocalAnswer, StrictlyNearIsNear}
+use Rattle.sq_cpr.specs.DecodeLaws.{NearPointIsLocal, StrictlyNearPointIsLocal, LocalKeepsCode}
 use Rattle.sq_cpr.proofs.Distances.Agree.{near_from_within, within_from_near}
 use Rattle.sq_cpr.proofs.Decoding.OneWithin.{one_within}
 use Rattle.sq_cpr.proofs.Decoding.ZonePairs.{code_of_turn}

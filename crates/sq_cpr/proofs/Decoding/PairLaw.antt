@@ -13,7 +13,8 @@ use Rattle.sq_cpr.specs.Grid.{Point, codes_of_zone, grid_latitude, circle}
 use Rattle.sq_cpr.specs.Near.{IsRepresentative, angle_at}
 use Rattle.sq_cpr.specs.Close.{IsClosePair, count_at, zones_of, HaveOneCount}
 use Rattle.sq_cpr.specs.Multiplied.{IsZoneIndex}
-use Rattle.sq_cpr.specs.Pair.{CodePair, code_pair, of_parity, AreLatitudes, AreInRange, AreAt, IsPointOfPair, IsPointOfPairAt, HaveTwoCounts}
+use Rattle.sq_cpr.specs.Pair.{CodePair, code_pair, of_parity, AreLatitudes, AreInRange, AreAt, IsPointOfPair}
+use Rattle.sq_cpr.specs.Pair.{IsPointOfPairAt, HaveTwoCounts}
 use Rattle.sq_cpr.specs.DecodeLaws.{OnePairAnswer}
 use Rattle.sq_cpr.proofs.Decoding.Pairs.{some_zones, paired_latitudes, paired_longitudes, pair_at, same_representative}
 use Rattle.sq_cpr.proofs.Grids.Spans.{span_limits}
@@ -65,7 +66,8 @@ same_longitude w count even odd newest lon p q r s d h e k k_at l l_at =
 
 -- a point of a pair has the zones of the even latitude's count
 pub zones_of_pair : (span : Span) (even odd : CodeNumbers) (newest : Parity) (p : Point)
-    (k : IsPointOfPair span (code_pair even odd newest) p) → p.zones ≡ zones_of newest (count_at span.degrees Even k.even_lat)
+    (k : IsPointOfPair span (code_pair even odd newest) p)
+    → p.zones ≡ zones_of newest (count_at span.degrees Even k.even_lat)
 zones_of_pair span even odd Even p k = k.of_grid.zones ∙ rw (k.parity, k.lat_index) refl
 zones_of_pair span even odd Odd p k = k.of_grid.zones ∙ rw (k.parity, k.lat_index, k.counts) refl
 
@@ -81,21 +83,22 @@ same_point span e codes lat lon x y d f h k =
     let a = h.of_pair in
     let b = k.of_pair in
     let some = (span_limits span e).0 in
-    let same = same_latitudes span.degrees codes.even codes.odd lat a.even_lat a.odd_lat b.even_lat b.odd_lat some d a.latitudes
-    h.lat_at
-    b.latitudes k.lat_at in
+    let same = same_latitudes span.degrees codes.even codes.odd lat a.even_lat a.odd_lat b.even_lat b.odd_lat some d
+    a.latitudes h.lat_at b.latitudes k.lat_at in
     let parity : x.parity ≡ y.parity = a.parity ∙ sym b.parity in
     let index : x.lat_index ≡ y.lat_index =
     a.lat_index ∙ same_newest codes.newest a.even_lat a.odd_lat b.even_lat b.odd_lat same.0 same.1 ∙ sym b.lat_index in
     let count : ℕ = count_at span.degrees Even b.even_lat in
-    let x_zones : x.zones ≡ zones_of codes.newest count = rw same.0 at (zones_of_pair span codes.even codes.odd codes.newest x a) in
+    let x_zones : x.zones ≡ zones_of codes.newest count = rw same.0 at
+    (zones_of_pair span codes.even codes.odd codes.newest x a) in
     let y_zones : y.zones ≡ zones_of codes.newest count = zones_of_pair span codes.even codes.odd codes.newest y b in
     let zones : x.zones ≡ y.zones = x_zones ∙ sym y_zones in
     let turned : of_parity codes.newest a.even_lon a.odd_lon ≡ of_parity codes.newest b.even_lon b.odd_lon =
-    same_longitude span.degrees count codes.even.lon codes.odd.lon codes.newest lon a.even_lon a.odd_lon b.even_lon b.odd_lon some
-    (some_count span.degrees Even b.even_lat) f
+    same_longitude span.degrees count codes.even.lon codes.odd.lon codes.newest lon a.even_lon a.odd_lon b.even_lon
+    b.odd_lon some (some_count span.degrees Even b.even_lat) f
     (rw same.0 at a.longitudes) (rw x_zones at h.lon_at) b.longitudes (rw y_zones at k.lon_at) in
-    let x_here : IsCongruent (circle y.zones span.repeats) (pos x.lon_index) (of_parity codes.newest b.even_lon b.odd_lon) =
+    let x_here : IsCongruent (circle y.zones span.repeats) (pos x.lon_index)
+    (of_parity codes.newest b.even_lon b.odd_lon) =
     rw (zones, turned) at a.lon_index in
     let lon_index : x.lon_index ≡ y.lon_index =
     same_below (circle y.zones span.repeats) x.lon_index y.lon_index (rw zones at a.of_grid.east_west)
@@ -133,16 +136,17 @@ one_pair_answer span e codes lat lon (Err OutOfRange) (Ok y) d f k l =
     (span_limits span e).0 d k.2 k.3 k.4 l.of_pair.latitudes l.lat_at l.of_pair.in_range)
 one_pair_answer span e codes lat lon (Err OutOfRange) (Err OutOfRange) d f k l = refl
 one_pair_answer span e codes lat lon (Err OutOfRange) (Err (ZoneCounts m n)) d f k l =
-    absurd (out_and_in span.degrees codes.even codes.odd lat k.0 k.1 l.0 l.1 (span_limits span e).0 d k.2 k.3 k.4 l.2 l.3
-    l.4.in_range)
+    absurd (out_and_in span.degrees codes.even codes.odd lat k.0 k.1 l.0 l.1 (span_limits span e).0 d k.2 k.3 k.4
+    l.2 l.3 l.4.in_range)
 one_pair_answer span e codes lat lon (Err (ZoneCounts m n)) (Ok y) d f k l =
     absurd (two_and_one span.degrees codes.even codes.odd lat k.0 k.1 l.of_pair.even_lat l.of_pair.odd_lat m n
     (span_limits span e).0 d k.2 k.3 k.4 l.of_pair.latitudes l.lat_at l.of_pair.counts)
 one_pair_answer span e codes lat lon (Err (ZoneCounts m n)) (Err OutOfRange) d f k l =
-    absurd (out_and_in span.degrees codes.even codes.odd lat l.0 l.1 k.0 k.1 (span_limits span e).0 d l.2 l.3 l.4 k.2 k.3
-    k.4.in_range)
+    absurd (out_and_in span.degrees codes.even codes.odd lat l.0 l.1 k.0 k.1 (span_limits span e).0 d l.2 l.3 l.4
+    k.2 k.3 k.4.in_range)
 one_pair_answer span e codes lat lon (Err (ZoneCounts m n)) (Err (ZoneCounts i j)) d f k l =
-    let same = same_latitudes span.degrees codes.even codes.odd lat k.0 k.1 l.0 l.1 (span_limits span e).0 d k.2 k.3 l.2 l.3 in
+    let same = same_latitudes span.degrees codes.even codes.odd lat k.0 k.1 l.0 l.1 (span_limits span e).0 d k.2 k.3
+    l.2 l.3 in
     let a : m ≡ i = k.4.even ∙ rw same.0 (sym l.4.even) in
     let b : n ≡ j = k.4.odd ∙ rw same.1 (sym l.4.odd) in
     cc

@@ -16,10 +16,14 @@ use Rattle.sq_cpr.specs.Code.{CodeNumbers}
 use Rattle.sq_cpr.specs.Span.{Span, FitsCircle, air, ground}
 use Rattle.sq_cpr.specs.Grid.{grid_latitude, Point, IsGridPoint, HasCode, codes_of_zone, circle, lat_zones}
 use Rattle.sq_cpr.specs.Near.{IsRepresentative, OnSomeTurn, angle_at}
-use Rattle.sq_cpr.specs.Close.{IsClosePair, count_at, zones_of, AreCloseLatitudes, HaveOneCount, AreClosePoints, AreTamePoints}
-use Rattle.sq_cpr.specs.Pair.{CodePair, code_pair, of_parity, AreLatitudes, AreInRange, AreAt, IsPointOfPair, IsPointOfPairAt, PairAnswer}
+use Rattle.sq_cpr.specs.Close.{IsClosePair, count_at, zones_of, AreCloseLatitudes, HaveOneCount, AreClosePoints}
+use Rattle.sq_cpr.specs.Close.{AreTamePoints}
+use Rattle.sq_cpr.specs.Pair.{CodePair, code_pair, of_parity, AreLatitudes, AreInRange, AreAt, IsPointOfPair}
+use Rattle.sq_cpr.specs.Pair.{IsPointOfPairAt, PairAnswer}
 use Rattle.sq_cpr.specs.Slow.{IsSmallerThan, IsPointWithin}
-use Rattle.sq_cpr.specs.DecodeLaws.{PairKeepsCode, AirPairKeepsCode, CloseAirPointsAreAnswered, CloseGroundPointsAreAnswered, TameAnswer, TameAirPointsAreAnswered, TameGroundPointsAreAnswered}
+use Rattle.sq_cpr.specs.DecodeLaws.{PairKeepsCode, AirPairKeepsCode, CloseAirPointsAreAnswered}
+use Rattle.sq_cpr.specs.DecodeLaws.{CloseGroundPointsAreAnswered, TameAnswer, TameAirPointsAreAnswered}
+use Rattle.sq_cpr.specs.DecodeLaws.{TameGroundPointsAreAnswered}
 use Rattle.sq_cpr.proofs.Decoding.AirLaw.{at_zero, air_is_at_origin}
 use Rattle.sq_cpr.proofs.Decoding.Decoded.{some_lat_zones, some_zones_of_point, code_of_circle}
 use Rattle.sq_cpr.proofs.Decoding.PairLaw.{out_and_in, same_latitudes, one_pair_answer}
@@ -153,9 +157,10 @@ pub tame_points_are_answered : (span : Span) → FitsCircle span
     PairAnswer span codes lat lon answer → ArePointsOf span codes.even codes.odd a b → AreTamePoints span a b
     → ArePointsAt span lat lon a b → TameAnswer span codes.newest a b answer
 tame_points_are_answered span e codes lat lon (Ok p) a b d f k points tame there =
-    let same = same_latitudes span.degrees codes.even codes.odd lat k.of_pair.even_lat k.of_pair.odd_lat a.lat_index b.lat_index
-    (span_limits span e).0 d k.of_pair.latitudes k.lat_at
-    (latitudes_of span codes.even codes.odd a b points tame.latitudes) (lat_at_of span lat lon a b tame.even tame.odd there) in
+    let same = same_latitudes span.degrees codes.even codes.odd lat k.of_pair.even_lat k.of_pair.odd_lat a.lat_index
+    b.lat_index (span_limits span e).0 d k.of_pair.latitudes k.lat_at
+    (latitudes_of span codes.even codes.odd a b points tame.latitudes)
+    (lat_at_of span lat lon a b tame.even tame.odd there) in
     let counts : HaveOneCount span.degrees a.lat_index b.lat_index = rw (same.0, same.1) at k.of_pair.counts in
     let equal : Ok p ≡ Ok (of_parity codes.newest a b) =
     close_points_are_answered span e codes lat lon (Ok p) a b d f k points
@@ -168,12 +173,15 @@ tame_points_are_answered span e codes lat lon (Ok p) a b d f k points tame there
     }) there in
     cc
 tame_points_are_answered span e codes lat lon (Err OutOfRange) a b d f k points tame there =
-    out_and_in span.degrees codes.even codes.odd lat k.0 k.1 a.lat_index b.lat_index (span_limits span e).0 d k.2 k.3 k.4
-    (latitudes_of span codes.even codes.odd a b points tame.latitudes) (lat_at_of span lat lon a b tame.even tame.odd there)
+    out_and_in span.degrees codes.even codes.odd lat k.0 k.1 a.lat_index b.lat_index (span_limits span e).0 d k.2 k.3
+    k.4 (latitudes_of span codes.even codes.odd a b points tame.latitudes)
+    (lat_at_of span lat lon a b tame.even tame.odd there)
     (in_range_of span codes.even codes.odd a b tame.even tame.odd points)
 tame_points_are_answered span e codes lat lon (Err (ZoneCounts m n)) a b d f k points tame there =
-    let same = same_latitudes span.degrees codes.even codes.odd lat k.0 k.1 a.lat_index b.lat_index (span_limits span e).0 d k.2 k.3
-    (latitudes_of span codes.even codes.odd a b points tame.latitudes) (lat_at_of span lat lon a b tame.even tame.odd there) in
+    let same = same_latitudes span.degrees codes.even codes.odd lat k.0 k.1 a.lat_index b.lat_index
+    (span_limits span e).0 d k.2 k.3
+    (latitudes_of span codes.even codes.odd a b points tame.latitudes)
+    (lat_at_of span lat lon a b tame.even tame.odd there) in
     rw (same.0, same.1) at k.4
 
 -- in the air each point is its own representative at 0
@@ -260,10 +268,12 @@ keeps_code : (span : Span) (codes : CodePair) (p : Point) → IsPointOfPair span
 keeps_code span codes p k = (
   k.parity,
   newest_code codes.newest codes.even codes.odd p
-      (rw k.lat_index (code_of_newest span.degrees 60 59 codes.even.lat codes.odd.lat codes.newest k.even_lat k.odd_lat k.latitudes))
+      (rw k.lat_index (code_of_newest span.degrees 60 59 codes.even.lat codes.odd.lat codes.newest k.even_lat k.odd_lat
+      k.latitudes))
       (congruent_trans (code_of_circle p.zones span.repeats k.lon_index)
       (code_of_newest span.degrees (zones_of Even (count_at span.degrees Even k.even_lat))
-      (zones_of Odd (count_at span.degrees Even k.even_lat)) codes.even.lon codes.odd.lon codes.newest k.even_lon k.odd_lon
+      (zones_of Odd (count_at span.degrees Even k.even_lat)) codes.even.lon codes.odd.lon codes.newest k.even_lon
+      k.odd_lon
       k.longitudes)),
 )
 

@@ -10,9 +10,11 @@ use Rattle.sq_cpr.specs.Near.{IsRepresentative, angle_at}
 use Rattle.sq_cpr.specs.Close.{IsClosePair, zones_of}
 use Rattle.sq_cpr.specs.Multiplied.{IsZoneIndex}
 use Rattle.sq_cpr.specs.Pair.{of_parity}
-use Rattle.sq_cpr.proofs.Distances.Agree.{close_from_lies, lies_from_close, representative_from_within, within_from_representative}
+use Rattle.sq_cpr.proofs.Distances.Agree.{close_from_lies, lies_from_close, representative_from_within}
+use Rattle.sq_cpr.proofs.Distances.Agree.{within_from_representative}
 use Rattle.sq_cpr.proofs.Decoding.OneWithin.{one_within}
-use Rattle.sq_cpr.proofs.Decoding.ZonePairs.{Paired, paired_zones, close_at, zone_at, has_code, close_turned_even, close_turned_odd, code_of_turn}
+use Rattle.sq_cpr.proofs.Decoding.ZonePairs.{Paired, paired_zones, close_at, zone_at, has_code, close_turned_even}
+use Rattle.sq_cpr.proofs.Decoding.ZonePairs.{close_turned_odd, code_of_turn}
 
 pub some_zones : (parity : Parity) (count : ℕ) → 0 < zones_of parity count
 some_zones parity count = omega arith

@@ -75,12 +75,15 @@ some_point span e codes lat lon p q t pair at inside same =
     let count : ℕ = count_at span.degrees Even p in
     let z = zone_exists (zones_of Even count) (zones_of Odd count) codes.even.lon codes.odd.lon in
     let one = one_representative span.degrees (zones_of codes.newest count)
-    (pos (of_parity codes.newest codes.even.lon codes.odd.lon) +ℤ pos codes_of_zone *ℤ z.0) lon h (some_zones codes.newest count) t in
-    let lons = newest_of_pair span.degrees count codes.even.lon codes.odd.lon codes.newest z.0 one.0 h (some_count span.degrees Even p)
+    (pos (of_parity codes.newest codes.even.lon codes.odd.lon) +ℤ pos codes_of_zone *ℤ z.0) lon h
+    (some_zones codes.newest count) t in
+    let lons = newest_of_pair span.degrees count codes.even.lon codes.odd.lon codes.newest z.0 one.0 h
+    (some_count span.degrees Even p)
     z.1 one.1.0 in
     let around : 0 < circle (zones_of codes.newest count) span.repeats =
     mul_pos (zones_of codes.newest count * codes_of_zone) span.repeats
-    (mul_pos (zones_of codes.newest count) codes_of_zone (some_zones codes.newest count) (omega arith)) (span_limits span e).2 in
+    (mul_pos (zones_of codes.newest count) codes_of_zone (some_zones codes.newest count) (omega arith))
+    (span_limits span e).2 in
     let b = residue (circle (zones_of codes.newest count) span.repeats) one.0 around in
     let point : Point = record {
       parity = codes.newest;
@@ -102,11 +105,13 @@ some_point span e codes lat lon p q t pair at inside same =
           of_grid = point_of_pair span codes.newest point p q inside same refl refl refl b.1;
           parity = refl;
           lat_index = refl;
-          lon_index = subst (λ (i : ℤ). IsCongruent (circle (zones_of codes.newest count) span.repeats) (pos b.0) i) lons.3
+          lon_index = subst (λ (i : ℤ). IsCongruent (circle (zones_of codes.newest count) span.repeats) (pos b.0) i)
+              lons.3
               b.2;
         };
         lat_at = at;
-        lon_at = subst (λ (i : ℤ). IsRepresentative span.degrees lon (angle_at span.degrees (zones_of codes.newest count) i))
+        lon_at = subst (λ (i : ℤ). IsRepresentative span.degrees lon
+            (angle_at span.degrees (zones_of codes.newest count) i))
             lons.3 one.1.1;
       },
     )

@@ -1,5 +1,6 @@
 -- What the premises on true positions are, and no more.
-use Rattle.std.proofs.Common.{◌≡◌, ◌↔◌, ℕ, Bool, true, false, ◌*◌, ℤ, pos, neg_ℤ, ◌+ℤ◌, ◌-ℤ◌, ◌*ℤ◌, ◌<ℤ◌, arith, refl, sym, subst}
+use Rattle.std.proofs.Common.{◌≡◌, ◌↔◌, ℕ, Bool, true, false, ◌*◌, ℤ, pos, neg_ℤ, ◌+ℤ◌, ◌-ℤ◌, ◌*ℤ◌, ◌<ℤ◌, arith, refl}
+use Rattle.std.proofs.Common.{sym, subst}
 use Rattle.std.specs.Prelude.{nat_lt, if◌then◌else◌}
 use Rattle.std.proofs.lemmas.Int.{ints}
 use Rattle.sq_angle.specs.Fraction.{Fraction, minus, whole}
@@ -10,7 +11,8 @@ use Rattle.sq_angle.specs.Angle.{degrees as degrees_of}
 use Rattle.sq_angle.specs.Position.{lon_of}
 use Rattle.sq_cpr.specs.Grid.{circle, codes_of_zone}
 use Rattle.sq_cpr.specs.Near.{OnSomeTurn, angle_at}
-use Rattle.sq_cpr.specs.Exactly.{Across180Degrees, AtTheLimits, DifferAroundExactly, DifferExactly, NearThreeDecimals, PointWithinExactly, TurnsChangeNothing}
+use Rattle.sq_cpr.specs.Exactly.{Across180Degrees, AtTheLimits, DifferAroundExactly, DifferExactly, NearThreeDecimals}
+use Rattle.sq_cpr.specs.Exactly.{PointWithinExactly, TurnsChangeNothing}
 use Rattle.sq_angle.proofs.Congruence.{congruent_refl}
 use Rattle.sq_cpr.specs.Slow.{DifferByLess, DifferByLessAround, IsSmallerThan}
 use Rattle.sq_cpr.specs.Zones.{turned}

@@ -1,5 +1,6 @@
 -- Positions that are slow for following round to points that are strictly near one another.
-use Rattle.std.proofs.Common.{◌≡◌, ◌∙◌, ℕ, ◌*◌, ◌<◌, ◌≤◌, max, min, Bool, true, false, nat_lt, if◌then◌else◌, ℤ, pos, neg_ℤ, ◌+ℤ◌, ◌-ℤ◌, ◌*ℤ◌, ◌≤ℤ◌, ◌<ℤ◌, ap, refl, arith, mul-le-mul_left, mul-le-mul_right}
+use Rattle.std.proofs.Common.{◌≡◌, ◌∙◌, ℕ, ◌*◌, ◌<◌, ◌≤◌, max, min, Bool, true, false, nat_lt, if◌then◌else◌, ℤ, pos}
+use Rattle.std.proofs.Common.{neg_ℤ, ◌+ℤ◌, ◌-ℤ◌, ◌*ℤ◌, ◌≤ℤ◌, ◌<ℤ◌, ap, refl, arith, mul-le-mul_left, mul-le-mul_right}
 use Rattle.std.proofs.lemmas.Int.{ints}
 use Rattle.sq_angle.specs.Angle.{degrees as degrees_of}
 use Rattle.sq_angle.specs.Fraction.{Fraction}
@@ -17,7 +18,8 @@ use Rattle.sq_cpr.specs.Near.{IsStrictlyNear, half_zone, angle_at}
 use Rattle.sq_cpr.specs.DecodeLaws.{FollowingIsNear}
 use Rattle.sq_cpr.proofs.Distances.Agree.{strictly_from_within}
 use Rattle.sq_cpr.proofs.Decoding.Decoded.{some_lat_zones, some_zones_of_point}
-use Rattle.sq_cpr.proofs.Grids.NearestPoints.{above_index, nearest_parts, follow_parts, between_angles, around_is, straight_is, one_more}
+use Rattle.sq_cpr.proofs.Grids.NearestPoints.{above_index, nearest_parts, follow_parts, between_angles, around_is}
+use Rattle.sq_cpr.proofs.Grids.NearestPoints.{straight_is, one_more}
 use Rattle.sq_cpr.proofs.Grids.Spans.{span_limits}
 
 -- twice the difference of the indices a of i zones and b of j zones, in one unit

@@ -1,5 +1,6 @@
 -- Positions near the site round to points near it.
-use Rattle.std.proofs.Common.{◌≡◌, ℕ, ◌*◌, ◌<◌, ◌≤◌, ℤ, pos, neg_ℤ, ◌+ℤ◌, ◌-ℤ◌, ◌*ℤ◌, ◌≤ℤ◌, ◌<ℤ◌, refl, arith, mul-le-mul_right}
+use Rattle.std.proofs.Common.{◌≡◌, ℕ, ◌*◌, ◌<◌, ◌≤◌, ℤ, pos, neg_ℤ, ◌+ℤ◌, ◌-ℤ◌, ◌*ℤ◌, ◌≤ℤ◌, ◌<ℤ◌, refl, arith}
+use Rattle.std.proofs.Common.{mul-le-mul_right}
 use Rattle.std.proofs.lemmas.Int.{ints}
 use Rattle.sq_angle.specs.Angle.{degrees as degrees_of}
 use Rattle.sq_angle.specs.Fraction.{Fraction, whole}
@@ -14,7 +15,8 @@ use Rattle.sq_cpr.specs.Near.{angle_at}
 use Rattle.sq_cpr.specs.Slow.{IsSmallerThan, DifferByLess}
 use Rattle.sq_cpr.specs.DecodeLaws.{RoundsNearSite}
 use Rattle.sq_cpr.proofs.Decoding.Decoded.{some_lat_zones, some_zones_of_point}
-use Rattle.sq_cpr.proofs.Grids.NearestPoints.{above_index, nearest_parts, between_angles, around_is, straight_is, one_more}
+use Rattle.sq_cpr.proofs.Grids.NearestPoints.{above_index, nearest_parts, between_angles, around_is, straight_is}
+use Rattle.sq_cpr.proofs.Grids.NearestPoints.{one_more}
 use Rattle.sq_cpr.proofs.Grids.Spans.{span_bounds}
 
 -- the index of the same angle, so many turns of 360 degrees up

@@ -1,5 +1,6 @@
 -- Slow positions round to close points.
-use Rattle.std.proofs.Common.{◌≡◌, ℕ, ◌*◌, ◌<◌, ◌≤◌, ◌⊎◌, ⊎_elim, ℤ, pos, neg_ℤ, ◌+ℤ◌, ◌-ℤ◌, ◌*ℤ◌, ◌≤ℤ◌, ◌<ℤ◌, arith, mul-le-mul_left}
+use Rattle.std.proofs.Common.{◌≡◌, ℕ, ◌*◌, ◌<◌, ◌≤◌, ◌⊎◌, ⊎_elim, ℤ, pos, neg_ℤ, ◌+ℤ◌, ◌-ℤ◌, ◌*ℤ◌, ◌≤ℤ◌, ◌<ℤ◌, arith}
+use Rattle.std.proofs.Common.{mul-le-mul_left}
 use Rattle.std.proofs.lemmas.Int.{ints}
 use Rattle.sq_angle.specs.Angle.{degrees as degrees_of}
 use Rattle.sq_angle.specs.Fraction.{Fraction}
@@ -16,7 +17,8 @@ use Rattle.sq_cpr.specs.DecodeLaws.{SlowIsTame}
 use Rattle.sq_cpr.proofs.Distances.Agree.{close_from_lies}
 use Rattle.sq_cpr.proofs.Distances.CloseLaw.{one_zone_is_close}
 use Rattle.sq_cpr.proofs.Decoding.Decoded.{some_zones_of_point}
-use Rattle.sq_cpr.proofs.Grids.NearestPoints.{above_index, nearest_parts, slow_parts, between_angles, around_is, straight_is, one_more}
+use Rattle.sq_cpr.proofs.Grids.NearestPoints.{above_index, nearest_parts, slow_parts, between_angles, around_is}
+use Rattle.sq_cpr.proofs.Grids.NearestPoints.{straight_is, one_more}
 use Rattle.sq_cpr.proofs.Decoding.PairLaw.{some_count}
 use Rattle.sq_cpr.proofs.Grids.Spans.{span_limits}
 use Rattle.sq_cpr.proofs.Decoding.ZonePairs.{close_turned_even, close_turned_odd}

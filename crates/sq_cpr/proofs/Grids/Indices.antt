@@ -1,5 +1,6 @@
 -- The index that a window leaves, over plain numbers.
-use Rattle.std.proofs.Common.{◌≡◌, ℕ, ◌*◌, ◌<◌, ◌≤◌, ℤ, pos, neg_ℤ, ◌+ℤ◌, ◌-ℤ◌, ◌*ℤ◌, ◌≤ℤ◌, ◌<ℤ◌, unsigned_abs, arith, ◌^◌, subst, mul-le-mul_right, le_of_mul-le-mul_right}
+use Rattle.std.proofs.Common.{◌≡◌, ℕ, ◌*◌, ◌<◌, ◌≤◌, ℤ, pos, neg_ℤ, ◌+ℤ◌, ◌-ℤ◌, ◌*ℤ◌, ◌≤ℤ◌, ◌<ℤ◌, unsigned_abs, arith}
+use Rattle.std.proofs.Common.{◌^◌, subst, mul-le-mul_right, le_of_mul-le-mul_right}
 use Rattle.std.proofs.Math.IntN.{negsuc}
 use Rattle.std.proofs.lemmas.Int.{ints, unsigned_abs-mul}
 use Rattle.std.specs.Int.{int_div_euclid}

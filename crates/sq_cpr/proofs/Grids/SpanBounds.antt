@@ -1,5 +1,6 @@
 -- The nearest latitude of a span's grid lies in -90 to 90, and its index is small.
-use Rattle.std.proofs.Common.{◌≡◌, ℕ, ◌*◌, ◌≤◌, ℤ, pos, neg_ℤ, ◌+ℤ◌, ◌*ℤ◌, ◌<ℤ◌, ap, arith, unsigned_abs, mul-le-mul_right}
+use Rattle.std.proofs.Common.{◌≡◌, ℕ, ◌*◌, ◌≤◌, ℤ, pos, neg_ℤ, ◌+ℤ◌, ◌*ℤ◌, ◌<ℤ◌, ap, arith, unsigned_abs}
+use Rattle.std.proofs.Common.{mul-le-mul_right}
 use Rattle.std.proofs.lemmas.Int.{ints, unsigned_abs-mul}
 use Rattle.sq_angle.specs.Fraction.{Fraction, IsWithin}
 use Rattle.sq_angle.specs.Nearest.{IsNearest}

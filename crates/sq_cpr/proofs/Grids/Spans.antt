@@ -1,5 +1,6 @@
 -- The laws of a span's grid, from `degrees * repeats ≡ 360`.
-use Rattle.std.proofs.Common.{◌≡◌, ℕ, zero, suc, ◌*◌, ◌<◌, ◌≤◌, ap, arith, zero-mul, mul-zero, mul-le-mul, mul-lt-mul_of_pos_right}
+use Rattle.std.proofs.Common.{◌≡◌, ℕ, zero, suc, ◌*◌, ◌<◌, ◌≤◌, ap, arith, zero-mul, mul-zero, mul-le-mul}
+use Rattle.std.proofs.Common.{mul-lt-mul_of_pos_right}
 use Rattle.sq_cpr.specs.Span.{Span, FitsCircle}
 use Rattle.sq_cpr.specs.Grid.{circle}
 

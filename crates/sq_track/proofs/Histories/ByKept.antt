@@ -7,7 +7,8 @@ use Rattle.sq_message.specs.Parts.{squitter_parts}
 use Rattle.sq_message.proofs.OnePlace.{one_local_place}
 use Rattle.sq_track.specs.declared.heard.Heard.{Heard}
 use Rattle.sq_track.specs.declared.heard.Heard.TheVariants.{Waiting, Split}
-use Rattle.sq_track.specs.Answers.{IsHeardAfter, IsHeardByKept, IsHeardNear, IsHeardNearPosition, IsHeardWith, LooksToFix, heard_near}
+use Rattle.sq_track.specs.Answers.{IsHeardAfter, IsHeardByKept, IsHeardNear, IsHeardNearPosition, IsHeardWith}
+use Rattle.sq_track.specs.Answers.{LooksToFix, heard_near}
 use Rattle.sq_track.specs.Kept.{IsFixAt, fix_in, pair_in, recent_position, recent_squitter}
 use Rattle.sq_track.specs.Laws.{OneAnswerByKept}
 use Rattle.sq_track.proofs.Histories.OneAnswer.{one_after, one_of_pair}

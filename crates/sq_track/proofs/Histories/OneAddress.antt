@@ -1,14 +1,17 @@
 -- An address answers for itself alone: entries of other addresses change nothing of what it hears.
-use Rattle.std.proofs.Common.{◌≡◌, ◌∙◌, ℕ, Bool, true, false, not, cond, List, [], ◌∷◌, find, filter, length, Option, Some, is_some, Ok, refl, sym, ap, arith, subst}
+use Rattle.std.proofs.Common.{◌≡◌, ◌∙◌, ℕ, Bool, true, false, not, cond, List, [], ◌∷◌, find, filter, length, Option}
+use Rattle.std.proofs.Common.{Some, is_some, Ok, refl, sym, ap, arith, subst}
 use Rattle.std.proofs.lemmas.Bool.{and_parts, eq-eqb, eqb-true, true≢false}
 use Rattle.sq_angle.specs.declared.position.Position.{Position}
 use Rattle.sq_message.specs.declared.squitter.Squitter.{Squitter}
 use Rattle.sq_message.specs.declared.place.Place.{Place}
 use Rattle.sq_message.specs.Parts.{squitter_parts}
 use Rattle.sq_track.specs.declared.heard.Heard.{Heard}
-use Rattle.sq_track.specs.History.{Entry, History, are_of_one_sender, are_even_and_odd, are_a_pair, parity_of, if_recent, is_fix_of, counterpart, last_fix, place_heard, place_of, squitter_of}
+use Rattle.sq_track.specs.History.{Entry, History, are_of_one_sender, are_even_and_odd, are_a_pair, parity_of}
+use Rattle.sq_track.specs.History.{if_recent, is_fix_of, counterpart, last_fix, place_heard, place_of, squitter_of}
 use Rattle.sq_track.specs.Answers.{IsHeard, IsHeardWith}
-use Rattle.sq_track.specs.Replies.{Settings, IsInTime, IsReply, IsHistory, is_of_address, newest_of_each, present, of_address}
+use Rattle.sq_track.specs.Replies.{Settings, IsInTime, IsReply, IsHistory, is_of_address, newest_of_each, present}
+use Rattle.sq_track.specs.Replies.{of_address}
 use Rattle.sq_track.specs.Laws.{OneAddressAlone, AloneIsHistory, AcceptedAlone}
 use Rattle.sq_track.proofs.Histories.Entries.{sender_parts}
 use Rattle.sq_track.proofs.Lists.Filters.{filter-cons_yes, filter-cons_no, Each, Each-filter, Each-filter_pass}

@@ -1,5 +1,7 @@
 -- For every history and call there is an answer.
-use Rattle.std.proofs.Common.{◌≡◌, ◌∙◌, ◌⊎◌, inl, inr, ℕ, ◌*◌, ◌≤◌, ◌<◌, ◌^◌, Bool, true, false, cond, leb, ltb, [], ◌∷◌, ℤ, pos, ◌-ℤ◌, length, filter, find, not, Option, Some, None, IfSome, Result, Ok, Err, refl, sym, subst, arith}
+use Rattle.std.proofs.Common.{◌≡◌, ◌∙◌, ◌⊎◌, inl, inr, ℕ, ◌*◌, ◌≤◌, ◌<◌, ◌^◌, Bool, true, false, cond, leb, ltb, []}
+use Rattle.std.proofs.Common.{◌∷◌, ℤ, pos, ◌-ℤ◌, length, filter, find, not, Option, Some, None, IfSome, Result, Ok, Err}
+use Rattle.std.proofs.Common.{refl, sym, subst, arith}
 use Rattle.std.specs.List.{AllByRecursion}
 use Rattle.std.proofs.lemmas.Bool.{cases_eq, cases_lt, leb-true, leb-false, ltb-true, ltb-false}
 use Rattle.std.proofs.lemmas.Int.{ints}
@@ -24,7 +26,8 @@ use Rattle.sq_message.specs.declared.place.Place.TheVariants.{Air, Ground}
 use Rattle.sq_message.specs.declared.place.PlaceFault.{PlaceFault}
 use Rattle.sq_message.specs.declared.place.PlaceFault.TheVariants as faults
 use Rattle.sq_message.specs.Parts.{SquitterParts, squitter_parts}
-use Rattle.sq_message.specs.Places.{IsPositionOf, IsLocalPlace, IsPairPlace, IsPlaceOfOneAddress, IsAirPairPlace, IsGroundPairPlace, NeedsTwoParities, place_of}
+use Rattle.sq_message.specs.Places.{IsPositionOf, IsLocalPlace, IsPairPlace, IsPlaceOfOneAddress, IsAirPairPlace}
+use Rattle.sq_message.specs.Places.{IsGroundPairPlace, NeedsTwoParities, place_of}
 use Rattle.sq_message.proofs.PlaceLemmas.{both_positions}
 use Rattle.sq_message.proofs.SomePlace.{some_local, some_pair_place}
 use Rattle.sq_track.specs.declared.heard.Heard.{Heard}

@@ -1,5 +1,6 @@
 -- A world is slow by its pairs of arrivals.
-use Rattle.std.proofs.Common.{◌≡◌, ◌≢◌, ◌∙◌, ◌⊎◌, inl, inr, ℕ, ◌+◌, ◌<◌, arith, [], ◌∷◌, Option, Some, Contains, refl, sym, ap, subst}
+use Rattle.std.proofs.Common.{◌≡◌, ◌≢◌, ◌∙◌, ◌⊎◌, inl, inr, ℕ, ◌+◌, ◌<◌, arith, [], ◌∷◌, Option, Some, Contains, refl}
+use Rattle.std.proofs.Common.{sym, ap, subst}
 use Rattle.std.specs.List.{AllByRecursion}
 use Rattle.std.proofs.lemmas.List.Elements.{All-contains, All-contains_itself, All-from_recursion, recursion_from_All}
 use Rattle.sq_angle.specs.declared.position.Position.{Position}
@@ -10,7 +11,8 @@ use Rattle.sq_message.specs.Parts.{squitter_parts}
 use Rattle.sq_track.specs.History.{Entry, parity_of}
 use Rattle.sq_track.specs.Worlds.{Arrival, IsTruePlace, IsEntryOf}
 use Rattle.sq_track.specs.Tame.{AreTogether, ArePairTogether, AreSlowPlaces, AreSlowToFollow}
-use Rattle.sq_track.specs.Laws.{ApartIsSlow, ArisesByArrivals, SlowByPairs, SlowForFollowingByPairs, SlowForFollowingPairExactly, SlowPairExactly}
+use Rattle.sq_track.specs.Laws.{ApartIsSlow, ArisesByArrivals, SlowByPairs, SlowForFollowingByPairs}
+use Rattle.sq_track.specs.Laws.{SlowForFollowingPairExactly, SlowPairExactly}
 use Rattle.sq_track.proofs.Histories.Entries.{each_arrived, sender_parts, together_sym}
 use Rattle.sq_track.proofs.Lists.Found.{same_some}
 use Rattle.sq_track.proofs.Worlds.Standing.{followed_still, one_with_itself, own_kind}

@@ -1,5 +1,6 @@
 -- After a fix, a slow arrival of the same parity is followed to its true place.
-use Rattle.std.proofs.Common.{◌≡◌, ◌∙◌, ◌+◌, Bool, true, false, ◌&&◌, cond, leb, [], ◌∷◌, Option, Some, None, Result, Ok, refl, sym, ap, subst}
+use Rattle.std.proofs.Common.{◌≡◌, ◌∙◌, ◌+◌, Bool, true, false, ◌&&◌, cond, leb, [], ◌∷◌, Option, Some, None, Result}
+use Rattle.std.proofs.Common.{Ok, refl, sym, ap, subst}
 use Rattle.std.proofs.lemmas.Bool.{le-leb, and_from}
 use Rattle.sq_angle.specs.declared.position.Position.{Position}
 use Rattle.sq_zones.specs.declared.parity.Parity.{Parity}
@@ -13,7 +14,8 @@ use Rattle.sq_message.specs.Parts.{squitter_parts}
 use Rattle.sq_message.specs.Places.{IsLocalPlace, IsPositionOf}
 use Rattle.sq_track.specs.declared.heard.Heard.{Heard}
 use Rattle.sq_track.specs.declared.heard.Heard.TheVariants.{Fix, Followed, Waiting}
-use Rattle.sq_track.specs.History.{Entry, are_of_one_sender, are_even_and_odd, is_fix_of, parity_of, place_of, if_recent, counterpart, last_fix, squitter_of}
+use Rattle.sq_track.specs.History.{Entry, are_of_one_sender, are_even_and_odd, is_fix_of, parity_of, place_of}
+use Rattle.sq_track.specs.History.{if_recent, counterpart, last_fix, squitter_of}
 use Rattle.sq_track.specs.Worlds.{IsPlaceOf, IsEncodedFrom}
 use Rattle.sq_track.specs.Answers.{heard_alone, heard_near, IsHeardNear, IsHeardOfPair}
 use Rattle.sq_track.specs.Tame.{AreNearPlaces}

@@ -10,7 +10,8 @@ use Rattle.sq_track.specs.Replies.{is_of_address}
 use Rattle.sq_track.specs.Worlds.{Arrival, IsTruePlace}
 use Rattle.sq_track.specs.Tame.{ArePairTogether, AreTamePlaces, IsTame}
 use Rattle.sq_track.specs.Standing.{AreOnePlace}
-use Rattle.sq_track.specs.Pinned.{SomeArrival, OtherIsEncoded, PlacesExactly, OneParityIsSlow, TamePairExactly, OnePositionStands, OfAddressExactly, SaidExactly, MemoryExactly}
+use Rattle.sq_track.specs.Pinned.{SomeArrival, OtherIsEncoded, PlacesExactly, OneParityIsSlow, TamePairExactly}
+use Rattle.sq_track.specs.Pinned.{OnePositionStands, OfAddressExactly, SaidExactly, MemoryExactly}
 use Rattle.sq_track.proofs.Lists.Filters.{filter-cons_yes, filter-cons_no}
 use Rattle.sq_track.proofs.Worlds.ByPairs.{Pairs, each_two, in_pair, is_one_of, odd_is_even, parity_at, pairs_itself}
 use Rattle.sq_track.proofs.Worlds.Standing.{one_with_itself}

@@ -1,5 +1,6 @@
 -- Slow worlds have fixes: a pair that is slow and has one zone count is heard as the fix of the newer's true place.
-use Rattle.std.proofs.Common.{◌≡◌, ◌≢◌, ◌∙◌, ◌+◌, ℕ, true, cond, leb, [], ◌∷◌, Option, Some, None, Result, Ok, Err, refl, sym, ap, subst}
+use Rattle.std.proofs.Common.{◌≡◌, ◌≢◌, ◌∙◌, ◌+◌, ℕ, true, cond, leb, [], ◌∷◌, Option, Some, None, Result, Ok, Err}
+use Rattle.std.proofs.Common.{refl, sym, ap, subst}
 use Rattle.std.proofs.lemmas.Bool.{le-leb, and_from}
 use Rattle.sq_angle.specs.declared.position.Position.{Position}
 use Rattle.sq_zones.specs.declared.parity.Parity.{Parity}
@@ -24,7 +25,8 @@ use Rattle.sq_message.specs.Parts.{squitter_parts}
 use Rattle.sq_message.specs.Places.{IsPosition, IsPlaceOfOneAddress, of_pair, pair_by_parity, place_of}
 use Rattle.sq_message.proofs.PlaceLemmas.{has_code}
 use Rattle.sq_track.specs.declared.heard.Heard.TheVariants.{Fix, Waiting}
-use Rattle.sq_track.specs.History.{Entry, are_of_one_sender, are_even_and_odd, are_a_pair, parity_of, if_recent, counterpart, squitter_of}
+use Rattle.sq_track.specs.History.{Entry, are_of_one_sender, are_even_and_odd, are_a_pair, parity_of, if_recent}
+use Rattle.sq_track.specs.History.{counterpart, squitter_of}
 use Rattle.sq_track.specs.Worlds.{Arrival, IsPlaceOf, HasCodeOf, IsEncodedFrom, IsTruePlace}
 use Rattle.sq_track.specs.Answers.{heard_of_pair, IsHeard, IsHeardOfPair}
 use Rattle.sq_track.specs.Tame.{AreTogether, AreSlowPlaces}
@@ -77,7 +79,8 @@ slow_pair Odd (kinds.Airborne o) (kinds.Airborne n) x y p q site answer first se
     p_is.1.of_grid q_is.1.of_grid (has_code p o.code (code_of_place (kinds.Airborne o) x (Air p) first p_is))
     (has_code q n.code (code_of_place (kinds.Airborne n) y (Air q) second q_is)) tame in
     is ∙ one_count air Air Odd p q found same law
-slow_pair Even (kinds.Airborne o) (kinds.Airborne n) x y p q site answer first second even odd p_is q_is slow same here =
+slow_pair Even (kinds.Airborne o) (kinds.Airborne n) x y p q site answer first second even odd p_is q_is slow same
+    here =
     let n_even : n.parity ≡ Even = same_some n.parity Even even in
     let o_odd : o.parity ≡ Odd = same_some o.parity Odd odd in
     let (found, decoded, is) = here.1 (differ n.parity o.parity n_even o_odd).1 in
@@ -99,7 +102,8 @@ slow_ground_pair : (newest : Parity) (m n : Me) (x y : Position) (p q : Point) (
     (of_parity newest x y)
     → HaveOneCount 90 (of_parity newest q p).lat_index (of_parity newest p q).lat_index
     → IsPlaceOfOneAddress m n (Some site) answer → answer ≡ Ok (Ground q)
-slow_ground_pair Odd (kinds.Surface o) (kinds.Surface n) x y p q site answer first second even odd p_is q_is slow same here =
+slow_ground_pair Odd (kinds.Surface o) (kinds.Surface n) x y p q site answer first second even odd p_is q_is slow same
+    here =
     let o_even : o.parity ≡ Even = same_some o.parity Even even in
     let n_odd : n.parity ≡ Odd = same_some n.parity Odd odd in
     let (found, decoded, is) = here.1 (differ o.parity n.parity o_even n_odd).0 in
@@ -110,7 +114,8 @@ slow_ground_pair Odd (kinds.Surface o) (kinds.Surface n) x y p q site answer fir
     (has_code q n.code (code_of_place (kinds.Surface n) y (Ground q) second q_is)) tame
     (rounds_near_site ground refl x site p p_is.1 slow.1) (rounds_near_site ground refl y site q q_is.1 slow.2) in
     is ∙ one_count ground Ground Odd p q found same law
-slow_ground_pair Even (kinds.Surface o) (kinds.Surface n) x y p q site answer first second even odd p_is q_is slow same here =
+slow_ground_pair Even (kinds.Surface o) (kinds.Surface n) x y p q site answer first second even odd p_is q_is slow same
+    here =
     let n_even : n.parity ≡ Even = same_some n.parity Even even in
     let o_odd : o.parity ≡ Odd = same_some o.parity Odd odd in
     let (found, decoded, is) = here.1 (differ n.parity o.parity n_even o_odd).1 in
@@ -121,7 +126,8 @@ slow_ground_pair Even (kinds.Surface o) (kinds.Surface n) x y p q site answer fi
     (has_code p o.code (code_of_place (kinds.Surface o) x (Ground p) first p_is)) tame
     (rounds_near_site ground refl y site q q_is.1 slow.1) (rounds_near_site ground refl x site p p_is.1 slow.2) in
     is ∙ one_count ground Ground Even q p found same law
-slow_ground_pair newest (kinds.Surface o) n x y p q site answer first second even odd p_is q_is slow same here = absurd q_is
+slow_ground_pair newest (kinds.Surface o) n x y p q site answer first second even odd p_is q_is slow same here =
+    absurd q_is
 slow_ground_pair newest m n x y p q site answer first second even odd p_is q_is slow same here = absurd p_is
 
 -- two messages with places are positions

@@ -1,5 +1,6 @@
 -- What stands still is slow, and a place is strictly near itself.
-use Rattle.std.proofs.Common.{◌≡◌, ℕ, ◌*◌, ◌<◌, ◌≤◌, max, min, ℤ, pos, ◌*ℤ◌, ◌<ℤ◌, true, Option, refl, ap, arith, mul-le-mul_left, mul-le-mul}
+use Rattle.std.proofs.Common.{◌≡◌, ℕ, ◌*◌, ◌<◌, ◌≤◌, max, min, ℤ, pos, ◌*ℤ◌, ◌<ℤ◌, true, Option, refl, ap, arith}
+use Rattle.std.proofs.Common.{mul-le-mul_left, mul-le-mul}
 use Rattle.std.proofs.lemmas.Bool.{false≢true}
 use Rattle.std.proofs.lemmas.Int.{ints}
 use Rattle.sq_angle.specs.declared.position.Position.{Position}
@@ -11,7 +12,8 @@ use Rattle.sq_zones.proofs.ZoneBounds.{lon_zones_at-least, lon_zones_at-most}
 use Rattle.sq_cpr.specs.Span.{Span, air, ground}
 use Rattle.sq_cpr.specs.Grid.{Point, IsGridPoint, latitude}
 use Rattle.sq_cpr.specs.Close.{difference}
-use Rattle.sq_cpr.specs.Slow.{IsSmallerThan, DifferByLess, DifferByLessAround, AreSlow, AreSlowForFollowing, slow_limit, following_limit}
+use Rattle.sq_cpr.specs.Slow.{IsSmallerThan, DifferByLess, DifferByLessAround, AreSlow, AreSlowForFollowing, slow_limit}
+use Rattle.sq_cpr.specs.Slow.{following_limit}
 use Rattle.sq_message.specs.declared.squitter.Me.{Me}
 use Rattle.sq_message.specs.declared.squitter.Me.TheVariants as kinds
 use Rattle.sq_message.specs.declared.place.Place.{Place}

@@ -12,7 +12,8 @@ use Rattle.sq_track.specs.Laws.{TameWorldsAreTrue, FollowedWorldsAreTrue}
 use Rattle.sq_track.proofs.Lists.Found.{each_weaker}
 use Rattle.sq_track.proofs.Worlds.SlowWorlds.{slow_worlds_are_tame, slow_for_following_is_tame}
 use Rattle.sq_track.proofs.Histories.Entries.{Arrived, IsChain, chain_of, each_arrived}
-use Rattle.sq_track.proofs.Histories.TrueHistories.{fix_is_true, IsPlacedEntry, place_heard_is_true, entry_is_placed, entries_are_placed}
+use Rattle.sq_track.proofs.Histories.TrueHistories.{fix_is_true, IsPlacedEntry, place_heard_is_true, entry_is_placed}
+use Rattle.sq_track.proofs.Histories.TrueHistories.{entries_are_placed}
 
 module _ (s : Settings) (world : World) (tame : IsTame s.window s.site world) where
   replies_are_true : (later : World) (history : History) (replies : List (Result Heard TrackFault))

@@ -13,7 +13,8 @@ use Rattle.sq_cpr.specs.Span.{air}
 use Rattle.sq_cpr.specs.Close.{HaveOneCount}
 use Rattle.sq_cpr.specs.Grid.{IsGridPoint, Point, circle}
 use Rattle.sq_cpr.specs.Rounds.{RoundsTo, PositionRoundsTo}
-use Rattle.sq_cpr.specs.Slow.{AreSlow, AreSlowForFollowing, DifferByLess, DifferByLessAround, following_limit, slow_limit}
+use Rattle.sq_cpr.specs.Slow.{AreSlow, AreSlowForFollowing, DifferByLess, DifferByLessAround, following_limit}
+use Rattle.sq_cpr.specs.Slow.{slow_limit}
 use Rattle.sq_message.specs.declared.place.Place.TheVariants.{Air}
 use Rattle.sq_message.specs.declared.squitter.Me.TheVariants as kinds
 use Rattle.sq_message.specs.Parts.{squitter_parts}
@@ -25,7 +26,9 @@ use Rattle.sq_track.specs.Laws.{as_fix, as_waiting}
 use Rattle.sq_track.specs.Replies.{of_address}
 use Rattle.sq_track.specs.Tame.{ArePairTogether, AreTogether}
 use Rattle.sq_track.specs.Worlds.{Arrival, IsPlaceOf, IsTruePlace}
-use Rattle.sq_track.specs.Worked.{IsArrivalFrom, IsFirst, IsSecond, IsThird, SecondIsFixed, SecondIsFixedAmongOthers, ThirdIsFollowed, TruePlaces, TwoAreSlow, TwoAreTrue, first_point, parts, second_point, third_point}
+use Rattle.sq_track.specs.Worked.{IsArrivalFrom, IsFirst, IsSecond, IsThird, SecondIsFixed, SecondIsFixedAmongOthers}
+use Rattle.sq_track.specs.Worked.{ThirdIsFollowed, TruePlaces, TwoAreSlow, TwoAreTrue, first_point, parts, second_point}
+use Rattle.sq_track.specs.Worked.{third_point}
 use Rattle.sq_track.proofs.Histories.OneAddress.{one_address_alone}
 use Rattle.sq_track.proofs.Worlds.ByPairs.{slow_for_following_pair_exactly, slow_pair_exactly}
 use Rattle.sq_track.proofs.Worlds.Followed.{followed_after_a_fix}

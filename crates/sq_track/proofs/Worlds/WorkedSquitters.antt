@@ -15,7 +15,8 @@ use Rattle.sq_message.specs.declared.place.Place.TheVariants.{Air}
 use Rattle.sq_message.specs.declared.squitter.Me.TheVariants as kinds
 use Rattle.sq_message.proofs.WorkedPoints.{even_position_rounds, odd_position_rounds}
 use Rattle.sq_track.specs.Worlds.{Arrival}
-use Rattle.sq_track.specs.Worked.{IsArrivalFrom, IsFirst, IsSecond, IsThird, SomeWorked, first_point, parts, second_point, third_point}
+use Rattle.sq_track.specs.Worked.{IsArrivalFrom, IsFirst, IsSecond, IsThird, SomeWorked, first_point, parts}
+use Rattle.sq_track.specs.Worked.{second_point, third_point}
 use Rattle.sq_track.proofs.Worlds.WorkedRows.{third_position_rounds}
 
 -- type code 11, and no other field

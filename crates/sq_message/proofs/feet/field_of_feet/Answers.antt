@@ -1,4 +1,5 @@
-use Rattle.std.proofs.Common.{◌≡◌, ℕ, ◌+◌, ◌*◌, ◌/◌, ◌%◌, ◌^◌, Option, Some, None, IsSome, ap, sym, subst, arith, pos, w32, ◌+ℤ◌}
+use Rattle.std.proofs.Common.{◌≡◌, ℕ, ◌+◌, ◌*◌, ◌/◌, ◌%◌, ◌^◌, Option, Some, None, IsSome, ap, sym, subst, arith, pos}
+use Rattle.std.proofs.Common.{w32, ◌+ℤ◌}
 use Rattle.std.proofs.lemmas.Int.{ints, to_z-of_z}
 use Rattle.sq_message.specs.Altitudes.{HasField, IsFieldOfFeet}
 use Rattle.sq_message.proofs.FeetLemmas.{joined, one_field, has_field}

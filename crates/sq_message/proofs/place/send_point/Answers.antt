@@ -10,7 +10,9 @@ use Rattle.sq_message.specs.declared.squitter.Me.TheVariants as kinds
 use Rattle.sq_message.specs.Parts.{squitter_parts}
 use Rattle.sq_message.specs.Kinds.{InAir, OnGround, me_of}
 use Rattle.sq_message.specs.Places.{Fits, IsSentAt, air_head_of, ground_head_of}
-use Rattle.sq_message.proofs.place.send_point.Goals.{in-Airborne-Air, in-Surface-Ground, in_default, in_default-via-in-Airborne+in_default, in_default-via-in-Surface+in_default, in_default-via-in_default}
+use Rattle.sq_message.proofs.place.send_point.Goals.{in-Airborne-Air, in-Surface-Ground, in_default}
+use Rattle.sq_message.proofs.place.send_point.Goals.{in_default-via-in-Airborne+in_default}
+use Rattle.sq_message.proofs.place.send_point.Goals.{in_default-via-in-Surface+in_default, in_default-via-in_default}
 use Rattle.sq_message.proofs.place.send_point.Goals as goal
 
 -- a place in the air does not fit a position on the ground, and the other way round

@@ -2,7 +2,9 @@ use Rattle.std.proofs.Common.{◌≡◌, ℕ, ◌^◌, ◌/◌, arith, ◌∙◌
 use Rattle.sq_bits.proofs.Spelled.{leading_field}
 use Rattle.sq_message.specs.TypeCodes.{IsOtherCode}
 use Rattle.sq_message.proofs.read.read_me.Goals as goal
-use Rattle.sq_message.proofs.read.read_me.Goals.{in_default-via-then-part-lt5, in_default-via-else-part-lt5+else-this-lt9+else-this-lt19+then-this-lt20, in_default-via-else-part-lt5+else-this-lt9+else-this-lt19+else-this-lt20+else-this-lt23}
+use Rattle.sq_message.proofs.read.read_me.Goals.{in_default-via-then-part-lt5}
+use Rattle.sq_message.proofs.read.read_me.Goals.{in_default-via-else-part-lt5+else-this-lt9+else-this-lt19+then-this-lt20}
+use Rattle.sq_message.proofs.read.read_me.Goals.{in_default-via-else-part-lt5+else-this-lt9+else-this-lt19+else-this-lt20+else-this-lt23}
 
 pub invariant_of-result-clause-type_code_in : goal.invariant_of-result-clause-type_code_in
 invariant_of-result-clause-type_code_in c =

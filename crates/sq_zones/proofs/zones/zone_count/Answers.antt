@@ -1,4 +1,5 @@
-use Rattle.std.proofs.Common.{◌≡◌, ◌+◌, ◌*◌, ◌^◌, ◌≤◌, to_z, of_z, to_z-of_z, w64, SFits, unsigned_abs, nat_le, count_by, rules, ap, ap₂, ◌∙◌, sym, subst}
+use Rattle.std.proofs.Common.{◌≡◌, ◌+◌, ◌*◌, ◌^◌, ◌≤◌, to_z, of_z, to_z-of_z, w64, SFits, unsigned_abs, nat_le}
+use Rattle.std.proofs.Common.{count_by, rules, ap, ap₂, ◌∙◌, sym, subst}
 use Rattle.std.specs.Int.{div_ceil}
 use Rattle.sq_angle.specs.Angle.{degrees}
 use Rattle.sq_zones.specs.Zones.{zones_at, zone_limits}

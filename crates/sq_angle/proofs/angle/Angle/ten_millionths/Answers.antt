@@ -1,4 +1,5 @@
-use Rattle.std.proofs.Common.{ℕ, pos, ◌≡◌, ◌+◌, ◌*◌, ◌/◌, unsigned_abs, rules, SFits, w64, to_z, of_z, to_z-of_z, ap, ◌∙◌, sym, subst, subst₂}
+use Rattle.std.proofs.Common.{ℕ, pos, ◌≡◌, ◌+◌, ◌*◌, ◌/◌, unsigned_abs, rules, SFits, w64, to_z, of_z, to_z-of_z, ap}
+use Rattle.std.proofs.Common.{◌∙◌, sym, subst, subst₂}
 use Rattle.sq_angle.specs.Decimal.{ten_millionth}
 use Rattle.sq_angle.specs.Nearest.{IsNearest}
 use Rattle.sq_angle.proofs.Rounding.{nearest_unit}

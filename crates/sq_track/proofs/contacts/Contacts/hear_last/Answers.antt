@@ -1,9 +1,12 @@
-use Rattle.std.proofs.Common.{◌≡◌, ◌≢◌, ℕ, List, Some, None, IsOk, ◌++◌, ◌∷◌, [], cond, sym, ap, ◌∙◌, subst, eqb, length, ◌+◌, ◌<◌, is_some, arith}
+use Rattle.std.proofs.Common.{◌≡◌, ◌≢◌, ℕ, List, Some, None, IsOk, ◌++◌, ◌∷◌, [], cond, sym, ap, ◌∙◌, subst, eqb}
+use Rattle.std.proofs.Common.{length, ◌+◌, ◌<◌, is_some, arith}
 use Rattle.std.specs.Map.{lookup}
 use Rattle.indexmap.specs.IndexMap.{spare}
 use Rattle.sq_track.specs.Ordered.{heard_order, others_in, entries_in, IsTied}
 use Rattle.sq_track.specs.declared.contact.Contact.{Contact}
-use Rattle.sq_track.proofs.Table.ContactLemmas.{put_tied, put_view, view-lookup, not_there, on_err, from_ok, inserts, counted, one_unless, updates_of, step_known, step_blank, if_ok_at, if_ok_fault}
+use Rattle.sq_track.proofs.Table.ContactLemmas.{put_tied, put_view, view-lookup, not_there, on_err, from_ok, inserts}
+use Rattle.sq_track.proofs.Table.ContactLemmas.{counted, one_unless, updates_of, step_known, step_blank, if_ok_at}
+use Rattle.sq_track.proofs.Table.ContactLemmas.{if_ok_fault}
 use Rattle.sq_track.proofs.contacts.Contacts.hear_last.Goals as goal
 use Rattle.sq_track.proofs.contacts.Contacts.hear_last.Goals.{in-Ok, in-Err}
 

@@ -1,4 +1,5 @@
-use Rattle.std.proofs.Common.{◌≡◌, ◌∙◌, option_copied, refl, leb, eqb, ◌∷◌, ◌++◌, [], length, filter, find, Option, None, Ok, Err, Some, sym, ap, subst}
+use Rattle.std.proofs.Common.{◌≡◌, ◌∙◌, option_copied, refl, leb, eqb, ◌∷◌, ◌++◌, [], length, filter, find, Option}
+use Rattle.std.proofs.Common.{None, Ok, Err, Some, sym, ap, subst}
 use Rattle.std.proofs.lemmas.Bool.{false≢true}
 use Rattle.std.specs.Map.{lookup}
 use Rattle.sq_angle.specs.declared.position.Position.{Position}
@@ -15,7 +16,9 @@ use Rattle.sq_track.specs.Ordered.{others_in}
 use Rattle.sq_track.specs.Held.{Held, StandsFor, contact_of, settings, present_of}
 use Rattle.sq_track.specs.contracts.tracker.Tracker.{the_view}
 use Rattle.sq_track.proofs.Table.EntryLemmas.{Entries, is_shown, find-entries, bound_from}
-use Rattle.sq_track.proofs.Table.StandsForLemmas.{in_time_of, full_is, not_full, silent_is, heard_silent, stands_silent, stands_position, put_is, ordered_put, sound_put, sound_silent, position_of, silent_of, moment_after, within_after}
+use Rattle.sq_track.proofs.Table.StandsForLemmas.{in_time_of, full_is, not_full, silent_is, heard_silent, stands_silent}
+use Rattle.sq_track.proofs.Table.StandsForLemmas.{stands_position, put_is, ordered_put, sound_put, sound_silent}
+use Rattle.sq_track.proofs.Table.StandsForLemmas.{position_of, silent_of, moment_after, within_after}
 use Rattle.sq_track.proofs.tracker.Tracker.hear.Goals as goal
 
 pub keep_recent-self-inside-requires : goal.keep_recent-self-inside-requires
