@@ -1,9 +1,9 @@
 //! The lines of an input, one at a time, and an answer to each.
 //!
-//! A [`Cutter`] cuts an input that comes in pieces into lines of at most 64 bytes. [`run_lines`] answers each line of a
-//! source on a sink, as soon as its line feed was got, from where the get put it. Long lines, empty ones, carriage returns and numbers are the
-//! run's; a client answers texts, by what came before them ([`Answering`]). What was written is a stated function of
-//! the lines. A run keeps one line and takes no memory of its own.
+//! [`run_lines`] answers each line of a source on a sink, as soon as its line feed was got, from where the get put it.
+//! Long lines, empty ones, carriage returns and numbers are the run's; a client answers texts, by what came before them
+//! ([`Answering`]). What was written is a stated function of the lines. A run keeps one line and takes no memory of its
+//! own. A [`Cutter`] cuts an input that comes in pieces into lines of at most 64 bytes.
 #![tactic(auto)]
 
 mod answering;

@@ -3,8 +3,8 @@ ghost use Rattle.std.specs.Prelude.{◌≡◌, ◌+◌, ◌≤◌, [], drop, tak
 
 use std::simd::prelude::*;
 
-/// Where a get's bytes stand, 64 at most: behind the last 64 bytes that came before them, and one byte more. A line that
-/// begins with that one is longer than 64 bytes, whatever it is.
+/// Where a get's bytes stand, 64 at most: behind the last 64 bytes that came before them, and one byte more. A line
+/// that begins with that one is longer than 64 bytes, whatever it is.
 pub(crate) const FRONT: usize = 65;
 
 /// What came last, and where the line begins in it that is not complete.
@@ -35,15 +35,14 @@ impl Window {
         &self.bytes[self.begin..FRONT]
     }
 
-    /// Moves the last bytes to the front, where a get brought so many, and the line that is not complete begins here.
+    /// Moves the last 64 bytes to the front after a get of so many; the line that is not complete begins here.
     pub(crate) fn slide(&mut self, begin: usize, count: usize)
         requires few { count ≤ 64 }
         requires within { begin ≤ 65 + count }
         ensures { IsHeldAs (front_of self.new) (drop begin (take (65 + count) self.old.bytes)) }
     {
-        u8x64::from_slice(&self.bytes[count + 1..count + FRONT]).copy_to_slice(
-            &mut self.bytes[1..FRONT],
-        );
+        let last = u8x64::from_slice(&self.bytes[count + 1..count + FRONT]);
+        last.copy_to_slice(&mut self.bytes[1..FRONT]);
         self.begin = begin.saturating_sub(count);
     }
 }
