@@ -74,10 +74,13 @@ module _ {S K F : Type 0} (s : SourceGhosts S) (k : SinkGhosts K) (f : SinkGhost
   broken_aside (Show frame) from to old new a b no_lines no_log (took, x) =
       let answer = broken_show (outputs k f old new a b) frame x in (took, inl (answer.0, answer.1.0, answer.1.1))
   broken_aside (Local frame lat lon) from to old new a b no_lines no_log (took, x) =
-      let answer = broken_local (outputs k f old new a b) frame lat lon x in (took, inl (answer.0, answer.1.0, answer.1.1))
+      let answer = broken_local (outputs k f old new a b) frame lat lon x in
+      (took, inl (answer.0, answer.1.0, answer.1.1))
   broken_aside (Pair older newer lat lon) from to old new a b no_lines no_log (took, x) =
-      let answer = broken_pair (outputs k f old new a b) older newer lat lon x in (took, inl (answer.0, answer.1.0, answer.1.1))
-  broken_aside (Encode words) from to old new a b no_lines no_log (took, (Ok frame, r, inl x)) = (took, inl (_, x.0, x.1))
+      let answer = broken_pair (outputs k f old new a b) older newer lat lon x in
+      (took, inl (answer.0, answer.1.0, answer.1.1))
+  broken_aside (Encode words) from to old new a b no_lines no_log (took, (Ok frame, r, inl x)) =
+      (took, inl (_, x.0, x.1))
   broken_aside (Encode words) from to old new a b no_lines no_log (took, (Ok frame, r, inr x)) =
       (took, inr ((words, refl), x.1, x.2))
   broken_aside (Encode words) from to old new a b no_lines no_log (took, (Err fault, r, x)) = absurd (cc x.0)

@@ -18,8 +18,9 @@ marks_lanes bytes k within = bit_mask_l (map is_feed bytes) k ∙ ap (λ b. cond
 -- the mask of the first bytes
 pub marks_front : (piece : List ℕ) (n feeds : ℕ) → MarksFeeds feeds piece → MarksFeeds feeds (take n piece)
 marks_front piece n feeds marked k within =
-    let here : (k < n) × (k < length piece) = (omega (arith, length-take n piece), omega (arith, length-take n piece)) in
-    marked k here.1 ∙ ap (λ b. cond (is_feed b) 1 0) (sym (get_or-take n piece k 0 here.0))
+    let first : k < n = omega (arith, length-take n piece) in
+    let there : k < length piece = omega (arith, length-take n piece) in
+    marked k there ∙ ap (λ b. cond (is_feed b) 1 0) (sym (get_or-take n piece k 0 first))
 
 -- the mask of what stands after the byte at a place
 pub marks_after : (bytes : List ℕ) (at place feeds : ℕ) → MarksFeeds feeds (drop at bytes)

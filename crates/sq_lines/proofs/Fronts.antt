@@ -49,7 +49,8 @@ part_on xs begin at more first =
     ∙ ap (λ n. take (at - begin) (drop begin xs) ++ take more (drop n xs)) there
 
 -- the part from one place to another, cut at its end first
-pub part_is : (xs : List ℕ) (begin end : ℕ) → begin ≤ end → drop begin (take end xs) ≡ take (end - begin) (drop begin xs)
+pub part_is : (xs : List ℕ) (begin end : ℕ) → begin ≤ end
+    → drop begin (take end xs) ≡ take (end - begin) (drop begin xs)
 part_is xs begin end first =
     let there : end ≡ begin + (end - begin) = omega (arith, first) in
     ap (λ n. drop begin (take n xs)) there ∙ drop-take begin (end - begin) xs
@@ -117,6 +118,8 @@ slid xs ys count begin next all few within is from =
     let front : take 65 (put_mid 1 64 xs ys) ≡ take 1 xs ++ take 64 (drop (count + 1) xs) =
     take-put_mid 1 64 xs ys 65 (omega (arith, long)) (omega (arith, all)) ∙ ap (λ l. take 1 xs ++ l) put in
     elim (cases_lt count begin) [
-      | inl after ↦ inl (ap (drop next) front ∙ same_lists _ _ (search (rules, places)) (λ k d h. grind (arith, places)))
+      | inl after ↦
+          inl (ap (drop next) front
+          ∙ same_lists _ _ (search (rules, places)) (λ k d h. grind (arith, places)))
       | inr before ↦ inr (search (rules, places), search (rules, places))
     ]

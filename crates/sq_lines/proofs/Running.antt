@@ -82,7 +82,8 @@ module _ {State Past Found : Type 0} (how : Manner State Past Found) (old : Line
       → LineToldPart how old now next a b line
   part_alike a b told past first st =
       subst (λ (stands : Content). how.stands_for next (after_content (how.way.after past) past stands)
-      × WroteFront a b (answer_text (how.way.text first) (old.number + 1) (answer_content (how.way.answer past) stands)))
+      × WroteFront a b
+      (answer_text (how.way.text first) (old.number + 1) (answer_content (how.way.answer past) stands)))
       same (told past first st)
 
 module _ {State Past Found : Type 0} (how : Manner State Past Found) {K : Type 0} (k : SinkGhosts K) (start : State)

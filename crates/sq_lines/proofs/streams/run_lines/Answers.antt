@@ -122,7 +122,8 @@ returns-in-Err-Write-clause-unwritten g c = λ is.
           subst (λ (fault : Unanswered).
               StoppedIn fault g.A.Answering.how c.args.client.now c.answer_last.new.client
               (g.K.Sink.written c.args.sink.now) (g.K.Sink.written c.answer_last.new.sink) (lines_of (read ++ last.0)))
-              c.in-Err-Write.field-0-is (c.in-Err-Write.ensures.stopped _ _ _ (last_line g.K.Sink on.answered _ c.front.ensures)),
+              c.in-Err-Write.field-0-is
+              (c.in-Err-Write.ensures.stopped _ _ _ (last_line g.K.Sink on.answered _ c.front.ensures)),
         ),
       ),
     )
@@ -143,7 +144,8 @@ returns-in-Err-Memory-clause-unanswered g c = λ is.
         subst (λ (fault : Unanswered).
             StoppedIn fault g.A.Answering.how c.args.client.now c.answer_last.new.client
             (g.K.Sink.written c.args.sink.now) (g.K.Sink.written c.answer_last.new.sink) (lines_of (read ++ last.0)))
-            c.in-Err-Memory.field-0-is (c.in-Err-Memory.ensures.stopped _ _ _ (last_line g.K.Sink on.answered _ c.front.ensures)),
+            c.in-Err-Memory.field-0-is
+            (c.in-Err-Memory.ensures.stopped _ _ _ (last_line g.K.Sink on.answered _ c.front.ensures)),
       ),
     )
 

@@ -23,7 +23,8 @@ returns-in-Some-Good-clause-part g c past first st =
     IsLineAnswered g.A.Answering.how (Some o) n c.args.line.now c.args.client.now c.answer_content.new.client
     c.answer_content.new.text.bytes) c.in-Some-Good.field-0-is (c.in-Some-Good.ensures.answered) in
     put_line_part g.A.Answering.how Good n c.args.line.now c.args.client.now c.answer_content.new.client
-    c.answer_content.new.text.bytes c.args.self.now.tally heard _ _ c.put_text.result c.put_text.ensures.part past first st
+    c.answer_content.new.text.bytes c.args.self.now.tally heard _ _ c.put_text.result c.put_text.ensures.part
+    past first st
 
 pub returns-in-Some-Refused-clause-answered : goal.returns-in-Some-Refused-clause-answered
 returns-in-Some-Refused-clause-answered g c past first st =

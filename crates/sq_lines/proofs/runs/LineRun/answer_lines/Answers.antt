@@ -21,8 +21,8 @@ lines-init g c = record {
   lasting = refl;
   number = omega arith;
   answered = λ start first read h.
-      subst₂ (λ front before. HasAnswered g.A.Answering.how start (HasPut g.K.Sink first c.args.sink.now) c.args.self.now
-      front c.args.client.now before)
+      subst₂ (λ front before. HasAnswered g.A.Answering.how start (HasPut g.K.Sink first c.args.sink.now)
+      c.args.self.now front c.args.client.now before)
       (part_is c.args.bytes.now c.args.first_begin 65 c.requires.begin) (sym (append-nil read)) h;
 }
 
@@ -63,8 +63,8 @@ lines-preserved g c =
           ∙ ap (λ n. take (n - 65) (drop 65 bytes)) far) in
           subst₂ (λ front l. HasAnswered g.A.Answering.how start (HasPut g.K.Sink first c.answer_line.new.sink)
           c.answer_line.new.self front c.answer_line.new.client l) (part_none bytes (at + place + 1)) all
-          (answered_feed g.K.Sink from c.answer_line.new.self c.answer_line.new.client c.answer_line.new.sink piece there
-          c.answer_line.ensures.number told);
+          (answered_feed g.K.Sink from c.answer_line.new.self c.answer_line.new.client c.answer_line.new.sink piece
+          there c.answer_line.ensures.number told);
     }
 
 pub returns-in_err-answer_line-clause-stopped : goal.returns-in_err-answer_line-clause-stopped

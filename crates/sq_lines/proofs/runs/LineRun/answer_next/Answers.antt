@@ -58,7 +58,8 @@ returns-in-Err-Write-clause-unwritten g c = λ is start first read h.
       subst₂ (λ (fault : Unanswered) (piece : List ℕ).
           StoppedIn fault g.A.Answering.how start c.answer_lines.new.client (g.K.Sink.written first)
           (g.K.Sink.written c.answer_lines.new.sink) (ended_lines (read ++ piece)))
-          c.in-Err-Write.field-0-is (piece_got old into count all) (c.in-Err-Write.ensures.stopped start first read held),
+          c.in-Err-Write.field-0-is (piece_got old into count all)
+          (c.in-Err-Write.ensures.stopped start first read held),
     )
 
 pub returns-in-Err-Memory-clause-unanswered : goal.returns-in-Err-Memory-clause-unanswered
