@@ -289,6 +289,7 @@ fn track_request<'a>(values: &ArgMatches<'a>) -> Request<'a>
     })
 }
 
+// What help says of arguments and options, some of which commands share.
 const FRAME: &str = "28 hexadecimal digits, bare or between '*' and ';'";
 
 const OLDER: &str = "The frame that came first: 28 hexadecimal digits, bare or between '*' and ';'";
