@@ -1,8 +1,8 @@
 //! Worked angles: limits, values, texts read and written, positions.
 use crate::rows::{read_angle, read_fraction, read_position};
 use sq_angle::laws::{equal_angles, equal_positions, is_below};
-use sq_digits::TextBuffer;
 use sq_angle::{Angle, AngleFault, Position, quotient};
+use sq_digits::TextBuffer;
 use std::process::Abort;
 
 #[test]

@@ -2,9 +2,9 @@
 //! `tests/worked/check.txt` and `tests/worked/track.txt`.
 use crate::faulty_devices::{End, get, room_of, sink_of, source_of, taken};
 use crate::outcomes::{assert_outcome, assert_reported, outcome_on, status_of};
-use sq_digits::TextBuffer;
 use sq_angle::Angle;
 use sq_commands::Status;
+use sq_digits::TextBuffer;
 use sq_message::{Me, Squitter};
 use sq_requests::{Request, TrackWords};
 use sq_rows::{

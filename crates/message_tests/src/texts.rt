@@ -2,7 +2,7 @@
 use sq_angle::{Angle, Position};
 use sq_message::{AirFields, Airborne, Code, Frame, FrameFault, Me, Parity, Squitter, write_frame};
 use sq_text::{
-    TextBuffer, LineFault, ShowText, TextFault, laws, place_text, push_decimal, push_hexadecimal,
+    LineFault, ShowText, TextBuffer, TextFault, laws, place_text, push_decimal, push_hexadecimal,
     push_summary, read_squitter, read_text, show_text,
 };
 use std::process::Abort;

@@ -6,7 +6,8 @@ use Rattle.std.specs.Ordering.{int_cmp, MatchOrdering}
 use Rattle.std.specs.declared.cmp.Ordering.{Ordering}
 use Rattle.std.specs.declared.cmp.Ordering.TheVariants.{Less, Equal, Greater}
 use Rattle.std.specs.Cmp.{int_ranks, int_cmp_is}
-use Rattle.std.proofs.Common.{ap, ◌∙◌, sym, arith, mul_comm, mul-le-mul_left, mul-lt-mul_of_pos_right, le_of_mul-le-mul_right, lt_of_mul-lt-mul_right}
+use Rattle.std.proofs.Common.{ap, ◌∙◌, sym, arith, mul_comm, mul-le-mul_left, mul-lt-mul_of_pos_right}
+use Rattle.std.proofs.Common.{le_of_mul-le-mul_right, lt_of_mul-lt-mul_right}
 use Rattle.std.proofs.lemmas.Int.{ints}
 use borrow.Author.Differences.{up, down, le_out, lt_out, at_most_in, below_in, sum_is_lem, neg_is, product_is}
 

@@ -30,7 +30,7 @@ impl Angle {
         Some(Angle { num, den })
     }
 
-    /// The angle of `num / den` degrees, which are known to be one: it is not tested again. The denominator is from 1 to
+    /// The angle of `num / den` degrees, which is known to be one and is not tested again: the denominator is from 1 to
     /// [`MAX_DENOMINATOR`], and the magnitude at most 360 degrees.
     #[inline(always)]
     pub fn known(num: i64, den: u64) -> Angle

@@ -6,7 +6,8 @@ ghost use Rattle.sq_angle.specs.Angle.{degrees};
 ghost use Rattle.sq_angle.specs.Decimal.{DecimalWriter};
 ghost use Rattle.sq_angle.specs.Fraction.{◌≃◌, ◌≺◌};
 ghost use Rattle.sq_angle.specs.Position.{HaveEqualAngles};
-ghost use Rattle.sq_angle.specs.Laws.{OneLowestForm, OneLowestFormOfAngles, OrderedByValue, WithinAsFractions, OneDecimal7, OneSpelling, OneReading};
+ghost use Rattle.sq_angle.specs.Laws.{OneLowestForm, OneLowestFormOfAngles, OrderedByValue, WithinAsFractions};
+ghost use Rattle.sq_angle.specs.Laws.{OneDecimal7, OneSpelling, OneReading};
 
 use crate::angle::Angle;
 use crate::position::Position;

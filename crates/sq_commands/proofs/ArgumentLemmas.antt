@@ -1,5 +1,6 @@
 -- Words that are no argument.
-use Rattle.std.proofs.Common.{◌≡◌, ◌+◌, ◌*◌, ◌<◌, ◌≤◌, ◌^◌, ℕ, ℤ, Bool, true, false, List, ◌∷◌, ◌++◌, length, Option, Some, None, Result, Ok, Err, MatchResult, IsSome, refl, sym, ◌∙◌, subst, arith, ap, ap₂}
+use Rattle.std.proofs.Common.{◌≡◌, ◌+◌, ◌*◌, ◌<◌, ◌≤◌, ◌^◌, ℕ, ℤ, Bool, true, false, List, ◌∷◌, ◌++◌, length, Option}
+use Rattle.std.proofs.Common.{Some, None, Result, Ok, Err, MatchResult, IsSome, refl, sym, ◌∙◌, subst, arith, ap, ap₂}
 use Rattle.std.specs.Prelude.{◌↔◌}
 use Rattle.std.proofs.Math.Nat.{pow-le-pow_right}
 use Rattle.sq_bits.proofs.Digits.{pow_byte}

@@ -1,10 +1,12 @@
 -- From a run of any lines to one of `check`.
-use Rattle.std.proofs.Common.{◌≡◌, ◌∙◌, ℕ, List, [], ◌∷◌, Option, Result, Ok, Err, IfOk, IfErr, OnOk, OnErr, ap, subst, refl, inl, inr, true, arith}
+use Rattle.std.proofs.Common.{◌≡◌, ◌∙◌, ℕ, List, [], ◌∷◌, Option, Result, Ok, Err, IfOk, IfErr, OnOk, OnErr, ap, subst}
+use Rattle.std.proofs.Common.{refl, inl, inr, true, arith}
 use Rattle.std.proofs.KnownBytes.{Consumes-nil}
 use Rattle.std.specs.Prelude.{map}
 use Rattle.std.specs.Io.KnownBytes.{Appends}
 use Rattle.std.specs.List.{concat}
-use Rattle.sq_devices.specs.Changes.{FinishedOnce, Sent, Taken, TookAll, TookPart, TookReported, TookSome, Unfinished, Written, taken_from}
+use Rattle.sq_devices.specs.Changes.{FinishedOnce, Sent, Taken, TookAll, TookPart, TookReported, TookSome, Unfinished}
+use Rattle.sq_devices.specs.Changes.{Written, taken_from}
 use Rattle.sq_devices.specs.declared.device.Source.{Ghosts as SourceGhosts}
 use Rattle.sq_devices.specs.Device.{WroteFront}
 use Rattle.sq_message.specs.declared.squitter.Squitter.{Squitter}

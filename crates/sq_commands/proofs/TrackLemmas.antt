@@ -1,10 +1,13 @@
 -- What is answered to the lines of a log.
-use Rattle.std.proofs.Common.{◌≡◌, ◌≢◌, ◌++◌, ◌∙◌, ◌-◌, Bool, Bor, MutBor, false, ◌∷◌, [], ℕ, zero, suc, List, None, Some, Result, Ok, Err, IfErr, IfOk, OnErr, OnOk, length, take, ap, sym, subst, subst₂, refl, inl, inr, arith, true}
+use Rattle.std.proofs.Common.{◌≡◌, ◌≢◌, ◌++◌, ◌∙◌, ◌-◌, Bool, Bor, MutBor, false, ◌∷◌, [], ℕ, zero, suc, List, None}
+use Rattle.std.proofs.Common.{Some, Result, Ok, Err, IfErr, IfOk, OnErr, OnOk, length, take, ap, sym, subst, subst₂}
+use Rattle.std.proofs.Common.{refl, inl, inr, arith, true}
 use Rattle.std.proofs.KnownBytes.{Consumes-nil}
 use Rattle.std.proofs.lemmas.Bool.{false≢true}
 use Rattle.std.specs.Io.KnownBytes.{Appends}
 use Rattle.std.specs.List.{concat}
-use Rattle.sq_devices.specs.Changes.{FinishedOnce, Sent, Taken, TookAll, TookPart, TookReported, TookSome, Unfinished, Written, Wrote, taken_from}
+use Rattle.sq_devices.specs.Changes.{FinishedOnce, Sent, Taken, TookAll, TookPart, TookReported, TookSome, Unfinished}
+use Rattle.sq_devices.specs.Changes.{Written, Wrote, taken_from}
 use Rattle.sq_devices.specs.declared.device.Source.{Ghosts as SourceGhosts}
 use Rattle.sq_devices.specs.Device.{IsPrefixOf, WroteFront}
 use Rattle.sq_devices.proofs.Ends.{took_reported}
@@ -12,7 +15,8 @@ use Rattle.sq_text.specs.declared.faults.LineFault.{LineFault}
 use Rattle.sq_text.specs.declared.timed.TimedSquitter.{TimedSquitter}
 use Rattle.sq_text.specs.Timed.{IsTimedReading, TimedReader}
 use Rattle.sq_text.proofs.TimedReadings.{one_timed_reading}
-use Rattle.sq_lines.specs.Answers.{Answerer, Manner, after_content, after_line, answer_line, answers_to, past_after, tally_of, texts_of}
+use Rattle.sq_lines.specs.Answers.{Answerer, Manner, after_content, after_line, answer_line, answers_to, past_after}
+use Rattle.sq_lines.specs.Answers.{tally_of, texts_of}
 use Rattle.sq_lines.specs.Outcomes.{HasHeardText, IsTextAnswered, outcome_of}
 use Rattle.sq_lines.specs.declared.faults.Outcome.{Outcome}
 use Rattle.sq_lines.specs.declared.faults.Outcome.TheVariants.{Good, Refused, NoMemory}
@@ -37,7 +41,9 @@ use Rattle.sq_commands.specs.Heard.{HeardSquitter}
 use Rattle.sq_commands.proofs.Headers.{IsAfter, front_of_header, prefix_after}
 use Rattle.sq_commands.specs.declared.track.Hearing.{Hearing}
 use Rattle.sq_commands.specs.Track.{HasTracked, IsTracked, hearing_manner}
-use Rattle.sq_commands.specs.Tracking.{AreHeardLines, HasHeard, IsHeardAs, IsHeardLine, IsNewPosition, IsTracking, IsWelcome, Replier, Tracking, WroteIntoLast, answer_read, found_of, past_read, past_with, reply_by, track_manner, track_way}
+use Rattle.sq_commands.specs.Tracking.{AreHeardLines, HasHeard, IsHeardAs, IsHeardLine, IsNewPosition, IsTracking}
+use Rattle.sq_commands.specs.Tracking.{IsWelcome, Replier, Tracking, WroteIntoLast, answer_read, found_of, past_read}
+use Rattle.sq_commands.specs.Tracking.{past_with, reply_by, track_manner, track_way}
 
 history_with : (past : Tracking) (timed : TimedSquitter) (reply : Result Heard TrackFault)
     (is : IsReply past.settings past.history timed.moment timed.squitter reply)

@@ -1,5 +1,6 @@
 -- The arguments of the commands, as their words spell them.
-use Rattle.std.specs.Prelude.{◌≡◌, ◌⊎◌, ⊤, ℕ, ◌≤◌, ◌++◌, ℤ, Bool, List, Option, None, Some, Result, Ok, Err, MatchResult, length, codes}
+use Rattle.std.specs.Prelude.{◌≡◌, ◌⊎◌, ⊤, ℕ, ◌≤◌, ◌++◌, ℤ, Bool, List, Option, None, Some, Result, Ok, Err}
+use Rattle.std.specs.Prelude.{MatchResult, length, codes}
 use Rattle.std.specs.Char.{IsAsciiDigit}
 use Rattle.std.specs.Int.Digits.{number_from_digits}
 use Rattle.std.specs.List.{AllByRecursion}

@@ -1,7 +1,9 @@
 -- What a run that broke off did, in the words of its devices.
-use Rattle.std.specs.Prelude.{◌≡◌, ◌≢◌, ◌==◌, ◌⊎◌, ◌-◌, ◌≤◌, ◌++◌, ◌∷◌, [], ℕ, List, Option, None, codes, find, length, take, true}
+use Rattle.std.specs.Prelude.{◌≡◌, ◌≢◌, ◌==◌, ◌⊎◌, ◌-◌, ◌≤◌, ◌++◌, ◌∷◌, [], ℕ, List, Option, None, codes, find, length}
+use Rattle.std.specs.Prelude.{take, true}
 use Rattle.std.specs.Io.KnownBytes.{Appends, IsAtEnd}
-use Rattle.sq_devices.specs.Changes.{TookNothing, TookPart, TookSome, WroteNothing, WroteOrFailed, taken_from, written_on}
+use Rattle.sq_devices.specs.Changes.{TookNothing, TookPart, TookSome, WroteNothing, WroteOrFailed, taken_from}
+use Rattle.sq_devices.specs.Changes.{written_on}
 use Rattle.sq_devices.specs.Device.{AppendsOrHides, IsPrefixOf, WroteFront}
 use Rattle.sq_devices.specs.declared.device.Sink.{Ghosts as SinkGhosts}
 use Rattle.sq_devices.specs.declared.device.Source.{Ghosts as SourceGhosts}

@@ -1,6 +1,7 @@
 -- What `check` does.
 use Rattle.std.specs.Prelude.{◌≡◌, ◌==◌, ◌⊎◌, ℕ, List, Option, Result, Ok, Err, MatchResult, map, if◌then◌else◌}
-use Rattle.sq_devices.specs.Changes.{FailedWithin, FinishedOnce, Sent, Taken, TookAll, TookNothing, TookPart, TookSome, Unfinished, Written, Wrote, WroteNothing}
+use Rattle.sq_devices.specs.Changes.{FailedWithin, FinishedOnce, Sent, Taken, TookAll, TookNothing, TookPart, TookSome}
+use Rattle.sq_devices.specs.Changes.{Unfinished, Written, Wrote, WroteNothing}
 use Rattle.sq_message.specs.declared.squitter.Squitter.{Squitter}
 use Rattle.sq_text.specs.Reading.{SquitterReader}
 use Rattle.sq_lines.specs.Content.{answer_by}

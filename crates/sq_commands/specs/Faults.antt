@@ -4,7 +4,8 @@ use Rattle.sq_angle.specs.Faults.{angle_fault_text}
 use Rattle.sq_track.specs.Faults.{track_fault_text}
 use Rattle.sq_track.specs.declared.heard.TrackFault.TheVariants as tracks
 use Rattle.sq_commands.specs.declared.arguments.ArgumentFault.{ArgumentFault}
-use Rattle.sq_commands.specs.declared.arguments.ArgumentFault.TheVariants.{Format, Kind, Parity, Address, Feet, Limit, NoLimit, Window, Site, Lat, Lon}
+use Rattle.sq_commands.specs.declared.arguments.ArgumentFault.TheVariants.{Format, Kind, Parity, Address, Feet, Limit}
+use Rattle.sq_commands.specs.declared.arguments.ArgumentFault.TheVariants.{NoLimit, Window, Site, Lat, Lon}
 use Rattle.sq_commands.specs.declared.status.Status.{Status}
 use Rattle.sq_commands.specs.declared.status.Status.TheVariants.{Misused}
 use Rattle.sq_commands.specs.Outputs.{Outputs, IsReport}

@@ -2,7 +2,8 @@
 use Rattle.std.specs.Prelude.{◌≡◌, ◌++◌, ℕ, List, codes}
 use Rattle.sq_devices.specs.declared.device.Sink.{Ghosts as SinkGhosts}
 use Rattle.sq_devices.specs.declared.device.Source.{Ghosts as SourceGhosts}
-use Rattle.sq_devices.specs.Changes.{FailedWithin, Taken, WroteLast, WroteNothing, WroteOrFailed, Written, taken_from, written_on}
+use Rattle.sq_devices.specs.Changes.{FailedWithin, Taken, WroteLast, WroteNothing, WroteOrFailed, Written, taken_from}
+use Rattle.sq_devices.specs.Changes.{written_on}
 use Rattle.sq_lines.specs.declared.faults.RunFault.{RunFault}
 use Rattle.sq_lines.specs.declared.faults.RunFault.TheVariants as faults
 use Rattle.sq_commands.specs.declared.status.Status.{Status}

@@ -1,6 +1,8 @@
 -- What `track` does.
-use Rattle.std.specs.Prelude.{◌≡◌, ◌≤◌, ◌<◌, ◌^◌, ◌⊎◌, ℕ, List, [], Option, None, Some, Result, Ok, Err, MatchResult, length, true}
-use Rattle.sq_devices.specs.Changes.{FinishedOnce, Sent, Taken, TookAll, TookNothing, TookPart, TookSome, Unfinished, Written, Wrote, WroteNothing}
+use Rattle.std.specs.Prelude.{◌≡◌, ◌≤◌, ◌<◌, ◌^◌, ◌⊎◌, ℕ, List, [], Option, None, Some, Result, Ok, Err, MatchResult}
+use Rattle.std.specs.Prelude.{length, true}
+use Rattle.sq_devices.specs.Changes.{FinishedOnce, Sent, Taken, TookAll, TookNothing, TookPart, TookSome, Unfinished}
+use Rattle.sq_devices.specs.Changes.{Written, Wrote, WroteNothing}
 use Rattle.sq_devices.specs.Device.{IsPrefixOf}
 use Rattle.sq_text.specs.Timed.{IsDecimalText}
 use Rattle.sq_lines.specs.Answers.{Manner, WantsAt, tally_of}

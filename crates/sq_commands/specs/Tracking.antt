@@ -1,5 +1,6 @@
 -- What is answered to the lines of a log, each by the squitters that were heard before it.
-use Rattle.std.specs.Prelude.{◌≡◌, ◌≢◌, ◌≤◌, ◌==◌, ℕ, List, [], ◌∷◌, find, length, take, ◌-◌, None, Some, Result, Ok, Err}
+use Rattle.std.specs.Prelude.{◌≡◌, ◌≢◌, ◌≤◌, ◌==◌, ℕ, List, [], ◌∷◌, find, length, take, ◌-◌, None, Some, Result, Ok}
+use Rattle.std.specs.Prelude.{Err}
 use Rattle.sq_devices.specs.Changes.{Written}
 use Rattle.sq_devices.specs.Device.{AppendsOrHides, IsPrefixOf}
 use Rattle.sq_message.specs.declared.squitter.Squitter.{Squitter}

@@ -1,5 +1,6 @@
 //! The arguments of the commands, read from their words.
-ghost use Rattle.std.specs.Prelude.{◌≡◌, ◌≢◌, ◌+◌, ◌≤◌, ◌<◌, ◌^◌, ◌++◌, ◌∷◌, List, ℤ, ℕ, IfErr, IfOk, IfSome, OnErr, length, option_copied, MatchOption, Some};
+ghost use Rattle.std.specs.Prelude.{◌≡◌, ◌≢◌, ◌+◌, ◌≤◌, ◌<◌, ◌^◌, ◌++◌, ◌∷◌, List, ℤ, ℕ, IfErr, IfOk, IfSome, OnErr};
+ghost use Rattle.std.specs.Prelude.{length, option_copied, MatchOption, Some};
 ghost use Rattle.std.specs.Bool.{OnFalse};
 ghost use Rattle.std.specs.Char.{IsAsciiDigit};
 ghost use Rattle.std.specs.Int.Digits.{number_from_digits};
@@ -21,12 +22,13 @@ ghost use Rattle.sq_commands.specs.declared.formats.Format.{Format};
 ghost use Rattle.sq_commands.specs.Encode.{IsAltitudeOf};
 ghost use Rattle.sq_commands.specs.Formats.{IsFormatWord, format_name};
 ghost use Rattle.sq_commands.specs.Faults.{argument_text};
-ghost use Rattle.sq_commands.specs.Arguments.{IsAddress, IsAngleFault, IsFeet, IsFeetText, IsFiveDigits, IsPositionReading, IsSiteReading, kind_name};
+ghost use Rattle.sq_commands.specs.Arguments.{IsAddress, IsAngleFault, IsFeet, IsFeetText, IsFiveDigits};
+ghost use Rattle.sq_commands.specs.Arguments.{IsPositionReading, IsSiteReading, kind_name};
 ghost use Rattle.sq_commands.specs.Track.{IsLimit, IsTrackReading, IsWindow};
 
 use crate::formats::Format;
-use sq_digits::TextBuffer;
 use sq_angle::{Angle, AngleFault, Position};
+use sq_digits::TextBuffer;
 use sq_message::{Parity, field_of_feet};
 use sq_requests::TrackWords;
 use sq_text::read_decimal;

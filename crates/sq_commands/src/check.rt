@@ -2,7 +2,8 @@
 ghost use Rattle.std.specs.Prelude.{◌≡◌, IfOk, option_copied};
 ghost use Rattle.sq_devices.specs.Changes.{TookReported, taken_from, written_on};
 ghost use Rattle.sq_message.specs.declared.squitter.Squitter.{Squitter};
-ghost use Rattle.sq_commands.specs.Check.{Checks, HasChecked, IsCheckRun, IsCheckRunIn, IsChecked, check_manner, status_of};
+ghost use Rattle.sq_commands.specs.Check.{Checks, HasChecked, IsCheckRun, IsCheckRunIn, IsChecked, check_manner};
+ghost use Rattle.sq_commands.specs.Check.{status_of};
 ghost use Rattle.sq_commands.specs.Outputs.{effects, outputs};
 ghost use Rattle.sq_commands.specs.Squitters.{squitter_lines, squitter_telling};
 

@@ -9,7 +9,8 @@ ghost use Rattle.sq_rows.specs.Squitters.{bit_cell, feet_cell};
 ghost use Rattle.sq_digits.specs.Digits.{hexadecimal};
 ghost use Rattle.sq_text.specs.Show.{parity_name};
 ghost use Rattle.sq_commands.specs.Formats.{Writers};
-ghost use Rattle.sq_commands.specs.Squitters.{air_row, ground_row, message_row, message_text, no_message, other_row, squitter_row_text};
+ghost use Rattle.sq_commands.specs.Squitters.{air_row, ground_row, message_row, message_text, no_message, other_row};
+ghost use Rattle.sq_commands.specs.Squitters.{squitter_row_text};
 
 use sq_lines::LineText;
 use sq_message::{Airborne, Code, Me, Other, Parity, Squitter, Surface};

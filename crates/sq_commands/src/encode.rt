@@ -2,7 +2,8 @@
 ghost use Rattle.std.specs.Prelude.{◌≡◌, ◌≤◌, ◌<◌, ◌^◌, ◌++◌, ◌⊎◌, codes, length, IfSome};
 ghost use Rattle.sq_message.specs.Heads.{air_head_parts, ground_head_parts};
 ghost use Rattle.sq_requests.specs.Requests.{asked_encode};
-ghost use Rattle.sq_commands.specs.Encode.{IsAirFrame, IsAirHead, IsEncodeReading, IsEncodeRun, IsGroundFrame, IsGroundHead};
+ghost use Rattle.sq_commands.specs.Encode.{IsAirFrame, IsAirHead, IsEncodeReading, IsEncodeRun, IsGroundFrame};
+ghost use Rattle.sq_commands.specs.Encode.{IsGroundHead};
 ghost use Rattle.sq_commands.specs.Encode.{frame_line as line_of};
 ghost use Rattle.sq_commands.specs.Outputs.{IsAnswer, IsOutOfMemory, outputs};
 
@@ -11,10 +12,10 @@ use crate::arguments::{
 };
 use crate::reports::{break_off, report_argument, write_text};
 use crate::status::Status;
-use sq_digits::TextBuffer;
 use sq_angle::Position;
 use sq_bits::laws::each_frame;
 use sq_devices::Sink;
+use sq_digits::TextBuffer;
 use sq_lines::RunFault;
 use sq_message::{
     AirFields, AirHead, Frame, GroundFields, GroundHead, Parity, send_air, send_ground, write_frame,

@@ -9,8 +9,8 @@ ghost use Rattle.sq_commands.specs.Outputs.{IsAnswer, broken_text, outputs};
 
 use crate::arguments::ArgumentFault;
 use crate::status::Status;
-use sq_digits::TextBuffer;
 use sq_devices::{Failed, Sink, put_last};
+use sq_digits::TextBuffer;
 use sq_lines::RunFault;
 use sq_message::{Place, PlaceFault};
 use sq_text::{LineFault, place_text, push_fault, push_place_fault};

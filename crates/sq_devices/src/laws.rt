@@ -3,8 +3,10 @@ ghost use Rattle.std.specs.Prelude.{◌≡◌, ◌↔◌, ◌⊎◌, ◌+◌, �
 ghost use Rattle.std.specs.List.{All, concat};
 ghost use Rattle.std.specs.Io.KnownBytes.{Appends, Consumes, IsAtEnd, Keeps};
 ghost use Rattle.sq_devices.specs.Calls.{Calls, HasPut, HasSent};
-ghost use Rattle.sq_devices.specs.Changes.{FailedWithin, FinishedOnce, Sent, Unfinished, Wrote, WroteLast, WroteNothing};
-ghost use Rattle.sq_devices.specs.Changes.{GotAtMost, GotUpToEnd, TookAll, TookNothing, TookPart, TookReported, TookSome};
+ghost use Rattle.sq_devices.specs.Changes.{FailedWithin, FinishedOnce, Sent, Unfinished, Wrote, WroteLast};
+ghost use Rattle.sq_devices.specs.Changes.{WroteNothing};
+ghost use Rattle.sq_devices.specs.Changes.{GotAtMost, GotUpToEnd, TookAll, TookNothing, TookPart, TookReported};
+ghost use Rattle.sq_devices.specs.Changes.{TookSome};
 ghost use Rattle.sq_devices.specs.Changes.{WroteOrFailed, taken_from, written_on};
 ghost use Rattle.sq_devices.specs.Device.{AppendsOrHides, ConsumesOrHides, IsPrefixOf, KeepsOrHides, WroteFront};
 ghost use Rattle.sq_devices.specs.declared.readers.Reading.{Reading};

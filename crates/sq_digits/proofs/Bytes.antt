@@ -1,5 +1,6 @@
 -- The table of two hexadecimal digits each, and what is read of it.
-use Rattle.std.proofs.Common.{◌≡◌, ℕ, ◌*◌, ◌/◌, ◌%◌, ◌<◌, ◌^◌, true, List, [], ◌∷◌, ◌++◌, map, take, drop, get_or, bit_and, refl, sym, ap, ap₂, ◌∙◌, arith}
+use Rattle.std.proofs.Common.{◌≡◌, ℕ, ◌*◌, ◌/◌, ◌%◌, ◌<◌, ◌^◌, true, List, [], ◌∷◌, ◌++◌, map, take, drop, get_or}
+use Rattle.std.proofs.Common.{bit_and, refl, sym, ap, ap₂, ◌∙◌, arith}
 use Rattle.std.proofs.lemmas.List.FromFn.{get_or-map-range_with_len}
 use Rattle.std.proofs.lemmas.Nat.{and_mask}
 use Rattle.std.specs.Fmt.{digit_glyph}
@@ -8,6 +9,7 @@ use Rattle.std.specs.Str.{IsAscii}
 use Rattle.sq_digits.specs.Digits.{hexadecimal}
 use Rattle.sq_digits.specs.declared.hexadecimal.TheConstants.{BYTES}
 use Rattle.sq_digits.proofs.Ascii.{ascii_from}
+
 -- the bytes of the two digits of a byte
 abbrev pub two_at : ℕ → List ℕ
 two_at n = take 2 (drop (2 * n) BYTES.now)

@@ -1,5 +1,6 @@
 -- Stores behind the front of a list.
-use Rattle.std.proofs.Common.{◌≡◌, ℕ, ◌+◌, ◌<◌, ◌≤◌, List, [], ◌∷◌, ◌++◌, length, take, set, get_or, ap, sym, ◌∙◌, subst, arith, append_assoc, length-take-le}
+use Rattle.std.proofs.Common.{◌≡◌, ℕ, ◌+◌, ◌<◌, ◌≤◌, List, [], ◌∷◌, ◌++◌, length, take, set, get_or, ap, sym, ◌∙◌}
+use Rattle.std.proofs.Common.{subst, arith, append_assoc, length-take-le}
 use Rattle.std.proofs.Math.Seq.{take-append-add}
 use Rattle.std.proofs.lemmas.List.{take_more, take_more_set, take-take}
 
@@ -11,10 +12,10 @@ copied_more cells old source start at room within before =
     let e : start + at + 1 ≡ start + (at + 1) = omega arith in
     let byte : ℕ = get_or source at 0 in
     subst (λ n. take n (set cells (start + at) byte) ≡ take start old ++ take (at + 1) source) e (
-      take_more_set cells (start + at) byte room
-      ∙ ap (λ t. t ++ byte ∷ []) before
-      ∙ append_assoc (take start old) (take at source) (byte ∷ [])
-      ∙ ap (λ t. take start old ++ t) (sym (take_more source at 0 within))
+    take_more_set cells (start + at) byte room
+    ∙ ap (λ t. t ++ byte ∷ []) before
+    ∙ append_assoc (take start old) (take at source) (byte ∷ [])
+    ∙ ap (λ t. take start old ++ t) (sym (take_more source at 0 within))
     )
 
 -- what was stored up to a place within the source

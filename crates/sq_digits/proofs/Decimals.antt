@@ -1,5 +1,6 @@
 -- The decimals of numbers of up to three digits.
-use Rattle.std.proofs.Common.{◌≡◌, ℕ, ◌+◌, ◌/◌, ◌%◌, ◌<◌, ◌≤◌, ◌^◌, [], ◌∷◌, ◌++◌, decimal, arith, ap, ap₂, ◌∙◌, refl, append_assoc}
+use Rattle.std.proofs.Common.{◌≡◌, ℕ, ◌+◌, ◌/◌, ◌%◌, ◌<◌, ◌≤◌, ◌^◌, [], ◌∷◌, ◌++◌, decimal, arith, ap, ap₂, ◌∙◌, refl}
+use Rattle.std.proofs.Common.{append_assoc}
 use Rattle.std.proofs.lemmas.Fmt.{decimal_digit, decimal_step}
 use Rattle.sq_digits.specs.Digits.{fixed_digits}
 
@@ -21,7 +22,6 @@ decimal_three n h k =
     decimal_step n (omega arith) (omega arith)
     ∙ ap (λ ds. ds ++ (48 + n % 10) ∷ []) (decimal_two (n / 10) tens tens')
     ∙ ap (λ q. (48 + q) ∷ (48 + n / 10 % 10) ∷ (48 + n % 10) ∷ []) first
-
 
 -- the lowest three places of a number depend on its remainder by 1000 alone
 three_of : (n : ℕ) → fixed_digits 3 (n % 1000) ≡ fixed_digits 3 n

@@ -1,5 +1,6 @@
 -- The table of three digits each, and what is read of it.
-use Rattle.std.proofs.Common.{◌≡◌, ℕ, ◌+◌, ◌-◌, ◌*◌, ◌/◌, ◌%◌, ◌<◌, List, [], ◌∷◌, Bool, if◌then◌else◌, inl, inr, true, false, map, take, drop, get_or, nat_lt, decimal, refl, sym, ap, ◌∙◌, arith}
+use Rattle.std.proofs.Common.{◌≡◌, ℕ, ◌+◌, ◌-◌, ◌*◌, ◌/◌, ◌%◌, ◌<◌, List, [], ◌∷◌, Bool, if◌then◌else◌, inl, inr, true}
+use Rattle.std.proofs.Common.{false, map, take, drop, get_or, nat_lt, decimal, refl, sym, ap, ◌∙◌, arith}
 use Rattle.std.proofs.lemmas.Bool.{cases_lt, le-ltb, lt-ltb}
 use Rattle.std.proofs.lemmas.List.FromFn.{get_or-map-range_with_len}
 use Rattle.std.specs.List.{range_with_len}
@@ -55,9 +56,9 @@ short_decimal : (n : ℕ) → n < 1000 → short_digits n ≡ decimal n
 short_decimal n small = elim (cases_lt n 10) [
   | inl one ↦ rw (lt-ltb n 10 one, decimal_one n one) (one_digit n one)
   | inr more ↦ elim (cases_lt n 100) [
-      | inl two ↦ rw (le-ltb n 10 more, lt-ltb n 100 two, decimal_two n more two) (two_digits n two)
-      | inr most ↦ rw (le-ltb n 10 more, le-ltb n 100 most, decimal_three n most small) (three_digits n small)
-    ]
+    | inl two ↦ rw (le-ltb n 10 more, lt-ltb n 100 two, decimal_two n more two) (two_digits n two)
+    | inr most ↦ rw (le-ltb n 10 more, le-ltb n 100 most, decimal_three n most small) (three_digits n small)
+  ]
 ]
 
 pub leading_is : (n : ℕ) → n < 1000 → leading_at n ≡ decimal n

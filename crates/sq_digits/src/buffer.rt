@@ -8,8 +8,8 @@ use std::str;
 
 /// A text of at most `N` bytes, which lie in the value itself.
 ///
-/// Unlike `ArrayString` it is appended to by stores: bytes behind the text may be overwritten, and few bytes at once are
-/// one word.
+/// Unlike `ArrayString` it is appended to by stores: bytes behind the text may be overwritten, and a few bytes at once
+/// are one word.
 #[derive(Clone, Copy)]
 pub struct TextBuffer<const N: usize> {
     cells: [u8; N],

@@ -1,5 +1,6 @@
 -- From the parts of a run to the whole of it.
-use Rattle.std.proofs.Common.{◌≡◌, ◌+◌, ◌<◌, ◌≤◌, ◌++◌, ◌∙◌, ℕ, List, [], ◌∷◌, Option, None, Some, length, ap, append-nil, arith, refl, sym, subst}
+use Rattle.std.proofs.Common.{◌≡◌, ◌+◌, ◌<◌, ◌≤◌, ◌++◌, ◌∙◌, ℕ, List, [], ◌∷◌, Option, None, Some, length, ap}
+use Rattle.std.proofs.Common.{append-nil, arith, refl, sym, subst}
 use Rattle.std.specs.Io.KnownBytes.{Consumes}
 use Rattle.std.specs.List.{concat}
 use Rattle.std.proofs.KnownBytes.{Consumes-trans}

@@ -1,5 +1,6 @@
 -- An input is cut into lines in one way, and from the front.
-use Rattle.std.proofs.Common.{◌≡◌, ◌-◌, ◌++◌, ◌∙◌, inl, inr, ℕ, false, List, [], ◌∷◌, length, take, get_or, ap, sym, subst, arith, refl, append_assoc, append-nil}
+use Rattle.std.proofs.Common.{◌≡◌, ◌-◌, ◌++◌, ◌∙◌, inl, inr, ℕ, false, List, [], ◌∷◌, length, take, get_or, ap, sym}
+use Rattle.std.proofs.Common.{subst, arith, refl, append_assoc, append-nil}
 use Rattle.std.specs.List.{All, flat_map, slice_split}
 use Rattle.std.proofs.lemmas.List.{length_push, take_at, get_or_push}
 use Rattle.std.proofs.lemmas.List.Elements.{All-head, All-tail, All-nil, All-cons, All-push, All-append}

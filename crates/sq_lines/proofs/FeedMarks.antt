@@ -1,5 +1,7 @@
 -- Masks whose bits mark the line feeds of a piece.
-use Rattle.std.proofs.Common.{◌≡◌, ◌+◌, ◌/◌, ◌%◌, ◌^◌, ◌<◌, ◌≤◌, ◌∙◌, inl, inr, ℕ, Bool, true, false, cond, eqb, List, length, take, drop, get_or, map, min, refl, sym, ap, subst, arith, w64, eq-zero-or-pos, shr-shr}
+use Rattle.std.proofs.Common.{◌≡◌, ◌+◌, ◌/◌, ◌%◌, ◌^◌, ◌<◌, ◌≤◌, ◌∙◌, inl, inr, ℕ, Bool, true, false, cond, eqb, List}
+use Rattle.std.proofs.Common.{length, take, drop, get_or, map, min, refl, sym, ap, subst, arith, w64, eq-zero-or-pos}
+use Rattle.std.proofs.Common.{shr-shr}
 use Rattle.std.specs.Int.{bit_at, trailing_zeros}
 use Rattle.std.specs.Int.Count.{count_trailing_zeros}
 use Rattle.std.specs.List.{position_or_len}

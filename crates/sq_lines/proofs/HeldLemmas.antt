@@ -1,5 +1,6 @@
 -- What a cutter holds after more bytes of its line.
-use Rattle.std.proofs.Common.{◌≡◌, ◌+◌, ◌-◌, ◌<◌, ◌≤◌, ◌++◌, ◌∙◌, inl, inr, ℕ, true, List, [], ◌∷◌, length, take, ap, sym, subst, arith, append-nil, length-append, length-take-le}
+use Rattle.std.proofs.Common.{◌≡◌, ◌+◌, ◌-◌, ◌<◌, ◌≤◌, ◌++◌, ◌∙◌, inl, inr, ℕ, true, List, [], ◌∷◌, length, take, ap}
+use Rattle.std.proofs.Common.{sym, subst, arith, append-nil, length-append, length-take-le}
 use Rattle.std.proofs.lemmas.List.{take_all, take-append-le}
 use Rattle.std.proofs.Math.Seq.{take-append-add}
 use Rattle.std.proofs.lemmas.Bool.{cases_lt, lt-ltb, le-ltb}

@@ -1,5 +1,6 @@
 -- An input that comes in pieces has the same lines.
-use Rattle.std.proofs.Common.{◌≡◌, ◌++◌, ◌∙◌, ℕ, suc, Bool, true, false, List, [], ◌∷◌, length, take, map, ap, ap₂, refl, sym, subst, arith, append_assoc, append-nil}
+use Rattle.std.proofs.Common.{◌≡◌, ◌++◌, ◌∙◌, ℕ, suc, Bool, true, false, List, [], ◌∷◌, length, take, map, ap, ap₂}
+use Rattle.std.proofs.Common.{refl, sym, subst, arith, append_assoc, append-nil}
 use Rattle.std.specs.Prelude.{◌+◌, ◌==◌, MatchBool, if◌then◌else◌}
 use Rattle.std.specs.List.{All, before_first, flat_map, position_or_len}
 use Rattle.std.proofs.lemmas.Bool.{ltb-true, ltb-false, ne_eqb}

@@ -1,5 +1,7 @@
 -- What a run has answered after one more part of the input.
-use Rattle.std.proofs.Common.{◌≡◌, ◌+◌, ◌<◌, ◌≤◌, ◌++◌, ◌∙◌, ℕ, Bool, List, [], ◌∷◌, Option, None, Some, Result, Ok, Err, OnOk, IfErr, length, take, drop, ap, sym, subst, arith, refl, append_assoc, take-append-drop, append-nil, ap₂, cond, inl}
+use Rattle.std.proofs.Common.{◌≡◌, ◌+◌, ◌<◌, ◌≤◌, ◌++◌, ◌∙◌, ℕ, Bool, List, [], ◌∷◌, Option, None, Some, Result, Ok}
+use Rattle.std.proofs.Common.{Err, OnOk, IfErr, length, take, drop, ap, sym, subst, arith, refl, append_assoc}
+use Rattle.std.proofs.Common.{take-append-drop, append-nil, ap₂, cond, inl}
 use Rattle.std.proofs.lemmas.Bool.{eq-eqb, ne_eqb}
 use Rattle.std.proofs.lemmas.List.{length_push}
 use Rattle.std.specs.List.{position_or_len, before_first}
@@ -11,16 +13,19 @@ use Rattle.sq_devices.specs.declared.device.Sink.{Ghosts as SinkGhosts}
 use Rattle.sq_lines.specs.Lines.{is_feed, HasNoFeed, Cuts, ended_lines, lines_of, as_last_line}
 use Rattle.sq_lines.specs.Content.{Content, answer_content, content}
 use Rattle.sq_lines.specs.Held.{IsHeldAs}
-use Rattle.sq_lines.specs.Answers.{answers_to, Manner, WantsAt, after_content, after_line, answer_line, past_after, answer_text, output_of, tally_of, noted}
+use Rattle.sq_lines.specs.Answers.{answers_to, Manner, WantsAt, after_content, after_line, answer_line, past_after}
+use Rattle.sq_lines.specs.Answers.{answer_text, output_of, tally_of, noted}
 use Rattle.sq_lines.specs.Runs.{HasAnswered, HasTold, HasToldPart, StoppedIn}
 use Rattle.sq_lines.specs.declared.faults.Unanswered.{Unanswered}
 use Rattle.sq_lines.specs.declared.faults.Unanswered.TheVariants.{Write, Memory}
 use Rattle.sq_lines.specs.declared.runs.LineRun.{LineRun}
 use Rattle.sq_lines.specs.declared.tallies.Tally.{Tally}
 use Rattle.sq_lines.proofs.Feeds.{through_first, all_before, before_has_none}
-use Rattle.sq_lines.proofs.Cutting.{cuts_nothing, cuts_more, cuts_ended, ended_lines-cut, last_part-cut, ended_lines-append}
+use Rattle.sq_lines.proofs.Cutting.{cuts_nothing, cuts_more, cuts_ended, ended_lines-cut, last_part-cut}
+use Rattle.sq_lines.proofs.Cutting.{ended_lines-append}
 use Rattle.sq_lines.proofs.Fronts.{held_by, held_on, same_content}
-use Rattle.sq_lines.proofs.Tallying.{past_push, output_push, output_none, output_but_last, but_last-push, tally_push, tally_nothing}
+use Rattle.sq_lines.proofs.Tallying.{past_push, output_push, output_none, output_but_last, but_last-push, tally_push}
+use Rattle.sq_lines.proofs.Tallying.{tally_nothing}
 
 -- ---- fronts
 

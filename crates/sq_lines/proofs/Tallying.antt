@@ -1,12 +1,14 @@
 -- One more line in the output and in the tally.
-use Rattle.std.proofs.Common.{◌≡◌, ◌+◌, ◌-◌, ◌++◌, ◌∙◌, ℕ, Bool, List, [], ◌∷◌, None, Some, Ok, Err, length, take, drop, ap, ap₂, sym, arith, refl, cond, append-nil, take-append-drop}
+use Rattle.std.proofs.Common.{◌≡◌, ◌+◌, ◌-◌, ◌++◌, ◌∙◌, ℕ, Bool, List, [], ◌∷◌, None, Some, Ok, Err, length, take, drop}
+use Rattle.std.proofs.Common.{ap, ap₂, sym, arith, refl, cond, append-nil, take-append-drop}
 use Rattle.std.specs.Prelude.{count_by}
 use Rattle.std.specs.List.{flat_map, enumerate_from}
 use Rattle.std.proofs.lemmas.List.{take_at, length_push}
 use Rattle.std.proofs.lemmas.List.Concat.{flat_map-append}
 use Rattle.std.proofs.lemmas.List.Sums.{sum_by_push}
 use Rattle.sq_devices.specs.Device.{IsPrefixOf}
-use Rattle.sq_lines.specs.Answers.{Answerer, after_line, answer_line, past_after, answers_to, answer_text, output_of, texts_of, tally_of, is_good, is_refused, noted}
+use Rattle.sq_lines.specs.Answers.{Answerer, after_line, answer_line, past_after, answers_to, answer_text, output_of}
+use Rattle.sq_lines.specs.Answers.{texts_of, tally_of, is_good, is_refused, noted}
 use Rattle.sq_lines.specs.Content.{Answer}
 use Rattle.sq_lines.specs.Runs.{but_last}
 use Rattle.sq_lines.specs.declared.tallies.Tally.{Tally}

@@ -1,5 +1,6 @@
 -- From a text that was answered to its line.
-use Rattle.std.proofs.Common.{◌≡◌, ◌+◌, ◌∙◌, ℕ, List, Option, Some, Result, Ok, Err, IfErr, OnOk, OnErr, ap, sym, subst, refl}
+use Rattle.std.proofs.Common.{◌≡◌, ◌+◌, ◌∙◌, ℕ, List, Option, Some, Result, Ok, Err, IfErr, OnOk, OnErr, ap, sym, subst}
+use Rattle.std.proofs.Common.{refl}
 use Rattle.sq_devices.specs.Device.{WroteFront}
 use Rattle.sq_text.specs.declared.faults.LineFault.{LineFault}
 use Rattle.sq_text.specs.declared.faults.LineFault.TheVariants.{LongLine}

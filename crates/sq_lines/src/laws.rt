@@ -2,7 +2,8 @@
 //!
 //! A function with an empty body does nothing: its contract is the law. The others make the call or the test that they
 //! speak of.
-ghost use Rattle.std.specs.Prelude.{◌≡◌, ◌↔◌, ◌⊎◌, ◌++◌, ◌-◌, ◌∷◌, [], List, ℕ, IsTrue, Ok, Err, Option, Result, length, take};
+ghost use Rattle.std.specs.Prelude.{◌≡◌, ◌↔◌, ◌⊎◌, ◌++◌, ◌-◌, ◌∷◌, [], List, ℕ, IsTrue, Ok, Err, Option, Result};
+ghost use Rattle.std.specs.Prelude.{length, take};
 ghost use Rattle.std.specs.Io.KnownBytes.{Appends, IsAtEnd};
 ghost use Rattle.sq_devices.specs.Changes.{taken_from};
 ghost use Rattle.sq_devices.specs.Device.{AppendsOrHides, IsPrefixOf};

@@ -1,5 +1,6 @@
 //! A run over an input: each line is answered once its line feed was read.
-ghost use Rattle.std.specs.Prelude.{◌≡◌, ◌+◌, ◌^◌, ◌<◌, ◌≤◌, ◌++◌, [], List, ℕ, Option, IfErr, IfOk, OnOk, OnErr, drop, false, length, take, true};
+ghost use Rattle.std.specs.Prelude.{◌≡◌, ◌+◌, ◌^◌, ◌<◌, ◌≤◌, ◌++◌, [], List, ℕ, Option, IfErr, IfOk, OnOk, OnErr, drop};
+ghost use Rattle.std.specs.Prelude.{false, length, take, true};
 ghost use Rattle.std.specs.Io.KnownBytes.{Consumes, IsAtEnd};
 ghost use Rattle.sq_devices.specs.Calls.{HasPut};
 ghost use Rattle.sq_devices.specs.Device.{KeepsOrHides, WroteFront};
@@ -36,7 +37,8 @@ pub(crate) struct LineRun {
 
 impl LineRun {
     ghost use Rattle.sq_lines.specs.Lines.{MarksFeeds, ended_lines, lines_of};
-    ghost use Rattle.sq_lines.specs.Answers.{WantsAt, after_line, answer_line, answer_text, answers_to, noted, tally_of};
+    ghost use Rattle.sq_lines.specs.Answers.{WantsAt, after_line, answer_line, answer_text, answers_to, noted};
+    ghost use Rattle.sq_lines.specs.Answers.{tally_of};
     ghost use Rattle.sq_lines.specs.Runs.{HasAnswered, HasTold, StoppedIn, front_of};
 
     pub(crate) fn new() -> Self

@@ -1,7 +1,8 @@
 //! Runs over a whole input.
 ghost use Rattle.std.specs.Prelude.{◌≡◌, ◌++◌, [], List, ℕ, IfErr, IfOk, OnErr, OnOk, true};
 ghost use Rattle.std.specs.Io.KnownBytes.{Appends};
-ghost use Rattle.sq_devices.specs.Changes.{FinishedOnce, Sent, TookAll, TookPart, TookReported, TookSome, Unfinished, taken_from, written_on};
+ghost use Rattle.sq_devices.specs.Changes.{FinishedOnce, Sent, TookAll, TookPart, TookReported, TookSome, Unfinished};
+ghost use Rattle.sq_devices.specs.Changes.{taken_from, written_on};
 ghost use Rattle.sq_lines.specs.Lines.{ended_lines};
 ghost use Rattle.sq_lines.specs.Runs.{HasRun, HasTold, OfLines, StoppedIn};
 

@@ -3,10 +3,11 @@ ghost use Rattle.std.specs.Prelude.{◌≡◌, ◌+◌, ◌≤◌, ◌++◌, dec
 ghost use Rattle.std.specs.Fmt.{signed_decimal};
 ghost use Rattle.sq_digits.specs.Buffer.{text_len};
 ghost use Rattle.sq_digits.specs.Digits.{hexadecimal};
-ghost use Rattle.sq_rows.specs.Rows.{Blank, Number, Word, between, cell, line_number, no_value, quote, row_end, row_start};
+ghost use Rattle.sq_rows.specs.Rows.{Blank, Number, Word, between, cell, line_number, no_value, quote, row_end};
+ghost use Rattle.sq_rows.specs.Rows.{row_start};
 
-use sq_digits::TextBuffer;
 use itoa::Buffer;
+use sq_digits::TextBuffer;
 use sq_text::{push_decimal, push_hexadecimal};
 
 /// The form of a row.

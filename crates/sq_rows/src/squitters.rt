@@ -9,8 +9,8 @@ ghost use Rattle.sq_rows.specs.Rows.{Number, Word, cell};
 ghost use Rattle.sq_rows.specs.Squitters.{bit_cell, feet_cell, feet_of, kind_name};
 
 use crate::rows::{Form, push_blank, push_name, push_number, push_quoted_name, push_signed, quote};
-use sq_digits::TextBuffer;
 use sq_angle::Angle;
+use sq_digits::TextBuffer;
 use sq_message::{Airborne, Altitude, Me, altitude};
 use sq_text::{LineFault, push_decimals, push_fault};
 
@@ -42,11 +42,7 @@ pub fn push_feet<const N: usize>(text: &mut TextBuffer<N>, form: Form, me: &Me)
 
 /// Appends the altitude of an airborne position in feet as `feet`, at most 19 bytes: no value, where it has none in
 /// steps of 25 feet (ICAO Doc 9871, register 0,5).
-pub fn push_airborne_feet<const N: usize>(
-    text: &mut TextBuffer<N>,
-    form: Form,
-    airborne: &Airborne,
-)
+pub fn push_airborne_feet<const N: usize>(text: &mut TextBuffer<N>, form: Form, airborne: &Airborne)
     requires { text_len text.old + 19 ≤ N }
     ensures bytes { (altitudes : AltitudeReader) → text.new.bytes
         ≡ text.old.bytes ++ cell form (codes "feet") (feet_cell (altitudes.read airborne.now.fields)) }
@@ -69,12 +65,7 @@ pub fn push_bit<const N: usize>(text: &mut TextBuffer<N>, form: Form, name: &str
 
 /// Appends an angle in degrees with seven decimals, with at most 16 bytes beside its name.
 #[tactic(auto, unfolding(crate::specs::Rows::cell))]
-pub fn push_degrees<const N: usize>(
-    text: &mut TextBuffer<N>,
-    form: Form,
-    name: &str,
-    angle: &Angle,
-)
+pub fn push_degrees<const N: usize>(text: &mut TextBuffer<N>, form: Form, name: &str, angle: &Angle)
     requires { text_len text.old + length name.now + 16 ≤ N }
     ensures bytes { (part : List ℕ) × IsDecimal7 (degrees angle.now) part
         × (text.new.bytes ≡ text.old.bytes ++ cell form name.now (Number part)) }

@@ -1,5 +1,7 @@
 -- The table of the values of digits, and the words that are made of them.
-use Rattle.std.proofs.Common.{◌≡◌, ℕ, ◌+◌, ◌*◌, ◌/◌, ◌%◌, ◌<◌, ◌≤◌, ◌^◌, Ok, Err, [], Option, None, Some, List, Bool, true, ◌||◌, ltb, eqb, inl, inr, map, get_or, length, set, take, drop, bit_or, bit_and, Result, refl, sym, ap, ap₂, ◌∙◌, subst, arith}
+use Rattle.std.proofs.Common.{◌≡◌, ℕ, ◌+◌, ◌*◌, ◌/◌, ◌%◌, ◌<◌, ◌≤◌, ◌^◌, Ok, Err, [], Option, None, Some, List, Bool}
+use Rattle.std.proofs.Common.{true, ◌||◌, ltb, eqb, inl, inr, map, get_or, length, set, take, drop, bit_or, bit_and}
+use Rattle.std.proofs.Common.{Result, refl, sym, ap, ap₂, ◌∙◌, subst, arith}
 use Rattle.std.proofs.Math.ListN.{get_or-map, length-set}
 use Rattle.std.proofs.lemmas.Bool.{cases_lt, le-ltb, eqb-true}
 use Rattle.std.proofs.lemmas.List.FromFn.{get_or-map-range_with_len}

@@ -1,5 +1,6 @@
 -- Moments and the spaces after them.
-use Rattle.std.proofs.Common.{◌≡◌, ◌+◌, ◌<◌, ◌≤◌, ◌++◌, ◌*◌, ◌^◌, ℕ, List, [], ◌∷◌, length, take, get_or, suc, zero, sym, subst, arith, refl, ap₂, add-one}
+use Rattle.std.proofs.Common.{◌≡◌, ◌+◌, ◌<◌, ◌≤◌, ◌++◌, ◌*◌, ◌^◌, ℕ, List, [], ◌∷◌, length, take, get_or, suc, zero}
+use Rattle.std.proofs.Common.{sym, subst, arith, refl, ap₂, add-one}
 use Rattle.std.proofs.Math.Nat.{pow-le-pow_right}
 use Rattle.std.proofs.lemmas.Nat.{pow-add}
 use Rattle.std.specs.Char.{IsAsciiDigit}

@@ -6,7 +6,8 @@ use Rattle.sq_message.specs.Faults.{frame_fault_text, frame_fault_words}
 use Rattle.sq_text.specs.declared.frame_text.TextFault.{TextFault}
 use Rattle.sq_text.specs.declared.frame_text.TextFault.TheVariants as of_texts
 use Rattle.sq_text.specs.declared.faults.LineFault.{LineFault}
-use Rattle.sq_text.specs.declared.faults.LineFault.TheVariants.{LongLine, Moment, Wrap, Short, Length, Digit, NotDf17, Parity, MomentBack, Full}
+use Rattle.sq_text.specs.declared.faults.LineFault.TheVariants.{LongLine, Moment, Wrap, Short, Length, Digit, NotDf17}
+use Rattle.sq_text.specs.declared.faults.LineFault.TheVariants.{Parity, MomentBack, Full}
 use Rattle.sq_digits.specs.Digits.{hexadecimal}
 
 -- a text's fault, as a line's

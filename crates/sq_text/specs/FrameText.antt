@@ -1,6 +1,7 @@
 -- Frame text: 28 hexadecimal digits of either case, bare or between `*` and `;`, and the first thing
 -- that is wrong with any other text.
-use Rattle.std.specs.Prelude.{◌≡◌, ◌≢◌, ℕ, ◌+◌, ◌*◌, ◌<◌, ◌⊎◌, List, [], ◌∷◌, ◌++◌, length, take, slice_index, false, Result, Ok, MatchResult}
+use Rattle.std.specs.Prelude.{◌≡◌, ◌≢◌, ℕ, ◌+◌, ◌*◌, ◌<◌, ◌⊎◌, List, [], ◌∷◌, ◌++◌, length, take, slice_index, false}
+use Rattle.std.specs.Prelude.{Result, Ok, MatchResult}
 use Rattle.std.specs.List.{AllPass}
 use Rattle.hex.specs.Hex.{decode_of, is_hex_digit, pair_value}
 use Rattle.sq_digits.specs.Characters.{semicolon, star}

@@ -6,9 +6,9 @@ ghost use Rattle.sq_angle.specs.Angle.{degrees};
 ghost use Rattle.sq_angle.specs.Decimal.{IsDecimal7};
 ghost use Rattle.sq_text.specs.Place.{IsFractionText, IsPlaceText};
 
-use sq_digits::{TextBuffer, push_decimal};
 use itoa::Buffer;
 use sq_angle::{Angle, Position};
+use sq_digits::{TextBuffer, push_decimal};
 
 /// The text of a position: two lines.
 pub type PlaceText = TextBuffer<160>;

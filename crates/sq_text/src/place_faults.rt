@@ -3,8 +3,8 @@ ghost use Rattle.std.specs.Prelude.{◌≡◌, ◌+◌, ◌≤◌, ◌++◌, dec
 ghost use Rattle.sq_digits.specs.Buffer.{text_len};
 ghost use Rattle.sq_message.specs.Faults.{place_fault_text};
 
-use sq_digits::TextBuffer;
 use itoa::Buffer;
+use sq_digits::TextBuffer;
 use sq_message::PlaceFault;
 
 /// Appends the text of a place's fault, of at most 32 bytes.

@@ -2,13 +2,14 @@
 ghost use Rattle.std.specs.Prelude.{◌≡◌, ◌+◌, ◌≤◌, ◌++◌, List, ℕ, codes, length};
 ghost use Rattle.sq_digits.specs.Buffer.{text_len};
 ghost use Rattle.sq_cpr.specs.Code.{numbers_of};
-ghost use Rattle.sq_text.specs.Show.{IsShown, IsShownAirborne, IsShownMe, altitude_line, line, number_line, other_lines, parity_name, place_lines, surface_lines};
+ghost use Rattle.sq_text.specs.Show.{IsShown, IsShownAirborne, IsShownMe, altitude_line, line, number_line};
+ghost use Rattle.sq_text.specs.Show.{other_lines, parity_name, place_lines, surface_lines};
 ghost use Rattle.sq_digits.specs.Digits.{hexadecimal};
 ghost use Rattle.sq_message.specs.Spelling.{bit};
 
-use sq_digits::{TextBuffer, push_decimal, push_hexadecimal};
 use itoa::Buffer;
 use sq_cpr::{Code, Parity};
+use sq_digits::{TextBuffer, push_decimal, push_hexadecimal};
 use sq_message::{Airborne, Altitude, Me, Other, Squitter, Surface, altitude};
 
 /// The text of a squitter: one line a field.

@@ -7,8 +7,8 @@ ghost use Rattle.sq_digits.specs.Digits.{hexadecimal};
 ghost use Rattle.sq_text.specs.Show.{parity_name};
 ghost use Rattle.sq_text.specs.Summary.{code_words, me_words, summary};
 
-use sq_digits::{TextBuffer, push_decimal, push_six_places};
 use sq_cpr::{Code, Parity};
+use sq_digits::{TextBuffer, push_decimal, push_six_places};
 use sq_message::{Me, Squitter};
 
 /// Appends what `check` says of a good frame, at most 72 bytes: `ok`, the address, and for a position its kind, parity
@@ -46,8 +46,8 @@ fn push_me<const N: usize>(text: &mut TextBuffer<N>, me: &Me)
     }
 }
 
-// The kind and the parity of an airborne position with spaces around them, and how many characters these are: a choice of
-// texts of one length costs less than a jump that no one foresees.
+// The kind and the parity of an airborne position with spaces around them, and how many characters these are: a choice
+// of texts of one length costs less than a jump that no one foresees.
 #[inline(always)]
 fn air_words(parity: Parity) -> (&'static [u8; 10], usize)
     ensures ascii { IsAscii result.0.now }

@@ -1,5 +1,6 @@
 -- Words in which clap finds no fault ask for a command with its values.
-use Rattle.std.proofs.Common.{◌≡◌, ◌∙◌, ◌&&◌, ◌||◌, ℕ, Bool, true, false, true≢false, List, [], ◌∷◌, Option, None, Some, ap, sym, subst, inl, inr, refl, rules, is_some, not}
+use Rattle.std.proofs.Common.{◌≡◌, ◌∙◌, ◌&&◌, ◌||◌, ℕ, Bool, true, false, true≢false, List, [], ◌∷◌, Option, None, Some}
+use Rattle.std.proofs.Common.{ap, sym, subst, inl, inr, refl, rules, is_some, not}
 use Rattle.std.specs.Prelude.{⊤, if◌then◌else◌, unwrap_or, find, fold, option_map, codes}
 use Rattle.std.specs.List.{list_any}
 use Rattle.std.specs.Option.{option_map_or}
@@ -11,15 +12,21 @@ use Rattle.clap.specs.declared.error.kind.ErrorKind.TheVariants as kind
 use Rattle.clap.specs.Facts.{explicit_source}
 use Rattle.clap.specs.Takes.{is_given}
 use Rattle.clap.specs.Simple.{App, Shape, built, entered, label_of, names_of, argument_words}
-use Rattle.clap.specs.Walk.{Text, Rule, Row, Held, Outcome, Waiting, Step, Walk, Names, after_flag, plain_word, subcommand_or_other, long_or_other, short_or_plain, bundle, long_met, word_met, subcommand_met, after_step, to_positional, walked_from, walked, walk, walk_from, nothing_held, finished, settled, answers_to, rows_after, stop_after, first_of, arg_by_long, arg_by_index}
+use Rattle.clap.specs.Walk.{Text, Rule, Row, Held, Outcome, Waiting, Step, Walk, Names, after_flag, plain_word}
+use Rattle.clap.specs.Walk.{subcommand_or_other, long_or_other, short_or_plain, bundle, long_met, word_met}
+use Rattle.clap.specs.Walk.{subcommand_met, after_step, to_positional, walked_from, walked, walk, walk_from}
+use Rattle.clap.specs.Walk.{nothing_held, finished, settled, answers_to, rows_after, stop_after, first_of, arg_by_long}
+use Rattle.clap.specs.Walk.{arg_by_index}
 use Rattle.clap.specs.Walk.{done, waits, plain, refused, idle, option, positional, next, trailing, subcommand, value}
-use Rattle.clap.specs.Faults.{defaults_fault, settle_fault, fault_of, built_fault, entered_fault, level_fault, other_fault, word_fault, step_fault, walk_fault}
+use Rattle.clap.specs.Faults.{defaults_fault, settle_fault, fault_of, built_fault, entered_fault, level_fault}
+use Rattle.clap.specs.Faults.{other_fault, word_fault, step_fault, walk_fault}
 use Rattle.sq_tool.specs.CommandLine.{squitter}
 use Rattle.sq_requests.specs.Requests.{Asked, command_name}
 use Rattle.sq_tool.specs.CommandLine.{HasValues}
 use Rattle.sq_tool.specs.Requests.{Asks}
 use Rattle.sq_requests.specs.Requests.{Show, Encode, Local, Pair, Check, Track}
-use Rattle.sq_tool.proofs.Full.{AllFull, Each, IsSingle, Full-walk, Full-settled, Full-defaults, find-each, given_value, or_else-nil}
+use Rattle.sq_tool.proofs.Full.{AllFull, Each, IsSingle, Full-walk, Full-settled, Full-defaults, find-each, given_value}
+use Rattle.sq_tool.proofs.Full.{or_else-nil}
 
 -- what was searched for passes the test
 find-passes : {X : Type 0} (p : X → Bool) (xs : List X) (x : X) → find p xs ≡ Some x → p x ≡ true

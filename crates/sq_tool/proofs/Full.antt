@@ -1,5 +1,6 @@
 -- Where clap finds no fault, each argument in its table has a value.
-use Rattle.std.proofs.Common.{◌≡◌, ◌∙◌, ◌⊎◌, ◌<◌, ◌++◌, ◌&&◌, ℕ, zero, suc, Bool, true, false, List, [], ◌∷◌, Option, None, Some, length, ap, ap₂, sym, subst, inl, inr, arith, refl, is_some}
+use Rattle.std.proofs.Common.{◌≡◌, ◌∙◌, ◌⊎◌, ◌<◌, ◌++◌, ◌&&◌, ℕ, zero, suc, Bool, true, false, List, [], ◌∷◌, Option}
+use Rattle.std.proofs.Common.{None, Some, length, ap, ap₂, sym, subst, inl, inr, arith, refl, is_some}
 use Rattle.std.specs.Prelude.{⊤, if◌then◌else◌, unwrap_or, find, fold, slice_get, option_and_then, encode_utf8, drop}
 use Rattle.std.specs.Option.{option_map_or}
 use Rattle.std.specs.Str.{bytes_eq, chars}
@@ -8,9 +9,17 @@ use Rattle.clap.specs.Facts.{explicit_source, unwrap_or_range}
 use Rattle.clap.specs.Kinds.{Kinds, or_else, range_kinds}
 use Rattle.clap.specs.Takes.{is_given}
 use Rattle.clap.specs.Simple.{Shape}
-use Rattle.clap.specs.Walk.{Text, Rule, Row, Held, Outcome, Waiting, Step, Walk, Names, action_of, most_values, takes_values, takes_several, is_pending, at_row, more_values, with_values, without, values_or_missing, used_as, used, used_by_id, settled_rows, settled, reacted, option_met, flag_met, long_met, short_met, attached_value, bundle_step, bundle_met, bundle, after_flag, plain_word, option_word, subcommand_or_other, long_or_other, short_or_plain, word_met, subcommand_met, after_step, to_positional, walked_from, walked, has_row, default_rows, with_default, reading_by, first_of, arg_by_id, arg_by_long, arg_by_short, arg_by_index}
+use Rattle.clap.specs.Walk.{Text, Rule, Row, Held, Outcome, Waiting, Step, Walk, Names, action_of, most_values}
+use Rattle.clap.specs.Walk.{takes_values, takes_several, is_pending, at_row, more_values, with_values, without}
+use Rattle.clap.specs.Walk.{values_or_missing, used_as, used, used_by_id, settled_rows, settled, reacted, option_met}
+use Rattle.clap.specs.Walk.{flag_met, long_met, short_met, attached_value, bundle_step, bundle_met, bundle, after_flag}
+use Rattle.clap.specs.Walk.{plain_word, option_word, subcommand_or_other, long_or_other, short_or_plain, word_met}
+use Rattle.clap.specs.Walk.{subcommand_met, after_step, to_positional, walked_from, walked, has_row, default_rows}
+use Rattle.clap.specs.Walk.{with_default, reading_by, first_of, arg_by_id, arg_by_long, arg_by_short, arg_by_index}
 use Rattle.clap.specs.Walk.{done, waits, plain, refused, idle, option, positional, next, trailing, subcommand, value}
-use Rattle.clap.specs.Faults.{bundle_fault, stray_fault, use_fault, settle_fault, react_fault, option_fault, long_fault, short_fault, bundle_step_fault, flags_fault, flag_word_fault, other_fault, word_fault, positional_fault, step_fault, walk_fault}
+use Rattle.clap.specs.Faults.{bundle_fault, stray_fault, use_fault, settle_fault, react_fault, option_fault, long_fault}
+use Rattle.clap.specs.Faults.{short_fault, bundle_step_fault, flags_fault, flag_word_fault, other_fault, word_fault}
+use Rattle.clap.specs.Faults.{positional_fault, step_fault, walk_fault}
 use Rattle.clap.specs.declared.builder.action.ArgAction.{ArgAction}
 use Rattle.clap.specs.declared.builder.action.ArgAction.TheVariants.{Set, Help}
 use Rattle.clap.specs.declared.error.kind.ErrorKind.TheVariants as kind

@@ -1,8 +1,10 @@
 -- From what clap says of the words to what they ask for.
-use Rattle.std.proofs.Common.{◌≡◌, ◌≢◌, ◌∙◌, true, false, true≢false, List, [], Option, None, Some, ap, sym, subst, refl, rules, ap₂, inl, inr}
+use Rattle.std.proofs.Common.{◌≡◌, ◌≢◌, ◌∙◌, true, false, true≢false, List, [], Option, None, Some, ap, sym, subst}
+use Rattle.std.proofs.Common.{refl, rules, ap₂, inl, inr}
 use Rattle.std.specs.Prelude.{codes, option_map, unwrap_or}
 use Rattle.std.specs.Str.{bytes_eq}
-use Rattle.clap.specs.Words.{Text, Row, App, HasMatchesOf, HasKind, Kinds, is_simple, is_simple_and_free, subcommand_of, fault_of, first_of, first_value, kind_of, rows_of, subcommand_rows_of, subcommand_name_of}
+use Rattle.clap.specs.Words.{Text, Row, App, HasMatchesOf, HasKind, Kinds, is_simple, is_simple_and_free, subcommand_of}
+use Rattle.clap.specs.Words.{fault_of, first_of, first_value, kind_of, rows_of, subcommand_rows_of, subcommand_name_of}
 use Rattle.clap.specs.declared.error.Error.{Error}
 use Rattle.clap.specs.declared.error.kind.ErrorKind.TheVariants as kind
 use Rattle.clap.specs.declared.parser.ArgMatches.{ArgMatches}

@@ -4,7 +4,9 @@ ghost use Rattle.std.specs.Prelude.{◌≡◌, IfNone, IfOk, IfSome, codes, fals
 ghost use Rattle.clap.specs.Words.{app_of, found_of, new_app, new_rule, rows_of, rule_of};
 ghost use Rattle.clap.specs.declared.builder.Command.TheViews.{out-Command as fields_of};
 ghost use Rattle.sq_requests.specs.Requests.{Asked, asked_by};
-ghost use Rattle.sq_tool.specs.CommandLine.{check as check_line, encode, encode_head as encode_first, frame_commands as frame_program, local, option as option_rule, pair, program as no_commands, required, show, squitter, track};
+ghost use Rattle.sq_tool.specs.CommandLine.{check as check_line, encode, encode_head as encode_first};
+ghost use Rattle.sq_tool.specs.CommandLine.{frame_commands as frame_program, local, option as option_rule, pair};
+ghost use Rattle.sq_tool.specs.CommandLine.{program as no_commands, required, show, squitter, track};
 ghost use Rattle.sq_tool.specs.Requests.{IsAsked};
 
 use clap::{Arg, ArgMatches, Command};

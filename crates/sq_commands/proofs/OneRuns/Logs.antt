@@ -1,5 +1,6 @@
 -- Of one log two runs of `track` write the same.
-use Rattle.std.proofs.Common.{◌≡◌, ◌∙◌, ◌∷◌, ℕ, [], List, Option, None, Some, Result, Ok, Err, ap, ap₂, sym, subst, inl, inr}
+use Rattle.std.proofs.Common.{◌≡◌, ◌∙◌, ◌∷◌, ℕ, [], List, Option, None, Some, Result, Ok, Err, ap, ap₂, sym, subst, inl}
+use Rattle.std.proofs.Common.{inr}
 use Rattle.sq_text.specs.declared.timed.TimedSquitter.{TimedSquitter}
 use Rattle.sq_text.specs.Timed.{TimedReader}
 use Rattle.sq_text.proofs.TimedReadings.{some_timed_reading}

@@ -1,5 +1,6 @@
 -- Of the same arguments two runs of `encode` write one frame.
-use Rattle.std.proofs.Common.{◌≡◌, ◌∙◌, ◌⊎◌, ℕ, List, Option, None, Some, Result, Ok, Err, ap, refl, sym, subst, inl, inr}
+use Rattle.std.proofs.Common.{◌≡◌, ◌∙◌, ◌⊎◌, ℕ, List, Option, None, Some, Result, Ok, Err, ap, refl, sym, subst, inl}
+use Rattle.std.proofs.Common.{inr}
 use Rattle.std.specs.Int.Digits.{number_from_digits}
 use Rattle.hex.specs.declared.error.FromHexError.{FromHexError}
 use Rattle.sq_angle.specs.declared.position.Position.{Position}
@@ -21,7 +22,8 @@ use Rattle.sq_commands.specs.declared.arguments.Kind.{Kind}
 use Rattle.sq_commands.specs.declared.arguments.Kind.TheVariants.{Air, Ground}
 use Rattle.sq_commands.specs.declared.status.Status.{Status}
 use Rattle.sq_commands.specs.Arguments.{IsAddress, kind_name}
-use Rattle.sq_commands.specs.Encode.{EncodeValues, IsAirFrame, IsAirHead, IsAltitudeOf, IsEncodeFault, IsEncodeReading, IsEncodeRun, IsEncodeValues, IsFrameOf, IsGroundFrame, IsGroundHead, frame_line}
+use Rattle.sq_commands.specs.Encode.{EncodeValues, IsAirFrame, IsAirHead, IsAltitudeOf, IsEncodeFault, IsEncodeReading}
+use Rattle.sq_commands.specs.Encode.{IsEncodeRun, IsEncodeValues, IsFrameOf, IsGroundFrame, IsGroundHead, frame_line}
 use Rattle.sq_commands.specs.Outputs.{IsAnswer, IsOutOfMemory, Outputs}
 use Rattle.sq_commands.proofs.ArgumentLemmas.{one_feet}
 use Rattle.sq_commands.proofs.FaultLemmas.{one_encode_fault}

@@ -3,7 +3,8 @@ use Rattle.std.proofs.Common.{◌≡◌, ℕ, List, Option, None, Some, Result, 
 use Rattle.sq_angle.specs.declared.position.Position.{Position}
 use Rattle.sq_angle.proofs.OnePosition.{one_position}
 use Rattle.sq_commands.specs.declared.arguments.ArgumentFault.{ArgumentFault}
-use Rattle.sq_commands.specs.Arguments.{IsPositionFault, IsPositionReading, IsPositionWords, IsSiteFault, IsSiteReading, IsSiteWords}
+use Rattle.sq_commands.specs.Arguments.{IsPositionFault, IsPositionReading, IsPositionWords, IsSiteFault, IsSiteReading}
+use Rattle.sq_commands.specs.Arguments.{IsSiteWords}
 use Rattle.sq_commands.proofs.ArgumentLemmas.{one_angle_read}
 use Rattle.sq_commands.proofs.FaultLemmas.{good_angle, one_position_fault, one_site_fault}
 

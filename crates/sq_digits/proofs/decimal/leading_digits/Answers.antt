@@ -8,7 +8,8 @@ use Rattle.sq_digits.proofs.decimal.leading_digits.Goals as goal
 pub returns-clause-ascii : goal.returns-clause-ascii
 returns-clause-ascii c =
     let at : ℕ = 4 * c.args.number + (c.from.result + c.from-2.result) in
-    rw c.as_bytes.ensures.value (IsAscii-take (drop at THREES.now) (at + 4 - at) (IsAscii-drop THREES.now at IsAscii-threes))
+    rw c.as_bytes.ensures.value
+    (IsAscii-take (drop at THREES.now) (at + 4 - at) (IsAscii-drop THREES.now at IsAscii-threes))
 
 pub returns-clause-digits : goal.returns-clause-digits
 returns-clause-digits c =
@@ -17,6 +18,6 @@ returns-clause-digits c =
     let at : ℕ = 4 * c.args.number + zeros in
     let width : at + 4 - at ≡ 4 = omega arith in
     rw (c.as_bytes.ensures.value, width) (
-      take-take (3 - zeros) 4 (drop at THREES.now) (omega arith)
-      ∙ ap (λ z. take (3 - z) (drop (4 * c.args.number + z) THREES.now)) same ∙ leading_is c.args.number c.requires
+    take-take (3 - zeros) 4 (drop at THREES.now) (omega arith)
+    ∙ ap (λ z. take (3 - z) (drop (4 * c.args.number + z) THREES.now)) same ∙ leading_is c.args.number c.requires
     )

@@ -7,7 +7,8 @@ use Rattle.sq_digits.proofs.decimal.three_digits.Goals as goal
 pub returns-clause-ascii : goal.returns-clause-ascii
 returns-clause-ascii c =
     let at : ℕ = 4 * c.args.number in
-    rw c.as_bytes.ensures.value (IsAscii-take (drop at THREES.now) (at + 3 - at) (IsAscii-drop THREES.now at IsAscii-threes))
+    rw c.as_bytes.ensures.value
+    (IsAscii-take (drop at THREES.now) (at + 3 - at) (IsAscii-drop THREES.now at IsAscii-threes))
 
 pub returns-clause-digits : goal.returns-clause-digits
 returns-clause-digits c =

@@ -9,7 +9,8 @@ use Rattle.sq_devices.proofs.Ends.{took_reported}
 use Rattle.sq_lines.specs.Lines.{ended_lines, lines_of}
 use Rattle.sq_lines.specs.Runs.{HasRun, HasTold, StoppedIn}
 use Rattle.sq_lines.specs.declared.faults.Unanswered.{Unanswered}
-use Rattle.sq_lines.proofs.Checking.{consumes_hidden, got_up_to_end, made_of_more, made_of_nothing, of_pieces, read_on, told_as, told_read}
+use Rattle.sq_lines.proofs.Checking.{consumes_hidden, got_up_to_end, made_of_more, made_of_nothing, of_pieces, read_on}
+use Rattle.sq_lines.proofs.Checking.{told_as, told_read}
 use Rattle.sq_lines.proofs.Running.{last_line, starts, told_unfinished}
 use Rattle.sq_lines.proofs.streams.run_lines.Goals as goal
 

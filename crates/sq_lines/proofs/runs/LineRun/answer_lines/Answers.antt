@@ -1,4 +1,5 @@
-use Rattle.std.proofs.Common.{◌≡◌, ◌+◌, ◌-◌, ◌<◌, ◌≤◌, ◌++◌, ◌∙◌, ℕ, List, length, take, drop, ap, subst, subst₂, sym, refl, rules, arith, append_assoc, append-nil}
+use Rattle.std.proofs.Common.{◌≡◌, ◌+◌, ◌-◌, ◌<◌, ◌≤◌, ◌++◌, ◌∙◌, ℕ, List, length, take, drop, ap, subst, subst₂, sym}
+use Rattle.std.proofs.Common.{refl, rules, arith, append_assoc, append-nil}
 use Rattle.std.specs.List.{before_first, position_or_len}
 use Rattle.std.proofs.lemmas.List.{length-drop, take_rest}
 use Rattle.std.proofs.lemmas.Result.{err_from_is_err_and}
@@ -8,7 +9,8 @@ use Rattle.sq_lines.specs.Lines.{ended_lines, is_feed}
 use Rattle.sq_lines.specs.Runs.{HasAnswered, StoppedIn}
 use Rattle.sq_lines.proofs.FeedMarks.{marks_after}
 use Rattle.sq_lines.proofs.Fronts.{part_is, part_none, part_on, part_rest}
-use Rattle.sq_lines.proofs.Running.{LineTold, answered_feed, answered_no_feed, line_in, prefix_through, same_line, stopped_line}
+use Rattle.sq_lines.proofs.Running.{LineTold, answered_feed, answered_no_feed, line_in, prefix_through, same_line}
+use Rattle.sq_lines.proofs.Running.{stopped_line}
 use Rattle.sq_lines.proofs.runs.LineRun.answer_lines.Goals as goal
 
 pub lines-init : goal.lines-init
