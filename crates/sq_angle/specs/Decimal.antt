@@ -1,5 +1,5 @@
 -- An angle as text with seven decimals.
-use Rattle.std.specs.Prelude.{◌≡◌, ◌≤◌, ℕ, zero, suc, ◌/◌, ◌%◌, ◌^◌, Bool, ◌&&◌, List, [], ◌∷◌, ◌++◌, pos, int_lt}
+use Rattle.std.specs.Prelude.{◌≡◌, ◌≤◌, ℕ, ◌/◌, ◌%◌, ◌^◌, Bool, ◌&&◌, List, [], ◌∷◌, ◌++◌, pos, int_lt}
 use Rattle.std.specs.Prelude.{nat_lt, decimal, if◌then◌else◌}
 use Rattle.sq_angle.specs.Fraction.{Fraction, magnitude}
 use Rattle.sq_angle.specs.Nearest.{IsNearest}

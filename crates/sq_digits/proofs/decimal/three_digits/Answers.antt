@@ -1,4 +1,4 @@
-use Rattle.std.proofs.Common.{◌≡◌, ◌+◌, ◌-◌, ◌*◌, ℕ, take, drop, ap, ◌∙◌, arith}
+use Rattle.std.proofs.Common.{◌≡◌, ◌+◌, ◌-◌, ◌*◌, ℕ, drop, arith}
 use Rattle.std.proofs.lemmas.Str.{IsAscii-drop, IsAscii-take}
 use Rattle.sq_digits.specs.declared.decimal.TheConstants.{THREES}
 use Rattle.sq_digits.proofs.Threes.{three_are, IsAscii-threes}

@@ -1,4 +1,4 @@
-use Rattle.std.proofs.Common.{◌++◌, rules, take, arith}
+use Rattle.std.proofs.Common.{rules, arith}
 use Rattle.std.proofs.lemmas.Str.{IsUtf8-had, IsUtf8-append, IsUtf8-from_ascii, IsAscii-take}
 use Rattle.sq_digits.proofs.Copies.{front_of}
 use Rattle.sq_digits.proofs.buffer.TextBuffer.push_front.Goals as goal
