@@ -5254,71 +5254,38 @@
 	.p2align	2
 	.type	"sq_message::place::Place::position",@function
 "sq_message::place::Place::position":
-	ldrb	w10, [x1, #4]
-	mov	w8, #60
-	ldrb	w11, [x1]
-	ldrsw	x9, [x1, #8]
-	sub	x8, x8, x10
-	cmp	w10, #60
-	cbz	w11, .LBB26_4
-	b.eq	.LBB26_11
-	mov	w10, #90
-	mov	w11, #11796480
-	smull	x9, w9, w10
-	mov	w10, #47185920
-	umull	x10, w8, w10
-	umull	x11, w8, w11
-	cmp	x9, #0
-	cneg	x12, x9, mi
-	cmp	x10, x12
-	ccmp	x12, x11, #2, hs
-	b.hi	.LBB26_11
+	ldrb	w8, [x1, #12]
 	ldr	w11, [x1, #16]
-	ldrb	w10, [x1, #12]
-	mov	w13, #90
-	b	.LBB26_7
-.LBB26_4:
-	b.eq	.LBB26_11
-	mov	w10, #360
-	mov	w11, #11796480
-	smull	x9, w9, w10
-	mov	w10, #47185920
-	umull	x10, w8, w10
-	umull	x11, w8, w11
-	cmp	x9, #0
-	cneg	x12, x9, mi
-	cmp	x10, x12
-	ccmp	x12, x11, #2, hs
-	b.hi	.LBB26_11
-	ldr	w11, [x1, #16]
-	ldrb	w10, [x1, #12]
+	mov	w9, #23592960
+	mov	x10, #-65536
+	mov	w12, #90
 	mov	w13, #360
-.LBB26_7:
-	mov	w12, #23592960
-	mov	x15, #-65536
-	umull	x14, w11, w13
-	umull	x12, w10, w12
-	movk	x15, #64816, lsl #16
-	smull	x15, w10, w15
-	cmp	x14, x12
-	csel	x14, xzr, x15, lo
-	cbz	x10, .LBB26_11
-	umaddl	x11, w11, w13, x14
-	mov	w13, #47185920
-	umull	x14, w10, w13
-	cmp	x11, #0
-	cneg	x13, x11, mi
-	cmp	x14, x13
-	b.lo	.LBB26_11
-	cmp	x13, x12
-	b.hi	.LBB26_11
+	movk	x10, #64816, lsl #16
+	umull	x9, w8, w9
+	ldrsw	x14, [x1, #8]
+	umull	x15, w11, w12
+	ldrb	w16, [x1, #4]
+	mov	w17, #60
+	smull	x10, w8, w10
+	ldrb	w1, [x1]
 	lsl	x8, x8, #17
-	stp	x9, x8, [x0]
-	lsl	x9, x10, #17
-	stp	x11, x9, [x0, #16]
+	umull	x18, w11, w13
+	sub	x16, x17, x16
+	cmp	x15, x9
+	smull	x17, w14, w12
+	csel	x15, xzr, x10, lo
+	smull	x14, w14, w13
+	cmp	x18, x9
+	umaddl	x12, w11, w12, x15
+	csel	x9, xzr, x10, lo
+	cmp	w1, #0
+	lsl	x10, x16, #17
+	umaddl	x9, w11, w13, x9
+	csel	x11, x17, x14, ne
+	stp	x11, x10, [x0]
+	csel	x9, x12, x9, ne
+	stp	x9, x8, [x0, #16]
 	ret
-.LBB26_11:
-	brk	#0x1
 .Lfunc_end26:
 	.size	"sq_message::place::Place::position", .Lfunc_end26-"sq_message::place::Place::position"
 
@@ -5844,93 +5811,92 @@
 	.p2align	2
 	.type	"sq_plain::heard::at_place",@function
 "sq_plain::heard::at_place":
-	sub	sp, sp, #64
-	movi	v0.2d, #0000000000000000
-	stp	x20, x19, [sp, #48]
-	mov	w20, w1
-	mov	x19, x0
-	mov	x0, sp
-	mov	x1, x2
-	stp	x29, x30, [sp, #32]
-	add	x29, sp, #32
-	stp	q0, q0, [sp]
-	bl	"sq_message::place::Place::position"
-	ldp	x8, x10, [sp]
+	ldrb	w10, [x2, #12]
+	ldr	w9, [x2, #16]
+	mov	w8, #23592960
+	mov	w11, #90
+	mov	x12, #-65536
+	mov	w14, #360
+	umull	x8, w10, w8
+	movk	x12, #64816, lsl #16
+	ldrsw	x15, [x2, #8]
+	umull	x13, w9, w11
+	smull	x12, w10, w12
+	umull	x16, w9, w14
+	cmp	x13, x8
+	smull	x17, w15, w11
+	csel	x13, xzr, x12, lo
+	umaddl	x11, w9, w11, x13
+	ldrb	w13, [x2]
+	smull	x15, w15, w14
+	cmp	x16, x8
+	csel	x8, xzr, x12, lo
+	umaddl	x9, w9, w14, x8
+	ldrb	w12, [x2, #4]
+	cmp	w13, #0
+	mov	w13, #60
+	csel	x8, x17, x15, ne
+	sub	x12, x13, x12
 	mov	w13, #1
-	ldr	x9, [sp, #24]
+	csel	x9, x11, x9, ne
+	lsl	x11, x12, #17
 	cmp	x8, #0
-	cneg	x11, x8, mi
-	tbnz	w10, #0, .LBB30_3
-	mov	x14, x11
-	mov	x12, x10
+	cneg	x12, x8, mi
+	mov	x14, x12
+	mov	x15, x11
+.LBB30_1:
+	mvn	w16, w14
+	mov	x17, x15
+	and	x15, x16, #0x1
+	lsl	x13, x13, x15
+	lsr	x14, x14, x15
+	lsr	x15, x17, #1
+	tbz	w17, #1, .LBB30_1
 .LBB30_2:
-	mvn	w15, w14
-	and	x16, x15, #0x1
-	lsr	x15, x12, #1
-	lsl	x13, x13, x16
-	lsr	x14, x14, x16
-	mov	w16, w12
-	mov	x12, x15
-	tbz	w16, #1, .LBB30_2
-	b	.LBB30_4
-.LBB30_3:
-	mov	x15, x10
-	mov	x14, x11
-.LBB30_4:
-	ldr	x12, [sp, #16]
-.LBB30_5:
 	mov	x16, x15
 	udiv	x15, x14, x15
 	msub	x15, x15, x16, x14
 	mov	x14, x16
-	cbnz	x15, .LBB30_5
+	cbnz	x15, .LBB30_2
 	mul	x13, x16, x13
-	cbz	x13, .LBB30_14
-	cmp	x12, #0
+	cbz	x13, .LBB30_9
+	lsl	x10, x10, #17
+	cmp	x9, #0
 	mov	w15, #1
-	cneg	x14, x12, mi
-	tbnz	w9, #0, .LBB30_10
+	cneg	x14, x9, mi
 	mov	x16, x14
-	mov	x18, x9
-.LBB30_9:
-	mvn	w17, w16
-	and	x0, x17, #0x1
-	lsr	x17, x18, #1
-	lsl	x15, x15, x0
-	lsr	x16, x16, x0
-	mov	w0, w18
-	mov	x18, x17
-	tbz	w0, #1, .LBB30_9
-	b	.LBB30_11
-.LBB30_10:
-	mov	x17, x9
-	mov	x16, x14
-.LBB30_11:
+	mov	x17, x10
+.LBB30_5:
+	mvn	w18, w16
+	mov	x2, x17
+	and	x17, x18, #0x1
+	lsl	x15, x15, x17
+	lsr	x16, x16, x17
+	lsr	x17, x2, #1
+	tbz	w2, #1, .LBB30_5
+.LBB30_6:
 	mov	x18, x17
 	udiv	x17, x16, x17
 	msub	x17, x17, x18, x16
 	mov	x16, x18
-	cbnz	x17, .LBB30_11
+	cbnz	x17, .LBB30_6
 	mul	x15, x18, x15
-	cbz	x15, .LBB30_14
-	udiv	x11, x11, x13
+	cbz	x15, .LBB30_9
+	udiv	x12, x12, x13
 	cmp	x8, #0
-	strb	w20, [x19, #32]
-	stur	wzr, [x19, #33]
-	ldp	x29, x30, [sp, #32]
-	str	wzr, [x19, #36]
-	udiv	x10, x10, x13
-	cneg	x8, x11, mi
-	cmp	x12, #0
+	strb	w1, [x0, #32]
+	stur	wzr, [x0, #33]
+	str	wzr, [x0, #36]
+	udiv	x11, x11, x13
+	cneg	x8, x12, mi
+	cmp	x9, #0
 	udiv	x13, x14, x15
-	stp	x8, x10, [x19]
-	udiv	x9, x9, x15
+	stp	x8, x11, [x0]
+	udiv	x10, x10, x15
 	cneg	x8, x13, mi
-	stp	x8, x9, [x19, #16]
-	ldp	x20, x19, [sp, #48]
-	add	sp, sp, #64
+	stp	x8, x10, [x0, #16]
 	ret
-.LBB30_14:
+.LBB30_9:
 	brk	#0x1
 .Lfunc_end30:
 	.size	"sq_plain::heard::at_place", .Lfunc_end30-"sq_plain::heard::at_place"
