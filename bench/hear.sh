@@ -11,7 +11,7 @@ work=$(mktemp -d)
 trap 'rm -rf "$work"' EXIT
 build() {
     mkdir "$work/crates"
-    for name in sq_bits sq_angle sq_zones sq_cpr sq_message sq_track; do
+    for name in sq_digits sq_bits sq_angle sq_zones sq_cpr sq_message sq_track; do
         cp -a "$here/../crates/$name" "$work/crates/"
         grep "^$name:" "$here/../crates.txt" >> "$work/crates.txt"
     done
