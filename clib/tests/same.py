@@ -55,7 +55,7 @@ def sources():
     for crate in CRATES:
         folder = os.path.join(crate, "src")
         for name in sorted(os.listdir(folder)):
-            if name.endswith(".rt") and name != "tests.rt":
+            if name.endswith(".rt"):
                 with open(os.path.join(folder, name), encoding="utf-8") as file:
                     yield file.read()
 

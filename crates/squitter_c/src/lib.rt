@@ -19,7 +19,5 @@ pub mod laws;
 mod many;
 mod read;
 mod send;
-#[cfg(test)]
-mod tests;
 mod texts;
 mod zones;

@@ -11,5 +11,3 @@ pub mod laws;
 mod many;
 mod new;
 mod present;
-#[cfg(test)]
-mod tests;
