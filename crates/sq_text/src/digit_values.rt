@@ -1,45 +1,44 @@
-//! The values of hexadecimal digits.
-ghost use Rattle.std.specs.Prelude.{◌≡◌, ◌<◌, ◌≤◌, ◌^◌, ℕ, Some, Ok};
-ghost use Rattle.hex.specs.Hex.{hex_digit_value, pair_value};
+//! The values of hexadecimal digits, sixteen at a time in lanes.
+ghost use Rattle.std.specs.Prelude.{◌≡◌, ◌+◌, ◌*◌, ◌<◌, ℕ, IsTrue, Some, slice_index, true};
+ghost use Rattle.hex.specs.Hex.{hex_digit_value, is_hex_digit};
 
-// What stands for the value of a byte that is no digit: a bit above those of six digits, so that a word of digits shows
-// it.
-const NONE: u32 = 0x100_0000;
+use std::simd::prelude::*;
 
-// The value of each byte that is a digit of either case.
-static VALUES: [u32; 256] = [
-    NONE, NONE, NONE, NONE, NONE, NONE, NONE, NONE, NONE, NONE, NONE, NONE, NONE, NONE, NONE, NONE,
-    NONE, NONE, NONE, NONE, NONE, NONE, NONE, NONE, NONE, NONE, NONE, NONE, NONE, NONE, NONE, NONE,
-    NONE, NONE, NONE, NONE, NONE, NONE, NONE, NONE, NONE, NONE, NONE, NONE, NONE, NONE, NONE, NONE,
-    0, 1, 2, 3, 4, 5, 6, 7, 8, 9, NONE, NONE, NONE, NONE, NONE, NONE, NONE, 10, 11, 12, 13, 14, 15,
-    NONE, NONE, NONE, NONE, NONE, NONE, NONE, NONE, NONE, NONE, NONE, NONE, NONE, NONE, NONE, NONE,
-    NONE, NONE, NONE, NONE, NONE, NONE, NONE, NONE, NONE, NONE, 10, 11, 12, 13, 14, 15, NONE, NONE,
-    NONE, NONE, NONE, NONE, NONE, NONE, NONE, NONE, NONE, NONE, NONE, NONE, NONE, NONE, NONE, NONE,
-    NONE, NONE, NONE, NONE, NONE, NONE, NONE, NONE, NONE, NONE, NONE, NONE, NONE, NONE, NONE, NONE,
-    NONE, NONE, NONE, NONE, NONE, NONE, NONE, NONE, NONE, NONE, NONE, NONE, NONE, NONE, NONE, NONE,
-    NONE, NONE, NONE, NONE, NONE, NONE, NONE, NONE, NONE, NONE, NONE, NONE, NONE, NONE, NONE, NONE,
-    NONE, NONE, NONE, NONE, NONE, NONE, NONE, NONE, NONE, NONE, NONE, NONE, NONE, NONE, NONE, NONE,
-    NONE, NONE, NONE, NONE, NONE, NONE, NONE, NONE, NONE, NONE, NONE, NONE, NONE, NONE, NONE, NONE,
-    NONE, NONE, NONE, NONE, NONE, NONE, NONE, NONE, NONE, NONE, NONE, NONE, NONE, NONE, NONE, NONE,
-    NONE, NONE, NONE, NONE, NONE, NONE, NONE, NONE, NONE, NONE, NONE, NONE, NONE, NONE, NONE, NONE,
-    NONE, NONE, NONE, NONE, NONE, NONE, NONE, NONE, NONE, NONE, NONE, NONE, NONE, NONE, NONE, NONE,
-    NONE, NONE, NONE, NONE, NONE, NONE, NONE,
-];
+// What makes a letter small.
+const LOWER: u8 = b'a' - b'A';
 
-// The value of a digit, below 16; 2^24 for a byte that is none.
-fn digit_value(byte: u8) -> u32
-    ensures value { result < 2 ^ 24 → hex_digit_value byte ≡ Some result }
-    ensures digit { result < 2 ^ 24 → result < 16 }
-    ensures bound { result ≤ 2 ^ 24 }
+// The letters have this bit, and the decimal digits have not.
+const LETTER_SHIFT: u8 = 6;
+
+// Whether each byte is a digit of either case.
+#[inline(always)]
+pub(crate) fn are_digits(text: u8x16) -> bool
+    ensures { IsTrue result → (place : ℕ) → place < 16 → is_hex_digit (slice_index text place) ≡ true }
 {
-    VALUES[usize::from(byte)]
+    let no_decimal = (text - u8x16::splat(b'0')).simd_gt(u8x16::splat(9));
+    let no_letter = ((text | u8x16::splat(LOWER)) - u8x16::splat(b'a')).simd_gt(u8x16::splat(5));
+    (no_decimal & no_letter).to_bitmask() == 0
 }
 
-// The byte of two digits; at least 2^24 where one of them is none.
-pub(crate) fn byte_value(high: u8, low: u8) -> u32
-    ensures value { result < 2 ^ 24 → (place : ℕ) → pair_value high low place ≡ Ok result }
-    ensures byte { result < 2 ^ 24 → result < 256 }
-    ensures bound { result < 2 ^ 29 }
+// The value of each byte that is a digit: its low four bits, and nine more for a letter.
+#[inline(always)]
+pub(crate) fn digit_values(text: u8x16) -> u8x16
+    ensures { (place : ℕ) → place < 16 → is_hex_digit (slice_index text place) ≡ true
+        → (hex_digit_value (slice_index text place) ≡ Some (slice_index result place))
+        × (slice_index result place < 16) }
 {
-    digit_value(high) << 4 | digit_value(low)
+    let nines = (text >> u8x16::splat(LETTER_SHIFT)) * u8x16::splat(9);
+    (text & u8x16::splat(15)) + nines
+}
+
+// The bytes of pairs of values below 16, the high one first.
+#[inline(always)]
+pub(crate) fn bytes_of(values: u8x16) -> [u8; 8]
+    ensures { (place : ℕ) → place < 8 → slice_index values (2 * place) < 16 → slice_index values (2 * place + 1) < 16
+        → slice_index result place ≡ slice_index values (2 * place) * 16 + slice_index values (2 * place + 1) }
+{
+    let high = values.swizzle([0, 2, 4, 6, 8, 10, 12, 14]);
+    let low = values.swizzle([1, 3, 5, 7, 9, 11, 13, 15]);
+    // As one word, of which a register holds all eight.
+    u64::from_be_bytes((high << u8x8::splat(4) | low).to_array()).to_be_bytes()
 }

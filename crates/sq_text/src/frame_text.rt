@@ -1,12 +1,12 @@
 //! Frame text.
-ghost use Rattle.std.specs.Prelude.{◌≡◌, ◌+◌, ◌*◌, ◌/◌, ◌%◌, ◌^◌, ◌<◌, ◌≤◌, length, Ok, IfSome, MatchResult};
-ghost use Rattle.std.specs.Prelude.{MatchOption};
+ghost use Rattle.std.specs.Prelude.{◌≡◌, length, Ok, IfSome, MatchOption, MatchResult};
 ghost use Rattle.hex.specs.Hex.{decode_of};
-ghost use Rattle.sq_text.specs.FrameText.{IsAnswer, IsBody, IsFirstBadDigit, IsFrameText, IsHalfWrapped, SpellsByte};
+ghost use Rattle.sq_text.specs.FrameText.{IsAnswer, IsBody, IsFirstBadDigit, IsFrameText, IsHalfWrapped};
 
-use crate::digit_values::byte_value;
+use crate::digit_values::{are_digits, bytes_of, digit_values};
 use hex::FromHexError;
 use sq_bits::Frame;
+use std::simd::prelude::*;
 
 /// Why a text is no frame text: the first of these that applies.
 #[derive(Clone, Copy, Debug, PartialEq, Eq)]
@@ -62,59 +62,24 @@ fn read_digits(body: &[u8]) -> Result<Frame, usize>
     }
 }
 
-// The frame of 28 digits, where all of them are digits: the common case, by a table. A byte that is none shows in the
-// words, which are looked at once, after the loop.
+// The frame of 28 digits, where all of them are digits: the common case, in lanes. The last sixteen digits begin with
+// four of the first sixteen.
 #[inline(always)]
 fn frame_of_digits(body: &[u8]) -> Option<Frame>
     requires { length body.now ≡ 28 }
     ensures { IfSome result (λ frame. decode_of body.now ≡ Ok frame.0) }
 {
-    let mut bytes = [0; 14];
-    let mut seen = joined(
-        0,
-        byte_value(body[0], body[1]),
-        byte_value(body[2], body[3]),
-    );
-    bytes[0] = (seen >> 8 & 0xFF) as u8;
-    bytes[1] = (seen & 0xFF) as u8;
-    for place in 0..4 {
-        let at = 3 * place + 2;
-        let word = word_at(body, at);
-        seen |= word;
-        bytes[at] = (word >> 16 & 0xFF) as u8;
-        bytes[at + 1] = (word >> 8 & 0xFF) as u8;
-        bytes[at + 2] = (word & 0xFF) as u8;
-    }
-    if seen > 0xFF_FFFF {
+    let front = u8x16::from_slice(body);
+    let back = u8x16::from_slice(&body[12..]);
+    if !are_digits(front) || !are_digits(back) {
         return None;
     }
-    Some(Frame(bytes))
-}
-
-// Three bytes of the frame, as the digits spell them; at least 2^24 where one of the six is no digit.
-fn word_at(body: &[u8], at: usize) -> u64
-    requires { 2 * at + 6 ≤ length body.now }
-    ensures first { result < 2 ^ 24 → SpellsByte body.now at (result / 2 ^ 16 % 256) }
-    ensures second { result < 2 ^ 24 → SpellsByte body.now (at + 1) (result / 2 ^ 8 % 256) }
-    ensures third { result < 2 ^ 24 → SpellsByte body.now (at + 2) (result % 256) }
-{
-    joined(
-        byte_value(body[2 * at], body[2 * at + 1]),
-        byte_value(body[2 * at + 2], body[2 * at + 3]),
-        byte_value(body[2 * at + 4], body[2 * at + 5]),
-    )
-}
-
-// Three bytes as one number; at least 2^24 where one of them is.
-fn joined(first: u32, second: u32, third: u32) -> u64
-    requires firsts { first < 2 ^ 29 }
-    requires seconds { (second < 2 ^ 29) × (second < 2 ^ 24 → second < 256) }
-    requires thirds { third < 2 ^ 24 → third < 256 }
-    ensures first { result < 2 ^ 24 → first ≡ result / 2 ^ 16 % 256 }
-    ensures second { result < 2 ^ 24 → second ≡ result / 2 ^ 8 % 256 }
-    ensures third { result < 2 ^ 24 → third ≡ result % 256 }
-{
-    u64::from(first) << 16 | u64::from(second) << 8 | u64::from(third)
+    let first = bytes_of(digit_values(front));
+    let last = bytes_of(digit_values(back));
+    Some(Frame([
+        first[0], first[1], first[2], first[3], first[4], first[5], first[6], first[7], last[2],
+        last[3], last[4], last[5], last[6], last[7],
+    ]))
 }
 
 // The frame of 28 digits by the crate for such digits, which finds the first bad one.
