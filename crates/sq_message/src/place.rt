@@ -25,6 +25,7 @@ pub enum Place {
 
 impl Place {
     /// The position of its point, exactly.
+    #[inline(always)]
     pub fn position(&self) -> Position
         ensures { IsPositionOf self.now result }
     {
@@ -188,6 +189,7 @@ pub fn place_local(squitter: &Squitter, reference: &Position) -> Result<Place, P
 ///
 /// `Err` has the first fault of [`PlaceFault`] that applies, and comes exactly where one does. RTCA DO-260B, appendix
 /// on compact position reporting, globally unambiguous decoding.
+#[inline(always)]
 pub fn place_pair(
     older: &Squitter,
     newer: &Squitter,
@@ -233,6 +235,7 @@ fn by_parity(newest: Parity, older: Code, newer: Code) -> Codes
 }
 
 // The place of the newer of two airborne positions.
+#[inline(always)]
 fn air_pair(older: &Airborne, newer: &Airborne) -> Result<Place, PlaceFault>
     ensures { NeedsTwoParities older.now.parity newer.now.parity result (IsAirPairPlace older.now newer.now result) }
 {
@@ -245,6 +248,7 @@ fn air_pair(older: &Airborne, newer: &Airborne) -> Result<Place, PlaceFault>
 }
 
 // The place of the newer of two surface positions.
+#[inline(never)]
 fn ground_pair(
     older: &Surface,
     newer: &Surface,
