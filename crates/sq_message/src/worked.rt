@@ -10,10 +10,13 @@ ghost use Rattle.sq_angle.specs.Position.{lat_of, lon_of};
 ghost use Rattle.sq_zones.specs.declared.parity.Parity.TheVariants.{Even, Odd};
 ghost use Rattle.sq_cpr.specs.Grid.{point_at};
 ghost use Rattle.sq_cpr.specs.Pair.{of_parity};
-ghost use Rattle.sq_message.specs.declared.place.Place.TheVariants.{Air};
+ghost use Rattle.sq_message.specs.declared.place.Place.TheVariants.{Air, Ground};
 
-use crate::laws::{read_near_of_sent_in_air, read_pair_of_sent_in_air};
-use crate::{AirHead, Angle, Parity, Place, PlaceFault, Position};
+use crate::laws::{
+    read_near_of_sent_in_air, read_near_of_sent_on_ground, read_pair_of_sent_in_air,
+    read_pair_of_sent_on_ground,
+};
+use crate::{AirHead, Angle, GroundHead, Parity, Place, PlaceFault, Position};
 
 // The position of so many parts of a degree.
 fn position_of(lat: i64, lon: i64, parts: u64) -> Position
@@ -48,5 +51,42 @@ pub fn read_pair(head: AirHead, newest: Parity) -> Result<Place, PlaceFault>
     let even = position_of(522_572_021, 39_193_726, 10_000_000);
     let odd = position_of(5_226_578, 393_891, 100_000);
     let (_, _, place) = read_pair_of_sent_in_air(head, &even, head, &odd, newest, None);
+    place
+}
+
+/// 52.3206071 4.7347347, sent of the odd grid of the ground with any head and read near 51.99 4.375, is the point to
+/// which it rounds.
+pub fn read_near_on_ground(head: GroundHead) -> Result<Place, PlaceFault>
+    ensures { result ≡ Ok (Ground (point_at Odd (pos 4495647) 35 241341)) }
+{
+    let here = position_of(523_206_071, 47_347_347, 10_000_000);
+    let reference = position_of(51_990, 4_375, 1_000);
+    let (_, place) = read_near_of_sent_on_ground(head, Parity::Odd, &here, &reference);
+    place
+}
+
+/// 52.32304 4.7304726 of the even grid of the ground and 52.3206071 4.7347347 of the odd one, sent with any head and
+/// read as a pair with the site 51.99 4.375, are the point of the newest.
+pub fn read_pair_on_ground(head: GroundHead, newest: Parity) -> Result<Place, PlaceFault>
+    ensures { result ≡ Ok (Ground (of_parity newest (point_at Even (pos 4572057) 36 248013)
+        (point_at Odd (pos 4495647) 35 241341))) }
+{
+    let even = position_of(523_230_400, 47_304_726, 10_000_000);
+    let odd = position_of(523_206_071, 47_347_347, 10_000_000);
+    let site = position_of(51_990, 4_375, 1_000);
+    let (_, _, place) = read_pair_of_sent_on_ground(head, &even, head, &odd, newest, &site);
+    place
+}
+
+/// 52.32304 -175.2695274 of the even grid of the ground and 52.3206071 -175.2652653 of the odd one have the codes of the
+/// pair before. Read with the site 51.99 179.375, on the other side of 180 degrees, they are the point of the newest.
+pub fn read_pair_across_180_degrees(head: GroundHead, newest: Parity) -> Result<Place, PlaceFault>
+    ensures { result ≡ Ok (Ground (of_parity newest (point_at Even (pos 4572057) 36 9685197)
+        (point_at Odd (pos 4495647) 35 9416381))) }
+{
+    let even = position_of(523_230_400, -1_752_695_274, 10_000_000);
+    let odd = position_of(523_206_071, -1_752_652_653, 10_000_000);
+    let site = position_of(51_990, 179_375, 1_000);
+    let (_, _, place) = read_pair_of_sent_on_ground(head, &even, head, &odd, newest, &site);
     place
 }

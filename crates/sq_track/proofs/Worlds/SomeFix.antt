@@ -24,11 +24,12 @@ use Rattle.sq_message.specs.declared.place.PlaceFault.{PlaceFault}
 use Rattle.sq_message.specs.Parts.{squitter_parts}
 use Rattle.sq_message.specs.Places.{IsPosition, IsPlaceOfOneAddress, of_pair, pair_by_parity, place_of}
 use Rattle.sq_message.proofs.PlaceLemmas.{has_code}
+use Rattle.sq_track.specs.declared.heard.Heard.{Heard}
 use Rattle.sq_track.specs.declared.heard.Heard.TheVariants.{Fix, Waiting}
 use Rattle.sq_track.specs.History.{Entry, are_of_one_sender, are_even_and_odd, are_a_pair, parity_of, if_recent}
-use Rattle.sq_track.specs.History.{counterpart, squitter_of}
+use Rattle.sq_track.specs.History.{counterpart, last_fix, squitter_of}
 use Rattle.sq_track.specs.Worlds.{Arrival, IsPlaceOf, HasCodeOf, IsEncodedFrom, IsTruePlace}
-use Rattle.sq_track.specs.Answers.{heard_of_pair, IsHeard, IsHeardOfPair}
+use Rattle.sq_track.specs.Answers.{heard_of_pair, IsHeard, IsHeardAfter, IsHeardOfPair}
 use Rattle.sq_track.specs.Tame.{AreTogether, AreSlowPlaces}
 use Rattle.sq_track.specs.Laws.{OddFirstIsFixed, OddFirstIsFixedOnGround, SlowPairIsFixed, SlowPairIsFixedOnGround}
 use Rattle.sq_track.proofs.Histories.Entries.{sender_parts, together_sym}
@@ -47,7 +48,7 @@ one_count span named newest a b (Err (pairs.ZoneCounts even odd)) same h =
     absurd (h.differ (h.even ∙ same ∙ sym h.odd))
 
 -- an even and an odd parity differ, in both orders
-differ : (p q : Parity) → p ≡ Even → q ≡ Odd → (p ≢ q) × (q ≢ p)
+pub differ : (p q : Parity) → p ≡ Even → q ≡ Odd → (p ≢ q) × (q ≢ p)
 differ p q even odd =
     let never : ◌≢◌ {A = Parity} Even Odd = λ bad. absurd (cc bad) in
     (λ e. never (sym even ∙ e ∙ odd), λ e. never (sym even ∙ sym e ∙ odd))
@@ -142,21 +143,24 @@ positions_of (kinds.Surface a) (kinds.Other b) x y p q h k = absurd k
 positions_of (kinds.Other a) n x y p q h k = absurd h
 
 -- an even parity and an odd one, in both orders
-even_then_odd : (o n : Option Parity) → o ≡ Some Even → n ≡ Some Odd → are_even_and_odd o n ≡ true
+pub even_then_odd : (o n : Option Parity) → o ≡ Some Even → n ≡ Some Odd → are_even_and_odd o n ≡ true
 even_then_odd o n even odd = ap (λ x. are_even_and_odd x n) even ∙ ap (are_even_and_odd (Some Even)) odd
 
 odd_then_even : (o n : Option Parity) → o ≡ Some Odd → n ≡ Some Even → are_even_and_odd o n ≡ true
 odd_then_even o n odd even = ap (λ x. are_even_and_odd x n) odd ∙ ap (are_even_and_odd (Some Odd)) even
 
--- the newer arrival of a pair is heard as the fix of a place where the two are decoded to nothing else
-pub fixed : (window : ℕ) (site : Option Position) (a b : Arrival) (p q : Place) → AreTogether window a b
+-- the newer arrival of a pair is heard as this where the two are decoded to nothing but what is told so, and no last fix
+-- changes it
+pub told : (window : ℕ) (site : Option Position) (a b : Arrival) (p q : Place) → AreTogether window a b
     → are_even_and_odd (parity_of (squitter_parts a.squitter).me) (parity_of (squitter_parts b.squitter).me) ≡ true
-    → IsTruePlace a p → IsTruePlace b q
+    → IsTruePlace a p → IsTruePlace b q → (only : Result Place PlaceFault)
     → ((answer : Result Place PlaceFault)
-    → IsPlaceOfOneAddress (squitter_parts a.squitter).me (squitter_parts b.squitter).me site answer → answer ≡ Ok q)
+    → IsPlaceOfOneAddress (squitter_parts a.squitter).me (squitter_parts b.squitter).me site answer → answer ≡ only)
+    → (heard : Heard) → heard ≡ heard_of_pair only
+    → ((fix : Option Place) → IsHeardAfter fix b.squitter heard heard)
     → IsHeard window site (record { moment = a.moment; squitter = a.squitter; heard = Waiting }
-    ∷ []) b.moment b.squitter (Fix q)
-fixed window site a b p q together two h k decoded =
+    ∷ []) b.moment b.squitter heard
+told window site a b p q together two h k only decoded heard heard_is stays =
     let m = (squitter_parts a.squitter).me in
     let n = (squitter_parts b.squitter).me in
     let entry : Entry = record { moment = a.moment; squitter = a.squitter; heard = Waiting } in
@@ -172,11 +176,22 @@ fixed window site a b p q together two h k decoded =
     let here = some.1.kindred (positions_of m n a.position b.position p q h k)
     (sender_parts a.squitter b.squitter together.sender).0 in
     record {
-      of_pair = Fix q;
-      pair = subst (λ o. IsHeardOfPair site o b.squitter (Fix q)) (sym older)
-          (some.0, some.1, sym (ap heard_of_pair (decoded some.0 here)));
-      after = refl;
+      of_pair = heard;
+      pair = subst (λ o. IsHeardOfPair site o b.squitter heard) (sym older)
+          (some.0, some.1, heard_is ∙ sym (ap heard_of_pair (decoded some.0 here)));
+      after = stays (last_fix window (entry ∷ []) b.moment b.squitter);
     }
+
+-- the newer arrival of a pair is heard as the fix of a place where the two are decoded to nothing else
+fixed : (window : ℕ) (site : Option Position) (a b : Arrival) (p q : Place) → AreTogether window a b
+    → are_even_and_odd (parity_of (squitter_parts a.squitter).me) (parity_of (squitter_parts b.squitter).me) ≡ true
+    → IsTruePlace a p → IsTruePlace b q
+    → ((answer : Result Place PlaceFault)
+    → IsPlaceOfOneAddress (squitter_parts a.squitter).me (squitter_parts b.squitter).me site answer → answer ≡ Ok q)
+    → IsHeard window site (record { moment = a.moment; squitter = a.squitter; heard = Waiting }
+    ∷ []) b.moment b.squitter (Fix q)
+fixed window site a b p q together two h k decoded =
+    told window site a b p q together two h k (Ok q) decoded (Fix q) refl (λ fix. refl)
 
 pub slow_pair_is_fixed : SlowPairIsFixed
 slow_pair_is_fixed window site a b p q pair h k slow same =

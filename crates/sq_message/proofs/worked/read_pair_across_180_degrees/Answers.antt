@@ -1,0 +1,14 @@
+use Rattle.std.proofs.Common.{refl}
+use Rattle.sq_message.proofs.WorkedGround.{even_beyond, odd_beyond, even_beyond_at_site, odd_beyond_at_site, points_beyond_are_close}
+use Rattle.sq_message.proofs.WorkedGround.{even_beyond_position_rounds, odd_beyond_position_rounds}
+use Rattle.sq_message.proofs.worked.read_pair_across_180_degrees.Goals as goal
+
+pub returns : goal.returns
+returns c =
+    let site = c.position_of-site.result in
+    let lat = c.position_of-site.ensures.lat in
+    let lon = c.position_of-site.ensures.lon in
+    c.read_pair_of_sent_on_ground-place.ensures.point even_beyond odd_beyond refl
+    (even_beyond_position_rounds c.position_of-even.result c.position_of-even.ensures.lat c.position_of-even.ensures.lon)
+    (odd_beyond_position_rounds c.position_of-odd.result c.position_of-odd.ensures.lat c.position_of-odd.ensures.lon)
+    points_beyond_are_close (even_beyond_at_site site lat lon) (odd_beyond_at_site site lat lon)
