@@ -6,3 +6,4 @@ pub mod DigitLemmas
 pub mod Moments
 pub mod TimedReadings
 pub mod PlaceTexts
+pub mod EqualTimed

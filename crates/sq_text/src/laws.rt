@@ -12,7 +12,7 @@ ghost use Rattle.sq_text.specs.Show.{IsShown};
 ghost use Rattle.sq_text.specs.Timed.{IsTimedReading, TimedReader};
 ghost use Rattle.sq_text.specs.declared.timed.TimedSquitter.{TimedSquitter};
 
-use crate::{LineFault, TextFault};
+use crate::{LineFault, TextFault, TimedSquitter};
 
 /// A text has one answer of `read_text`.
 pub fn one_answer()
@@ -63,4 +63,11 @@ pub fn equal_line_faults(line_fault: &LineFault, other: &LineFault) -> bool
     ensures { IsTrue result ↔ (line_fault.now ≡ other.now) }
 {
     line_fault == other
+}
+
+/// Whether two squitters with their moments are equal by `==`: exactly if they are one.
+pub fn equal_timed_squitters(timed: &TimedSquitter, other: &TimedSquitter) -> bool
+    ensures { IsTrue result ↔ (timed.now ≡ other.now) }
+{
+    timed == other
 }

@@ -1,0 +1,125 @@
+-- Squitters are equal by `==` exactly if they are one.
+use Rattle.std.proofs.Common.{◌≡◌, ◌↔◌, IsTrue, Bool, true, false, ap, refl, rules, subst}
+use Rattle.std.proofs.Math.Bool.{beq}
+use Rattle.std.proofs.lemmas.Bool.{and_from, and_parts, eq-eqb, eqb-true}
+use Rattle.std.specs.Cmp.Rules.{comparing}
+use Rattle.sq_zones.specs.declared.parity.Parity.{Parity}
+use Rattle.sq_zones.specs.declared.parity.Parity.TheVariants.{Even, Odd}
+use Rattle.sq_zones.specs.contracts.parity.ParityPartialEq.TheImpl.{ghosts as parities}
+use Rattle.sq_cpr.specs.declared.code.Code.{Code}
+use Rattle.sq_cpr.specs.contracts.code.CodePartialEq.TheImpl.{ghosts as codes}
+use Rattle.sq_cpr.proofs.Grids.SameCode.{same_code}
+use Rattle.sq_message.specs.declared.air.AirFields.{AirFields}
+use Rattle.sq_message.specs.declared.air.Airborne.{Airborne}
+use Rattle.sq_message.specs.declared.ground.GroundFields.{GroundFields}
+use Rattle.sq_message.specs.declared.ground.Surface.{Surface}
+use Rattle.sq_message.specs.declared.other.Other.{Other}
+use Rattle.sq_message.specs.declared.squitter.Me.{Me}
+use Rattle.sq_message.specs.declared.squitter.Me.TheVariants as kinds
+use Rattle.sq_message.specs.declared.squitter.Squitter.{Squitter}
+use Rattle.sq_message.specs.contracts.air.AirFieldsPartialEq.TheImpl.{ghosts as air_fields}
+use Rattle.sq_message.specs.contracts.air.AirbornePartialEq.TheImpl.{ghosts as airborne}
+use Rattle.sq_message.specs.contracts.ground.GroundFieldsPartialEq.TheImpl.{ghosts as ground_fields}
+use Rattle.sq_message.specs.contracts.ground.SurfacePartialEq.TheImpl.{ghosts as surface}
+use Rattle.sq_message.specs.contracts.other.OtherPartialEq.TheImpl.{ghosts as others}
+use Rattle.sq_message.specs.contracts.squitter.MePartialEq.TheImpl.{ghosts as mes}
+use Rattle.sq_message.specs.contracts.squitter.SquitterPartialEq.TheImpl.{ghosts as squitters}
+use Rattle.sq_message.proofs.Same.{same_air_fields, same_ground_fields, same_other, same_squitter}
+
+one_bit : (a b : Bool) → beq a b ≡ true → a ≡ b
+one_bit true true h = refl
+one_bit true false h = absurd (cc h)
+one_bit false true h = absurd (cc h)
+one_bit false false h = refl
+
+bit_itself : (a : Bool) → beq a a ≡ true
+bit_itself true = refl
+bit_itself false = refl
+
+one_parity : (p q : Parity) → parities.eq p q ≡ true → p ≡ q
+one_parity Even Even h = refl
+one_parity Even Odd h = absurd (cc h)
+one_parity Odd Even h = absurd (cc h)
+one_parity Odd Odd h = refl
+
+parity_itself : (p : Parity) → parities.eq p p ≡ true
+parity_itself Even = refl
+parity_itself Odd = refl
+
+one_code : (a b : Code) → codes.eq a b ≡ true → a ≡ b
+one_code a b h = let p = and_parts _ _ h in same_code a b (eqb-true a.lat b.lat p.0) (eqb-true a.lon b.lon p.1)
+
+code_itself : (a : Code) → codes.eq a a ≡ true
+code_itself a = search (comparing, rules)
+
+one_air_fields : (a b : AirFields) → air_fields.eq a b ≡ true → a ≡ b
+one_air_fields a b h =
+    let p = and_parts _ _ h in
+    let q = and_parts _ _ p.1 in
+    let r = and_parts _ _ q.1 in
+    let s = and_parts _ _ r.1 in
+    same_air_fields a b (eqb-true a.type_code b.type_code p.0) (eqb-true a.status b.status q.0)
+    (one_bit a.flag b.flag r.0) (eqb-true a.altitude b.altitude s.0) (one_bit a.time b.time s.1)
+
+air_fields_itself : (a : AirFields) → air_fields.eq a a ≡ true
+air_fields_itself a = search (comparing, rules)
+
+one_ground_fields : (a b : GroundFields) → ground_fields.eq a b ≡ true → a ≡ b
+one_ground_fields a b h =
+    let p = and_parts _ _ h in
+    let q = and_parts _ _ p.1 in
+    let r = and_parts _ _ q.1 in
+    let s = and_parts _ _ r.1 in
+    same_ground_fields a b (eqb-true a.type_code b.type_code p.0) (eqb-true a.movement b.movement q.0)
+    (one_bit a.track_status b.track_status r.0) (eqb-true a.track b.track s.0) (one_bit a.time b.time s.1)
+
+ground_fields_itself : (a : GroundFields) → ground_fields.eq a a ≡ true
+ground_fields_itself a = search (comparing, rules)
+
+one_airborne : (a b : Airborne) → airborne.eq a b ≡ true → a ≡ b
+one_airborne a b h =
+    let p = and_parts (air_fields.eq a.fields b.fields) _ h in
+    let q = and_parts (parities.eq a.parity b.parity) (codes.eq a.code b.code) p.1 in
+    let fields = one_air_fields a.fields b.fields p.0 in
+    let parity = one_parity a.parity b.parity q.0 in
+    let code = one_code a.code b.code q.1 in
+    λ i. record { fields = fields i; parity = parity i; code = code i }
+
+one_surface : (a b : Surface) → surface.eq a b ≡ true → a ≡ b
+one_surface a b h =
+    let p = and_parts (ground_fields.eq a.fields b.fields) _ h in
+    let q = and_parts (parities.eq a.parity b.parity) (codes.eq a.code b.code) p.1 in
+    let fields = one_ground_fields a.fields b.fields p.0 in
+    let parity = one_parity a.parity b.parity q.0 in
+    let code = one_code a.code b.code q.1 in
+    λ i. record { fields = fields i; parity = parity i; code = code i }
+
+one_me : (a b : Me) → mes.eq a b ≡ true → a ≡ b
+one_me (kinds.Airborne a) (kinds.Airborne b) h = ap kinds.Airborne (one_airborne a b h)
+one_me (kinds.Airborne a) (kinds.Surface b) h = absurd (cc h)
+one_me (kinds.Airborne a) (kinds.Other b) h = absurd (cc h)
+one_me (kinds.Surface a) (kinds.Airborne b) h = absurd (cc h)
+one_me (kinds.Surface a) (kinds.Surface b) h = ap kinds.Surface (one_surface a b h)
+one_me (kinds.Surface a) (kinds.Other b) h = absurd (cc h)
+one_me (kinds.Other a) (kinds.Airborne b) h = absurd (cc h)
+one_me (kinds.Other a) (kinds.Surface b) h = absurd (cc h)
+one_me (kinds.Other a) (kinds.Other b) h = ap kinds.Other (same_other a b (eqb-true a.raw b.raw h))
+
+me_itself : (a : Me) → mes.eq a a ≡ true
+me_itself (kinds.Airborne a) =
+    and_from _ _ (air_fields_itself a.fields) (and_from _ _ (parity_itself a.parity) (code_itself a.code))
+me_itself (kinds.Surface a) =
+    and_from _ _ (ground_fields_itself a.fields) (and_from _ _ (parity_itself a.parity) (code_itself a.code))
+me_itself (kinds.Other a) = eq-eqb a.raw a.raw refl
+
+one_squitter : (a b : Squitter) → squitters.eq a b ≡ true → a ≡ b
+one_squitter a b h =
+    let p = and_parts _ _ h in
+    let q = and_parts _ (mes.eq a.me b.me) p.1 in
+    same_squitter a b (eqb-true a.ca b.ca p.0) (eqb-true a.address b.address q.0) (one_me a.me b.me q.1)
+
+squitter_itself : (a : Squitter) → squitters.eq a a ≡ true
+squitter_itself a = and_from _ _ (eq-eqb a.ca a.ca refl) (and_from _ _ (eq-eqb a.address a.address refl) (me_itself a.me))
+
+pub equal_squitters : (a b : Squitter) → IsTrue (squitters.eq a b) ↔ (a ≡ b)
+equal_squitters a b = (one_squitter a b, λ e. subst (λ x. squitters.eq a x ≡ true) e (squitter_itself a))
