@@ -8,3 +8,4 @@ pub mod HeardLemmas
 pub mod OneRuns
 pub mod SomeWriters
 pub mod TrackLemmas
+pub mod OnePast

@@ -41,13 +41,9 @@ check_way telling = record {
   text = λ by. telling.text by.writers;
 }
 
--- every state of `check` reads and tells in each way
-abbrev pub IsChecking : {State : Type 0} → State → Checks → Type 0
-IsChecking state by = Unit {0}
-
--- how `check` answers texts: by itself, and without memory
+-- How `check` answers texts: by itself, and without memory. Every state of it reads and tells in each way.
 abbrev pub check_manner : {State : Type 0} → Telling Squitter → Manner State Checks Squitter
-check_manner telling = record { stands_for = IsChecking; way = check_way telling; wants = λ state text. ⊥ }
+check_manner telling = record { stands_for = λ state by. Unit {0}; way = check_way telling; wants = λ state text. ⊥ }
 
 -- the answers to these lines were written
 abbrev pub WroteChecks : Telling Squitter → Written → List (List ℕ) → Type 0

@@ -148,3 +148,8 @@ IsHeardAs telling number timed outcome old new bytes =
     × (outcome ≡ outcome_of (found_of timed reply))
     × StandsFor new (history_after h timed.moment timed.squitter reply)
     × ((writers : Writers) → bytes ≡ telling.text writers number (found_of timed reply))
+
+-- what is replied to a squitter follows from the settings and the history alone, whatever else came before
+abbrev pub OnePast : Type 0
+OnePast = (a b : Tracking) (timed : TimedSquitter) → a.settings ≡ b.settings → a.history ≡ b.history
+    → reply_by a timed ≡ reply_by b timed

@@ -15,6 +15,7 @@ ghost use Rattle.sq_commands.specs.OneRun.{AlikeOutputsEndAlike, AnyDevices, One
 ghost use Rattle.sq_commands.specs.Outputs.{effects, outputs};
 ghost use Rattle.sq_commands.specs.Squitters.{squitter_telling};
 ghost use Rattle.sq_commands.specs.Track.{IsLogRun, IsTracked};
+ghost use Rattle.sq_commands.specs.Tracking.{OnePast};
 
 use crate::status::Status;
 use sq_devices::{Sink, Source};
@@ -45,6 +46,12 @@ pub fn equal_statuses(status: &Status, other: &Status) -> bool
 {
     status == other
 }
+
+/// What `track` replies to a squitter follows from the tracker's settings and the history alone, whatever reads lines,
+/// replies and writes.
+pub fn one_past()
+    ensures { OnePast }
+{}
 
 /// How a run of `check` or of `track` ended says what it did: good where no line was refused, and the answers to all
 /// were written; never as a misuse.

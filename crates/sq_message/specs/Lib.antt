@@ -10,3 +10,4 @@ pub mod Headline
 pub mod Calls
 pub mod Faults
 pub mod Pinned
+pub mod Answered

@@ -22,6 +22,8 @@ ghost use Rattle.sq_cpr.specs.Slow.{IsPointWithin};
 ghost use Rattle.sq_cpr.specs.Zones.{ZonePair, PositionIsInZones};
 ghost use Rattle.sq_message.specs.Kinds.{InAir, OnGround};
 ghost use Rattle.sq_message.specs.Altitudes.{IsAltitude, IsFieldOfFeet};
+ghost use Rattle.sq_message.specs.Answered.{NoPlaceExactly, NoPlaceNearExactly, OneAnswerNear, OneAnswerOfPair};
+ghost use Rattle.sq_message.specs.Answered.{OnePlaceOfNewer, ReadAsPairExactly, ReadNearExactly, SentAgainExactly};
 ghost use Rattle.sq_message.specs.Calls.{DecodedIsSentAgain, HasNoPlaceNear, HaveNoPlace, IsPlaceOfPair, IsAnswerNear};
 ghost use Rattle.sq_message.specs.Calls.{IsPlaceOfNewer, IsAnswerOfPair, IsSentAgain};
 ghost use Rattle.sq_message.specs.Heads.{air_head_parts, ground_head_parts};
@@ -266,6 +268,32 @@ pub fn near_reference_exactly()
     ensures in_air { NearReferenceExactly InAir }
     ensures on_ground { NearReferenceExactly OnGround }
     ensures lie_at { LieAtExactly }
+{}
+
+/// A frame has one answer near a reference, and an even and an odd one have one as a pair, of which the newer has one
+/// place.
+pub fn one_answer_of_frames()
+    ensures near { OneAnswerNear }
+    ensures pair { OneAnswerOfPair }
+    ensures newer { OnePlaceOfNewer }
+{}
+
+/// A frame is read near a reference as a place, and an even and an odd one as a pair, exactly where it has an answer
+/// that is that place: what the headline says of every reading and answer, and what calls say of theirs, is one.
+pub fn read_exactly()
+    ensures near { ReadNearExactly }
+    ensures pair { ReadAsPairExactly }
+{}
+
+/// Frames have no place exactly where none is an answer, near a reference and as a pair.
+pub fn no_place_exactly()
+    ensures near { NoPlaceNearExactly }
+    ensures pair { NoPlaceExactly }
+{}
+
+/// Sent again is this and no more: what is sent of the place is written as the frame that it was.
+pub fn sent_again_exactly()
+    ensures { SentAgainExactly }
 {}
 
 /// What frames of positions say, whole.

@@ -10,16 +10,28 @@ use Rattle.sq_message.specs.declared.place.Place.{Place}
 use Rattle.sq_message.specs.declared.place.Place.TheVariants.{Air, Ground}
 use Rattle.sq_message.specs.declared.squitter.Me.{Me}
 use Rattle.sq_message.specs.declared.squitter.Squitter.{Squitter}
+use Rattle.sq_cpr.specs.declared.code.Code.{Code}
+use Rattle.sq_message.specs.Kinds.{Kind, HeadParts, InAir, OnGround, me_of}
 use Rattle.sq_message.specs.Parts.{squitter_parts}
-use Rattle.sq_message.specs.Places.{IsPosition}
+use Rattle.sq_message.specs.Places.{IsPosition, IsPositionOf}
+use Rattle.sq_zones.specs.declared.parity.Parity.{Parity}
+use Rattle.sq_zones.specs.declared.parity.Parity.TheVariants.{Even, Odd}
+use Rattle.sq_track.specs.declared.contact.Contact.{Contact}
+use Rattle.sq_track.specs.declared.contact.Received.{Received}
+use Rattle.sq_track.specs.declared.contact.Side.{Side}
 use Rattle.sq_track.specs.declared.heard.Heard.{Heard}
 use Rattle.sq_track.specs.declared.heard.Heard.TheVariants.{Fix, Followed, Far}
 use Rattle.sq_track.specs.declared.heard.TrackFault.TheVariants.{Memory}
-use Rattle.sq_track.specs.History.{Entry, History, are_of_one_sender, parity_of}
-use Rattle.sq_track.specs.Replies.{Settings, IsAcceptable, IsReply, of_address}
+use Rattle.sq_track.specs.Answers.{IsHeard}
+use Rattle.sq_track.specs.Held.{Held, StandsFor}
+use Rattle.sq_track.specs.History.{Entry, History, are_of_one_sender, parity_of, place_heard}
+use Rattle.sq_track.specs.Kept.{IsContactHearing, Remembers, of_other_parity}
+use Rattle.sq_track.specs.Laws.{AreTrueInSlowWorlds}
+use Rattle.sq_track.specs.Replies.{Settings, IsAcceptable, IsInTime, IsReply, of_address}
 use Rattle.sq_track.specs.Worlds.{Arrival, World, IsEncodedFrom, IsTruePlace, IsTrueFix, IsTruePlaceHeard, IfHeard}
+use Rattle.sq_track.specs.Worlds.{ArisesFrom, received_of}
 use Rattle.sq_track.specs.Tame.{AreTamePlaces, AreSlowPlaces, AreNearPlaces, AreSlowToFollow, ArePairTogether, IsTame}
-use Rattle.sq_track.specs.Tame.{IsSlow, IsNearSite, IsPositionNearSite}
+use Rattle.sq_track.specs.Tame.{IsSlow, IsSlowForFollowing, IsNearSite, IsPositionNearSite}
 use Rattle.sq_track.specs.Standing.{IsStanding}
 
 -- any squitter may arrive at any moment, from each position that its code was encoded from
@@ -105,3 +117,65 @@ abbrev pub MemoryExactly : Type 0
 MemoryExactly =
     (settings : Settings) (history : History) (moment : ℕ) (squitter : Squitter)
     → IsReply settings history moment squitter (Err Memory) ↔ IsAcceptable settings history moment squitter
+
+-- the position that a side keeps of a parity
+abbrev pub kept_of : Parity → Side → Option Received
+kept_of Even side = side.even
+kept_of Odd side = side.odd
+
+-- what a contact keeps of a kind
+abbrev pub side_of : Kind → Contact → Side
+side_of InAir contact = contact.airborne
+side_of OnGround contact = contact.surface
+
+abbrev pub other_kind : Kind → Kind
+other_kind InAir = OnGround
+other_kind OnGround = InAir
+
+-- what is heard of what a contact keeps is one
+abbrev pub OneHearing : Type 0
+OneHearing =
+    (window : ℕ) (site : Option Position) (moment : ℕ) (squitter : Squitter) (before x y : Contact)
+    (heard other : Heard) → IsContactHearing window site moment squitter before heard x
+    → IsContactHearing window site moment squitter before other y → heard ≡ other
+
+-- by each history that the contact remembered it is the answer, and afterwards the contact remembers it too
+abbrev pub HearingRemembers : Type 0
+HearingRemembers =
+    (window : ℕ) (site : Option Position) (moment : ℕ) (squitter : Squitter) (before after : Contact)
+    (heard : Heard) (history : History) → IsContactHearing window site moment squitter before heard after
+    → Remembers window (squitter_parts squitter).address history before → IsInTime history moment
+    → IsHeard window site history moment squitter heard
+    × Remembers window (squitter_parts squitter).address
+    (record { moment = moment; squitter = squitter; heard = heard } ∷ history) after
+
+-- Of a position, the squitter is kept as the one of its kind and parity, the one of the other parity and all of the
+-- other kind as they were, the last fix as the position of the place that was heard, or as it was where there was none,
+-- and the moment.
+abbrev pub HearingKeeps : Type 0
+HearingKeeps =
+    (window : ℕ) (site : Option Position) (moment : ℕ) (squitter : Squitter) (before after : Contact)
+    (heard : Heard) (kind : Kind) (head : HeadParts kind) (parity : Parity) (code : Code)
+    → IsContactHearing window site moment squitter before heard after
+    → (squitter_parts squitter).me ≡ me_of kind head parity code
+    → (kept_of parity (side_of kind after) ≡ Some (record { moment = moment; squitter = squitter }))
+    × (of_other_parity parity (side_of kind after) ≡ of_other_parity parity (side_of kind before))
+    × ((place : Place) → place_heard heard ≡ Some place → (position : Position) × IsPositionOf place position
+    × ((side_of kind after).fix ≡ Some (record { moment = moment; position = position })))
+    × (place_heard heard ≡ None → (side_of kind after).fix ≡ (side_of kind before).fix)
+    × (side_of (other_kind kind) after ≡ side_of (other_kind kind) before) × (after.moment ≡ moment)
+
+-- of a message without a position nothing is kept
+abbrev pub HearingKeepsNothing : Type 0
+HearingKeepsNothing =
+    (window : ℕ) (site : Option Position) (moment : ℕ) (squitter : Squitter) (before after : Contact)
+    (heard : Heard) → IsContactHearing window site moment squitter before heard after
+    → ¬ IsPosition (squitter_parts squitter).me → after ≡ before
+
+-- what is heard of one arrival of a slow world, by a tracker whose replies are true in slow worlds, is true of it
+abbrev pub TrueOfOne : Type 0
+TrueOfOne =
+    (tracker : Held) (world : World) (history : History) (arrival : Arrival) (heard : Heard)
+    → AreTrueInSlowWorlds tracker (received_of arrival ∷ []) (Ok heard ∷ []) → StandsFor tracker history
+    → ArisesFrom world history → IsSlow tracker.window tracker.site world → IsSlowForFollowing tracker.window world
+    → Contains world arrival → IsTruePlaceHeard arrival heard

@@ -28,7 +28,7 @@ use Rattle.squitter_c.specs.Tracking.{BlankKeepsNothing, IsContactOf, IsFixOf, I
 use Rattle.squitter_c.specs.Tracking.{last_of, no_bytes}
 
 -- a kept frame stands for one squitter, or for none
-one_received : (plain : PlainReceived) (a b : Option Received) → IsReceivedOf plain a → IsReceivedOf plain b → a ≡ b
+pub one_received : (plain : PlainReceived) (a b : Option Received) → IsReceivedOf plain a → IsReceivedOf plain b → a ≡ b
 one_received plain (Some a) (Some b) x y =
     let squitter = one_squitter (frame_of plain.frame) a.squitter b.squitter x.0 y.0 in
     let moment = x.1 ∙ sym y.1 in
@@ -38,7 +38,7 @@ one_received plain None (Some b) x y = absurd (x b.squitter y.0)
 one_received plain None None x y = refl
 
 -- a kept fix stands for one, or for none
-one_fix : (plain : PlainFix) (a b : Option LastFix) → IsFixOf plain a → IsFixOf plain b → a ≡ b
+pub one_fix : (plain : PlainFix) (a b : Option LastFix) → IsFixOf plain a → IsFixOf plain b → a ≡ b
 one_fix plain (Some a) (Some b) x y =
     let position = one_of_degrees plain.position a.position b.position x.0 y.0 in
     let moment = x.1 ∙ sym y.1 in
@@ -47,7 +47,7 @@ one_fix plain (Some a) None x y = absurd (y (is_position plain.position a.positi
 one_fix plain None (Some b) x y = absurd (x (is_position plain.position b.position y.0))
 one_fix plain None None x y = refl
 
-one_side : (plain : PlainSide) (a b : Side) → IsSideOf plain a → IsSideOf plain b → a ≡ b
+pub one_side : (plain : PlainSide) (a b : Side) → IsSideOf plain a → IsSideOf plain b → a ≡ b
 one_side plain a b x y =
     let even = one_received plain.even a.even b.even x.even y.even in
     let odd = one_received plain.odd a.odd b.odd x.odd y.odd in

@@ -4,3 +4,6 @@ pub mod Blanks
 pub mod OneAnswers
 pub mod OnePlaces
 pub mod OneFrames
+pub mod Hearings
+pub mod AtPlaces
+pub mod OneTexts

@@ -176,7 +176,7 @@ one_reading_of = record {
 is_angle : (plain : PlainAngle) (a : Angle) → degrees a ≡ fraction_of plain → PlainIsAngle plain
 is_angle plain a same = subst (λ (f : Fraction). IsAngle f.num f.den) same a.in_range
 
-one_angle_answer : (plain : PlainAngle) (r s : Result Angle Refusal) → IsAngleAnswer plain r → IsAngleAnswer plain s
+pub one_angle_answer : (plain : PlainAngle) (r s : Result Angle Refusal) → IsAngleAnswer plain r → IsAngleAnswer plain s
     → r ≡ s
 one_angle_answer plain (Ok a) (Ok b) h k = ap Ok (one_angle a b (h ∙ sym k))
 one_angle_answer plain (Ok a) (Err e) h k = absurd (k.0 (is_angle plain a h))

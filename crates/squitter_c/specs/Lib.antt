@@ -11,3 +11,4 @@ pub mod E7
 pub mod Many
 pub mod Zones
 pub mod OneAnswers
+pub mod Pinned

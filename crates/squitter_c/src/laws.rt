@@ -1,10 +1,11 @@
 //! Laws of the texts of faults, of entries, and of one answer, over the definitions alone.
 ghost use Rattle.sq_message.specs.Kinds.{InAir, OnGround};
 ghost use Rattle.squitter_c.specs.OneAnswers.{OneNumber, OnePlace, OneReading, OneSent};
+ghost use Rattle.squitter_c.specs.Pinned.{EntryKeeps, EntryKeepsMoment, OfEach, OneAngleText, OneHeardFrame};
 ghost use Rattle.squitter_c.specs.Texts.{EachText};
 ghost use Rattle.squitter_c.specs.Tracking.{AsTheTracker, BlankKeepsNothing, OneHeardByEntry};
 
-use sq_track::laws::{one_address_alone, one_answer, one_answer_by_kept};
+use sq_track::laws::{one_address_alone, one_answer};
 
 /// The text of a fault is that of its reason.
 pub fn each_text()
@@ -28,9 +29,24 @@ pub fn as_the_tracker()
 /// By what an entry keeps, whatever that is, one thing is heard of a squitter.
 pub fn one_heard_by_entry()
     ensures { OneHeardByEntry }
-{
-    one_answer_by_kept();
-}
+{}
+
+/// What an entry keeps after a frame, whatever it kept before: a position's frame stands in the place of its kind and
+/// parity, both moments are the frame's, and the fix is the place that was heard; all else stands for what it did.
+pub fn entry_keeps()
+    ensures position { EntryKeeps }
+    ensures other { EntryKeepsMoment }
+{}
+
+/// A frame that is heard has one answer, with a site and without: what is written in `out` and the fault are one.
+pub fn one_heard_frame()
+    ensures { OneHeardFrame }
+{}
+
+/// What stands at a place of arrays is what the call by itself answers there.
+pub fn of_each()
+    ensures { OfEach }
+{}
 
 /// A text and a frame have one answer: what is written in `out` and the fault are one.
 pub fn one_reading()
@@ -51,4 +67,9 @@ pub fn one_number()
 pub fn one_frame_sent()
     ensures in_air { OneSent InAir }
     ensures on_ground { OneSent OnGround }
+{}
+
+/// An angle has one text, or one fault, in a buffer of one length.
+pub fn one_angle_text()
+    ensures { OneAngleText }
 {}

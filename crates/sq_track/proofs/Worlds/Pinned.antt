@@ -1,6 +1,8 @@
 -- What worlds are, and what is said of them.
-use Rattle.std.proofs.Common.{◌≡◌, ◌≢◌, ◌∙◌, ◌⊎◌, inl, inr, ℕ, Bool, true, false, [], ◌∷◌, Option, refl, sym, subst}
+use Rattle.std.proofs.Common.{◌≡◌, ◌≢◌, ◌∙◌, ◌⊎◌, inl, inr, ℕ, Bool, true, false, [], ◌∷◌, Contains, Option, refl, sym}
+use Rattle.std.proofs.Common.{subst}
 use Rattle.std.proofs.lemmas.Bool.{eq-eqb, eqb-true}
+use Rattle.std.proofs.lemmas.List.Elements.{All-contains, All-from_recursion}
 use Rattle.sq_angle.specs.declared.position.Position.{Position}
 use Rattle.sq_message.specs.declared.place.Place.{Place}
 use Rattle.sq_message.specs.declared.squitter.Me.TheVariants as kinds
@@ -11,7 +13,7 @@ use Rattle.sq_track.specs.Worlds.{Arrival, IsTruePlace}
 use Rattle.sq_track.specs.Tame.{ArePairTogether, AreTamePlaces, IsTame}
 use Rattle.sq_track.specs.Standing.{AreOnePlace}
 use Rattle.sq_track.specs.Pinned.{SomeArrival, OtherIsEncoded, PlacesExactly, OneParityIsSlow, TamePairExactly}
-use Rattle.sq_track.specs.Pinned.{OnePositionStands, OfAddressExactly, SaidExactly, MemoryExactly}
+use Rattle.sq_track.specs.Pinned.{OnePositionStands, OfAddressExactly, SaidExactly, MemoryExactly, TrueOfOne}
 use Rattle.sq_track.proofs.Lists.Filters.{filter-cons_yes, filter-cons_no}
 use Rattle.sq_track.proofs.Worlds.ByPairs.{Pairs, each_two, in_pair, is_one_of, odd_is_even, parity_at, pairs_itself}
 use Rattle.sq_track.proofs.Worlds.Standing.{one_with_itself}
@@ -106,3 +108,11 @@ said_exactly = record {
 
 pub memory_exactly : MemoryExactly
 memory_exactly s h m q = (λ k. k, λ k. k)
+
+each_of_one : (P : Arrival → Type 0) (a b : Arrival) → P a → Contains (a ∷ []) b → P b
+each_of_one P a b h there = All-contains P (a ∷ []) b (All-from_recursion P (a ∷ []) (h, tt)) there
+
+pub true_of_one : TrueOfOne
+true_of_one t world history a heard all stands arises slow following there =
+    (all world (a ∷ []) history stands arises slow following (λ b among. each_of_one (Contains world) a b there among)
+    refl).0
