@@ -13,7 +13,6 @@ use Rattle.sq_message.specs.declared.air.AirFields.{AirFields}
 use Rattle.sq_message.specs.declared.air.Airborne.{Airborne}
 use Rattle.sq_message.specs.declared.ground.GroundFields.{GroundFields}
 use Rattle.sq_message.specs.declared.ground.Surface.{Surface}
-use Rattle.sq_message.specs.declared.other.Other.{Other}
 use Rattle.sq_message.specs.declared.squitter.Me.{Me}
 use Rattle.sq_message.specs.declared.squitter.Me.TheVariants as kinds
 use Rattle.sq_message.specs.declared.squitter.Squitter.{Squitter}
@@ -21,7 +20,6 @@ use Rattle.sq_message.specs.contracts.air.AirFieldsPartialEq.TheImpl.{ghosts as 
 use Rattle.sq_message.specs.contracts.air.AirbornePartialEq.TheImpl.{ghosts as airborne}
 use Rattle.sq_message.specs.contracts.ground.GroundFieldsPartialEq.TheImpl.{ghosts as ground_fields}
 use Rattle.sq_message.specs.contracts.ground.SurfacePartialEq.TheImpl.{ghosts as surface}
-use Rattle.sq_message.specs.contracts.other.OtherPartialEq.TheImpl.{ghosts as others}
 use Rattle.sq_message.specs.contracts.squitter.MePartialEq.TheImpl.{ghosts as mes}
 use Rattle.sq_message.specs.contracts.squitter.SquitterPartialEq.TheImpl.{ghosts as squitters}
 use Rattle.sq_message.proofs.Same.{same_air_fields, same_ground_fields, same_other, same_squitter}

@@ -161,7 +161,7 @@ joined_at : (vs : List ℕ) → length vs ≡ 16 → (i : ℕ) → i < 8
     → get_or (joined vs) i 0 ≡ joined_pair (get_or vs (2 * i) 0) (get_or vs (2 * i + 1) 0)
 joined_at vs long i small =
     get_or-map-range_with_len (λ j. joined_pair (get_or (vs ++ vs) (2 * j) 0) (get_or (vs ++ vs) (2 * j + 1) 0))
-    0 8 i i 0     small (omega arith)
+    0 8 i i 0 small (omega arith)
     ∙ ap₂ joined_pair (get_or_append_left vs vs 0 (2 * i) (omega (arith, long)))
     (get_or_append_left vs vs 0 (2 * i + 1) (omega (arith, long)))
 

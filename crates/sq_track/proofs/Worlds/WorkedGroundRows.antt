@@ -1,5 +1,5 @@
 -- Worked arrivals on the ground: what is heard of them, and that there are such.
-use Rattle.std.proofs.Common.{◌≡◌, ◌≢◌, ◌∙◌, ◌∷◌, [], ◌<◌, ◌≤◌, ◌*◌, ◌^◌, ℕ, ℤ, pos, neg_ℤ, false, Some, None, Result, Err}
+use Rattle.std.proofs.Common.{◌≡◌, ◌≢◌, ◌∙◌, ◌∷◌, [], ◌<◌, ◌≤◌, ◌*◌, ◌^◌, ℕ, pos, neg_ℤ, false, Some, None, Result, Err}
 use Rattle.std.proofs.Common.{arith, refl, sym, ap, subst}
 use Rattle.std.proofs.lemmas.Int.{ints}
 use Rattle.sq_angle.specs.Angle.{degrees}
