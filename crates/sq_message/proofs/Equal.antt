@@ -117,7 +117,8 @@ one_squitter a b h =
     same_squitter a b (eqb-true a.ca b.ca p.0) (eqb-true a.address b.address q.0) (one_me a.me b.me q.1)
 
 squitter_itself : (a : Squitter) → squitters.eq a a ≡ true
-squitter_itself a = and_from _ _ (eq-eqb a.ca a.ca refl) (and_from _ _ (eq-eqb a.address a.address refl) (me_itself a.me))
+squitter_itself a =
+    and_from _ _ (eq-eqb a.ca a.ca refl) (and_from _ _ (eq-eqb a.address a.address refl) (me_itself a.me))
 
 pub equal_squitters : (a b : Squitter) → IsTrue (squitters.eq a b) ↔ (a ≡ b)
 equal_squitters a b = (one_squitter a b, λ e. subst (λ x. squitters.eq a x ≡ true) e (squitter_itself a))

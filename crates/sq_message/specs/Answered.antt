@@ -32,7 +32,7 @@ ReadNearExactly =
     (frame : Frame) (reference : Position) (place : Place) → IsFrame frame
     → IsReadNear frame reference place ↔ IsAnswerNear frame reference (Ok place)
 
--- so two frames are read as a pair
+-- Two frames are read as a pair, whatever their readings and the answer are, exactly if they have some that are this.
 abbrev pub ReadAsPairExactly : Type 0
 ReadAsPairExactly =
     (newest : Parity) (even odd : Frame) (site : Option Position) (place : Place) → IsFrame even → IsFrame odd

@@ -78,8 +78,9 @@ pub fn read_pair_on_ground(head: GroundHead, newest: Parity) -> Result<Place, Pl
     place
 }
 
-/// 52.32304 -175.2695274 of the even grid of the ground and 52.3206071 -175.2652653 of the odd one have the codes of the
-/// pair before. Read with the site 51.99 179.375, on the other side of 180 degrees, they are the point of the newest.
+/// 52.32304 -175.2695274 of the even grid of the ground and 52.3206071 -175.2652653 of the odd one have the codes of
+/// the pair before. Read with the site 51.99 179.375, on the other side of 180 degrees, they are the point of the
+/// newest.
 pub fn read_pair_across_180_degrees(head: GroundHead, newest: Parity) -> Result<Place, PlaceFault>
     ensures { result ≡ Ok (Ground (of_parity newest (point_at Even (pos 4572057) 36 9685197)
         (point_at Odd (pos 4495647) 35 9416381))) }

@@ -111,7 +111,7 @@ clear p [] e i within = absurd (omega arith)
 clear p (x ∷ xs) e zero within = (bits (p x) (mask_l (map p xs)) e).0
 clear p (x ∷ xs) e (suc i) within = clear p xs (bits (p x) (mask_l (map p xs)) e).1 i (omega arith)
 
--- so each byte is a digit
+-- each byte of such a vector is a digit
 pub are_known : (text : List ℕ) → length text ≡ 16 → Each1 (Fits w8) text
     → eqb (mask_l (map (top 7) (masks text)) % 2 ^ 64) 0 ≡ true → (i : ℕ) → i < 16
     → is_hex_digit (get_or text i 0) ≡ true
@@ -228,7 +228,7 @@ abbrev pub AreSpelled : List ℕ → ℕ → List ℕ → Type 0
 AreSpelled body k [] = Unit {0}
 AreSpelled body k (byte ∷ rest) = SpellsByte body k byte × AreSpelled body (k + 1) rest
 
--- so they are what is decoded from there on
+-- bytes that are spelled are what is decoded from there on
 pub decoded : (body bytes : List ℕ) (k : ℕ) → 2 * (k + length bytes) ≡ length body → AreSpelled body k bytes
     → decode_pairs (2 * k) (drop (2 * k) body) ≡ Ok bytes
 unfolding decode_pairs

@@ -1,6 +1,6 @@
 //! The laws of worlds, of following and of one address, in numbers: 40621D flies by, is heard three times within 9
-//! seconds, and 484175 between; on the ground 484175 moves on the other side of 180 degrees than its site, is heard four
-//! times within 12 seconds, and 40621D between.
+//! seconds, and 484175 between; on the ground 484175 moves on the other side of 180 degrees than its site, and is heard
+//! four times within 12 seconds, and 40621D between.
 ghost use Rattle.sq_track.specs.Worked.{SecondIsFixed, SecondIsFixedAmongOthers, ThirdIsFollowed, TruePlaces};
 ghost use Rattle.sq_track.specs.Worked.{SomeWorked, TwoAreSlow, TwoAreTrue};
 ghost use Rattle.sq_track.specs.WorkedGround.{FourthIsFixed, SecondIsFixed as FixedOnGround, SecondWantsASite};
@@ -69,8 +69,8 @@ pub fn third_is_followed_on_ground()
     ensures { FollowedOnGround }
 {}
 
-/// The fourth on the ground, an even one, is heard with the site as the fix of its own point where the odd one 6 seconds
-/// before was heard alone.
+/// The fourth on the ground, an even one, is heard with the site as the fix of its own point where the odd one 6
+/// seconds before was heard alone.
 pub fn fourth_is_fixed_on_ground()
     ensures { FourthIsFixed }
 {}

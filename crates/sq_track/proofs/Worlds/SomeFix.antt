@@ -149,8 +149,8 @@ even_then_odd o n even odd = ap (λ x. are_even_and_odd x n) even ∙ ap (are_ev
 odd_then_even : (o n : Option Parity) → o ≡ Some Odd → n ≡ Some Even → are_even_and_odd o n ≡ true
 odd_then_even o n odd even = ap (λ x. are_even_and_odd x n) odd ∙ ap (are_even_and_odd (Some Odd)) even
 
--- the newer arrival of a pair is heard as this where the two are decoded to nothing but what is told so, and no last fix
--- changes it
+-- The newer arrival of a pair is heard as this where the two are decoded to nothing but what is told so, and no last
+-- fix changes it.
 pub told : (window : ℕ) (site : Option Position) (a b : Arrival) (p q : Place) → AreTogether window a b
     → are_even_and_odd (parity_of (squitter_parts a.squitter).me) (parity_of (squitter_parts b.squitter).me) ≡ true
     → IsTruePlace a p → IsTruePlace b q → (only : Result Place PlaceFault)

@@ -8,7 +8,8 @@ returns c =
     let site = c.position_of-site.result in
     let lat = c.position_of-site.ensures.lat in
     let lon = c.position_of-site.ensures.lon in
+    let even = c.position_of-even.ensures in
     c.read_pair_of_sent_on_ground-place.ensures.point even_beyond odd_beyond refl
-    (even_beyond_position_rounds c.position_of-even.result c.position_of-even.ensures.lat c.position_of-even.ensures.lon)
+    (even_beyond_position_rounds c.position_of-even.result even.lat even.lon)
     (odd_beyond_position_rounds c.position_of-odd.result c.position_of-odd.ensures.lat c.position_of-odd.ensures.lon)
     points_beyond_are_close (even_beyond_at_site site lat lon) (odd_beyond_at_site site lat lon)
