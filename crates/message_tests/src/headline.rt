@@ -69,6 +69,31 @@ fn reads_worked_positions(rt: HostRuntime) {
     }
 }
 
+#[test]
+fn reads_worked_positions_on_the_ground(rt: HostRuntime) {
+    let head = ground_head(&rt);
+    let even = position(&rt, (13_716_171, 262_144), (1_240_065, 262_144));
+    let odd = position(&rt, (202_304_115, 3_866_624), (2_172_069, 458_752));
+    let near = worked::read_near_on_ground(head).expect(&rt, "a place");
+    assert!(rt; near.position() == odd);
+    for (newest, point) in [(Parity::Even, even), (Parity::Odd, odd)] {
+        let place = worked::read_pair_on_ground(head, newest).expect(&rt, "a place");
+        assert!(rt; place.position() == point);
+    }
+}
+
+// By the same codes as the pair before.
+#[test]
+fn reads_a_worked_pair_across_180_degrees(rt: HostRuntime) {
+    let head = ground_head(&rt);
+    let even = position(&rt, (13_716_171, 262_144), (-45_945_855, 262_144));
+    let odd = position(&rt, (202_304_115, 3_866_624), (-80_403_291, 458_752));
+    for (newest, point) in [(Parity::Even, even), (Parity::Odd, odd)] {
+        let place = worked::read_pair_across_180_degrees(head, newest).expect(&rt, "a place");
+        assert!(rt; place.position() == point);
+    }
+}
+
 fn assert_sent_again_near(rt: &impl Abort, frame: &Frame, reference: &Position) {
     let sent = laws::sent_again_near(frame, reference);
     let (squitter, place, again) = sent.expect(rt, "a place");

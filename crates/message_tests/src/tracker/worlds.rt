@@ -106,3 +106,13 @@ fn laws_of_worked_arrivals(rt: HostRuntime) {
     worked::second_is_fixed();
     worked::third_is_followed();
 }
+
+#[test]
+fn laws_of_worked_arrivals_on_the_ground(rt: HostRuntime) {
+    worked::some_arrivals_on_ground();
+    worked::true_places_on_ground();
+    worked::two_are_true_on_ground();
+    worked::second_is_fixed_on_ground();
+    worked::third_is_followed_on_ground();
+    worked::fourth_is_fixed_on_ground();
+}
