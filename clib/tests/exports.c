@@ -30,12 +30,13 @@ static int same_place(const squitter_position *one, const squitter_position *oth
   return same_angle(one->lat, other->lat) && same_angle(one->lon, other->lon);
 }
 
-/* Whether each byte, up to those behind the last field, is as `filled` left it. */
-static void filled(void *at, size_t size) { memset(at, 9, size); }
+/* What is lent to a call is filled with this byte before it; where the call refuses, each byte is as it was. */
+enum { UNTOUCHED = 9 };
+static void filled(void *at, size_t size) { memset(at, UNTOUCHED, size); }
 static int is_filled(const void *at, size_t size) {
   const uint8_t *bytes = at;
   for (size_t i = 0; i < size; i++)
-    if (bytes[i] != 9) return 0;
+    if (bytes[i] != UNTOUCHED) return 0;
   return 1;
 }
 
