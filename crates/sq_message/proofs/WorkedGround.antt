@@ -14,6 +14,7 @@ use Rattle.sq_cpr.specs.Grid.{IsGridPoint, Point, circle, latitude, point_at}
 use Rattle.sq_cpr.specs.Near.{IsStrictlyNearPoint, IsStrictlyNearPosition, OnSomeTurn, angle_at}
 use Rattle.sq_cpr.specs.Rounds.{PositionRoundsTo, RoundsTo}
 use Rattle.sq_cpr.specs.Slow.{DifferByLess, IsPointWithin}
+use Rattle.sq_message.proofs.WorkedPoints.{of_position}
 
 -- so many parts of a degree east, and west
 abbrev pub east : ℕ → ℕ → Fraction
@@ -34,12 +35,6 @@ even_beyond = point_at Even (pos 4572057) 36 9685197
 
 abbrev pub odd_beyond : Point
 odd_beyond = point_at Odd (pos 4495647) 35 9416381
-
--- what holds of these fractions holds of a position that has them
-pub of_position : (P : Fraction → Fraction → Type 0) (lat lon : Fraction) (x : Position) → degrees (lat_of x) ≡ lat
-    → degrees (lon_of x) ≡ lon → P lat lon → P (degrees (lat_of x)) (degrees (lon_of x))
-of_position P lat lon x same_lat same_lon p =
-    subst (λ f. P f (degrees (lon_of x))) (sym same_lat) (subst (λ f. P lat f) (sym same_lon) p)
 
 -- ---- to which points the positions round
 

@@ -35,7 +35,7 @@ even_rounds = record {
 }
 
 -- what holds of these fractions holds of a position that has them
-of_position : (P : Fraction → Fraction → Type 0) (lat lon : Fraction) (x : Position) → degrees (lat_of x) ≡ lat
+pub of_position : (P : Fraction → Fraction → Type 0) (lat lon : Fraction) (x : Position) → degrees (lat_of x) ≡ lat
     → degrees (lon_of x) ≡ lon → P lat lon → P (degrees (lat_of x)) (degrees (lon_of x))
 of_position P lat lon x same_lat same_lon p =
     subst (λ f. P f (degrees (lon_of x))) (sym same_lat) (subst (λ f. P lat f) (sym same_lon) p)

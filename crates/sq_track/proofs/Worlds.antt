@@ -10,7 +10,7 @@ pub mod SlowWorlds
 pub mod SomeFix
 pub mod Standing
 pub mod TrueWorlds
+pub mod WorkedArrivals
 pub mod WorkedGround
 pub mod WorkedGroundRows
 pub mod WorkedRows
-pub mod WorkedSquitters

@@ -1,16 +1,11 @@
 -- Worked arrivals, in numbers: three squitters of one address, an even one and two odd ones, and what is heard of them.
 use Rattle.std.specs.Prelude.{◌≡◌, ◌∷◌, [], ℕ, pos, List, map, Option, Result}
 use Rattle.std.specs.List.{AllZip}
-use Rattle.sq_angle.specs.Angle.{degrees}
-use Rattle.sq_angle.specs.Fraction.{Fraction}
-use Rattle.sq_angle.specs.Position.{lat_of, lon_of}
 use Rattle.sq_angle.specs.declared.position.Position.{Position}
-use Rattle.sq_zones.specs.declared.parity.Parity.{Parity}
 use Rattle.sq_zones.specs.declared.parity.Parity.TheVariants.{Even, Odd}
 use Rattle.sq_cpr.specs.Grid.{Point, point_at}
-use Rattle.sq_message.specs.declared.air.Airborne.{Airborne}
 use Rattle.sq_message.specs.declared.place.Place.TheVariants.{Air}
-use Rattle.sq_message.specs.declared.squitter.Me.TheVariants as kinds
+use Rattle.sq_message.specs.Kinds.{InAir}
 use Rattle.sq_message.specs.Parts.{squitter_parts}
 use Rattle.sq_track.specs.declared.heard.Heard.{Heard}
 use Rattle.sq_track.specs.declared.heard.Heard.TheVariants.{Fix, Followed}
@@ -20,34 +15,20 @@ use Rattle.sq_track.specs.History.{Entry}
 use Rattle.sq_track.specs.Laws.{as_fix, as_waiting}
 use Rattle.sq_track.specs.Replies.{AreReplies}
 use Rattle.sq_track.specs.Tame.{IsSlow, IsSlowForFollowing}
+use Rattle.sq_track.specs.WorkedArrivals.{IsArrivalFrom, parts}
 use Rattle.sq_track.specs.Worlds.{Arrival, IfHeard, IsTruePlace, IsTruePlaceHeard, received_of}
-
--- an airborne squitter of this address and grid arrives at this moment from this position
-pub record IsArrivalFrom (sender : ℕ) (grid : Parity) (time : ℕ) (north east : Fraction) (arrival : Arrival)
-    : Type 0 where
-  pub moment : arrival.moment ≡ time
-  pub address : (squitter_parts arrival.squitter).address ≡ sender
-  pub airborne : Airborne
-  pub me : (squitter_parts arrival.squitter).me ≡ kinds.Airborne airborne
-  pub parity : airborne.parity ≡ grid
-  pub lat : degrees (lat_of arrival.position) ≡ north
-  pub lon : degrees (lon_of arrival.position) ≡ east
-
--- so many parts of a degree
-abbrev pub parts : ℕ → ℕ → Fraction
-parts n of = record { num = pos n; den = of }
 
 -- 40621D, even, at 0 ms from 52.2572021 3.9193726
 abbrev pub IsFirst : Arrival → Type 0
-IsFirst arrival = IsArrivalFrom 0x40621D Even 0 (parts 522572021 10000000) (parts 39193726 10000000) arrival
+IsFirst arrival = IsArrivalFrom InAir 0x40621D Even 0 (parts 522572021 10000000) (parts 39193726 10000000) arrival
 
 -- 40621D, odd, at 6000 ms from 52.26578 3.93891
 abbrev pub IsSecond : Arrival → Type 0
-IsSecond arrival = IsArrivalFrom 0x40621D Odd 6000 (parts 5226578 100000) (parts 393891 100000) arrival
+IsSecond arrival = IsArrivalFrom InAir 0x40621D Odd 6000 (parts 5226578 100000) (parts 393891 100000) arrival
 
 -- 40621D, odd, at 9000 ms from 52.27 3.948
 abbrev pub IsThird : Arrival → Type 0
-IsThird arrival = IsArrivalFrom 0x40621D Odd 9000 (parts 5227 100) (parts 3948 1000) arrival
+IsThird arrival = IsArrivalFrom InAir 0x40621D Odd 9000 (parts 5227 100) (parts 3948 1000) arrival
 
 -- the points to which these positions round
 abbrev pub first_point : Point

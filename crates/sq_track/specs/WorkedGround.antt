@@ -1,17 +1,12 @@
 -- Worked arrivals on the ground, in numbers: four squitters of one address on the other side of 180 degrees than their
 -- site, two even ones and two odd ones, and what is heard of them.
-use Rattle.std.specs.Prelude.{◌≡◌, ◌∷◌, [], ℕ, pos, neg_ℤ, List, map, Option, Some, None, Result}
+use Rattle.std.specs.Prelude.{◌≡◌, ◌∷◌, [], ℕ, pos, List, map, Option, Some, None, Result}
 use Rattle.std.specs.List.{AllZip}
-use Rattle.sq_angle.specs.Angle.{degrees}
-use Rattle.sq_angle.specs.Fraction.{Fraction}
-use Rattle.sq_angle.specs.Position.{lat_of, lon_of}
 use Rattle.sq_angle.specs.declared.position.Position.{Position}
-use Rattle.sq_zones.specs.declared.parity.Parity.{Parity}
 use Rattle.sq_zones.specs.declared.parity.Parity.TheVariants.{Even, Odd}
 use Rattle.sq_cpr.specs.Grid.{Point, point_at}
-use Rattle.sq_message.specs.declared.ground.Surface.{Surface}
 use Rattle.sq_message.specs.declared.place.Place.TheVariants.{Ground}
-use Rattle.sq_message.specs.declared.squitter.Me.TheVariants as kinds
+use Rattle.sq_message.specs.Kinds.{OnGround}
 use Rattle.sq_message.specs.Parts.{squitter_parts}
 use Rattle.sq_track.specs.declared.heard.Heard.{Heard}
 use Rattle.sq_track.specs.declared.heard.Heard.TheVariants.{Fix, Followed, NoSite}
@@ -21,46 +16,28 @@ use Rattle.sq_track.specs.History.{Entry}
 use Rattle.sq_track.specs.Laws.{as_fix, as_waiting}
 use Rattle.sq_track.specs.Replies.{AreReplies}
 use Rattle.sq_track.specs.Tame.{IsSlow, IsSlowForFollowing}
+use Rattle.sq_track.specs.WorkedArrivals.{IsArrivalFrom, IsAt, parts, west}
 use Rattle.sq_track.specs.Worlds.{Arrival, IfHeard, IsTruePlace, IsTruePlaceHeard, received_of}
-
--- a surface squitter of this address and grid arrives at this moment from this position
-pub record IsArrivalFrom (sender : ℕ) (grid : Parity) (time : ℕ) (north east : Fraction) (arrival : Arrival)
-    : Type 0 where
-  pub moment : arrival.moment ≡ time
-  pub address : (squitter_parts arrival.squitter).address ≡ sender
-  pub surface : Surface
-  pub me : (squitter_parts arrival.squitter).me ≡ kinds.Surface surface
-  pub parity : surface.parity ≡ grid
-  pub lat : degrees (lat_of arrival.position) ≡ north
-  pub lon : degrees (lon_of arrival.position) ≡ east
-
--- so many parts of a degree north or east, and west
-abbrev pub parts : ℕ → ℕ → Fraction
-parts n of = record { num = pos n; den = of }
-
-abbrev pub west : ℕ → ℕ → Fraction
-west n of = record { num = neg_ℤ (pos n); den = of }
 
 -- 484175, even, at 0 ms from 52.32304 -175.2695274
 abbrev pub IsFirst : Arrival → Type 0
-IsFirst arrival = IsArrivalFrom 0x484175 Even 0 (parts 523230400 10000000) (west 1752695274 10000000) arrival
+IsFirst arrival = IsArrivalFrom OnGround 0x484175 Even 0 (parts 523230400 10000000) (west 1752695274 10000000) arrival
 
 -- 484175, odd, at 6000 ms from 52.3206071 -175.2652653
 abbrev pub IsSecond : Arrival → Type 0
-IsSecond arrival = IsArrivalFrom 0x484175 Odd 6000 (parts 523206071 10000000) (west 1752652653 10000000) arrival
+IsSecond arrival = IsArrivalFrom OnGround 0x484175 Odd 6000 (parts 523206071 10000000) (west 1752652653 10000000) arrival
 
 -- 484175, odd, at 9000 ms from 52.32 -175.264
 abbrev pub IsThird : Arrival → Type 0
-IsThird arrival = IsArrivalFrom 0x484175 Odd 9000 (parts 5232 100) (west 175264 1000) arrival
+IsThird arrival = IsArrivalFrom OnGround 0x484175 Odd 9000 (parts 5232 100) (west 175264 1000) arrival
 
 -- 484175, even, at 12000 ms from 52.3194 -175.2629
 abbrev pub IsFourth : Arrival → Type 0
-IsFourth arrival = IsArrivalFrom 0x484175 Even 12000 (parts 523194 10000) (west 1752629 10000) arrival
+IsFourth arrival = IsArrivalFrom OnGround 0x484175 Even 12000 (parts 523194 10000) (west 1752629 10000) arrival
 
 -- the site is 51.99 179.375
-pub record IsSite (site : Position) : Type 0 where
-  pub lat : degrees (lat_of site) ≡ parts 51990 1000
-  pub lon : degrees (lon_of site) ≡ parts 179375 1000
+abbrev pub IsSite : Position → Type 0
+IsSite site = IsAt (parts 51990 1000) (parts 179375 1000) site
 
 -- the points to which these positions round
 abbrev pub first_point : Point

@@ -1,30 +1,23 @@
 -- Worked arrivals on the ground: their places, and how far apart they are.
-use Rattle.std.proofs.Common.{◌≡◌, ◌∙◌, ◌∷◌, [], ℕ, pos, neg_ℤ, true, Some, None, arith, refl, sym, ap, subst}
-use Rattle.std.proofs.lemmas.Bool.{and_from}
-use Rattle.std.proofs.lemmas.Bool.{eq-eqb}
+use Rattle.std.proofs.Common.{◌∷◌, [], pos, neg_ℤ, Some, None, arith, refl}
 use Rattle.std.proofs.lemmas.Int.{ints}
-use Rattle.sq_angle.specs.Angle.{degrees}
-use Rattle.sq_angle.specs.Fraction.{Fraction, whole}
-use Rattle.sq_angle.specs.Position.{lat_of, lon_of}
 use Rattle.sq_angle.specs.declared.position.Position.{Position}
 use Rattle.sq_zones.specs.Zones.{zone_limits, zones_at}
-use Rattle.sq_zones.specs.declared.parity.Parity.{Parity}
 use Rattle.sq_cpr.specs.Span.{ground}
 use Rattle.sq_cpr.specs.Close.{HaveOneCount}
-use Rattle.sq_cpr.specs.Grid.{IsGridPoint, Point}
+use Rattle.sq_cpr.specs.Grid.{IsGridPoint}
 use Rattle.sq_cpr.specs.Rounds.{RoundsTo, PositionRoundsTo}
-use Rattle.sq_cpr.specs.Slow.{AreSlow, AreSlowForFollowing, AreWithin, DifferByLess, DifferByLessAround}
-use Rattle.sq_cpr.specs.Slow.{following_limit, slow_limit}
+use Rattle.sq_cpr.specs.Slow.{AreSlow, AreSlowForFollowing, AreWithin}
 use Rattle.sq_message.specs.declared.place.Place.TheVariants.{Ground}
-use Rattle.sq_message.specs.declared.squitter.Me.TheVariants as kinds
-use Rattle.sq_message.specs.Parts.{squitter_parts}
-use Rattle.sq_message.proofs.WorkedGround.{even_beyond_position_rounds, odd_beyond_position_rounds, of_position}
-use Rattle.sq_track.specs.History.{are_of_one_kind, are_of_one_sender, parity_of}
+use Rattle.sq_message.proofs.WorkedPoints.{of_position}
+use Rattle.sq_message.proofs.WorkedGround.{even_beyond_position_rounds, odd_beyond_position_rounds}
 use Rattle.sq_track.specs.Tame.{ArePairTogether, AreTogether, IsSlow, IsSlowForFollowing}
-use Rattle.sq_track.specs.Worlds.{Arrival, IsPlaceOf, IsTruePlace}
-use Rattle.sq_track.specs.WorkedGround.{IsArrivalFrom, IsFirst, IsFourth, IsSecond, IsSite, IsThird, TruePlaces}
-use Rattle.sq_track.specs.WorkedGround.{TwoAreSlow, first_point, fourth_point, parts, second_point, third_point, west}
+use Rattle.sq_track.specs.WorkedArrivals.{IsAt, parts, west}
+use Rattle.sq_track.specs.Worlds.{Arrival, IsTruePlace}
+use Rattle.sq_track.specs.WorkedGround.{IsFirst, IsFourth, IsSecond, IsSite, IsThird, TruePlaces, TwoAreSlow}
+use Rattle.sq_track.specs.WorkedGround.{first_point, fourth_point, second_point, third_point}
 use Rattle.sq_track.proofs.Worlds.ByPairs.{slow_for_following_pair_exactly, slow_pair_exactly}
+use Rattle.sq_track.proofs.Worlds.WorkedArrivals.{are_pair, are_together, following_by, slow_by, true_place, within_by}
 
 -- ---- the points
 
@@ -43,9 +36,10 @@ third_rounds = record {
   );
 }
 
-pub third_position_rounds : (x : Position) → degrees (lat_of x) ≡ parts 5232 100
-    → degrees (lon_of x) ≡ west 175264 1000 → PositionRoundsTo ground x third_point
-third_position_rounds x lat lon = of_position (λ f g. RoundsTo ground f g third_point) _ _ x lat lon third_rounds
+pub third_position_rounds : (x : Position) → IsAt (parts 5232 100) (west 175264 1000) x
+    → PositionRoundsTo ground x third_point
+third_position_rounds x at =
+    of_position (λ f g. RoundsTo ground f g third_point) _ _ x at.lat at.lon third_rounds
 
 fourth_is_point : IsGridPoint ground fourth_point
 unfolding zones_at zone_limits
@@ -62,9 +56,10 @@ fourth_rounds = record {
   );
 }
 
-pub fourth_position_rounds : (x : Position) → degrees (lat_of x) ≡ parts 523194 10000
-    → degrees (lon_of x) ≡ west 1752629 10000 → PositionRoundsTo ground x fourth_point
-fourth_position_rounds x lat lon = of_position (λ f g. RoundsTo ground f g fourth_point) _ _ x lat lon fourth_rounds
+pub fourth_position_rounds : (x : Position) → IsAt (parts 523194 10000) (west 1752629 10000) x
+    → PositionRoundsTo ground x fourth_point
+fourth_position_rounds x at =
+    of_position (λ f g. RoundsTo ground f g fourth_point) _ _ x at.lat at.lon fourth_rounds
 
 pub one_count : HaveOneCount 90 first_point.lat_index second_point.lat_index
 unfolding zones_at zone_limits
@@ -76,153 +71,90 @@ last_count = refl
 
 -- ---- the arrivals
 
-module _ {sender time : ℕ} {grid : Parity} {north east : Fraction} (a : Arrival)
-    (h : IsArrivalFrom sender grid time north east a) where
-  -- the point of its grid to which the position rounds is its true place
-  true_place : (p : Point) → p.parity ≡ grid → PositionRoundsTo ground a.position p → IsTruePlace a (Ground p)
-  true_place p same rounds =
-      subst (λ m. IsPlaceOf m a.position (Ground p)) (sym h.me) (same ∙ sym h.parity, rounds)
-
-  pub of_grid : parity_of (squitter_parts a.squitter).me ≡ Some grid
-  of_grid = ap parity_of h.me ∙ ap Some h.parity
-
 pub first_place : (a : Arrival) → IsFirst a → IsTruePlace a (Ground first_point)
-first_place a h = true_place a h first_point refl (even_beyond_position_rounds a.position h.lat h.lon)
+first_place a h = true_place a h first_point refl (even_beyond_position_rounds a.position h.place.lat h.place.lon)
 
 pub second_place : (b : Arrival) → IsSecond b → IsTruePlace b (Ground second_point)
-second_place b h = true_place b h second_point refl (odd_beyond_position_rounds b.position h.lat h.lon)
+second_place b h = true_place b h second_point refl (odd_beyond_position_rounds b.position h.place.lat h.place.lon)
 
 pub third_place : (c : Arrival) → IsThird c → IsTruePlace c (Ground third_point)
-third_place c h = true_place c h third_point refl (third_position_rounds c.position h.lat h.lon)
+third_place c h = true_place c h third_point refl (third_position_rounds c.position h.place)
 
 pub fourth_place : (d : Arrival) → IsFourth d → IsTruePlace d (Ground fourth_point)
-fourth_place d h = true_place d h fourth_point refl (fourth_position_rounds d.position h.lat h.lon)
+fourth_place d h = true_place d h fourth_point refl (fourth_position_rounds d.position h.place)
 
 pub true_places : TruePlaces
 true_places a b c d h k l m = (first_place a h, second_place b k, third_place c l, fourth_place d m)
 
--- two of them have one sender
-module _ {sender t s : ℕ} {g r : Parity} {n e n' e' : Fraction} (a b : Arrival) (h : IsArrivalFrom sender g t n e a)
-    (k : IsArrivalFrom sender r s n' e' b) where
-  one_kind : are_of_one_kind (squitter_parts a.squitter).me (squitter_parts b.squitter).me ≡ true
-  one_kind =
-      subst (λ m. are_of_one_kind m (squitter_parts b.squitter).me ≡ true) (sym h.me)
-      (subst (λ m. are_of_one_kind (kinds.Surface h.surface) m ≡ true) (sym k.me) refl)
-
-  one_sender : are_of_one_sender a.squitter b.squitter ≡ true
-  one_sender = and_from _ _ (eq-eqb _ _ (h.address ∙ sym k.address)) one_kind
-
 pub first_and_second : (a b : Arrival) → IsFirst a → IsSecond b → ArePairTogether 10000 a b
-first_and_second a b h k = record {
-  together = record {
-    sender = one_sender a b h k;
-    not_before = omega (arith, h.moment, k.moment);
-    not_after = omega (arith, h.moment, k.moment);
-  };
-  even = of_grid a h;
-  odd = of_grid b k;
-}
+first_and_second a b h k = are_pair a b h k 10000 refl refl (omega arith) (omega arith)
 
 pub second_and_third : (b c : Arrival) → IsSecond b → IsThird c → AreTogether 10000 b c
-second_and_third b c h k = record {
-  sender = one_sender b c h k;
-  not_before = omega (arith, h.moment, k.moment);
-  not_after = omega (arith, h.moment, k.moment);
-}
+second_and_third b c h k = are_together b c h k 10000 (omega arith) (omega arith)
 
 pub fourth_and_second : (d b : Arrival) → IsFourth d → IsSecond b → ArePairTogether 10000 d b
-fourth_and_second d b h k = record {
-  together = record {
-    sender = one_sender d b h k;
-    not_before = omega (arith, h.moment, k.moment);
-    not_after = omega (arith, h.moment, k.moment);
-  };
-  even = of_grid d h;
-  odd = of_grid b k;
-}
+fourth_and_second d b h k = are_pair d b h k 10000 refl refl (omega arith) (omega arith)
 
 -- ---- how far apart they are
 
--- what holds of two fractions holds of two that are equal to them
-of_two : (P : Fraction → Fraction → Type 0) (x y x' y' : Fraction) → x' ≡ x → y' ≡ y → P x y → P x' y'
-of_two P x y x' y' same other p = subst (λ f. P f y') (sym same) (subst (P x) (sym other) p)
-
 slow : (a b : Arrival) → IsFirst a → IsSecond b → AreSlow ground first_point second_point a.position b.position
-slow a b h k = record {
-  latitudes = of_two (DifferByLess (slow_limit 90 60 59)) _ _ _ _ h.lat k.lat
-      (record { above = omega (arith, ints); below = omega (arith, ints) });
-  longitudes = λ same many. of_two (DifferByLessAround (slow_limit 90 36 35)) _ _ _ _ h.lon k.lon
-      (pos 0, record { above = omega (arith, ints); below = omega (arith, ints) });
-}
+slow a b h k =
+    slow_by a.position b.position h.place k.place ground first_point second_point
+    (record { above = omega (arith, ints); below = omega (arith, ints) })
+    (pos 0, record { above = omega (arith, ints); below = omega (arith, ints) })
 
 slow_last : (d b : Arrival) → IsFourth d → IsSecond b → AreSlow ground fourth_point second_point d.position b.position
-slow_last d b h k = record {
-  latitudes = of_two (DifferByLess (slow_limit 90 60 59)) _ _ _ _ h.lat k.lat
-      (record { above = omega (arith, ints); below = omega (arith, ints) });
-  longitudes = λ same many. of_two (DifferByLessAround (slow_limit 90 36 35)) _ _ _ _ h.lon k.lon
-      (pos 0, record { above = omega (arith, ints); below = omega (arith, ints) });
-}
+slow_last d b h k =
+    slow_by d.position b.position h.place k.place ground fourth_point second_point
+    (record { above = omega (arith, ints); below = omega (arith, ints) })
+    (pos 0, record { above = omega (arith, ints); below = omega (arith, ints) })
 
 -- each less than 44 degrees from the site, which lies on the other side of 180 degrees
 first_at_site : (site : Position) (a : Arrival) → IsSite site → IsFirst a → AreWithin 44 a.position site
-first_at_site site a s h = record {
-  latitudes = of_two (DifferByLess (whole 44)) _ _ _ _ h.lat s.lat
-      (record { above = omega (arith, ints); below = omega (arith, ints) });
-  longitudes = of_two (DifferByLessAround (whole 44)) _ _ _ _ h.lon s.lon
-      (pos 1, record { above = omega (arith, ints); below = omega (arith, ints) });
-}
+first_at_site site a s h =
+    within_by a.position site h.place s 44
+    (record { above = omega (arith, ints); below = omega (arith, ints) })
+    (pos 1, record { above = omega (arith, ints); below = omega (arith, ints) })
 
 second_at_site : (site : Position) (b : Arrival) → IsSite site → IsSecond b → AreWithin 44 b.position site
-second_at_site site b s h = record {
-  latitudes = of_two (DifferByLess (whole 44)) _ _ _ _ h.lat s.lat
-      (record { above = omega (arith, ints); below = omega (arith, ints) });
-  longitudes = of_two (DifferByLessAround (whole 44)) _ _ _ _ h.lon s.lon
-      (pos 1, record { above = omega (arith, ints); below = omega (arith, ints) });
-}
+second_at_site site b s h =
+    within_by b.position site h.place s 44
+    (record { above = omega (arith, ints); below = omega (arith, ints) })
+    (pos 1, record { above = omega (arith, ints); below = omega (arith, ints) })
 
 fourth_at_site : (site : Position) (d : Arrival) → IsSite site → IsFourth d → AreWithin 44 d.position site
-fourth_at_site site d s h = record {
-  latitudes = of_two (DifferByLess (whole 44)) _ _ _ _ h.lat s.lat
-      (record { above = omega (arith, ints); below = omega (arith, ints) });
-  longitudes = of_two (DifferByLessAround (whole 44)) _ _ _ _ h.lon s.lon
-      (pos 1, record { above = omega (arith, ints); below = omega (arith, ints) });
-}
+fourth_at_site site d s h =
+    within_by d.position site h.place s 44
+    (record { above = omega (arith, ints); below = omega (arith, ints) })
+    (pos 1, record { above = omega (arith, ints); below = omega (arith, ints) })
 
 following : (a b : Arrival) → IsFirst a → IsSecond b
     → AreSlowForFollowing ground first_point second_point a.position b.position
-following a b h k = record {
-  latitudes = of_two (DifferByLess (following_limit 90 60 59)) _ _ _ _ h.lat k.lat
-      (record { above = omega (arith, ints); below = omega (arith, ints) });
-  longitudes = of_two (DifferByLessAround (following_limit 90 36 35)) _ _ _ _ h.lon k.lon
-      (pos 0, record { above = omega (arith, ints); below = omega (arith, ints) });
-}
+following a b h k =
+    following_by a.position b.position h.place k.place ground first_point second_point
+    (record { above = omega (arith, ints); below = omega (arith, ints) })
+    (pos 0, record { above = omega (arith, ints); below = omega (arith, ints) })
 
 following_back : (a b : Arrival) → IsFirst a → IsSecond b
     → AreSlowForFollowing ground second_point first_point b.position a.position
-following_back a b h k = record {
-  latitudes = of_two (DifferByLess (following_limit 90 60 59)) _ _ _ _ k.lat h.lat
-      (record { above = omega (arith, ints); below = omega (arith, ints) });
-  longitudes = of_two (DifferByLessAround (following_limit 90 36 35)) _ _ _ _ k.lon h.lon
-      (pos 0, record { above = omega (arith, ints); below = omega (arith, ints) });
-}
+following_back a b h k =
+    following_by b.position a.position k.place h.place ground second_point first_point
+    (record { above = omega (arith, ints); below = omega (arith, ints) })
+    (pos 0, record { above = omega (arith, ints); below = omega (arith, ints) })
 
 pub following_on : (b c : Arrival) → IsSecond b → IsThird c
     → AreSlowForFollowing ground second_point third_point b.position c.position
-following_on b c h k = record {
-  latitudes = of_two (DifferByLess (following_limit 90 60 59)) _ _ _ _ h.lat k.lat
-      (record { above = omega (arith, ints); below = omega (arith, ints) });
-  longitudes = of_two (DifferByLessAround (following_limit 90 35 35)) _ _ _ _ h.lon k.lon
-      (pos 0, record { above = omega (arith, ints); below = omega (arith, ints) });
-}
+following_on b c h k =
+    following_by b.position c.position h.place k.place ground second_point third_point
+    (record { above = omega (arith, ints); below = omega (arith, ints) })
+    (pos 0, record { above = omega (arith, ints); below = omega (arith, ints) })
 
 pub following_on_back : (b c : Arrival) → IsSecond b → IsThird c
     → AreSlowForFollowing ground third_point second_point c.position b.position
-following_on_back b c h k = record {
-  latitudes = of_two (DifferByLess (following_limit 90 60 59)) _ _ _ _ k.lat h.lat
-      (record { above = omega (arith, ints); below = omega (arith, ints) });
-  longitudes = of_two (DifferByLessAround (following_limit 90 35 35)) _ _ _ _ k.lon h.lon
-      (pos 0, record { above = omega (arith, ints); below = omega (arith, ints) });
-}
+following_on_back b c h k =
+    following_by c.position b.position k.place h.place ground third_point second_point
+    (record { above = omega (arith, ints); below = omega (arith, ints) })
+    (pos 0, record { above = omega (arith, ints); below = omega (arith, ints) })
 
 pub slow_at_site : (site : Position) (a b : Arrival) → IsSite site → IsFirst a → IsSecond b
     → IsSlow 10000 (Some site) (a ∷ b ∷ [])

@@ -1,41 +1,35 @@
--- Worked arrivals: their places, and what is heard of them.
-use Rattle.std.proofs.Common.{◌≡◌, ◌≢◌, ◌∙◌, ◌∷◌, [], ℕ, pos, true, Some, arith, refl, sym, ap, subst, eq-eqb}
-use Rattle.std.proofs.lemmas.Bool.{and_from}
+-- Worked arrivals: their places, what is heard of them, and that there are such.
+use Rattle.std.proofs.Common.{◌∙◌, ◌∷◌, [], pos, false, arith, refl, sym, subst}
 use Rattle.std.proofs.lemmas.Int.{ints}
-use Rattle.sq_angle.specs.Angle.{degrees}
-use Rattle.sq_angle.specs.Fraction.{Fraction}
-use Rattle.sq_angle.specs.Position.{lat_of, lon_of}
 use Rattle.sq_angle.specs.declared.position.Position.{Position}
 use Rattle.sq_angle.proofs.Congruence.{congruent_refl}
 use Rattle.sq_zones.specs.Zones.{zone_limits, zones_at}
-use Rattle.sq_zones.specs.declared.parity.Parity.{Parity}
 use Rattle.sq_cpr.specs.Span.{air}
 use Rattle.sq_cpr.specs.Close.{HaveOneCount}
-use Rattle.sq_cpr.specs.Grid.{IsGridPoint, Point, circle}
+use Rattle.sq_cpr.specs.Grid.{IsGridPoint, circle}
 use Rattle.sq_cpr.specs.Rounds.{RoundsTo, PositionRoundsTo}
-use Rattle.sq_cpr.specs.Slow.{AreSlow, AreSlowForFollowing, DifferByLess, DifferByLessAround, following_limit}
-use Rattle.sq_cpr.specs.Slow.{slow_limit}
+use Rattle.sq_cpr.specs.Slow.{AreSlow, AreSlowForFollowing}
 use Rattle.sq_message.specs.declared.place.Place.TheVariants.{Air}
-use Rattle.sq_message.specs.declared.squitter.Me.TheVariants as kinds
-use Rattle.sq_message.specs.Parts.{squitter_parts}
-use Rattle.sq_message.proofs.WorkedPoints.{even_position_rounds, odd_position_rounds}
+use Rattle.sq_message.specs.Heads.{AirHeadParts}
+use Rattle.sq_message.specs.Kinds.{InAir}
+use Rattle.sq_message.proofs.WorkedPoints.{even_position_rounds, odd_position_rounds, of_position}
 use Rattle.sq_track.specs.declared.heard.Heard.TheVariants.{Fix, Followed}
 use Rattle.sq_track.specs.Answers.{IsHeard}
-use Rattle.sq_track.specs.History.{Entry, are_of_one_kind, are_of_one_sender, parity_of}
 use Rattle.sq_track.specs.Laws.{as_fix, as_waiting}
-use Rattle.sq_track.specs.Replies.{of_address}
 use Rattle.sq_track.specs.Tame.{ArePairTogether, AreTogether}
-use Rattle.sq_track.specs.Worlds.{Arrival, IsPlaceOf, IsTruePlace}
-use Rattle.sq_track.specs.Worked.{IsArrivalFrom, IsFirst, IsSecond, IsThird, SecondIsFixed, SecondIsFixedAmongOthers}
-use Rattle.sq_track.specs.Worked.{ThirdIsFollowed, TruePlaces, TwoAreSlow, TwoAreTrue, first_point, parts, second_point}
+use Rattle.sq_track.specs.WorkedArrivals.{IsAt, parts}
+use Rattle.sq_track.specs.Worlds.{Arrival, IsTruePlace}
+use Rattle.sq_track.specs.Worked.{IsFirst, IsSecond, IsThird, SecondIsFixed, SecondIsFixedAmongOthers, SomeWorked}
+use Rattle.sq_track.specs.Worked.{ThirdIsFollowed, TruePlaces, TwoAreSlow, TwoAreTrue, first_point, second_point}
 use Rattle.sq_track.specs.Worked.{third_point}
 use Rattle.sq_track.proofs.Histories.OneAddress.{one_address_alone}
 use Rattle.sq_track.proofs.Worlds.ByPairs.{slow_for_following_pair_exactly, slow_pair_exactly}
 use Rattle.sq_track.proofs.Worlds.Followed.{followed_after_a_fix}
-use Rattle.sq_track.proofs.Worlds.Pinned.{of_address_exactly}
 use Rattle.sq_track.proofs.Worlds.SlowWorlds.{slow_for_following_is_tame, slow_worlds_are_tame}
 use Rattle.sq_track.proofs.Worlds.SomeFix.{slow_pair_is_fixed}
 use Rattle.sq_track.proofs.Worlds.TrueWorlds.{followed_worlds_are_true}
+use Rattle.sq_track.proofs.Worlds.WorkedArrivals.{are_pair, are_together, following_by, of_grid, own_entries, slow_by}
+use Rattle.sq_track.proofs.Worlds.WorkedArrivals.{some_arrival, some_position, true_place}
 
 -- ---- the points
 
@@ -54,11 +48,8 @@ third_rounds = record {
   );
 }
 
-pub third_position_rounds : (x : Position) → degrees (lat_of x) ≡ parts 5227 100 → degrees (lon_of x) ≡ parts 3948 1000
-    → PositionRoundsTo air x third_point
-third_position_rounds x lat lon =
-    subst (λ f. RoundsTo air f (degrees (lon_of x)) third_point) (sym lat)
-    (subst (λ f. RoundsTo air (parts 5227 100) f third_point) (sym lon) third_rounds)
+third_position_rounds : (x : Position) → IsAt (parts 5227 100) (parts 3948 1000) x → PositionRoundsTo air x third_point
+third_position_rounds x at = of_position (λ f g. RoundsTo air f g third_point) _ _ x at.lat at.lon third_rounds
 
 one_count : HaveOneCount 360 first_point.lat_index second_point.lat_index
 unfolding zones_at zone_limits
@@ -66,106 +57,59 @@ one_count = refl
 
 -- ---- the arrivals
 
-module _ {sender time : ℕ} {grid : Parity} {north east : Fraction} (a : Arrival)
-    (h : IsArrivalFrom sender grid time north east a) where
-  -- the point of its grid to which the position rounds is its true place
-  true_place : (p : Point) → p.parity ≡ grid → PositionRoundsTo air a.position p → IsTruePlace a (Air p)
-  true_place p same rounds =
-      subst (λ m. IsPlaceOf m a.position (Air p)) (sym h.me) (same ∙ sym h.parity, rounds)
-
-  of_grid : parity_of (squitter_parts a.squitter).me ≡ Some grid
-  of_grid = ap parity_of h.me ∙ ap Some h.parity
-
 first_place : (a : Arrival) → IsFirst a → IsTruePlace a (Air first_point)
-first_place a h = true_place a h first_point refl (even_position_rounds a.position h.lat h.lon)
+first_place a h = true_place a h first_point refl (even_position_rounds a.position h.place.lat h.place.lon)
 
 second_place : (b : Arrival) → IsSecond b → IsTruePlace b (Air second_point)
-second_place b h = true_place b h second_point refl (odd_position_rounds b.position h.lat h.lon)
+second_place b h = true_place b h second_point refl (odd_position_rounds b.position h.place.lat h.place.lon)
 
 third_place : (c : Arrival) → IsThird c → IsTruePlace c (Air third_point)
-third_place c h = true_place c h third_point refl (third_position_rounds c.position h.lat h.lon)
+third_place c h = true_place c h third_point refl (third_position_rounds c.position h.place)
 
 pub true_places : TruePlaces
 true_places a b c h k l = (first_place a h, second_place b k, third_place c l)
 
--- two of them have one sender
-module _ {sender t s : ℕ} {g r : Parity} {n e n' e' : Fraction} (a b : Arrival) (h : IsArrivalFrom sender g t n e a)
-    (k : IsArrivalFrom sender r s n' e' b) where
-  one_kind : are_of_one_kind (squitter_parts a.squitter).me (squitter_parts b.squitter).me ≡ true
-  one_kind =
-      subst (λ m. are_of_one_kind m (squitter_parts b.squitter).me ≡ true) (sym h.me)
-      (subst (λ m. are_of_one_kind (kinds.Airborne h.airborne) m ≡ true) (sym k.me) refl)
-
-  one_sender : are_of_one_sender a.squitter b.squitter ≡ true
-  one_sender = and_from _ _ (eq-eqb _ _ (h.address ∙ sym k.address)) one_kind
-
 first_and_second : (a b : Arrival) → IsFirst a → IsSecond b → ArePairTogether 10000 a b
-first_and_second a b h k = record {
-  together = record {
-    sender = one_sender a b h k;
-    not_before = omega (arith, h.moment, k.moment);
-    not_after = omega (arith, h.moment, k.moment);
-  };
-  even = of_grid a h;
-  odd = of_grid b k;
-}
+first_and_second a b h k = are_pair a b h k 10000 refl refl (omega arith) (omega arith)
 
 second_and_third : (b c : Arrival) → IsSecond b → IsThird c → AreTogether 10000 b c
-second_and_third b c h k = record {
-  sender = one_sender b c h k;
-  not_before = omega (arith, h.moment, k.moment);
-  not_after = omega (arith, h.moment, k.moment);
-}
+second_and_third b c h k = are_together b c h k 10000 (omega arith) (omega arith)
 
 -- ---- how far apart they are
 
--- what holds of two fractions holds of two that are equal to them
-of_two : (P : Fraction → Fraction → Type 0) (x y x' y' : Fraction) → x' ≡ x → y' ≡ y → P x y → P x' y'
-of_two P x y x' y' same other p = subst (λ f. P f y') (sym same) (subst (P x) (sym other) p)
-
 slow : (a b : Arrival) → IsFirst a → IsSecond b → AreSlow air first_point second_point a.position b.position
-slow a b h k = record {
-  latitudes = of_two (DifferByLess (slow_limit 360 60 59)) _ _ _ _ h.lat k.lat
-      (record { above = omega (arith, ints); below = omega (arith, ints) });
-  longitudes = λ same many. of_two (DifferByLessAround (slow_limit 360 36 35)) _ _ _ _ h.lon k.lon
-      (pos 0, record { above = omega (arith, ints); below = omega (arith, ints) });
-}
+slow a b h k =
+    slow_by a.position b.position h.place k.place air first_point second_point
+    (record { above = omega (arith, ints); below = omega (arith, ints) })
+    (pos 0, record { above = omega (arith, ints); below = omega (arith, ints) })
 
 following : (a b : Arrival) → IsFirst a → IsSecond b
     → AreSlowForFollowing air first_point second_point a.position b.position
-following a b h k = record {
-  latitudes = of_two (DifferByLess (following_limit 360 60 59)) _ _ _ _ h.lat k.lat
-      (record { above = omega (arith, ints); below = omega (arith, ints) });
-  longitudes = of_two (DifferByLessAround (following_limit 360 36 35)) _ _ _ _ h.lon k.lon
-      (pos 0, record { above = omega (arith, ints); below = omega (arith, ints) });
-}
+following a b h k =
+    following_by a.position b.position h.place k.place air first_point second_point
+    (record { above = omega (arith, ints); below = omega (arith, ints) })
+    (pos 0, record { above = omega (arith, ints); below = omega (arith, ints) })
 
 following_back : (a b : Arrival) → IsFirst a → IsSecond b
     → AreSlowForFollowing air second_point first_point b.position a.position
-following_back a b h k = record {
-  latitudes = of_two (DifferByLess (following_limit 360 60 59)) _ _ _ _ k.lat h.lat
-      (record { above = omega (arith, ints); below = omega (arith, ints) });
-  longitudes = of_two (DifferByLessAround (following_limit 360 36 35)) _ _ _ _ k.lon h.lon
-      (pos 0, record { above = omega (arith, ints); below = omega (arith, ints) });
-}
+following_back a b h k =
+    following_by b.position a.position k.place h.place air second_point first_point
+    (record { above = omega (arith, ints); below = omega (arith, ints) })
+    (pos 0, record { above = omega (arith, ints); below = omega (arith, ints) })
 
 following_on : (b c : Arrival) → IsSecond b → IsThird c
     → AreSlowForFollowing air second_point third_point b.position c.position
-following_on b c h k = record {
-  latitudes = of_two (DifferByLess (following_limit 360 60 59)) _ _ _ _ h.lat k.lat
-      (record { above = omega (arith, ints); below = omega (arith, ints) });
-  longitudes = of_two (DifferByLessAround (following_limit 360 35 35)) _ _ _ _ h.lon k.lon
-      (pos 0, record { above = omega (arith, ints); below = omega (arith, ints) });
-}
+following_on b c h k =
+    following_by b.position c.position h.place k.place air second_point third_point
+    (record { above = omega (arith, ints); below = omega (arith, ints) })
+    (pos 0, record { above = omega (arith, ints); below = omega (arith, ints) })
 
 following_on_back : (b c : Arrival) → IsSecond b → IsThird c
     → AreSlowForFollowing air third_point second_point c.position b.position
-following_on_back b c h k = record {
-  latitudes = of_two (DifferByLess (following_limit 360 60 59)) _ _ _ _ k.lat h.lat
-      (record { above = omega (arith, ints); below = omega (arith, ints) });
-  longitudes = of_two (DifferByLessAround (following_limit 360 35 35)) _ _ _ _ k.lon h.lon
-      (pos 0, record { above = omega (arith, ints); below = omega (arith, ints) });
-}
+following_on_back b c h k =
+    following_by c.position b.position k.place h.place air third_point second_point
+    (record { above = omega (arith, ints); below = omega (arith, ints) })
+    (pos 0, record { above = omega (arith, ints); below = omega (arith, ints) })
 
 -- ---- what is heard
 
@@ -191,21 +135,11 @@ second_is_fixed site a b h k =
     (slow_pair_is_fixed 10000 site a b first_point second_point (first_and_second a b h k) (first_place a h)
     (second_place b k) (slow a b h k) one_count)
 
--- the entries of the second's address, of another one and the first's
-own_entries : (a b : Arrival) (other : Entry) → (squitter_parts other.squitter).address ≡ 0x484175 → IsFirst a
-    → IsSecond b → of_address (squitter_parts b.squitter).address (other ∷ as_waiting a ∷ []) ≡ as_waiting a ∷ []
-own_entries a b other is h k =
-    let address = (squitter_parts b.squitter).address in
-    let another : (squitter_parts other.squitter).address ≢ address = λ e. omega (arith, e, is, k.address) in
-    of_address_exactly.other address other (as_waiting a ∷ []) another
-    ∙ of_address_exactly.own address (as_waiting a) [] (h.address ∙ sym k.address)
-    ∙ ap (λ rest. as_waiting a ∷ rest) (of_address_exactly.none address)
-
 pub second_is_fixed_among_others : SecondIsFixedAmongOthers
 second_is_fixed_among_others site a b other is h k =
     (one_address_alone 10000 site (other ∷ as_waiting a ∷ []) 6000 b.squitter (Fix (Air second_point))).1
     (subst (λ history. IsHeard 10000 site history 6000 b.squitter (Fix (Air second_point)))
-    (sym (own_entries a b other is h k)) (second_is_fixed site a b h k))
+    (sym (own_entries a b h k other (λ e. omega (arith, e, is)))) (second_is_fixed site a b h k))
 
 pub third_is_followed : ThirdIsFollowed
 third_is_followed site b c h k =
@@ -218,3 +152,55 @@ third_is_followed site b c h k =
     (of_grid b h ∙ sym (of_grid c k)) p q
     ((slow_for_following_pair_exactly 10000 b c (Air second_point) (Air third_point) together p q).1
     (following_on b c h k, following_on_back b c h k)))
+
+-- ---- that there are such
+
+-- CA 5, 40621D, type code 11, and no other field
+head : AirHeadParts
+head = record {
+  ca = 5;
+  address = 0x40621D;
+  fields = record {
+    type_code = 11;
+    status = 0;
+    flag = false;
+    altitude = 0;
+    time = false;
+    type_code_in = (omega arith, omega arith, λ e. omega (arith, e));
+    status_in = omega arith;
+    altitude_in = omega arith;
+  };
+}
+
+some_first : (a : Arrival) × IsFirst a
+unfolding head
+some_first =
+    let at = some_position (parts 522572021 10000000) (parts 39193726 10000000)
+    (record { positive = omega arith; at_most = omega arith; within = omega arith })
+    (record { positive = omega arith; at_most = omega arith; within = omega arith })
+    (record { latitude = omega arith; longitude = omega arith }) in
+    some_arrival InAir head (omega arith) (omega arith) 0 first_point 93000 51372 (omega arith) (omega arith) refl
+    at.0 at.1 (even_position_rounds at.0 at.1.lat at.1.lon)
+
+some_second : (b : Arrival) × IsSecond b
+unfolding head
+some_second =
+    let at = some_position (parts 5226578 100000) (parts 393891 100000)
+    (record { positive = omega arith; at_most = omega arith; within = omega arith })
+    (record { positive = omega arith; at_most = omega arith; within = omega arith })
+    (record { latitude = omega arith; longitude = omega arith }) in
+    some_arrival InAir head (omega arith) (omega arith) 6000 second_point 74158 50194 (omega arith) (omega arith) refl
+    at.0 at.1 (odd_position_rounds at.0 at.1.lat at.1.lon)
+
+some_third : (c : Arrival) × IsThird c
+unfolding head
+some_third =
+    let at = some_position (parts 5227 100) (parts 3948 1000)
+    (record { positive = omega arith; at_most = omega arith; within = omega arith })
+    (record { positive = omega arith; at_most = omega arith; within = omega arith })
+    (record { latitude = omega arith; longitude = omega arith }) in
+    some_arrival InAir head (omega arith) (omega arith) 9000 third_point 74249 50310 (omega arith) (omega arith) refl
+    at.0 at.1 (third_position_rounds at.0 at.1)
+
+pub some_worked : SomeWorked
+some_worked = (some_first.0, some_second.0, some_third.0, some_first.1, some_second.1, some_third.1)
