@@ -8,7 +8,7 @@ use sq_text::LineFault;
 
 /// What a call answers. `squitter.h` names the codes and says what `first` and `second` hold.
 #[repr(C)]
-#[derive(Clone, Copy, Debug, PartialEq, Eq)]
+#[derive(Clone, Copy)]
 pub struct Fault {
     pub code: u32,
     pub second: u32,
@@ -16,7 +16,7 @@ pub struct Fault {
 }
 
 /// Why a call has no answer.
-#[derive(Clone, Copy, Debug, PartialEq, Eq)]
+#[derive(Clone, Copy)]
 pub enum Refusal {
     /// A text or a frame spells no squitter, or a moment lies back.
     Line(LineFault),

@@ -7,7 +7,7 @@ use sq_track::Heard;
 
 /// What is heard of a frame.
 #[repr(C)]
-#[derive(Clone, Copy, Debug, PartialEq, Eq)]
+#[derive(Clone, Copy)]
 pub struct PlainHeard {
     /// The place, or 0/0 where there is none.
     pub position: PlainPosition,

@@ -9,7 +9,7 @@ use sq_zones::Parity;
 
 /// A fraction of degrees.
 #[repr(C)]
-#[derive(Clone, Copy, Debug, PartialEq, Eq)]
+#[derive(Clone, Copy)]
 pub struct PlainAngle {
     pub num: i64,
     pub den: u64,
@@ -17,7 +17,7 @@ pub struct PlainAngle {
 
 /// A latitude, north positive, and a longitude, east positive.
 #[repr(C)]
-#[derive(Clone, Copy, Debug, PartialEq, Eq)]
+#[derive(Clone, Copy)]
 pub struct PlainPosition {
     pub lat: PlainAngle,
     pub lon: PlainAngle,

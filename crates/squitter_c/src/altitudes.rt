@@ -8,7 +8,7 @@ use sq_plain::{Fault, NONE, Refusal};
 
 /// What an altitude field means.
 #[repr(C)]
-#[derive(Clone, Copy, Debug, PartialEq, Eq)]
+#[derive(Clone, Copy)]
 pub struct PlainAltitude {
     pub feet: i32,
     /// 0 for none, 1 for feet, 2 for a field in another form.

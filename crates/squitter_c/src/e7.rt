@@ -10,7 +10,7 @@ use sq_plain::{Fault, NONE, PlainAngle, PlainPosition, Refusal, angle_of, positi
 
 /// A latitude and a longitude in whole numbers of 10^-7 degree.
 #[repr(C)]
-#[derive(Clone, Copy, Debug, PartialEq, Eq)]
+#[derive(Clone, Copy)]
 pub struct DegreesE7 {
     pub lat: i32,
     pub lon: i32,

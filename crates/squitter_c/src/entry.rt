@@ -12,7 +12,7 @@ use sq_track::{Contact, LastFix, Received, Side};
 
 /// A frame and the moment at which it was heard. One that spells no squitter counts as none.
 #[repr(C)]
-#[derive(Clone, Copy, Debug, PartialEq, Eq)]
+#[derive(Clone, Copy)]
 pub struct PlainReceived {
     pub moment: u64,
     pub frame: [u8; 14],
@@ -20,7 +20,7 @@ pub struct PlainReceived {
 
 /// The position of a fix, and the moment. One that is no position counts as none.
 #[repr(C)]
-#[derive(Clone, Copy, Debug, PartialEq, Eq)]
+#[derive(Clone, Copy)]
 pub struct PlainFix {
     pub moment: u64,
     pub position: PlainPosition,
@@ -28,7 +28,7 @@ pub struct PlainFix {
 
 /// What is kept of an address in the air, or on the ground.
 #[repr(C)]
-#[derive(Clone, Copy, Debug, PartialEq, Eq)]
+#[derive(Clone, Copy)]
 pub struct PlainSide {
     pub even: PlainReceived,
     pub odd: PlainReceived,
@@ -37,7 +37,7 @@ pub struct PlainSide {
 
 /// What is kept of an address. All zero is that of an address of which nothing was heard.
 #[repr(C)]
-#[derive(Clone, Copy, Debug, PartialEq, Eq)]
+#[derive(Clone, Copy)]
 pub struct PlainEntry {
     /// The moment of its newest frame.
     pub last: u64,

@@ -7,7 +7,7 @@ use sq_message::{Airborne, Altitude, Me, Other, Squitter, Surface, altitude};
 
 /// A squitter, field by field. A field that its kind lacks is 0.
 #[repr(C)]
-#[derive(Clone, Copy, Debug, PartialEq, Eq)]
+#[derive(Clone, Copy)]
 pub struct PlainSquitter {
     /// The 56 bits of a message of kind other.
     pub raw: u64,

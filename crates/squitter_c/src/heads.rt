@@ -6,7 +6,7 @@ use sq_message::{AirFields, AirHead, GroundFields, GroundHead};
 
 /// All of an airborne position squitter but its place.
 #[repr(C)]
-#[derive(Clone, Copy, Debug, PartialEq, Eq)]
+#[derive(Clone, Copy)]
 pub struct PlainAirHead {
     pub address: u32,
     pub altitude: u16,
@@ -21,7 +21,7 @@ pub struct PlainAirHead {
 
 /// All of a surface position squitter but its place.
 #[repr(C)]
-#[derive(Clone, Copy, Debug, PartialEq, Eq)]
+#[derive(Clone, Copy)]
 pub struct PlainGroundHead {
     pub address: u32,
     pub ca: u8,

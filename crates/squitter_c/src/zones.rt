@@ -15,7 +15,7 @@ const CODES: i32 = 131_072;
 /// The zones of a code's place. Its latitude is `degrees / lat_zones * (lat_zone + YZ / 2^17)`, and its longitude
 /// `degrees / lon_zones * (lon_zone + XZ / 2^17)`, less 360 degrees from 180 up, where YZ and XZ are the code.
 #[repr(C)]
-#[derive(Clone, Copy, Debug, PartialEq, Eq)]
+#[derive(Clone, Copy)]
 pub struct PlainZones {
     /// The index of the zone of latitude, j, negative in the south.
     pub lat_zone: i32,

@@ -10,7 +10,7 @@ use std::alloc::Global;
 
 /// An address that is present, and the moment of its newest position.
 #[repr(C)]
-#[derive(Clone, Copy, Debug, PartialEq, Eq)]
+#[derive(Clone, Copy)]
 pub struct PlainPresent {
     pub moment: u64,
     pub address: u32,
