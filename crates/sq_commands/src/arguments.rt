@@ -35,14 +35,14 @@ use sq_text::read_decimal;
 use sq_track::TrackFault;
 
 /// The kinds of squitter that `encode` writes.
-#[derive(Clone, Copy, Debug, PartialEq, Eq)]
+#[derive(Clone, Copy)]
 pub(crate) enum Kind {
     Air,
     Ground,
 }
 
 /// What the arguments of `track` say.
-#[derive(Clone, Copy, Debug)]
+#[derive(Clone, Copy)]
 pub(crate) struct TrackOptions {
     pub(crate) format: Format,
     pub(crate) limit: u32,
@@ -51,7 +51,7 @@ pub(crate) struct TrackOptions {
 }
 
 /// What is wrong with the arguments of a command: the first of these that applies.
-#[derive(Clone, Copy, Debug, PartialEq, Eq)]
+#[derive(Clone, Copy)]
 pub(crate) enum ArgumentFault {
     Format,
     Kind,

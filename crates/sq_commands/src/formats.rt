@@ -10,7 +10,7 @@ use sq_text::{LineFault, TimedSquitter};
 use sq_track::Heard;
 
 /// The format of answers.
-#[derive(Clone, Copy, Debug, PartialEq, Eq)]
+#[derive(Clone, Copy)]
 pub(crate) enum Format {
     /// An answer a line: its number, and what was found.
     Lines,
