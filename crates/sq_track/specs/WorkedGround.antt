@@ -25,7 +25,8 @@ IsFirst arrival = IsArrivalFrom OnGround 0x484175 Even 0 (parts 523230400 100000
 
 -- 484175, odd, at 6000 ms from 52.3206071 -175.2652653
 abbrev pub IsSecond : Arrival → Type 0
-IsSecond arrival = IsArrivalFrom OnGround 0x484175 Odd 6000 (parts 523206071 10000000) (west 1752652653 10000000) arrival
+IsSecond arrival =
+    IsArrivalFrom OnGround 0x484175 Odd 6000 (parts 523206071 10000000) (west 1752652653 10000000) arrival
 
 -- 484175, odd, at 9000 ms from 52.32 -175.264
 abbrev pub IsThird : Arrival → Type 0

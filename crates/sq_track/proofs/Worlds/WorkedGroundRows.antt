@@ -114,8 +114,8 @@ some_first =
     (record { positive = omega arith; at_most = omega arith; within = omega arith })
     (record { positive = omega arith; at_most = omega arith; within = omega (arith, ints) })
     (record { latitude = omega arith; longitude = omega (arith, ints) }) in
-    some_arrival OnGround head (omega arith) (omega arith) 0 first_point 115609 116941 (omega arith) (omega arith) refl
-    at.0 at.1 (even_beyond_position_rounds at.0 at.1.lat at.1.lon)
+    some_arrival OnGround head (omega arith) (omega arith) 0 first_point 115609 116941 (omega arith) (omega arith)
+    refl at.0 at.1 (even_beyond_position_rounds at.0 at.1.lat at.1.lon)
 
 some_second : (b : Arrival) × IsSecond b
 unfolding head
@@ -124,8 +124,8 @@ some_second =
     (record { positive = omega arith; at_most = omega arith; within = omega arith })
     (record { positive = omega arith; at_most = omega arith; within = omega (arith, ints) })
     (record { latitude = omega arith; longitude = omega (arith, ints) }) in
-    some_arrival OnGround head (omega arith) (omega arith) 6000 second_point 39199 110269 (omega arith) (omega arith) refl
-    at.0 at.1 (odd_beyond_position_rounds at.0 at.1.lat at.1.lon)
+    some_arrival OnGround head (omega arith) (omega arith) 6000 second_point 39199 110269 (omega arith) (omega arith)
+    refl at.0 at.1 (odd_beyond_position_rounds at.0 at.1.lat at.1.lon)
 
 some_third : (c : Arrival) × IsThird c
 unfolding head
@@ -134,8 +134,8 @@ some_third =
     (record { positive = omega arith; at_most = omega arith; within = omega arith })
     (record { positive = omega arith; at_most = omega arith; within = omega (arith, ints) })
     (record { latitude = omega arith; longitude = omega (arith, ints) }) in
-    some_arrival OnGround head (omega arith) (omega arith) 9000 third_point 39147 110333 (omega arith) (omega arith) refl
-    at.0 at.1 (third_position_rounds at.0 at.1)
+    some_arrival OnGround head (omega arith) (omega arith) 9000 third_point 39147 110333 (omega arith) (omega arith)
+    refl at.0 at.1 (third_position_rounds at.0 at.1)
 
 some_fourth : (d : Arrival) × IsFourth d
 unfolding head
@@ -144,8 +144,8 @@ some_fourth =
     (record { positive = omega arith; at_most = omega arith; within = omega arith })
     (record { positive = omega arith; at_most = omega arith; within = omega (arith, ints) })
     (record { latitude = omega arith; longitude = omega (arith, ints) }) in
-    some_arrival OnGround head (omega arith) (omega arith) 12000 fourth_point 115291 117288 (omega arith) (omega arith) refl
-    at.0 at.1 (fourth_position_rounds at.0 at.1)
+    some_arrival OnGround head (omega arith) (omega arith) 12000 fourth_point 115291 117288 (omega arith) (omega arith)
+    refl at.0 at.1 (fourth_position_rounds at.0 at.1)
 
 some_site : (site : Position) × IsSite site
 some_site =
