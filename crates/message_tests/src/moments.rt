@@ -1,5 +1,6 @@
 //! Squitters with their moments.
-use sq_text::{LineFault, laws, read_squitter, read_timed};
+use sq_message::laws::equal_received;
+use sq_text::{LineFault, read_squitter, read_timed};
 
 const FRAME: &[u8] = b"8D40621D58C382D690C8AC2863A7";
 
@@ -57,7 +58,7 @@ fn compares_squitters_with_moments(rt: HostRuntime) {
     let first = read_timed(b"0 8D40621D58C382D690C8AC2863A7").expect(&rt, "a squitter");
     let later = read_timed(b"1 8D40621D58C382D690C8AC2863A7").expect(&rt, "a squitter");
     let other = read_timed(b"0 8D40621D58C386435CC412692AD6").expect(&rt, "a squitter");
-    assert!(rt; laws::equal_timed_squitters(&first, &first));
-    assert!(rt; !laws::equal_timed_squitters(&first, &later));
-    assert!(rt; !laws::equal_timed_squitters(&first, &other));
+    assert!(rt; equal_received(&first, &first));
+    assert!(rt; !equal_received(&first, &later));
+    assert!(rt; !equal_received(&first, &other));
 }

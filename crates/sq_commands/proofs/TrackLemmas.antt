@@ -12,7 +12,7 @@ use Rattle.sq_devices.specs.declared.device.Source.{Ghosts as SourceGhosts}
 use Rattle.sq_devices.specs.Device.{IsPrefixOf, WroteFront}
 use Rattle.sq_devices.proofs.Ends.{took_reported}
 use Rattle.sq_text.specs.declared.faults.LineFault.{LineFault}
-use Rattle.sq_text.specs.declared.timed.TimedSquitter.{TimedSquitter}
+use Rattle.sq_message.specs.declared.received.Received.{Received}
 use Rattle.sq_text.specs.Timed.{IsTimedReading, TimedReader}
 use Rattle.sq_text.proofs.TimedReadings.{one_timed_reading}
 use Rattle.sq_lines.specs.Answers.{Answerer, Manner, after_content, after_line, answer_line, answers_to, past_after}
@@ -45,20 +45,20 @@ use Rattle.sq_commands.specs.Tracking.{AreHeardLines, HasHeard, IsHeardAs, IsHea
 use Rattle.sq_commands.specs.Tracking.{IsWelcome, Replier, Tracking, WroteIntoLast, answer_read, found_of, past_read}
 use Rattle.sq_commands.specs.Tracking.{past_with, reply_by, track_manner, track_way}
 
-history_with : (past : Tracking) (timed : TimedSquitter) (reply : Result Heard TrackFault)
+history_with : (past : Tracking) (timed : Received) (reply : Result Heard TrackFault)
     (is : IsReply past.settings past.history timed.moment timed.squitter reply)
     → (past_with past timed reply is).history ≡ history_after past.history timed.moment timed.squitter reply
 history_with past timed (Ok heard) is = refl
 history_with past timed (Err fault) is = refl
 
-settings_with : (past : Tracking) (timed : TimedSquitter) (reply : Result Heard TrackFault)
+settings_with : (past : Tracking) (timed : Received) (reply : Result Heard TrackFault)
     (is : IsReply past.settings past.history timed.moment timed.squitter reply)
     → (past_with past timed reply is).settings ≡ past.settings
 settings_with past timed (Ok heard) is = refl
 settings_with past timed (Err fault) is = refl
 
 -- the tracker's reply is the one by what came before
-pub timed_heard : (past : Tracking) (timed : TimedSquitter) (outcome : Outcome) (new : Held)
+pub timed_heard : (past : Tracking) (timed : Received) (outcome : Outcome) (new : Held)
     (reply : Result Heard TrackFault)
     → IsReply past.settings past.history timed.moment timed.squitter reply → reply ≢ Err track_faults.Memory
     → outcome ≡ outcome_of (found_of timed reply)
@@ -99,7 +99,7 @@ abbrev with_tracker : {F : Type 0} → MutBor Held → Bor F → Held → Hearin
 with_tracker lent format tracker = record { tracker = record lent { now = tracker }; format = format }
 
 module _ (telling : Telling HeardSquitter) {F : Type 0} (format : Bor F) (number : ℕ) (text : List ℕ)
-    (timed : TimedSquitter) (lent : MutBor Held) (new : Held) (bytes : List ℕ)
+    (timed : Received) (lent : MutBor Held) (new : Held) (bytes : List ℕ)
     (spells : IsTimedReading text (Ok timed)) (same : settings new ≡ settings lent.now) where
   timed_text : (outcome : Outcome) → IsHeardAs telling number timed outcome lent.now new bytes
       → HasHeardText (hearing_manner telling) outcome number text (record { tracker = lent; format = format })
@@ -110,7 +110,7 @@ module _ (telling : Telling HeardSquitter) {F : Type 0} (format : Bor F) (number
       one_timed_reading text (Ok timed) (past.reader.read text) spells (past.reader.reads text) in
       let is = subst (λ (s : Settings). IsReply s past.history timed.moment timed.squitter h.0) st.1 h.1 in
       let t = timed_heard past timed outcome new h.0 is h.2 h.3 h.4 (same ∙ st.1) in
-      subst (λ (read : Result TimedSquitter LineFault). (outcome ≡ outcome_of (answer_read past read))
+      subst (λ (read : Result Received LineFault). (outcome ≡ outcome_of (answer_read past read))
       × IsTracking new (past_read past read)
       × (bytes ≡ telling.text first.writers number (answer_read past read))) one
       (t.0, t.1, h.5 first.writers ∙ ap (telling.text first.writers number) t.2)
@@ -135,7 +135,7 @@ text_refused telling number text fault client bytes is told past first st =
     let one : Err fault ≡ past.reader.read text =
     one_timed_reading text (Err fault) (past.reader.read text) is (past.reader.reads text) in
     let refused : Outcome = Refused in
-    subst (λ (read : Result TimedSquitter LineFault). (refused ≡ outcome_of (answer_read past read))
+    subst (λ (read : Result Received LineFault). (refused ≡ outcome_of (answer_read past read))
     × IsTracking client.tracker.now (past_read past read)
     × (bytes ≡ telling.text first.writers number (answer_read past read))) one (refl, st, told first.writers)
 
@@ -150,12 +150,12 @@ replier = record {
 }
 
 -- what came before, after what was read of a line
-abbrev past_heard : Tracking → Answer TimedSquitter → Tracking
+abbrev past_heard : Tracking → Answer Received → Tracking
 past_heard past None = past
 past_heard past (Some read) = past_read past read
 
 -- the answer to what was read of a line
-abbrev answer_heard : Tracking → Answer TimedSquitter → Answer HeardSquitter
+abbrev answer_heard : Tracking → Answer Received → Answer HeardSquitter
 answer_heard past None = None
 answer_heard past (Some read) = Some (answer_read past read)
 
@@ -175,7 +175,7 @@ answer-heard past Empty = refl
 answer-heard past (Text text) = refl
 
 -- the answer to a line by what came before it is one by the history
-line_heard : (past : Tracking) (read : Answer TimedSquitter)
+line_heard : (past : Tracking) (read : Answer Received)
     → IsHeardLine past.settings past.history read (answer_heard past read) (past_heard past read).history
 line_heard past None = (refl, refl)
 line_heard past (Some (Err fault)) = (refl, refl)
@@ -189,20 +189,20 @@ line_heard past (Some (Ok timed)) =
       history_with past timed (reply_by past timed) by,
     )
 
-settings_heard : (past : Tracking) (read : Answer TimedSquitter) → (past_heard past read).settings ≡ past.settings
+settings_heard : (past : Tracking) (read : Answer Received) → (past_heard past read).settings ≡ past.settings
 settings_heard past None = refl
 settings_heard past (Some (Err fault)) = refl
 settings_heard past (Some (Ok timed)) =
     settings_with past timed (reply_by past timed)
     (past.replier.replies past.settings past.history past.accepted timed.moment timed.squitter)
 
-reader_with : (past : Tracking) (timed : TimedSquitter) (reply : Result Heard TrackFault)
+reader_with : (past : Tracking) (timed : Received) (reply : Result Heard TrackFault)
     (is : IsReply past.settings past.history timed.moment timed.squitter reply)
     → (past_with past timed reply is).reader ≡ past.reader
 reader_with past timed (Ok heard) is = refl
 reader_with past timed (Err fault) is = refl
 
-reader_heard : (past : Tracking) (read : Answer TimedSquitter) → (past_heard past read).reader ≡ past.reader
+reader_heard : (past : Tracking) (read : Answer Received) → (past_heard past read).reader ≡ past.reader
 reader_heard past None = refl
 reader_heard past (Some (Err fault)) = refl
 reader_heard past (Some (Ok timed)) =

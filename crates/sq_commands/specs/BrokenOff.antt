@@ -12,7 +12,7 @@ use Rattle.sq_lines.specs.Lines.{ended_lines, lines_of}
 use Rattle.sq_message.specs.Parts.{squitter_parts}
 use Rattle.sq_message.specs.Places.{IsPosition}
 use Rattle.sq_requests.specs.Requests.{Asked, AskedEncode, AskedTrack, Check, Encode, Text, Track}
-use Rattle.sq_text.specs.declared.timed.TimedSquitter.{TimedSquitter}
+use Rattle.sq_message.specs.declared.received.Received.{Received}
 use Rattle.sq_text.specs.Timed.{IsTimedText}
 use Rattle.sq_track.specs.Held.{Held, StandsFor, made_with, present_of, settings}
 use Rattle.sq_track.specs.History.{History}
@@ -52,7 +52,7 @@ module _ {S K F : Type 0} (s : SourceGhosts S) (k : SinkGhosts K) (f : SinkGhost
 
   -- the tracker may want memory for this line: a position on it, of an address that is not present, would be accepted
   abbrev pub WantsSome : Held → List ℕ → Type 0
-  WantsSome t line = (text : List ℕ) × (content line ≡ Stands text) × ((timed : TimedSquitter) × IsTimedText text timed
+  WantsSome t line = (text : List ℕ) × (content line ≡ Stands text) × ((timed : Received) × IsTimedText text timed
       × (IsPosition (squitter_parts timed.squitter).me
       × (find (λ entry. entry.0 == (squitter_parts timed.squitter).address) (present_of t) ≡ None))
       × ((h : History) → StandsFor t h → IsAcceptable (settings t) h timed.moment timed.squitter))

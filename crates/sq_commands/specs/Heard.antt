@@ -6,7 +6,7 @@ use Rattle.sq_message.specs.declared.place.Place.{Place}
 use Rattle.sq_message.specs.Parts.{squitter_parts}
 use Rattle.sq_message.specs.Places.{place_latitude, place_longitude}
 use Rattle.sq_text.specs.declared.faults.LineFault.{LineFault}
-use Rattle.sq_text.specs.declared.timed.TimedSquitter.{TimedSquitter}
+use Rattle.sq_message.specs.declared.received.Received.{Received}
 use Rattle.sq_digits.specs.Digits.{hexadecimal}
 use Rattle.sq_text.specs.Faults.{fault_text}
 use Rattle.sq_track.specs.declared.heard.Heard.{Heard}
@@ -21,7 +21,7 @@ use Rattle.sq_commands.specs.Formats.{Telling, Writers, in_lines}
 
 -- a squitter with its moment, and what was heard of its address
 pub record HeardSquitter : Type 0 where
-  pub timed : TimedSquitter
+  pub timed : Received
   pub heard : Heard
 
 -- ---- as a line

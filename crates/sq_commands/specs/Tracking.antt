@@ -8,7 +8,7 @@ use Rattle.sq_message.specs.Parts.{squitter_parts}
 use Rattle.sq_message.specs.Places.{IsPosition}
 use Rattle.sq_text.specs.declared.faults.LineFault.{LineFault}
 use Rattle.sq_text.specs.declared.faults.LineFault.TheVariants as line_faults
-use Rattle.sq_text.specs.declared.timed.TimedSquitter.{TimedSquitter}
+use Rattle.sq_message.specs.declared.received.Received.{Received}
 use Rattle.sq_text.specs.Timed.{IsTimedText, TimedReader}
 use Rattle.sq_lines.specs.Content.{Answer, answer_by}
 use Rattle.sq_lines.specs.Answers.{Answerer, Manner}
@@ -27,13 +27,13 @@ use Rattle.sq_commands.specs.Heard.{HeardSquitter}
 
 -- What is found of a squitter by the tracker's reply: what was heard of its address, or why it is refused. Besides a
 -- moment back, a full table is the one fault that a reply has where memory holds.
-abbrev pub found_of : TimedSquitter → Result Heard TrackFault → Result HeardSquitter LineFault
+abbrev pub found_of : Received → Result Heard TrackFault → Result HeardSquitter LineFault
 found_of timed (Ok heard) = Ok (record { timed = timed; heard = heard })
 found_of timed (Err (MomentBack last)) = Err (line_faults.MomentBack last)
 found_of timed (Err fault) = Err line_faults.Full
 
 -- the answer to what was read of a line, and the history after it: a line that is empty or at fault changes nothing
-abbrev pub IsHeardLine : Settings → History → Answer TimedSquitter → Answer HeardSquitter → History → Type 0
+abbrev pub IsHeardLine : Settings → History → Answer Received → Answer HeardSquitter → History → Type 0
 IsHeardLine s h None answer next = (answer ≡ None) × (next ≡ h)
 IsHeardLine s h (Some (Err fault)) answer next = (answer ≡ Some (Err fault)) × (next ≡ h)
 IsHeardLine s h (Some (Ok timed)) answer next = (reply : Result Heard TrackFault)
@@ -84,15 +84,15 @@ pub record Tracking : Type 0 where
   pub history : History
   pub accepted : IsHistory settings history
 
-abbrev pub reply_by : Tracking → TimedSquitter → Result Heard TrackFault
+abbrev pub reply_by : Tracking → Received → Result Heard TrackFault
 reply_by past timed = past.replier.reply past.settings past.history past.accepted timed.moment timed.squitter
 
-abbrev pub answer_read : Tracking → Result TimedSquitter LineFault → Result HeardSquitter LineFault
+abbrev pub answer_read : Tracking → Result Received LineFault → Result HeardSquitter LineFault
 answer_read past (Err fault) = Err fault
 answer_read past (Ok timed) = found_of timed (reply_by past timed)
 
 -- an accepted call goes in front
-abbrev pub past_with : (past : Tracking) (timed : TimedSquitter) (reply : Result Heard TrackFault)
+abbrev pub past_with : (past : Tracking) (timed : Received) (reply : Result Heard TrackFault)
     → IsReply past.settings past.history timed.moment timed.squitter reply → Tracking
 past_with past timed (Ok heard) is =
     record past {
@@ -101,7 +101,7 @@ past_with past timed (Ok heard) is =
     }
 past_with past timed (Err fault) is = past
 
-abbrev pub past_read : Tracking → Result TimedSquitter LineFault → Tracking
+abbrev pub past_read : Tracking → Result Received LineFault → Tracking
 past_read past (Err fault) = past
 past_read past (Ok timed) =
     past_with past timed (reply_by past timed)
@@ -125,14 +125,14 @@ IsNewPosition t squitter = IsPosition (squitter_parts squitter).me
     × (find (λ entry. entry.0 == (squitter_parts squitter).address) (present_of t) ≡ None)
 
 -- it would be accepted, by each history that the tracker stands for
-abbrev pub IsWelcome : Held → TimedSquitter → Type 0
+abbrev pub IsWelcome : Held → Received → Type 0
 IsWelcome t timed = (h : History) → StandsFor t h → IsAcceptable (settings t) h timed.moment timed.squitter
 
 -- the tracker may want memory for the text: it spells a position of an address that is not present, and that would be
 -- accepted
 abbrev pub WantsMemory : Held → List ℕ → Type 0
 WantsMemory t text =
-    (timed : TimedSquitter) × IsTimedText text timed × IsNewPosition t timed.squitter × IsWelcome t timed
+    (timed : Received) × IsTimedText text timed × IsNewPosition t timed.squitter × IsWelcome t timed
 
 -- how `track` answers texts, by its tracker
 abbrev pub track_manner : Telling HeardSquitter → Manner Held Tracking HeardSquitter
@@ -140,7 +140,7 @@ track_manner telling = record { stands_for = IsTracking; way = track_way telling
 
 -- a squitter was heard on the line with this number: by each history that the tracker stood for there is a reply, and
 -- it is what was told; the tracker stands for the history after it
-abbrev pub IsHeardAs : Telling HeardSquitter → ℕ → TimedSquitter → Outcome → (old new : Held) → (bytes : List ℕ)
+abbrev pub IsHeardAs : Telling HeardSquitter → ℕ → Received → Outcome → (old new : Held) → (bytes : List ℕ)
     → Type 0
 IsHeardAs telling number timed outcome old new bytes =
     (h : History) → StandsFor old h → (reply : Result Heard TrackFault)
@@ -151,5 +151,5 @@ IsHeardAs telling number timed outcome old new bytes =
 
 -- what is replied to a squitter follows from the settings and the history alone, whatever else came before
 abbrev pub OnePast : Type 0
-OnePast = (a b : Tracking) (timed : TimedSquitter) → a.settings ≡ b.settings → a.history ≡ b.history
+OnePast = (a b : Tracking) (timed : Received) → a.settings ≡ b.settings → a.history ≡ b.history
     → reply_by a timed ≡ reply_by b timed

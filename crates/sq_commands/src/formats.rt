@@ -5,8 +5,8 @@ ghost use Rattle.sq_commands.specs.Formats.{Telling, Writers};
 ghost use Rattle.sq_commands.specs.Heard.{HeardSquitter};
 
 use sq_lines::LineText;
-use sq_message::Squitter;
-use sq_text::{LineFault, TimedSquitter};
+use sq_message::{Received, Squitter};
+use sq_text::LineFault;
 use sq_track::Heard;
 
 /// The format of answers.
@@ -48,7 +48,7 @@ pub(crate) trait TrackFormat {
         ensures { result.now ≡ telling.header };
 
     /// Tells what was heard of a squitter in an empty text.
-    fn tell(&self, number: u64, timed: &TimedSquitter, heard: &Heard, into: &mut LineText)
+    fn tell(&self, number: u64, timed: &Received, heard: &Heard, into: &mut LineText)
         requires { into.old.bytes ≡ [] }
         ensures { (writers : Writers) → into.new.bytes
             ≡ telling.text writers number (Ok (record { timed = timed.now; heard = heard.now })) };

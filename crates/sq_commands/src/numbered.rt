@@ -8,8 +8,8 @@ ghost use Rattle.sq_commands.specs.Squitters.{squitter_lines};
 use crate::formats::{CheckFormat, TrackFormat};
 use crate::heard::push_heard;
 use sq_lines::LineText;
-use sq_message::Squitter;
-use sq_text::{LineFault, TimedSquitter, push_decimal, push_fault, push_summary};
+use sq_message::{Received, Squitter};
+use sq_text::{LineFault, push_decimal, push_fault, push_summary};
 use sq_track::Heard;
 
 /// An answer a line.
@@ -41,7 +41,7 @@ impl TrackFormat for Numbered {
         ""
     }
 
-    fn tell(&self, number: u64, timed: &TimedSquitter, heard: &Heard, into: &mut LineText) {
+    fn tell(&self, number: u64, timed: &Received, heard: &Heard, into: &mut LineText) {
         push_number(into, number);
         push_heard(into, timed.squitter.address(), heard);
         push_end(into);

@@ -8,9 +8,9 @@ use crate::check_rows::{CHECK_COLUMNS, push_refused_frame, push_squitter};
 use crate::formats::{CheckFormat, TrackFormat};
 use crate::track_rows::{TRACK_COLUMNS, push_heard_row, push_refused_row};
 use sq_lines::LineText;
-use sq_message::Squitter;
+use sq_message::{Received, Squitter};
 use sq_rows::Form;
-use sq_text::{LineFault, TimedSquitter};
+use sq_text::LineFault;
 use sq_track::Heard;
 
 /// A record of CSV an answer, below a header with the names of the columns.
@@ -60,7 +60,7 @@ impl TrackFormat for CsvRows {
         TRACK_COLUMNS
     }
 
-    fn tell(&self, number: u64, timed: &TimedSquitter, heard: &Heard, into: &mut LineText) {
+    fn tell(&self, number: u64, timed: &Received, heard: &Heard, into: &mut LineText) {
         push_heard_row(into, Form::Csv, number, timed, heard);
     }
 
@@ -76,7 +76,7 @@ impl TrackFormat for JsonRows {
         ""
     }
 
-    fn tell(&self, number: u64, timed: &TimedSquitter, heard: &Heard, into: &mut LineText) {
+    fn tell(&self, number: u64, timed: &Received, heard: &Heard, into: &mut LineText) {
         push_heard_row(into, Form::Json, number, timed, heard);
     }
 

@@ -18,8 +18,9 @@ use crate::rows::{CsvRows, JsonRows};
 use crate::status::Status;
 use sq_devices::{Failed, Sink, Source, put_all};
 use sq_lines::{Answering, LineText, Outcome, RunFault, Tally, run_lines};
+use sq_message::Received;
 use sq_requests::TrackWords;
-use sq_text::{LineFault, TimedSquitter, read_timed};
+use sq_text::{LineFault, read_timed};
 use sq_track::{TrackFault, Tracker};
 use std::alloc::Global;
 
@@ -61,7 +62,7 @@ fn hear<F: TrackFormat>(
     tracker: &mut Tracker,
     format: &F,
     number: u64,
-    timed: &TimedSquitter,
+    timed: &Received,
     into: &mut LineText,
 ) -> Outcome
     requires { into.old.bytes ≡ [] }

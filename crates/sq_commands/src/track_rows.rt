@@ -8,12 +8,12 @@ ghost use Rattle.sq_commands.specs.Formats.{Writers};
 ghost use Rattle.sq_commands.specs.Heard.{answer_word, coordinate, heard_row, track_columns, track_row_text};
 
 use sq_lines::LineText;
-use sq_message::Place;
+use sq_message::{Place, Received};
 use sq_rows::{
     Form, kind_name, push_blank, push_degrees, push_end, push_fault_word, push_feet,
     push_hexadecimal_word, push_line, push_number, push_word,
 };
-use sq_text::{LineFault, TimedSquitter};
+use sq_text::LineFault;
 use sq_track::Heard;
 
 /// The names of the columns, as CSV has them.
@@ -24,7 +24,7 @@ pub(crate) fn push_heard_row(
     text: &mut LineText,
     form: Form,
     number: u64,
-    timed: &TimedSquitter,
+    timed: &Received,
     heard: &Heard,
 )
     requires { text.old.bytes ≡ [] }

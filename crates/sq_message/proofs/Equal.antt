@@ -1,4 +1,4 @@
--- Squitters are equal by `==` exactly if they are one.
+-- Squitters, and squitters with their moments, are equal by `==` exactly if they are one.
 use Rattle.std.proofs.Common.{◌≡◌, ◌↔◌, IsTrue, Bool, true, false, ap, refl, rules, subst}
 use Rattle.std.proofs.Math.Bool.{beq}
 use Rattle.std.proofs.lemmas.Bool.{and_from, and_parts, eq-eqb, eqb-true}
@@ -13,6 +13,7 @@ use Rattle.sq_message.specs.declared.air.AirFields.{AirFields}
 use Rattle.sq_message.specs.declared.air.Airborne.{Airborne}
 use Rattle.sq_message.specs.declared.ground.GroundFields.{GroundFields}
 use Rattle.sq_message.specs.declared.ground.Surface.{Surface}
+use Rattle.sq_message.specs.declared.received.Received.{Received}
 use Rattle.sq_message.specs.declared.squitter.Me.{Me}
 use Rattle.sq_message.specs.declared.squitter.Me.TheVariants as kinds
 use Rattle.sq_message.specs.declared.squitter.Squitter.{Squitter}
@@ -20,6 +21,7 @@ use Rattle.sq_message.specs.contracts.air.AirFieldsPartialEq.TheImpl.{ghosts as 
 use Rattle.sq_message.specs.contracts.air.AirbornePartialEq.TheImpl.{ghosts as airborne}
 use Rattle.sq_message.specs.contracts.ground.GroundFieldsPartialEq.TheImpl.{ghosts as ground_fields}
 use Rattle.sq_message.specs.contracts.ground.SurfacePartialEq.TheImpl.{ghosts as surface}
+use Rattle.sq_message.specs.contracts.received.ReceivedPartialEq.TheImpl.{ghosts as moments}
 use Rattle.sq_message.specs.contracts.squitter.MePartialEq.TheImpl.{ghosts as mes}
 use Rattle.sq_message.specs.contracts.squitter.SquitterPartialEq.TheImpl.{ghosts as squitters}
 use Rattle.sq_message.proofs.Same.{same_air_fields, same_ground_fields, same_other, same_squitter}
@@ -122,3 +124,16 @@ squitter_itself a =
 
 pub equal_squitters : (a b : Squitter) → IsTrue (squitters.eq a b) ↔ (a ≡ b)
 equal_squitters a b = (one_squitter a b, λ e. subst (λ x. squitters.eq a x ≡ true) e (squitter_itself a))
+
+one_received : (a b : Received) → moments.eq a b ≡ true → a ≡ b
+one_received a b h =
+    let p = and_parts _ (squitters.eq a.squitter b.squitter) h in
+    let moment = eqb-true a.moment b.moment p.0 in
+    let squitter = one_squitter a.squitter b.squitter p.1 in
+    λ i. record { moment = moment i; squitter = squitter i }
+
+received_itself : (a : Received) → moments.eq a a ≡ true
+received_itself a = and_from _ _ (eq-eqb a.moment a.moment refl) (squitter_itself a.squitter)
+
+pub equal_received : (a b : Received) → IsTrue (moments.eq a b) ↔ (a ≡ b)
+equal_received a b = (one_received a b, λ e. subst (λ x. moments.eq a x ≡ true) e (received_itself a))

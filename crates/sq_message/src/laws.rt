@@ -36,8 +36,8 @@ ghost use Rattle.sq_message.specs.Sending.{IsFrameOf, SameZones};
 ghost use Rattle.sq_message.specs.Spelling.{IsReading, Spells};
 
 use crate::{
-    AirHead, Frame, FrameFault, GroundHead, Parity, Place, PlaceFault, Position, Squitter,
-    place_local, place_pair, read_frame, send_air, send_ground, send_point, write_frame,
+    AirHead, Frame, FrameFault, GroundHead, Parity, Place, PlaceFault, Position, Received,
+    Squitter, place_local, place_pair, read_frame, send_air, send_ground, send_point, write_frame,
 };
 use sq_bits::laws::each_frame;
 
@@ -227,6 +227,13 @@ pub fn equal_squitters(squitter: &Squitter, other: &Squitter) -> bool
     ensures { IsTrue result ↔ (squitter.now ≡ other.now) }
 {
     squitter == other
+}
+
+/// Whether two squitters with their moments are equal by `==`: exactly if they are one.
+pub fn equal_received(received: &Received, other: &Received) -> bool
+    ensures { IsTrue result ↔ (received.now ≡ other.now) }
+{
+    received == other
 }
 
 /// Whether two places are equal by `==`: exactly if they are one.

@@ -6,4 +6,3 @@ pub mod DigitLemmas
 pub mod Moments
 pub mod TimedReadings
 pub mod PlaceTexts
-pub mod EqualTimed

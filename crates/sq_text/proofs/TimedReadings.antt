@@ -8,7 +8,7 @@ use Rattle.std.specs.Str.Parse.{digits_value}
 use Rattle.sq_message.specs.declared.squitter.Squitter.{Squitter}
 use Rattle.sq_text.specs.declared.faults.LineFault.{LineFault}
 use Rattle.sq_text.specs.declared.faults.LineFault.TheVariants.{Moment}
-use Rattle.sq_text.specs.declared.timed.TimedSquitter.{TimedSquitter}
+use Rattle.sq_message.specs.declared.received.Received.{Received}
 use Rattle.sq_text.specs.Reading.{IsSquitterReading}
 use Rattle.sq_text.specs.Timed.{HasNoMoment, IsMomentLine, IsDecimalText, IsTimedReading}
 use Rattle.sq_text.proofs.Moments.{HasNoSpace, digits_without_space, no_front, one_front}
@@ -25,17 +25,17 @@ one_line text rest more m n x y =
     (x.of_moment.value ∙ ap (λ ds. digits_value 10 ds) same.0 ∙ sym y.of_moment.value, same.1)
 
 -- what is read of the rest, with the moment
-abbrev with_moment : ℕ → Result Squitter LineFault → Result TimedSquitter LineFault
+abbrev with_moment : ℕ → Result Squitter LineFault → Result Received LineFault
 with_moment moment (Ok squitter) = Ok (record { moment = moment; squitter = squitter })
 with_moment moment (Err fault) = Err fault
 
 -- a text with a moment is read as its rest is
-of_rest : (text rest : List ℕ) (m : ℕ) → IsMomentLine text rest m → (answer : Result TimedSquitter LineFault)
+of_rest : (text rest : List ℕ) (m : ℕ) → IsMomentLine text rest m → (answer : Result Received LineFault)
     → IsTimedReading text answer
     → (reading : Result Squitter LineFault) × IsSquitterReading rest reading × (answer ≡ with_moment m reading)
 of_rest text rest m line (Ok timed) (more, here, spelled) =
     let same = one_line text rest more m timed.moment line here in
-    let moment : ℕ → TimedSquitter = λ n. record { moment = n; squitter = timed.squitter } in (
+    let moment : ℕ → Received = λ n. record { moment = n; squitter = timed.squitter } in (
       Ok timed.squitter,
       subst (λ (r : List ℕ). IsSquitterReading r (Ok timed.squitter)) (sym same.1) spelled,
       ap (λ n. Ok (moment n)) (sym same.0),
@@ -46,7 +46,7 @@ of_rest text rest m line (Err fault) (inr (more, n, here, why)) =
     (Err fault, subst (λ (r : List ℕ). IsSquitterReading r (Err fault)) (sym same.1) why, refl)
 
 -- a text without a moment has that fault
-of_none : (text : List ℕ) → HasNoMoment text → (answer : Result TimedSquitter LineFault) → IsTimedReading text answer
+of_none : (text : List ℕ) → HasNoMoment text → (answer : Result Received LineFault) → IsTimedReading text answer
     → answer ≡ Err Moment
 of_none text none (Ok timed) (rest, line, spelled) = absurd (none rest timed.moment line)
 of_none text none (Err fault) (inl (is, why)) = ap Err is
@@ -121,17 +121,17 @@ has_moment text = elim (first_space text) [
 
 read_rest : (text rest : List ℕ) (m : ℕ) → IsMomentLine text rest m → (reading : Result Squitter LineFault)
     → IsSquitterReading rest reading
-    → (answer : Result TimedSquitter LineFault) × IsTimedReading text answer
+    → (answer : Result Received LineFault) × IsTimedReading text answer
 read_rest text rest m line (Ok squitter) is = (Ok (record { moment = m; squitter = squitter }), (rest, line, is))
 read_rest text rest m line (Err fault) is = (Err fault, inr (rest, m, line, is))
 
-pub some_timed_reading : (text : List ℕ) → (answer : Result TimedSquitter LineFault) × IsTimedReading text answer
+pub some_timed_reading : (text : List ℕ) → (answer : Result Received LineFault) × IsTimedReading text answer
 some_timed_reading text = elim (has_moment text) [
   | inl (rest, m, line) ↦ let reading = some_squitter_reading rest in read_rest text rest m line reading.0 reading.1
   | inr none ↦ (Err Moment, inl (refl, none))
 ]
 
-pub one_timed_reading : (text : List ℕ) (a b : Result TimedSquitter LineFault) → IsTimedReading text a
+pub one_timed_reading : (text : List ℕ) (a b : Result Received LineFault) → IsTimedReading text a
     → IsTimedReading text b → a ≡ b
 one_timed_reading text a b x y = elim (has_moment text) [
   | inl (rest, m, line) ↦

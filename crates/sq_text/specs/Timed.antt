@@ -6,7 +6,7 @@ use Rattle.std.specs.Str.Parse.{digits_value}
 use Rattle.sq_digits.specs.Characters.{space}
 use Rattle.sq_text.specs.declared.faults.LineFault.{LineFault}
 use Rattle.sq_text.specs.declared.faults.LineFault.TheVariants.{Moment}
-use Rattle.sq_text.specs.declared.timed.TimedSquitter.{TimedSquitter}
+use Rattle.sq_message.specs.declared.received.Received.{Received}
 use Rattle.sq_text.specs.Reading.{IsSquitterText, IsSquitterFault}
 
 -- 1 to 20 decimal digits, of a number below 2^64
@@ -24,7 +24,7 @@ pub record IsMomentLine (text rest : List ℕ) (moment : ℕ) : Type 0 where
   pub whole : text ≡ digits ++ space ∷ rest
 
 -- a moment, one space, and the text of a frame that spells the squitter
-abbrev pub IsTimedText : List ℕ → TimedSquitter → Type 0
+abbrev pub IsTimedText : List ℕ → Received → Type 0
 IsTimedText text timed = (rest : List ℕ) × IsMomentLine text rest timed.moment × IsSquitterText rest timed.squitter
 
 -- no space, or no moment before the first one
@@ -37,10 +37,10 @@ IsTimedFault text fault = ((fault ≡ Moment) × HasNoMoment text)
     ⊎ ((rest : List ℕ) × (moment : ℕ) × IsMomentLine text rest moment × IsSquitterFault rest fault)
 
 -- what is read of a text
-abbrev pub IsTimedReading : List ℕ → Result TimedSquitter LineFault → Type 0
+abbrev pub IsTimedReading : List ℕ → Result Received LineFault → Type 0
 IsTimedReading text answer = MatchResult answer (IsTimedText text) (IsTimedFault text)
 
 -- a function that reads every text: there is one, and no two differ at a text
 pub record TimedReader : Type 0 where
-  pub read : List ℕ → Result TimedSquitter LineFault
+  pub read : List ℕ → Result Received LineFault
   pub reads : (text : List ℕ) → IsTimedReading text (read text)

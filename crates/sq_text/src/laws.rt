@@ -10,9 +10,9 @@ ghost use Rattle.sq_text.specs.Place.{IsPlaceText};
 ghost use Rattle.sq_text.specs.Reading.{IsSquitterReading, SquitterReader};
 ghost use Rattle.sq_text.specs.Show.{IsShown};
 ghost use Rattle.sq_text.specs.Timed.{IsTimedReading, TimedReader};
-ghost use Rattle.sq_text.specs.declared.timed.TimedSquitter.{TimedSquitter};
+ghost use Rattle.sq_message.specs.declared.received.Received.{Received};
 
-use crate::{LineFault, TextFault, TimedSquitter};
+use crate::{LineFault, TextFault};
 
 /// A text has one answer of `read_text`.
 pub fn one_answer()
@@ -32,7 +32,7 @@ pub fn some_reader()
 
 /// A text has one reading as a squitter with its moment.
 pub fn one_timed_reading()
-    ensures { (text : List ℕ) (r s : Result TimedSquitter LineFault)
+    ensures { (text : List ℕ) (r s : Result Received LineFault)
         → IsTimedReading text r → IsTimedReading text s → r ≡ s }
 {}
 
@@ -63,11 +63,4 @@ pub fn equal_line_faults(line_fault: &LineFault, other: &LineFault) -> bool
     ensures { IsTrue result ↔ (line_fault.now ≡ other.now) }
 {
     line_fault == other
-}
-
-/// Whether two squitters with their moments are equal by `==`: exactly if they are one.
-pub fn equal_timed_squitters(timed: &TimedSquitter, other: &TimedSquitter) -> bool
-    ensures { IsTrue result ↔ (timed.now ≡ other.now) }
-{
-    timed == other
 }

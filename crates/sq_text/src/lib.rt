@@ -22,6 +22,6 @@ pub use place_faults::push_place_fault;
 pub use reading::read_squitter;
 pub use show::{ShowText, show_text};
 pub use sq_digits::{TextBuffer, push_decimal, push_hexadecimal, push_six_places};
-pub use sq_message::{Frame, FrameFault, PlaceFault, Position, Squitter};
+pub use sq_message::{Frame, FrameFault, PlaceFault, Position, Received, Squitter};
 pub use summary::push_summary;
-pub use timed::{TimedSquitter, read_decimal, read_timed};
+pub use timed::{read_decimal, read_timed};

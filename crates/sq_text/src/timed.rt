@@ -7,14 +7,7 @@ ghost use Rattle.sq_text.specs.Timed.{HasNoMoment, IsMomentLine, IsDecimalText, 
 
 use crate::faults::LineFault;
 use crate::reading::read_squitter;
-use sq_message::Squitter;
-
-/// A squitter, and the moment in milliseconds at which it was heard.
-#[derive(Clone, Copy, Debug, PartialEq, Eq)]
-pub struct TimedSquitter {
-    pub moment: u64,
-    pub squitter: Squitter,
-}
+use sq_message::Received;
 
 // The most digits of a number below 2^64.
 const DIGITS: usize = 20;
@@ -24,13 +17,13 @@ const DIGITS: usize = 20;
 /// `Moment` comes where there is no space, or what stands before the first one is no moment; then the faults of the
 /// frame text and of its frame, as in `read_squitter`.
 #[inline(always)]
-pub fn read_timed(text: &[u8]) -> Result<TimedSquitter, LineFault>
+pub fn read_timed(text: &[u8]) -> Result<Received, LineFault>
     ensures { IsTimedReading text.now result }
 {
     match split_moment(text) {
         Some((moment, rest)) => {
             let squitter = read_squitter(rest)?;
-            Ok(TimedSquitter { moment, squitter })
+            Ok(Received { moment, squitter })
         }
         None => Err(LineFault::Moment),
     }

@@ -17,7 +17,7 @@ use Rattle.sq_message.specs.Places.{IsPosition, IsPositionOf}
 use Rattle.sq_zones.specs.declared.parity.Parity.{Parity}
 use Rattle.sq_zones.specs.declared.parity.Parity.TheVariants.{Even, Odd}
 use Rattle.sq_track.specs.declared.contact.Contact.{Contact}
-use Rattle.sq_track.specs.declared.contact.Received.{Received}
+use Rattle.sq_message.specs.declared.received.Received.{Received}
 use Rattle.sq_track.specs.declared.contact.Side.{Side}
 use Rattle.sq_track.specs.declared.heard.Heard.{Heard}
 use Rattle.sq_track.specs.declared.heard.Heard.TheVariants.{Fix, Followed, Far}

@@ -17,8 +17,8 @@ mod listening;
 mod tracker;
 pub mod worked;
 
-pub use contact::{Contact, LastFix, Received, Side};
+pub use contact::{Contact, LastFix, Side};
 pub use heard::{Heard, TrackFault};
 pub use listening::hear_each;
-pub use sq_message::{Place, Position, Squitter};
+pub use sq_message::{Place, Position, Received, Squitter};
 pub use tracker::Tracker;

@@ -5,9 +5,9 @@ ghost use Rattle.sq_track.specs.Held.{StandsFor, settings};
 ghost use Rattle.sq_track.specs.Laws.{AreTrueInSlowWorlds};
 ghost use Rattle.sq_track.specs.Replies.{AreReplies, IsReply, history_after, history_after_all};
 
-use crate::contact::Received;
 use crate::heard::{Heard, TrackFault};
 use crate::tracker::Tracker;
+use sq_message::Received;
 
 /// Hears squitters one after another, each at its moment, and gives back in `heard` what was heard of each, or why it
 /// was refused. `heard` has one slot for each of them. A squitter that is refused changes nothing, and the next one is

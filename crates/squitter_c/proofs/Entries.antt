@@ -9,7 +9,7 @@ use Rattle.sq_message.specs.Spelling.{Spells}
 use Rattle.sq_message.proofs.One.{one_squitter}
 use Rattle.sq_track.specs.declared.contact.Contact.{Contact}
 use Rattle.sq_track.specs.declared.contact.LastFix.{LastFix}
-use Rattle.sq_track.specs.declared.contact.Received.{Received}
+use Rattle.sq_message.specs.declared.received.Received.{Received}
 use Rattle.sq_track.specs.declared.contact.Side.{Side}
 use Rattle.sq_track.specs.History.{History}
 use Rattle.sq_track.specs.Kept.{fix_in, of_other_parity, pair_in, recent_position, recent_squitter}

@@ -12,7 +12,7 @@ use Rattle.sq_message.specs.Parts.{squitter_parts}
 use Rattle.sq_message.specs.Places.{IsPosition, IsPositionOf}
 use Rattle.sq_track.specs.declared.contact.Contact.{Contact}
 use Rattle.sq_track.specs.declared.contact.LastFix.{LastFix}
-use Rattle.sq_track.specs.declared.contact.Received.{Received}
+use Rattle.sq_message.specs.declared.received.Received.{Received}
 use Rattle.sq_track.specs.declared.contact.Side.{Side}
 use Rattle.sq_track.specs.declared.heard.Heard.{Heard}
 use Rattle.sq_track.specs.History.{place_heard}

@@ -8,7 +8,7 @@ use Rattle.sq_message.specs.Spelling.{Spells}
 use Rattle.sq_text.specs.declared.faults.LineFault.TheVariants.{MomentBack}
 use Rattle.sq_track.specs.declared.contact.Contact.{Contact}
 use Rattle.sq_track.specs.declared.contact.LastFix.{LastFix}
-use Rattle.sq_track.specs.declared.contact.Received.{Received}
+use Rattle.sq_message.specs.declared.received.Received.{Received}
 use Rattle.sq_track.specs.declared.contact.Side.{Side}
 use Rattle.sq_track.specs.declared.heard.Heard.{Heard}
 use Rattle.sq_track.specs.Answers.{IsHeard}

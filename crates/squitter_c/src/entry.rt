@@ -6,9 +6,9 @@ ghost use Rattle.squitter_c.specs.Tracking.{IsContactOf, IsFixOf, IsReceivedOf, 
 
 use sq_angle::{Angle, Position};
 use sq_bits::Frame;
-use sq_message::{read_frame, write_frame};
+use sq_message::{Received, read_frame, write_frame};
 use sq_plain::{PlainAngle, PlainPosition, position_of};
-use sq_track::{Contact, LastFix, Received, Side};
+use sq_track::{Contact, LastFix, Side};
 
 /// A frame and the moment at which it was heard. One that spells no squitter counts as none.
 #[repr(C)]

@@ -1,7 +1,7 @@
 -- Of one log two runs of `track` write the same.
 use Rattle.std.proofs.Common.{◌≡◌, ◌∙◌, ◌∷◌, ℕ, [], List, Option, None, Some, Result, Ok, Err, ap, ap₂, sym, subst, inl}
 use Rattle.std.proofs.Common.{inr}
-use Rattle.sq_text.specs.declared.timed.TimedSquitter.{TimedSquitter}
+use Rattle.sq_message.specs.declared.received.Received.{Received}
 use Rattle.sq_text.specs.Timed.{TimedReader}
 use Rattle.sq_text.proofs.TimedReadings.{some_timed_reading}
 use Rattle.sq_lines.specs.Answers.{tally_of}
@@ -37,7 +37,7 @@ use Rattle.sq_commands.proofs.OneRuns.Words.{good_site, one_site_words}
 -- ---- what is heard
 
 -- a line has one answer by a history, and one history after it
-one_heard_line : (s : Settings) (h : History) (read : Answer TimedSquitter) (x y : Answer HeardSquitter)
+one_heard_line : (s : Settings) (h : History) (read : Answer Received) (x y : Answer HeardSquitter)
     (next later : History) → IsHeardLine s h read x next → IsHeardLine s h read y later → (x ≡ y) × (next ≡ later)
 one_heard_line s h None x y next later p q = (p.0 ∙ sym q.0, p.1 ∙ sym q.1)
 one_heard_line s h (Some (Err fault)) x y next later p q = (p.0 ∙ sym q.0, p.1 ∙ sym q.1)
