@@ -1,7 +1,7 @@
 //! Laws of frames and of their parity, over the definitions alone.
 ghost use Rattle.std.specs.Prelude.{◌≡◌, ◌↔◌, ◌+◌, ◌<◌, ◌≤◌, ℕ, bit_xor};
 ghost use Rattle.sq_bits.specs.declared.frame.Frame.{Frame};
-ghost use Rattle.sq_bits.specs.Frames.{IsApart, IsFrame, frame_number, xor_bytes};
+ghost use Rattle.sq_bits.specs.Frames.{IsApart, IsFrame, KeepsFieldsBefore, bit_of, frame_number, xor_bytes};
 ghost use Rattle.sq_bits.specs.Parity.{IsRemainder};
 
 use crate::frame::{Frame, are_bytes};
@@ -30,4 +30,10 @@ pub fn apart_exactly()
     ensures { (start len first count : ℕ) → 0 < len → 0 < count → IsApart start len first count
         ↔ ((1 ≤ start) × (start + len ≤ 113)
         × ((place : ℕ) → start ≤ place → place < start + len → first ≤ place → place < first + count → ⊥)) }
+{}
+
+/// The fields before a bit are kept exactly if each bit before it is.
+pub fn fields_kept_exactly()
+    ensures { (bit : ℕ) (old new : Frame) → KeepsFieldsBefore bit old new
+        ↔ ((place : ℕ) → 1 ≤ place → place < bit → bit_of new place ≡ bit_of old place) }
 {}
