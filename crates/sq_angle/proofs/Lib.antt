@@ -17,3 +17,4 @@ pub mod OneReading
 pub mod OnePosition
 pub mod SomeText
 pub mod Reciprocals
+pub mod SpellingParts

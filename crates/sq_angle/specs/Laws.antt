@@ -1,5 +1,5 @@
 -- Laws of fractions and of the texts of angles, as statements.
-use Rattle.std.specs.Prelude.{◌≡◌, ◌↔◌, ◌≤◌, ℕ, List, IsTrue, Result}
+use Rattle.std.specs.Prelude.{◌≡◌, ◌↔◌, ◌≤◌, ◌++◌, ◌⊎◌, ℕ, Bool, List, IsTrue, Result, length}
 use Rattle.std.specs.declared.cmp.Ordering.TheVariants.{Less, Equal, Greater}
 use Rattle.sq_angle.specs.declared.angle.Angle.{Angle}
 use Rattle.sq_angle.specs.declared.read.AngleFault.{AngleFault}
@@ -8,7 +8,9 @@ use Rattle.sq_angle.specs.Angle.{degrees}
 use Rattle.sq_angle.specs.Order.{same_angle, angle_cmp}
 use Rattle.sq_angle.specs.Lowest.{IsLowestFormOf}
 use Rattle.sq_angle.specs.Decimal.{IsDecimal7}
-use Rattle.sq_angle.specs.Spelling.{Parts, Spells}
+use Rattle.std.specs.List.{AllByRecursion}
+use Rattle.sq_angle.specs.Spelling.{IsSpelling, Parts, Spells}
+use Rattle.sq_angle.specs.Whole.{ExactlyOne}
 use Rattle.sq_angle.specs.Reading.{IsReading}
 
 -- two fractions have one value exactly if they have one form in lowest terms
@@ -43,3 +45,14 @@ OneSpelling = (text : List ℕ) (p q : Parts) → Spells text p → Spells text 
 -- reading a text has one answer
 abbrev pub OneReading : Type 0
 OneReading = (text : List ℕ) (r s : Result Angle AngleFault) → IsReading text r → IsReading text s → r ≡ s
+
+-- exactly one number passes a test where one does, and no other one
+abbrev pub ExactlyOnePasses : Type 0
+ExactlyOnePasses = (test : ℕ → Bool) → ExactlyOne (λ n. IsTrue (test n))
+    ↔ (((n : ℕ) × IsTrue (test n)) × ((m n : ℕ) → IsTrue (test m) → IsTrue (test n) → m ≡ n))
+
+-- the characters 0 to 9, of which one, two or three stand before the point
+abbrev pub SpellingExactly : Type 0
+SpellingExactly = (p : Parts) → IsSpelling p
+    ↔ (((length p.whole ≡ 1) ⊎ (length p.whole ≡ 2) ⊎ (length p.whole ≡ 3))
+    × AllByRecursion (λ byte. (48 ≤ byte) × (byte ≤ 57)) (p.whole ++ p.decimals))

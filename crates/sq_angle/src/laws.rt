@@ -7,7 +7,7 @@ ghost use Rattle.sq_angle.specs.Decimal.{DecimalWriter};
 ghost use Rattle.sq_angle.specs.Fraction.{◌≃◌, ◌≺◌};
 ghost use Rattle.sq_angle.specs.Position.{HaveEqualAngles};
 ghost use Rattle.sq_angle.specs.Laws.{OneLowestForm, OneLowestFormOfAngles, OrderedByValue, WithinAsFractions};
-ghost use Rattle.sq_angle.specs.Laws.{OneDecimal7, OneSpelling, OneReading};
+ghost use Rattle.sq_angle.specs.Laws.{ExactlyOnePasses, OneDecimal7, OneSpelling, OneReading, SpellingExactly};
 
 use crate::angle::Angle;
 use crate::position::Position;
@@ -41,6 +41,16 @@ pub fn some_decimal_writer()
 /// A text of an angle has one spelling.
 pub fn one_spelling()
     ensures { OneSpelling }
+{}
+
+/// The parts of a text are spelled exactly by the characters 0 to 9, one, two or three of them before the point.
+pub fn spelling_exactly()
+    ensures { SpellingExactly }
+{}
+
+/// There is exactly one number of a kind where there is one, and any two are the same.
+pub fn exactly_one()
+    ensures { ExactlyOnePasses }
 {}
 
 /// Reading a text has one answer: one angle or one fault.
