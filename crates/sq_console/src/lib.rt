@@ -5,6 +5,7 @@
 //! that fails is not lost: the next put, or the finish, fails.
 #![tactic(auto)]
 
+pub mod laws;
 mod prompt;
 mod start;
 
