@@ -8,3 +8,4 @@ pub mod PairPoints
 pub mod Pairs
 pub mod SomeAnswers
 pub mod ZonePairs
+pub mod TameAnswers

@@ -1,15 +1,20 @@
 -- Laws that say what the premises on true positions are, and no more: what a law asks of positions cannot shrink
 -- unseen.
-use Rattle.std.specs.Prelude.{◌≡◌, ◌↔◌, ◌≤◌, ◌+◌, ◌*◌, ℕ, max, min, ℤ, pos, neg_ℤ}
+use Rattle.std.specs.Prelude.{◌≡◌, ◌≢◌, ◌↔◌, ◌⊎◌, ◌≤◌, ◌+◌, ◌*◌, ℕ, max, min, ℤ, pos, neg_ℤ, Result, Ok, Err}
 use Rattle.sq_angle.specs.Angle.{degrees as degrees_of}
 use Rattle.sq_angle.specs.Fraction.{Fraction, ◌≺◌, ◌≃◌, minus, plus, whole}
 use Rattle.sq_angle.specs.Position.{lat_of, lon_of}
 use Rattle.sq_angle.specs.declared.position.Position.{Position}
+use Rattle.sq_zones.specs.declared.parity.Parity.{Parity}
 use Rattle.sq_zones.specs.declared.parity.Parity.TheVariants.{Even, Odd}
+use Rattle.sq_cpr.specs.declared.faults.PairFault.{PairFault}
+use Rattle.sq_cpr.specs.declared.faults.PairFault.TheVariants.{ZoneCounts}
 use Rattle.sq_cpr.specs.Span.{Span, air, ground}
-use Rattle.sq_cpr.specs.Grid.{Point, latitude, lat_zones, longitude, codes_of_zone}
+use Rattle.sq_cpr.specs.DecodeLaws.{TameAnswer}
+use Rattle.sq_cpr.specs.Grid.{IsLatitude, Point, latitude, lat_zones, longitude, codes_of_zone}
 use Rattle.sq_cpr.specs.Near.{IsStrictlyNear, IsStrictlyNearLongitude, IsStrictlyNearPoint, half_zone}
 use Rattle.sq_cpr.specs.Close.{AreCloseLatitudes, AreClosePoints, AreTamePoints, HaveOneCount, IsClose, count_at}
+use Rattle.sq_cpr.specs.Pair.{HaveTwoCounts, of_parity}
 use Rattle.sq_cpr.specs.Slow.{AreSlow, AreSlowForFollowing, AreWithin, DifferByLess, DifferByLessAround, IsPointWithin}
 use Rattle.sq_cpr.specs.Slow.{following_limit, slow_limit}
 use Rattle.sq_cpr.specs.Zones.{turned}
@@ -128,6 +133,21 @@ TameExactly span =
     ↔ ((a.parity ≡ Even) × (b.parity ≡ Odd) × AreCloseLatitudes span.degrees a.lat_index b.lat_index
     × (HaveOneCount span.degrees a.lat_index b.lat_index → IsClose span.degrees a.zones b.zones (pos a.lon_index)
     (pos b.lon_index)))
+
+-- latitudes have two zone counts exactly where each lies in -90 to 90, these are their counts, and they differ
+abbrev pub TwoCountsExactly : Span → Type 0
+TwoCountsExactly span =
+    (p q : ℤ) (even odd : ℕ) → HaveTwoCounts span.degrees p q even odd
+    ↔ (IsLatitude span.degrees Even p × IsLatitude span.degrees Odd q × (count_at span.degrees Even p ≡ even)
+    × (count_at span.degrees Odd q ≡ odd) × (even ≢ odd))
+
+-- tame points are answered exactly by the newest, or by the two zone counts of their latitudes
+abbrev pub TameAnswerExactly : Span → Type 0
+TameAnswerExactly span =
+    (newest : Parity) (a b : Point) (answer : Result Point PairFault) → TameAnswer span newest a b answer
+    ↔ ((answer ≡ Ok (of_parity newest a b))
+    ⊎ ((even odd : ℕ) × HaveTwoCounts span.degrees a.lat_index b.lat_index even odd
+    × (answer ≡ Err (ZoneCounts even odd))))
 
 -- a number of thousandths of a degree
 abbrev pub thousandths : ℕ → Fraction

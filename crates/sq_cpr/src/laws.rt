@@ -16,7 +16,8 @@ ghost use Rattle.sq_cpr.specs.DecodeLaws.{SomeAirPairAnswer};
 ghost use Rattle.sq_cpr.specs.Exactly.{Across180Degrees, AtTheLimits, CloseExactly, DifferAroundExactly, DifferExactly};
 ghost use Rattle.sq_cpr.specs.Exactly.{FollowingExactly, LimitsAsNumbers, LimitsInWords, PointWithinExactly};
 ghost use Rattle.sq_cpr.specs.Exactly.{SlowExactly, TurnsChangeNothing, WithinExactly};
-ghost use Rattle.sq_cpr.specs.Exactly.{NearThreeDecimals, StrictlyNearExactly, TameExactly, WindowExactly};
+ghost use Rattle.sq_cpr.specs.Exactly.{NearThreeDecimals, StrictlyNearExactly, TameAnswerExactly, TameExactly};
+ghost use Rattle.sq_cpr.specs.Exactly.{TwoCountsExactly, WindowExactly};
 
 use crate::code::Code;
 use crate::grid::GridPoint;
@@ -224,6 +225,12 @@ pub fn near_three_decimals()
 /// Tame is this and no more.
 pub fn tame_exactly<S: Span>()
     ensures { TameExactly S.span }
+{}
+
+/// Tame points are answered by the newest, or by the two zone counts of their latitudes, and in no other way.
+pub fn tame_answer_exactly<S: Span>()
+    ensures counts { TwoCountsExactly S.span }
+    ensures answer { TameAnswerExactly S.span }
 {}
 
 /// Points are close exactly where they are tame and have one zone count.
