@@ -4,6 +4,7 @@ pub mod Blanks
 pub mod OneAnswers
 pub mod OnePlaces
 pub mod OneFrames
+pub mod OneAgain
 pub mod Hearings
 pub mod AtPlaces
 pub mod OneTexts

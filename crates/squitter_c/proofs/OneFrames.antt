@@ -27,7 +27,7 @@ use Rattle.sq_plain.proofs.OneTelling.{one_telling}
 -- ---- one frame of a head, a parity and a position
 
 -- the frame of equal heads, parities and positions is one
-one_of_equals : (kind : Kind) (s t : HeadParts kind) (p q : Parity) (x y : Position) (m n : Point) (f g : Frame)
+pub one_of_equals : (kind : Kind) (s t : HeadParts kind) (p q : Parity) (x y : Position) (m n : Point) (f g : Frame)
     → s ≡ t → p ≡ q → x ≡ y → IsSent kind s p x m f → IsSent kind t q y n g → f ≡ g
 one_of_equals kind s t p q x y m n f g head parity position h k =
     one_sent kind s p x m n f g h
@@ -58,7 +58,7 @@ bit_is_flag : (b : Bool) → bit b < 2
 bit_is_flag true = omega arith
 bit_is_flag false = omega arith
 
-parity_is_flag : (n : ℕ) (p : Parity) → IsParity n p → IsFlag n
+pub parity_is_flag : (n : ℕ) (p : Parity) → IsParity n p → IsFlag n
 parity_is_flag n Even e = omega (arith, e)
 parity_is_flag n Odd e = omega (arith, e)
 

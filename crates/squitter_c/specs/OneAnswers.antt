@@ -14,7 +14,7 @@ use Rattle.squitter_c.specs.Angles.{IsAngleRead, IsZoneCount}
 use Rattle.squitter_c.specs.Decoding.{IsLocal, IsPair, IsPairAt}
 use Rattle.squitter_c.specs.E7.{IsAngleE7, IsPositionE7}
 use Rattle.squitter_c.specs.Heads.{PlainHead}
-use Rattle.squitter_c.specs.Sending.{IsSentFrame}
+use Rattle.squitter_c.specs.Sending.{IsSentAgain, IsSentFrame}
 use Rattle.squitter_c.specs.Reading.{IsFrameOfText, IsFrameRead, IsTextRead}
 use Rattle.squitter_c.specs.Zones.{AreLocalZones}
 
@@ -61,4 +61,10 @@ pub record OneNumber : Type 0 where
 abbrev pub OneSent : Kind → Type 0
 OneSent kind = (head : PlainHead kind) (position : PlainPosition) (old new other : List ℕ) (fault why : Fault)
     → IsSentFrame kind head position old new fault → IsSentFrame kind head position old other why
+    → (new ≡ other) × (fault ≡ why)
+
+-- of what is sent again
+abbrev pub OneSentAgain : Type 0
+OneSentAgain = (frame : Frame) (odd : ℕ) (position : PlainPosition) (old new other : List ℕ) (fault why : Fault)
+    → IsSentAgain frame odd position old new fault → IsSentAgain frame odd position old other why
     → (new ≡ other) × (fault ≡ why)

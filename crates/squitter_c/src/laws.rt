@@ -1,6 +1,6 @@
 //! Laws of the texts of faults, of entries, and of one answer, over the definitions alone.
 ghost use Rattle.sq_message.specs.Kinds.{InAir, OnGround};
-ghost use Rattle.squitter_c.specs.OneAnswers.{OneNumber, OnePlace, OneReading, OneSent};
+ghost use Rattle.squitter_c.specs.OneAnswers.{OneNumber, OnePlace, OneReading, OneSent, OneSentAgain};
 ghost use Rattle.squitter_c.specs.Pinned.{EntryKeeps, EntryKeepsMoment, OfEach, OneAngleText, OneHeardFrame};
 ghost use Rattle.squitter_c.specs.Texts.{EachText};
 ghost use Rattle.squitter_c.specs.Tracking.{AsTheTracker, BlankKeepsNothing, OneHeardByEntry};
@@ -67,6 +67,12 @@ pub fn one_number()
 pub fn one_frame_sent()
     ensures in_air { OneSent InAir }
     ensures on_ground { OneSent OnGround }
+{}
+
+/// A frame that is sent again, with a parity and the code of a position, has one answer: what is written in `out` and
+/// the fault are one.
+pub fn one_sent_again()
+    ensures { OneSentAgain }
 {}
 
 /// An angle has one text, or one fault, in a buffer of one length.
