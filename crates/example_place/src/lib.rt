@@ -10,6 +10,7 @@ ghost use Rattle.sq_text.specs.Reading.{IsSquitterReading};
 ghost use Rattle.example_place.specs.Places.{IsPairOfTexts, IsPlaceOfText, IsTrueInAir, IsTrueOnGround};
 
 mod fault;
+pub mod laws;
 #[cfg(test)]
 mod tests;
 
