@@ -481,10 +481,10 @@ whole.
 This is read from the text of contracts and definitions, and nothing is proved here. An arrow, `¬` and `requires` turn
 left and right, and `↔` has both sides on both; what stands in brackets, as an argument or as a part of `×` and `⊎`
 counts as what it stands in; and a premise that is an equation or an order of numbers counts as one that is met.
+A definition that stands as an answer could say less, and each proof of a contract that names it would still pass, so
+from each of these something is concluded too.
 `docs/laws.py --pins > docs/PINS.md` writes this page, and `docs/laws.py --check` refuses a premise without a pin, and
-an answer that nothing reads, unless it stands in [not-yet-pinned.txt](not-yet-pinned.txt), and what stands there
-without need."""
-OPEN = f"{TOP}/docs/not-yet-pinned.txt"
+an answer from which nothing is concluded."""
 
 
 def title(name: Name) -> str:
@@ -499,7 +499,7 @@ def few(calls: Iterable[str], crate: str, most: int = 3) -> str:
 
 
 def page(book: Book) -> str:
-    """The table of premises, crate by crate, and what is not yet pinned."""
+    """The table of premises, crate by crate."""
     pinned = book.held[0]
     left, right = book.sides
     lines = [HEAD_OF_PAGE]
@@ -511,21 +511,12 @@ def page(book: Book) -> str:
             crate = name[0]
             lines += ["", f"## `{crate}`", "", "| Definition | Left of an arrow in | Right in | Pinned by |"]
             lines.append("|---|---|---|---|")
-        pin = few([pinned[name]], crate) if name in pinned else "**nothing yet**"
+        pin = few([pinned[name]], crate) if name in pinned else "**nothing**"
         lines.append(f"| `{name[1]}.{name[2]}` | {few(left[name], crate)} | {few(right[name], crate)} | {pin} |")
-    lines += ["", "## Answers that nothing reads", "",
-              "A definition that stands as an answer could say less, and each proof of a contract that names it would",
-              "still pass, unless something is concluded from it. Of these no public contract concludes anything:", ""]
-    answers: dict[str, list[str]] = {}
-    for name in sorted(book.unread()):
-        answers.setdefault(name[0], []).append(f"`{name[1]}.{name[2]}`")
-    return "\n".join(lines + [f"- `{crate}`: {', '.join(names)}" for crate, names in answers.items()])
+    return "\n".join(lines)
 
 
 def faults(book: Book) -> list[str]:
-    """What is not pinned or not read and not in the table of such, and what is in the table and should no longer be."""
-    with open(OPEN, encoding="utf-8") as file:
-        known = {line.strip() for line in file if line.strip() and not line.startswith("#")}
-    found = {f"premise {title(name)}" for name in book.unpinned()} | {f"answer {title(name)}" for name in book.unread()}
-    return [f"nothing pins the {one}" for one in sorted(found - known)] + [
-        f"docs/not-yet-pinned.txt: take out '{one}'" for one in sorted(known - found)]
+    """Premises that nothing pins, and answers from which nothing is concluded."""
+    return [f"nothing pins the premise {title(name)}" for name in sorted(book.unpinned())] + [
+        f"nothing is concluded from the answer {title(name)}" for name in sorted(book.unread())]
