@@ -1,6 +1,6 @@
 //! Worked angles: limits, values, texts read and written, positions.
 use crate::rows::{read_angle, read_fraction, read_position};
-use sq_angle::laws::{equal_angles, equal_positions, is_below};
+use sq_angle::laws::{equal_angle_faults, equal_angles, equal_positions, is_below};
 use sq_angle::{Angle, AngleFault, Position, quotient};
 use sq_digits::TextBuffer;
 use std::process::Abort;
@@ -222,7 +222,9 @@ fn tells_faults(rt: HostRuntime) {
     for (fault, text) in rows {
         let told = format!(in rt.alloc(); "{fault}").unwrap_or(String::new(rt.alloc()));
         assert!(rt; told.as_str() == text, "{text}");
+        assert!(rt; equal_angle_faults(&fault, &fault));
     }
+    assert!(rt; !equal_angle_faults(&AngleFault::NotANumber, &AngleFault::OutOfRange));
 }
 
 // A fraction, and its text of seven decimals.

@@ -94,6 +94,8 @@ fn adds_remainders(rt: HostRuntime) {
     laws::apart_exactly();
     laws::sum_of_frames();
     laws::each_frame(&AIR_EVEN);
+    laws::fields_kept_exactly();
+    assert!(rt; laws::equal_frames(&AIR_EVEN, &AIR_EVEN) && !laws::equal_frames(&AIR_EVEN, &ZERO));
     for bit in 1..=112u8 {
         let flipped = AIR_EVEN.with_field(bit, 1, AIR_EVEN.field(bit, 1) ^ 1);
         assert_eq!(rt; remainder(&flipped), remainder(&ZERO.with_field(bit, 1, 1)));

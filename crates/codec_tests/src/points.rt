@@ -1,5 +1,8 @@
 //! Codes at and past their limits, worked points and codes, and the limits of the grids.
-use sq_cpr::{Air, Angle, Code, GridPoint, Ground, Parity, Position, Span, encode, laws, nearest};
+use sq_cpr::{
+    Air, Angle, Code, GridPoint, Ground, LocalFault, PairFault, Parity, Position, Span, encode,
+    laws, nearest,
+};
 use std::process::Abort;
 
 #[test]
@@ -191,6 +194,8 @@ fn laws_are_of_both_spans(rt: HostRuntime) {
     laws::within_exactly::<Ground>();
     laws::close_exactly::<Air>();
     laws::close_exactly::<Ground>();
+    laws::tame_answer_exactly::<Air>();
+    laws::tame_answer_exactly::<Ground>();
     laws::limits_of_slow();
     laws::at_the_limits();
     laws::across_180_degrees();
@@ -207,4 +212,13 @@ fn codes_are_equal_by_both_numbers(rt: HostRuntime) {
     let east = Code::new(5, 8).expect(&rt, "a code");
     assert!(rt; laws::equal_codes(&code, &same));
     assert!(rt; !laws::equal_codes(&code, &north) && !laws::equal_codes(&code, &east));
+}
+
+#[test]
+fn faults_are_equal_by_all_of_them(rt: HostRuntime) {
+    assert!(rt; laws::equal_local_faults(&LocalFault::OutOfRange, &LocalFault::OutOfRange));
+    let counts = PairFault::ZoneCounts(36, 35);
+    assert!(rt; laws::equal_pair_faults(&counts, &PairFault::ZoneCounts(36, 35)));
+    assert!(rt; !laws::equal_pair_faults(&counts, &PairFault::ZoneCounts(36, 37)));
+    assert!(rt; !laws::equal_pair_faults(&counts, &PairFault::OutOfRange));
 }

@@ -1,4 +1,5 @@
 //! Worked zone counts, and the bands against a plain loop over the limits.
+use sq_zones::laws::equal_parities;
 use sq_zones::{Angle, Parity, lon_zones, zone_count};
 use std::process::Abort;
 
@@ -145,6 +146,8 @@ fn worked_longitude_zones(rt: HostRuntime) {
 fn parity_indices(rt: HostRuntime) {
     assert_eq!(rt; Parity::Even.index(), 0);
     assert_eq!(rt; Parity::Odd.index(), 1);
+    assert!(rt; equal_parities(&Parity::Odd, &Parity::Odd));
+    assert!(rt; !equal_parities(&Parity::Odd, &Parity::Even));
 }
 
 // Asserts the zone count against the loop at so many tenths of a degree, as a fraction of this denominator.

@@ -246,8 +246,13 @@ fn means_altitudes(rt: HostRuntime) {
         (22, 0x000, Altitude::Raw(0)),
     ];
     for (type_code, field, want) in rows {
-        assert!(rt; altitude_of(&rt, type_code, field) == want, "field {field}");
+        assert!(rt;
+            laws::equal_altitudes(&altitude_of(&rt, type_code, field), &want),
+            "field {field}"
+        );
     }
+    assert!(rt; !laws::equal_altitudes(&Altitude::Feet(25), &Altitude::Feet(50)));
+    assert!(rt; !laws::equal_altitudes(&Altitude::Missing, &Altitude::Raw(0)));
 }
 
 // Feet and their field.

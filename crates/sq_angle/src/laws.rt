@@ -1,7 +1,7 @@
 //! Laws of fractions and of the texts of angles, over the same definitions as the calls' contracts.
 //!
 //! A function with an empty body does nothing: its contract is the law. The others make the call that they speak of.
-ghost use Rattle.std.specs.Prelude.{◌↔◌, IsTrue};
+ghost use Rattle.std.specs.Prelude.{◌≡◌, ◌↔◌, IsTrue};
 ghost use Rattle.sq_angle.specs.Angle.{degrees};
 ghost use Rattle.sq_angle.specs.Decimal.{DecimalWriter};
 ghost use Rattle.sq_angle.specs.Fraction.{◌≃◌, ◌≺◌};
@@ -11,6 +11,7 @@ ghost use Rattle.sq_angle.specs.Laws.{ExactlyOnePasses, OneDecimal7, OneSpelling
 
 use crate::angle::Angle;
 use crate::position::Position;
+use crate::read::AngleFault;
 
 /// Two fractions have one value exactly if they have one form in lowest terms.
 pub fn one_lowest_form()
@@ -77,4 +78,11 @@ pub fn equal_positions(a: &Position, b: &Position) -> bool
     ensures { IsTrue result ↔ HaveEqualAngles a.now b.now }
 {
     a == b
+}
+
+/// Whether two faults of angles are equal by `==`: exactly if they are one.
+pub fn equal_angle_faults(fault: &AngleFault, other: &AngleFault) -> bool
+    ensures { IsTrue result ↔ (fault.now ≡ other.now) }
+{
+    fault == other
 }

@@ -1,5 +1,5 @@
 //! Laws of frames and of their parity, over the definitions alone.
-ghost use Rattle.std.specs.Prelude.{◌≡◌, ◌↔◌, ◌+◌, ◌<◌, ◌≤◌, ℕ, bit_xor};
+ghost use Rattle.std.specs.Prelude.{◌≡◌, ◌↔◌, ◌+◌, ◌<◌, ◌≤◌, ℕ, IsTrue, bit_xor};
 ghost use Rattle.sq_bits.specs.declared.frame.Frame.{Frame};
 ghost use Rattle.sq_bits.specs.Frames.{IsApart, IsFrame, KeepsFieldsBefore, bit_of, frame_number, xor_bytes};
 ghost use Rattle.sq_bits.specs.Parity.{IsRemainder};
@@ -37,3 +37,10 @@ pub fn fields_kept_exactly()
     ensures { (bit : ℕ) (old new : Frame) → KeepsFieldsBefore bit old new
         ↔ ((place : ℕ) → 1 ≤ place → place < bit → bit_of new place ≡ bit_of old place) }
 {}
+
+/// Whether two frames are equal by `==`: exactly if they are one.
+pub fn equal_frames(frame: &Frame, other: &Frame) -> bool
+    ensures { IsTrue result ↔ (frame.now ≡ other.now) }
+{
+    frame == other
+}

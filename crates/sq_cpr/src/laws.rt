@@ -20,6 +20,7 @@ ghost use Rattle.sq_cpr.specs.Exactly.{NearThreeDecimals, StrictlyNearExactly, T
 ghost use Rattle.sq_cpr.specs.Exactly.{TwoCountsExactly, WindowExactly};
 
 use crate::code::Code;
+use crate::faults::{LocalFault, PairFault};
 use crate::grid::GridPoint;
 use crate::span::Span;
 
@@ -265,4 +266,18 @@ pub fn equal_codes(code: &Code, other: &Code) -> bool
     ensures { IsTrue result ↔ (numbers_of code.now ≡ numbers_of other.now) }
 {
     code == other
+}
+
+/// Whether two faults of a code near a reference are equal by `==`: exactly if they are one.
+pub fn equal_local_faults(local_fault: &LocalFault, other: &LocalFault) -> bool
+    ensures { IsTrue result ↔ (local_fault.now ≡ other.now) }
+{
+    local_fault == other
+}
+
+/// Whether two faults of pairs are equal by `==`: exactly if they are one.
+pub fn equal_pair_faults(pair_fault: &PairFault, other: &PairFault) -> bool
+    ensures { IsTrue result ↔ (pair_fault.now ≡ other.now) }
+{
+    pair_fault == other
 }

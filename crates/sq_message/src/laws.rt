@@ -36,8 +36,9 @@ ghost use Rattle.sq_message.specs.Sending.{IsFrameOf, SameZones};
 ghost use Rattle.sq_message.specs.Spelling.{IsReading, Spells};
 
 use crate::{
-    AirHead, Frame, FrameFault, GroundHead, Parity, Place, PlaceFault, Position, Received,
-    Squitter, place_local, place_pair, read_frame, send_air, send_ground, send_point, write_frame,
+    AirHead, Altitude, Frame, FrameFault, GroundHead, Parity, Place, PlaceFault, Position,
+    Received, Squitter, place_local, place_pair, read_frame, send_air, send_ground, send_point,
+    write_frame,
 };
 use sq_bits::laws::each_frame;
 
@@ -234,6 +235,13 @@ pub fn equal_received(received: &Received, other: &Received) -> bool
     ensures { IsTrue result ↔ (received.now ≡ other.now) }
 {
     received == other
+}
+
+/// Whether two altitudes are equal by `==`: exactly if they are one.
+pub fn equal_altitudes(altitude: &Altitude, other: &Altitude) -> bool
+    ensures { IsTrue result ↔ (altitude.now ≡ other.now) }
+{
+    altitude == other
 }
 
 /// Whether two places are equal by `==`: exactly if they are one.
