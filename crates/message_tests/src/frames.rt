@@ -251,6 +251,7 @@ fn means_altitudes(rt: HostRuntime) {
             "field {field}"
         );
     }
+    laws::missing_exactly();
     assert!(rt; !laws::equal_altitudes(&Altitude::Feet(25), &Altitude::Feet(50)));
     assert!(rt; !laws::equal_altitudes(&Altitude::Missing, &Altitude::Raw(0)));
 }

@@ -7,7 +7,7 @@ ghost use Rattle.std.specs.Prelude.{option_copied};
 ghost use Rattle.sq_bits.specs.declared.frame.Frame.{Frame};
 ghost use Rattle.sq_bits.specs.Frames.{IsFrame};
 ghost use Rattle.sq_message.specs.declared.air.Altitude.{Altitude};
-ghost use Rattle.sq_message.specs.declared.air.Altitude.TheVariants.{Feet};
+ghost use Rattle.sq_message.specs.declared.air.Altitude.TheVariants.{Feet, Missing};
 ghost use Rattle.sq_message.specs.declared.squitter.FrameFault.{FrameFault};
 ghost use Rattle.sq_message.specs.declared.squitter.Squitter.{Squitter};
 ghost use Rattle.sq_message.specs.declared.place.Place.TheVariants.{Air, Ground};
@@ -97,6 +97,12 @@ pub fn one_altitude()
 pub fn feet_exactly()
     ensures { (code field : ℕ) (feet : ℤ) (meaning : Altitude) → code ≤ 18 → IsAltitude code field meaning
         → (meaning ≡ Feet feet) ↔ IsFieldOfFeet field feet }
+{}
+
+/// Of type codes 9 to 18, an altitude is missing exactly where its field is 0.
+pub fn missing_exactly()
+    ensures { (code field : ℕ) (meaning : Altitude) → code ≤ 18 → IsAltitude code field meaning
+        → (meaning ≡ Missing) ↔ (field ≡ 0) }
 {}
 
 /// Where two positions lie in the same zones of a parity's grid of the air, the frames that are sent of them with one
