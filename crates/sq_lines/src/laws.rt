@@ -2,7 +2,7 @@
 //!
 //! A function with an empty body does nothing: its contract is the law. The others make the call or the test that they
 //! speak of.
-ghost use Rattle.std.specs.Prelude.{◌≡◌, ◌↔◌, ◌⊎◌, ◌++◌, ◌-◌, ◌∷◌, [], List, ℕ, IsTrue, Ok, Err, Option, Result};
+ghost use Rattle.std.specs.Prelude.{◌≡◌, ◌↔◌, ◌⊎◌, ◌++◌, ◌-◌, ◌<◌, ◌∷◌, [], List, ℕ, IsTrue, Ok, Err, Option, Result};
 ghost use Rattle.std.specs.Prelude.{length, take};
 ghost use Rattle.std.specs.Io.KnownBytes.{Appends, IsAtEnd};
 ghost use Rattle.sq_devices.specs.Changes.{taken_from};
@@ -106,6 +106,18 @@ pub fn lines_exactly<S: Source>()
     ensures { (old new : S) (lines : List (List ℕ)) (read : List ℕ)
         → OfLines (taken_from S.Source old new) (λ those. those ≡ lines) read
         ↔ ((ended_lines read ≡ lines) ⊎ (IsAtEnd (S.to_come new) × (lines_of read ≡ lines))) }
+{}
+
+/// What stands on some lines, by their bytes: `A` is 65, a carriage return 13. One at the end is taken off, and no more;
+/// no bytes are nothing, and more than 64 too many.
+pub fn content_in_numbers()
+    ensures empty { content [] ≡ Empty }
+    ensures returned { content (13 ∷ []) ≡ Empty }
+    ensures text { content (65 ∷ []) ≡ Text (65 ∷ []) }
+    ensures one_off { content (65 ∷ 13 ∷ []) ≡ Text (65 ∷ []) }
+    ensures one_left { content (65 ∷ 13 ∷ 13 ∷ []) ≡ Text (65 ∷ 13 ∷ []) }
+    ensures within { content (13 ∷ 65 ∷ []) ≡ Text (13 ∷ 65 ∷ []) }
+    ensures long { (line : List ℕ) → 64 < length line → content line ≡ Long }
 {}
 
 /// Whether two tallies are equal by `==`: exactly if they are one.
