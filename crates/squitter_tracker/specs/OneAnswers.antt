@@ -1,18 +1,24 @@
 -- A call has one answer, unless it is out of memory: what two contracts of one call, with one `out` before it, say is
 -- one.
-use Rattle.std.specs.Prelude.{◌≡◌, ◌≢◌, ◌↔◌, ◌∷◌, [], ℕ, List, Option, Some}
+use Rattle.std.specs.Prelude.{◌≡◌, ◌≢◌, ◌↔◌, ◌==◌, ◌∷◌, [], ℕ, List, Option, Some, Result, Err, filter}
 use Rattle.sq_angle.specs.declared.position.Position.{Position}
 use Rattle.sq_bits.specs.declared.frame.Frame.{Frame}
+use Rattle.sq_message.specs.declared.squitter.Squitter.{Squitter}
+use Rattle.sq_message.specs.Parts.{squitter_parts}
+use Rattle.sq_message.specs.Places.{IsPosition}
 use Rattle.sq_plain.specs.declared.faults.Fault.{Fault}
 use Rattle.sq_plain.specs.declared.faults.Refusal.TheVariants as refusals
 use Rattle.sq_plain.specs.declared.heard.PlainHeard.{PlainHeard}
 use Rattle.sq_plain.specs.declared.plain.PlainPosition.{PlainPosition}
 use Rattle.sq_plain.specs.Faults.{fault_of}
 use Rattle.sq_plain.specs.Frames.{frame_of}
-use Rattle.sq_track.specs.Held.{Held, StandsFor}
+use Rattle.sq_track.specs.declared.heard.Heard.{Heard}
+use Rattle.sq_track.specs.declared.heard.TrackFault.{TrackFault}
+use Rattle.sq_track.specs.declared.heard.TrackFault.TheVariants.{Memory}
+use Rattle.sq_track.specs.Held.{Held, StandsFor, present_of, settings}
 use Rattle.sq_track.specs.History.{History}
 use Rattle.squitter_tracker.specs.declared.present.PlainPresent.{PlainPresent}
-use Rattle.squitter_tracker.specs.Trackers.{IsGot, IsHeardThere, IsMade, IsMadeAt, IsTrackerHeard}
+use Rattle.squitter_tracker.specs.Trackers.{IsGot, IsHeardThere, IsMade, IsMadeAt, IsReplied, IsTrackerHeard}
 
 -- the fault of an allocation that failed
 abbrev pub no_memory : Fault
@@ -48,3 +54,12 @@ OneOfMany = (moment : ℕ) (frame : List ℕ) (held after : Option Held) (old ne
 abbrev pub OneGot : Type 0
 OneGot = (held : Option Held) (index : ℕ) (old new other : PlainPresent) (fault why : Fault)
     → IsGot held index old new fault → IsGot held index old other why → (new ≡ other) × (fault ≡ why)
+
+-- What hearing keeps of a tracker: its settings, and after a fault all of it. Memory runs out only at a position of an
+-- address that is none of the present ones.
+abbrev pub HearingKeeps : Type 0
+HearingKeeps = (moment : ℕ) (q : Squitter) (old new : Held) (reply : Result Heard TrackFault)
+    → IsReplied moment q old new reply
+    → (settings new ≡ settings old) × ((fault : TrackFault) → reply ≡ Err fault → new ≡ old)
+    × (reply ≡ Err Memory → IsPosition (squitter_parts q).me
+    × (filter (λ entry. entry.0 == (squitter_parts q).address) (present_of old) ≡ []))

@@ -1,5 +1,5 @@
 //! Laws of the trackers that C holds: each call has one answer, unless it is out of memory.
-ghost use Rattle.squitter_tracker.specs.OneAnswers.{OneGot, OneHearing, OneMade, OneMadeAt, OneOfMany};
+ghost use Rattle.squitter_tracker.specs.OneAnswers.{HearingKeeps, OneGot, OneHearing, OneMade, OneMadeAt, OneOfMany};
 
 /// What is made of a limit, a window and a site is one, with a site and without.
 pub fn one_tracker()
@@ -10,6 +10,12 @@ pub fn one_tracker()
 /// What is heard of a frame is one, and afterwards there is a history that the tracker stands for either way.
 pub fn one_hearing()
     ensures { OneHearing }
+{}
+
+/// Hearing keeps a tracker's settings, and after a fault all of it; memory runs out only at a position of an address
+/// that is not present.
+pub fn hearing_keeps()
+    ensures { HearingKeeps }
 {}
 
 /// What is heard of arrays of one frame is what is heard of the frame.
