@@ -28,6 +28,7 @@ impl Angle {
     }
 
     /// Appends the text of [`Angle::decimal7`], at most 12 bytes.
+    #[inline(always)]
     pub fn push_decimal7<const N: usize>(&self, text: &mut TextBuffer<N>)
         requires { text_len text.old + 12 ≤ N }
         ensures bytes { (part : List ℕ) × IsDecimal7 (degrees self.now) part

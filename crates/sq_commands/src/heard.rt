@@ -28,6 +28,7 @@ pub(crate) fn push_heard(text: &mut LineText, address: u32, heard: &Heard)
 }
 
 // Appends a word and the address.
+#[inline(always)]
 fn push_address(text: &mut LineText, word: &str, address: u32)
     requires word { length word.now ≤ 12 }
     requires room { text_len text.old ≤ 21 }
@@ -39,6 +40,7 @@ fn push_address(text: &mut LineText, word: &str, address: u32)
 }
 
 // Appends a word, the address, and the place with seven decimals.
+#[inline(always)]
 fn push_place(text: &mut LineText, word: &str, address: u32, place: &Place)
     requires word { length word.now ≤ 12 }
     requires room { text_len text.old ≤ 21 }

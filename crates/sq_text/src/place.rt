@@ -30,6 +30,7 @@ pub fn place_text(position: &Position) -> PlaceText
 }
 
 /// Appends an angle with seven decimals, at most 12 bytes.
+#[inline(always)]
 pub fn push_decimals<const N: usize>(text: &mut TextBuffer<N>, angle: &Angle)
     requires { text_len text.old + 12 ≤ N }
     ensures bytes { (part : List ℕ) × IsDecimal7 (degrees angle.now) part × (text.new.bytes ≡ text.old.bytes ++ part) }

@@ -13,6 +13,7 @@ use sq_message::{Me, Squitter};
 
 /// Appends what `check` says of a good frame, at most 72 bytes: `ok`, the address, and for a position its kind, parity
 /// and code, for another message `other` and the type code.
+#[inline(always)]
 pub fn push_summary<const N: usize>(text: &mut TextBuffer<N>, squitter: &Squitter)
     requires { text_len text.old + 72 ≤ N }
     ensures bytes { text.new.bytes ≡ text.old.bytes ++ summary squitter.now }
@@ -23,6 +24,7 @@ pub fn push_summary<const N: usize>(text: &mut TextBuffer<N>, squitter: &Squitte
     push_me(text, &squitter.me());
 }
 
+#[inline(always)]
 fn push_me<const N: usize>(text: &mut TextBuffer<N>, me: &Me)
     requires { text_len text.old + 63 ≤ N }
     ensures bytes { text.new.bytes ≡ text.old.bytes ++ me_words me.now }
