@@ -63,6 +63,7 @@ fn push_refused(text: &mut LineText, number: u64, fault: LineFault)
 }
 
 // Makes the front of the text for the line with this number, in an empty one.
+#[inline(always)]
 fn push_number(text: &mut LineText, number: u64)
     requires { text.old.bytes ≡ [] }
     ensures bytes { text.new.bytes ≡ decimal number ++ codes " " }
