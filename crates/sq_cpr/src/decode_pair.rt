@@ -157,7 +157,6 @@ fn origin() -> Position
 /// `OutOfRange` exactly where the close latitudes do not both lie in -90 to 90 degrees, by whole turns of 360; else
 /// `ZoneCounts` exactly where their zone counts differ, the even one's first. RTCA DO-260B, appendix on compact
 /// position reporting, globally unambiguous airborne decoding.
-#[inline(always)]
 pub fn pair_air(even: Code, odd: Code, newest: Parity) -> Result<GridPoint<Air>, PairFault>
     ensures { AirPairAnswer (code_pair (numbers_of even) (numbers_of odd) newest) result }
 {
