@@ -19,11 +19,11 @@ abbrev pub get_failed : {R W : Type 0} {g : Ghosts W} → PromptInput R W g → 
 get_failed s = s.failed
 
 -- whether a put or a finish has failed
-abbrev pub put_failed : {W : Type 0} → PromptOutput W → Bool
+abbrev pub put_failed : {W : Type 0} {g : Ghosts W} → PromptOutput W g → Bool
 put_failed s = s.failed
 
 -- how often the output was finished
-abbrev pub finishes_of : {W : Type 0} → PromptOutput W → ℕ
+abbrev pub finishes_of : {W : Type 0} {g : Ghosts W} → PromptOutput W g → ℕ
 finishes_of s = s.finishes
 
 -- one get gave the bytes: they are the next ones of the buffer and the reader, where it reports its bytes, and one get
@@ -34,9 +34,9 @@ IsGiven remaining old bytes new =
     Consumes (to_come_of remaining old) (to_come_of remaining new) bytes × (new.gets + 1 ≡ old.gets)
 
 -- one put took the bytes, and no finish was counted; what the writer has of them, the output does not report
-abbrev pub IsTaken : {W : Type 0} → PromptOutput W → List ℕ → PromptOutput W → Type 0
+abbrev pub IsTaken : {W : Type 0} {g : Ghosts W} → PromptOutput W g → List ℕ → PromptOutput W g → Type 0
 IsTaken old bytes new = new.finishes ≡ old.finishes
 
 -- one finish was counted
-abbrev pub IsFinish : {W : Type 0} → PromptOutput W → PromptOutput W → Type 0
+abbrev pub IsFinish : {W : Type 0} {g : Ghosts W} → PromptOutput W g → PromptOutput W g → Type 0
 IsFinish old new = new.finishes ≡ old.finishes + 1

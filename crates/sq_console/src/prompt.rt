@@ -1,10 +1,15 @@
 //! An input that flushes the output before it waits for more.
-ghost use Rattle.std.specs.Prelude.{◌≡◌, ◌≤◌, IfOk, None, false};
+ghost use Rattle.std.specs.Prelude.{◌≡◌, ◌≤◌, IfOk, None, false, length};
+ghost use Rattle.std.specs.Io.{ReadsAtMost};
+ghost use Rattle.std.specs.Io.Buffered.{reader_remaining};
+ghost use Rattle.std.specs.Io.KnownBytes.{ReadConsumes};
 
 use sq_devices::{Failed, Sink, Source};
 use std::alloc::{AllocError, Global};
 use std::cell::RefCell;
-use std::io::{BufReader, BufWriter, Read, Write};
+use std::io;
+use std::io::{BufRead, BufReader, BufWriter, Read, Write};
+use std::simd::prelude::*;
 
 // How many bytes one read may bring.
 const INPUT_BYTES: usize = 65536;
@@ -13,11 +18,110 @@ const INPUT_BYTES: usize = 65536;
 // that a file goes through with one write for a read.
 const OUTPUT_BYTES: usize = 2 * INPUT_BYTES;
 
-// A writer with a buffer, and whether a flush of it has failed.
-#[derive(Drop)]
+// How many bytes of output stand before the writer's buffer at most.
+const FRONT_BYTES: usize = 4096;
+
+// A piece of so many bytes is moved at once.
+const PIECE: usize = 64;
+
+// So many bytes are moved at once at each end of a text of 32 to 64 bytes.
+const HALF: usize = 32;
+
+// A writer with a buffer, and whether a flush of it has failed. Texts are first held in an array, where a short one costs
+// a few moves, and go on to the writer many at a time.
 struct Buffered<W: Write + Drop> {
+    front: [u8; FRONT_BYTES],
+    held: usize,
     writer: BufWriter<W>,
     flush_failed: bool,
+    ghost within: { held ≤ 4096 },
+}
+
+impl<W: Write + Drop> Buffered<W> {
+    // Takes the first bytes of a text, or answers 0 where it has none or the writer fails.
+    #[inline(always)]
+    fn take(&mut self, text: &[u8]) -> usize
+        ensures { result ≤ length text.now }
+    {
+        if text.len() > FRONT_BYTES - self.held {
+            return self.take_far(text);
+        }
+        let end = self.held + text.len();
+        copy_text(&mut self.front[self.held..end], text);
+        self.held = end;
+        text.len()
+    }
+
+    // Takes the first bytes of a text for which the array has no room.
+    #[cold]
+    #[inline(never)]
+    fn take_far(&mut self, text: &[u8]) -> usize
+        ensures { result ≤ length text.now }
+    {
+        if !self.send_front() {
+            return 0;
+        }
+        self.writer.write(text).unwrap_or(0)
+    }
+
+    // Hands what the array holds to the writer, whose buffer is longer: it takes all of it, or nothing where it fails.
+    fn send_front(&mut self) -> bool {
+        match self.writer.write(&self.front[..self.held]) {
+            Ok(count) if count == self.held => {
+                self.held = 0;
+                true
+            }
+            _ => false,
+        }
+    }
+
+    // Writes all that is held.
+    fn flush(&mut self) -> bool {
+        self.send_front() && self.writer.flush().is_ok()
+    }
+}
+
+impl<W: Write + Drop> Drop for Buffered<W> {
+    fn drop(mut self) {
+        let _ = self.send_front();
+        let Buffered {
+            front: _,
+            held: _,
+            writer: _writer,
+            flush_failed: _,
+        } = self;
+    }
+}
+
+// Copies a text: one of 32 to 64 bytes, as nearly each row is, by its first and its last 32.
+#[inline(always)]
+fn copy_text(into: &mut [u8], text: &[u8])
+    requires { length into.old ≡ length text.now }
+    ensures { into.new ≡ text.now }
+{
+    let len = text.len();
+    if len < HALF || len > PIECE {
+        into.copy_from_slice(text);
+        return;
+    }
+    let last = u8x32::from_slice(&text[len - HALF..]);
+    u8x32::from_slice(text).copy_to_slice(into);
+    last.copy_to_slice(&mut into[len - HALF..]);
+}
+
+// Reads as the reader does; a piece of its buffer is moved at once.
+#[inline(always)]
+fn read_piece<R: Read>(reader: &mut BufReader<R>, into: &mut [u8]) -> io::Result<usize>
+    ensures bound { ReadsAtMost result into.new }
+    ensures bytes { ReadConsumes (reader_remaining R.remaining reader.old)
+        (reader_remaining R.remaining reader.new) result into.new }
+{
+    if into.len() != PIECE || reader.buffer().len() < PIECE {
+        return reader.read(into);
+    }
+    u8x64::from_slice(reader.buffer()).copy_to_slice(into);
+    reader.consume(PIECE);
+    Ok(PIECE)
 }
 
 /// A buffered writer that an input and an output share.
@@ -35,6 +139,8 @@ impl<W: Write + Drop> SharedOutput<W> {
             return Err(AllocError);
         };
         let buffered = Buffered {
+            front: [0; FRONT_BYTES],
+            held: 0,
             writer,
             flush_failed: false,
         };
@@ -46,7 +152,7 @@ impl<W: Write + Drop> SharedOutput<W> {
     // Writes what is in the buffer. A failure is marked, for the next put or finish to report.
     fn flush(&self) {
         if let Ok(mut buffered) = self.buffered.try_borrow_mut() {
-            if buffered.writer.flush().is_err() {
+            if !buffered.flush() {
                 buffered.flush_failed = true;
             }
         }
@@ -112,7 +218,7 @@ impl<R: Read, W: Write + Drop> Source for PromptInput<'_, R, W> {
             self.failed = true;
             return Err(Failed);
         }
-        match self.reader.read(into) {
+        match read_piece(&mut self.reader, into) {
             Ok(count) => {
                 self.gets -= 1;
                 Ok(count)
@@ -166,9 +272,9 @@ impl<W: Write + Drop> Sink for PromptOutput<'_, W> {
     fn put(&mut self, from: &[u8]) -> Result<usize, Failed> {
         if let Ok(mut buffered) = self.output.buffered.try_borrow_mut() {
             if !buffered.flush_failed {
-                match buffered.writer.write(from) {
-                    Ok(count) if count > 0 || from.is_empty() => return Ok(count),
-                    _ => {}
+                let count = buffered.take(from);
+                if count > 0 || from.is_empty() {
+                    return Ok(count);
                 }
             }
         }
@@ -178,10 +284,7 @@ impl<W: Write + Drop> Sink for PromptOutput<'_, W> {
 
     fn finish(&mut self) -> Result<(), Failed> {
         if let Ok(mut buffered) = self.output.buffered.try_borrow_mut() {
-            if self.finishes < u64::MAX
-                && !buffered.flush_failed
-                && buffered.writer.flush().is_ok()
-            {
+            if self.finishes < u64::MAX && !buffered.flush_failed && buffered.flush() {
                 self.finishes += 1;
                 return Ok(());
             }
