@@ -63,11 +63,11 @@ pub fn push_decimal<const N: usize>(text: &mut TextBuffer<N>, number: u64)
         push_leading(text, number);
     } else if number < 1_000_000 {
         push_leading(text, number / 1_000);
-        push_three(text, number % 1_000);
+        push_next_three(text, number % 1_000);
     } else if number < 1_000_000_000 {
         push_leading(text, number / 1_000_000);
-        push_three(text, number / 1_000 % 1_000);
-        push_three(text, number % 1_000);
+        push_next_three(text, number / 1_000 % 1_000);
+        push_next_three(text, number % 1_000);
     } else {
         push_long(text, number);
     }
@@ -108,6 +108,17 @@ pub fn push_three<const N: usize>(text: &mut TextBuffer<N>, number: u64)
     text.push_front(three_digits(number), 3);
 }
 
+// Appends a number below 1000 in three decimal digits, where there is room for one more character: four are one store.
+#[inline(always)]
+fn push_next_three<const N: usize>(text: &mut TextBuffer<N>, number: u64)
+    requires small { number < 1000 }
+    requires room { text_len text.old + 4 ≤ N }
+    ensures bytes { text.new.bytes ≡ text.old.bytes ++ fixed_digits 3 number }
+    ensures len { text_len text.new ≡ text_len text.old + 3 }
+{
+    text.push_front(four_characters(number), 3);
+}
+
 // Four characters of the table, of which the first are the digits of a number below 1000, and how many these are.
 #[inline(always)]
 fn leading_digits(number: u64) -> (&'static [u8], usize)
@@ -120,6 +131,18 @@ fn leading_digits(number: u64) -> (&'static [u8], usize)
     let zeros = usize::from(number < 100) + usize::from(number < 10);
     let at = 4 * number as usize + zeros;
     (&THREES.as_bytes()[at..at + 4], 3 - zeros)
+}
+
+// Four characters of the table, of which the first three are the digits of a number below 1000.
+#[inline(always)]
+fn four_characters(number: u64) -> &'static [u8]
+    requires { number < 1000 }
+    ensures ascii { IsAscii result.now }
+    ensures four { length result.now ≡ 4 }
+    ensures digits { take 3 result.now ≡ fixed_digits 3 number }
+{
+    let at = 4 * number as usize;
+    &THREES.as_bytes()[at..at + 4]
 }
 
 // The three digits of a number below 1000.
