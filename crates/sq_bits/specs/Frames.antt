@@ -1,5 +1,5 @@
 -- A frame as a number, and the numbers at its bit places. Bits are counted from 1, the most significant first.
-use Rattle.std.specs.Prelude.{◌≡◌, ℕ, length, slice_index, List, [], ◌∷◌, bit_xor, map, ◌+◌, ◌-◌, ◌/◌, ◌%◌, ◌≤◌, ◌⊎◌}
+use Rattle.std.specs.Prelude.{◌≡◌, ℕ, length, slice_index, List, [], ◌∷◌, bit_xor, map, ◌+◌, ◌*◌, ◌-◌, ◌/◌, ◌%◌, ◌≤◌, ◌⊎◌}
 use Rattle.std.specs.Int.{bit_at}
 use Rattle.std.specs.List.{range_with_len}
 use Rattle.std.specs.Int.Digits.{number_from_digits, AllBelowBase}
@@ -8,6 +8,14 @@ use Rattle.sq_bits.specs.declared.frame.Frame.{Frame}
 -- the frame as one number of 112 bits, its first byte the most significant
 abbrev pub frame_number : Frame → ℕ
 frame_number f = number_from_digits 256 f.0
+
+-- three bytes as one number
+abbrev pub word : ℕ → ℕ → ℕ → ℕ
+word high middle low = (high * 256 + middle) * 256 + low
+
+-- the three bytes from a place on
+abbrev pub word_at : List ℕ → ℕ → ℕ
+word_at bytes place = word (slice_index bytes place) (slice_index bytes (place + 1)) (slice_index bytes (place + 2))
 
 -- bit `place` of a frame, from 1 on: bit 1 is the most significant bit of byte 0
 abbrev pub bit_of : Frame → ℕ → ℕ

@@ -1,11 +1,8 @@
 //! A frame and its bit fields.
-ghost use Rattle.std.specs.Prelude.{◌≡◌, ℕ, ◌+◌, ◌*◌, ◌<◌, ◌≤◌, ◌^◌};
+ghost use Rattle.std.specs.Prelude.{◌≡◌, ℕ, ◌+◌, ◌/◌, ◌%◌, ◌<◌, ◌≤◌, ◌^◌, slice_index};
 ghost use Rattle.std.specs.Int.Digits.{AllBelowBase};
 
 use crate::laws::each_frame;
-
-// The numbers of three bytes.
-const WORD: u128 = 1 << 24;
 
 /// The 112 bits of an extended squitter (ICAO Annex 10 volume IV, section 3.1.2.3), numbered from 1 to 112: bit 1 is
 /// the most significant bit of byte 0.
@@ -13,7 +10,7 @@ const WORD: u128 = 1 << 24;
 pub struct Frame(pub [u8; 14]);
 
 impl Frame {
-    ghost use Rattle.sq_bits.specs.Frames.{frame_number, field_of, IsApart, IsFrame};
+    ghost use Rattle.sq_bits.specs.Frames.{frame_number, field_of, IsApart, IsFrame, word, word_at};
 
     // The frame as one number of 112 bits.
     #[inline(always)]
@@ -23,13 +20,33 @@ impl Frame {
         ensures frame { IsFrame self.now }
     {
         each_frame(self);
+        u128::from(self.front()) << 48 | u128::from(self.back())
+    }
+
+    // The first eight bytes as a number: their words of two, three and three bytes.
+    #[inline(always)]
+    pub(crate) fn front(&self) -> u64
+        ensures first { result / 2 ^ 48 ≡ word 0 (slice_index self.now.0 0) (slice_index self.now.0 1) }
+        ensures second { result / 2 ^ 24 % 2 ^ 24 ≡ word_at self.now.0 2 }
+        ensures third { result % 2 ^ 24 ≡ word_at self.now.0 5 }
+    {
         let bytes = &self.0;
-        let head = u128::from(word_of(0, bytes[0], bytes[1]));
-        let second = u128::from(word_of(bytes[2], bytes[3], bytes[4]));
-        let third = u128::from(word_of(bytes[5], bytes[6], bytes[7]));
-        let fourth = u128::from(word_of(bytes[8], bytes[9], bytes[10]));
-        let fifth = u128::from(word_of(bytes[11], bytes[12], bytes[13]));
-        (((head * WORD + second) * WORD + third) * WORD + fourth) * WORD + fifth
+        u64::from_be_bytes([
+            bytes[0], bytes[1], bytes[2], bytes[3], bytes[4], bytes[5], bytes[6], bytes[7],
+        ])
+    }
+
+    // The last six bytes as a number: two words of three bytes.
+    #[inline(always)]
+    pub(crate) fn back(&self) -> u64
+        ensures fourth { result / 2 ^ 24 ≡ word_at self.now.0 8 }
+        ensures fifth { result % 2 ^ 24 ≡ word_at self.now.0 11 }
+        ensures small { result < 2 ^ 48 }
+    {
+        let bytes = &self.0;
+        u64::from_be_bytes([
+            0, 0, bytes[8], bytes[9], bytes[10], bytes[11], bytes[12], bytes[13],
+        ])
     }
 
     // The frame of a number of 112 bits.
@@ -78,15 +95,6 @@ impl Frame {
         let held = u128::from(self.field(first, count)) << below;
         Frame::from_number(self.number() - held + (u128::from(value) << below))
     }
-}
-
-// Three bytes as one number: the same words as the parity takes, so that they are made once.
-#[inline(always)]
-pub(crate) fn word_of(high: u8, middle: u8, low: u8) -> u32
-    ensures value { result ≡ (high * 256 + middle) * 256 + low }
-    ensures below { result < 2 ^ 24 }
-{
-    (u32::from(high) * 256 + u32::from(middle)) * 256 + u32::from(low)
 }
 
 // What the type says of bytes.

@@ -3,7 +3,7 @@ ghost use Rattle.std.specs.Prelude.{ℕ, ◌+◌, ◌*◌, ◌<◌, ◌^◌};
 ghost use Rattle.sq_bits.specs.Frames.{frame_number, IsFrame, KeepsFieldsBefore};
 ghost use Rattle.sq_bits.specs.Parity.{IsMultiple, IsRemainder};
 
-use crate::frame::{Frame, word_of};
+use crate::frame::Frame;
 use crate::table::{remainder_of_byte, remainder_of_byte_32, remainder_of_byte_40};
 
 /// The remainder of the frame's polynomial by the generator 0x1FFF409, below 2^24, and 0 exactly for a correct frame
@@ -12,13 +12,13 @@ use crate::table::{remainder_of_byte, remainder_of_byte_32, remainder_of_byte_40
 pub fn remainder(frame: &Frame) -> u32
     ensures { IsRemainder (frame_number frame.now) result }
 {
-    let bytes = &frame.0;
-    let mut remainder = word_of(0, bytes[0], bytes[1]);
-    for place in 0..4 {
-        let at = 3 * place + 2;
-        remainder = append_word(remainder, word_of(bytes[at], bytes[at + 1], bytes[at + 2]));
-    }
-    remainder
+    let front = frame.front();
+    let back = frame.back();
+    let first = (front >> 48) as u32;
+    let second = append_word(first, (front >> 24 & 0xFF_FFFF) as u32);
+    let third = append_word(second, (front & 0xFF_FFFF) as u32);
+    let fourth = append_word(third, (back >> 24) as u32);
+    append_word(fourth, (back & 0xFF_FFFF) as u32)
 }
 
 // The remainder of a polynomial with 24 more coefficients after the others.

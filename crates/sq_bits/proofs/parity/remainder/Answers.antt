@@ -1,31 +1,43 @@
-use Rattle.std.proofs.Common.{◌≡◌, ◌+◌, ◌*◌, ◌≤◌, ◌^◌, ℕ, length, take, sym, subst, ap, ◌∙◌, arith}
-use Rattle.std.proofs.lemmas.List.{take_all}
-use Rattle.std.specs.Int.Digits.{number_from_digits}
+use Rattle.std.proofs.Common.{◌≡◌, ◌+◌, ◌*◌, ◌/◌, ◌^◌, ℕ, length, bit_and, subst, arith, ◌∙◌}
+use Rattle.std.proofs.lemmas.Nat.{and_mask}
 use Rattle.sq_bits.specs.Parity.{IsRemainder}
-use Rattle.sq_bits.proofs.Digits.{two_bytes, three_bytes}
+use Rattle.sq_bits.proofs.Digits.{five_words}
 use Rattle.sq_bits.proofs.Remainders.{IsRemainder-small}
 use Rattle.sq_bits.proofs.parity.remainder.Goals as goal
 
-pub loop-place-init : goal.loop-place-init
-loop-place-init c =
-    let long : 2 ≤ length c.args.frame.now.0 = omega arith in
-    let r : ℕ = c.word_of-remainder.result in
-    subst (λ n. IsRemainder n r) (c.word_of-remainder.ensures.value ∙ sym (two_bytes c.args.frame.now.0 long))
-    (IsRemainder-small r c.word_of-remainder.ensures.below)
+pub append_word-third-requires-clause-small : goal.append_word-third-requires-clause-small
+append_word-third-requires-clause-small c =
+    let f : ℕ = c.front-front.result in
+    (c.append_word-second.ensures (f / 2 ^ 48) (IsRemainder-small (f / 2 ^ 48) (omega (arith, c.front-front.type_inv)))).0
 
-pub loop-place-preserved : goal.loop-place-preserved
-loop-place-preserved c =
-    let at : ℕ = 3 * c.loop-place.place + 2 in
-    let long : at + 3 ≤ length c.args.frame.now.0 = omega arith in
-    let n : ℕ = number_from_digits 256 (take at c.args.frame.now.0) in
-    let next : at + 3 ≡ 3 * (c.loop-place.place + 1) + 2 = omega arith in
-    let grown = ap (λ w. n * 2 ^ 24 + w) c.word_of.ensures.value ∙ sym (three_bytes c.args.frame.now.0 at long)
-    ∙ ap (λ k. number_from_digits 256 (take k c.args.frame.now.0)) next in
-    subst (λ m. IsRemainder m c.append_word-remainder.result) grown
-    (c.append_word-remainder.ensures n c.loop-place.invariant)
+pub append_word-fourth-requires-clause-small : goal.append_word-fourth-requires-clause-small
+append_word-fourth-requires-clause-small c =
+    let f : ℕ = c.front-front.result in
+    let second = c.append_word-second.ensures (f / 2 ^ 48)
+    (IsRemainder-small (f / 2 ^ 48) (omega (arith, c.front-front.type_inv))) in
+    (c.append_word-third.ensures (f / 2 ^ 48 * 2 ^ 24 + bit_and (f / 2 ^ 24) 16777215) second).0
+
+pub append_word-requires-clause-small : goal.append_word-requires-clause-small
+append_word-requires-clause-small c =
+    let f : ℕ = c.front-front.result in
+    let n : ℕ = f / 2 ^ 48 * 2 ^ 24 + bit_and (f / 2 ^ 24) 16777215 in
+    let second = c.append_word-second.ensures (f / 2 ^ 48)
+    (IsRemainder-small (f / 2 ^ 48) (omega (arith, c.front-front.type_inv))) in
+    (c.append_word-fourth.ensures (n * 2 ^ 24 + bit_and f 16777215) (c.append_word-third.ensures n second)).0
 
 pub returns : goal.returns
 returns c =
-    let all : take (3 * c.loop-place.place + 2) c.args.frame.now.0 ≡ c.args.frame.now.0 =
-    take_all (3 * c.loop-place.place + 2) c.args.frame.now.0 (omega arith) in
-    subst (λ l. IsRemainder (number_from_digits 256 l) c.loop-place.remainder) all c.loop-place.invariant
+    let f : ℕ = c.front-front.result in
+    let b : ℕ = c.back-back.result in
+    let n : ℕ = f / 2 ^ 48 * 2 ^ 24 + bit_and (f / 2 ^ 24) 16777215 in
+    let m : ℕ = n * 2 ^ 24 + bit_and f 16777215 in
+    let second = c.append_word-second.ensures (f / 2 ^ 48)
+    (IsRemainder-small (f / 2 ^ 48) (omega (arith, c.front-front.type_inv))) in
+    let fourth = c.append_word-fourth.ensures m (c.append_word-third.ensures n second) in
+    let long : length c.args.frame.now.0 ≡ 14 = omega arith in
+    subst (λ k. IsRemainder k c.append_word.result)
+    (five_words c.args.frame.now.0 (f / 2 ^ 48) (bit_and (f / 2 ^ 24) 16777215) (bit_and f 16777215) (b / 2 ^ 24)
+    (bit_and b 16777215) long c.front-front.ensures.first
+    (and_mask (f / 2 ^ 24) 24 ∙ c.front-front.ensures.second) (and_mask f 24 ∙ c.front-front.ensures.third)
+    c.back-back.ensures.fourth (and_mask b 24 ∙ c.back-back.ensures.fifth))
+    (c.append_word.ensures (m * 2 ^ 24 + b / 2 ^ 24) fourth)
