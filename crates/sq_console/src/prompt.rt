@@ -27,8 +27,8 @@ const PIECE: usize = 64;
 // So many bytes are moved at once at each end of a text of 32 to 64 bytes.
 const HALF: usize = 32;
 
-// A writer with a buffer, and whether a flush of it has failed. Texts are first held in an array, where a short one costs
-// a few moves, and go on to the writer many at a time.
+// A writer with a buffer, and whether a flush of it has failed. Texts are first held in an array, where a short one
+// costs a few moves, and go on to the writer many at a time.
 struct Buffered<W: Write + Drop> {
     front: [u8; FRONT_BYTES],
     held: usize,

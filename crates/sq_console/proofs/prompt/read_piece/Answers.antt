@@ -7,7 +7,8 @@ use Rattle.sq_console.proofs.prompt.read_piece.Goals as goal
 
 pub returns-clause-bound : goal.returns-clause-bound
 returns-clause-bound g c =
-    let long : 64 ≤ length c.buffer-2.result.now = omega (arith, ap length c.buffer.ensures, ap length c.buffer-2.ensures, c.if-buffer-lt-PIECE.false) in
+    let long : 64 ≤ length c.buffer-2.result.now =
+    omega (arith, ap length c.buffer.ensures, ap length c.buffer-2.ensures, c.if-buffer-lt-PIECE.false) in
     rw (moved c.args.into.now c.buffer-2.result.now (omega arith) long) (
       omega (arith, long, length-take 64 c.buffer-2.result.now),
       omega (arith, long, length-take 64 c.buffer-2.result.now, length-take 64 (take 64 c.buffer-2.result.now)),
@@ -15,7 +16,8 @@ returns-clause-bound g c =
 
 pub returns-clause-bytes : goal.returns-clause-bytes
 returns-clause-bytes g c =
-    let long : 64 ≤ length c.buffer-2.result.now = omega (arith, ap length c.buffer.ensures, ap length c.buffer-2.ensures, c.if-buffer-lt-PIECE.false) in
+    let long : 64 ≤ length c.buffer-2.result.now =
+    omega (arith, ap length c.buffer.ensures, ap length c.buffer-2.ensures, c.if-buffer-lt-PIECE.false) in
     let old = reader_remaining g.R.Read.remaining c.args.reader.now in
     let new = reader_remaining g.R.Read.remaining c.consume.new.self in
     let piece = moved c.args.into.now c.buffer-2.result.now (omega arith) long
