@@ -1,52 +1,54 @@
 -- The values of digits, sixteen at a time, and the bytes of a frame that they are joined to.
-use Rattle.std.proofs.Common.{◌≡◌, ℕ, ◌+◌, ◌-◌, ◌*◌, ◌/◌, ◌%◌, ◌<◌, ◌^◌, Ok, [], ◌∷◌, ◌++◌, Option, None, Some, List, Bool, zero, suc, ◌≤◌, inl, inr, w8, Fits}
-use Rattle.std.proofs.Common.{true, false, is_some, ltb-true, eqb-true, ◌||◌, ◌&&◌, cond, ltb, eqb, map, get_or, length, drop, replicate, bit_or, bit_and}
+use Rattle.std.proofs.Common.{◌≡◌, ℕ, ◌+◌, ◌-◌, ◌*◌, ◌%◌, ◌<◌, ◌^◌, Ok, [], ◌∷◌, ◌++◌, Option, None, Some, List, Bool, zero, suc, ◌≤◌, inl, inr, w8, Fits}
+use Rattle.std.proofs.Common.{true, false, not, eqb-true, ◌||◌, cond, ltb, eqb, map, get_or, length, drop, replicate, bit_or, bit_and}
 use Rattle.std.proofs.Common.{refl, sym, ap, ap₂, ◌∙◌, subst, arith}
-use Rattle.std.proofs.lemmas.Bool.{cases_lt}
-use Rattle.std.proofs.lemmas.List.{get_or-map, get_or_append_left, get_or_past, drop_all, length-map}
-use Rattle.std.proofs.lemmas.Nat.{or_lt, or_shifted}
+use Rattle.std.proofs.lemmas.Bool.{cases_lt, lt-ltb, ltb-false}
+use Rattle.std.proofs.lemmas.List.{get_or-map, get_or-replicate, get_or_append_left, get_or_past, drop_all, length-map}
+use Rattle.std.proofs.lemmas.Nat.{le_or_l, le_or_r, or_lt, or_shifted}
 use Rattle.std.proofs.lemmas.List.FromFn.{get_or-map-range_with_len}
-use Rattle.std.proofs.lemmas.Simd.{Each1-get_or, map-map, mask_l-mod, splat_is_map, zip2_of_maps, zip2_splat}
+use Rattle.std.proofs.lemmas.Simd.{Each1-get_or, get_or-zip2, length-zip2, map-map, mask_l-mod, splat_is_map, zip2_of_maps, zip2_splat}
 use Rattle.std.specs.List.{range_with_len}
-use Rattle.std.specs.Simd.Lanes.{Each1, zip2, mask_l, top}
-use Rattle.hex.specs.Hex.{hex_digit_value, is_hex_digit, pair_value, digit_or_error, value_at, decode_pairs, ◌>>=◌}
+use Rattle.std.specs.Simd.Lanes.{Each1, zip2, mask_l, sel_l, top}
+use Rattle.hex.specs.Hex.{hex_digit_value, pair_value, digit_or_error, value_at, decode_pairs, ◌>>=◌}
 use Rattle.hex.proofs.Pairs.{cons_byte, decode_pairs-ok_pair, drop-pair}
 use Rattle.sq_text.specs.FrameText.{SpellsByte}
 
 -- ---- one lane, as the code computes it
 
--- a difference, a sum and a product of bytes
+-- a difference and a sum of bytes
 abbrev pub less : ℕ → ℕ → ℕ
 less a b = (a + (2 ^ 8 - b)) % 2 ^ 8
 
 abbrev pub more : ℕ → ℕ → ℕ
 more a b = (a + b) % 2 ^ 8
 
-abbrev pub times : ℕ → ℕ → ℕ
-times a b = a * b % 2 ^ 8
-
-abbrev pub down : ℕ → ℕ → ℕ
-down a b = a / 2 ^ b
-
 -- the mask of a comparison
 abbrev pub below : ℕ → ℕ → ℕ
 below a b = cond (ltb a b) 255 0
 
--- the mask of what is no digit
-abbrev pub stray : ℕ → ℕ
-stray x = bit_and (below 9 (less x 48)) (below 5 (less (bit_or x 32) 97))
+-- what a mask chooses
+abbrev pub choice : ℕ → ℕ → ℕ → ℕ
+choice mask a b = cond (top 7 mask) a b
 
--- the value, where the byte is a digit
+-- the value where the byte is a decimal digit, else 16 or more
+abbrev pub decimal_of : ℕ → ℕ
+decimal_of x = less (less (choice (below (more x 198) 6) 6 (more x 198)) 6) 240
+
+-- how far a byte stands behind the letter A
+abbrev pub letter : ℕ → ℕ
+letter x = less (bit_and x 223) 65
+
+-- the value where the byte is a letter up to F, else more than 9
+abbrev pub letter_of : ℕ → ℕ
+letter_of x = more (letter x) (choice (below 10 (255 - letter x)) 10 (255 - letter x))
+
+-- the value where the byte is a digit, else 16 or more
 abbrev pub value_of : ℕ → ℕ
-value_of x = more (bit_and x 15) (times (down x 6) 9)
+value_of x = choice (below (decimal_of x) (letter_of x)) (decimal_of x) (letter_of x)
 
 abbrev is_value : Option ℕ → ℕ → Bool
-is_value None w = true
-is_value (Some v) w = eqb v w && ltb w 16
-
-each_known : map (λ x. top 7 (stray x) || is_hex_digit x) (range_with_len 0 256)
-    ≡ map (λ _. true) (range_with_len 0 256)
-each_known = refl
+is_value None w = not (ltb w 16)
+is_value (Some v) w = eqb v w || not (ltb w 16)
 
 each_value : map (λ x. is_value (hex_digit_value x) (value_of x)) (range_with_len 0 256)
     ≡ map (λ _. true) (range_with_len 0 256)
@@ -59,25 +61,16 @@ at_byte f each x small =
     sym (get_or-map-range_with_len f 0 256 x x true small (omega arith)) ∙ ap (λ l. get_or l x true) each
     ∙ get_or-map-range_with_len (λ _. true) 0 256 x x true small (omega arith)
 
-known_or : (a b : Bool) → a || b ≡ true → a ≡ false → b ≡ true
-known_or a b h e = ap (λ c. c || b) (sym e) ∙ h
+either : (a b : Bool) → a || not b ≡ true → b ≡ true → a ≡ true
+either true b h e = refl
+either false true h e = h
+either false false h e = e
 
--- what the mask does not name is a digit
-pub known : (x : ℕ) → x < 256 → top 7 (stray x) ≡ false → is_hex_digit x ≡ true
-known x small = known_or (top 7 (stray x)) (is_hex_digit x)
-    (at_byte (λ y. top 7 (stray y) || is_hex_digit y) each_known x small)
+value_known : (o : Option ℕ) (w : ℕ) → is_value o w ≡ true → w < 16 → o ≡ Some w
+value_known None w h small = absurd (cc (sym h ∙ ap not (lt-ltb w 16 small)))
+value_known (Some v) w h small = ap Some (eqb-true v w (either (eqb v w) (ltb w 16) h (lt-ltb w 16 small)))
 
-both : (a b : Bool) → a && b ≡ true → (a ≡ true) × (b ≡ true)
-both true b h = (refl, h)
-both false b h = absurd (cc h)
-
-value_known : (o : Option ℕ) (w : ℕ) → is_value o w ≡ true → is_some o ≡ true → (o ≡ Some w) × (w < 16)
-value_known None w h e = absurd (cc e)
-value_known (Some v) w h e =
-    let parts = both (eqb v w) (ltb w 16) h in
-    (ap Some (eqb-true v w parts.0), ltb-true w 16 parts.1)
-
-pub value : (x : ℕ) → x < 256 → is_hex_digit x ≡ true → (hex_digit_value x ≡ Some (value_of x)) × (value_of x < 16)
+pub value : (x : ℕ) → x < 256 → value_of x < 16 → hex_digit_value x ≡ Some (value_of x)
 value x small = value_known (hex_digit_value x) (value_of x)
     (at_byte (λ y. is_value (hex_digit_value y) (value_of y)) each_value x small)
 
@@ -86,20 +79,6 @@ value x small = value_known (hex_digit_value x) (value_of x)
 -- a lane is a byte
 lane_small : (text : List ℕ) (i : ℕ) → i < length text → Each1 (Fits w8) text → get_or text i 0 < 256
 lane_small text i within fits = (Each1-get_or (Fits w8) text i 0 within fits).fits
-
--- the masks of sixteen bytes, as the code computes them
-abbrev pub masks : List ℕ → List ℕ
-masks text =
-    zip2 bit_and (zip2 below (replicate 16 9) (zip2 less text (replicate 16 48)))
-    (zip2 below (replicate 16 5) (zip2 less (zip2 bit_or text (replicate 16 32)) (replicate 16 97)))
-
-masks_are : (text : List ℕ) → length text ≡ 16 → masks text ≡ map stray text
-masks_are text long =
-    let splat : (y : ℕ) → replicate 16 y ≡ map (λ _. y) text = λ y. splat_is_map text 16 y long in
-    let first = zip2_of_maps below (λ _. 9) (λ x. less x 48) text (splat 9) (zip2_splat less text 16 48 long) in
-    let small = zip2_of_maps less (λ x. bit_or x 32) (λ _. 97) text (zip2_splat bit_or text 16 32 long) (splat 97) in
-    let second = zip2_of_maps below (λ _. 5) (λ x. less (bit_or x 32) 97) text (splat 5) small in
-    zip2_of_maps bit_and (λ x. below 9 (less x 48)) (λ x. below 5 (less (bit_or x 32) 97)) text first second
 
 -- no bit of a mask is set
 bits : (b : Bool) (n : ℕ) → cond b 1 0 + 2 * n ≡ 0 → (b ≡ false) × (n ≡ 0)
@@ -111,41 +90,107 @@ clear p [] e i within = absurd (omega arith)
 clear p (x ∷ xs) e zero within = (bits (p x) (mask_l (map p xs)) e).0
 clear p (x ∷ xs) e (suc i) within = clear p xs (bits (p x) (mask_l (map p xs)) e).1 i (omega arith)
 
--- each byte of such a vector is a digit
-pub are_known : (text : List ℕ) → length text ≡ 16 → Each1 (Fits w8) text
-    → eqb (mask_l (map (top 7) (masks text)) % 2 ^ 64) 0 ≡ true → (i : ℕ) → i < 16
-    → is_hex_digit (get_or text i 0) ≡ true
-are_known text long fits none i small =
-    let within : i < length text = omega (arith, long) in
-    let shown : map (top 7) (masks text) ≡ map (λ x. top 7 (stray x)) text =
-    ap (map (top 7)) (masks_are text long) ∙ map-map (top 7) stray text in
-    let few : length (map (λ x. top 7 (stray x)) text) ≤ 64 =
-    omega (arith, long, length-map text (λ x. top 7 (stray x))) in
-    let empty : mask_l (map (λ x. top 7 (stray x)) text) ≡ 0 =
-    sym (mask_l-mod (map (λ x. top 7 (stray x)) text) 64 few) ∙ ap (λ ms. mask_l ms % 2 ^ 64) (sym shown)
-    ∙ eqb-true _ _ none in
-    known (get_or text i 0) (lane_small text i within fits) (clear (λ x. top 7 (stray x)) text empty i within)
+-- the masks of the bytes of which one is 16 or more, as the code computes them
+abbrev pub masks : List ℕ → List ℕ → List ℕ
+masks front back = zip2 below (replicate 16 15) (zip2 bit_or front back)
+
+low : (b : Bool) → top 7 (cond b 255 0) ≡ false → b ≡ false
+low true e = absurd (cc e)
+low false e = refl
+
+-- both are below 16 where the mask does not name them
+both_low : (a b : ℕ) → top 7 (below 15 (bit_or a b)) ≡ false → (a < 16) × (b < 16)
+both_low a b clear =
+    let most : bit_or a b ≤ 15 = ltb-false 15 (bit_or a b) (low (ltb 15 (bit_or a b)) clear) in
+    (omega (arith, most, le_or_l a b), omega (arith, most, le_or_r a b))
+
+-- each byte of two such vectors is below 16
+pub are_small : (front back : List ℕ) → length front ≡ 16 → length back ≡ 16
+    → eqb (mask_l (map (top 7) (masks front back)) % 2 ^ 64) 0 ≡ true → (i : ℕ) → i < 16
+    → (get_or front i 0 < 16) × (get_or back i 0 < 16)
+are_small front back long same none i small =
+    let joined : length (zip2 bit_or front back) ≡ 16 =
+    length-zip2 bit_or front back (long ∙ sym same) ∙ long in
+    let all : length (masks front back) ≡ 16 =
+    length-zip2 below (replicate 16 15) (zip2 bit_or front back) (sym joined) in
+    let few : length (map (top 7) (masks front back)) ≤ 64 =
+    omega (arith, all, length-map (masks front back) (top 7)) in
+    let empty : mask_l (map (top 7) (masks front back)) ≡ 0 =
+    sym (mask_l-mod (map (top 7) (masks front back)) 64 few) ∙ eqb-true _ _ none in
+    let lane : get_or (masks front back) i 0 ≡ below 15 (bit_or (get_or front i 0) (get_or back i 0)) =
+    get_or-zip2 below (replicate 16 15) (zip2 bit_or front back) i 0 0 0 small (omega (arith, joined))
+    ∙ ap₂ below (get_or-replicate 16 i 15 0 small)
+    (get_or-zip2 bit_or front back i 0 0 0 (omega (arith, long)) (omega (arith, same))) in
+    both_low (get_or front i 0) (get_or back i 0)
+    (ap (top 7) (sym lane) ∙ clear (top 7) (masks front back) empty i (omega (arith, all)))
+
+-- a choice between two vectors, by a mask
+abbrev pub chosen : List ℕ → List ℕ → List ℕ → List ℕ
+chosen masks xs ys = sel_l (map (top 7) masks) xs ys
+
+chosen_maps : (m f g : ℕ → ℕ) (text : List ℕ)
+    → chosen (map m text) (map f text) (map g text) ≡ map (λ x. choice (m x) (f x) (g x)) text
+chosen_maps m f g [] = refl
+chosen_maps m f g (x ∷ xs) = ap (λ l. choice (m x) (f x) (g x) ∷ l) (chosen_maps m f g xs)
+
+chosen_of : (m f g : ℕ → ℕ) (text ms xs ys : List ℕ) → ms ≡ map m text → xs ≡ map f text → ys ≡ map g text
+    → chosen ms xs ys ≡ map (λ x. choice (m x) (f x) (g x)) text
+chosen_of m f g text ms xs ys a b c =
+    ap (λ l. chosen l xs ys) a ∙ ap₂ (λ k l. chosen (map m text) k l) b c ∙ chosen_maps m f g text
 
 -- the values of sixteen bytes, as the code computes them
+abbrev pub decimals : List ℕ → List ℕ
+decimals text = zip2 less (zip2 less (chosen (zip2 below (zip2 more text (replicate 16 198)) (replicate 16 6))
+    (replicate 16 6) (zip2 more text (replicate 16 198))) (replicate 16 6)) (replicate 16 240)
+
+abbrev pub capitals : List ℕ → List ℕ
+capitals text = zip2 less (zip2 bit_and text (replicate 16 223)) (replicate 16 65)
+
+abbrev pub letters : List ℕ → List ℕ
+letters text = zip2 more (capitals text) (chosen (zip2 below (replicate 16 10) (map (λ x. 255 - x) (capitals text)))
+    (replicate 16 10) (map (λ x. 255 - x) (capitals text)))
+
 abbrev pub values : List ℕ → List ℕ
-values text =
-    zip2 more (zip2 bit_and text (replicate 16 15)) (zip2 times (zip2 down text (replicate 16 6)) (replicate 16 9))
+values text = chosen (zip2 below (decimals text) (letters text)) (decimals text) (letters text)
+
+splat : (text : List ℕ) → length text ≡ 16 → (y : ℕ) → replicate 16 y ≡ map (λ _. y) text
+splat text long y = splat_is_map text 16 y long
+
+decimals_are : (text : List ℕ) → length text ≡ 16 → decimals text ≡ map decimal_of text
+decimals_are text long =
+    let added = zip2_splat more text 16 198 long in
+    let few = zip2_of_maps below (λ x. more x 198) (λ _. 6) text added (splat text long 6) in
+    let raised = chosen_of (λ x. below (more x 198) 6) (λ _. 6) (λ x. more x 198) text _ _ _ few (splat text long 6) added in
+    let lowered = zip2_of_maps less (λ x. choice (below (more x 198) 6) 6 (more x 198)) (λ _. 6) text raised
+    (splat text long 6) in
+    zip2_of_maps less (λ x. less (choice (below (more x 198) 6) 6 (more x 198)) 6) (λ _. 240) text lowered
+    (splat text long 240)
+
+letters_are : (text : List ℕ) → length text ≡ 16 → letters text ≡ map letter_of text
+letters_are text long =
+    let places = zip2_of_maps less (λ x. bit_and x 223) (λ _. 65) text (zip2_splat bit_and text 16 223 long)
+    (splat text long 65) in
+    let rooms : map (λ x. 255 - x) (capitals text) ≡ map (λ x. 255 - letter x) text =
+    ap (map (λ x. 255 - x)) places ∙ map-map (λ x. 255 - x) letter text in
+    let few = zip2_of_maps below (λ _. 10) (λ x. 255 - letter x) text (splat text long 10) rooms in
+    let room = chosen_of (λ x. below 10 (255 - letter x)) (λ _. 10) (λ x. 255 - letter x) text _ _ _ few
+    (splat text long 10) rooms in
+    zip2_of_maps more letter (λ x. choice (below 10 (255 - letter x)) 10 (255 - letter x)) text places room
 
 values_are : (text : List ℕ) → length text ≡ 16 → values text ≡ map value_of text
 values_are text long =
-    let splat : (y : ℕ) → replicate 16 y ≡ map (λ _. y) text = λ y. splat_is_map text 16 y long in
-    let nines = zip2_of_maps times (λ x. down x 6) (λ _. 9) text (zip2_splat down text 16 6 long) (splat 9) in
-    zip2_of_maps more (λ x. bit_and x 15) (λ x. times (down x 6) 9) text (zip2_splat bit_and text 16 15 long) nines
+    let first = decimals_are text long in
+    let second = letters_are text long in
+    chosen_of (λ x. below (decimal_of x) (letter_of x)) decimal_of letter_of text _ _ _
+    (zip2_of_maps below decimal_of letter_of text first second) first second
 
 pub values_known : (text : List ℕ) → length text ≡ 16 → Each1 (Fits w8) text → (i : ℕ) → i < 16
-    → is_hex_digit (get_or text i 0) ≡ true
-    → (hex_digit_value (get_or text i 0) ≡ Some (get_or (values text) i 0)) × (get_or (values text) i 0 < 16)
-values_known text long fits i small digit =
+    → get_or (values text) i 0 < 16 → hex_digit_value (get_or text i 0) ≡ Some (get_or (values text) i 0)
+values_known text long fits i small low =
     let within : i < length text = omega (arith, long) in
     let lane : get_or (values text) i 0 ≡ value_of (get_or text i 0) =
     ap (λ l. get_or l i 0) (values_are text long) ∙ get_or-map value_of text i 0 0 within in
-    subst (λ v. (hex_digit_value (get_or text i 0) ≡ Some v) × (v < 16)) (sym lane)
-    (value (get_or text i 0) (lane_small text i within fits) digit)
+    value (get_or text i 0) (lane_small text i within fits) (subst (λ v. v < 16) lane low) ∙ ap Some (sym lane)
 
 -- ---- pairs of values
 
@@ -197,31 +242,31 @@ pair_from a b i h l x y =
 abbrev pub AreLanes : List ℕ → ℕ → List ℕ → Type 0
 AreLanes body at text = (i : ℕ) → i < 16 → get_or text i 0 ≡ get_or body (at + i) 0
 
-abbrev pub AreDigits : List ℕ → Type 0
-AreDigits text = (i : ℕ) → i < 16 → is_hex_digit (get_or text i 0) ≡ true
+abbrev pub AreSmall : List ℕ → Type 0
+AreSmall vs = (i : ℕ) → i < 16 → get_or vs i 0 < 16
 
 abbrev pub AreValues : List ℕ → List ℕ → Type 0
-AreValues text vs = (i : ℕ) → i < 16 → is_hex_digit (get_or text i 0) ≡ true
-    → (hex_digit_value (get_or text i 0) ≡ Some (get_or vs i 0)) × (get_or vs i 0 < 16)
+AreValues text vs = (i : ℕ) → i < 16 → get_or vs i 0 < 16 → hex_digit_value (get_or text i 0) ≡ Some (get_or vs i 0)
 
 abbrev pub AreJoined : List ℕ → List ℕ → Type 0
 AreJoined vs bytes = (i : ℕ) → i < 8 → get_or vs (2 * i) 0 < 16 → get_or vs (2 * i + 1) 0 < 16
     → get_or bytes i 0 ≡ get_or vs (2 * i) 0 * 16 + get_or vs (2 * i + 1) 0
 
 -- each of these bytes is what two digits spell
-pub spelled : (body text vs bytes : List ℕ) (k : ℕ) → AreLanes body (2 * k) text → AreDigits text
+pub spelled : (body text vs bytes : List ℕ) (k : ℕ) → AreLanes body (2 * k) text → AreSmall vs
     → AreValues text vs → AreJoined vs bytes
     → (i : ℕ) → i < 8 → SpellsByte body (k + i) (get_or bytes i 0)
-spelled body text vs bytes k lanes digits read made i small =
-    let high = read (2 * i) (omega arith) (digits (2 * i) (omega arith)) in
-    let low = read (2 * i + 1) (omega arith) (digits (2 * i + 1) (omega arith)) in
+spelled body text vs bytes k lanes few read made i small =
+    let high = few (2 * i) (omega arith) in
+    let low = few (2 * i + 1) (omega arith) in
     let first : 2 * k + 2 * i ≡ 2 * (k + i) = omega arith in
     let second : 2 * k + (2 * i + 1) ≡ 2 * (k + i) + 1 = omega arith in
     ap₂ (λ a b. pair_value a b (2 * (k + i)))
     (sym (lanes (2 * i) (omega arith) ∙ ap (λ j. get_or body j 0) first))
     (sym (lanes (2 * i + 1) (omega arith) ∙ ap (λ j. get_or body j 0) second))
     ∙ pair_from (get_or text (2 * i) 0) (get_or text (2 * i + 1) 0) (2 * (k + i)) (get_or vs (2 * i) 0)
-    (get_or vs (2 * i + 1) 0) high.0 low.0 ∙ ap Ok (sym (made i small high.1 low.1))
+    (get_or vs (2 * i + 1) 0) (read (2 * i) (omega arith) high) (read (2 * i + 1) (omega arith) low)
+    ∙ ap Ok (sym (made i small high low))
 
 -- the bytes from place k on are spelled
 abbrev pub AreSpelled : List ℕ → ℕ → List ℕ → Type 0

@@ -4,31 +4,34 @@ ghost use Rattle.hex.specs.Hex.{hex_digit_value, is_hex_digit};
 
 use std::simd::prelude::*;
 
-// What makes a letter small.
-const LOWER: u8 = b'a' - b'A';
+// What makes a letter a capital, as a mask.
+const CAPITAL: u8 = !(b'a' - b'A');
 
-// The letters have this bit, and the decimal digits have not.
-const LETTER_SHIFT: u8 = 6;
+// What takes the digit nine to 255, so that each byte behind it starts at 0 again.
+const TO_LAST: u8 = 255 - b'9';
 
-// Whether each byte is a digit of either case.
-#[inline(always)]
-pub(crate) fn are_digits(text: u8x16) -> bool
-    ensures { IsTrue result → (place : ℕ) → place < 16 → is_hex_digit (slice_index text place) ≡ true }
-{
-    let no_decimal = (text - u8x16::splat(b'0')).simd_gt(u8x16::splat(9));
-    let no_letter = ((text | u8x16::splat(LOWER)) - u8x16::splat(b'a')).simd_gt(u8x16::splat(5));
-    (no_decimal & no_letter).to_bitmask() == 0
-}
-
-// The value of each byte that is a digit: its low four bits, and nine more for a letter.
+// The value of each byte that is a digit of either case, and 16 or more for each other byte. Of a byte that is no
+// decimal digit the first number is 16 or more, of one that is no letter up to F the second.
 #[inline(always)]
 pub(crate) fn digit_values(text: u8x16) -> u8x16
-    ensures { (place : ℕ) → place < 16 → is_hex_digit (slice_index text place) ≡ true
-        → (hex_digit_value (slice_index text place) ≡ Some (slice_index result place))
-        × (slice_index result place < 16) }
+    ensures { (place : ℕ) → place < 16 → slice_index result place < 16
+        → hex_digit_value (slice_index text place) ≡ Some (slice_index result place) }
 {
-    let nines = (text >> u8x16::splat(LETTER_SHIFT)) * u8x16::splat(9);
-    (text & u8x16::splat(15)) + nines
+    let decimals = (text + u8x16::splat(TO_LAST)).saturating_sub(u8x16::splat(6))
+        - u8x16::splat(240);
+    let letters = ((text & u8x16::splat(CAPITAL)) - u8x16::splat(b'A')).saturating_add(u8x16::splat(
+        10,
+    ));
+    decimals.simd_min(letters)
+}
+
+// Whether each byte of both is below 16.
+#[inline(always)]
+pub(crate) fn are_values(front: u8x16, back: u8x16) -> bool
+    ensures front { IsTrue result → (place : ℕ) → place < 16 → slice_index front place < 16 }
+    ensures back { IsTrue result → (place : ℕ) → place < 16 → slice_index back place < 16 }
+{
+    (front | back).simd_gt(u8x16::splat(15)).to_bitmask() == 0
 }
 
 // The bytes of pairs of values below 16, the high one first.
@@ -40,5 +43,5 @@ pub(crate) fn bytes_of(values: u8x16) -> [u8; 8]
     let high = values.swizzle([0, 2, 4, 6, 8, 10, 12, 14]);
     let low = values.swizzle([1, 3, 5, 7, 9, 11, 13, 15]);
     // As one word, of which a register holds all eight.
-    u64::from_be_bytes((high << u8x8::splat(4) | low).to_array()).to_be_bytes()
+    u64::from_le_bytes((high << u8x8::splat(4) | low).to_array()).to_le_bytes()
 }

@@ -3,7 +3,7 @@ ghost use Rattle.std.specs.Prelude.{◌≡◌, length, Ok, IfSome, MatchOption, 
 ghost use Rattle.hex.specs.Hex.{decode_of};
 ghost use Rattle.sq_text.specs.FrameText.{IsAnswer, IsBody, IsFirstBadDigit, IsFrameText, IsHalfWrapped};
 
-use crate::digit_values::{are_digits, bytes_of, digit_values};
+use crate::digit_values::{are_values, bytes_of, digit_values};
 use hex::FromHexError;
 use sq_bits::Frame;
 use std::simd::prelude::*;
@@ -69,13 +69,13 @@ fn frame_of_digits(body: &[u8]) -> Option<Frame>
     requires { length body.now ≡ 28 }
     ensures { IfSome result (λ frame. decode_of body.now ≡ Ok frame.0) }
 {
-    let front = u8x16::from_slice(body);
-    let back = u8x16::from_slice(&body[12..]);
-    if !are_digits(front) || !are_digits(back) {
+    let front = digit_values(u8x16::from_slice(body));
+    let back = digit_values(u8x16::from_slice(&body[12..]));
+    if !are_values(front, back) {
         return None;
     }
-    let first = bytes_of(digit_values(front));
-    let last = bytes_of(digit_values(back));
+    let first = bytes_of(front);
+    let last = bytes_of(back);
     Some(Frame([
         first[0], first[1], first[2], first[3], first[4], first[5], first[6], first[7], last[2],
         last[3], last[4], last[5], last[6], last[7],

@@ -1,5 +1,10 @@
-use Rattle.sq_text.proofs.DigitLemmas.{are_known}
-use Rattle.sq_text.proofs.digit_values.are_digits.Goals as goal
+use Rattle.sq_text.proofs.DigitLemmas.{are_small}
+use Rattle.sq_text.proofs.digit_values.are_values.Goals as goal
 
-pub returns : goal.returns
-returns c = are_known c.args.text c.fits-text.0 c.fits-text.1
+pub returns-clause-front : goal.returns-clause-front
+returns-clause-front c none place small =
+    (are_small c.args.front c.args.back c.fits-front.0 c.fits-back.0 none place small).0
+
+pub returns-clause-back : goal.returns-clause-back
+returns-clause-back c none place small =
+    (are_small c.args.front c.args.back c.fits-front.0 c.fits-back.0 none place small).1
