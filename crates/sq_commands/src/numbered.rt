@@ -53,6 +53,8 @@ impl TrackFormat for Numbered {
 }
 
 // Tells a fault.
+#[cold]
+#[inline(never)]
 fn push_refused(text: &mut LineText, number: u64, fault: LineFault)
     requires { text.old.bytes ≡ [] }
     ensures { text.new.bytes ≡ decimal number ++ codes " " ++ fault_text fault ++ codes "\n" }
