@@ -194,6 +194,8 @@ fn laws_are_of_both_spans(rt: HostRuntime) {
     laws::within_exactly::<Ground>();
     laws::close_exactly::<Air>();
     laws::close_exactly::<Ground>();
+    laws::grid_point_exactly::<Air>();
+    laws::grid_point_exactly::<Ground>();
     laws::tame_answer_exactly::<Air>();
     laws::tame_answer_exactly::<Ground>();
     laws::limits_of_slow();

@@ -1,17 +1,19 @@
 -- Laws that say what the premises on true positions are, and no more: what a law asks of positions cannot shrink
 -- unseen.
-use Rattle.std.specs.Prelude.{◌≡◌, ◌≢◌, ◌↔◌, ◌⊎◌, ◌≤◌, ◌+◌, ◌*◌, ℕ, max, min, ℤ, pos, neg_ℤ, Result, Ok, Err}
+use Rattle.std.specs.Prelude.{◌≡◌, ◌≢◌, ◌↔◌, ◌⊎◌, ◌<◌, ◌≤◌, ◌+◌, ◌-◌, ◌*◌, ℕ, max, min, ℤ, pos, neg_ℤ}
+use Rattle.std.specs.Prelude.{Result, Ok, Err}
 use Rattle.sq_angle.specs.Angle.{degrees as degrees_of}
 use Rattle.sq_angle.specs.Fraction.{Fraction, ◌≺◌, ◌≃◌, minus, plus, whole}
 use Rattle.sq_angle.specs.Position.{lat_of, lon_of}
 use Rattle.sq_angle.specs.declared.position.Position.{Position}
+use Rattle.sq_zones.specs.Zones.{parity_index, zones_at}
 use Rattle.sq_zones.specs.declared.parity.Parity.{Parity}
 use Rattle.sq_zones.specs.declared.parity.Parity.TheVariants.{Even, Odd}
 use Rattle.sq_cpr.specs.declared.faults.PairFault.{PairFault}
 use Rattle.sq_cpr.specs.declared.faults.PairFault.TheVariants.{ZoneCounts}
 use Rattle.sq_cpr.specs.Span.{Span, air, ground}
 use Rattle.sq_cpr.specs.DecodeLaws.{TameAnswer}
-use Rattle.sq_cpr.specs.Grid.{IsLatitude, Point, latitude, lat_zones, longitude, codes_of_zone}
+use Rattle.sq_cpr.specs.Grid.{IsGridPoint, IsLatitude, Point, latitude, lat_zones, longitude, codes_of_zone}
 use Rattle.sq_cpr.specs.Near.{IsStrictlyNear, IsStrictlyNearLongitude, IsStrictlyNearPoint, half_zone}
 use Rattle.sq_cpr.specs.Close.{AreCloseLatitudes, AreClosePoints, AreTamePoints, HaveOneCount, IsClose, count_at}
 use Rattle.sq_cpr.specs.Pair.{HaveTwoCounts, of_parity}
@@ -133,6 +135,18 @@ TameExactly span =
     ↔ ((a.parity ≡ Even) × (b.parity ≡ Odd) × AreCloseLatitudes span.degrees a.lat_index b.lat_index
     × (HaveOneCount span.degrees a.lat_index b.lat_index → IsClose span.degrees a.zones b.zones (pos a.lon_index)
     (pos b.lon_index)))
+
+-- a point is one of the grid by its latitude, the zones there, one less for odd, and so many times 2^17 steps
+abbrev pub GridPointExactly : Span → Type 0
+GridPointExactly span =
+    (point : Point) → IsGridPoint span point
+    ↔ (IsLatitude span.degrees point.parity point.lat_index
+    × (point.zones ≡ max (zones_at (latitude span point) - parity_index point.parity) 1)
+    × (point.lon_index < point.zones * 131072 * span.repeats))
+
+-- an even grid has 60 zones of latitude, and an odd one 59
+abbrev pub ZonesAsNumbers : Type 0
+ZonesAsNumbers = (lat_zones Even ≡ 60) × (lat_zones Odd ≡ 59)
 
 -- latitudes have two zone counts exactly where each lies in -90 to 90, these are their counts, and they differ
 abbrev pub TwoCountsExactly : Span → Type 0

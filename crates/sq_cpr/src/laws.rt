@@ -17,7 +17,7 @@ ghost use Rattle.sq_cpr.specs.Exactly.{Across180Degrees, AtTheLimits, CloseExact
 ghost use Rattle.sq_cpr.specs.Exactly.{FollowingExactly, LimitsAsNumbers, LimitsInWords, PointWithinExactly};
 ghost use Rattle.sq_cpr.specs.Exactly.{SlowExactly, TurnsChangeNothing, WithinExactly};
 ghost use Rattle.sq_cpr.specs.Exactly.{NearThreeDecimals, StrictlyNearExactly, TameAnswerExactly, TameExactly};
-ghost use Rattle.sq_cpr.specs.Exactly.{TwoCountsExactly, WindowExactly};
+ghost use Rattle.sq_cpr.specs.Exactly.{GridPointExactly, TwoCountsExactly, WindowExactly, ZonesAsNumbers};
 
 use crate::code::Code;
 use crate::faults::{LocalFault, PairFault};
@@ -226,6 +226,13 @@ pub fn near_three_decimals()
 /// Tame is this and no more.
 pub fn tame_exactly<S: Span>()
     ensures { TameExactly S.span }
+{}
+
+/// A point is one of the grid by its latitude, the zones there and its place on the circle, and by nothing else; an
+/// even grid has 60 zones of latitude and an odd one 59.
+pub fn grid_point_exactly<S: Span>()
+    ensures point { GridPointExactly S.span }
+    ensures zones { ZonesAsNumbers }
 {}
 
 /// Tame points are answered by the newest, or by the two zone counts of their latitudes, and in no other way.

@@ -1,4 +1,4 @@
--- How tame points are answered.
+-- How tame points are answered, and what a point of a grid is.
 use Rattle.std.proofs.Common.{◌≡◌, ◌⊎◌, ℕ, Result, Ok, Err, inl, inr, ap, refl, sym, subst}
 use Rattle.sq_zones.specs.declared.parity.Parity.{Parity}
 use Rattle.sq_cpr.specs.declared.faults.PairFault.{PairFault}
@@ -7,7 +7,13 @@ use Rattle.sq_cpr.specs.Span.{Span}
 use Rattle.sq_cpr.specs.Grid.{Point}
 use Rattle.sq_cpr.specs.Pair.{HaveTwoCounts, of_parity}
 use Rattle.sq_cpr.specs.DecodeLaws.{TameAnswer}
-use Rattle.sq_cpr.specs.Exactly.{TameAnswerExactly, TwoCountsExactly}
+use Rattle.sq_cpr.specs.Exactly.{GridPointExactly, TameAnswerExactly, TwoCountsExactly}
+
+pub grid_point_exactly : (span : Span) → GridPointExactly span
+grid_point_exactly span point = (
+  λ h. (h.north_south, h.zones, h.east_west),
+  λ h. record { north_south = h.0; zones = h.1; east_west = h.2 },
+)
 
 pub two_counts_exactly : (span : Span) → TwoCountsExactly span
 two_counts_exactly span p q even odd = (
