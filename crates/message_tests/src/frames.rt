@@ -251,7 +251,9 @@ fn means_altitudes(rt: HostRuntime) {
             "field {field}"
         );
     }
-    laws::missing_exactly();
+    laws::altitude_exactly();
+    laws::squitter_of_exactly();
+    laws::pair_place_exactly();
     assert!(rt; !laws::equal_altitudes(&Altitude::Feet(25), &Altitude::Feet(50)));
     assert!(rt; !laws::equal_altitudes(&Altitude::Missing, &Altitude::Raw(0)));
 }

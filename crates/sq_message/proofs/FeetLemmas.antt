@@ -78,11 +78,3 @@ has_field field feet (h, l, is, means) =
     let most : feet ≤ℤ pos 50175 = omega (arith, ints, means, is.seven, is.four) in
     let multiple : feet ≡ pos 25 *ℤ (pos (h * 2 ^ 4 + l) -ℤ pos 40) = omega (arith, ints, means) in
     record { least = least; most = most; multiple = (pos (h * 2 ^ 4 + l) -ℤ pos 40, multiple) }
-
--- of type codes up to 18, an altitude is missing exactly where its field is 0
-pub missing_exactly : (code field : ℕ) (meaning : Altitude) → code ≤ 18 → IsAltitude code field meaning
-    → (meaning ≡ Missing) ↔ (field ≡ 0)
-missing_exactly code field meaning low is = (
-  λ missing. (subst (IsAltitude code field) missing is).1,
-  λ none. one_altitude code field meaning Missing is (low, none),
-)

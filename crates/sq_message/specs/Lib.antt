@@ -11,3 +11,4 @@ pub mod Calls
 pub mod Faults
 pub mod Pinned
 pub mod Answered
+pub mod Exactly

@@ -7,7 +7,7 @@ ghost use Rattle.std.specs.Prelude.{option_copied};
 ghost use Rattle.sq_bits.specs.declared.frame.Frame.{Frame};
 ghost use Rattle.sq_bits.specs.Frames.{IsFrame};
 ghost use Rattle.sq_message.specs.declared.air.Altitude.{Altitude};
-ghost use Rattle.sq_message.specs.declared.air.Altitude.TheVariants.{Feet, Missing};
+ghost use Rattle.sq_message.specs.declared.air.Altitude.TheVariants.{Feet};
 ghost use Rattle.sq_message.specs.declared.squitter.FrameFault.{FrameFault};
 ghost use Rattle.sq_message.specs.declared.squitter.Squitter.{Squitter};
 ghost use Rattle.sq_message.specs.declared.place.Place.TheVariants.{Air, Ground};
@@ -26,6 +26,7 @@ ghost use Rattle.sq_message.specs.Answered.{NoPlaceExactly, NoPlaceNearExactly, 
 ghost use Rattle.sq_message.specs.Answered.{OnePlaceOfNewer, ReadAsPairExactly, ReadNearExactly, SentAgainExactly};
 ghost use Rattle.sq_message.specs.Calls.{DecodedIsSentAgain, HasNoPlaceNear, HaveNoPlace, IsPlaceOfPair, IsAnswerNear};
 ghost use Rattle.sq_message.specs.Calls.{IsPlaceOfNewer, IsAnswerOfPair, IsSentAgain};
+ghost use Rattle.sq_message.specs.Exactly.{AltitudeExactly, PairPlaceExactly, SquitterOfExactly};
 ghost use Rattle.sq_message.specs.Heads.{air_head_parts, ground_head_parts};
 ghost use Rattle.sq_message.specs.Headline.{ClosePair, OneFrameSent, OneLocalPlace, OnePairPlace, SomeLocalPlace};
 ghost use Rattle.sq_message.specs.Headline.{SomePairPlace, WrittenAgain, NearReference, SentAgain};
@@ -99,10 +100,20 @@ pub fn feet_exactly()
         → (meaning ≡ Feet feet) ↔ IsFieldOfFeet field feet }
 {}
 
-/// Of type codes 9 to 18, an altitude is missing exactly where its field is 0.
-pub fn missing_exactly()
-    ensures { (code field : ℕ) (meaning : Altitude) → code ≤ 18 → IsAltitude code field meaning
-        → (meaning ≡ Missing) ↔ (field ≡ 0) }
+/// Up to type code 18 a field of zero is no altitude, and one whose bit Q is 0 is kept as it is; from 20 on each is.
+pub fn altitude_exactly()
+    ensures { AltitudeExactly }
+{}
+
+/// What is sent of a point is the squitter of the whole head, the point's parity and its code, and no other.
+pub fn squitter_of_exactly()
+    ensures { SquitterOfExactly }
+{}
+
+/// A pair without two positions has this fault, one of two addresses that one, and one of one address the place of its
+/// messages, and no other.
+pub fn pair_place_exactly()
+    ensures { PairPlaceExactly }
 {}
 
 /// Where two positions lie in the same zones of a parity's grid of the air, the frames that are sent of them with one
