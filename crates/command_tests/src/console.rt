@@ -2,6 +2,7 @@
 //! the output is flushed before input is awaited. The words over a made-up command line.
 use crate::devices::end_with;
 use crate::faulty_devices::{finish, get, put, sink_of, taken};
+use sq_console::laws::equal_troubles;
 use sq_console::{PromptInput, PromptOutput, SharedOutput, Trouble, arguments};
 use sq_devices::{Failed, Sink, Source};
 use std::alloc::{AllocError, Global};
@@ -444,6 +445,8 @@ fn tells_its_troubles(rt: HostRuntime) {
     let mut faults = sink_of(Vec::new(rt.alloc()));
     assert!(rt; Trouble::Words.tell(&mut faults) == 2);
     assert!(rt; Trouble::Memory.tell(&mut faults) == 3);
+    assert!(rt; equal_troubles(&Trouble::Words, &Trouble::Words));
+    assert!(rt; !equal_troubles(&Trouble::Words, &Trouble::Memory));
     let told = b"bad words\nout of memory\n".as_slice();
     assert!(rt; taken(faults).as_slice() == told);
 }

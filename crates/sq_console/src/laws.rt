@@ -1,10 +1,11 @@
 //! Laws of the console's devices, over the definitions that their calls name.
-ghost use Rattle.std.specs.Prelude.{◌≡◌, ◌+◌, ◌≤◌, ◌<◌, ◌↔◌, List, ℕ};
+ghost use Rattle.std.specs.Prelude.{◌≡◌, ◌+◌, ◌≤◌, ◌<◌, ◌↔◌, IsTrue, List, ℕ};
 ghost use Rattle.std.specs.Io.KnownBytes.{Consumes};
 ghost use Rattle.sq_console.specs.Prompt.{IsFinish, IsGiven, IsTaken, finishes_of, gets_of, to_come_of};
 ghost use Rattle.sq_console.specs.declared.prompt.PromptInput.{PromptInput};
 ghost use Rattle.sq_console.specs.declared.prompt.PromptOutput.{PromptOutput};
 
+use crate::start::Trouble;
 use std::io::{Read, Write};
 
 /// One get of the input takes just what it answers from the front of what is to come, where that is reported, and uses
@@ -17,8 +18,15 @@ pub fn one_get<R: Read, W: Write + Drop>()
 
 /// One put of the output counts no finish, and one finish counts one.
 pub fn one_put<W: Write + Drop>()
-    ensures took { (old new : PromptOutput W) (bytes : List ℕ) → IsTaken old bytes new
+    ensures took { (old new : PromptOutput W W.Write) (bytes : List ℕ) → IsTaken old bytes new
         ↔ (finishes_of old ≡ finishes_of new) }
-    ensures finished { (old new : PromptOutput W) → IsFinish old new
+    ensures finished { (old new : PromptOutput W W.Write) → IsFinish old new
         ↔ ((finishes_of old < finishes_of new) × (finishes_of new ≤ finishes_of old + 1)) }
 {}
+
+/// Whether two troubles are equal by `==`: exactly if they are one.
+pub fn equal_troubles(trouble: &Trouble, other: &Trouble) -> bool
+    ensures { IsTrue result ↔ (trouble.now ≡ other.now) }
+{
+    trouble == other
+}
