@@ -1,8 +1,11 @@
 //! A frame and its bit fields.
-ghost use Rattle.std.specs.Prelude.{◌≡◌, ℕ, ◌+◌, ◌/◌, ◌%◌, ◌<◌, ◌≤◌, ◌^◌, slice_index};
+ghost use Rattle.std.specs.Prelude.{◌≡◌, ℕ, ◌+◌, ◌-◌, ◌*◌, ◌/◌, ◌%◌, ◌<◌, ◌≤◌, ◌^◌, bit_and, slice_index};
 ghost use Rattle.std.specs.Int.Digits.{AllBelowBase};
 
 use crate::laws::each_frame;
+
+// The numbers of a frame's last six bytes.
+const BACK: u128 = 1 << 48;
 
 /// The 112 bits of an extended squitter (ICAO Annex 10 volume IV, section 3.1.2.3), numbered from 1 to 112: bit 1 is
 /// the most significant bit of byte 0.
@@ -57,9 +60,23 @@ impl Frame {
     {
         let mut bytes = [0; 14];
         for place in 0..14 {
-            bytes[place] = (number >> (104 - 8 * place) & 0xFF) as u8;
+            bytes[place] = Frame::byte_of(number, place);
         }
         Frame(bytes)
+    }
+
+    // A byte of a number of 112 bits, from the one of its two halves that has it: 64 bits are shifted at once.
+    #[inline(always)]
+    fn byte_of(number: u128, place: usize) -> u8
+        requires small { number < 2 ^ 112 }
+        requires within { place < 14 }
+        ensures { result ≡ bit_and (number / 2 ^ (104 - 8 * place)) 255 }
+    {
+        if place < 8 {
+            ((number >> 48) as u64 >> (56 - 8 * place) & 0xFF) as u8
+        } else {
+            ((number % BACK) as u64 >> (104 - 8 * place) & 0xFF) as u8
+        }
     }
 
     /// The bits `first` to `first + count - 1` as a number, the most significant first.
