@@ -108,8 +108,8 @@ pub fn lines_exactly<S: Source>()
         ↔ ((ended_lines read ≡ lines) ⊎ (IsAtEnd (S.to_come new) × (lines_of read ≡ lines))) }
 {}
 
-/// What stands on some lines, by their bytes: `A` is 65, a carriage return 13. One at the end is taken off, and no more;
-/// no bytes are nothing, and more than 64 too many.
+/// What stands on some lines, by their bytes: `A` is 65, a carriage return 13. One at the end is taken off, and no
+/// more; no bytes are nothing, and more than 64 too many.
 pub fn content_in_numbers()
     ensures empty { content [] ≡ Empty }
     ensures returned { content (13 ∷ []) ≡ Empty }

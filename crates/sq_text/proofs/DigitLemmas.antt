@@ -160,7 +160,8 @@ decimals_are : (text : List ℕ) → length text ≡ 16 → decimals text ≡ ma
 decimals_are text long =
     let added = zip2_splat more text 16 198 long in
     let few = zip2_of_maps below (λ x. more x 198) (λ _. 6) text added (splat text long 6) in
-    let raised = chosen_of (λ x. below (more x 198) 6) (λ _. 6) (λ x. more x 198) text _ _ _ few (splat text long 6) added in
+    let raised = chosen_of (λ x. below (more x 198) 6) (λ _. 6) (λ x. more x 198) text _ _ _ few
+    (splat text long 6) added in
     let lowered = zip2_of_maps less (λ x. choice (below (more x 198) 6) 6 (more x 198)) (λ _. 6) text raised
     (splat text long 6) in
     zip2_of_maps less (λ x. less (choice (below (more x 198) 6) 6 (more x 198)) 6) (λ _. 240) text lowered

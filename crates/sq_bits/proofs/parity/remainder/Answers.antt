@@ -8,7 +8,8 @@ use Rattle.sq_bits.proofs.parity.remainder.Goals as goal
 pub append_word-third-requires-clause-small : goal.append_word-third-requires-clause-small
 append_word-third-requires-clause-small c =
     let f : ℕ = c.front-front.result in
-    (c.append_word-second.ensures (f / 2 ^ 48) (IsRemainder-small (f / 2 ^ 48) (omega (arith, c.front-front.type_inv)))).0
+    (c.append_word-second.ensures (f / 2 ^ 48)
+    (IsRemainder-small (f / 2 ^ 48) (omega (arith, c.front-front.type_inv)))).0
 
 pub append_word-fourth-requires-clause-small : goal.append_word-fourth-requires-clause-small
 append_word-fourth-requires-clause-small c =

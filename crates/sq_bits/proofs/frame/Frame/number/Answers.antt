@@ -7,7 +7,8 @@ pub returns-clause-value : goal.returns-clause-value
 returns-clause-value c =
     let f : ℕ = c.front.result in
     let b : ℕ = c.back.result in
-    let kept : c.from.result * 2 ^ 48 % 2 ^ 128 ≡ c.from.result * 2 ^ 48 = omega (arith, c.from.ensures, c.front.type_inv) in
+    let kept : c.from.result * 2 ^ 48 % 2 ^ 128 ≡ c.from.result * 2 ^ 48 =
+    omega (arith, c.from.ensures, c.front.type_inv) in
     let split : f * 2 ^ 48 + b ≡ (((f / 2 ^ 48 * 2 ^ 24 + f / 2 ^ 24 % 2 ^ 24) * 2 ^ 24 + f % 2 ^ 24) * 2 ^ 24
     + b / 2 ^ 24) * 2 ^ 24 + b % 2 ^ 24 = omega arith in
     ap (λ n. bit_or n c.from-2.result) kept
