@@ -1,8 +1,7 @@
 -- Fields are as they were exactly where their bits are.
-use Rattle.std.proofs.Common.{◌≡◌, ℕ, ◌+◌, ◌≤◌, ◌<◌, ◌∷◌, [], refl, sym, ap, ◌∙◌, arith, zero, suc, map}
+use Rattle.std.proofs.Common.{◌≡◌, ℕ, ◌+◌, ◌≤◌, ◌<◌, ◌∷◌, refl, sym, ap, ◌∙◌, arith, zero, suc, map}
 use Rattle.std.specs.List.{range_with_len}
 use Rattle.std.specs.Int.Digits.{number_from_digits}
-use Rattle.std.proofs.lemmas.List.FromFn.{map-range_with_len_more}
 use Rattle.sq_bits.specs.declared.frame.Frame.{Frame}
 use Rattle.sq_bits.specs.Frames.{KeepsFieldsBefore, bit_of, field_of}
 

@@ -1,11 +1,11 @@
 //! A frame and its bit fields.
-ghost use Rattle.std.specs.Prelude.{◌≡◌, ℕ, ◌+◌, ◌-◌, ◌*◌, ◌/◌, ◌%◌, ◌<◌, ◌≤◌, ◌^◌, bit_and, slice_index};
+ghost use Rattle.std.specs.Prelude.{◌≡◌, ℕ, ◌+◌, ◌*◌, ◌/◌, ◌%◌, ◌<◌, ◌≤◌, ◌^◌, slice_index};
 ghost use Rattle.std.specs.Int.Digits.{AllBelowBase};
 
 use crate::laws::each_frame;
 
-// The numbers of a frame's last six bytes.
-const BACK: u128 = 1 << 48;
+// The numbers of three bytes.
+const WORD: u128 = 1 << 24;
 
 /// The 112 bits of an extended squitter (ICAO Annex 10 volume IV, section 3.1.2.3), numbered from 1 to 112: bit 1 is
 /// the most significant bit of byte 0.
@@ -15,7 +15,7 @@ pub struct Frame(pub [u8; 14]);
 impl Frame {
     ghost use Rattle.sq_bits.specs.Frames.{frame_number, field_of, IsApart, IsFrame, word, word_at};
 
-    // The frame as one number of 112 bits.
+    // The frame as one number of 112 bits, from two numbers of eight and six bytes: the quick way for bytes in memory.
     #[inline(always)]
     pub(crate) fn number(&self) -> u128
         ensures value { result ≡ frame_number self.now }
@@ -24,6 +24,23 @@ impl Frame {
     {
         each_frame(self);
         u128::from(self.front()) << 48 | u128::from(self.back())
+    }
+
+    // The same number from five words: the quick way where the bytes were just set, since the compiler sees through it.
+    #[inline(always)]
+    pub(crate) fn number_by_words(&self) -> u128
+        ensures value { result ≡ frame_number self.now }
+        ensures small { result < 2 ^ 112 }
+        ensures frame { IsFrame self.now }
+    {
+        each_frame(self);
+        let bytes = &self.0;
+        let head = u128::from(word_of(0, bytes[0], bytes[1]));
+        let second = u128::from(word_of(bytes[2], bytes[3], bytes[4]));
+        let third = u128::from(word_of(bytes[5], bytes[6], bytes[7]));
+        let fourth = u128::from(word_of(bytes[8], bytes[9], bytes[10]));
+        let fifth = u128::from(word_of(bytes[11], bytes[12], bytes[13]));
+        (((head * WORD + second) * WORD + third) * WORD + fourth) * WORD + fifth
     }
 
     // The first eight bytes as a number: their words of two, three and three bytes.
@@ -60,23 +77,9 @@ impl Frame {
     {
         let mut bytes = [0; 14];
         for place in 0..14 {
-            bytes[place] = Frame::byte_of(number, place);
+            bytes[place] = (number >> (104 - 8 * place) & 0xFF) as u8;
         }
         Frame(bytes)
-    }
-
-    // A byte of a number of 112 bits, from the one of its two halves that has it: 64 bits are shifted at once.
-    #[inline(always)]
-    fn byte_of(number: u128, place: usize) -> u8
-        requires small { number < 2 ^ 112 }
-        requires within { place < 14 }
-        ensures { result ≡ bit_and (number / 2 ^ (104 - 8 * place)) 255 }
-    {
-        if place < 8 {
-            ((number >> 48) as u64 >> (56 - 8 * place) & 0xFF) as u8
-        } else {
-            ((number % BACK) as u64 >> (104 - 8 * place) & 0xFF) as u8
-        }
     }
 
     /// The bits `first` to `first + count - 1` as a number, the most significant first.
@@ -109,9 +112,19 @@ impl Frame {
             → field_of result start len ≡ field_of self.now start len }
     {
         let below = 113 - first - count;
-        let held = u128::from(self.field(first, count)) << below;
-        Frame::from_number(self.number() - held + (u128::from(value) << below))
+        let number = self.number_by_words();
+        let held = (number >> below) % (1 << count) << below;
+        Frame::from_number(number - held + (u128::from(value) << below))
     }
+}
+
+// Three bytes as one number.
+#[inline(always)]
+fn word_of(high: u8, middle: u8, low: u8) -> u32
+    ensures value { result ≡ (high * 256 + middle) * 256 + low }
+    ensures below { result < 2 ^ 24 }
+{
+    (u32::from(high) * 256 + u32::from(middle)) * 256 + u32::from(low)
 }
 
 // What the type says of bytes.

@@ -6,19 +6,29 @@ ghost use Rattle.sq_bits.specs.Parity.{IsMultiple, IsRemainder};
 use crate::frame::Frame;
 use crate::table::{remainder_of_byte, remainder_of_byte_32, remainder_of_byte_40};
 
+// The bits of three bytes.
+const WORD_MASK: u128 = 0xFF_FFFF;
+
 /// The remainder of the frame's polynomial by the generator 0x1FFF409, below 2^24, and 0 exactly for a correct frame
 /// (ICAO Annex 10 volume IV, section 3.1.2.3.3).
 #[inline(always)]
 pub fn remainder(frame: &Frame) -> u32
     ensures { IsRemainder (frame_number frame.now) result }
 {
-    let front = frame.front();
-    let back = frame.back();
-    let first = (front >> 48) as u32;
-    let second = append_word(first, (front >> 24 & 0xFF_FFFF) as u32);
-    let third = append_word(second, (front & 0xFF_FFFF) as u32);
-    let fourth = append_word(third, (back >> 24) as u32);
-    append_word(fourth, (back & 0xFF_FFFF) as u32)
+    remainder_of(frame.number())
+}
+
+// The remainder of the polynomial of a number of 112 bits, three bytes at a time.
+#[inline(always)]
+fn remainder_of(number: u128) -> u32
+    requires { number < 2 ^ 112 }
+    ensures { IsRemainder number result }
+{
+    let first = (number >> 96) as u32;
+    let second = append_word(first, (number >> 72 & WORD_MASK) as u32);
+    let third = append_word(second, (number >> 48 & WORD_MASK) as u32);
+    let fourth = append_word(third, (number >> 24 & WORD_MASK) as u32);
+    append_word(fourth, (number & WORD_MASK) as u32)
 }
 
 // The remainder of a polynomial with 24 more coefficients after the others.
@@ -40,5 +50,6 @@ pub fn sealed(frame: &Frame) -> Frame
     ensures frame { IsFrame result }
     ensures kept { KeepsFieldsBefore 89 frame.now result }
 {
-    Frame::from_number(frame.number() ^ u128::from(remainder(frame)))
+    let number = frame.number_by_words();
+    Frame::from_number(number ^ u128::from(remainder_of(number)))
 }
