@@ -29,11 +29,11 @@ fn overflow_of(remainder: u32) -> u32 {
 
 #[test]
 fn reads_fields(rt: HostRuntime) {
-    assert_eq!(rt; AIR_EVEN.field(1, 5), 17);
-    assert_eq!(rt; AIR_EVEN.field(6, 3), 5);
-    assert_eq!(rt; AIR_EVEN.field(9, 24), 0x40621D);
-    assert_eq!(rt; AIR_EVEN.field(33, 56), 0x58C382D690C8AC);
-    assert_eq!(rt; AIR_EVEN.field(112, 1), 1);
+    assert!(rt; AIR_EVEN.field(1, 5) == 17);
+    assert!(rt; AIR_EVEN.field(6, 3) == 5);
+    assert!(rt; AIR_EVEN.field(9, 24) == 0x40621D);
+    assert!(rt; AIR_EVEN.field(33, 56) == 0x58C382D690C8AC);
+    assert!(rt; AIR_EVEN.field(112, 1) == 1);
 }
 
 #[test]
@@ -49,9 +49,9 @@ fn writes_fields(rt: HostRuntime) {
 
 #[test]
 fn takes_remainders_of_single_bits(rt: HostRuntime) {
-    assert_eq!(rt; remainder(&ZERO), 0);
+    assert!(rt; remainder(&ZERO) == 0);
     for (bit, want) in [(112, 1), (88, 0xFFF409), (87, 0x001C1B), (81, 0x0706C0)] {
-        assert_eq!(rt; remainder(&ZERO.with_field(bit, 1, 1)), want);
+        assert!(rt; remainder(&ZERO.with_field(bit, 1, 1)) == want);
     }
 }
 
@@ -64,13 +64,13 @@ fn takes_remainders_of_bytes(rt: HostRuntime) {
         (3, 0xFFE812),
         (128, 0x0706C0),
     ] {
-        assert_eq!(rt; remainder(&ZERO.with_field(81, 8, byte)), want);
+        assert!(rt; remainder(&ZERO.with_field(81, 8, byte)) == want);
     }
 }
 
 #[test]
 fn seals(rt: HostRuntime) {
-    assert_eq!(rt; remainder(&AIR_EVEN), 0);
+    assert!(rt; remainder(&AIR_EVEN) == 0);
     assert!(rt; sealed(&AIR_EVEN.with_field(89, 24, 0)) == AIR_EVEN);
     assert!(rt; sealed(&AIR_EVEN) == AIR_EVEN);
 }
@@ -83,8 +83,11 @@ fn agrees_with_the_plain_remainder(rt: HostRuntime) {
         frame = frame
             .with_field(1, 56, frame.field(50, 56))
             .with_field(57, 56, mixed);
-        assert_eq!(rt; remainder(&frame), plain_remainder(&frame), "round {round}");
-        assert_eq!(rt; remainder(&sealed(&frame)), 0);
+        assert!(rt;
+            remainder(&frame) == plain_remainder(&frame),
+            "round {round}"
+        );
+        assert!(rt; remainder(&sealed(&frame)) == 0);
     }
 }
 
@@ -98,6 +101,6 @@ fn adds_remainders(rt: HostRuntime) {
     assert!(rt; laws::equal_frames(&AIR_EVEN, &AIR_EVEN) && !laws::equal_frames(&AIR_EVEN, &ZERO));
     for bit in 1..=112u8 {
         let flipped = AIR_EVEN.with_field(bit, 1, AIR_EVEN.field(bit, 1) ^ 1);
-        assert_eq!(rt; remainder(&flipped), remainder(&ZERO.with_field(bit, 1, 1)));
+        assert!(rt; remainder(&flipped) == remainder(&ZERO.with_field(bit, 1, 1)));
     }
 }

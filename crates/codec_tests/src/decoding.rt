@@ -82,9 +82,9 @@ fn zone_counts_of_a_southern_pair(rt: HostRuntime) {
     let (even, odd) = codes((115_609, 116_941), (39_199, 110_269)).expect(&rt, "codes");
     for (newest, zones) in [(Even, 47), (Odd, 46)] {
         let point = pair_ground(even, odd, newest, &site).expect(&rt, "a point");
-        assert_eq!(rt; point.zones(), zones);
+        assert!(rt; point.zones() == zones);
         let lat = point.position().lat();
         assert!(rt; lat.is_within(90));
-        assert_eq!(rt; zone_count(&lat), 47);
+        assert!(rt; zone_count(&lat) == 47);
     }
 }

@@ -120,7 +120,7 @@ fn worked_latitudes(rt: HostRuntime) {
         (-90, 1, 1),
     ];
     for (num, den, zones) in rows {
-        assert_eq!(rt; count_at(num, den), Some(zones), "{num} / {den}");
+        assert!(rt; count_at(num, den) == Some(zones), "{num} / {den}");
     }
 }
 
@@ -138,14 +138,14 @@ fn worked_longitude_zones(rt: HostRuntime) {
     for (num, parity, zones) in rows {
         let lat = Angle::new(num, 1).expect(&rt, "an angle");
         assert!(rt; lat.is_within(90));
-        assert_eq!(rt; lon_zones(&lat, parity), zones, "{num}");
+        assert!(rt; lon_zones(&lat, parity) == zones, "{num}");
     }
 }
 
 #[test]
 fn parity_indices(rt: HostRuntime) {
-    assert_eq!(rt; Parity::Even.index(), 0);
-    assert_eq!(rt; Parity::Odd.index(), 1);
+    assert!(rt; Parity::Even.index() == 0);
+    assert!(rt; Parity::Odd.index() == 1);
     assert!(rt; equal_parities(&Parity::Odd, &Parity::Odd));
     assert!(rt; !equal_parities(&Parity::Odd, &Parity::Even));
 }

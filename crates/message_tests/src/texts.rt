@@ -129,7 +129,7 @@ fn is_summed_up(rt: &impl Abort, row: &str) -> bool {
 
 #[test]
 fn sums_squitters_up(rt: HostRuntime) {
-    assert_eq!(rt; SUMMARIES.lines().count(), 5);
+    assert!(rt; SUMMARIES.lines().count() == 5);
     for row in SUMMARIES.lines() {
         assert!(rt; is_summed_up(&rt, row), "{row}");
     }

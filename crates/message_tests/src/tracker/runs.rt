@@ -11,7 +11,7 @@ use std::test::Fail;
 fn makes_trackers(rt: HostRuntime) -> Result<(), Fail> {
     assert!(rt; Tracker::new(rt.alloc(), 0, 10_000, None).err() == Some(TrackFault::NoLimit));
     let tracker = Tracker::new(rt.alloc(), 1, 0, None)?;
-    assert_eq!(rt; tracker.len(), 0);
+    assert!(rt; tracker.len() == 0);
     assert!(rt; tracker.get(0).is_none());
     Ok(())
 }

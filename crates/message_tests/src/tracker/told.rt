@@ -44,7 +44,7 @@ pub fn hear(tracker: &mut Tracker, moment: u64, squitter: &Squitter) -> Told {
 
 // Asserts that a tracker shows these addresses, each with its moment, and no other.
 pub fn assert_table(rt: &impl Abort, tracker: &Tracker, table: &[(u32, u64)]) {
-    assert_eq!(rt; tracker.len(), table.len());
+    assert!(rt; tracker.len() == table.len());
     for index in 0..=table.len() {
         assert!(rt; tracker.get(index) == table.get(index).copied());
     }
