@@ -15,8 +15,9 @@ pub mod laws;
 mod tests;
 
 pub use fault::Fault;
+pub use sq_angle::Position;
+pub use sq_message::Place;
 use sq_message::laws::headline;
-pub use sq_message::{Place, Position};
 use sq_message::{Squitter, place_local, place_pair};
 use sq_text::laws::one_squitter_reading;
 use sq_text::{LineFault, read_squitter};

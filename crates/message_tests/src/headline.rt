@@ -1,7 +1,8 @@
 //! Worked positions sent, read and sent again: the calls that the headline speaks of, one after the other.
 use crate::samples::{AIR_EVEN, AIR_ODD, GROUND_EVEN, GROUND_ODD, IDENTITY, position, read};
 use crate::sending::{air_head, ground_head};
-use sq_message::{Frame, Parity, Position, laws, place_local, place_pair, read_frame, worked};
+use sq_angle::Position;
+use sq_message::{Frame, Parity, laws, place_local, place_pair, read_frame, worked};
 use std::process::Abort;
 
 // The even position on the ground with this head: 8C4841753800038733C8CDE5B7BB.

@@ -2,9 +2,10 @@
 ghost use Rattle.std.specs.Prelude.{◌≡◌, None};
 ghost use Rattle.squitter_tracker.specs.Trackers.{IsMade, IsMadeAt};
 
+use sq_angle::Position;
 use sq_plain::{Fault, NONE, PlainPosition, Refusal, position_of};
 use sq_seal::Slot;
-use sq_track::{Position, Tracker};
+use sq_track::Tracker;
 use std::alloc::Global;
 
 /// Makes an empty tracker without a site, for up to `limit` addresses and a window of so many milliseconds, or of

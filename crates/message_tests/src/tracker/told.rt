@@ -1,5 +1,6 @@
 //! What a tracker answers, with a place as its position.
-use sq_track::{Heard, Position, Squitter, TrackFault, Tracker};
+use sq_angle::Position;
+use sq_track::{Heard, Squitter, TrackFault, Tracker};
 use std::process::Abort;
 
 // What a call answers.

@@ -3,8 +3,9 @@
 //! sender stands.
 use super::told::Told;
 use crate::samples::{AIR, position, sent_in_air, sent_on_ground};
+use sq_angle::Position;
 use sq_message::Parity;
-use sq_track::{Position, Received, Squitter, TrackFault, Tracker, hear_each, worked};
+use sq_track::{Received, Squitter, TrackFault, Tracker, hear_each, worked};
 use std::alloc::Global;
 use std::process::Abort;
 use std::test::Fail;
