@@ -383,7 +383,7 @@
 	movi	v0.2d, #0000000000000000
 	ldrb	w12, [x3, #8]
 	ldrb	w11, [x3, #9]
-	ldur	w10, [x3, #10]
+	ldur	w9, [x3, #10]
 	str	xzr, [sp, #304]
 	rev	x22, x8
 	lsr	x25, x22, #59
@@ -391,67 +391,67 @@
 	cmp	x25, #17
 	b.ne	.LBB3_6
 	mov	w8, #572
-	lsr	x9, x22, #46
+	lsr	x10, x22, #46
 	lsr	x14, x22, #24
 	and	x13, x8, x22, lsr #54
 	adrp	x8, .Lstatic.1
 	add	x8, x8, :lo12:.Lstatic.1
-	and	x15, x9, #0x3fc
-	adrp	x9, .Lstatic.2
-	add	x9, x9, :lo12:.Lstatic.2
+	and	x15, x10, #0x3fc
+	adrp	x10, .Lstatic.2
+	add	x10, x10, :lo12:.Lstatic.2
 	ldr	w13, [x8, x13]
-	ldr	w15, [x9, x15]
+	ldr	w15, [x10, x15]
 	lsl	x12, x12, #16
-	adrp	x16, .Lstatic.0
-	add	x16, x16, :lo12:.Lstatic.0
 	eor	w13, w13, w14
 	orr	x11, x12, x11, lsl #24
 	eor	w13, w13, w15
 	lsr	w14, w13, #14
 	lsr	w15, w13, #6
-	ubfiz	x13, x13, #2, #8
-	orr	x10, x11, x10, lsl #32
-	and	x14, x14, #0x3fc
+	ubfiz	x12, x13, #2, #8
+	orr	x9, x11, x9, lsl #32
+	and	x13, x14, #0x3fc
+	adrp	x14, .Lstatic.0
+	add	x14, x14, :lo12:.Lstatic.0
 	and	x15, x15, #0x3fc
-	ldr	w13, [x9, x13]
-	ldr	w14, [x16, x14]
+	ldr	w13, [x14, x13]
+	ldr	w12, [x10, x12]
 	ldr	w15, [x8, x15]
-	rev	x10, x10
-	eor	w13, w13, w22
-	eor	w12, w14, w15
-	lsr	x14, x10, #24
-	eor	w11, w12, w13
+	eor	w12, w12, w22
+	eor	w11, w13, w15
+	rev	x13, x9
+	eor	w11, w11, w12
+	orr	x9, x13, x22, lsl #48
+	and	w13, w13, #0xffffff
 	lsr	w12, w11, #14
-	lsr	w13, w11, #6
+	lsr	w15, w11, #6
 	ubfiz	x11, x11, #2, #8
+	lsr	x16, x9, #24
 	and	x12, x12, #0x3fc
-	and	x13, x13, #0x3fc
-	ldr	w11, [x9, x11]
-	ldr	w12, [x16, x12]
-	ldr	w13, [x8, x13]
-	eor	w12, w12, w14
-	eor	w11, w13, w11
+	and	x15, x15, #0x3fc
+	ldr	w11, [x10, x11]
+	ldr	w12, [x14, x12]
+	ldr	w15, [x8, x15]
+	eor	w12, w12, w16
+	eor	w11, w15, w11
 	eor	w11, w12, w11
 	lsr	w12, w11, #6
-	ubfiz	x13, x11, #2, #8
+	ubfiz	x15, x11, #2, #8
 	lsr	w11, w11, #14
 	and	x12, x12, #0x3fc
-	ldr	w9, [x9, x13]
-	and	w13, w10, #0xffffff
+	ldr	w10, [x10, x15]
 	and	x11, x11, #0x3fc
 	ldr	w12, [x8, x12]
-	ldr	w8, [x16, x11]
-	eor	w9, w13, w9
-	eor	w9, w12, w9
-	cmp	w8, w9
+	ldr	w8, [x14, x11]
+	eor	w10, w13, w10
+	eor	w10, w12, w10
+	cmp	w8, w10
 	b.ne	.LBB3_7
 	lsr	x12, x22, #16
-	orr	x9, x10, x22, lsl #48
 	ubfx	x24, x22, #56, #3
 	ubfx	x18, x22, #32, #24
-	extr	x11, x12, x9, #24
-	ubfx	x8, x11, #51, #5
-	and	x27, x11, #0xffffffffffffff
+	extr	x10, x12, x9, #24
+	ubfx	x8, x10, #51, #5
+	and	x27, x10, #0xffffffffffffff
 	cmp	x8, #5
 	b.hs	.LBB3_8
 	mov	w3, wzr
@@ -469,12 +469,12 @@
 	mov	w8, #5
 	b	.LBB3_187
 .LBB3_7:
-	eor	w25, w9, w8
+	eor	w25, w10, w8
 	mov	w8, #6
 	b	.LBB3_187
 .LBB3_8:
-	lsr	x10, x27, #51
-	cmp	x10, #8
+	lsr	x11, x27, #51
+	cmp	x11, #8
 	b.hi	.LBB3_10
 	lsr	w13, w22, #3
 	lsr	w14, w22, #12
@@ -491,14 +491,14 @@
 	orr	x27, x15, x16
 	orr	w12, w13, w12
 	mov	w23, wzr
-	and	x13, x11, #0x1ffff
+	and	x13, x10, #0x1ffff
 	bfxil	x27, x9, #59, #1
-	orr	w14, w12, w10
+	orr	w14, w12, w11
 	mov	w3, #1
 	mov	w21, #1
 	b	.LBB3_14
 .LBB3_10:
-	cmp	x10, #19
+	cmp	x11, #19
 	b.lo	.LBB3_13
 	mov	x13, xzr
 	mov	w3, wzr
@@ -506,7 +506,7 @@
 	mov	w21, #2
 	mov	w8, #1
 	b.eq	.LBB3_56
-	cmp	x10, #22
+	cmp	x11, #22
 	mov	w23, w3
 	mov	w14, w3
 	b.hi	.LBB3_14
@@ -517,7 +517,7 @@
 	extr	x9, x12, x9, #60
 	lsr	w12, w22, #8
 	lsr	w16, w22, #17
-	orr	x11, x13, x11, lsl #32
+	orr	x10, x13, x10, lsl #32
 	and	x13, x14, #0x100000000
 	and	x14, x15, #0x10000
 	orr	x27, x13, x14
@@ -528,8 +528,8 @@
 	mov	w8, wzr
 	mov	w3, wzr
 	mov	w21, wzr
-	and	x13, x11, #0x1ffff0001ffff
-	orr	w14, w12, w10
+	and	x13, x10, #0x1ffff0001ffff
+	orr	w14, w12, w11
 	mov	w23, #1
 .LBB3_14:
 	ldrb	w9, [x28, #56]
