@@ -15,6 +15,7 @@ returns-clause-kept c start len begins within =
     let kept = upper_kept c.number_by_words-number.result c.from.result (omega (arith, c.remainder_of.ensures.0)) in
     sym (quotient_is c.from_number.result start len c.from_number.ensures.frame begins (omega arith))
     ∙ ap (λ x. field_at x start len) c.from_number.ensures.value
-    ∙ upper_field (bit_xor c.number_by_words-number.result c.from.result) c.number_by_words-number.result start len kept begins within
+    ∙ upper_field (bit_xor c.number_by_words-number.result c.from.result) c.number_by_words-number.result
+    start len kept begins within
     ∙ ap (λ x. field_at x start len) c.number_by_words-number.ensures.value
     ∙ quotient_is c.args.frame.now start len c.number_by_words-number.ensures.frame begins (omega arith)
