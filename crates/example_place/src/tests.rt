@@ -46,6 +46,14 @@ fn refuses_texts_and_places(rt: HostRuntime) {
     assert!(rt; other == Err(Fault::OfPlace(PlaceFault::NotPosition)));
 }
 
+#[test]
+fn compares_faults(rt: HostRuntime) {
+    let damaged = Fault::OfText(LineFault::Parity(1));
+    assert!(rt; laws::equal_faults(&damaged, &Fault::OfText(LineFault::Parity(1))));
+    assert!(rt; !laws::equal_faults(&damaged, &Fault::OfText(LineFault::Parity(2))));
+    assert!(rt; !laws::equal_faults(&damaged, &Fault::OfPlace(PlaceFault::NotPosition)));
+}
+
 // What a fault's Display writes.
 fn shown(alloc: Global, fault: Fault) -> String {
     format!(in alloc; "{fault}").unwrap_or(String::new(alloc))
