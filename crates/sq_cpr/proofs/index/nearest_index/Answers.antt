@@ -1,5 +1,5 @@
 use Rattle.std.proofs.Common.{◌≡◌, ℕ, ◌*◌, ◌<◌, ◌≤◌, ◌^◌, ℤ, pos, ◌+ℤ◌, ◌*ℤ◌, ◌≤ℤ◌, ◌<ℤ◌, unsigned_abs, to_z, of_z}
-use Rattle.std.proofs.Common.{arith, ap, ap₂, ◌∙◌, subst₂, w64, mul-le-mul_right}
+use Rattle.std.proofs.Common.{arith, ap, ap₂, sym, subst, ◌∙◌, subst₂, w64, mul-le-mul_right}
 use Rattle.std.specs.Int.{w128}
 use Rattle.std.proofs.lemmas.Int.{ints}
 use Rattle.std.proofs.lemmas.Nat.{mul-le}
@@ -8,6 +8,60 @@ use Rattle.sq_angle.proofs.Rounding.{IsRounded, nearest_from_rounded}
 use Rattle.sq_angle.proofs.Sizes.{mul_pos, scaled_size}
 use Rattle.sq_cpr.proofs.Grids.Indices.{rounded_small}
 use Rattle.sq_cpr.proofs.index.nearest_index.Goals as goal
+
+-- Half a step, as the code computes it, is small.
+half_small_of : (den span d s : ℕ) → d ≡ den → s ≡ span → den ≤ 1000000000000 → span ≤ 360
+    → d * s ≤ 1000000000000 * 360
+half_small_of den span d s same alike small few =
+    omega (arith, ap₂ (λ (m n : ℕ). m * n) same alike, mul-le den span 1000000000000 360 small few)
+
+pub overflow_mul-half : goal.overflow_mul-half
+overflow_mul-half c =
+    let small = half_small_of c.args.angle.now.den c.args.span c.den.result c.from.result c.den.ensures c.from.ensures
+    c.args.angle.now.in_range.at_most c.requires.span_small in
+    omega (arith, small)
+
+pub scaled-steps-requires : goal.scaled-steps-requires
+scaled-steps-requires c =
+    let num : ℤ = c.args.angle.now.num in
+    let value : to_z w128 (of_z w128 c.from-3.result) ≡ num =
+    omega (arith, ints, c.args.angle.now.in_range.within, c.args.angle.now.in_range.at_most) in
+    let wide : 2 * (c.from-2.result * 131072) * unsigned_abs num ≤ 2 * (60 * 131072) * (360 * 1000000000000) =
+    mul-le (2 * (c.from-2.result * 131072)) (unsigned_abs num) (2 * (60 * 131072)) (360 * 1000000000000)
+    (omega (arith, c.from-2.ensures, c.requires.zones_small))
+    (omega (arith, c.args.angle.now.in_range.within, c.args.angle.now.in_range.at_most)) in
+    subst (λ z. 2 * (c.from-2.result * 131072) * unsigned_abs z < 2 ^ 127) (sym value) (omega (arith, wide))
+
+-- The steps, as the code scales them, have a bound.
+steps_small : (zones : ℕ) (z steps : ℤ) → zones ≤ 60 → unsigned_abs z ≤ 360 * 1000000000000
+    → steps ≡ pos (2 * (zones * 131072)) *ℤ z → unsigned_abs steps ≤ 2 * (60 * 131072) * (360 * 1000000000000)
+steps_small zones z steps few small is =
+    subst (λ s. unsigned_abs s ≤ 2 * (60 * 131072) * (360 * 1000000000000)) (sym is)
+    (scaled_size (2 * (zones * 131072)) (2 * (60 * 131072)) (360 * 1000000000000) z (omega (arith, few)) small)
+
+pub overflow_add-steps : goal.overflow_add-steps
+overflow_add-steps c =
+    let small = half_small_of c.args.angle.now.den c.args.span c.den.result c.from.result c.den.ensures c.from.ensures
+    c.args.angle.now.in_range.at_most c.requires.span_small in
+    let value : to_z w128 (of_z w128 c.from-3.result) ≡ c.args.angle.now.num =
+    omega (arith, ints, c.args.angle.now.in_range.within, c.args.angle.now.in_range.at_most) in
+    let steps = steps_small c.from-2.result (to_z w128 (of_z w128 c.from-3.result)) c.scaled-steps.result
+    (omega (arith, c.from-2.ensures, c.requires.zones_small))
+    (subst (λ z. unsigned_abs z ≤ 360 * 1000000000000) (sym value)
+    (omega (arith, c.args.angle.now.in_range.within, c.args.angle.now.in_range.at_most))) c.scaled-steps.ensures in
+    omega (arith, ints, steps, c.from-4.ensures, small)
+
+pub quotient_down-requires-clause-value_small : goal.quotient_down-requires-clause-value_small
+quotient_down-requires-clause-value_small c =
+    let small = half_small_of c.args.angle.now.den c.args.span c.den.result c.from.result c.den.ensures c.from.ensures
+    c.args.angle.now.in_range.at_most c.requires.span_small in
+    let value : to_z w128 (of_z w128 c.from-3.result) ≡ c.args.angle.now.num =
+    omega (arith, ints, c.args.angle.now.in_range.within, c.args.angle.now.in_range.at_most) in
+    let steps = steps_small c.from-2.result (to_z w128 (of_z w128 c.from-3.result)) c.scaled-steps.result
+    (omega (arith, c.from-2.ensures, c.requires.zones_small))
+    (subst (λ z. unsigned_abs z ≤ 360 * 1000000000000) (sym value)
+    (omega (arith, c.args.angle.now.in_range.within, c.args.angle.now.in_range.at_most))) c.scaled-steps.ensures in
+    omega (arith, ints, steps, c.from-4.ensures, small)
 
 module _ (c : goal.After-quotient_down) where
   num : ℤ
