@@ -26,7 +26,7 @@ pub fn local<S: Span>(
 {
     let span = degrees_of::<S>();
     let lat_index = index_within(
-        code.lat() as i128,
+        code.lat() as i64,
         1,
         lat_zones(parity),
         span,
@@ -36,7 +36,7 @@ pub fn local<S: Span>(
         return Err(LocalFault::OutOfRange);
     };
     let zones = lon_zones(&lat, parity);
-    let turned = index_within(code.lon() as i128, 1, zones, span, &reference.lon());
+    let turned = index_within(code.lon() as i64, 1, zones, span, &reference.lon());
     let lon_index = on_circle(i64::from(turned), zones, repeats_of::<S>());
     Ok(GridPoint::of_parts(parity, lat_index, zones, lon_index))
 }

@@ -57,7 +57,10 @@ fn zones_of(parity: Parity, count: u8) -> u8
     ensures at_least { 1 ≤ result }
     ensures at_most { result ≤ 59 }
 {
-    (count - parity.index()).max(1)
+    match parity {
+        Parity::Even => count,
+        Parity::Odd => (count - 1).max(1),
+    }
 }
 
 // The close latitudes of two codes, each by its representative at the reference.

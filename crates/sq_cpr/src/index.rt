@@ -1,7 +1,8 @@
 //! Indices of a grid: the nearest to an angle, and which of those of a code is meant, the one within half a window of a
 //! reference or the one of a close pair.
 //!
-//! All numbers are whole. One function multiplies, divides or subtracts once, so that each fits 128 bits visibly.
+//! All numbers are whole. Near a reference, whose fraction may be long, one function multiplies, divides or subtracts
+//! once, so that each fits 128 bits visibly; near 0 degrees 64 bits do.
 ghost use Rattle.std.specs.Prelude.{◌≡◌, ℕ, ◌*◌, ◌^◌, ◌<◌, ◌≤◌, ℤ, pos, ◌+ℤ◌, ◌-ℤ◌, ◌*ℤ◌, ◌≤ℤ◌, ◌<ℤ◌, neg_ℤ};
 ghost use Rattle.std.specs.Prelude.{unsigned_abs};
 ghost use Rattle.sq_angle.specs.Angle.{degrees};
@@ -64,6 +65,18 @@ fn far_quotient(value: i128, divisor: u128) -> i128
     quotient_down(value, divisor)
 }
 
+// The quotient of 64 bits, rounded down, where it is seldom needed.
+#[cold]
+#[inline(never)]
+fn rare_quotient(value: i64, divisor: u64) -> i64
+    requires divisor_some { 0 < divisor }
+    requires divisor_small { divisor < 2 ^ 62 }
+    ensures reached { (pos divisor *ℤ result) ≤ℤ value }
+    ensures next { value <ℤ (pos divisor *ℤ result +ℤ pos divisor) }
+{
+    short_quotient(value, divisor as i64)
+}
+
 // How many times `2 * width` is to be taken from `2 * away`, to come into (-width, width].
 fn turns(away: i128, width: u128) -> i128
     requires away_small { unsigned_abs away < 2 ^ 100 }
@@ -103,7 +116,44 @@ fn distance(index: i128, zones: u8, span: u32, reference: &Angle) -> i128
 }
 
 /// Of the indices `count` zones apart, the one within half that many zones of the reference.
-pub(crate) fn index_within(base: i128, count: u8, zones: u8, span: u32, reference: &Angle) -> i32
+pub(crate) fn index_within(base: i64, count: u8, zones: u8, span: u32, reference: &Angle) -> i32
+    requires base_small { unsigned_abs base < 2 ^ 44 }
+    requires some { 0 < count }
+    requires count_small { count ≤ 60 }
+    requires zones_small { zones ≤ 60 }
+    requires span_some { 0 < span }
+    requires span_small { span ≤ 360 }
+    requires reference_small { IsWithin 180 (degrees reference.now) }
+    ensures congruent { IsCongruent (count * codes_of_zone) result base }
+    ensures within { LiesWithin count span zones result (degrees reference.now) }
+{
+    // At 0 degrees, where pairs in the air are, the degrees of a step fall away.
+    if reference.num() == 0 {
+        return index_at_zero(base, count) as i32;
+    }
+    index_at(i128::from(base), count, zones, span, reference)
+}
+
+// Of the indices `count` zones apart, the one within half that many zones of 0.
+fn index_at_zero(base: i64, count: u8) -> i64
+    requires base_small { unsigned_abs base < 2 ^ 44 }
+    requires some { 0 < count }
+    requires count_small { count ≤ 60 }
+    ensures congruent { IsCongruent (count * codes_of_zone) result base }
+    ensures above { neg_ℤ (pos (count * codes_of_zone)) <ℤ (pos 2 *ℤ result) }
+    ensures at_most { (pos 2 *ℤ result) ≤ℤ pos (count * codes_of_zone) }
+{
+    let period = count as u64 * CODES;
+    let above = 2 * base + (period as i64 - 1);
+    // What is there already, as most indices are, needs no division.
+    if 0 <= above && above < 2 * period as i64 {
+        return base;
+    }
+    base - period as i64 * rare_quotient(above, 2 * period)
+}
+
+// Of the indices `count` zones apart, the one within half that many zones of any reference.
+fn index_at(base: i128, count: u8, zones: u8, span: u32, reference: &Angle) -> i32
     requires base_small { unsigned_abs base < 2 ^ 44 }
     requires some { 0 < count }
     requires count_small { count ≤ 60 }
@@ -121,30 +171,29 @@ pub(crate) fn index_within(base: i128, count: u8, zones: u8, span: u32, referenc
 }
 
 /// How many zones a close pair lies above its codes.
-pub(crate) fn pair_zone(even_zones: u8, odd_zones: u8, even: u32, odd: u32) -> i128
+pub(crate) fn pair_zone(even_zones: u8, odd_zones: u8, even: u32, odd: u32) -> i64
     requires even_zones_small { even_zones ≤ 60 }
     requires odd_zones_small { odd_zones ≤ 60 }
     requires even_small { even < 2 ^ 17 }
     requires odd_small { odd < 2 ^ 17 }
     ensures zone { IsZoneIndex even_zones odd_zones even odd result }
-    ensures small { unsigned_abs result < 2 ^ 24 }
+    ensures small { unsigned_abs result ≤ 120 }
 {
     let above = odd_zones as u64 * even as u64;
     let below = even_zones as u64 * odd as u64;
-    quotient_down(
-        above as i128 - below as i128 + CODES as i128 / 2,
-        CODES as u128,
-    )
+    // With 60 zones more there is no sign, and the division is a shift.
+    let raised = above + (60 * CODES + CODES / 2) - below;
+    (raised / CODES) as i64 - 60
 }
 
 /// The index of a code, so many zones up.
-pub(crate) fn index_of(code: u32, zone: i128) -> i128
+pub(crate) fn index_of(code: u32, zone: i64) -> i64
     requires code_small { code < 2 ^ 17 }
-    requires zone_small { unsigned_abs zone < 2 ^ 24 }
+    requires zone_small { unsigned_abs zone ≤ 120 }
     ensures value { result ≡ pos code +ℤ pos codes_of_zone *ℤ zone }
     ensures small { unsigned_abs result < 2 ^ 44 }
 {
-    code as i128 + CODES as i128 * zone
+    code as i64 + CODES as i64 * zone
 }
 
 // The nearest whole number of steps, of which `zones * 2^17` make the span.

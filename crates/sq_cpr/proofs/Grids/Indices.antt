@@ -1,11 +1,11 @@
 -- The index that a window leaves, over plain numbers.
 use Rattle.std.proofs.Common.{◌≡◌, ℕ, ◌*◌, ◌<◌, ◌≤◌, ℤ, pos, neg_ℤ, ◌+ℤ◌, ◌-ℤ◌, ◌*ℤ◌, ◌≤ℤ◌, ◌<ℤ◌, unsigned_abs, arith}
-use Rattle.std.proofs.Common.{◌^◌, subst, mul-le-mul_right, le_of_mul-le-mul_right}
+use Rattle.std.proofs.Common.{◌^◌, subst, mul_comm, mul-le-mul_right, le_of_mul-le-mul_right}
 use Rattle.std.proofs.Math.IntN.{negsuc}
 use Rattle.std.proofs.lemmas.Int.{ints, unsigned_abs-mul}
 use Rattle.std.specs.Int.{int_div_euclid}
 use Rattle.sq_angle.specs.Fraction.{Fraction, IsWithin}
-use Rattle.sq_angle.specs.Scale.{scales}
+use Rattle.sq_angle.specs.Scale.{scales, scale_comm, scale-le, scale-lt, scale-neg, scale-scale}
 use Rattle.sq_angle.proofs.Rounding.{IsRounded}
 use Rattle.sq_angle.proofs.Sizes.{mul_pos, scaled_size}
 use Rattle.sq_angle.proofs.Windows.{quotient_down_parts}
@@ -17,6 +17,30 @@ pub settled : (count step steps : ℕ) (base num turns : ℤ) →
     pos 2 *ℤ (pos step *ℤ (base +ℤ pos (count * codes_of_zone) *ℤ neg_ℤ turns) -ℤ pos steps *ℤ num)
     ≡ pos 2 *ℤ (pos step *ℤ base -ℤ pos steps *ℤ num) -ℤ pos (2 * (count * codes_of_zone * step)) *ℤ turns
 settled count step steps base num turns = simp scales (omega (arith, ints))
+
+-- The index that half a period around 0 leaves, where the quotient is taken of twice the base.
+pub settled_at_zero : (period : ℕ) (base q : ℤ) → 0 < period →
+    (pos (2 * period) *ℤ q) ≤ℤ (pos 2 *ℤ base +ℤ (pos period -ℤ pos 1))
+    → (pos 2 *ℤ base +ℤ (pos period -ℤ pos 1)) <ℤ (pos (2 * period) *ℤ q +ℤ pos (2 * period)) →
+    (neg_ℤ (pos period) <ℤ (pos 2 *ℤ (base -ℤ pos period *ℤ q))) × ((pos 2 *ℤ (base -ℤ pos period *ℤ q)) ≤ℤ pos period)
+settled_at_zero period base q h low high =
+    let e : pos 2 *ℤ (pos period *ℤ q) ≡ pos (2 * period) *ℤ q = scale-scale 2 period q in
+    (omega (arith, ints), omega (arith, ints))
+
+-- within half a period of 0, as the window of a reference at 0 degrees has it
+pub within_at_zero : (count degrees zones : ℕ) (index : ℤ) (r : Fraction) → r.num ≡ pos 0 → 0 < degrees → 0 < r.den
+    → neg_ℤ (pos (count * codes_of_zone)) <ℤ (pos 2 *ℤ index) → (pos 2 *ℤ index) ≤ℤ pos (count * codes_of_zone)
+    → LiesWithin count degrees zones index r
+within_at_zero count degrees zones index r e d p low high =
+    let unit : ℕ = degrees * r.den in
+    let period : ℕ = count * codes_of_zone in
+    let none : pos (zones * codes_of_zone) *ℤ r.num ≡ pos 0 = rw e (omega (arith, ints)) in
+    let twice : pos unit *ℤ (pos 2 *ℤ index) ≡ pos 2 *ℤ (pos unit *ℤ index) = scale_comm unit 2 index in
+    let width : pos unit *ℤ pos period ≡ pos (period * unit) = omega (arith, ints, mul_comm unit period) in
+    let back : pos unit *ℤ neg_ℤ (pos period) ≡ neg_ℤ (pos unit *ℤ pos period) = scale-neg unit (pos period) in
+    let under = scale-lt unit (neg_ℤ (pos period)) (pos 2 *ℤ index) (mul_pos degrees r.den d p) low in
+    let over = scale-le unit (pos 2 *ℤ index) (pos period) high in
+    (omega (arith, ints), omega (arith, ints))
 
 -- An index within half a span of a reference is below 2^31.
 abs_at_most : (a : ℤ) (n : ℕ) → a ≤ℤ pos n → neg_ℤ (pos n) ≤ℤ a → unsigned_abs a ≤ n

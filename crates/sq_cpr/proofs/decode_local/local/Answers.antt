@@ -1,6 +1,6 @@
 use Rattle.std.proofs.Common.{◌≡◌, ◌∙◌, pos, to_z, of_z, ap, arith, refl, true, false}
 use Rattle.std.proofs.lemmas.Int.{ints}
-use Rattle.std.specs.Int.{w128, w64}
+use Rattle.std.specs.Int.{w64}
 use Rattle.sq_angle.specs.Angle.{degrees}
 use Rattle.sq_angle.specs.Position.{lat_of, lon_of}
 use Rattle.sq_angle.specs.Whole.{IsCongruent}
@@ -16,7 +16,7 @@ use Rattle.sq_cpr.proofs.decode_local.local.Given.{Over}
 
 pub returns-in_default : goal.returns-in_default
 returns-in_default g c =
-    let base_is : to_z w128 c.lat.result ≡ pos c.args.code.lat =
+    let base_is : to_z w64 c.lat.result ≡ pos c.args.code.lat =
     rw c.lat.ensures.value (omega (arith, ints, c.args.code.lat_below)) in
     let near =
     near_latitude c.degrees_of-span.result c.lat_zones.result c.args.code.lat c.args.parity
@@ -50,7 +50,7 @@ module _ (g : Over) (c : goal.After-of_parts g) where
   near : IsNearLatitude g.S.Span.span.degrees c.args.parity
       (degrees (lat_of c.args.reference.now)) c.args.code.lat c.of_parts.result.lat_index
   near =
-      let base_is : to_z w128 c.lat.result ≡ pos c.args.code.lat =
+      let base_is : to_z w64 c.lat.result ≡ pos c.args.code.lat =
       rw c.lat.ensures.value (omega (arith, ints, c.args.code.lat_below)) in
       rw (index_is, ← c.degrees_of-span.ensures.value)
       (near_latitude c.degrees_of-span.result c.lat_zones.result c.args.code.lat c.args.parity
@@ -72,7 +72,7 @@ module _ (g : Over) (c : goal.After-of_parts g) where
 
 pub returns : goal.returns
 returns g c =
-    let base_is : to_z w128 c.lon.result ≡ pos c.args.code.lon =
+    let base_is : to_z w64 c.lon.result ≡ pos c.args.code.lon =
     rw c.lon.ensures.value (omega (arith, ints, c.args.code.lon_below)) in
     let parity_is = ap (λ (p : Point). p.parity) c.of_parts.ensures.value in
     local_point g.S.Span.span (numbers_of c.args.code) c.args.parity

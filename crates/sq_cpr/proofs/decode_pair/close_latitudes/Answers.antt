@@ -1,7 +1,7 @@
 use Rattle.std.proofs.Common.{◌≡◌, ◌∙◌, pos, ◌+ℤ◌, ◌*ℤ◌, to_z, of_z, arith}
-use Rattle.std.specs.Int.{w128}
+use Rattle.std.specs.Int.{w64}
 use Rattle.sq_angle.specs.Angle.{degrees}
-use Rattle.sq_angle.proofs.Sizes.{back}
+use Rattle.sq_angle.proofs.Sizes.{back64}
 use Rattle.sq_cpr.specs.Grid.{codes_of_zone}
 use Rattle.sq_cpr.proofs.Distances.Agree.{representative_from_within}
 use Rattle.sq_cpr.proofs.Grids.Bits32.{back32}
@@ -9,14 +9,14 @@ use Rattle.sq_cpr.proofs.Decoding.Pairs.{close_pair, paired_latitudes}
 use Rattle.sq_cpr.proofs.decode_pair.close_latitudes.Goals as goal
 
 even_base : (c : goal.After-index_within-2)
-    → to_z w128 (of_z w128 c.index_of.result) ≡ pos c.args.even.lat +ℤ pos codes_of_zone *ℤ c.pair_zone-zone.result
-even_base c = back c.index_of.result c.index_of.type_inv
-    ∙ (rw (back c.pair_zone-zone.result c.pair_zone-zone.type_inv, c.lat-3.ensures.value) at c.index_of.ensures.value)
+    → to_z w64 (of_z w64 c.index_of.result) ≡ pos c.args.even.lat +ℤ pos codes_of_zone *ℤ c.pair_zone-zone.result
+even_base c = back64 c.index_of.result (record { sfits = c.index_of.type_inv })
+    ∙ (rw (back64 c.pair_zone-zone.result (record { sfits = c.pair_zone-zone.type_inv }), c.lat-3.ensures.value) at c.index_of.ensures.value)
 
 odd_base : (c : goal.After-index_within-2)
-    → to_z w128 (of_z w128 c.index_of-2.result) ≡ pos c.args.odd.lat +ℤ pos codes_of_zone *ℤ c.pair_zone-zone.result
-odd_base c = back c.index_of-2.result c.index_of-2.type_inv
-    ∙ (rw (back c.pair_zone-zone.result c.pair_zone-zone.type_inv, c.lat-4.ensures.value) at c.index_of-2.ensures.value)
+    → to_z w64 (of_z w64 c.index_of-2.result) ≡ pos c.args.odd.lat +ℤ pos codes_of_zone *ℤ c.pair_zone-zone.result
+odd_base c = back64 c.index_of-2.result (record { sfits = c.index_of-2.type_inv })
+    ∙ (rw (back64 c.pair_zone-zone.result (record { sfits = c.pair_zone-zone.type_inv }), c.lat-4.ensures.value) at c.index_of-2.ensures.value)
 
 pub returns-clause-latitudes : goal.returns-clause-latitudes
 returns-clause-latitudes c =

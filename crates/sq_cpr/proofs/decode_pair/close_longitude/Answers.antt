@@ -1,8 +1,8 @@
 use Rattle.std.proofs.Common.{◌≡◌, ◌∙◌, ◌*◌, pos, ◌+ℤ◌, ◌*ℤ◌, to_z, of_z}
-use Rattle.std.specs.Int.{w128}
+use Rattle.std.specs.Int.{w64}
 use Rattle.sq_angle.specs.Angle.{degrees}
 use Rattle.sq_angle.specs.Whole.{IsCongruent}
-use Rattle.sq_angle.proofs.Sizes.{back}
+use Rattle.sq_angle.proofs.Sizes.{back64}
 use Rattle.sq_zones.specs.declared.parity.Parity.TheVariants.{Even, Odd}
 use Rattle.sq_cpr.specs.Grid.{codes_of_zone}
 use Rattle.sq_cpr.specs.Close.{zones_of}
@@ -14,11 +14,11 @@ use Rattle.sq_cpr.proofs.Decoding.Pairs.{newest_of_pair}
 use Rattle.sq_cpr.proofs.decode_pair.close_longitude.Goals as goal
 
 base : (c : goal.After-index_within)
-    → to_z w128 (of_z w128 c.index_of.result)
+    → to_z w64 (of_z w64 c.index_of.result)
     ≡ pos (of_parity c.args.newest c.args.even.lon c.args.odd.lon) +ℤ pos codes_of_zone *ℤ c.pair_zone-zone.result
-base c = back c.index_of.result c.index_of.type_inv
+base c = back64 c.index_of.result (record { sfits = c.index_of.type_inv })
     ∙ (rw (
-      back c.pair_zone-zone.result c.pair_zone-zone.type_inv,
+      back64 c.pair_zone-zone.result (record { sfits = c.pair_zone-zone.type_inv }),
       c.lon_of_newest.ensures.value,
     ) at c.index_of.ensures.value)
 
