@@ -1,13 +1,12 @@
 -- Bands of latitudes: how many limits a number does not pass.
 use Rattle.std.proofs.Common.{◌≡◌, ℕ, zero, suc, ◌+◌, ◌-◌, ◌*◌, ◌/◌, ◌^◌, ◌<◌, ◌≤◌, Bool, true, false, cond, ◌&&◌}
 use Rattle.std.proofs.Common.{nat_le, nat_lt, List, [], ◌∷◌, map, length, take, drop, get_or, slice_index, count_by}
-use Rattle.std.proofs.Common.{refl, ap, ◌∙◌, sym, subst, arith, true≢false, inl, inr, leb-true, le-leb, ltb-true}
-use Rattle.std.proofs.lemmas.Bool.{cases_lt, lt-ltb}
+use Rattle.std.proofs.Common.{refl, ap, ◌∙◌, sym, subst, arith, true≢false, leb-true, le-leb, ltb-true}
 use Rattle.std.proofs.lemmas.List.{length-drop}
 use Rattle.std.proofs.lemmas.List.FromFn.{get_or-map-range_with_len}
 use Rattle.std.proofs.lemmas.List.Sums.{sum_by-cons}
 use Rattle.std.specs.List.{range_with_len}
-use Rattle.sq_zones.specs.declared.zones.TheConstants.{LIMITS_ABOVE, ZONE_LIMITS}
+use Rattle.sq_zones.specs.declared.zones.TheConstants.{LIMIT_OF_BAND, ZONE_LIMITS}
 
 -- each is at least so much
 abbrev all_from : ℕ → List ℕ → Bool
@@ -64,12 +63,12 @@ module _ (s : ℕ) where
   counted_at (suc k) (z ∷ zs) h =
       omega (arith, counted-cons z zs, counted-cons z (take k zs), counted_at k zs (omega (arith, h)))
 
--- of the limits so many are above the band, and all but the next are below it
+-- the limits before the place of the band's limit are below the band, and those behind it are not
 abbrev is_band : ℕ → Bool
 is_band i =
-    let above = slice_index LIMITS_ABOVE i in
-    (nat_le above 58 && all_from ((i + 1) * 2 ^ 25 - 1) (drop (58 - above) ZONE_LIMITS))
-    && all_below (i * 2 ^ 25) (take (57 - above) ZONE_LIMITS)
+    let place = slice_index LIMIT_OF_BAND i in
+    (nat_le place 57 && all_from ((i + 1) * 2 ^ 25 - 1) (drop (suc place) ZONE_LIMITS))
+    && all_below (i * 2 ^ 25) (take place ZONE_LIMITS)
 
 -- each band is one
 bands_are : map is_band (range_with_len 0 269) ≡ map (λ _. true) (range_with_len 0 269)
@@ -80,56 +79,43 @@ band_is i small =
     sym (get_or-map-range_with_len is_band 0 269 i i true small (omega arith))
     ∙ ap (λ t. get_or t i true) bands_are ∙ get_or-map-range_with_len (λ _. true) 0 269 i i true small (omega arith)
 
--- how many limits a number of a band is at most, by those above the band and the next one
-abbrev pub by_band : (s above : ℕ) → ℕ
-by_band s above = above + cond (nat_lt above 58 && nat_le s (slice_index ZONE_LIMITS (57 - above))) 1 0
+-- how many limits a number of a band is at most, by those behind the band's limit and that one
+abbrev pub by_band : (s place : ℕ) → ℕ
+by_band s place = 57 - place + cond (nat_le s (slice_index ZONE_LIMITS place)) 1 0
 
 -- the parts of what a band is
-bands_parts : (i : ℕ) → i < 269 → (slice_index LIMITS_ABOVE i ≤ 58)
-    × (all_from ((i + 1) * 2 ^ 25 - 1) (drop (58 - slice_index LIMITS_ABOVE i) ZONE_LIMITS) ≡ true)
-    × (all_below (i * 2 ^ 25) (take (57 - slice_index LIMITS_ABOVE i) ZONE_LIMITS) ≡ true)
+bands_parts : (i : ℕ) → i < 269 → (slice_index LIMIT_OF_BAND i ≤ 57)
+    × (all_from ((i + 1) * 2 ^ 25 - 1) (drop (suc (slice_index LIMIT_OF_BAND i)) ZONE_LIMITS) ≡ true)
+    × (all_below (i * 2 ^ 25) (take (slice_index LIMIT_OF_BAND i) ZONE_LIMITS) ≡ true)
 bands_parts i small =
-    let above = slice_index LIMITS_ABOVE i in
-    let all = both (nat_le above 58 && all_from ((i + 1) * 2 ^ 25 - 1) (drop (58 - above) ZONE_LIMITS))
-    (all_below (i * 2 ^ 25) (take (57 - above) ZONE_LIMITS)) (band_is i small) in
-    let first = both (nat_le above 58) (all_from ((i + 1) * 2 ^ 25 - 1) (drop (58 - above) ZONE_LIMITS)) all.0 in
-    (leb-true above 58 first.0, first.1, all.1)
+    let place = slice_index LIMIT_OF_BAND i in
+    let all = both (nat_le place 57 && all_from ((i + 1) * 2 ^ 25 - 1) (drop (suc place) ZONE_LIMITS))
+    (all_below (i * 2 ^ 25) (take place ZONE_LIMITS)) (band_is i small) in
+    let first = both (nat_le place 57) (all_from ((i + 1) * 2 ^ 25 - 1) (drop (suc place) ZONE_LIMITS)) all.0 in
+    (leb-true place 57 first.0, first.1, all.1)
 
--- with a limits above the band, and all but the next below it, a number of the band is at most so many
-counted_by : (s i a : ℕ) → a ≤ 58 → i * 2 ^ 25 ≤ s → s < (i + 1) * 2 ^ 25
-    → all_from ((i + 1) * 2 ^ 25 - 1) (drop (58 - a) ZONE_LIMITS) ≡ true
-    → all_below (i * 2 ^ 25) (take (57 - a) ZONE_LIMITS) ≡ true → counted s ZONE_LIMITS ≡ by_band s a
-counted_by s i a few from to above below =
-    let others : counted s (drop (58 - a) ZONE_LIMITS) ≡ length (drop (58 - a) ZONE_LIMITS) =
-    all_counted s ((i + 1) * 2 ^ 25 - 1) (drop (58 - a) ZONE_LIMITS) above (omega (arith, to)) in
-    let long : length (drop (58 - a) ZONE_LIMITS) ≡ 58 - (58 - a) = length-drop (58 - a) ZONE_LIMITS in
-    elim (cases_lt a 58) [
-      | inl less ↦
-          let here = counted_at s (57 - a) ZONE_LIMITS (omega (arith, less)) in
-          let next : suc (57 - a) ≡ 58 - a = omega (arith, less) in
-          let rest : counted s (drop (suc (57 - a)) ZONE_LIMITS) ≡ counted s (drop (58 - a) ZONE_LIMITS) =
-          ap (λ k. counted s (drop k ZONE_LIMITS)) next in
-          let none = none_counted s (i * 2 ^ 25) (take (57 - a) ZONE_LIMITS) below from in
-          let shown : by_band s a ≡ a + cond (nat_le s (slice_index ZONE_LIMITS (57 - a))) 1 0 =
-          ap (λ b. a + cond (b && nat_le s (slice_index ZONE_LIMITS (57 - a))) 1 0) (lt-ltb a 58 less) in
-          omega (arith, here, rest, none, others, long, shown, few)
-      | inr all ↦
-          let full : a ≡ 58 = omega (arith, few, all) in
-          let whole : counted s (drop (58 - a) ZONE_LIMITS) ≡ counted s ZONE_LIMITS =
-          ap (λ k. counted s (drop (58 - k) ZONE_LIMITS)) full in
-          let shown : by_band s a ≡ 58 = ap (by_band s) full in
-          omega (arith, whole, others, long, shown, full)
-    ]
+-- the place of a band's limit is one of the table
+pub place_small : (s : ℕ) → s ≤ 9 * 10 ^ 9 → slice_index LIMIT_OF_BAND (s / 2 ^ 25) ≤ 57
+place_small s small = (bands_parts (s / 2 ^ 25) (omega arith)).0
+
+-- with all limits before a place below the band, and all behind it above, a number of the band is at most so many
+counted_by : (s i place : ℕ) → place ≤ 57 → i * 2 ^ 25 ≤ s → s < (i + 1) * 2 ^ 25
+    → all_from ((i + 1) * 2 ^ 25 - 1) (drop (suc place) ZONE_LIMITS) ≡ true
+    → all_below (i * 2 ^ 25) (take place ZONE_LIMITS) ≡ true → by_band s place ≡ counted s ZONE_LIMITS
+counted_by s i place few from to above below =
+    let others : counted s (drop (suc place) ZONE_LIMITS) ≡ length (drop (suc place) ZONE_LIMITS) =
+    all_counted s ((i + 1) * 2 ^ 25 - 1) (drop (suc place) ZONE_LIMITS) above (omega (arith, to)) in
+    let long : length (drop (suc place) ZONE_LIMITS) ≡ 58 - suc place = length-drop (suc place) ZONE_LIMITS in
+    let here = counted_at s place ZONE_LIMITS (omega (arith, few)) in
+    let none = none_counted s (i * 2 ^ 25) (take place ZONE_LIMITS) below from in
+    omega (arith, here, none, others, long, few)
 
 -- a number up to 90 degrees is at most as many limits as its band says
-pub banded : (s a : ℕ) → s ≤ 9 * 10 ^ 9 → a ≡ slice_index LIMITS_ABOVE (s / 2 ^ 25)
-    → (a ≤ 58) × (by_band s a ≡ counted s ZONE_LIMITS)
-banded s a small is =
+pub banded : (s place : ℕ) → s ≤ 9 * 10 ^ 9 → place ≡ slice_index LIMIT_OF_BAND (s / 2 ^ 25)
+    → by_band s place ≡ counted s ZONE_LIMITS
+banded s place small is =
     let i = s / 2 ^ 25 in
     let parts = bands_parts i (omega arith) in
-    let few : a ≤ 58 = subst (λ n. n ≤ 58) (sym is) parts.0 in (
-      few,
-      sym (counted_by s i a few (omega arith) (omega arith)
-          (subst (λ n. all_from ((i + 1) * 2 ^ 25 - 1) (drop (58 - n) ZONE_LIMITS) ≡ true) (sym is) parts.1)
-          (subst (λ n. all_below (i * 2 ^ 25) (take (57 - n) ZONE_LIMITS) ≡ true) (sym is) parts.2)),
-    )
+    counted_by s i place (subst (λ n. n ≤ 57) (sym is) parts.0) (omega arith) (omega arith)
+    (subst (λ n. all_from ((i + 1) * 2 ^ 25 - 1) (drop (suc n) ZONE_LIMITS) ≡ true) (sym is) parts.1)
+    (subst (λ n. all_below (i * 2 ^ 25) (take n ZONE_LIMITS) ≡ true) (sym is) parts.2)

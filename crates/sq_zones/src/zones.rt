@@ -1,5 +1,5 @@
 //! The zone count of a latitude, by bands of latitudes and the table of limits.
-ghost use Rattle.std.specs.Prelude.{◌≡◌, ◌≤◌, ◌*◌, ◌-◌, ◌/◌, ◌^◌, ◌&&◌, count_by, nat_le, nat_lt, slice_index};
+ghost use Rattle.std.specs.Prelude.{◌≡◌, ◌≤◌, ◌*◌, ◌/◌, ◌^◌, count_by, nat_le, slice_index};
 ghost use Rattle.std.specs.Int.{div_ceil};
 ghost use Rattle.sq_angle.specs.Angle.{degrees};
 ghost use Rattle.sq_angle.specs.Fraction.{IsWithin};
@@ -74,19 +74,20 @@ static ZONE_LIMITS: [u64; 58] = [
 // within.
 const BAND_BITS: u32 = 25;
 
-// How many limits lie above each band.
-static LIMITS_ABOVE: [u8; 269] = [
-    58, 58, 58, 58, 58, 58, 58, 58, 58, 58, 58, 58, 58, 58, 58, 58, 58, 58, 58, 58, 58, 58, 58, 58,
-    58, 58, 58, 58, 58, 58, 58, 57, 57, 57, 57, 57, 57, 57, 57, 57, 57, 57, 57, 57, 56, 56, 56, 56,
-    56, 56, 56, 56, 56, 56, 55, 55, 55, 55, 55, 55, 55, 55, 54, 54, 54, 54, 54, 54, 54, 54, 53, 53,
-    53, 53, 53, 53, 52, 52, 52, 52, 52, 52, 52, 51, 51, 51, 51, 51, 51, 50, 50, 50, 50, 50, 49, 49,
-    49, 49, 49, 48, 48, 48, 48, 48, 47, 47, 47, 47, 47, 46, 46, 46, 46, 46, 45, 45, 45, 45, 44, 44,
-    44, 44, 44, 43, 43, 43, 43, 42, 42, 42, 42, 41, 41, 41, 41, 40, 40, 40, 40, 39, 39, 39, 39, 38,
-    38, 38, 38, 37, 37, 37, 37, 36, 36, 36, 35, 35, 35, 35, 34, 34, 34, 33, 33, 33, 33, 32, 32, 32,
-    31, 31, 31, 31, 30, 30, 30, 29, 29, 29, 28, 28, 28, 27, 27, 27, 27, 26, 26, 26, 25, 25, 25, 24,
-    24, 24, 23, 23, 23, 22, 22, 22, 21, 21, 21, 20, 20, 20, 19, 19, 19, 18, 18, 18, 17, 17, 17, 16,
-    16, 16, 15, 15, 15, 14, 14, 14, 13, 13, 13, 12, 12, 12, 11, 11, 11, 10, 10, 10, 9, 9, 9, 8, 8,
-    7, 7, 7, 6, 6, 6, 5, 5, 5, 4, 4, 3, 3, 3, 2, 2, 1, 1, 0, 0, 0, 0, 0, 0, 0, 0, 0, 0,
+// The place of the limit that the latitudes of each band are held against: those before it lie below the band, those
+// behind it above.
+static LIMIT_OF_BAND: [u8; 269] = [
+    0, 0, 0, 0, 0, 0, 0, 0, 0, 0, 0, 0, 0, 0, 0, 0, 0, 0, 0, 0, 0, 0, 0, 0, 0, 0, 0, 0, 0, 0, 0, 0,
+    0, 0, 0, 0, 0, 0, 0, 0, 0, 0, 0, 0, 1, 1, 1, 1, 1, 1, 1, 1, 1, 1, 2, 2, 2, 2, 2, 2, 2, 2, 3, 3,
+    3, 3, 3, 3, 3, 3, 4, 4, 4, 4, 4, 4, 5, 5, 5, 5, 5, 5, 5, 6, 6, 6, 6, 6, 6, 7, 7, 7, 7, 7, 8, 8,
+    8, 8, 8, 9, 9, 9, 9, 9, 10, 10, 10, 10, 10, 11, 11, 11, 11, 11, 12, 12, 12, 12, 13, 13, 13, 13,
+    13, 14, 14, 14, 14, 15, 15, 15, 15, 16, 16, 16, 16, 17, 17, 17, 17, 18, 18, 18, 18, 19, 19, 19,
+    19, 20, 20, 20, 20, 21, 21, 21, 22, 22, 22, 22, 23, 23, 23, 24, 24, 24, 24, 25, 25, 25, 26, 26,
+    26, 26, 27, 27, 27, 28, 28, 28, 29, 29, 29, 30, 30, 30, 30, 31, 31, 31, 32, 32, 32, 33, 33, 33,
+    34, 34, 34, 35, 35, 35, 36, 36, 36, 37, 37, 37, 38, 38, 38, 39, 39, 39, 40, 40, 40, 41, 41, 41,
+    42, 42, 42, 43, 43, 43, 44, 44, 44, 45, 45, 45, 46, 46, 46, 47, 47, 47, 48, 48, 48, 49, 49, 50,
+    50, 50, 51, 51, 51, 52, 52, 52, 53, 53, 54, 54, 54, 55, 55, 56, 56, 57, 57, 57, 57, 57, 57, 57,
+    57, 57, 57,
 ];
 
 /// The number of longitude zones at a latitude, NL: from 59 at the equator to 1 at the poles.
@@ -129,27 +130,29 @@ fn scaled_up(magnitude: u64, den: u64) -> u64
     quotient(scaled + u128::from(den - 1), den) as u64
 }
 
-// How many limits are at least the scaled latitude: those above its band, and the next one, where that is.
+// How many limits are at least the scaled latitude: those behind the limit of its band, and that one, where it is.
 fn limits_from(scaled: u64) -> u8
     requires { scaled ≤ 9 * 10 ^ 9 }
     ensures value { result ≡ count_by (λ limit. nat_le scaled limit) ZONE_LIMITS }
     ensures at_most { result ≤ 58 }
 {
-    let above = limits_above(scaled);
-    above + u8::from(is_at_most_next(scaled, above))
+    let place = limit_of_band(scaled);
+    57 - place + u8::from(is_at_most(scaled, place))
 }
 
-// How many limits lie above the band of the scaled latitude.
-fn limits_above(scaled: u64) -> u8
+// The place of the limit of the scaled latitude's band.
+fn limit_of_band(scaled: u64) -> u8
     requires { scaled ≤ 9 * 10 ^ 9 }
-    ensures { result ≡ slice_index LIMITS_ABOVE (scaled / 2 ^ 25) }
+    ensures value { result ≡ slice_index LIMIT_OF_BAND (scaled / 2 ^ 25) }
+    ensures at_most { result ≤ 57 }
 {
-    LIMITS_ABOVE[(scaled >> BAND_BITS) as usize]
+    LIMIT_OF_BAND[(scaled >> BAND_BITS) as usize]
 }
 
-// Whether the scaled latitude is at most the greatest limit but so many.
-fn is_at_most_next(scaled: u64, above: u8) -> bool
-    ensures { result ≡ (nat_lt above 58 && nat_le scaled (slice_index ZONE_LIMITS (57 - above))) }
+// Whether the scaled latitude is at most the limit at the place.
+fn is_at_most(scaled: u64, place: u8) -> bool
+    requires { place ≤ 57 }
+    ensures { result ≡ nat_le scaled (slice_index ZONE_LIMITS place) }
 {
-    above < 58 && scaled <= ZONE_LIMITS[57 - usize::from(above)]
+    scaled <= ZONE_LIMITS[usize::from(place)]
 }
