@@ -1,9 +1,11 @@
 //! Decoding an even and an odd code together.
-ghost use Rattle.std.specs.Prelude.{◌≡◌, ℕ, ℤ, ◌*◌, ◌<◌, ◌≤◌, pos};
+ghost use Rattle.std.specs.Prelude.{◌≡◌, ℕ, ℤ, ◌*◌, ◌^◌, ◌<◌, ◌≤◌, pos, unsigned_abs};
 ghost use Rattle.sq_angle.specs.Angle.{degrees};
 ghost use Rattle.sq_angle.specs.Fraction.{IsWithin, whole};
 ghost use Rattle.sq_angle.specs.Position.{lat_of, lon_of};
+ghost use Rattle.sq_angle.specs.Whole.{IsCongruent};
 ghost use Rattle.sq_cpr.specs.Code.{numbers_of};
+ghost use Rattle.sq_cpr.specs.Grid.{circle, codes_of_zone};
 ghost use Rattle.sq_cpr.specs.Near.{IsRepresentative};
 ghost use Rattle.sq_cpr.specs.Near.{angle_at as angle_of_index};
 ghost use Rattle.sq_cpr.specs.Close.{IsClosePair};
@@ -79,27 +81,46 @@ fn close_latitudes(span: u32, even: Code, odd: Code, reference: &Angle) -> Indic
     }
 }
 
-// The newest of the close longitudes of two codes, by its representative at the reference, where both latitudes have
-// the zone count `count`.
+// The index on the circle of the longitude that lies whole spans from the base, by its representative at the reference.
 #[inline(always)]
-fn close_longitude(
-    span: u32,
+fn turned_longitude<S: Span>(base: i64, zones: u8, reference: &Angle) -> u32
+    requires base_small { unsigned_abs base < 2 ^ 44 }
+    requires zones_some { 1 ≤ zones }
+    requires zones_small { zones ≤ 59 }
+    requires reference_small { IsWithin 180 (degrees reference.now) }
+    ensures index { (index : ℤ) × IsCongruent (zones * codes_of_zone) index base
+        × IsRepresentative S.span.degrees (degrees reference.now) (angle_of_index S.span.degrees zones index)
+        × IsCongruent (circle zones S.span.repeats) (pos result) index }
+    ensures below { result < circle zones S.span.repeats }
+{
+    let span = degrees_of::<S>();
+    // Where a span is the circle, a representative stands for the same index of the circle as the base.
+    if repeats_of::<S>() == 1 {
+        return on_circle(base, zones, 1);
+    }
+    let turned = index_within(base, zones, zones, span, reference);
+    on_circle(i64::from(turned), zones, repeats_of::<S>())
+}
+
+// The index on the circle of the newest of the close longitudes of two codes, by its representative at the reference,
+// where both latitudes have the zone count `count`.
+#[inline(always)]
+fn close_longitude<S: Span>(
     count: u8,
     newest: Parity,
     even: Code,
     odd: Code,
     reference: &Angle,
-) -> i32
-    requires span_some { 0 < span }
-    requires span_small { span ≤ 360 }
+) -> u32
     requires count_some { 1 ≤ count }
     requires count_small { count ≤ 59 }
     requires reference_small { IsWithin 180 (degrees reference.now) }
-    ensures longitudes { (p q : ℤ) × IsClosePair span (zones_of_count Parity.Even count)
+    ensures longitudes { (p q : ℤ) × IsClosePair S.span.degrees (zones_of_count Parity.Even count)
         (zones_of_count Parity.Odd count) (numbers_of even).lon (numbers_of odd).lon p q
-        × (result ≡ of_parity newest p q) }
-    ensures at { IsRepresentative span (degrees reference.now)
-        (angle_of_index span (zones_of_count newest count) result) }
+        × IsRepresentative S.span.degrees (degrees reference.now)
+        (angle_of_index S.span.degrees (zones_of_count newest count) (of_parity newest p q))
+        × IsCongruent (circle (zones_of_count newest count) S.span.repeats) (pos result) (of_parity newest p q) }
+    ensures below { result < circle (zones_of_count newest count) S.span.repeats }
 {
     let zone = pair_zone(
         zones_of(Parity::Even, count),
@@ -107,14 +128,8 @@ fn close_longitude(
         even.lon(),
         odd.lon(),
     );
-    let zones = zones_of(newest, count);
-    index_within(
-        index_of(lon_of_newest(newest, even, odd), zone),
-        zones,
-        zones,
-        span,
-        reference,
-    )
+    let base = index_of(lon_of_newest(newest, even, odd), zone);
+    turned_longitude::<S>(base, zones_of(newest, count), reference)
 }
 
 // The newest point of the close pair, each coordinate by its representative at the place.
@@ -139,9 +154,8 @@ fn pair<S: Span>(
     if count != odd_count {
         return Err(PairFault::ZoneCounts(count, odd_count));
     }
-    let turned = close_longitude(span, count, newest, even, odd, &place.lon());
+    let lon_index = close_longitude::<S>(count, newest, even, odd, &place.lon());
     let zones = zones_of(newest, count);
-    let lon_index = on_circle(i64::from(turned), zones, repeats_of::<S>());
     Ok(GridPoint::of_parts(newest, lats.of(newest), zones, lon_index))
 }
 

@@ -1,12 +1,7 @@
-use Rattle.std.proofs.Common.{◌≡◌, ◌∙◌, ℕ, ap, arith, subst, refl, rules, to_z, of_z, FitsSigned}
-use Rattle.std.proofs.lemmas.Int.{ints}
-use Rattle.std.specs.Int.{w32, w64}
-use Rattle.sq_angle.specs.Angle.{degrees}
-use Rattle.sq_angle.specs.Position.{lon_of}
+use Rattle.std.proofs.Common.{◌∙◌, ℕ, ap, refl, rules, FitsSigned}
+use Rattle.std.specs.Int.{w32}
 use Rattle.sq_cpr.specs.Grid.{Point}
-use Rattle.sq_cpr.specs.Near.{IsRepresentative, angle_at}
 use Rattle.sq_cpr.specs.Close.{zones_of}
-use Rattle.sq_cpr.specs.Pair.{of_parity}
 use Rattle.sq_cpr.proofs.Grids.Bits32.{back32}
 use Rattle.sq_cpr.proofs.Decoding.Decoded.{found_pair, point_of_pair}
 use Rattle.sq_cpr.proofs.decode_pair.pair.Goals as goal
@@ -25,7 +20,7 @@ of_parts-requires g c =
     c.close_latitudes-lats.result.odd found.inside found.counts refl
     (back32 c.of.result c.of.type_inv ∙ c.of.ensures)
     (c.zones_of-zones.ensures.value ∙ ap (λ (n : ℕ). zones_of c.args.newest n) found.counted)
-    (rw c.repeats_of.ensures.value at c.on_circle-lon_index.ensures.below)
+    (rw (← c.zones_of-zones.ensures.value) at c.close_longitude-lon_index.ensures.below)
 
 pub returns : goal.returns
 returns g c =
@@ -39,14 +34,8 @@ returns g c =
     c.zone_count-count.ensures.value c.zone_count-odd_count.ensures.value c.if-count-odd_count.false in
     let value = c.of_parts.ensures.value in
     let w = c.degrees_of-span.ensures.value in
-    let lon = c.close_longitude-turned.ensures.longitudes in
-    let turned : to_z w64 (of_z w64 c.from.result) ≡ c.close_longitude-turned.result =
-    omega (arith, ints, c.from.ensures, c.close_longitude-turned.type_inv) in
-    let zones = ap (λ (p : Point). p.zones) value in
-    let lon_at : IsRepresentative c.degrees_of-span.result (degrees (lon_of c.args.place.now))
-    (angle_at c.degrees_of-span.result (zones_of c.args.newest c.zone_count-count.result)
-    (of_parity c.args.newest lon.0 lon.1)) =
-    rw (c.lon.ensures, lon.3) at c.close_longitude-turned.ensures.at in
+    let lon = c.close_longitude-lon_index.ensures.longitudes in
+    let zones = ap (λ (p : Point). p.zones) value ∙ c.zones_of-zones.ensures.value in
     record {
       of_pair = record {
         even_lat = c.close_latitudes-lats.result.even;
@@ -56,16 +45,12 @@ returns g c =
         latitudes = rw w at c.close_latitudes-lats.ensures.latitudes;
         in_range = found.inside;
         counts = found.counts;
-        longitudes = rw (w, found.counted) at lon.2;
+        longitudes = rw found.counted at lon.2;
         of_grid = c.of_parts.ensures.of_grid;
         parity = ap (λ (p : Point). p.parity) value;
         lat_index = ap (λ (p : Point). p.lat_index) value ∙ back32 c.of.result c.of.type_inv ∙ c.of.ensures;
-        lon_index = rw (zones, ap (λ (p : Point). p.lon_index) value)
-            (rw (turned, lon.3, c.repeats_of.ensures.value) at c.on_circle-lon_index.ensures.congruent);
+        lon_index = rw (zones, ap (λ (p : Point). p.lon_index) value) lon.4;
       };
       lat_at = rw (w, c.lat.ensures) at c.close_latitudes-lats.ensures.at;
-      lon_at = rw (zones, c.zones_of-zones.ensures.value)
-          (subst (λ (n : ℕ). IsRepresentative n (degrees (lon_of c.args.place.now))
-          (angle_at n (zones_of c.args.newest c.zone_count-count.result)
-          (of_parity c.args.newest lon.0 lon.1))) w lon_at);
+      lon_at = rw zones (rw c.lon.ensures at lon.3);
     }
