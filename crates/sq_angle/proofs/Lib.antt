@@ -9,6 +9,7 @@ pub mod Orders
 -- of angles and their texts
 pub mod LowestTerms
 pub mod Twos
+pub mod TrailingZeros
 pub mod Coprime
 pub mod OneText
 pub mod OneSpelling

@@ -1,7 +1,8 @@
 -- Common divisors where powers of two are taken out.
 use Rattle.std.proofs.Common.{◌≡◌, ◌⊎◌, inl, inr, ◌+◌, ◌*◌, ◌/◌, ◌%◌, ◌<◌, ◌≤◌, ℕ, zero, suc, ap, ◌∙◌, sym, subst, refl}
-use Rattle.std.proofs.Common.{arith, mul-le-mul_left}
-use Rattle.std.proofs.Math.Nat.{mul-div_cancel', mul_assoc, mul_comm, add-mul, dvd-mul_right, dvd-mul_left_of_dvd}
+use Rattle.std.proofs.Common.{arith, ◌-◌, ◌^◌, ap₂, one-mul, subst₂, pow-add, shr-shr}
+use Rattle.std.specs.Int.{bit_at}
+use Rattle.std.proofs.Math.Nat.{mul-div_cancel', pow-suc, mul_assoc, mul_comm, add-mul, dvd-mul_right, dvd-mul_left_of_dvd}
 use Rattle.std.proofs.Math.Nat.{mul-dvd-mul_left, dvd_of_mul-dvd-mul_left}
 use Rattle.std.specs.Int.{IsGcd, ◌∣◌}
 
@@ -94,27 +95,54 @@ gcd_of_half x y g odd ey h = (h.0, of_y, greatest)
     greatest : (d : ℕ) → d ∣ x → d ∣ y → d ∣ g
     greatest d p q = h.2 d p (odd_divides_half d (y / 2) (odd_divisor d x p odd) (subst (λ n. d ∣ n) (sym y_is) q))
 
--- what has been taken of a and b: twos times the greatest common divisor of what is left is theirs
-abbrev pub AreLeft : ℕ → ℕ → ℕ → ℕ → ℕ → Type 0
-AreLeft a b x y twos = ((g : ℕ) → IsGcd x y g → IsGcd a b (twos * g)) × (0 < y) × (twos * y ≤ b)
+-- a number whose lowest bits are 0 is a multiple of a power of two
+pub multiple_of_power : (n k : ℕ) → ((i : ℕ) → i < k → bit_at n i ≡ 0) → 2 ^ k * (n / 2 ^ k) ≡ n
+multiple_of_power n zero clear = omega arith
+multiple_of_power n (suc k) clear =
+    let rest = multiple_of_power n k (λ i l. clear i (omega (arith, l))) in
+    let even : n / 2 ^ k % 2 ≡ 0 = clear k (omega arith) in
+    let one : k + 1 ≡ suc k = omega arith in
+    let half : n / 2 ^ k / 2 ≡ n / 2 ^ suc k = shr-shr n k 1 ∙ ap (λ j. n / 2 ^ j) one in
+    let power : 2 ^ k * 2 ≡ 2 ^ suc k = omega (arith, pow-suc 2 k) in
+    let whole : 2 * (n / 2 ^ k / 2) ≡ n / 2 ^ k = omega (arith, even) in
+    ap₂ (λ p q. p * q) (sym power) (sym half) ∙ mul_assoc (2 ^ k) 2 (n / 2 ^ k / 2) ∙ ap (λ m. 2 ^ k * m) whole ∙ rest
 
--- a two is taken of both
-pub left_of_both : (a b x y twos : ℕ) → x % 2 ≡ 0 → y % 2 ≡ 0 → AreLeft a b x y twos
-    → AreLeft a b (x / 2) (y / 2) (twos * 2)
-left_of_both a b x y twos ex ey h =
-    let halved : 2 * (y / 2) ≡ y = omega (arith, ey) in
-    let same : twos * 2 * (y / 2) ≡ twos * y = mul_assoc twos 2 (y / 2) ∙ ap (λ n. twos * n) halved in (
-      λ g is. subst (λ n. IsGcd a b n) (sym (mul_assoc twos 2 g)) (h.0 (2 * g) (gcd_of_halves x y g ex ey is)),
-      omega (arith, ey, h.1),
-      omega (arith, same, h.2),
-    )
+-- the greatest common divisor of two numbers times a power of two
+times_both : (k x y g : ℕ) → IsGcd x y g → IsGcd (2 ^ k * x) (2 ^ k * y) (2 ^ k * g)
+times_both zero x y g h = rw (one-mul x, one-mul y, one-mul g) h
+times_both (suc k) x y g h =
+    let p = 2 ^ k in
+    let power : 2 * p ≡ 2 ^ suc k = omega (arith, pow-suc 2 k) in
+    let half_x : 2 * (p * x) / 2 ≡ p * x = omega arith in
+    let half_y : 2 * (p * y) / 2 ≡ p * y = omega arith in
+    let twice : IsGcd (2 * (p * x)) (2 * (p * y)) (2 * (p * g)) =
+    gcd_of_halves (2 * (p * x)) (2 * (p * y)) (p * g) (omega arith) (omega arith)
+    (rw (half_x, half_y) (times_both k x y g h)) in
+    subst (λ n. IsGcd (n * x) (n * y) (n * g)) power (rw (mul_assoc 2 p x, mul_assoc 2 p y, mul_assoc 2 p g) twice)
 
--- a two is taken of the second, where the first is odd
-pub left_of_second : (a b x y twos : ℕ) → x % 2 ≡ 1 → y % 2 ≡ 0 → AreLeft a b x y twos → AreLeft a b x (y / 2) twos
-left_of_second a b x y twos ox ey h =
-    let fewer : y / 2 ≤ y = omega arith in
-    let less : twos * (y / 2) ≤ twos * y = mul-le-mul_left twos fewer in (
-      λ g is. h.0 g (gcd_of_half x y g ox ey is),
-      omega (arith, ey, h.1),
-      omega (arith, less, h.2),
-    )
+-- an odd number has no more in common with a number times a power of two
+times_second : (k x y g : ℕ) → x % 2 ≡ 1 → IsGcd x y g → IsGcd x (2 ^ k * y) g
+times_second zero x y g odd h = rw (one-mul y) h
+times_second (suc k) x y g odd h =
+    let p = 2 ^ k in
+    let power : 2 * p ≡ 2 ^ suc k = omega (arith, pow-suc 2 k) in
+    let half : 2 * (p * y) / 2 ≡ p * y = omega arith in
+    let twice : IsGcd x (2 * (p * y)) g =
+    gcd_of_half x (2 * (p * y)) g odd (omega arith) (rw half (times_second k x y g odd h)) in
+    subst (λ n. IsGcd x (n * y) g) power (rw (mul_assoc 2 p y) twice)
+
+-- The greatest common divisor of two numbers by that of what is left when all twos are taken of the second, and as many
+-- of the first or all that it has.
+pub gcd_of_rest : (a b t z g : ℕ) → 2 ^ t * (a / 2 ^ t) ≡ a → 2 ^ z * (b / 2 ^ z) ≡ b → t ≤ z
+    → (t ≡ z) ⊎ (a / 2 ^ t % 2 ≡ 1) → IsGcd (a / 2 ^ t) (b / 2 ^ z) g → IsGcd a b (2 ^ t * g)
+gcd_of_rest a b t z g of_a of_b within (inl same) h =
+    let both : 2 ^ t * (b / 2 ^ z) ≡ b = ap (λ k. 2 ^ k * (b / 2 ^ z)) same ∙ of_b in
+    subst₂ (λ x y. IsGcd x y (2 ^ t * g)) of_a both (times_both t (a / 2 ^ t) (b / 2 ^ z) g h)
+gcd_of_rest a b t z g of_a of_b within (inr odd) h =
+    let more : t + (z - t) ≡ z = omega (arith, within) in
+    let power : 2 ^ t * 2 ^ (z - t) ≡ 2 ^ z = sym (pow-add 2 t (z - t)) ∙ ap (λ k. 2 ^ k) more in
+    let both : 2 ^ t * (2 ^ (z - t) * (b / 2 ^ z)) ≡ b =
+    sym (mul_assoc (2 ^ t) (2 ^ (z - t)) (b / 2 ^ z)) ∙ ap (λ n. n * (b / 2 ^ z)) power ∙ of_b in
+    subst₂ (λ x y. IsGcd x y (2 ^ t * g)) of_a both
+    (times_both t (a / 2 ^ t) (2 ^ (z - t) * (b / 2 ^ z)) g
+    (times_second (z - t) (a / 2 ^ t) (b / 2 ^ z) g odd h))

@@ -35,15 +35,9 @@ fn gcd(a: u64, b: u64) -> u64
     requires { 0 < b }
     ensures { IsGcd a b result }
 {
-    let (mut x, mut y, mut twos) = (a, b, 1);
-    while y % 2 == 0 {
-        if x % 2 == 0 {
-            x /= 2;
-            twos *= 2;
-        }
-        y /= 2;
-    }
-    twos * euclid(x, y)
+    let zeros = b.trailing_zeros();
+    let twos = zeros.min(a.trailing_zeros());
+    euclid(a >> twos, b >> zeros) << twos
 }
 
 // The greatest common divisor, by Euclid's steps.
