@@ -115,25 +115,6 @@ fn distance(index: i128, zones: u8, span: u32, reference: &Angle) -> i128
     scaled(step, index) - scaled(steps, reference.num() as i128)
 }
 
-/// Of the indices `count` zones apart, the one within half that many zones of the reference.
-pub(crate) fn index_within(base: i64, count: u8, zones: u8, span: u32, reference: &Angle) -> i32
-    requires base_small { unsigned_abs base < 2 ^ 44 }
-    requires some { 0 < count }
-    requires count_small { count ≤ 60 }
-    requires zones_small { zones ≤ 60 }
-    requires span_some { 0 < span }
-    requires span_small { span ≤ 360 }
-    requires reference_small { IsWithin 180 (degrees reference.now) }
-    ensures congruent { IsCongruent (count * codes_of_zone) result base }
-    ensures within { LiesWithin count span zones result (degrees reference.now) }
-{
-    // At 0 degrees, where pairs in the air are, the degrees of a step fall away.
-    if reference.num() == 0 {
-        return index_at_zero(base, count) as i32;
-    }
-    index_at(i128::from(base), count, zones, span, reference)
-}
-
 // Of the indices `count` zones apart, the one within half that many zones of 0.
 fn index_at_zero(base: i64, count: u8) -> i64
     requires base_small { unsigned_abs base < 2 ^ 44 }
@@ -168,6 +149,25 @@ fn index_at(base: i128, count: u8, zones: u8, span: u32, reference: &Angle) -> i
     let width = period as u128 * (span as u64 * reference.den()) as u128;
     let turns = turns(distance(base, zones, span, reference), width);
     (base - scaled(period, turns)) as i32
+}
+
+/// Of the indices `count` zones apart, the one within half that many zones of the reference.
+pub(crate) fn index_within(base: i64, count: u8, zones: u8, span: u32, reference: &Angle) -> i32
+    requires base_small { unsigned_abs base < 2 ^ 44 }
+    requires some { 0 < count }
+    requires count_small { count ≤ 60 }
+    requires zones_small { zones ≤ 60 }
+    requires span_some { 0 < span }
+    requires span_small { span ≤ 360 }
+    requires reference_small { IsWithin 180 (degrees reference.now) }
+    ensures congruent { IsCongruent (count * codes_of_zone) result base }
+    ensures within { LiesWithin count span zones result (degrees reference.now) }
+{
+    // At 0 degrees, where pairs in the air are, the degrees of a step fall away.
+    if reference.num() == 0 {
+        return index_at_zero(base, count) as i32;
+    }
+    index_at(i128::from(base), count, zones, span, reference)
 }
 
 /// How many zones a close pair lies above its codes.
