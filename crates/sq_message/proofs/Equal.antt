@@ -78,21 +78,21 @@ ground_fields_itself a = search (comparing, rules)
 
 one_airborne : (a b : Airborne) → airborne.eq a b ≡ true → a ≡ b
 one_airborne a b h =
-    let p = and_parts (air_fields.eq a.fields b.fields) _ h in
-    let q = and_parts (parities.eq a.parity b.parity) (codes.eq a.code b.code) p.1 in
-    let fields = one_air_fields a.fields b.fields p.0 in
-    let parity = one_parity a.parity b.parity q.0 in
-    let code = one_code a.code b.code q.1 in
-    λ i. record { fields = fields i; parity = parity i; code = code i }
+    let p = and_parts (parities.eq a.parity b.parity) _ h in
+    let q = and_parts (codes.eq a.code b.code) (air_fields.eq a.fields b.fields) p.1 in
+    let parity = one_parity a.parity b.parity p.0 in
+    let code = one_code a.code b.code q.0 in
+    let fields = one_air_fields a.fields b.fields q.1 in
+    λ i. record { parity = parity i; code = code i; fields = fields i }
 
 one_surface : (a b : Surface) → surface.eq a b ≡ true → a ≡ b
 one_surface a b h =
-    let p = and_parts (ground_fields.eq a.fields b.fields) _ h in
-    let q = and_parts (parities.eq a.parity b.parity) (codes.eq a.code b.code) p.1 in
-    let fields = one_ground_fields a.fields b.fields p.0 in
-    let parity = one_parity a.parity b.parity q.0 in
-    let code = one_code a.code b.code q.1 in
-    λ i. record { fields = fields i; parity = parity i; code = code i }
+    let p = and_parts (parities.eq a.parity b.parity) _ h in
+    let q = and_parts (codes.eq a.code b.code) (ground_fields.eq a.fields b.fields) p.1 in
+    let parity = one_parity a.parity b.parity p.0 in
+    let code = one_code a.code b.code q.0 in
+    let fields = one_ground_fields a.fields b.fields q.1 in
+    λ i. record { parity = parity i; code = code i; fields = fields i }
 
 one_me : (a b : Me) → mes.eq a b ≡ true → a ≡ b
 one_me (kinds.Airborne a) (kinds.Airborne b) h = ap kinds.Airborne (one_airborne a b h)
@@ -107,9 +107,9 @@ one_me (kinds.Other a) (kinds.Other b) h = ap kinds.Other (same_other a b (eqb-t
 
 me_itself : (a : Me) → mes.eq a a ≡ true
 me_itself (kinds.Airborne a) =
-    and_from _ _ (air_fields_itself a.fields) (and_from _ _ (parity_itself a.parity) (code_itself a.code))
+    and_from _ _ (parity_itself a.parity) (and_from _ _ (code_itself a.code) (air_fields_itself a.fields))
 me_itself (kinds.Surface a) =
-    and_from _ _ (ground_fields_itself a.fields) (and_from _ _ (parity_itself a.parity) (code_itself a.code))
+    and_from _ _ (parity_itself a.parity) (and_from _ _ (code_itself a.code) (ground_fields_itself a.fields))
 me_itself (kinds.Other a) = eq-eqb a.raw a.raw refl
 
 one_squitter : (a b : Squitter) → squitters.eq a b ≡ true → a ≡ b

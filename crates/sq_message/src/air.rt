@@ -89,9 +89,9 @@ impl AirFields {
 /// An airborne position (ICAO Doc 9871, register 0,5).
 #[derive(Clone, Copy, Debug, PartialEq, Eq)]
 pub struct Airborne {
-    pub fields: AirFields,
     pub parity: Parity,
     pub code: Code,
+    pub fields: AirFields,
 }
 
 impl Airborne {

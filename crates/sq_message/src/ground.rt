@@ -94,9 +94,9 @@ impl GroundFields {
 /// A surface position (ICAO Doc 9871, register 0,6).
 #[derive(Clone, Copy, Debug, PartialEq, Eq)]
 pub struct Surface {
-    pub fields: GroundFields,
     pub parity: Parity,
     pub code: Code,
+    pub fields: GroundFields,
 }
 
 impl Surface {
