@@ -59,17 +59,30 @@ pub fn push_decimal<const N: usize>(text: &mut TextBuffer<N>, number: u64)
     ensures bytes { text.new.bytes ≡ text.old.bytes ++ decimal number }
     ensures len { text_len text.new ≤ text_len text.old + 20 }
 {
-    if number < 1_000 {
-        push_leading(text, number);
-    } else if number < 1_000_000 {
-        push_leading(text, number / 1_000);
-        push_next_three(text, number % 1_000);
+    if number < 1_000_000 {
+        push_short(text, number);
     } else if number < 1_000_000_000 {
         push_leading(text, number / 1_000_000);
         push_next_three(text, number / 1_000 % 1_000);
         push_next_three(text, number % 1_000);
     } else {
         push_long(text, number);
+    }
+}
+
+/// Appends a number below 10^6 in decimal digits, with no leading zeros. There must be room for seven bytes.
+#[inline(always)]
+pub fn push_short<const N: usize>(text: &mut TextBuffer<N>, number: u64)
+    requires small { number < 1000000 }
+    requires room { text_len text.old + 7 ≤ N }
+    ensures bytes { text.new.bytes ≡ text.old.bytes ++ decimal number }
+    ensures len { text_len text.new ≤ text_len text.old + 6 }
+{
+    if number < 1_000 {
+        push_leading(text, number);
+    } else {
+        push_leading(text, number / 1_000);
+        push_next_three(text, number % 1_000);
     }
 }
 
