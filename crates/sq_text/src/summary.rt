@@ -8,7 +8,7 @@ ghost use Rattle.sq_text.specs.Show.{parity_name};
 ghost use Rattle.sq_text.specs.Summary.{code_words, me_words, summary};
 
 use sq_cpr::{Code, Parity};
-use sq_digits::{TextBuffer, push_decimal, push_six_places};
+use sq_digits::{TextBuffer, push_decimal, push_short, push_six_places};
 use sq_message::{Me, Squitter};
 
 /// Appends what `check` says of a good frame, at most 72 bytes: `ok`, the address, and for a position its kind, parity
@@ -48,31 +48,33 @@ fn push_me<const N: usize>(text: &mut TextBuffer<N>, me: &Me)
     }
 }
 
-// The kind and the parity of an airborne position with spaces around them, and how many characters these are: a choice
-// of texts of one length costs less than a jump that no one foresees.
+// The kind and the parity of an airborne position with spaces around them, even and odd, in rows of one length: a row is
+// one load and one store.
+const AIR_WORDS: [[u8; 16]; 2] = [*b" air even       ", *b" air odd        "];
+
+// The kind and the parity of a surface position.
+const GROUND_WORDS: [[u8; 16]; 2] = [*b" ground even    ", *b" ground odd     "];
+
+// The row of an airborne position, and how many of its characters are the words.
 #[inline(always)]
-fn air_words(parity: Parity) -> (&'static [u8; 10], usize)
+fn air_words(parity: Parity) -> (&'static [u8; 16], usize)
     ensures ascii { IsAscii result.0.now }
     ensures within { result.1 ≤ 10 }
     ensures words { take result.1 result.0.now ≡ codes " air " ++ parity_name parity ++ codes " " }
 {
-    match parity {
-        Parity::Even => (b" air even ", 10),
-        Parity::Odd => (b" air odd  ", 9),
-    }
+    let odd = usize::from(parity.index());
+    (&AIR_WORDS[odd], 10 - odd)
 }
 
-// The kind and the parity of a surface position with spaces around them, and how many characters these are.
+// The row of a surface position, and how many of its characters are the words.
 #[inline(always)]
-fn ground_words(parity: Parity) -> (&'static [u8; 13], usize)
+fn ground_words(parity: Parity) -> (&'static [u8; 16], usize)
     ensures ascii { IsAscii result.0.now }
     ensures within { result.1 ≤ 13 }
     ensures words { take result.1 result.0.now ≡ codes " ground " ++ parity_name parity ++ codes " " }
 {
-    match parity {
-        Parity::Even => (b" ground even ", 13),
-        Parity::Odd => (b" ground odd  ", 12),
-    }
+    let odd = usize::from(parity.index());
+    (&GROUND_WORDS[odd], 13 - odd)
 }
 
 // Appends a code.
@@ -82,7 +84,7 @@ fn push_code<const N: usize>(text: &mut TextBuffer<N>, code: &Code)
     ensures bytes { text.new.bytes ≡ text.old.bytes ++ code_words (numbers_of code.now) }
     ensures len { text_len text.new ≤ text_len text.old + 41 }
 {
-    push_decimal(text, u64::from(code.lat()));
+    push_short(text, u64::from(code.lat()));
     text.push(b' ');
-    push_decimal(text, u64::from(code.lon()));
+    push_short(text, u64::from(code.lon()));
 }

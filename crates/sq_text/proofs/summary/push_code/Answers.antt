@@ -6,9 +6,9 @@ pub returns-clause-bytes : goal.returns-clause-bytes
 unfolding code_words
 returns-clause-bytes g c =
     rw (
-      c.push_decimal-2.ensures.bytes,
+      c.push_short-2.ensures.bytes,
       c.push.ensures.bytes,
-      c.push_decimal.ensures.bytes,
+      c.push_short.ensures.bytes,
       c.from.ensures,
       c.from-2.ensures,
       c.lat.ensures.value,
