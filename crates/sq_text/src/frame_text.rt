@@ -44,11 +44,23 @@ pub fn read_text(text: &[u8]) -> Result<Frame, TextFault>
 pub(crate) fn frame_of_text(text: &[u8]) -> Option<Frame>
     ensures { IfSome result (IsFrameText text.now) }
 {
-    let body = body_of(text)?;
-    if body.len() != 28 {
-        return None;
+    frame_of_digits(body_of_28(text)?)
+}
+
+// The body, where it has 28 bytes. A wrapped one is looked for first, as most logs have it: its length says where the
+// wrapping stands.
+#[inline(always)]
+fn body_of_28(text: &[u8]) -> Option<&[u8]>
+    ensures { IfSome result (λ body. IsBody text.now body.now × (length body.now ≡ 28)) }
+{
+    if text.len() == 30 {
+        return match text {
+            [b'*', body @ .., b';'] => Some(body),
+            _ => None,
+        };
     }
-    frame_of_digits(body)
+    let body = body_of(text)?;
+    if body.len() == 28 { Some(body) } else { None }
 }
 
 // The frame of 28 digits, or the place of the first byte that is no digit.

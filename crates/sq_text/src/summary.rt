@@ -48,8 +48,8 @@ fn push_me<const N: usize>(text: &mut TextBuffer<N>, me: &Me)
     }
 }
 
-// The kind and the parity of an airborne position with spaces around them, even and odd, in rows of one length: a row is
-// one load and one store.
+// The kind and the parity of an airborne position with spaces around them, even and odd, in rows of sixteen characters:
+// a row is one load and one store.
 const AIR_WORDS: [[u8; 16]; 2] = [*b" air even       ", *b" air odd        "];
 
 // The kind and the parity of a surface position.
