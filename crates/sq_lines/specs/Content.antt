@@ -13,11 +13,14 @@ pub data Content : Type 0 where
   Empty : Content
   Text : (text : List ℕ) → Content
 
+-- nothing, or a text
+abbrev pub text_or_empty : List ℕ → Content
+text_or_empty text = if length text == 0 then Empty else Text text
+
 -- one carriage return at the end is dropped; it counts for the length alone
 unfoldable pub content : List ℕ → Content
 content line =
-    let text = strip_last carriage_return line in
-    if nat_lt line_limit (length line) then Long else (if length text == 0 then Empty else Text text)
+    if nat_lt line_limit (length line) then Long else text_or_empty (strip_last carriage_return line)
 
 -- what a value of the code stands for
 abbrev pub content_by : Line → Content

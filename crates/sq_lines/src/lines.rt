@@ -1,8 +1,7 @@
 //! What stands on a line.
 ghost use Rattle.std.specs.Prelude.{◌≡◌, List, ℕ};
-ghost use Rattle.std.specs.Io.BufRead.{strip_last};
 ghost use Rattle.sq_lines.specs.Held.{Holds};
-ghost use Rattle.sq_lines.specs.Content.{content_by, content};
+ghost use Rattle.sq_lines.specs.Content.{content_by, content, text_or_empty};
 
 use crate::cutter::Cutter;
 
@@ -37,19 +36,19 @@ pub(crate) fn content_in(line: &[u8]) -> Line<'_>
     if line.len() > LINE_LIMIT {
         return Line::Long;
     }
-    let text = without_return(line);
-    if text.is_empty() {
-        return Line::Empty;
+    match line {
+        [] => Line::Empty,
+        [front @ .., b'\r'] => text_of(front),
+        _ => Line::Text(line),
     }
-    Line::Text(text)
 }
 
-// The line but for a carriage return at its end.
-fn without_return(line: &[u8]) -> &[u8]
-    ensures { result.now ≡ strip_last 13 line.now }
+// The text of a line whose carriage return was taken off.
+fn text_of(front: &[u8]) -> Line<'_>
+    ensures { content_by result ≡ text_or_empty front.now }
 {
-    match line {
-        [front @ .., b'\r'] => front,
-        _ => line,
+    if front.is_empty() {
+        return Line::Empty;
     }
+    Line::Text(front)
 }
