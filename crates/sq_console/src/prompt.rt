@@ -1,5 +1,5 @@
 //! An input that flushes the output before it waits for more.
-ghost use Rattle.std.specs.Prelude.{◌≡◌, ◌≤◌, IfOk, None, false, length};
+ghost use Rattle.std.specs.Prelude.{◌≡◌, ◌<◌, ◌≤◌, IfOk, IfSome, None, false, length};
 ghost use Rattle.std.specs.Io.{ReadsAtMost};
 ghost use Rattle.std.specs.Io.Buffered.{reader_remaining};
 ghost use Rattle.std.specs.Io.KnownBytes.{ReadConsumes};
@@ -38,30 +38,36 @@ struct Buffered<W: Write + Drop> {
 }
 
 impl<W: Write + Drop> Buffered<W> {
-    // Takes the first bytes of a text, or answers 0 where it has none or the writer fails.
+    // Takes the first bytes of a text, and says how many; None where the writer fails, or takes none of a text that has
+    // bytes.
     #[inline(always)]
-    fn take(&mut self, text: &[u8]) -> usize
-        ensures { result ≤ length text.now }
+    fn take(&mut self, text: &[u8]) -> Option<usize>
+        ensures fits { IfSome result (λ count. count ≤ length text.now) }
+        ensures some { IfSome result (λ count. 0 < length text.now → 0 < count) }
     {
-        if text.len() > FRONT_BYTES - self.held {
+        let end = self.held + text.len();
+        if end > FRONT_BYTES {
             return self.take_far(text);
         }
-        let end = self.held + text.len();
         copy_text(&mut self.front[self.held..end], text);
         self.held = end;
-        text.len()
+        Some(text.len())
     }
 
     // Takes the first bytes of a text for which the array has no room.
     #[cold]
     #[inline(never)]
-    fn take_far(&mut self, text: &[u8]) -> usize
-        ensures { result ≤ length text.now }
+    fn take_far(&mut self, text: &[u8]) -> Option<usize>
+        ensures fits { IfSome result (λ count. count ≤ length text.now) }
+        ensures some { IfSome result (λ count. 0 < length text.now → 0 < count) }
     {
         if !self.send_front() {
-            return 0;
+            return None;
         }
-        self.writer.write(text).unwrap_or(0)
+        match self.writer.write(text) {
+            Ok(count) if count > 0 || text.is_empty() => Some(count),
+            _ => None,
+        }
     }
 
     // Hands what the array holds to the writer, whose buffer is longer: it takes all of it, or nothing where it fails.
@@ -272,8 +278,7 @@ impl<W: Write + Drop> Sink for PromptOutput<'_, W> {
     fn put(&mut self, from: &[u8]) -> Result<usize, Failed> {
         if let Ok(mut buffered) = self.output.buffered.try_borrow_mut() {
             if !buffered.flush_failed {
-                let count = buffered.take(from);
-                if count > 0 || from.is_empty() {
+                if let Some(count) = buffered.take(from) {
                     return Ok(count);
                 }
             }
