@@ -1,4 +1,4 @@
-use Rattle.std.proofs.Common.{◌++◌, ◌∙◌, [], ℕ, List, Option, arith, inl, inr, refl, subst, sym}
+use Rattle.std.proofs.Common.{◌++◌, ◌∙◌, [], ℕ, List, Option, arith, inl, inr, refl, rules, subst, sym}
 use Rattle.std.specs.Io.KnownBytes.{Appends, Consumes}
 use Rattle.std.proofs.KnownBytes.{Appends-kept, Consumes-nil, Consumes-trans}
 use Rattle.std.proofs.lemmas.List.{length-append}
@@ -208,3 +208,20 @@ returns-in-Ok-finish-clause-whole g c = whole g c
 pub returns-in-Ok-finish-clause-reported : goal.returns-in-Ok-finish-clause-reported
 returns-in-Ok-finish-clause-reported g c =
     took_reported (taken_from g.S.Source c.args.source.now c.answer_next.new.source) _ (whole g c)
+
+-- the sink's finish is the only one
+pub returns-in-Ok-finish-clause-finished : goal.returns-in-Ok-finish-clause-finished
+returns-in-Ok-finish-clause-finished g c = search (arith, rules)
+
+pub returns-in-Err-clause-unfinished : goal.returns-in-Err-clause-unfinished
+returns-in-Err-clause-unfinished g c =
+    c.in-Err.ensures.uncounted ∙ c.in-Ok.ensures.unfinished ∙ c.in_ok-has_more.ensures.unfinished
+    ∙ c.pieces.invariant.unfinished
+
+pub returns-in-Err-Write-clause-unfinished : goal.returns-in-Err-Write-clause-unfinished
+returns-in-Err-Write-clause-unfinished g c =
+    c.in-Err-Write.ensures.unfinished ∙ c.in_ok-has_more.ensures.unfinished ∙ c.pieces.invariant.unfinished
+
+pub returns-in-Err-Memory-clause-unfinished : goal.returns-in-Err-Memory-clause-unfinished
+returns-in-Err-Memory-clause-unfinished g c =
+    c.in-Err-Memory.ensures.unfinished ∙ c.in_ok-has_more.ensures.unfinished ∙ c.pieces.invariant.unfinished

@@ -6,6 +6,10 @@ use Rattle.sq_lines.specs.declared.faults.Outcome.TheVariants.{Good, Refused}
 use Rattle.sq_lines.proofs.Told.{put_line, put_line_part}
 use Rattle.sq_lines.proofs.runs.LineRun.answer_line.Goals as goal
 
+-- the text was cleared
+pub answer_content-requires : goal.answer_content-requires
+answer_content-requires g c = c.clear.ensures
+
 pub returns-in-Some-Good-clause-answered : goal.returns-in-Some-Good-clause-answered
 returns-in-Some-Good-clause-answered g c past first st =
     let n = c.args.self.now.number + 1 in

@@ -44,6 +44,14 @@ returns-in-Ok-answer_lines-clause-answered g c = λ start first read h.
       λ more. omega (arith, ltb-false 0 count more, long),
     )
 
+-- no byte came, though there was room, only where no more come
+pub returns-in-Ok-answer_lines-clause-end : goal.returns-in-Ok-answer_lines-clause-end
+returns-in-Ok-answer_lines-clause-end g c = λ more.
+    let count : ℕ = c.in-Ok.count in
+    let old : List ℕ = c.args.window.now.bytes in
+    let all : length old ≡ 129 = search rules in
+    c.in-Ok.ensures.end (omega (arith, ltb-false 0 count more)) (search rules)
+
 pub returns-in-Err-Write-clause-unwritten : goal.returns-in-Err-Write-clause-unwritten
 returns-in-Err-Write-clause-unwritten g c = λ is start first read h.
     let old : List ℕ = c.args.window.now.bytes in
