@@ -25,3 +25,12 @@ returns-in_err-place_pair c =
       c.in_err-place_pair.ensures,
       p.2,
     )))
+
+pub returns : goal.returns
+returns c = (
+  c.in_ok-older.older,
+  c.in_ok-newer.newer,
+  c.in_ok-older.ensures,
+  c.in_ok-newer.ensures,
+  c.in_ok-place_pair.ensures,
+)
