@@ -1,8 +1,8 @@
 //! An input that flushes the output before it waits for more.
-ghost use Rattle.std.specs.Prelude.{◌≡◌, ◌<◌, ◌≤◌, IfOk, IfSome, None, false, length};
-ghost use Rattle.std.specs.Io.{ReadsAtMost};
-ghost use Rattle.std.specs.Io.Buffered.{reader_remaining};
-ghost use Rattle.std.specs.Io.KnownBytes.{ReadConsumes};
+ghost use Rattle.std.specs.Prelude.{◌≡◌, ◌<◌, ◌≤◌, IfOk, IfSome, OnErr, OnOk, None, false, length, take, true};
+ghost use Rattle.std.specs.Io.Buffered.{reader_buffer, reader_remaining};
+ghost use Rattle.std.specs.Io.KnownBytes.{Consumes, IsAtEnd};
+ghost use Rattle.sq_devices.specs.Device.{KeepsOrHides};
 
 use sq_devices::{Failed, Sink, Source};
 use std::alloc::{AllocError, Global};
@@ -115,19 +115,17 @@ fn copy_text(into: &mut [u8], text: &[u8])
     last.copy_to_slice(&mut into[len - HALF..]);
 }
 
-// Reads as the reader does; a piece of its buffer is moved at once.
+// Moves a piece of the reader's buffer.
 #[inline(always)]
-fn read_piece<R: Read>(reader: &mut BufReader<R>, into: &mut [u8]) -> io::Result<usize>
-    ensures bound { ReadsAtMost result into.new }
-    ensures bytes { ReadConsumes (reader_remaining R.remaining reader.old)
-        (reader_remaining R.remaining reader.new) result into.new }
+fn move_piece<R: Read>(reader: &mut BufReader<R>, into: &mut [u8])
+    requires room { length into.old ≡ 64 }
+    requires held { 64 ≤ length (reader_buffer reader.old) }
+    ensures room { length into.new ≡ 64 }
+    ensures bytes { Consumes (reader_remaining R.remaining reader.old) (reader_remaining R.remaining reader.new)
+        (take 64 into.new) }
 {
-    if into.len() != PIECE || reader.buffer().len() < PIECE {
-        return reader.read(into);
-    }
     u8x64::from_slice(reader.buffer()).copy_to_slice(into);
     reader.consume(PIECE);
-    Ok(PIECE)
 }
 
 /// A buffered writer that an input and an output share.
@@ -203,6 +201,42 @@ impl<'a, R: Read + Drop, W: Write + Drop> PromptInput<'a, R, W> {
     }
 }
 
+impl<R: Read, W: Write + Drop> PromptInput<'_, R, W> {
+    ghost use Rattle.sq_console.specs.Prompt.{IsGiven, to_come_of};
+
+    // Gets what is no piece of the buffer, and flushes the output before it waits.
+    #[cold]
+    #[inline(never)]
+    fn get_far(&mut self, into: &mut [u8]) -> Result<usize, Failed>
+        ensures fits { IfOk result (λ n. n ≤ length into.new) }
+        ensures gave { IfOk result (λ n. IsGiven R.remaining self.old (take n into.new) self.new) }
+        ensures end { IfOk result (λ n. n ≡ 0 → 0 < length into.new → IsAtEnd (to_come_of R.remaining self.new)) }
+        ensures unmarked { OnOk result (self.new.failed ≡ self.old.failed) }
+        ensures failed { OnErr result (self.new.failed ≡ true) }
+        ensures kept { OnErr result (KeepsOrHides (to_come_of R.remaining self.old)
+            (to_come_of R.remaining self.new)) }
+        ensures unused { OnErr result (self.new.gets ≡ self.old.gets) }
+    {
+        if self.reader.buffer().is_empty() {
+            self.output.flush();
+        }
+        if self.gets == 0 {
+            self.failed = true;
+            return Err(Failed);
+        }
+        match self.reader.read(into) {
+            Ok(count) => {
+                self.gets -= 1;
+                Ok(count)
+            }
+            Err(_) => {
+                self.failed = true;
+                Err(Failed)
+            }
+        }
+    }
+}
+
 impl<R: Read, W: Write + Drop> Source for PromptInput<'_, R, W> {
     ghost use Rattle.sq_console.specs.Prompt.{IsGiven, get_failed, gets_of, to_come_of};
 
@@ -217,23 +251,13 @@ impl<R: Read, W: Write + Drop> Source for PromptInput<'_, R, W> {
     ghost few_gets = { λ s. s.few };
 
     fn get(&mut self, into: &mut [u8]) -> Result<usize, Failed> {
-        if self.reader.buffer().is_empty() {
-            self.output.flush();
+        // A piece of the buffer, as nearly each get asks for, is moved with no call.
+        if self.gets > 0 && into.len() == PIECE && self.reader.buffer().len() >= PIECE {
+            move_piece(&mut self.reader, into);
+            self.gets -= 1;
+            return Ok(PIECE);
         }
-        if self.gets == 0 {
-            self.failed = true;
-            return Err(Failed);
-        }
-        match read_piece(&mut self.reader, into) {
-            Ok(count) => {
-                self.gets -= 1;
-                Ok(count)
-            }
-            Err(_) => {
-                self.failed = true;
-                Err(Failed)
-            }
-        }
+        self.get_far(into)
     }
 }
 
