@@ -3,6 +3,7 @@ use Rattle.std.proofs.Common.{arith, ap, ap₂, sym, subst, ◌∙◌, subst₂,
 use Rattle.std.specs.Int.{w128}
 use Rattle.std.proofs.lemmas.Int.{ints}
 use Rattle.std.proofs.lemmas.Nat.{mul-le}
+use Rattle.sq_angle.specs.declared.angle.Angle.{Angle}
 use Rattle.sq_angle.specs.Angle.{degrees}
 use Rattle.sq_angle.proofs.Rounding.{IsRounded, nearest_from_rounded}
 use Rattle.sq_angle.proofs.Sizes.{mul_pos, scaled_size}
@@ -39,36 +40,29 @@ steps_small zones z steps few small is =
     subst (λ s. unsigned_abs s ≤ 2 * (60 * 131072) * (360 * 1000000000000)) (sym is)
     (scaled_size (2 * (zones * 131072)) (2 * (60 * 131072)) (360 * 1000000000000) z (omega (arith, few)) small)
 
--- Both terms of the dividend, as the code computes them, have a bound; z is the number as it is scaled.
-terms_small : (den span zones d s n : ℕ) (num z steps : ℤ) → den ≤ 1000000000000 → span ≤ 360 → zones ≤ 60
-    → unsigned_abs num ≤ 360 * den → d ≡ den → s ≡ span → n ≡ zones → z ≡ num → steps ≡ pos (2 * (n * 131072)) *ℤ z
+-- Both terms of the dividend, as the code computes them, have a bound; z is the angle's number as it is scaled.
+terms_small : (angle : Angle) (span zones d s n : ℕ) (z steps : ℤ) → span ≤ 360 → zones ≤ 60
+    → d ≡ angle.den → s ≡ span → n ≡ zones → z ≡ angle.num → steps ≡ pos (2 * (n * 131072)) *ℤ z
     → (unsigned_abs steps ≤ 2 * (60 * 131072) * (360 * 1000000000000)) × (d * s ≤ 1000000000000 * 360)
-terms_small den span zones d s n num z steps small few below near d_is s_is n_is z_is is = (
+terms_small angle span zones d s n z steps few below d_is s_is n_is z_is is = (
   steps_small n z steps (omega (arith, n_is, below))
-      (subst (λ v. unsigned_abs v ≤ 360 * 1000000000000) (sym z_is) (omega (arith, near, small))) is,
-  half_small_of den span d s d_is s_is small few,
+      (subst (λ v. unsigned_abs v ≤ 360 * 1000000000000) (sym z_is)
+      (omega (arith, angle.in_range.within, angle.in_range.at_most))) is,
+  half_small_of angle.den span d s d_is s_is angle.in_range.at_most few,
 )
 
 pub overflow_add-steps : goal.overflow_add-steps
 overflow_add-steps c =
     let angle = c.args.angle.now in
-    let value : to_z w128 (of_z w128 c.from-3.result) ≡ angle.num =
-    omega (arith, ints, angle.in_range.within, angle.in_range.at_most) in
-    let both = terms_small angle.den c.args.span c.args.zones c.den.result c.from.result c.from-2.result angle.num
-    (to_z w128 (of_z w128 c.from-3.result)) c.scaled-steps.result angle.in_range.at_most c.requires.span_small
-    c.requires.zones_small angle.in_range.within c.den.ensures c.from.ensures c.from-2.ensures value
-    c.scaled-steps.ensures in
+    let both = terms_small angle _ _ _ _ _ _ _ c.requires.span_small c.requires.zones_small c.den.ensures c.from.ensures
+    c.from-2.ensures (omega (arith, ints, angle.in_range.within, angle.in_range.at_most)) c.scaled-steps.ensures in
     omega (arith, ints, both.0, both.1, c.from-4.ensures)
 
 pub quotient_down-requires-clause-value_small : goal.quotient_down-requires-clause-value_small
 quotient_down-requires-clause-value_small c =
     let angle = c.args.angle.now in
-    let value : to_z w128 (of_z w128 c.from-3.result) ≡ angle.num =
-    omega (arith, ints, angle.in_range.within, angle.in_range.at_most) in
-    let both = terms_small angle.den c.args.span c.args.zones c.den.result c.from.result c.from-2.result angle.num
-    (to_z w128 (of_z w128 c.from-3.result)) c.scaled-steps.result angle.in_range.at_most c.requires.span_small
-    c.requires.zones_small angle.in_range.within c.den.ensures c.from.ensures c.from-2.ensures value
-    c.scaled-steps.ensures in
+    let both = terms_small angle _ _ _ _ _ _ _ c.requires.span_small c.requires.zones_small c.den.ensures c.from.ensures
+    c.from-2.ensures (omega (arith, ints, angle.in_range.within, angle.in_range.at_most)) c.scaled-steps.ensures in
     omega (arith, ints, both.0, both.1, c.from-4.ensures)
 
 module _ (c : goal.After-quotient_down) where
