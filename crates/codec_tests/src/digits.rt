@@ -1,7 +1,7 @@
 //! Texts in buffers, and numbers as digits in them.
 use sq_digits::{
-    TextBuffer, push_decimal, push_digit, push_hexadecimal, push_leading, push_six_places,
-    push_three,
+    TextBuffer, push_decimal, push_digit, push_hexadecimal, push_leading, push_short,
+    push_six_places, push_three,
 };
 
 // The number in decimal digits.
@@ -48,6 +48,21 @@ fn short_numbers(rt: HostRuntime) {
     push_three(&mut text, 999);
     push_digit(&mut text, 0);
     assert!(rt; text.as_str() == "742900 0070429990");
+}
+
+#[test]
+fn numbers_below_a_million(rt: HostRuntime) {
+    let mut text = TextBuffer::<40>::new();
+    push_short(&mut text, 0);
+    text.push(b' ');
+    push_short(&mut text, 999);
+    text.push(b' ');
+    push_short(&mut text, 1_000);
+    text.push(b' ');
+    push_short(&mut text, 131_071);
+    text.push(b' ');
+    push_short(&mut text, 999_999);
+    assert!(rt; text.as_str() == "0 999 1000 131071 999999");
 }
 
 #[test]
