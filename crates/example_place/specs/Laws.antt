@@ -7,7 +7,7 @@ use Rattle.sq_cpr.specs.Span.{air, ground}
 use Rattle.sq_cpr.specs.Grid.{Point}
 use Rattle.sq_cpr.specs.Near.{IsStrictlyNearPosition}
 use Rattle.sq_message.specs.declared.place.Place.{Place}
-use Rattle.sq_message.specs.Kinds.{HeadParts, InAir, Kind, OnGround}
+use Rattle.sq_message.specs.Kinds.{HeadParts, InAir, OnGround}
 use Rattle.sq_message.specs.Sending.{IsSent}
 use Rattle.sq_text.specs.FrameText.{IsFrameText}
 use Rattle.example_place.specs.declared.fault.Fault.{Fault}

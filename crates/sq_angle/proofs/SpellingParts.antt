@@ -2,7 +2,6 @@
 use Rattle.std.proofs.Common.{◌≡◌, ◌⊎◌, ℕ, List, [], ◌∷◌, ◌++◌, ◌≤◌, inl, inr, length, arith}
 use Rattle.std.proofs.lemmas.Bool.{cases_lt}
 use Rattle.std.specs.List.{AllByRecursion}
-use Rattle.std.specs.Char.{IsAsciiDigit}
 use Rattle.sq_angle.specs.Spelling.{IsSpelling, Parts}
 
 -- an ASCII digit, in numbers

@@ -5,7 +5,6 @@ use mir.Syntax.{Ty}
 use denote.RawPtr.{Ptr}
 use Rattle.std.specs.Prelude.{ℕ, Option, Some, None}
 use Rattle.std.specs.Box.Ownership.{box_owns}
-use Rattle.std.proofs.Common.{Global}
 use Rattle.std.specs.contracts.impls.GlobalAllocator.TheImpl.{ghosts}
 use Rattle.sq_track.specs.contracts.tracker.Tracker.{the_row}
 

@@ -1,4 +1,4 @@
-use Rattle.std.proofs.Common.{◌≡◌, ◌/◌, arith, append_assoc, refl}
+use Rattle.std.proofs.Common.{arith, append_assoc}
 use Rattle.sq_digits.proofs.Decimals.{decimal_thousands}
 use Rattle.sq_digits.proofs.decimal.push_short.Goals as goal
 
