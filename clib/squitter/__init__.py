@@ -27,9 +27,9 @@ from typing import Iterable, Iterator, List, NamedTuple, Optional, Sequence, Tup
 
 __all__ = [
     "AirHead", "Altitude", "AltitudeForm", "Code", "Contact", "Fault", "Fields", "Frame", "GroundHead", "Heard", "Kind",
-    "Position", "Present", "Tracker", "What", "Zones", "angle", "angle_e7", "angle_text", "encode", "fault_text", "feet_of_field",
-    "field_of_feet", "frame", "frame_text", "local", "local_many", "local_zones", "pair", "pair_many", "position_e7",
-    "read", "read_many", "send_again", "version", "zone_count",
+    "Position", "Present", "Tracker", "What", "Zones", "angle", "angle_e7", "angle_text", "encode", "fault_text",
+    "feet_of_field", "field_of_feet", "frame", "frame_text", "local", "local_many", "local_zones", "pair", "pair_many",
+    "position_e7", "read", "read_many", "send_again", "version", "zone_count",
 ]
 
 Frame = Union[bytes, bytearray, str]
@@ -179,8 +179,9 @@ class GroundHead:
 
 class Zones(NamedTuple):
     """How a place comes about. With the code ``lat`` and ``lon`` of its frame, its latitude is
-    ``degrees / lat_zones * (lat_zone + lat / 2**17)``, and its longitude ``degrees / lon_zones * (lon_zone + lon / 2**17)``,
-    less 360 degrees from 180 up. ``zone_count`` is NL of its latitude."""
+    ``degrees / lat_zones * (lat_zone + lat / 2**17)``, and its longitude
+    ``degrees / lon_zones * (lon_zone + lon / 2**17)``, less 360 degrees from 180 up. ``zone_count`` is NL of its
+    latitude."""
 
     lat_zone: int
     lon_zone: int
@@ -411,7 +412,8 @@ def _look(here: Optional[_Position]) -> None:
 
 
 def _frame_near(source: Frame, here: Optional[_Position]) -> bytes:
-    """The bytes of a frame. Where its text is at fault, the fault of the position comes first, as in the library's calls."""
+    """The bytes of a frame. Where its text is at fault, the fault of the position comes first, as in the library's
+    calls."""
     try:
         return frame(source)
     except Fault:
@@ -420,7 +422,8 @@ def _frame_near(source: Frame, here: Optional[_Position]) -> bytes:
 
 
 def _two_frames(older: Frame, newer: Frame, here: Optional[_Position]) -> Tuple[bytes, bytes]:
-    """The bytes of two frames. What is wrong with the older one comes before what is wrong with the text of the newer."""
+    """The bytes of two frames. What is wrong with the older one comes before what is wrong with the text of the
+    newer."""
     first = _frame_near(older, here)
     try:
         return first, frame(newer)
@@ -439,8 +442,8 @@ def _read_position(position: _Position) -> Position:
 
 
 def _text(text: str) -> bytes:
-    """The bytes of a text, as the operating system hands them over: what is no UTF-8 comes as it was. Of other halves of
-    surrogate pairs, which no text has, the bytes are three that no frame and no angle has."""
+    """The bytes of a text, as the operating system hands them over: what is no UTF-8 comes as it was. Of other halves
+    of surrogate pairs, which no text has, the bytes are three that no frame and no angle has."""
     try:
         return text.encode("utf-8", "surrogateescape")
     except UnicodeEncodeError:
@@ -451,7 +454,8 @@ def _text(text: str) -> bytes:
 
 
 def frame(source: Frame) -> bytes:
-    """The 14 bytes of a frame, or of a frame text. Another number of bytes, or items that are wider, raise ValueError."""
+    """The 14 bytes of a frame, or of a frame text. Another number of bytes, or items that are wider, raise
+    ValueError."""
     if isinstance(source, str):
         out, text = _FRAME(), _text(source)
         _done(_lib.squitter_frame_of_text(text, len(text), ctypes.byref(out)))
@@ -575,9 +579,10 @@ def pair_many(older: Frames, newer: Frames, site: Optional[Position] = None) -> 
 class Contact:
     """What is kept of one address, and what is heard of one frame more of it.
 
-    The caller finds the contact of a frame's address; a frame of another address is not looked for. Moments and the window
-    are whole numbers below 2**64 of milliseconds, or of any other unit. One thread at a time may let a contact hear. A copy,
-    or what is made of a pickle on a machine of the same byte order, has heard what the contact has, and goes its own way.
+    The caller finds the contact of a frame's address; a frame of another address is not looked for. Moments and the
+    window are whole numbers below 2**64 of milliseconds, or of any other unit. One thread at a time may let a contact
+    hear. A copy, or what is made of a pickle on a machine of the same byte order, has heard what the contact has, and
+    goes its own way.
     """
 
     __slots__ = ("_entry", "_site", "_window")
@@ -649,9 +654,9 @@ def _times(moments: Sequence[int], count: int) -> ctypes.Array[ctypes.c_uint64]:
 class Tracker:
     """All addresses at once, as the program ``squitter track`` hears them: what each frame answers by those before it.
 
-    Its memory is the library's, and is given back by :meth:`close`, at the end of a ``with``, or with the tracker itself;
-    afterwards each call raises the Fault NO_TRACKER. Calls from several threads wait for one another. A tracker has no
-    copy and no pickle: :class:`Contact` and ``squitter.batch.Tracker`` have.
+    Its memory is the library's, and is given back by :meth:`close`, at the end of a ``with``, or with the tracker
+    itself; afterwards each call raises the Fault NO_TRACKER. Calls from several threads wait for one another. A tracker
+    has no copy and no pickle: :class:`Contact` and ``squitter.batch.Tracker`` have.
 
     >>> with Tracker(window=10_000) as tracker:
     ...     tracker.hear(0, "8D40621D58C386435CC412692AD6").what.name
@@ -706,9 +711,9 @@ class Tracker:
         one moment a frame is a ValueError."""
         source, count = _frames(frames)
         times = _times(moments, count)
+        arrays = (ctypes.addressof(times), count, source, count)
         with self._lock:
-            answers = list(_many("tracker_hear_many", _Heard, count, ctypes.byref(self._tracker), ctypes.addressof(times),
-                                 count, source, count))
+            answers = list(_many("tracker_hear_many", _Heard, count, ctypes.byref(self._tracker), *arrays))
         return [fault or _read_heard(out) for out, fault in answers]
 
     def __len__(self) -> int:
@@ -717,8 +722,8 @@ class Tracker:
             return int(_lib.squitter_tracker_len(ctypes.byref(self._tracker)))
 
     def __getitem__(self, index: int) -> Present:
-        """The present address at an index, the longest unheard first; below 0 from the newest on. The time grows with the
-        index."""
+        """The present address at an index, the longest unheard first; below 0 from the newest on. The time grows with
+        the index."""
         place, out = operator.index(index), _Present()
         with self._lock:
             count = int(_lib.squitter_tracker_len(ctypes.byref(self._tracker)))

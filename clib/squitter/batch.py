@@ -412,7 +412,8 @@ def _look_at(window: int, limit: Optional[int]) -> None:
 
 
 def _one_ahead(call: Callable[[int], Records], count: int) -> Generator[Records, None, None]:
-    """What the call answers for 0, 1 and so on. While its caller has one answer, the next call runs in another thread."""
+    """What the call answers for 0, 1 and so on. While its caller has one answer, the next call runs in another
+    thread."""
     if count < 2:
         yield from map(call, range(count))
         return
@@ -429,8 +430,8 @@ def _write_part(
     heard: Records, frames: npt.NDArray[np.uint8], room: Sequence[Records], blank: Optional[Records], out: Records,
     faults: Records,
 ) -> None:
-    """Writes what was heard of some lines. The room is for the places, these in degrees, and which of them are none. At a
-    fault the record stays as it was, or is blank."""
+    """Writes what was heard of some lines. The room is for the places, these in degrees, and which of them are none. At
+    a fault the record stays as it was, or is blank."""
     places, degrees, nowhere = room
     bad = np.flatnonzero(faults["code"])
     if (faults["code"][bad] == Code.NO_MEMORY).any():
