@@ -36,6 +36,7 @@ import numpy.typing as npt
 
 import squitter
 from squitter import Code, Kind, Position, What
+from squitter._library import _ARRAY, _FRAME, _Entry, _fits, _lib, _text
 
 __all__ = [
     "DEGREES", "FAULT", "FIELDS", "POSITION", "TRACKED", "Tracker", "csv_rows", "lines", "local", "pair", "pair_at",
@@ -72,11 +73,10 @@ place only where lon_den is not 0. `even` and `odd` are the zone counts of SPLIT
 
 _HEARD = np.dtype([*POSITION.descr, ("what", "u1"), ("even", "u1"), ("odd", "u1")], align=True)
 _DEGREES_E7 = np.dtype([("lat", "i4"), ("lon", "i4")], align=True)
-_ENTRY_WORDS = ctypes.sizeof(squitter._Entry) // 8
+_ENTRY_WORDS = ctypes.sizeof(_Entry) // 8
 _BLOCK = 1 << 18  # lines that are heard at once, so that what is needed beside the answers stays small
 _PART = 1 << 14  # and few enough to stay in the processor's cache
 _ADDRESSES = 1 << 24  # as many as there are
-_lib = squitter._lib
 
 
 # ---- what is handed over ----
@@ -163,7 +163,7 @@ def _frames_of_texts(name: str, texts: Sequence[Any]) -> _Frames:
     joined = "".join(map(_body, texts)).encode("latin-1", "replace")
     digits = np.frombuffer(joined, np.uint8) if texts else np.zeros(0, np.uint8)
     frames, bad = _decoded(digits.reshape(-1, _BODY))
-    return _Frames(frames, bad, _text_faults(squitter._text(texts[place]) for place in bad.tolist()))
+    return _Frames(frames, bad, _text_faults(_text(texts[place]) for place in bad.tolist()))
 
 
 def _body(text: str) -> str:
@@ -208,7 +208,7 @@ def _decoded(digits: npt.NDArray[np.uint8]) -> Tuple[npt.NDArray[np.uint8], npt.
 
 def _text_faults(texts: Iterable[bytes]) -> Records:
     """Why each of these texts is no frame."""
-    out, told = squitter._FRAME(), []
+    out, told = _FRAME(), []
     for text in texts:
         fault = _lib.squitter_frame_of_text(text, len(text), ctypes.byref(out))
         told.append((fault.code, fault.second, fault.first))
@@ -405,9 +405,9 @@ def track(
 
 def _look_at(window: int, limit: Optional[int]) -> None:
     """Raises ValueError for a window or a limit that is none."""
-    if not squitter._fits(window, 64):
+    if not _fits(window, 64):
         raise ValueError("a window is a whole number below 2**64")
-    if limit is not None and not (squitter._fits(limit, 32) and limit):
+    if limit is not None and not (_fits(limit, 32) and limit):
         raise ValueError("a limit is a whole number from 1, below 2**32")
 
 
@@ -627,7 +627,7 @@ def _hearing(window: int, site: Optional[bytes]) -> Callable[..., int]:
     name = "squitter_hear_many" if site is None else "squitter_hear_at_many"
     call = _lib[name]  # (by its name in brackets it is a new object, whose entry is an address)
     of_site = [] if site is None else [ctypes.c_char_p]
-    call.argtypes = [ctypes.c_void_p, ctypes.c_uint64, *of_site, *(4 * squitter._ARRAY)]
+    call.argtypes = [ctypes.c_void_p, ctypes.c_uint64, *of_site, *(4 * _ARRAY)]
     call.restype = ctypes.c_size_t
     if site is None:
         return lambda entry, *arrays: call(entry, window, *arrays)

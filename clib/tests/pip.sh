@@ -28,10 +28,11 @@ import os
 import sys
 
 import squitter
+from squitter import _library
 
 folder = os.path.dirname(squitter.__file__)
 assert folder.startswith(sys.prefix), folder
-assert squitter._lib._name == os.path.join(folder, "libsquitter.so.0"), squitter._lib._name
+assert _library._lib._name == os.path.join(folder, "libsquitter.so.0"), _library._lib._name
 assert os.path.exists(os.path.join(folder, "py.typed"))
 assert importlib.metadata.version("squitter") == squitter.version()
 modules = [squitter]

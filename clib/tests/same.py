@@ -17,6 +17,7 @@ CRATES = [os.path.join(os.path.dirname(CLIB), "crates", name) for name in ("sq_p
 sys.path.insert(0, CLIB)
 os.environ.setdefault("LIBSQUITTER", os.path.join(CLIB, "libsquitter.so.0"))
 import squitter  # noqa: E402
+from squitter import _library  # noqa: E402
 
 CC = os.environ.get("CC", "cc")
 NUMBERS = {"u8": "uint8_t", "u16": "uint16_t", "u32": "uint32_t", "u64": "uint64_t", "i32": "int32_t", "i64": "int64_t",
@@ -153,7 +154,7 @@ def check_c():
 
 def check_python_structs():
     for name, fields in structs():
-        here = getattr(squitter, STRUCTS[name][1])
+        here = getattr(_library, STRUCTS[name][1])
         if [n for n, _ in here._fields_] != [n for n, _ in fields]:
             differ(f"fields of {here.__name__} in the module")
         for (field, rust), (_, kind) in zip(fields, here._fields_):
@@ -253,7 +254,7 @@ def check_symbols():
         wanted = {row[-1].split("@")[0] for row in symbols(*words, "--undefined-only", path)}
         if wanted - WANTED:
             differ(f"{file} wants {sorted(wanted - WANTED)}")
-    called = {f"squitter_{name}" for name in {**squitter._CALLS, **squitter._MANY}}
+    called = {f"squitter_{name}" for name in {**_library._CALLS, **_library._MANY}}
     called |= {"squitter_text_of_frame", "squitter_text_of_fault", "squitter_version"}
     called |= {"squitter_tracker_len", "squitter_tracker_free"}
     if called != names:

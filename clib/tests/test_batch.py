@@ -24,7 +24,7 @@ HERE = os.path.dirname(os.path.abspath(__file__))
 TOP = os.path.join(HERE, "..", "..")
 sys.path.insert(0, os.path.join(HERE, ".."))
 import squitter  # noqa: E402
-from squitter import AirHead, Code, Contact, Fault, GroundHead, Position, What, batch  # noqa: E402
+from squitter import AirHead, Code, Contact, Fault, GroundHead, Position, What, _library, batch  # noqa: E402
 
 PROGRAM = os.environ.get("PROGRAM") or os.path.join(TOP, "squitter")
 COUNT = 50_000
@@ -94,7 +94,7 @@ def random_log(rng: random.Random, count: int) -> Tuple[List[int], List[str]]:
 
 
 def by_program(moments: Sequence[int], texts: Sequence[str], *words: str) -> bytes:
-    log = b"".join(b"%d %s\n" % (moment, squitter._text(text)) for moment, text in zip(moments, texts))
+    log = b"".join(b"%d %s\n" % (moment, _library._text(text)) for moment, text in zip(moments, texts))
     return subprocess.run([PROGRAM, "track", *words], input=log, stdout=subprocess.PIPE).stdout
 
 
@@ -169,7 +169,7 @@ class Batch(unittest.TestCase):
         kinds = {batch.FAULT: "_Fault", batch.FIELDS: "_Fields", batch.POSITION: "_Position", batch._HEARD: "_Heard",
                  batch._DEGREES_E7: "_DegreesE7"}
         for dtype, name in kinds.items():
-            self.assertEqual((list(flat(getattr(squitter, name))), ctypes.sizeof(getattr(squitter, name))), (
+            self.assertEqual((list(flat(getattr(_library, name))), ctypes.sizeof(getattr(_library, name))), (
                 [(dtype.fields[one][1], dtype.fields[one][0].itemsize, one) for one in dtype.names], dtype.itemsize))
 
     def test_doctests(self) -> None:

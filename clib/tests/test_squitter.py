@@ -270,6 +270,8 @@ class Calls(unittest.TestCase):
             other.hear(7, GROUND_OLDER)
             self.assertEqual(other.hear(8, GROUND_NEWER).position, GROUND_PLACE)
         self.assertEqual(contact.hear(6, EVEN).what, What.FIX)
+        # its parts are named by the package too, not by a module in it
+        self.assertNotIn(b"squitter.", pickle.dumps(contact))
         fault = Fault(Code.ZONE_COUNTS, 45, 44)
         for other in (copy.copy(fault), copy.deepcopy(fault), pickle.loads(pickle.dumps(fault))):
             self.assertEqual((other.code, other.first, other.second), (Code.ZONE_COUNTS, 45, 44))
