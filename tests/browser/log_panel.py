@@ -1,0 +1,256 @@
+"""Parts of tests/page about its panel of a log: what it hears, and the tracks on its map."""
+import json
+import os
+import re
+import time
+
+from chromium import Chromium
+from logs import USUAL, damaged, flights, hostile_logs, of_address, tracked
+from trying import AIR_EVEN, SITE, Tries, bytes_of, expect, first_difference
+from using import clicked, given_log, heard, pressed, shown, silent, typed
+
+
+def example(tries: Tries) -> str:
+    """The example by its button: its text is what the program answers, and its tracks are cut at 180 degrees."""
+    browser = tries.page("log")
+    clicked(browser, "#log-example")
+    heard(browser)
+    clicked(browser, "#log-text")
+    text, wanted = tries.downloaded("answers.txt"), tracked(tries.program, flights(), (10_000, 1000, SITE))
+    expect(text == wanted, first_difference(text, wanted))
+    clicked(browser, "#log-geojson")
+    features = json.loads(tries.downloaded("tracks.geojson"))["features"]
+    lines = [one["geometry"]["coordinates"] for one in features if one["geometry"]["type"] == "LineString"]
+    points = sum(map(len, lines)) + len(features) - len(lines)
+    expect(points == len(re.findall(rb"^\d+ (?:fix|followed) ", wanted, re.M)), points, "places")
+    expect(
+        all(abs(a[0] - b[0]) < 180 for line in lines for a, b in zip(line, line[1:])), "a line goes around the Earth"
+    )
+    expect({one["properties"]["address"] for one in features} >= {"7C0003", "A00002"}, features)
+    typed(browser, filter_what="0")
+    expect(
+        shown(browser, "#log-rows").endswith(f"of {len(re.findall(rb'(bad|parity|short|not DF17|moment)', wanted))}."),
+        shown(browser, "#log-rows"),
+    )
+    typed(browser, filter_what="places", filter_address="7c0003")
+    rows = browser.evaluate(
+        "[...document.querySelectorAll('#log-table tbody tr')].map((row) => row.cells[3].textContent)"
+    )
+    expect(len(rows) == 100 and set(rows) == {"7C0003"}, rows)
+    places = len(re.findall(rb"^\d+ (?:fix|followed) 7C0003 ", wanted, re.M))
+    expect(shown(browser, "#log-rows") == f"Answers 1 to 100 of {places}.", shown(browser, "#log-rows"), places)
+    silent(browser)
+    return f"{len(wanted.splitlines())} answers, {len(features)} pieces of tracks"
+
+
+DROP = """(() => {
+  const dataTransfer = new DataTransfer();
+  dataTransfer.items.add(new File([exampleLog()], "dropped.log"));
+  const drop = new DragEvent("drop", { dataTransfer, bubbles: true, cancelable: true });
+  document.getElementById("log-table").dispatchEvent(drop);
+})()"""
+
+
+def logs_in_browser(tries: Tries) -> str:
+    """Hostile logs as files, beside the program."""
+    browser = tries.page("log")
+    count = 0
+    for name, log, (window, limit, site) in hostile_logs():
+        path = f"{tries.work}/given.log"
+        with open(path, "wb") as file:
+            file.write(log)
+        lat, lon = site or ("", "")
+        typed(browser, log_window=str(window), log_limit=str(limit), log_lat=lat, log_lon=lon)
+        browser.evaluate("document.getElementById('log-file').value = ''")
+        browser.give("#log-file", path)
+        browser.wait("squitterLog.name === 'given.log'")
+        got, wanted = heard(browser), tracked(tries.program, log, (window, limit, site))
+        expect(got == wanted, name, first_difference(got, wanted))
+        browser.evaluate("squitterLog.name = ''")
+        count += 1
+    typed(browser, log_window="10000", log_limit="1000", log_lat=SITE[0], log_lon=SITE[1])
+    browser.evaluate(DROP)
+    got, wanted = heard(browser), tracked(tries.program, flights(), (10_000, 1000, SITE))
+    expect(got == wanted and "dropped.log" in shown(browser, "#log-state"), first_difference(got, wanted))
+    for field, bad in (("log_window", "x"), ("log_limit", "0"), ("log_lat", "91"), ("log_lon", "")):
+        typed(browser, log_window="10000", log_limit="1000", log_lat="1", log_lon="1")
+        typed(browser, **{field: bad})
+        clicked(browser, "#log-example")
+        expect(shown(browser, "#log-state").startswith("Refused: "), field, shown(browser, "#log-state"))
+    silent(browser)
+    return f"{count} logs, and one dropped"
+
+
+def huge_line(tries: Tries) -> str:
+    """A hundred million bytes without a line feed, and a good line after them: the page keeps no more than a line."""
+    browser = tries.page("log")
+    path, good = f"{tries.work}/huge.log", b"\n1 " + AIR_EVEN.encode() + b"\n"
+    with open(path, "wb") as file:
+        for _ in range(100):
+            file.write(b"8D" * 500_000)
+        file.write(good)
+    typed(browser, log_window="10000", log_limit="1000", log_lat="", log_lon="")
+    browser.evaluate("document.getElementById('log-file').value = ''")
+    browser.give("#log-file", path)
+    browser.wait("squitterLog.name === 'huge.log'")
+    got, wanted = heard(browser), tracked(tries.program, bytes_of(path), USUAL)
+    expect(got == wanted and got.count(b"\n") == 2, got[:200], wanted[:200])
+    silent(browser)
+    return f"{os.path.getsize(path)} bytes, {got.count(10)} answers"
+
+
+def long_log(tries: Tries) -> str:
+    """Two hundred thousand lines: the page answers meanwhile, can cancel, and hears them all."""
+    browser = tries.page("log")
+    path, log = f"{tries.work}/long.log", damaged(200_000)
+    with open(path, "wb") as file:
+        file.write(log)
+    browser.give("#log-file", path)
+    browser.wait("squitterLog.answers.count > 0")
+    slowest = 0.0
+    while browser.evaluate("squitterLog.worker !== null"):
+        start = time.monotonic()
+        browser.evaluate("document.getElementById('log-progress').value")
+        slowest = max(slowest, time.monotonic() - start)
+    expect(slowest < 5, "the page did not answer for", slowest, "seconds")
+    got, wanted = heard(browser), tracked(tries.program, log, (10_000, 1000, SITE))
+    expect(got == wanted, first_difference(got, wanted))
+    browser.evaluate("document.getElementById('log-file').value = ''")
+    browser.give("#log-file", path)
+    browser.wait("squitterLog.worker !== null && squitterLog.answers.count > 0")
+    clicked(browser, "#log-cancel")
+    part = heard(browser)
+    expect("cancelled" in shown(browser, "#log-state") and wanted.startswith(part), shown(browser, "#log-state"))
+    silent(browser)
+    return f"{len(wanted.splitlines())} answers"
+
+
+PLANES = """Object.values(PROJECTIONS).map((one) => {
+  let worst = 0;
+  for (let lat = -89.5; lat < 90; lat += 3.7) {
+    for (let lon = -179.5; lon < 180; lon += 7.3) {
+      if (!one.shows(lat)) continue;
+      const back = one.degrees({ x: one.x(lon, lat), y: one.y(lon, lat) });
+      worst = Math.max(worst, Math.abs(back.lon - lon), Math.abs(back.lat - lat));
+    }
+  }
+  return worst;
+})"""
+
+DRAWN = """((lon, lat) => {
+  squitterLog.map.draw();
+  const { x, y } = squitterLog.map.spot({ lon, lat }), canvas = document.getElementById("map");
+  const color = getComputedStyle(canvas).getPropertyValue("--track0").trim().slice(1);
+  const wanted = [0, 2, 4].map((from) => parseInt(color.slice(from, from + 2), 16));
+  const copy = Object.assign(document.createElement("canvas"), { width: canvas.width, height: canvas.height });
+  const pen = copy.getContext("2d", { willReadFrequently: true });
+  pen.drawImage(canvas, 0, 0);
+  const pixels = [...pen.getImageData(Math.round(x) - 2, Math.round(y) - 2, 5, 5).data];
+  const isTrack = (at) => pixels[at + 3] > 60 && wanted.every((part, one) => Math.abs(pixels[at + one] - part) < 25);
+  const isSeen = x > 0 && y > 0 && x < canvas.clientWidth && y < canvas.clientHeight;
+  return isSeen && pixels.some((part, at) => at % 4 === 0 && isTrack(at));
+})"""
+
+
+def maps(tries: Tries) -> str:
+    """Tracks near a pole are shown around it, by themselves or as it is chosen; places are where they are drawn."""
+    browser = tries.page("log")
+    worst = browser.evaluate(PLANES)
+    expect(max(worst) < 1e-9, "there and back:", worst)
+    south = of_address(flights(), "A00002").decode().splitlines()
+    count = 0
+    for address, title in (("A00002", "around the north pole"), ("7C0003", "degrees as they are")):
+        given_log(browser, tries, of_address(flights(), address))
+        browser.wait(f"document.getElementById('map-state').innerText.includes('{title}')")
+        spots = browser.evaluate(
+            "squitterLog.tracks.pieces().sort((a, b) => b.lons.length - a.lons.length)"
+            ".slice(0, 1).map(({ lons, lats }) => [lons[1], lats[1]])"
+        )
+        browser.evaluate(f"squitterLog.map.fit(0x{address})")
+        for lon, lat in sorted(spots)[:1]:
+            expect(browser.evaluate(f"{DRAWN}({lon}, {lat})"), address, lon, lat, "is not drawn")
+            count += 1
+    clicked(browser, "#log-example")
+    heard(browser)
+    expect("degrees as they are" in shown(browser, "#map-state"), shown(browser, "#map-state"))
+    count += zoomed_views(browser)
+    clicked(browser, "[data-map=fit]")
+    chosen_spot(tries)
+    seam = browser.evaluate("squitterLog.tracks.pieces(0x7C0003).map(({ joined }) => joined)")
+    expect(seam == [False, True], "7C0003 is cut", seam)
+    silent(browser)
+    return f"{count} views and places, {len(south)} lines near the pole"
+
+
+def zoomed_views(browser: Chromium) -> int:
+    """The point under the pointer stays there in each view, from far and from near; how many views there are."""
+    count = 0
+    for view, title in (("north", "north pole"), ("south", "south pole"), ("plain", "as they are")):
+        field = "document.getElementById('map-view')"
+        browser.evaluate(f"{field}.value = '{view}'; {field}.dispatchEvent(new Event('change'))")
+        browser.wait(f"document.getElementById('map-state').innerText.includes('{title}')")
+        for factor in (1, 40, 4000, 1 / 1e6):
+            browser.evaluate(f"squitterLog.map.zoom({factor}); squitterLog.map.draw()")
+            moved = browser.evaluate(
+                "(() => { const { map } = squitterLog, at = map.pointAt(30, 40); map.zoom(1.7, 30, 40);"
+                "const then = map.pointAt(30, 40); return Math.hypot(at.x - then.x, at.y - then.y) * map.scale })()"
+            )
+            expect(moved < 0.01, view, "the point under the pointer moves by", moved)
+            count += 1
+    return count
+
+
+def chosen_spot(tries: Tries) -> None:
+    """The newest place of an aircraft is chosen by the pointer near it, and told as the program answers it."""
+    browser = tries.browser
+    spot = "squitterLog.map.spot(squitterLog.tracks.newest(0xA00002))"
+    told = browser.evaluate(
+        f"(() => {{ const {{ x, y }} = {spot}; const map = squitterLog.map;"
+        "map.choose(map.nearest(x + 3, y - 2)); return document.getElementById('map-spot').innerText })()"
+    )
+    answers = tracked(tries.program, flights(), (10_000, 1000, SITE)).decode().splitlines()
+    newest = [line for line in answers if "A00002" in line][-1]
+    number, _, address, lat, lon = newest.split(" ")
+    expect(told.startswith(f"{address} at {lat} {lon}, moment ") and told.endswith(f"line {number}."), told, newest)
+    expect(browser.evaluate("squitterLog.map.nearest(-500, -500)") is None, "a place far away is chosen")
+
+
+def played(tries: Tries) -> str:
+    """The log played again: places up to the moment alone, by the button, the slider and its keys."""
+    browser = tries.page("log")
+    clicked(browser, "#log-example")
+    heard(browser)
+    answers = [line.split(b" ") for line in tracked(tries.program, flights(), (10_000, 1000, SITE)).splitlines()]
+    moments = [int(line.split(b" ")[0]) for line in flights().splitlines()]
+    places = sorted(moments[int(number) - 1] for number, what, *_ in answers if what in (b"fix", b"followed"))
+    expect(browser.evaluate("squitterLog.map.until === Infinity"), "not all is shown at first")
+    count = 0
+    for value in (0, 1, 250, 500, 999, 1000):
+        typed(browser, play_slider=str(value))
+        moment = browser.evaluate("squitterLog.playback.moment")
+        expect(abs(moment - places[0] - (places[-1] - places[0]) * value / 1000) < 1, value, "is moment", moment)
+        drawn = browser.evaluate("squitterLog.tracks.count(squitterLog.map.until)")
+        expect(drawn == sum(place <= moment for place in places), drawn, "places up to", moment)
+        count += 1
+    browser.evaluate("document.getElementById('play-slider').focus()")
+    for key, wanted in (("Home", places[0]), ("End", places[-1])):
+        pressed(browser, key)
+        expect(browser.evaluate("squitterLog.playback.moment") == wanted, key)
+    before = browser.evaluate("squitterLog.playback.moment")
+    pressed(browser, "ArrowLeft")
+    expect(browser.evaluate("squitterLog.playback.moment") < before, "the arrow does nothing")
+    typed(browser, play_slider="0", play_speed="10")
+    clicked(browser, "#play-button")
+    browser.wait("squitterLog.playback.moment > squitterLog.playback.first")
+    expect(shown(browser, "#play-button") == "Pause", shown(browser, "#play-button"))
+    clicked(browser, "#play-button")
+    paused = browser.evaluate("new Promise((done) => setTimeout(() => done(squitterLog.playback.moment), 100))")
+    expect(browser.evaluate("squitterLog.playback.moment") == paused, "goes on while it pauses")
+    typed(browser, play_speed="3600")
+    clicked(browser, "#play-button")
+    browser.wait("!squitterLog.playback.playing")
+    expect(browser.evaluate("squitterLog.map.until === Infinity"), "not all is shown at the end")
+    given_log(browser, tries, b"0 " + AIR_EVEN.encode())
+    expect(browser.evaluate("document.getElementById('play-button').disabled"), "nothing is played")
+    silent(browser)
+    return f"{count} moments"

@@ -1,0 +1,114 @@
+"""Parts of tests/page about the module that it runs: what web/squitter.js has, and the vectors and logs that it
+answers, by node and on the page."""
+import json
+import re
+import subprocess
+
+from logs import logs, tracked
+from trying import HERE, SITE, TOP, Tries, bytes_of, cases, expect, first_difference, read_text
+from using import silent
+
+
+def of_module(tries: Tries, *words: str, given: bytes = b"") -> bytes:
+    """What tests/browser/module.mjs prints, a program that imports web/squitter.js."""
+    done = subprocess.run([*tries.node, f"{HERE}/module.mjs", *words], input=given, capture_output=True)
+    expect(done.returncode == 0, words, done.stderr.decode())
+    return done.stdout
+
+
+def imported(tries: Tries) -> str:
+    """web/squitter.js beside the program: ten thousand frames that it reads, and as many that its contacts hear. (A
+    contact knows the moments of its own address alone, so the log is sorted.)"""
+    lines = subprocess.run([f"{TOP}/tests/lines", "10000"], check=True, capture_output=True).stdout.splitlines(True)
+    log = b"".join(sorted(lines, key=lambda line: int(line.split(b" ")[0])))
+    texts = b"".join(line.split(b" ")[1] for line in log.splitlines(True))
+    wanted = subprocess.run([tries.program, "check"], input=texts, capture_output=True).stdout
+    got = of_module(tries, "check", given=texts)
+    expect(got == wanted and wanted.count(b"\n") == 10_000, first_difference(got, wanted))
+    for window, site in ((10_000, SITE), (3000, None)):
+        wanted = tracked(tries.program, log, (window, 1000, site))
+        got = of_module(tries, "track", str(window), *(site or ()), given=log)
+        expect(got == wanted, first_difference(got, wanted))
+    return f"3 times 10000 lines, {of_module(tries, 'refusals').decode().strip()}"
+
+
+# What Python has and JavaScript has not: calls of arrays, where a call of Python costs more than what it asks for.
+# (the module of the page takes no memory, as a tracker does)
+OF_PYTHON_ALONE = {"local_many", "pair_many", "read_many", "Present", "Tracker"}
+
+
+def camel(name: str) -> str:
+    first, *others = name.split("_")
+    return first + "".join(other.capitalize() for other in others)
+
+
+def declared(tries: Tries) -> str:
+    """web/squitter.d.ts names what web/squitter.js has, with as many arguments, and the names are those of Python."""
+    told = json.loads(of_module(tries, "names"))
+    text = re.sub(r"/\*.*?\*/", "", bytes_of(f"{TOP}/web/squitter.d.ts").decode(), flags=re.S)
+    blocks = re.findall(r"^export (?:declare (?:class|const)|interface) (\w+)[^{]*\{\n(.*?)^\};?$", text, re.M | re.S)
+    functions = dict(re.findall(r"^export declare function (\w+)\((.*?)\): ", text, re.M | re.S))
+    names = {name for name, _ in blocks if name in told["exports"]} | functions.keys()
+    expect(names == told["exports"].keys(), "exports:", names ^ told["exports"].keys())
+    count = len(names)
+    for name, body in blocks:
+        of = told["exports"].get(name, {})
+        fields = dict(re.findall(r"^  (?:readonly |get )?(\w+)(?:\(\))?: ([^;]+);", body, re.M))
+        calls = dict(re.findall(r"^  (\w+)\((.*)\): ", body, re.M))
+        if name in told["keys"]:
+            wanted = set(told["keys"][name]) | of.keys()
+            expect(fields.keys() | calls.keys() == wanted, name, (fields.keys() | calls.keys()) ^ wanted)
+            for call, words in calls.items():
+                needed = sum("?:" not in word for word in re.findall(r"\w+\??:", words))
+                expect(needed == of[call], name, call, "wants", of[call], "arguments, not", needed)
+        elif of:
+            expect({key: int(value) for key, value in fields.items()} == of, name, fields, of)
+        count += len(fields) + len(calls)
+    package = read_text("clib/squitter/__init__.py")
+    every = re.findall(r'"(\w+)"', re.findall(r"__all__ = \[(.*?)\]", package, re.S)[0])
+    ours = {name for name, _ in blocks} | {call for _, body in blocks for call in re.findall(r"^  (\w+)\(", body, re.M)}
+    missing = {name for name in every if camel(name) not in ours | {"Frame"}}
+    expect(missing == OF_PYTHON_ALONE, "names of Python:", missing ^ OF_PYTHON_ALONE)
+    return f"{count} names, and those of Python but {len(missing)}"
+
+
+def vectors_by_node(tries: Tries) -> str:
+    """All vectors but the logs, exactly."""
+    adapter = " ".join([*tries.node, f"{HERE}/cases.js"])
+    done = subprocess.run([f"{TOP}/vectors/run", adapter], capture_output=True, text=True)
+    expect(done.returncode == 0, done.stdout[-1500:], done.stderr)
+    passed = re.search(r"^all +\d+ +(\d+)", done.stdout, re.M)
+    wanted = len(cases()) - len(cases("log"))
+    expect(passed and int(passed[1]) == wanted, "passed", passed and passed[1], "of", wanted)
+    return f"{wanted} cases"
+
+
+def logs_by_node(tries: Tries) -> str:
+    """Logs beside the program, in pieces of several sizes."""
+    count = 0
+    for number, (name, log, settings) in enumerate(logs()):
+        window, limit, site = settings
+        piece = (1 << 20, 1, 37, 64, 65, 1000)[number % 6 if len(log) < 200_000 else 0]
+        words = [str(window), str(limit), str(piece), *(site or ())]
+        done = subprocess.run([*tries.node, f"{HERE}/hear.js", *words], input=log, capture_output=True)
+        expect(done.returncode == 0, name, done.stderr.decode())
+        wanted = tracked(tries.program, log, settings)
+        expect(done.stdout == wanted, name, words, first_difference(done.stdout, wanted))
+        count += 1
+    return f"{count} logs"
+
+
+def vectors_in_browser(tries: Tries) -> str:
+    """All vectors but the logs, exactly, on the page that is opened from a folder."""
+    browser = tries.page()
+    browser.evaluate(bytes_of(f"{HERE}/cases.js").decode())
+    asked = [case for case in cases() if case["op"] != "log"]
+    questions = [{"op": case["op"], "input": case["input"]} for case in asked]
+    got = browser.evaluate(
+        "load(moduleBytes()).then((library) => "
+        f"{json.dumps(questions)}.map((one) => squitterCase({{ AirHead, GroundHead }}, library, one)))"
+    )
+    for case, answer in zip(asked, got):
+        expect(answer == case["answer"], case["id"], answer, case["answer"])
+    silent(browser)
+    return f"{len(asked)} cases"

@@ -1,0 +1,215 @@
+"""Parts of tests/page about all of it: its files, colours, keys, widths and policy, by a web server and in Firefox."""
+import functools
+import http.server
+import os
+import re
+import shutil
+import subprocess
+import threading
+from typing import List
+
+import firefox
+from logs import flights, tracked
+from trying import INDEX, SITE, TOP, Missing, Tries, bytes_of, expect, first_difference, read_text
+from using import clicked, heard, pressed, shown, silent
+
+
+def embedded(tries: Tries) -> str:
+    """The files that the page takes from elsewhere are as they are there."""
+    done = subprocess.run([f"{TOP}/web/embed", "--check"], capture_output=True, text=True)
+    expect(done.returncode == 0, done.stdout, done.stderr)
+    return f"{len(done.stdout.splitlines())} files"
+
+
+def contrast(tries: Tries) -> str:
+    """Words stand out from what is behind them, in light and dark: 4.5 to 1 at least (WCAG 2.1), and tracks 3 to 1."""
+    css = bytes_of(f"{TOP}/web/style.css").decode()
+    themes = [dict(re.findall(r"--(\w+): (#\w+)", part)) for part in re.findall(r":root \{(.*?)\}", css, re.S)]
+
+    def light(color: str) -> float:
+        digits = color[1:] if len(color) == 7 else "".join(2 * digit for digit in color[1:])
+        parts = [int(digits[at : at + 2], 16) / 255 for at in (0, 2, 4)]
+        linear = [part / 12.92 if part <= 0.04045 else ((part + 0.055) / 1.055) ** 2.4 for part in parts]
+        return 0.2126 * linear[0] + 0.7152 * linear[1] + 0.0722 * linear[2]
+
+    count = 0
+    expect(len(themes) == 2, "there are", len(themes), "themes")
+    for theme in themes:
+        pairs = [
+            ("ink", "ground", 4.5),
+            ("ink", "field", 4.5),
+            ("dim", "ground", 4.5),
+            ("dim", "field", 4.5),
+            ("wrong", "field", 4.5),
+            ("wrong", "ground", 4.5),
+            ("accent", "ground", 4.5),
+            *(("ink", f"tint{n}", 4.5) for n in range(8)),
+            *((f"track{n}", "ground", 3) for n in range(6)),
+        ]
+        for one, other, least in pairs:
+            low, high = sorted((light(theme[one]), light(theme[other])))
+            expect((high + 0.05) / (low + 0.05) >= least, one, "on", other, (high + 0.05) / (low + 0.05))
+            count += 1
+    return f"{count} pairs of colours"
+
+
+def keyboard(tries: Tries) -> str:
+    """Tabs and the map go by keys, and every field has a label."""
+    browser = tries.page()
+    count = 0
+    press = functools.partial(pressed, browser)
+
+    browser.evaluate("document.getElementById('tab-frame').focus()")
+    for key, panel in (
+        ("ArrowRight", "place"),
+        ("ArrowRight", "send"),
+        ("End", "log"),
+        ("ArrowRight", "frame"),
+        ("ArrowLeft", "log"),
+    ):
+        press(key)
+        open_panels = browser.evaluate(
+            "[...document.querySelectorAll('[role=tabpanel]')].filter((one) => !one.hidden).map((one) => one.id)"
+        )
+        expect(open_panels == [f"panel-{panel}"], key, open_panels)
+        count += 1
+    clicked(browser, "#log-example")
+    heard(browser)
+    browser.evaluate("document.getElementById('map').focus()")
+    for key, value in (("+", "scale"), ("-", "scale"), ("ArrowLeft", "center.x"), ("ArrowUp", "center.y")):
+        before = browser.evaluate(f"squitterLog.map.{value}")
+        press(key)
+        expect(browser.evaluate(f"squitterLog.map.{value}") != before, key, "changes nothing")
+        count += 1
+    bare = browser.evaluate(
+        "[...document.querySelectorAll('input, select, canvas, progress, button')].filter((one) => "
+        "!one.labels?.length && !one.getAttribute('aria-label') && !one.getAttribute('aria-labelledby') && "
+        "!one.textContent.trim()).map((one) => one.outerHTML)"
+    )
+    expect(bare == [], "without a label:", bare)
+    silent(browser)
+    return f"{count} keys"
+
+
+PANELS = ("frame", "place", "send", "log")
+
+
+def widths(tries: Tries) -> str:
+    """Nothing is wider than a phone, in light and dark; pictures are left where SHOTS names a folder."""
+    browser, folder, count = tries.page("log"), os.environ.get("SHOTS"), 0
+    clicked(browser, "#log-example")
+    heard(browser)
+    for width in (1100, 390):
+        for dark in (False, True):
+            browser.look(width, 900, dark)
+            for panel in PANELS:
+                clicked(browser, f"#tab-{panel}")
+                browser.evaluate("squitterLog.map.fit(); new Promise((done) => setTimeout(done, 60))")
+                wide = browser.evaluate("document.documentElement.scrollWidth")
+                expect(wide <= width, panel, "is", wide, "wide on", width)
+                count += 1
+                if folder:
+                    browser.picture(f"{folder}/{panel}-{width}-{'dark' if dark else 'light'}.png")
+    silent(browser)
+    return f"{count} views"
+
+
+class Quiet(http.server.SimpleHTTPRequestHandler):
+    def log_message(self, *words: object) -> None:
+        pass
+
+
+def served(tries: Tries) -> str:
+    """The page from a web server: it asks for its own files alone, and its console stays silent."""
+    asked: List[str] = []
+
+    class Folder(Quiet):
+        def __init__(self, *words: object) -> None:
+            super().__init__(*words, directory=f"{TOP}/web")  # type: ignore[arg-type]
+
+        def do_GET(self) -> None:
+            asked.append(self.path)
+            super().do_GET()
+
+    server = http.server.ThreadingHTTPServer(("127.0.0.1", 0), Folder)
+    threading.Thread(target=server.serve_forever, daemon=True).start()
+    try:
+        browser = tries.page("log", f"http://127.0.0.1:{server.server_port}/")
+        clicked(browser, "#log-example")
+        got, wanted = heard(browser), tracked(tries.program, flights(), (10_000, 1000, SITE))
+        expect(got == wanted, first_difference(got, wanted))
+        silent(browser)
+    finally:
+        server.shutdown()
+    there = {f"/{name}" for name in os.listdir(f"{TOP}/web")} | {"/"}
+    expect(set(asked) <= there, asked)
+    return f"{len(asked)} files"
+
+
+BLOCKED = {
+    "a text that becomes HTML": "document.body.innerHTML = '<b>x</b>'",
+    "a script made by a text": "new Function('return 1')()",
+    "a worker from elsewhere": "new Worker('page.js')",
+    "a script from elsewhere": "document.createElement('script').src = 'data:text/javascript,1'",
+}
+
+
+def policy(tries: Tries) -> str:
+    """The page's content security policy: no text becomes a script or HTML, and nothing is asked for."""
+    browser = tries.page()
+    for what, script in BLOCKED.items():
+        tried = f"(() => {{ try {{ {script}; return 'done' }} catch (error) {{ return error.name }} }})()"
+        told = browser.call("Runtime.evaluate", expression=tried, allowUnsafeEvalBlockedByCSP=False)
+        expect(told["result"].get("value") in ("TypeError", "EvalError"), what, "is let through:", told)
+    asked = browser.evaluate("fetch('http://127.0.0.1:9/').then(() => 'done', (error) => error.name)")
+    expect(asked == "TypeError" and any("Content Security Policy" in one for one in browser.problems), browser.problems)
+    text = read_text("web/index.html")
+    inline = re.findall(r"<script>|<style|\son\w+=|\sstyle=|javascript:", text)
+    expect(not inline and "unsafe-inline" not in text and "'unsafe-eval'" not in text, inline)
+    return f"{len(BLOCKED) + 1} things blocked"
+
+
+def without_memory(tries: Tries) -> str:
+    """A browser without memory of 64 bits gets a sentence, and no panels."""
+    browser = tries.browser
+    script = "WebAssembly.instantiate = () => Promise.reject(new WebAssembly.CompileError('invalid memory limits'));"
+    added = browser.call("Page.addScriptToEvaluateOnNewDocument", source=script)["identifier"]
+    try:
+        browser = tries.page()
+        said, hidden = shown(browser, "#notice"), browser.evaluate("document.querySelector('main').hidden")
+        expect("64-bit memory" in said and hidden, said, hidden)
+        silent(browser)
+    finally:
+        browser.call("Page.removeScriptToEvaluateOnNewDocument", identifier=added)
+    return "a sentence"
+
+
+TEXT = "Array.from(page.squitterLog.answers.chunks, (chunk) => chunk.text).join('')"
+
+
+def in_firefox(tries: Tries) -> str:
+    """Firefox hears the example as the program does; one without memory of 64 bits says so."""
+    if not firefox.installed():
+        raise Missing("firefox-esr")
+    browser = firefox.Firefox()
+    try:
+        browser.open(f"{INDEX}#log")
+        said = browser.evaluate("document.getElementById('notice').textContent")
+        if not said:
+            browser.evaluate("document.getElementById('log-example').click()")
+            browser.wait("document.getElementById('log-state').textContent.includes('heard. ')")
+            got, wanted = browser.evaluate(TEXT).encode(), tracked(tries.program, flights(), (10_000, 1000, SITE))
+            expect(got == wanted, first_difference(got, wanted))
+            frame = browser.evaluate("document.getElementById('frame-answer').textContent")
+            expect("38000 feet" in frame and "40621D" in frame, frame)
+        else:
+            expect("64-bit memory" in said, said)
+        shutil.copytree(f"{TOP}/web", f"{tries.work}/web")
+        with open(f"{tries.work}/web/module.js", "a", encoding="ascii") as file:
+            file.write("WebAssembly.instantiate = () => Promise.reject(new WebAssembly.CompileError('memory'));\n")
+        browser.open(f"file://{tries.work}/web/index.html")
+        told = browser.evaluate("document.getElementById('notice').textContent")
+        expect("64-bit memory" in told and browser.evaluate("document.querySelector('main').hidden"), told)
+    finally:
+        browser.close()
+    return f"Firefox {browser.version}, {'a sentence' if said else 'the example'}, and a sentence without the memory"
