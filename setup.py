@@ -1,4 +1,5 @@
-"""What pyproject.toml cannot say: libsquitter is built by clib/Makefile, of dist/ and by a C compiler, and put into the package."""
+"""What pyproject.toml cannot say: libsquitter is built by clib/Makefile, of dist/ and by a C compiler, and put into the
+package."""
 import subprocess
 from typing import Tuple
 

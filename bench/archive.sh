@@ -1,8 +1,8 @@
 #!/bin/sh
-# archive.sh [LINES [WORKERS..]]: an archive of so many lines (ten million) in 24 files of CSV, heard by examples/archive.py on 1, 2 and 4
-# processes, or on so many WORKERS, and by one `squitter track` of the same lines. Prints the seconds of each, with the start of the
-# processes in them, and lines a second; the answers have to be the same, byte for byte. Needs what `make -C clib` needs,
-# and a Python with NumPy and Dask (PYTHON, or python3).
+# archive.sh [LINES [WORKERS..]]: an archive of so many lines (ten million) in 24 files of CSV, heard by
+# examples/archive.py on 1, 2 and 4 processes, or on so many WORKERS, and by one `squitter track` of the same lines.
+# Prints the seconds of each, with the start of the processes in them, and lines a second; the answers have to be the
+# same, byte for byte. Needs what `make -C clib` needs, and a Python with NumPy and Dask (PYTHON, or python3).
 set -eu
 here=$(cd "$(dirname "$0")" && pwd)
 lines=${1:-10000000}
@@ -29,8 +29,8 @@ say 'squitter track' $(($(now) - start))
 for workers; do
     rm -rf "$work/answers"
     start=$(now)
-    "${PYTHON:-python3}" "$here/../examples/archive.py" --workers "$workers" --lat=52.1 --lon=4.7 "$work/answers" "$work"/hours/* 2> "$work/said" || {
-        cat "$work/said"; exit 1; }
+    "${PYTHON:-python3}" "$here/../examples/archive.py" --workers "$workers" --lat=52.1 --lon=4.7 \
+        "$work/answers" "$work"/hours/* 2> "$work/said" || { cat "$work/said"; exit 1; }
     took=$(($(now) - start))
     tail -q -n +2 "$work"/answers/* | cut -d, -f1,3- | sed 's/,,*/ /g; s/ $//' | cmp - "$work/wanted"
     say "archive.py, $workers processes" $took

@@ -1,7 +1,7 @@
 #!/usr/bin/env python3
 """batch.py [FRAMES [ROUNDS]]: squitter.batch beside the calls and the program that do the same: the nanoseconds of a
-frame, and frames a second, of `read` beside C's squitter_read_many, and of `track` beside C's squitter_tracker_hear_many, by
-itself and with the degrees that `track` answers, and beside `squitter track`.
+frame, and frames a second, of `read` beside C's squitter_read_many, and of `track` beside C's
+squitter_tracker_hear_many, by itself and with the degrees that `track` answers, and beside `squitter track`.
 
 A million frames (or so many FRAMES) of 900 aircraft, made by gen.c. Each is run in turn for five ROUNDS (or so many),
 `read` ten times a round as C's is, and the fastest counts, so that what else the machine does weighs on all alike.

@@ -1,7 +1,7 @@
 #!/bin/sh
-# calls.sh: nanoseconds a call, and calls a second, of libsquitter from C and from Python, for the plain x86-64 processor
-# that it is installed for, and of dump1090's functions on codes where apt has the source package dump1090-mutability (or
-# DUMP1090 names a folder with its source). Needs what `make -C clib` needs, and Python 3.
+# calls.sh: nanoseconds a call, and calls a second, of libsquitter from C and from Python, for the plain x86-64
+# processor that it is installed for, and of dump1090's functions on codes where apt has the source package
+# dump1090-mutability (or DUMP1090 names a folder with its source). Needs what `make -C clib` needs, and Python 3.
 set -eu
 here=$(cd "$(dirname "$0")" && pwd)
 clib=$here/../clib

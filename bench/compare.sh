@@ -25,7 +25,10 @@ rate() {
     done
     echo $((lines * 1000000 / (best / 1000)))
 }
-row() { printf '%-10s %12s lines a second, %s times plain C\n' "$1" "$2" "$(awk "BEGIN { printf \"%.2f\", $2 / $plain }")"; }
+row() {
+    times=$(awk "BEGIN { printf \"%.2f\", $2 / $plain }")
+    printf '%-10s %12s lines a second, %s times plain C\n' "$1" "$2" "$times"
+}
 plain=$(rate "$work/plain")
 row 'plain C' "$plain"
 row 'blocks' "$(rate "$work/blocks")"

@@ -38,8 +38,13 @@ is_stopped() {
     "$program" "$1" < "$work/log" > /dev/full 2> "$work/reported" || status=$?
     [ "$status" = 3 ] && [ "$(cat "$work/reported")" = 'write failed' ] || fail "$1: a full disk is status 3"
     seen
-    { status=0; "$program" "$1" < "$work/log" 2> "$work/reported" || status=$?; echo "$status" > "$work/status"; } | head -n 1 > /dev/null
-    [ "$(cat "$work/status")" = 3 ] && [ "$(cat "$work/reported")" = 'write failed' ] || fail "$1: a closed pipe is status 3"
+    {
+        status=0
+        "$program" "$1" < "$work/log" 2> "$work/reported" || status=$?
+        echo "$status" > "$work/status"
+    } | head -n 1 > /dev/null
+    [ "$(cat "$work/status")" = 3 ] && [ "$(cat "$work/reported")" = 'write failed' ] ||
+        fail "$1: a closed pipe is status 3"
     seen
 }
 

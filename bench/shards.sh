@@ -15,21 +15,32 @@ cc -O2 -o "$work/gen" "$here/gen.c" -lm
 now() { date +%s%N; }
 
 # each answer without its number, the address first: those of one address stay in their order
-by_address() { awk '{ for (i = 2; i <= NF; i++) if (length($i) == 6 && $i ~ /^[0-9A-F]+$/) { $1 = $i; break } print }' "$@" | LC_ALL=C sort -s -k1,1; }
+by_address() {
+    awk '{ for (i = 2; i <= NF; i++) if (length($i) == 6 && $i ~ /^[0-9A-F]+$/) { $1 = $i; break } print }' "$@" |
+        LC_ALL=C sort -s -k1,1
+}
+# a time as a part of the other
+part_of() { awk "BEGIN { printf \"%.2f\", $1 / $2 }"; }
 
 start=$(now)
 "$program" track --limit 100000 --lat 52.1 --lon 4.7 < "$work/log" > "$work/whole"
 one=$(($(now) - start))
 awk -v shards="$shards" -v out="$work/shard" '
     BEGIN { for (i = 0; i < 16; i++) digit[sprintf("%X", i)] = i }
-    { frame = $2; sub(/^\*/, "", frame); print > (out "." (16 * digit[substr(frame, 7, 1)] + digit[substr(frame, 8, 1)]) % shards) }' "$work/log"
+    {
+        frame = $2
+        sub(/^\*/, "", frame)
+        print > (out "." (16 * digit[substr(frame, 7, 1)] + digit[substr(frame, 8, 1)]) % shards)
+    }' "$work/log"
 start=$(now)
-ls "$work"/shard.* | xargs -P "$shards" -I{} sh -c "$program track --limit 100000 --lat 52.1 --lon 4.7 < {} > {}.answers"
+ls "$work"/shard.* |
+    xargs -P "$shards" -I{} sh -c "$program track --limit 100000 --lat 52.1 --lon 4.7 < {} > {}.answers"
 many=$(($(now) - start))
 by_address "$work/whole" > "$work/one"
 by_address "$work"/shard.*.answers > "$work/many"
 cmp "$work/one" "$work/many"
-echo "track: $(wc -l < "$work/one") answers, none differs; $shards shards took $(awk "BEGIN { printf \"%.2f\", $many / $one }") of the time of one run"
+echo "track: $(wc -l < "$work/one") answers, none differs;" \
+    "$shards shards took $(part_of "$many" "$one") of the time of one run"
 
 cut -d ' ' -f 2 "$work/log" > "$work/frames"
 start=$(now)
@@ -42,4 +53,5 @@ ls "$work"/part.* | xargs -P "$shards" -I{} sh -c "$program check < {} > {}.answ
 many=$(($(now) - start))
 cat "$work"/part.*.answers | cut -d ' ' -f 2- > "$work/many"
 cmp "$work/one" "$work/many"
-echo "check: $(wc -l < "$work/one") answers, none differs; $shards parts took $(awk "BEGIN { printf \"%.2f\", $many / $one }") of the time of one run"
+echo "check: $(wc -l < "$work/one") answers, none differs;" \
+    "$shards parts took $(part_of "$many" "$one") of the time of one run"

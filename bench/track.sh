@@ -31,5 +31,6 @@ for aircraft in 10 200 1000 10000 100000; do
     blocks=$(rate "$work/blocks" 200000 10000 52.1 4.7)
     vectors=$(rate "$work/vectors" 200000 10000 52.1 4.7)
     memory=$(/usr/bin/time -f %M "$program" track --limit=200000 --lat=52.1 --lon=4.7 < "$work/log" 2>&1 > /dev/null)
-    printf '%9s %14s %14s %14s %8s %8s %7s kB\n' "$aircraft" "$ours" "$blocks" "$vectors" "$(ratio "$ours" "$blocks")" "$(ratio "$ours" "$vectors")" "$memory"
+    printf '%9s %14s %14s %14s %8s %8s %7s kB\n' "$aircraft" "$ours" "$blocks" "$vectors" \
+        "$(ratio "$ours" "$blocks")" "$(ratio "$ours" "$vectors")" "$memory"
 done

@@ -71,7 +71,9 @@ def main() -> None:
         files = list(files_of(crate))
         laws = laws_of(crate) if os.path.exists(f"{TOP}/crates/{crate}/src/laws.rt") else []
         if files or laws:
-            lines += ["", f"## `{crate}`"] + (["", "Laws:", "", *laws] if laws else []) + (["", "Files:", "", *files] if files else [])
+            lines += ["", f"## `{crate}`"]
+            lines += ["", "Laws:", "", *laws] if laws else []
+            lines += ["", "Files:", "", *files] if files else []
     print("\n".join(lines))
 
 

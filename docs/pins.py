@@ -268,7 +268,8 @@ class Book:
         types = {name: one for name, one in self.definitions.items() if one.kind == "Type"}
         plain_types = {name for name, one in types.items() if one.is_type or one.parts[0][0] in CONTAINERS}
         plain_types |= {name for name, one in types.items()
-                        if all(len(part) == 1 and self.is_plain(part[0], self.known[name], plain_types) for part in one.parts)}
+                        if all(len(part) == 1 and self.is_plain(part[0], self.known[name], plain_types)
+                               for part in one.parts)}
         facts = types.keys() - plain_types
         while True:
             more = {name for name, one in types.items() if name not in facts and self.is_fact(one, facts)}

@@ -1,9 +1,9 @@
 #!/usr/bin/env python3
 """compare-truth.py TRUTH < ANSWERS: compares each fix and each followed place that `track` answered with the truth.
 
-A place has to be the point of its grid that is nearest to the true position, to seven decimals: of the grids of an even and an
-odd position, in the air and on the ground, one point lies there. This is computed here with exact fractions, and by the
-standard's words alone."""
+A place has to be the point of its grid that is nearest to the true position, to seven decimals: of the grids of an even
+and an odd position, in the air and on the ground, one point lies there. This is computed here with exact fractions, and
+by the standard's words alone."""
 import os
 import sys
 from fractions import Fraction

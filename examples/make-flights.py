@@ -1,9 +1,9 @@
 #!/usr/bin/env python3
 """make-flights.py PROGRAM: writes flights.log and flights.truth, a log of five flights and where they truly were.
 
-Each line of the log is a moment in milliseconds and a frame; the frame of each position is made by PROGRAM's `encode`. Each
-line of the truth is the number of a line of the log, its address, and the position that was encoded. Lines of the log that are
-damaged, or that come after later ones, are not in the truth."""
+Each line of the log is a moment in milliseconds and a frame; the frame of each position is made by PROGRAM's `encode`.
+Each line of the truth is the number of a line of the log, its address, and the position that was encoded. Lines of the
+log that are damaged, or that come after later ones, are not in the truth."""
 import os
 import subprocess
 import sys
@@ -30,7 +30,8 @@ def flights():
     yield from track("484004", 310, 200, 523_080_000, 47_630_000, 211, 307, kind="ground")
     yield from track("484004", 310 + 200 * STEP, 200, 523_122_200, 47_691_400, 5_003, 9_001)
     # falls silent for longer than the window, twice
-    yield from track("3C0005", 430, 460, 480_000_000, 110_000_000, -3_001, 12_007, silent=[*range(120, 160), *range(300, 330)])
+    silent = [*range(120, 160), *range(300, 330)]
+    yield from track("3C0005", 430, 460, 480_000_000, 110_000_000, -3_001, 12_007, silent=silent)
 
 
 def degrees(ten_millionths):
@@ -46,7 +47,8 @@ def main():
         for count, (moment, address, kind, parity, (lat, lon)) in enumerate(sorted(flights())):
             words = [f"--kind={kind}", f"--parity={parity}", f"--address={address}"]
             words += [f"--lat={degrees(lat)}", f"--lon={degrees(lon)}"]
-            frame = subprocess.run([program, "encode", *words], capture_output=True, text=True, check=True).stdout.strip()
+            encoded = subprocess.run([program, "encode", *words], capture_output=True, text=True, check=True)
+            frame = encoded.stdout.strip()
             number += 1
             log.write(f"{moment} *{frame};\n")
             truth.write(f"{number} {address} {degrees(lat)} {degrees(lon)}\n")

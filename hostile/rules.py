@@ -1,5 +1,5 @@
-"""The rules of `check` and `track`, written again in Python from docs/FORMATS.md and the standard's formulas, with exact fractions
-and a plain list of everything that was heard."""
+"""The rules of `check` and `track`, written again in Python from docs/FORMATS.md and the standard's formulas, with
+exact fractions and a plain list of everything that was heard."""
 from fractions import Fraction
 from math import floor
 
@@ -77,7 +77,8 @@ def read_frame(text):
 
 def read_timed(text):
     moment, space, frame = text.partition(" ")
-    if not space or not 1 <= len(moment) <= 20 or any(digit not in "0123456789" for digit in moment) or int(moment) >= 2**64:
+    is_number = 1 <= len(moment) <= 20 and all(digit in "0123456789" for digit in moment)
+    if not space or not is_number or int(moment) >= 2**64:
         raise Fault("bad moment")
     return int(moment), read_frame(frame)
 
@@ -132,7 +133,8 @@ def local(squitter, reference):
 
 
 def around(x, center, degrees):
-    """The number that differs from x by whole multiples of `degrees` and lies in (center - degrees/2, center + degrees/2]."""
+    """The number that differs from x by whole multiples of `degrees`, and lies in
+    (center - degrees/2, center + degrees/2]."""
     half = Fraction(degrees, 2)
     return center + half - (center + half - x) % degrees
 

@@ -1,5 +1,6 @@
 #!/usr/bin/env python3
-"""decode_log.py LOG: what is heard of each line of a log, a moment in milliseconds and a frame, as `squitter track` says it."""
+"""decode_log.py LOG: what is heard of each line of a log, a moment in milliseconds and a frame, as `squitter track`
+says it."""
 import re
 import sys
 from typing import BinaryIO, Dict, Iterator, Tuple
@@ -31,7 +32,8 @@ def moment_and_text(line: bytes) -> Tuple[int, str]:
 
 
 class Table:
-    """The contacts of the addresses that had a position within the window, and the moment of the last line that was heard."""
+    """The contacts of the addresses that had a position within the window, and the moment of the last line that was
+    heard."""
 
     def __init__(self) -> None:
         self.contacts: Dict[int, Contact] = {}

@@ -1,10 +1,11 @@
 #!/usr/bin/env python3
-"""against_program.py [COUNT]: the module squitter beside the program, on so many random frames, positions and pairs (10000).
-The calls of arrays, and whole numbers of 10^-7 degree, are held to the single calls, which are held to the program.
+"""against_program.py [COUNT]: the module squitter beside the program, on so many random frames, positions and pairs
+(10000). The calls of arrays, and whole numbers of 10^-7 degree, are held to the single calls, which are held to the
+program.
 
-The frames are nearly good: made of random positions, some damaged. The program reads them as one input of `check` and of
-`track`; `encode`, `local` and `pair`, with a site and without, are called so many times each. PROGRAM is the program (the
-launcher at the top of the repository where it is not set). Says what differs, and ends with status 1."""
+The frames are nearly good: made of random positions, some damaged. The program reads them as one input of `check` and
+of `track`; `encode`, `local` and `pair`, with a site and without, are called so many times each. PROGRAM is the program
+(the launcher at the top of the repository where it is not set). Says what differs, and ends with status 1."""
 import os
 import random
 import subprocess
@@ -44,9 +45,11 @@ def decimals(number):
 
 
 def random_position(rng):
-    border = rng.random() < 0.2
-    lat = rng.choice([-90, -87, 0, 87, 90]) * 10**7 + rng.randint(-5, 5) if border else rng.randint(-90 * 10**7, 90 * 10**7)
-    lon = rng.choice([-180, -90, 0, 90, 180]) * 10**7 + rng.randint(-5, 5) if border else rng.randint(-180 * 10**7, 180 * 10**7)
+    if rng.random() < 0.2:
+        lat = rng.choice([-90, -87, 0, 87, 90]) * 10**7 + rng.randint(-5, 5)
+        lon = rng.choice([-180, -90, 0, 90, 180]) * 10**7 + rng.randint(-5, 5)
+    else:
+        lat, lon = rng.randint(-90 * 10**7, 90 * 10**7), rng.randint(-180 * 10**7, 180 * 10**7)
     return max(-90 * 10**7, min(90 * 10**7, lat)), max(-180 * 10**7, min(180 * 10**7, lon))
 
 
@@ -66,8 +69,8 @@ def random_frames(rng, count):
         lon = max(-180 * 10**7, min(180 * 10**7, lon + rng.randint(-20000, 20000)))
         places[address] = lat, lon
         if address % 4:
-            head = AirHead(address, rng.randint(0, 4095), rng.randint(0, 7), rng.choice([9, 11, 18, 20, 22]), rng.randint(0, 3),
-                           rng.randint(0, 1), rng.randint(0, 1), rng.randint(0, 1))
+            head = AirHead(address, rng.randint(0, 4095), rng.randint(0, 7), rng.choice([9, 11, 18, 20, 22]),
+                           rng.randint(0, 3), rng.randint(0, 1), rng.randint(0, 1), rng.randint(0, 1))
         else:
             head = GroundHead(address, rng.randint(0, 7), rng.randint(5, 8), rng.randint(0, 127), rng.randint(0, 1),
                               rng.randint(0, 127), rng.randint(0, 1), rng.randint(0, 1))
@@ -186,7 +189,8 @@ def compare_arrays(rng, texts):
     asked = (
         ("read", squitter.read_many(array), [single(squitter.read, frame) for frame in frames]),
         ("local", squitter.local_many(array, near), [single(squitter.local, *two) for two in zip(frames, near)]),
-        ("pair", squitter.pair_many(b"".join(older), array), [single(squitter.pair, *two) for two in zip(older, frames)]),
+        ("pair", squitter.pair_many(b"".join(older), array),
+         [single(squitter.pair, *two) for two in zip(older, frames)]),
         ("pair with a site", squitter.pair_many(b"".join(older), array, site),
          [single(squitter.pair, *two, site) for two in zip(older, frames)]),
         ("hear", many.hear_many(moments, array), [single(one.hear, *two) for two in zip(moments, frames)]),

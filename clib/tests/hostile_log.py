@@ -1,6 +1,7 @@
 #!/usr/bin/env python3
-"""hostile_log.py: prints a log that readers stumble over, the same each time: carriage returns, empty and long lines, bytes that are no
-text, moments at their limits and back, more addresses than a table holds, and no line feed at the end."""
+"""hostile_log.py: prints a log that readers stumble over, the same each time: carriage returns, empty and long lines,
+bytes that are no text, moments at their limits and back, more addresses than a table holds, and no line feed at the
+end."""
 import random
 import sys
 from typing import Iterator
@@ -29,12 +30,15 @@ def oddities(moment: int) -> Iterator[bytes]:
     good = frame(0x40621D, 0, 7).encode()
     other = b"8D406B902015A678D4D220AA4BDA"
     yield from (b"", b"\r", b"\r\r", b" ", b"  ", b"\0", b"%d" % moment, b"%d " % moment)
-    yield from (b"%d %s\r" % (moment, good), b"%d  %s" % (moment, good), b"%d %s " % (moment, good), b"%d *%s;" % (moment, good))
+    yield from (b"%d %s\r" % (moment, good), b"%d  %s" % (moment, good))
+    yield from (b"%d %s " % (moment, good), b"%d *%s;" % (moment, good))
     yield from (b"-1 " + good, b"+1 " + good, b"1.5 " + good, b" %d %s" % (moment, good), "\u0663 ".encode() + good)
-    yield from (b"0" * 20 + b" " + good, b"0" * 21 + b" " + good, b"18446744073709551616 " + good, b"99999999999999999999 " + good)
+    yield from (b"0" * 20 + b" " + good, b"0" * 21 + b" " + good)
+    yield from (b"18446744073709551616 " + good, b"99999999999999999999 " + good)
     yield from (b"%020d %s" % (moment, good), b"%d %s" % (moment, other), b"%d %s" % (moment, other[:-1] + b"\xff"))
-    yield from (b"%d %s" % (moment, b"\xe2\x82" + good), b"%d %s\0" % (moment, good), b"%d %s" % (moment, "\u00e9".encode()))
-    yield from (b"%d " % moment + b"x" * (63 - len(b"%d" % moment)), b"%d " % moment + b"x" * (64 - len(b"%d" % moment)))
+    yield from (b"%d %s" % (moment, b"\xe2\x82" + good), b"%d %s\0" % (moment, good))
+    yield b"%d %s" % (moment, "\u00e9".encode())
+    yield from (b"%d " % moment + b"x" * (length - len(b"%d" % moment)) for length in (63, 64))
     yield from (b"x" * 63 + b"\r", b"x" * 64 + b"\r", b"x" * 64, b"x" * 65, b"x" * 100_000)
     yield from (b"%d %s" % (moment - 1, good), b"18446744073709551615 " + good, b"%d %s" % (moment, good))
 

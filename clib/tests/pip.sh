@@ -1,7 +1,8 @@
 #!/bin/sh
-# pip.sh PYTHON: installs the package squitter by pip, from a copy of this tree and without the network, into a virtual environment, and
-# tries it there without what lies here: the library that came with it, the doctests, a log beside the program, and the types by mypy
-# where that is installed; and takes it away again. PROGRAM is the program. PYTHON needs pip, setuptools and wheel.
+# pip.sh PYTHON: installs the package squitter by pip, from a copy of this tree and without the network, into a virtual
+# environment, and tries it there without what lies here: the library that came with it, the doctests, a log beside the
+# program, and the types by mypy where that is installed; and takes it away again. PROGRAM is the program. PYTHON needs
+# pip, setuptools and wheel.
 set -eu
 python=$1
 clib=$(cd "$(dirname "$0")/.." && pwd)
@@ -11,13 +12,14 @@ work=$(mktemp -d)
 trap 'rm -rf "$work"' EXIT
 unset PYTHONPATH LIBSQUITTER MAKEFLAGS MFLAGS MAKELEVEL DESTDIR PYTHONHOME PIP_TARGET PIP_PREFIX
 mkdir "$work/tree"
-(cd "$clib/.." && tar --exclude=out --exclude=build --exclude='libsquitter.*' --exclude=__pycache__ --exclude='*.egg-info' -cf - \
+(cd "$clib/.." && tar -cf - \
+  --exclude=out --exclude=build --exclude='libsquitter.*' --exclude=__pycache__ --exclude='*.egg-info' \
   pyproject.toml setup.py clib dist crates.txt crates/*/src crates/*/specs crates/*/proofs) | tar -C "$work/tree" -xf -
 cp "$clib/libsquitter.map" "$work/tree/clib/"
 "$python" -m venv --system-site-packages --without-pip "$work/venv"
 own=$work/venv/bin/python
-"$own" -m pip -q install --no-index --no-build-isolation --no-deps --disable-pip-version-check "$work/tree" > "$work/said" 2>&1 || {
-  cat "$work/said"; exit 1; }
+"$own" -m pip -q install --no-index --no-build-isolation --no-deps --disable-pip-version-check "$work/tree" \
+  > "$work/said" 2>&1 || { cat "$work/said"; exit 1; }
 rm -rf "$work/tree"
 
 cd "$work"

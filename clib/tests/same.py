@@ -2,8 +2,8 @@
 """same.py: holds squitter.h, the module squitter and that of the page to the crates.
 
 The structs of the crates' sources, with the sizes and offsets that C gives them; the types of the exports; the codes of
-faults as the specs state them; and the symbols that the archive and the shared object export and want. Wants a C compiler and
-nm; says what differs, and ends with status 1."""
+faults as the specs state them; and the symbols that the archive and the shared object export and want. Wants a C
+compiler and nm; says what differs, and ends with status 1."""
 import ctypes
 import os
 import re
@@ -13,7 +13,8 @@ import tempfile
 
 HERE = os.path.dirname(os.path.abspath(__file__))
 CLIB = os.path.dirname(HERE)
-CRATES = [os.path.join(os.path.dirname(CLIB), "crates", name) for name in ("sq_plain", "squitter_c", "squitter_tracker")]
+CRATES = [os.path.join(os.path.dirname(CLIB), "crates", name)
+          for name in ("sq_plain", "squitter_c", "squitter_tracker")]
 sys.path.insert(0, CLIB)
 os.environ.setdefault("LIBSQUITTER", os.path.join(CLIB, "libsquitter.so.0"))
 import squitter  # noqa: E402
@@ -41,8 +42,8 @@ RENAMED = {
 }
 # Reasons of the tracker alone, which is in no page.
 OF_TRACKER = {"NO_MEMORY", "NO_LIMIT", "NO_TRACKER", "NO_ADDRESS"}
-# What the libraries may want: no function of the C library but these, which compilers call by themselves, the heap of the
-# tracker, and of the archive the divisions of libgcc.
+# What the libraries may want: no function of the C library but these, which compilers call by themselves, the heap of
+# the tracker, and of the archive the divisions of libgcc.
 WANTED = {"memcpy", "memset", "memmove", "memcmp", "malloc", "realloc", "free", "__udivti3", "__umodti3"}
 differences = []
 
@@ -209,14 +210,16 @@ def definitions(crate, file, pattern):
 
 
 def check_enums():
-    """The other enums: the kind of a squitter, the form of its altitude and what is heard have in the header and in the module the
-    numbers that the definitions say."""
+    """The other enums: the kind of a squitter, the form of its altitude and what is heard have in the header and in the
+    module the numbers that the definitions say."""
     kinds = definitions("squitter_c", "Fields.antt", r"^pub record IsPlain(\w+) .*\n  pub kind : plain\.kind ≡ (\d+)$")
     forms = definitions("squitter_c", "Fields.antt", r"^IsPlainAltitude \(?altitudes\.(\w+)[^=]*= \(form ≡ (\d+)\)")
     heard = definitions("sq_plain", "Heard.antt", r"^IsPlainHeard \(?(\w+)[^=]*= IsHeardAs (\d+) ")
-    rows = (  # the enum of the module, what the definitions say, and the names of the cases in the module and in the header
+    # the enum of the module, what the definitions say, and the names of the cases in the module and in the header
+    rows = (
         (squitter.Kind, kinds, {"Other": "OTHER OTHER", "Airborne": "AIR AIR", "Surface": "GROUND GROUND"}),
-        (squitter.AltitudeForm, forms, {"Missing": "NONE NO_ALTITUDE", "Feet": "FEET FEET", "Raw": "OTHER OTHER_ALTITUDE"}),
+        (squitter.AltitudeForm, forms, {
+            "Missing": "NONE NO_ALTITUDE", "Feet": "FEET FEET", "Raw": "OTHER OTHER_ALTITUDE"}),
         (squitter.What, heard, {
             "Fix": "FIX FIX", "Followed": "FOLLOWED FOLLOWED", "Waiting": "WAITING WAITING", "Split": "SPLIT SPLIT",
             "Far": "FAR FAR", "NoSite": "WITHOUT_SITE WITHOUT_SITE", "NotPosition": "NO_PLACE NO_PLACE"}),

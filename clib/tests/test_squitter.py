@@ -13,7 +13,9 @@ from fractions import Fraction
 
 sys.path.insert(0, os.path.join(os.path.dirname(os.path.abspath(__file__)), ".."))
 import squitter  # noqa: E402
-from squitter import AirHead, AltitudeForm, Code, Contact, Fault, GroundHead, Kind, Position, Tracker, What  # noqa: E402
+from squitter import (  # noqa: E402
+    AirHead, AltitudeForm, Code, Contact, Fault, GroundHead, Kind, Position, Tracker, What,
+)
 
 EVEN = "8D40621D58C382D690C8AC2863A7"
 ODD = "8D40621D58C386435CC412692AD6"
@@ -130,8 +132,8 @@ class Calls(unittest.TestCase):
         frame = squitter.encode(AirHead(0x40621D, altitude=squitter.field_of_feet(38000)), PLACE)
         self.assertEqual(frame, bytes.fromhex(EVEN))
         fields = squitter.read(GROUND_NEWER)
-        head = GroundHead(fields.address, fields.ca, fields.type_code, fields.movement, fields.track_status, fields.track,
-                          fields.time, fields.odd)
+        head = GroundHead(fields.address, fields.ca, fields.type_code, fields.movement, fields.track_status,
+                          fields.track, fields.time, fields.odd)
         self.assertEqual(squitter.encode(head, GROUND_PLACE), bytes.fromhex(GROUND_NEWER))
         self.assertEqual(squitter.send_again(ODD, 0, PLACE), bytes.fromhex(EVEN))
         self.refused(Code.BAD_FIELDS, squitter.encode, AirHead(1 << 24), PLACE)

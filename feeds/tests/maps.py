@@ -89,7 +89,8 @@ def rows() -> None:
     same(wanted[0], 0)
     for form in ("csv", "json"):
         with open(LOG, "rb") as given:
-            told = subprocess.run([program(), "track", f"--format={form}", *SITE], stdin=given, stdout=subprocess.PIPE).stdout
+            words = [program(), "track", f"--format={form}", *SITE]
+            told = subprocess.run(words, stdin=given, stdout=subprocess.PIPE).stdout
         done = subprocess.run([MAPS, "-"], input=told, capture_output=True, timeout=60)
         same((done.returncode, done.stdout.decode(), done.stderr), (0, wanted[1], b""))
     header = "line,moment,answer,address,kind,lat,lon,feet\n"
@@ -103,12 +104,14 @@ def rows() -> None:
     for text in (header, ""):
         done = subprocess.run([MAPS, "-"], input=text.encode(), capture_output=True, timeout=60)
         same((done.returncode, json.loads(done.stdout)["features"]), (0, []))
-    for row in ("1,0,fix,40621D,air,52.0,4.0,\n", "1,,fix,40621D,air,52.0000000,4.0000000,\n", "1,0,fix,x,air,52.0000000,4.0000000,\n",
-                "1,0,fix\n", "\n", "1,0,fix,40621D,air,52.0000000,4.0000000,high\n"):
+    for row in ("1,0,fix,40621D,air,52.0,4.0,\n", "1,,fix,40621D,air,52.0000000,4.0000000,\n",
+                "1,0,fix,x,air,52.0000000,4.0000000,\n", "1,0,fix\n", "\n",
+                "1,0,fix,40621D,air,52.0000000,4.0000000,high\n"):
         status, text, report = drawn(header + row, "")
         same((status, text, "row 1 is no answer of track" in report), (1, "", True), row)
     for line in ('{"line":1}', '{"line":1', "null"):
-        same(drawn('{"line":' + line[8:] + "\n" if line.startswith('{"line"') else f'{{"line":1,}}\n{line}\n', "")[0], 1, line)
+        text = f"{line}\n" if line.startswith('{"line":') else f'{{"line":1,}}\n{line}\n'
+        same(drawn(text, "")[0], 1, line)
 
 
 def cut() -> None:
