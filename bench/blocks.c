@@ -2,7 +2,8 @@
 #define FAST
 #include "lines.h"
 
-static const struct { char s[16]; u32 n; } __attribute__((aligned(32))) WORD[4] = {{" air even ", 10}, {" air odd ", 9}, {" ground even ", 13}, {" ground odd ", 12}};
+static const struct { char s[16]; u32 n; } __attribute__((aligned(32))) WORD[4] = {
+    {" air even ", 10}, {" air odd ", 9}, {" ground even ", 13}, {" ground odd ", 12}};
 
 // 0 other, 1 air, 2 ground
 static const u8 KIND[32] = {0, 0, 0, 0, 0, 2, 2, 2, 2, 1, 1, 1, 1, 1, 1, 1, 1, 1, 1, 0, 1, 1, 1};

@@ -1,5 +1,6 @@
-/* calls: nanoseconds and calls a second of each call of libsquitter, on frames of many aircraft: the fastest of five runs.
-   calls NAME COUNT: makes one of them so many times and prints nothing, for bench/instructions, which counts what it takes. */
+/* calls: nanoseconds and calls a second of each call of libsquitter, on frames of many aircraft: the fastest of five
+   runs. calls NAME COUNT: makes one of them so many times and prints nothing, for bench/instructions, which counts what
+   it takes. */
 #define _POSIX_C_SOURCE 199309L
 #include "squitter.h"
 #include <stdio.h>
@@ -76,7 +77,8 @@ int main(int argc, char **argv) {
   RATE("read_frame", sink += squitter_read_frame(frames[i], &fields).code + fields.lat);
   RATE("local", sink += squitter_local(frames[2 * i], &places[i], &place).code + place.lat.den);
   RATE("pair", sink += squitter_pair(frames[2 * i], frames[2 * i + 1], &place).code + place.lat.den);
-  RATE("hear", sink += squitter_hear(&entries[i], 10000, moment++, frames[2 * i + (n / PLACES) % 2], &heard).code + heard.what);
+  RATE("hear",
+    sink += squitter_hear(&entries[i], 10000, moment++, frames[2 * i + (n / PLACES) % 2], &heard).code + heard.what);
   RATE("encode_air",
     squitter_air_head head = {(uint32_t)i, 0xC38, 5, 11, 0, 0, 0, (uint8_t)(i % 2)};
     sink += squitter_encode_air(&head, &places[i], frame).code + frame[9];

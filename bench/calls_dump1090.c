@@ -1,5 +1,6 @@
-/* calls_dump1090: the same measure of dump1090's own functions on codes (cpr.c of its source), which answer in doubles. They
- * take the codes of frames that were read before, and look at no parity, address or kind: `squitter_pair` does all of that. */
+/* calls_dump1090: the same measure of dump1090's own functions on codes (cpr.c of its source), which answer in doubles.
+ * They take the codes of frames that were read before, and look at no parity, address or kind: `squitter_pair` does all
+ * of that. */
 #define _POSIX_C_SOURCE 199309L
 #include "cpr.h"
 #include "squitter.h"
@@ -34,7 +35,8 @@ static void make(void) {
     for (int odd = 0; odd < 2; odd++) {
       squitter_air_head head = {0x400000 + (uint32_t)i, 0xC38, 5, 11, 0, 0, 0, (uint8_t)odd};
       uint8_t frame[14];
-      if (squitter_encode_air(&head, &place, frame).code || squitter_read_frame(frame, &fields[2 * i + odd]).code) exit(2);
+      if (squitter_encode_air(&head, &place, frame).code) exit(2);
+      if (squitter_read_frame(frame, &fields[2 * i + odd]).code) exit(2);
     }
   }
 }
@@ -53,7 +55,8 @@ static void make(void) {
 int main(void) {
   double lat, lon;
   make();
-  RATE("decodeCPRrelative", sink += decodeCPRrelative(lats[n % PLACES], lons[n % PLACES], f->lat, f->lon, 0, 0, &lat, &lon) + lat);
+  RATE("decodeCPRrelative",
+    sink += decodeCPRrelative(lats[n % PLACES], lons[n % PLACES], f->lat, f->lon, 0, 0, &lat, &lon) + lat);
   RATE("decodeCPRairborne", sink += decodeCPRairborne(f->lat, f->lon, f[1].lat, f[1].lon, 1, &lat, &lon) + lat);
   return sink == 42;
 }

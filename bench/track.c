@@ -99,7 +99,8 @@ static inline void answer(const u8 *p, const u8 *e) {
     for (u32 d; s < e && (d = (u32)*s - '0') <= 9 && s - p < 19; s++) moment = moment * 10 + d;
     if (s < e && *s != ' ') {  // a twentieth digit, or no moment
         u32 d = (u32)*s - '0';
-        bad = d > 9 || __builtin_mul_overflow(moment, (u64)10, &moment) || __builtin_add_overflow(moment, (u64)d, &moment);
+        bad = d > 9 || __builtin_mul_overflow(moment, (u64)10, &moment) ||
+              __builtin_add_overflow(moment, (u64)d, &moment);
         s++;
         bad |= s < e && *s != ' ';
     }

@@ -1,6 +1,6 @@
-/* track_many MOMENTS FRAMES: nanoseconds a frame of squitter_tracker_hear_many, and of it with squitter_position_e7_many of what was heard,
- * with a site and as many addresses as `track` has, into arrays that were written before: the fastest of five runs over a file of moments
- * of 8 bytes each and one of frames of 14. */
+/* track_many MOMENTS FRAMES: nanoseconds a frame of squitter_tracker_hear_many, and of it with
+ * squitter_position_e7_many of what was heard, with a site and as many addresses as `track` has, into arrays that were
+ * written before: the fastest of five runs over a file of moments of 8 bytes each and one of frames of 14. */
 #include <stdio.h>
 #include <stdlib.h>
 #include <time.h>
@@ -36,7 +36,8 @@ int main(int words, char **word) {
         squitter_tracker tracker = {0, 0};
         if (squitter_tracker_new_at(&tracker, 1000, 10000, &site).code) return 1;
         double start = now();
-        if (squitter_tracker_hear_many(&tracker, moments, count, (const uint8_t(*)[14])frames, count, heard, count, faults, count) != count)
+        const uint8_t(*given)[14] = (const uint8_t(*)[14])frames;
+        if (squitter_tracker_hear_many(&tracker, moments, count, given, count, heard, count, faults, count) != count)
             return 1;
         double heard_all = now();
         for (size_t i = 0; i < count; i++) places[i] = heard[i].position;

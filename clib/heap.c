@@ -1,6 +1,7 @@
-/* heap.c: the heap that a tracker asks for memory: that of the C library, as dist/os.c has it for the program. clib/Makefile puts it into
- * one object with the tracker, and makes its names local there. The proofs take the contracts of these functions as written (crate libc of
- * the toolchain). tests/same.py compares them with dist/os.c, line by line. */
+/* heap.c: the heap that a tracker asks for memory: that of the C library, as dist/os.c has it for the program.
+ * clib/Makefile puts it into one object with the tracker, and makes its names local there. The proofs take the
+ * contracts of these functions as written (crate libc of the toolchain). tests/same.py compares them with dist/os.c,
+ * line by line. */
 #include <stdbool.h>
 #include <stddef.h>
 #include <stdlib.h>

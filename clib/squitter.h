@@ -1,15 +1,17 @@
 /* squitter.h - libsquitter: ADS-B position squitters (DF17), read, decoded and written exactly.
  *
- * Each call is proved to meet its contract; README.md beside this file says what that covers. There is no floating point
- * in it: an angle is a fraction of whole numbers, in degrees, and an answer is the exact point of the standard's grid.
+ * Each call is proved to meet its contract; README.md beside this file says what that covers. There is no floating
+ * point in it: an angle is a fraction of whole numbers, in degrees, and an answer is the exact point of the standard's
+ * grid.
  *
  * FRAMES. A frame is 14 bytes, as a receiver has them: byte 0 holds the downlink format. Any 14 bytes may be given.
  *
  * FAULTS. Nearly every call answers a squitter_fault. Its code is SQUITTER_OK (0) where there is an answer, which then
- * stands in *out. Else the code says what is wrong, the first thing in the order that the call states, and *out is as it
- * was. squitter_text_of_fault writes it as words.
+ * stands in *out. Else the code says what is wrong, the first thing in the order that the call states, and *out is as
+ * it was. squitter_text_of_fault writes it as words.
  *
- * NUMBERS. Every value of every number is allowed, in arguments and in fields: what is out of range is answered by a fault.
+ * NUMBERS. Every value of every number is allowed, in arguments and in fields: what is out of range is answered by a
+ * fault.
  *
  * POINTERS. What a caller owes is what C's own rules ask for:
  *   - no pointer is null (a text of length 0 too points somewhere), each is aligned for its type and points to a whole
@@ -17,9 +19,10 @@
  *   - *out overlaps no other argument, and while a call runs nobody else writes what it reads, or reads or writes *out;
  *   - a text is `length` bytes, has no need of a zero at its end, and is shorter than 2^63 bytes.
  *
- * No call takes memory, keeps a pointer, blocks, has state or touches errno: calls may run side by side on threads, and in
- * signal handlers. Those of a tracker (squitter_tracker_*) alone take memory, by malloc and realloc, and give it back, by free: they
- * may run side by side for different trackers. Structs are laid out as written, and the bytes between fields mean nothing. */
+ * No call takes memory, keeps a pointer, blocks, has state or touches errno: calls may run side by side on threads, and
+ * in signal handlers. Those of a tracker (squitter_tracker_*) alone take memory, by malloc and realloc, and give it
+ * back, by free: they may run side by side for different trackers. Structs are laid out as written, and the bytes
+ * between fields mean nothing. */
 #ifndef SQUITTER_H
 #define SQUITTER_H
 
@@ -107,8 +110,8 @@ enum {
   SQUITTER_NO_ADDRESS = 47       /* no address stands at the index */
 };
 
-/* num / den degrees. An angle has a den from 1 to 10^12 and a magnitude of at most 360 degrees. What a call writes is in
- * lowest terms, with 0 as 0/1, but for the fix of an entry, which is a place as it was worked out. */
+/* num / den degrees. An angle has a den from 1 to 10^12 and a magnitude of at most 360 degrees. What a call writes is
+ * in lowest terms, with 0 as 0/1, but for the fix of an entry, which is a place as it was worked out. */
 typedef struct squitter_angle {
   int64_t num;
   uint64_t den;
@@ -178,9 +181,9 @@ typedef struct squitter_altitude {
   uint8_t form;
 } squitter_altitude;
 
-/* The zones in which a place lies. With YZ and XZ, the code of its frame (`lat` and `lon` in squitter_fields), its latitude is
- * degrees / lat_zones * (lat_zone + YZ / 2^17), and its longitude degrees / lon_zones * (lon_zone + XZ / 2^17), less 360
- * degrees from 180 up. */
+/* The zones in which a place lies. With YZ and XZ, the code of its frame (`lat` and `lon` in squitter_fields), its
+ * latitude is degrees / lat_zones * (lat_zone + YZ / 2^17), and its longitude
+ * degrees / lon_zones * (lon_zone + XZ / 2^17), less 360 degrees from 180 up. */
 typedef struct squitter_zones {
   int32_t lat_zone;    /* the zone of latitude, j: negative in the south */
   uint32_t lon_zone;   /* the zone of longitude, m: from 0, eastwards from the prime meridian */
@@ -191,10 +194,10 @@ typedef struct squitter_zones {
   uint8_t odd;
 } squitter_zones;
 
-/* What is kept of one address, for squitter_hear. The caller holds it, in an array, a map or a file: it is plain data, may be
- * copied, and is empty where all its bytes are 0, as calloc and memset leave it. Each value of each field is allowed: a frame
- * that spells no squitter, and a position that is none, count as nothing kept. One thread at a time may let an entry hear. Its
- * numbers have the byte order of the machine, also in a file. */
+/* What is kept of one address, for squitter_hear. The caller holds it, in an array, a map or a file: it is plain data,
+ * may be copied, and is empty where all its bytes are 0, as calloc and memset leave it. Each value of each field is
+ * allowed: a frame that spells no squitter, and a position that is none, count as nothing kept. One thread at a time
+ * may let an entry hear. Its numbers have the byte order of the machine, also in a file. */
 typedef struct squitter_received { /* a frame, and its moment */
   uint64_t moment;
   uint8_t frame[14];
@@ -233,9 +236,10 @@ typedef struct squitter_heard {
   uint8_t even, odd;          /* of SPLIT; else 0 */
 } squitter_heard;
 
-/* A tracker of all addresses at once, as `squitter track` has it: squitter_tracker_new makes it, and squitter_tracker_free gives its
- * memory back. The caller lends these 16 bytes, all 0 at first (`squitter_tracker tracker = {0, 0};`), which is no tracker, and then
- * neither writes to them nor uses a copy of them: what they hold is the library's own. */
+/* A tracker of all addresses at once, as `squitter track` has it: squitter_tracker_new makes it, and
+ * squitter_tracker_free gives its memory back. The caller lends these 16 bytes, all 0 at first
+ * (`squitter_tracker tracker = {0, 0};`), which is no tracker, and then neither writes to them nor uses a copy of them:
+ * what they hold is the library's own. */
 typedef struct squitter_tracker {
   uint64_t full;
   void *at;
@@ -256,8 +260,10 @@ squitter_fault squitter_frame_of_text(const char *text, size_t length, uint8_t S
 /* The text of a frame: 28 upper-case hexadecimal digits. No zero is written after them. */
 void squitter_text_of_frame(const uint8_t SQUITTER_CONST_BYTES(frame, 14), char SQUITTER_BYTES(out, 28)) SQUITTER_WRITE;
 
-/* The fields of the squitter that a frame text spells. Faults: those of squitter_frame_of_text, then NOT_DF17, PARITY. */
-squitter_fault squitter_read_text(const char *text, size_t length, squitter_fields *SQUITTER_RESTRICT out) SQUITTER_CALL;
+/* The fields of the squitter that a frame text spells. Faults: those of squitter_frame_of_text, then NOT_DF17,
+ * PARITY. */
+squitter_fault squitter_read_text(const char *text, size_t length,
+                                  squitter_fields *SQUITTER_RESTRICT out) SQUITTER_CALL;
 
 /* The fields of the squitter that a frame spells. Faults: NOT_DF17, PARITY. */
 squitter_fault squitter_read_frame(const uint8_t SQUITTER_CONST_BYTES(frame, 14),
@@ -277,11 +283,12 @@ squitter_fault squitter_local_zones(const uint8_t SQUITTER_CONST_BYTES(frame, 14
 /* The place of the newer of an even and an odd frame of one address in the air, which were sent from nearly one place.
  * Faults: NOT_DF17, PARITY (of the older, then of the newer), NOT_POSITION, OTHER_ADDRESS, OTHER_KIND, SAME_PARITY,
  * NO_SITE (for every pair on the ground), OUT_OF_RANGE, ZONE_COUNTS. */
-squitter_fault squitter_pair(const uint8_t SQUITTER_CONST_BYTES(older, 14), const uint8_t SQUITTER_CONST_BYTES(newer, 14),
+squitter_fault squitter_pair(const uint8_t SQUITTER_CONST_BYTES(older, 14),
+                             const uint8_t SQUITTER_CONST_BYTES(newer, 14),
                              squitter_position *SQUITTER_RESTRICT out) SQUITTER_CALL;
 
-/* The same with a site, which a pair on the ground wants: of its four places the one within 45 degrees of the site. A pair
- * in the air does not look at it. Faults: BAD_POSITION (the site), and then those of squitter_pair but NO_SITE. */
+/* The same with a site, which a pair on the ground wants: of its four places the one within 45 degrees of the site. A
+ * pair in the air does not look at it. Faults: BAD_POSITION (the site), and then those of squitter_pair but NO_SITE. */
 squitter_fault squitter_pair_at(const uint8_t SQUITTER_CONST_BYTES(older, 14),
                                 const uint8_t SQUITTER_CONST_BYTES(newer, 14), const squitter_position *site,
                                 squitter_position *SQUITTER_RESTRICT out) SQUITTER_CALL;
@@ -290,65 +297,70 @@ squitter_fault squitter_pair_at(const uint8_t SQUITTER_CONST_BYTES(older, 14),
 
 /* Hears one frame more of an address: what is heard of it, by the frames that were heard before it, as the program
  * `squitter track` answers. `entry` is what is kept of the frame's address: the caller looks it up by the address that
- * squitter_read_frame answers, and lets it hear no frame of another address. Moments and the window are in milliseconds, or
- * in any other unit. The other frame of a fix, and the last fix that is followed, are at most the window older. Whatever an
- * entry keeps, also one from elsewhere, what is heard is that of its frames and fix, and all of them stay but those that this
- * frame replaces: so the window may grow from call to call. At a fault *entry and *out are as they were. Faults: NOT_DF17,
- * PARITY, MOMENT_BACK. */
+ * squitter_read_frame answers, and lets it hear no frame of another address. Moments and the window are in
+ * milliseconds, or in any other unit. The other frame of a fix, and the last fix that is followed, are at most the
+ * window older. Whatever an entry keeps, also one from elsewhere, what is heard is that of its frames and fix, and all
+ * of them stay but those that this frame replaces: so the window may grow from call to call. At a fault *entry and *out
+ * are as they were. Faults: NOT_DF17, PARITY, MOMENT_BACK. */
 squitter_fault squitter_hear(squitter_entry *SQUITTER_RESTRICT entry, uint64_t window, uint64_t moment,
                              const uint8_t SQUITTER_CONST_BYTES(frame, 14),
                              squitter_heard *SQUITTER_RESTRICT out) SQUITTER_CALL;
 
-/* The same with a site, which pairs on the ground want. Faults: BAD_POSITION (the site), and then those of squitter_hear. */
+/* The same with a site, which pairs on the ground want. Faults: BAD_POSITION (the site), and then those of
+ * squitter_hear. */
 squitter_fault squitter_hear_at(squitter_entry *SQUITTER_RESTRICT entry, uint64_t window, const squitter_position *site,
                                 uint64_t moment, const uint8_t SQUITTER_CONST_BYTES(frame, 14),
                                 squitter_heard *SQUITTER_RESTRICT out) SQUITTER_CALL;
 
 /* ---- A tracker ---- */
 
-/* Makes an empty tracker for up to `limit` addresses, without a site. An address is present while it has a position that is at most
- * the window older than the last moment that was heard. A tracker that is there is freed first; at a fault there is none. Faults:
- * NO_LIMIT (the limit is 0), NO_MEMORY. The program has a limit of 1000 and a window of 10000 milliseconds. */
+/* Makes an empty tracker for up to `limit` addresses, without a site. An address is present while it has a position
+ * that is at most the window older than the last moment that was heard. A tracker that is there is freed first; at a
+ * fault there is none. Faults: NO_LIMIT (the limit is 0), NO_MEMORY. The program has a limit of 1000 and a window of
+ * 10000 milliseconds. */
 squitter_fault squitter_tracker_new(squitter_tracker *tracker, uint32_t limit, uint64_t window) SQUITTER_CALL;
 
-/* The same with a site, which pairs on the ground want. Faults: BAD_POSITION (the site), and then those of squitter_tracker_new. */
+/* The same with a site, which pairs on the ground want. Faults: BAD_POSITION (the site), and then those of
+ * squitter_tracker_new. */
 squitter_fault squitter_tracker_new_at(squitter_tracker *SQUITTER_RESTRICT tracker, uint32_t limit, uint64_t window,
                                        const squitter_position *site) SQUITTER_CALL;
 
 /* Frees a tracker, with all memory that it took: there is none afterwards. It does nothing where there is none. */
 void squitter_tracker_free(squitter_tracker *tracker) SQUITTER_WRITE;
 
-/* Hears a frame: what is heard of it, by the frames that the tracker accepted before. Memory is taken for an address that is not
- * present alone, and the time of a call does not grow with the number of addresses. At a fault the tracker and *out are as they were.
- * Faults: NO_TRACKER, NOT_DF17, PARITY, MOMENT_BACK, TABLE_FULL, NO_MEMORY. */
+/* Hears a frame: what is heard of it, by the frames that the tracker accepted before. Memory is taken for an address
+ * that is not present alone, and the time of a call does not grow with the number of addresses. At a fault the tracker
+ * and *out are as they were. Faults: NO_TRACKER, NOT_DF17, PARITY, MOMENT_BACK, TABLE_FULL, NO_MEMORY. */
 squitter_fault squitter_tracker_hear(squitter_tracker *SQUITTER_RESTRICT tracker, uint64_t moment,
                                      const uint8_t SQUITTER_CONST_BYTES(frame, 14),
                                      squitter_heard *SQUITTER_RESTRICT out) SQUITTER_CALL;
 
-/* squitter_tracker_hear of each frame at its moment, one after the other, as the calls of arrays below do: the answer is how many. */
-size_t squitter_tracker_hear_many(squitter_tracker *SQUITTER_RESTRICT tracker, const uint64_t *moments, size_t moments_count,
-                                  const uint8_t (*frames)[14], size_t frames_count, squitter_heard *SQUITTER_RESTRICT out,
-                                  size_t out_count, squitter_fault *SQUITTER_RESTRICT faults,
-                                  size_t faults_count) SQUITTER_CALL;
+/* squitter_tracker_hear of each frame at its moment, one after the other, as the calls of arrays below do: the answer
+ * is how many. */
+size_t squitter_tracker_hear_many(squitter_tracker *SQUITTER_RESTRICT tracker, const uint64_t *moments,
+                                  size_t moments_count, const uint8_t (*frames)[14], size_t frames_count,
+                                  squitter_heard *SQUITTER_RESTRICT out, size_t out_count,
+                                  squitter_fault *SQUITTER_RESTRICT faults, size_t faults_count) SQUITTER_CALL;
 
 /* How many addresses are present, at most the limit; 0 where there is no tracker. */
 size_t squitter_tracker_len(squitter_tracker *tracker) SQUITTER_CALL;
 
-/* The present address at an index, the longest unheard first. The time grows with the index. Faults: NO_TRACKER, NO_ADDRESS (from
- * squitter_tracker_len on). */
+/* The present address at an index, the longest unheard first. The time grows with the index. Faults: NO_TRACKER,
+ * NO_ADDRESS (from squitter_tracker_len on). */
 squitter_fault squitter_tracker_get(squitter_tracker *SQUITTER_RESTRICT tracker, size_t index,
                                     squitter_present *SQUITTER_RESTRICT out) SQUITTER_CALL;
 
 /* ---- Arrays ---- */
 
-/* Many calls in one. At place k of `out` and of `faults` stands what the call by itself answers for place k of the others; at
- * a fault that place of `out` is as it was. Each array has its number of elements after it; the shortest counts, and the answer
- * is how many places that are. What lies beyond is as it was. An array may have no element, and then its pointer too points
- * somewhere. `out` and `faults` overlap no other argument. */
+/* Many calls in one. At place k of `out` and of `faults` stands what the call by itself answers for place k of the
+ * others; at a fault that place of `out` is as it was. Each array has its number of elements after it; the shortest
+ * counts, and the answer is how many places that are. What lies beyond is as it was. An array may have no element, and
+ * then its pointer too points somewhere. `out` and `faults` overlap no other argument. */
 
 /* squitter_read_frame of each frame. */
 size_t squitter_read_many(const uint8_t (*frames)[14], size_t frames_count, squitter_fields *SQUITTER_RESTRICT out,
-                          size_t out_count, squitter_fault *SQUITTER_RESTRICT faults, size_t faults_count) SQUITTER_CALL;
+                          size_t out_count, squitter_fault *SQUITTER_RESTRICT faults,
+                          size_t faults_count) SQUITTER_CALL;
 
 /* squitter_local of each frame near the reference of its place. */
 size_t squitter_local_many(const uint8_t (*frames)[14], size_t frames_count, const squitter_position *references,
@@ -356,16 +368,18 @@ size_t squitter_local_many(const uint8_t (*frames)[14], size_t frames_count, con
                            squitter_fault *SQUITTER_RESTRICT faults, size_t faults_count) SQUITTER_CALL;
 
 /* squitter_pair of each older frame and the newer one of its place. */
-size_t squitter_pair_many(const uint8_t (*older)[14], size_t older_count, const uint8_t (*newer)[14], size_t newer_count,
-                          squitter_position *SQUITTER_RESTRICT out, size_t out_count,
+size_t squitter_pair_many(const uint8_t (*older)[14], size_t older_count, const uint8_t (*newer)[14],
+                          size_t newer_count, squitter_position *SQUITTER_RESTRICT out, size_t out_count,
                           squitter_fault *SQUITTER_RESTRICT faults, size_t faults_count) SQUITTER_CALL;
 
 /* squitter_pair_at of the same, with one site. */
-size_t squitter_pair_at_many(const uint8_t (*older)[14], size_t older_count, const uint8_t (*newer)[14], size_t newer_count,
-                             const squitter_position *site, squitter_position *SQUITTER_RESTRICT out, size_t out_count,
+size_t squitter_pair_at_many(const uint8_t (*older)[14], size_t older_count, const uint8_t (*newer)[14],
+                             size_t newer_count, const squitter_position *site,
+                             squitter_position *SQUITTER_RESTRICT out, size_t out_count,
                              squitter_fault *SQUITTER_RESTRICT faults, size_t faults_count) SQUITTER_CALL;
 
-/* squitter_hear of each frame at its moment, one after the other: each call finds the entry as the one before left it. */
+/* squitter_hear of each frame at its moment, one after the other: each call finds the entry as the one before left
+ * it. */
 size_t squitter_hear_many(squitter_entry *SQUITTER_RESTRICT entry, uint64_t window, const uint64_t *moments,
                           size_t moments_count, const uint8_t (*frames)[14], size_t frames_count,
                           squitter_heard *SQUITTER_RESTRICT out, size_t out_count,
@@ -373,8 +387,8 @@ size_t squitter_hear_many(squitter_entry *SQUITTER_RESTRICT entry, uint64_t wind
 
 /* squitter_hear_at of the same. */
 size_t squitter_hear_at_many(squitter_entry *SQUITTER_RESTRICT entry, uint64_t window, const squitter_position *site,
-                             const uint64_t *moments, size_t moments_count, const uint8_t (*frames)[14], size_t frames_count,
-                             squitter_heard *SQUITTER_RESTRICT out, size_t out_count,
+                             const uint64_t *moments, size_t moments_count, const uint8_t (*frames)[14],
+                             size_t frames_count, squitter_heard *SQUITTER_RESTRICT out, size_t out_count,
                              squitter_fault *SQUITTER_RESTRICT faults, size_t faults_count) SQUITTER_CALL;
 
 /* squitter_position_e7 of each position. */
@@ -412,11 +426,13 @@ squitter_fault squitter_text_of_angle(const squitter_angle *angle, char SQUITTER
 squitter_fault squitter_angle_e7(const squitter_angle *angle, int64_t *SQUITTER_RESTRICT out) SQUITTER_CALL;
 
 /* The same of both coordinates of a position. Fault: BAD_POSITION. */
-squitter_fault squitter_position_e7(const squitter_position *position, squitter_degrees_e7 *SQUITTER_RESTRICT out) SQUITTER_CALL;
+squitter_fault squitter_position_e7(const squitter_position *position,
+                                    squitter_degrees_e7 *SQUITTER_RESTRICT out) SQUITTER_CALL;
 
 /* The angle that a text spells: an optional `-`, one to three digits, and optionally a point and one to twelve digits.
  * Faults: NOT_A_NUMBER, TOO_MANY_DECIMALS, ANGLE_RANGE. */
-squitter_fault squitter_angle_of_text(const char *text, size_t length, squitter_angle *SQUITTER_RESTRICT out) SQUITTER_CALL;
+squitter_fault squitter_angle_of_text(const char *text, size_t length,
+                                      squitter_angle *SQUITTER_RESTRICT out) SQUITTER_CALL;
 
 /* What an altitude field of 12 bits means in an airborne position of this type code. Fault: BAD_FIELDS. */
 squitter_fault squitter_feet_of_field(uint8_t type_code, uint16_t field,

@@ -1,6 +1,6 @@
-// Seeded lines for `check` and `track`. logs check SEED LINES, logs track SEED LINES AIRCRAFT: frames of aircraft that fly, taxi and jump,
-// some lines damaged in every way, some of random bytes. logs busy SEED SECONDS AIRCRAFT RATE: a busy sky, so many aircraft at a time and
-// frames a second, each aircraft for about ten minutes.
+// Seeded lines for `check` and `track`. logs check SEED LINES, logs track SEED LINES AIRCRAFT: frames of aircraft that
+// fly, taxi and jump, some lines damaged in every way, some of random bytes. logs busy SEED SECONDS AIRCRAFT RATE: a
+// busy sky, so many aircraft at a time and frames a second, each aircraft for about ten minutes.
 #include <math.h>
 #include <stdint.h>
 #include <stdio.h>
@@ -23,7 +23,9 @@ static uint64_t next(void) {
 
 static int below(int n) { return (int)(next() % (uint64_t)n); }
 static int chance(int percent) { return below(100) < percent; }
-static double between(double low, double high) { return low + (high - low) * (double)(next() >> 11) / 9007199254740992.0; }
+static double between(double low, double high) {
+    return low + (high - low) * (double)(next() >> 11) / 9007199254740992.0;
+}
 
 static uint32_t remainder_of(u128 bits) {
     for (int place = 111; place >= 24; place--)
@@ -39,10 +41,13 @@ static int zone_count(double lat) {
     return (int)floor(2 * pi / acos(1 - a / (c * c)));
 }
 
-static int code(double x, double zone) { return (int)floor(CODES * (x - zone * floor(x / zone)) / zone + 0.5) & (CODES - 1); }
+static int code(double x, double zone) {
+    return (int)floor(CODES * (x - zone * floor(x / zone)) / zone + 0.5) & (CODES - 1);
+}
 
 static void jump(struct aircraft *a) {
-    static const double lats[] = {10.47, 86.999, 87, -87.001, 89.99, 0, 52.3, -33.9, 59.9545}, lons[] = {179.99, -179.99, 4.7, 0};
+    static const double lats[] = {10.47, 86.999, 87, -87.001, 89.99, 0, 52.3, -33.9, 59.9545};
+    static const double lons[] = {179.99, -179.99, 4.7, 0};
     a->lat = chance(50) ? between(-90, 90) : lats[below(9)];
     a->lon = chance(50) ? between(-180, 180) : lons[below(4)];
     a->ground = chance(30);
@@ -62,7 +67,8 @@ static u128 frame(struct aircraft *a) {
     move(a);
     int odd = below(2), degrees = a->ground ? 90 : 360;
     int zones = zone_count(a->lat) - odd;
-    uint64_t lat = (uint64_t)code(a->lat, (double)degrees / (60 - odd)), lon = (uint64_t)code(a->lon, (double)degrees / (zones > 1 ? zones : 1));
+    uint64_t lat = (uint64_t)code(a->lat, (double)degrees / (60 - odd));
+    uint64_t lon = (uint64_t)code(a->lon, (double)degrees / (zones > 1 ? zones : 1));
     if (chance(2)) { lat = next() & (CODES - 1); lon = next() & (CODES - 1); }
     static const int air[] = {9, 10, 11, 18, 20, 21, 22}, ground[] = {5, 6, 7, 8};
     uint64_t type = (uint64_t)(a->ground ? ground[below(4)] : air[below(7)]);
@@ -119,7 +125,9 @@ static struct aircraft arrived(void) {
     return a;
 }
 
-static size_t print_moment(char *text, uint64_t moment) { return (size_t)sprintf(text, "%llu ", (unsigned long long)moment); }
+static size_t print_moment(char *text, uint64_t moment) {
+    return (size_t)sprintf(text, "%llu ", (unsigned long long)moment);
+}
 
 // Lines with every kind of damage; with moments where `timed` says so.
 static void print_damaged(int timed, long long lines, struct aircraft *all, int fleet) {
@@ -128,7 +136,9 @@ static void print_damaged(int timed, long long lines, struct aircraft *all, int 
     uint64_t moment = chance(50) ? 0 : UINT64_MAX - 40000000000u;
     for (; lines > 0; lines--) {
         moment += (uint64_t)(chance(95) ? steps[below(7)] : below(20000)) * 10 / (uint64_t)fleet;
-        size_t n = timed ? print_moment(text, moment > 6000 && chance(2) ? moment - (uint64_t)below(6000) : moment) : 0, at = n;
+        size_t n = 0;
+        if (timed) n = print_moment(text, moment > 6000 && chance(2) ? moment - (uint64_t)below(6000) : moment);
+        size_t at = n;
         int wraps = chance(25);
         if (wraps) text[n++] = '*';
         n += print_frame(text + n, frame(&all[below(fleet)]));

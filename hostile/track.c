@@ -1,5 +1,5 @@
-// The `track` job written again in C from docs/FORMATS.md and the standard's formulas, with whole numbers of 128 bits alone and without
-// a thought of speed: track LIMIT WINDOW [LAT_NUM LAT_DEN LON_NUM LON_DEN].
+// The `track` job written again in C from docs/FORMATS.md and the standard's formulas, with whole numbers of 128 bits
+// alone and without a thought of speed: track LIMIT WINDOW [LAT_NUM LAT_DEN LON_NUM LON_DEN].
 #define _GNU_SOURCE
 #include <stdint.h>
 #include <stdio.h>
@@ -46,10 +46,14 @@ static int zone_count(struct fraction lat) {
 
 static int lon_zones(int count, int parity) { return count - parity > 1 ? count - parity : 1; }
 static int is_latitude(struct fraction x) { return magnitude(x.num) <= 90 * x.den; }
-static struct fraction at(int degrees, int zones, i128 index) { return (struct fraction){index * degrees, (i128)zones * CODES}; }
+static struct fraction at(int degrees, int zones, i128 index) {
+    return (struct fraction){index * degrees, (i128)zones * CODES};
+}
 
 // in [-180, 180)
-static struct fraction eastwards(struct fraction x) { return (struct fraction){mod(x.num + 180 * x.den, 360 * x.den) - 180 * x.den, x.den}; }
+static struct fraction eastwards(struct fraction x) {
+    return (struct fraction){mod(x.num + 180 * x.den, 360 * x.den) - 180 * x.den, x.den};
+}
 
 // in (center - 45, center + 45], by whole multiples of 90 degrees
 static struct fraction around(struct fraction x, struct fraction c) {
@@ -57,7 +61,8 @@ static struct fraction around(struct fraction x, struct fraction c) {
     return (struct fraction){x.num + 90 * turns * x.den, x.den};
 }
 
-// the standard's local decoding in one coordinate: the zone of the reference, and the one next to it where the code is nearer there
+// the standard's local decoding in one coordinate: the zone of the reference, and the one next to it where the code is
+// nearer there
 static struct fraction near(struct fraction x, int degrees, int zones, int code) {
     i128 wide = x.den * degrees, n = down(x.num * zones, wide), part = x.num * zones - n * wide;
     i128 step = down(wide * (CODES / 2) + part * CODES - code * wide, wide * CODES);
@@ -101,7 +106,8 @@ static enum pair pair(struct squitter older, struct squitter newer, struct place
 
 static void print_degrees(struct fraction x) {
     uint64_t v = (uint64_t)((magnitude(x.num) * 20000000 + x.den) / (2 * x.den));
-    printf(" %s%llu.%07llu", x.num < 0 && v ? "-" : "", (unsigned long long)(v / 10000000), (unsigned long long)(v % 10000000));
+    unsigned long long whole = v / 10000000, part = v % 10000000;
+    printf(" %s%llu.%07llu", x.num < 0 && v ? "-" : "", whole, part);
 }
 
 static void print_place(const char *word, uint32_t address, struct place place) {
@@ -129,7 +135,8 @@ static void enter(uint32_t address) {
 
 static size_t others(uint32_t address, uint64_t moment) {
     size_t count = 0;
-    for (size_t k = 0; k < presents; k++) count += present[k] != address && is_recent(contacts[present[k]]->moment, moment);
+    for (size_t k = 0; k < presents; k++)
+        count += present[k] != address && is_recent(contacts[present[k]]->moment, moment);
     return count;
 }
 

@@ -1,5 +1,5 @@
-/* decode_log LOG: what is heard of each line of a log, a moment in milliseconds and a frame, as `squitter track` says it, line by
- * line. A tracker of the library keeps what is heard. */
+/* decode_log LOG: what is heard of each line of a log, a moment in milliseconds and a frame, as `squitter track` says
+ * it, line by line. A tracker of the library keeps what is heard. */
 #include "squitter.h"
 #include <errno.h>
 #include <inttypes.h>

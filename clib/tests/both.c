@@ -1,6 +1,6 @@
-/* both [ROUNDS]: the library as LLVM builds it beside the library as the toolchain's own compiler does, whose names begin
- * with r_, on random and nearly good inputs: each answer is the same, what is written is, and at a fault nothing is. A text
- * ends at a page that may not be read. */
+/* both [ROUNDS]: the library as LLVM builds it beside the library as the toolchain's own compiler does, whose names
+ * begin with r_, on random and nearly good inputs: each answer is the same, what is written is, and at a fault nothing
+ * is. A text ends at a page that may not be read. */
 #define _DEFAULT_SOURCE
 #include "squitter.h"
 #include <stdio.h>
@@ -20,8 +20,8 @@ squitter_fault r_squitter_hear(squitter_entry *, uint64_t, uint64_t, const uint8
 squitter_fault r_squitter_hear_at(squitter_entry *, uint64_t, const squitter_position *, uint64_t, const uint8_t *,
                                   squitter_heard *);
 size_t r_squitter_read_many(const uint8_t (*)[14], size_t, squitter_fields *, size_t, squitter_fault *, size_t);
-size_t r_squitter_local_many(const uint8_t (*)[14], size_t, const squitter_position *, size_t, squitter_position *, size_t,
-                             squitter_fault *, size_t);
+size_t r_squitter_local_many(const uint8_t (*)[14], size_t, const squitter_position *, size_t, squitter_position *,
+                             size_t, squitter_fault *, size_t);
 size_t r_squitter_pair_many(const uint8_t (*)[14], size_t, const uint8_t (*)[14], size_t, squitter_position *, size_t,
                             squitter_fault *, size_t);
 size_t r_squitter_pair_at_many(const uint8_t (*)[14], size_t, const uint8_t (*)[14], size_t, const squitter_position *,
@@ -58,7 +58,8 @@ static long codes[64], differences;
 static uint8_t pool[64][14];
 static char *page_end;
 
-/* Calls one build and the other, each with room of its own that is filled with 7s. The arguments are looked at twice. */
+/* Calls one build and the other, each with room of its own that is filled with 7s. The arguments are looked at
+ * twice. */
 #define BOTH(call, out, ...) BOTH_IN(call, out, sizeof out[0], __VA_ARGS__)
 #define BOTH_IN(call, out, size, ...) do { \
     memset(&out[0], 7, sizeof out[0]); memset(&out[1], 7, sizeof out[1]); \
@@ -217,8 +218,8 @@ static void hear(const squitter_position *site) {
   }
 }
 
-/* Calls one build and the other with arrays of which each may be the shortest: what they return, each element of `out` up to
- * the end of its last field, and each fault. */
+/* Calls one build and the other with arrays of which each may be the shortest: what they return, each element of `out`
+ * up to the end of its last field, and each fault. */
 #define MANY(call, out, size, ...) do { \
     memset(out, 7, sizeof out); memset(faults, 7, sizeof faults); \
     size_t n = squitter_##call(__VA_ARGS__, out[0], below(ROOM + 1), faults[0], ROOM); \

@@ -37,7 +37,8 @@ static void check_texts(const uint8_t *frame) {
   squitter_text_of_frame(frame, text);
   CHECK(!memcmp(text, even, 28));
   CHECK(squitter_read_text(text, 28, fields).code == SQUITTER_OK && fields->lat == 93000 && fields->lon == 51372);
-  CHECK(squitter_read_frame(frame, fields).code == SQUITTER_OK && fields->feet == 38000 && fields->kind == SQUITTER_AIR);
+  CHECK(squitter_read_frame(frame, fields).code == SQUITTER_OK);
+  CHECK(fields->feet == 38000 && fields->kind == SQUITTER_AIR);
   before = *fields;
   CHECK(squitter_read_text(short_text, 14, fields).code == SQUITTER_SHORT && !memcmp(&before, fields, sizeof before));
   CHECK(squitter_read_text(short_text, 0, fields).code == SQUITTER_LENGTH);
@@ -125,7 +126,7 @@ static void check_hearing(const uint8_t *older, const uint8_t *newer) {
   free(entry);
 }
 
-/* Each call of arrays, on arrays of their exact size: what the single calls answer, and as it was beyond the shortest. */
+/* Each call of arrays, on arrays of their exact size: what single calls answer, and as it was beyond the shortest. */
 static void check_arrays(const uint8_t *older, const uint8_t *newer) {
   squitter_position near_it = {{52, 1}, {4, 1}}, site = {{51990, 1000}, {4375, 1000}};
   squitter_position *places = calloc(3, sizeof *places), *near_all = malloc(2 * sizeof *near_all);
@@ -137,29 +138,31 @@ static void check_arrays(const uint8_t *older, const uint8_t *newer) {
   uint64_t *moments = calloc(2, sizeof *moments);
   uint8_t (*first)[14] = calloc(3, 14), (*second)[14] = calloc(3, 14);
   int64_t number = 0;
-  if (!places || !near_all || !fields || !faults || !heard || !degrees || !entry || !moments || !first || !second) exit(2);
+  if (!places || !near_all || !fields || !faults || !heard || !degrees || !entry || !moments) exit(2);
+  if (!first || !second) exit(2);
   near_all[0] = near_all[1] = near_it;
   memcpy(first[1], older, 14);
   memcpy(second[0], older, 14);
   memcpy(second[1], newer, 14);
-  CHECK(squitter_read_many((const uint8_t (*)[14])second, 3, fields, 3, faults, 2) == 2);
+  const uint8_t (*olds)[14] = (const uint8_t (*)[14])first, (*news)[14] = (const uint8_t (*)[14])second;
+  CHECK(squitter_read_many(news, 3, fields, 3, faults, 2) == 2);
   CHECK(!faults[0].code && !faults[1].code && fields[0].odd == 1 && fields[1].lat == 93000 && !fields[2].address);
-  CHECK(squitter_read_many((const uint8_t (*)[14])second, 3, fields, 0, faults, 3) == 0);
-  CHECK(squitter_local_many((const uint8_t (*)[14])second, 3, near_all, 2, places, 3, faults, 3) == 2);
+  CHECK(squitter_read_many(news, 3, fields, 0, faults, 3) == 0);
+  CHECK(squitter_local_many(news, 3, near_all, 2, places, 3, faults, 3) == 2);
   CHECK(!faults[1].code && places[1].lat.num == 428091 && !places[2].lat.den);
   memset(places, 0, 3 * sizeof *places);
-  CHECK(squitter_pair_many((const uint8_t (*)[14])first, 3, (const uint8_t (*)[14])second, 2, places, 3, faults, 3) == 2);
+  CHECK(squitter_pair_many(olds, 3, news, 2, places, 3, faults, 3) == 2);
   CHECK(faults[0].code == SQUITTER_NOT_DF17 && !places[0].lat.den && !faults[1].code && places[1].lon.den == 16384);
-  CHECK(squitter_pair_at_many((const uint8_t (*)[14])first, 2, (const uint8_t (*)[14])second, 3, &site, places, 3, faults, 3) == 2);
+  CHECK(squitter_pair_at_many(olds, 2, news, 3, &site, places, 3, faults, 3) == 2);
   CHECK(!faults[1].code && places[1].lat.num == 428091);
   CHECK(squitter_position_e7_many(places, 3, degrees, 2, faults, 3) == 2);
   CHECK(faults[0].code == SQUITTER_BAD_POSITION && degrees[1].lat == 522572021 && degrees[1].lon == 39193726);
   CHECK(squitter_position_e7(&near_it, degrees).code == SQUITTER_OK && degrees[0].lat == 520000000);
   CHECK(squitter_angle_e7(&near_it.lon, &number).code == SQUITTER_OK && number == 40000000);
   moments[1] = 9;
-  CHECK(squitter_hear_many(entry, 10000, moments, 2, (const uint8_t (*)[14])second, 3, heard, 3, faults, 3) == 2);
+  CHECK(squitter_hear_many(entry, 10000, moments, 2, news, 3, heard, 3, faults, 3) == 2);
   CHECK(heard[0].what == SQUITTER_WAITING && heard[1].what == SQUITTER_FIX && !heard[2].what && entry->last == 9);
-  CHECK(squitter_hear_at_many(entry, 10000, &site, moments, 1, (const uint8_t (*)[14])second, 3, heard, 3, faults, 3) == 1);
+  CHECK(squitter_hear_at_many(entry, 10000, &site, moments, 1, news, 3, heard, 3, faults, 3) == 1);
   CHECK(faults[0].code == SQUITTER_MOMENT_BACK && faults[0].first == 9 && heard[0].what == SQUITTER_WAITING);
   free(places), free(near_all), free(fields), free(faults), free(heard), free(degrees), free(entry), free(moments);
   free(first), free(second);

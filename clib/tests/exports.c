@@ -12,8 +12,10 @@ typedef uint8_t frame_bytes[SQUITTER_FRAME_BYTES];
 static const char even_text[] = "8D40621D58C382D690C8AC2863A7", ground_south_text[] = "8C4280A23800038C883EB75816F9";
 static const frame_bytes even = {0x8D, 0x40, 0x62, 0x1D, 0x58, 0xC3, 0x82, 0xD6, 0x90, 0xC8, 0xAC, 0x28, 0x63, 0xA7};
 static const frame_bytes odd = {0x8D, 0x40, 0x62, 0x1D, 0x58, 0xC3, 0x86, 0x43, 0x5C, 0xC4, 0x12, 0x69, 0x2A, 0xD6};
-static const frame_bytes ground_older = {0x8C, 0x48, 0x41, 0x75, 0x3A, 0xAB, 0x23, 0x87, 0x33, 0xC8, 0xCD, 0x40, 0x20, 0xB1};
-static const frame_bytes ground_newer = {0x8C, 0x48, 0x41, 0x75, 0x3A, 0x8A, 0x35, 0x32, 0x3F, 0xAE, 0xBD, 0xAC, 0x70, 0x2D};
+static const frame_bytes ground_older = {0x8C, 0x48, 0x41, 0x75, 0x3A, 0xAB, 0x23,
+                                         0x87, 0x33, 0xC8, 0xCD, 0x40, 0x20, 0xB1};
+static const frame_bytes ground_newer = {0x8C, 0x48, 0x41, 0x75, 0x3A, 0x8A, 0x35,
+                                         0x32, 0x3F, 0xAE, 0xBD, 0xAC, 0x70, 0x2D};
 static const frame_bytes no_squitter;
 
 /* Of the even frame: 428091/8192 is 6 * (8 + 93000/131072), and 64215/16384 is 10 * 51372/131072. */
@@ -56,10 +58,10 @@ static void try_frame_texts(void) {
 }
 
 static int is_of_even(const squitter_fields *read) {
-  return read->raw == 0 && read->address == 0x40621D && read->lat == 93000 && read->lon == 51372 && read->feet == 38000 &&
-         read->altitude == 0xC38 && read->altitude_form == SQUITTER_FEET && read->kind == SQUITTER_AIR && read->ca == 5 &&
-         read->type_code == 11 && read->odd == 0 && read->time == 0 && read->status == 0 && read->flag == 0 &&
-         read->movement == 0 && read->track_status == 0 && read->track == 0;
+  return read->raw == 0 && read->address == 0x40621D && read->lat == 93000 && read->lon == 51372 &&
+         read->feet == 38000 && read->altitude == 0xC38 && read->altitude_form == SQUITTER_FEET &&
+         read->kind == SQUITTER_AIR && read->ca == 5 && read->type_code == 11 && read->odd == 0 && read->time == 0 &&
+         read->status == 0 && read->flag == 0 && read->movement == 0 && read->track_status == 0 && read->track == 0;
 }
 
 static void try_reading(void) {
@@ -83,19 +85,23 @@ static void try_near_a_reference(void) {
 static int are_zones(const squitter_zones *zones, int32_t lat_zone, uint32_t lon_zone, uint32_t degrees) {
   return zones->lat_zone == lat_zone && zones->lon_zone == lon_zone && zones->degrees == degrees;
 }
-static int are_counts(const squitter_zones *zones, uint8_t lat_zones, uint8_t zone_count, uint8_t lon_zones, uint8_t is_odd) {
-  return zones->lat_zones == lat_zones && zones->zone_count == zone_count && zones->lon_zones == lon_zones && zones->odd == is_odd;
+static int are_counts(const squitter_zones *zones, uint8_t lat_zones, uint8_t zone_count, uint8_t lon_zones,
+                      uint8_t is_odd) {
+  return zones->lat_zones == lat_zones && zones->zone_count == zone_count && zones->lon_zones == lon_zones &&
+         zones->odd == is_odd;
 }
 
-/* In the south west, on the ground: 90 / 60 (-15 + 116292 / 2^17) degrees, and 90 / 55 (132 + 16055 / 2^17) less 360. */
+/* In the south west, on the ground: 90 / 60 (-15 + 116292 / 2^17) degrees, and 90 / 55 (132 + 16055 / 2^17) - 360. */
 static void try_zones(void) {
   squitter_zones out;
   squitter_position reference = {{52, 1}, {4, 1}}, south_west = {{-21, 1}, {-144, 1}};
   frame_bytes ground_south;
   filled(&out, sizeof out);
   IS(is_fault(squitter_local_zones(even, &nowhere, &out), SQUITTER_BAD_POSITION, 0) && is_filled(&out, sizeof out));
-  IS(is_ok(squitter_local_zones(even, &reference, &out)) && are_zones(&out, 8, 0, 360) && are_counts(&out, 60, 36, 36, 0));
-  IS(is_ok(squitter_local_zones(odd, &reference, &out)) && are_zones(&out, 8, 0, 360) && are_counts(&out, 59, 36, 35, 1));
+  IS(is_ok(squitter_local_zones(even, &reference, &out)) && are_zones(&out, 8, 0, 360) &&
+     are_counts(&out, 60, 36, 36, 0));
+  IS(is_ok(squitter_local_zones(odd, &reference, &out)) && are_zones(&out, 8, 0, 360) &&
+     are_counts(&out, 59, 36, 35, 1));
   IS(is_ok(squitter_frame_of_text(ground_south_text, 28, ground_south)));
   IS(is_ok(squitter_local_zones(ground_south, &south_west, &out)));
   IS(are_zones(&out, -15, 132, 90) && are_counts(&out, 60, 55, 55, 0));
@@ -136,7 +142,8 @@ static void try_sending(void) {
 }
 
 static void try_angles(void) {
-  squitter_angle lat = {-523, 10}, beyond_the_pole = {91, 1}, eighth = {-1, 8}, none = {7, 0}, read = {7, 7}, half = {-1, 2};
+  squitter_angle lat = {-523, 10}, beyond_the_pole = {91, 1}, eighth = {-1, 8}, none = {7, 0};
+  squitter_angle read = {7, 7}, half = {-1, 2};
   char text[SQUITTER_ANGLE_TEXT_BYTES];
   uint8_t count = 99;
   filled(text, sizeof text);
@@ -153,7 +160,8 @@ static void try_angles(void) {
 static void try_altitudes(void) {
   squitter_altitude altitude = {9, 9};
   uint16_t field = 7;
-  IS(is_fault(squitter_feet_of_field(19, 0xC38, &altitude), SQUITTER_BAD_FIELDS, 0) && altitude.feet == 9 && altitude.form == 9);
+  IS(is_fault(squitter_feet_of_field(19, 0xC38, &altitude), SQUITTER_BAD_FIELDS, 0) && altitude.feet == 9 &&
+     altitude.form == 9);
   IS(is_ok(squitter_feet_of_field(11, 0xC38, &altitude)) && altitude.feet == 38000 && altitude.form == SQUITTER_FEET);
   IS(is_fault(squitter_field_of_feet(38001, &field), SQUITTER_BAD_FEET, 0) && field == 7);
   IS(is_ok(squitter_field_of_feet(38000, &field)) && field == 0xC38);
@@ -176,8 +184,10 @@ static void try_hearing_a_pair(void) {
   squitter_entry entry, before;
   squitter_heard heard;
   memset(&entry, 0, sizeof entry), memset(&heard, 0, sizeof heard);
-  IS(is_ok(squitter_hear(&entry, 10000, 5, odd, &heard)) && heard.what == SQUITTER_WAITING && heard.position.lat.den == 0);
-  IS(is_ok(squitter_hear(&entry, 10000, 10005, even, &heard)) && heard.what == SQUITTER_FIX && same_place(&heard.position, &place));
+  IS(is_ok(squitter_hear(&entry, 10000, 5, odd, &heard)) && heard.what == SQUITTER_WAITING &&
+     heard.position.lat.den == 0);
+  IS(is_ok(squitter_hear(&entry, 10000, 10005, even, &heard)) && heard.what == SQUITTER_FIX &&
+     same_place(&heard.position, &place));
   before = entry;
   IS(is_fault(squitter_hear(&entry, 10000, 10004, odd, &heard), SQUITTER_MOMENT_BACK, 10005));
   IS(is_fault(squitter_hear(&entry, 10000, 10006, no_squitter, &heard), SQUITTER_NOT_DF17, 0));
@@ -191,7 +201,8 @@ static void try_following(void) {
   memset(&entry, 0, sizeof entry);
   entry.airborne.fix.position = place;
   entry.airborne.fix.moment = 3;
-  IS(is_ok(squitter_hear(&entry, 10, 13, even, &heard)) && heard.what == SQUITTER_FOLLOWED && same_place(&heard.position, &place));
+  IS(is_ok(squitter_hear(&entry, 10, 13, even, &heard)) && heard.what == SQUITTER_FOLLOWED &&
+     same_place(&heard.position, &place));
 }
 
 static void try_hearing_near_a_site(void) {
@@ -236,11 +247,12 @@ static void try_places_of_many(void) {
   IS(is_ok(faults[1]) && same_place(&out[1], &place) && is_filled(&out[2], sizeof out[2]));
   memcpy(older[0], ground_older, sizeof odd), memcpy(older[1], odd, sizeof odd);
   memcpy(newer[0], ground_newer, sizeof even);
+  const frame_bytes *olds = (const frame_bytes *)older, *news = (const frame_bytes *)newer;
   filled(out, sizeof out);
-  IS(squitter_pair_many((const frame_bytes *)older, 2, (const frame_bytes *)newer, 3, out, 3, faults, 2) == 2);
+  IS(squitter_pair_many(olds, 2, news, 3, out, 3, faults, 2) == 2);
   IS(is_fault(faults[0], SQUITTER_NO_SITE, 0) && is_filled(&out[0], sizeof out[0]));
   IS(is_ok(faults[1]) && same_place(&out[1], &place));
-  IS(squitter_pair_at_many((const frame_bytes *)older, 2, (const frame_bytes *)newer, 3, &site, out, 3, faults, 2) == 2);
+  IS(squitter_pair_at_many(olds, 2, news, 3, &site, out, 3, faults, 2) == 2);
   IS(is_ok(faults[0]) && same_place(&out[0], &ground_place) && is_ok(faults[1]) && same_place(&out[1], &place));
 }
 
@@ -257,7 +269,8 @@ static void try_hearing_many(void) {
   IS(is_fault(faults[1], SQUITTER_NOT_DF17, 0) && is_filled(&out[1], sizeof out[1]));
   IS(is_ok(faults[2]) && out[2].what == SQUITTER_FIX && same_place(&out[2].position, &place));
   IS(squitter_hear_at_many(&entry, 10000, &site, later, 2, (const frame_bytes *)frames, 3, out, 3, faults, 3) == 2);
-  IS(is_fault(faults[0], SQUITTER_MOMENT_BACK, 7) && out[0].what == SQUITTER_WAITING && is_fault(faults[1], SQUITTER_NOT_DF17, 0));
+  IS(is_fault(faults[0], SQUITTER_MOMENT_BACK, 7) && out[0].what == SQUITTER_WAITING &&
+     is_fault(faults[1], SQUITTER_NOT_DF17, 0));
 }
 
 /* 428091/8192 is 52.2572021484375, and 64215/16384 is 3.91937255859375. */
@@ -271,7 +284,8 @@ static void try_whole_numbers(void) {
   IS(is_fault(squitter_angle_e7(&none, &number), SQUITTER_BAD_ANGLE, 0) && number == 7);
   IS(is_ok(squitter_angle_e7(&tie, &number)) && number == -1);
   IS(is_ok(squitter_angle_e7(&turn, &number)) && number == 3600000000);
-  IS(is_fault(squitter_position_e7(&nowhere, &degrees), SQUITTER_BAD_POSITION, 0) && is_filled(&degrees, sizeof degrees));
+  IS(is_fault(squitter_position_e7(&nowhere, &degrees), SQUITTER_BAD_POSITION, 0) &&
+     is_filled(&degrees, sizeof degrees));
   IS(is_ok(squitter_position_e7(&place, &degrees)) && degrees.lat == 522572021 && degrees.lon == 39193726);
   IS(squitter_position_e7_many(places, 2, out, 2, faults, 2) == 2);
   IS(is_ok(faults[0]) && out[0].lat == -900000000 && out[0].lon == -1800000000);
@@ -284,9 +298,11 @@ static void try_a_tracker(void) {
   squitter_present present = {9, 9};
   squitter_heard heard;
   filled(&heard, sizeof heard);
-  IS(is_fault(squitter_tracker_hear(&tracker, 0, even, &heard), SQUITTER_NO_TRACKER, 0) && is_filled(&heard, sizeof heard));
+  IS(is_fault(squitter_tracker_hear(&tracker, 0, even, &heard), SQUITTER_NO_TRACKER, 0) &&
+     is_filled(&heard, sizeof heard));
   IS(squitter_tracker_len(&tracker) == 0);
-  IS(is_fault(squitter_tracker_get(&tracker, 0, &present), SQUITTER_NO_TRACKER, 0) && present.moment == 9 && present.address == 9);
+  IS(is_fault(squitter_tracker_get(&tracker, 0, &present), SQUITTER_NO_TRACKER, 0) && present.moment == 9 &&
+     present.address == 9);
   squitter_tracker_free(&tracker);
   IS(is_fault(squitter_tracker_new(&tracker, 0, 10000), SQUITTER_NO_LIMIT, 0));
   IS(is_fault(squitter_tracker_new_at(&tracker, 0, 10000, &nowhere), SQUITTER_BAD_POSITION, 0));

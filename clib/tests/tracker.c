@@ -1,6 +1,7 @@
-/* tracker LOG: the calls of a tracker. Each frame of a log is heard as by squitter_hear with an entry for its address, one by one
- * and many at once; each allocation is refused in turn, which changes no answer but that one; and all memory is given back, which
- * valgrind sees. Between frames of one address of this log less than the window passes, or nothing is heard of it twice. */
+/* tracker LOG: the calls of a tracker. Each frame of a log is heard as by squitter_hear with an entry for its address,
+ * one by one and many at once; each allocation is refused in turn, which changes no answer but that one; and all memory
+ * is given back, which valgrind sees. Between frames of one address of this log less than the window passes, or nothing
+ * is heard of it twice. */
 #include "squitter.h"
 #include <stdbool.h>
 #include <stddef.h>
@@ -84,7 +85,8 @@ static void try_none(void) {
   IS(same_fault(squitter_tracker_hear(&tracker, 0, frames[0], &heard), code_alone(SQUITTER_NO_TRACKER)));
   IS(same_heard(&heard, &before));
   IS(squitter_tracker_len(&tracker) == 0);
-  IS(squitter_tracker_get(&tracker, 0, &present).code == SQUITTER_NO_TRACKER && present.address == 7 && present.moment == 7);
+  IS(squitter_tracker_get(&tracker, 0, &present).code == SQUITTER_NO_TRACKER && present.address == 7 &&
+     present.moment == 7);
   squitter_tracker_free(&tracker);
   IS(same_fault(squitter_tracker_new(&tracker, 0, WINDOW), code_alone(SQUITTER_NO_LIMIT)));
   IS(same_fault(squitter_tracker_new_at(&tracker, 0, WINDOW, &nowhere), code_alone(SQUITTER_BAD_POSITION)));
@@ -127,12 +129,13 @@ static void try_many(squitter_tracker *tracker) {
   faults[half].code = 99;
   IS(squitter_tracker_hear_many(tracker, moments, lines, from, half, out, MOST, faults, MOST) == half);
   IS(faults[half].code == 99 && out[half].what == 0);
-  IS(squitter_tracker_hear_many(tracker, moments + half, MOST, from + half, lines - half, out + half, MOST - half, faults + half,
-                                MOST - half) == lines - half);
+  IS(squitter_tracker_hear_many(tracker, moments + half, MOST, from + half, lines - half, out + half, MOST - half,
+                                faults + half, MOST - half) == lines - half);
   for (size_t i = 0; i < lines; i++) IS(same_fault(faults[i], wanted_faults[i]) && same_heard(&out[i], &wanted[i]));
 }
 
-/* Each allocation is refused in turn: that call answers NO_MEMORY, and made again it answers as ever. How many there are. */
+/* Each allocation is refused in turn: that call answers NO_MEMORY, and made again it answers as ever. How many there
+ * are. */
 static long try_without_memory(void) {
   for (long number = 0;; number++) {
     squitter_tracker tracker = {0, 0};
@@ -167,7 +170,8 @@ static void try_full(void) {
   squitter_heard heard;
   size_t full = 0;
   IS(squitter_tracker_new(&tracker, 1, WINDOW).code == SQUITTER_OK);
-  for (size_t i = 0; i < lines; i++) full += squitter_tracker_hear(&tracker, moments[i], frames[i], &heard).code == SQUITTER_TABLE_FULL;
+  for (size_t i = 0; i < lines; i++)
+    full += squitter_tracker_hear(&tracker, moments[i], frames[i], &heard).code == SQUITTER_TABLE_FULL;
   IS(full > 0 && squitter_tracker_len(&tracker) == 1);
   squitter_tracker_free(&tracker);
 }
