@@ -14,10 +14,10 @@ import pins
 TOP = os.path.dirname(os.path.dirname(os.path.abspath(__file__)))
 HEAD = """# The laws and their lemmas
 
-A law is a public function of `src/laws.rt` whose contract is the statement. For each crate: the laws by the lemma file that their
-proof cites, and then each folder and each lemma file of `proofs/`, with what it says of itself and, after the arrow, the files
-that it cites; one of another crate has that crate's name. The proof of a law with no file cites none.
-`docs/laws.py > docs/LAWS.md` writes this page."""
+A law is a public function of `src/laws.rt` whose contract is the statement. For each crate: the laws by the lemma
+file that their proof cites, and then each folder and each lemma file of `proofs/`, with what it says of itself and,
+after the arrow, the files that it cites; one of another crate has that crate's name. The proof of a law with no file
+cites none. `docs/laws.py > docs/LAWS.md` writes this page."""
 
 
 def imports(path: str) -> list[tuple[str, str]]:
