@@ -7,3 +7,6 @@ pub mod Remembering
 pub mod Sequences
 pub mod StandsForLemmas
 pub mod TableLemmas
+pub mod LinkLemmas
+pub mod RoundLemmas
+pub mod PlaceLemmas

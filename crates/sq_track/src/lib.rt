@@ -13,6 +13,7 @@ mod contact;
 mod contacts;
 mod heard;
 pub mod laws;
+mod links;
 mod listening;
 mod tracker;
 pub mod worked;

@@ -1,25 +1,49 @@
-use Rattle.std.proofs.Common.{ℕ, List, sym, ap, ◌∙◌, subst, eqb, length}
+use Rattle.std.proofs.Common.{ℕ, List, eqb, sym, ap, ◌∙◌}
 use Rattle.std.specs.Map.{lookup}
-use Rattle.sq_track.specs.Ordered.{heard_order, others_in, entries_in, IsTied}
+use Rattle.sq_track.specs.Ordered.{others_in}
 use Rattle.sq_track.specs.declared.contact.Contact.{Contact}
-use Rattle.sq_track.proofs.Table.ContactLemmas.{removed_tied, removed_view, counted_out}
+use Rattle.sq_track.proofs.Table.PlaceLemmas.{absent_view, left_tied, left_view, others_in_absent, place}
 use Rattle.sq_track.proofs.contacts.Contacts.remove.Goals as goal
+
+pub take_out-self-inside-requires-clause-distinct : goal.take_out-self-inside-requires-clause-distinct
+take_out-self-inside-requires-clause-distinct c =
+    let es = c.self.inside.table.entries in
+    let here = place es c.self.inside.oldest c.args.address c.in-Some.at c.self.invariant.0 c.self.invariant.1
+    c.in-Some.ensures.unique c.in-Some.ensures.index (sym c.in-Some.ensures.found) in
+    here.distinct
+
+pub take_out-self-inside-requires-clause-known : goal.take_out-self-inside-requires-clause-known
+take_out-self-inside-requires-clause-known c =
+    let es = c.self.inside.table.entries in
+    let here = place es c.self.inside.oldest c.args.address c.in-Some.at c.self.invariant.0 c.self.invariant.1
+    c.in-Some.ensures.unique c.in-Some.ensures.index (sym c.in-Some.ensures.found) in
+    here.known
 
 pub invariant_of-self : goal.invariant_of-self
 invariant_of-self c =
-    let a = c.args.address in
     let es = c.self.inside.table.entries in
-    let fs = c.swap_remove.new.self.entries in
-    let tied = removed_tied es (heard_order c.self.inside.order) c.self.invariant.0 a fs c.swap_remove.ensures.updates.0
-    (counted_out c.swap_remove.result (lookup (eqb a) es) (length fs)
-    (length es) c.swap_remove.ensures.value c.swap_remove.ensures.len) in
-    (subst (IsTied fs) (sym c.forget.ensures.order) tied, c.forget.ensures.unbounded)
+    let ends = c.take_out-self-inside.ensures in
+    let here = place es c.self.inside.oldest c.args.address c.in-Some.at c.self.invariant.0 c.self.invariant.1
+    c.in-Some.ensures.unique c.in-Some.ensures.index (sym c.in-Some.ensures.found) in (
+      left_tied es c.take_out-self-inside.new.table.entries c.self.inside.oldest c.take_out-self-inside.result
+          c.args.address c.in-Some.at c.self.invariant.0 here ends.order ends.len ends.contacts,
+      ends.round,
+    )
 
-pub returns : goal.returns
-returns c =
-    let a = c.args.address in
+pub returns-in-Some : goal.returns-in-Some
+returns-in-Some c =
     let es = c.self.inside.table.entries in
-    let fs = c.swap_remove.new.self.entries in
-    ap (entries_in fs) c.forget.ensures.order
-    ∙ removed_view es (heard_order c.self.inside.order) c.self.invariant.0 a fs c.swap_remove.ensures.updates.0
-    ∙ ap (λ (v : List (ℕ × Contact)). others_in a v) c.self.view_is
+    let ends = c.take_out-self-inside.ensures in
+    let here = place es c.self.inside.oldest c.args.address c.in-Some.at c.self.invariant.0 c.self.invariant.1
+    c.in-Some.ensures.unique c.in-Some.ensures.index (sym c.in-Some.ensures.found) in
+    left_view es c.take_out-self-inside.new.table.entries c.self.inside.oldest c.take_out-self-inside.result
+    c.args.address
+    c.in-Some.at c.self.invariant.0 here ends.order ends.len ends.contacts
+    ∙ ap (λ (v : List (ℕ × Contact)). others_in c.args.address v) c.self.view_is
+
+pub returns-in_default : goal.returns-in_default
+returns-in_default c =
+    let es = c.self.inside.table.entries in
+    others_in_absent c.args.address c.args.self.now
+    (sym (ap (λ (v : List (ℕ × Contact)). lookup (eqb c.args.address) v) c.self.view_is)
+    ∙ absent_view es c.self.inside.oldest c.args.address c.self.invariant.0 c.in_default.ensures.found)

@@ -1,0 +1,7 @@
+use Rattle.std.proofs.Common.{◌≡◌, ◌≤◌, ◌<◌, Some, length, slice_get}
+use Rattle.sq_track.specs.Ring.{round}
+use Rattle.sq_track.proofs.contacts.nth.Given as goal
+
+abbrev pub invariant-loop : goal.invariant-loop
+invariant-loop l = (slice_get (round l.table.entries l.oldest) l.counter ≡ Some l.at)
+    × (l.at < length l.table.entries) × (l.counter ≤ l.index)

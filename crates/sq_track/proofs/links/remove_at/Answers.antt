@@ -1,0 +1,17 @@
+use Rattle.sq_track.proofs.Table.LinkLemmas.{dropped, shorter}
+use Rattle.sq_track.proofs.links.remove_at.Goals as goal
+
+pub returns-clause-entries : goal.returns-clause-entries
+returns-clause-entries c =
+    (dropped c.args.table.now c.swap_remove_index.new.self c.args.at c.swap_remove_index.result c.requires
+    c.swap_remove_index.ensures.entry c.swap_remove_index.ensures.entries c.swap_remove_index.ensures.updates).0
+
+pub returns-clause-len : goal.returns-clause-len
+returns-clause-len c =
+    shorter c.args.table.now.entries c.args.at c.swap_remove_index.result _ c.requires c.swap_remove_index.ensures.entry
+    c.swap_remove_index.ensures.len
+
+pub returns-clause-contacts : goal.returns-clause-contacts
+returns-clause-contacts c =
+    (dropped c.args.table.now c.swap_remove_index.new.self c.args.at c.swap_remove_index.result c.requires
+    c.swap_remove_index.ensures.entry c.swap_remove_index.ensures.entries c.swap_remove_index.ensures.updates).1
