@@ -1,6 +1,9 @@
 -- Links between the entries of a table, which lead round through all of them.
-use Rattle.std.specs.Prelude.{◌≡◌, ℕ, ◌<◌, List, [], ◌∷◌, length, map, slice_index, nat_eq, if◌then◌else◌}
-use Rattle.std.specs.Map.{keys_of}
+use Rattle.std.specs.Prelude.{◌≡◌, ℕ, ◌+◌, ◌<◌, List, [], ◌∷◌, ◌++◌, length, map, slice_index, nat_eq, if◌then◌else◌, Some}
+use Rattle.std.specs.Prelude.{is_some, slice_get, unwrap_or}
+use Rattle.std.specs.List.{IsDistinct}
+use Rattle.std.specs.Map.{keys_of, lookup}
+use Rattle.sq_track.specs.Ordered.{blank_contact, others_than}
 use Rattle.sq_track.specs.declared.contact.Contact.{Contact}
 use Rattle.sq_track.specs.declared.links.Linked.{Linked}
 
@@ -57,3 +60,16 @@ pub record IsLinking (from to : ℕ) (es fs : List (ℕ × Linked)) : Type 0 whe
   pub after : (k : ℕ) → after_at fs k ≡ (if nat_eq k from then to else after_at es k)
   pub before : (k : ℕ) → before_at fs k ≡ (if nat_eq k to then from else before_at es k)
   pub contacts : contacts_in fs ≡ contacts_in es
+
+-- an entry was found or made for an address, with what is kept of it, and put at the end of the round
+pub record IsReached (address at : ℕ) (es fs : List (ℕ × Linked)) (from to : ℕ) : Type 0 where
+  pub within : at < length fs
+  pub entry : slice_get (contacts_in fs) at
+      ≡ Some (address, unwrap_or (lookup (nat_eq address) (contacts_in es)) blank_contact)
+  pub distinct : IsDistinct nat_eq (keys_of fs)
+  pub is_round : IsRound fs to
+  pub order : addresses_in fs to ≡ others_than address (addresses_in es from) ++ address ∷ []
+  pub contacts : (k : ℕ) → lookup (nat_eq k) (contacts_in fs)
+      ≡ (if nat_eq address k then Some (unwrap_or (lookup (nat_eq address) (contacts_in es)) blank_contact)
+      else lookup (nat_eq k) (contacts_in es))
+  pub long : length fs ≡ length es + (if is_some (lookup (nat_eq address) (contacts_in es)) then 0 else 1)

@@ -7,8 +7,8 @@ ghost use Rattle.sq_message.specs.Parts.{squitter_parts};
 ghost use Rattle.sq_track.specs.Held.{contact_of};
 ghost use Rattle.sq_track.specs.Kept.{IsContactHearing};
 ghost use Rattle.sq_track.specs.declared.contact.Contact.{Contact};
-ghost use Rattle.sq_track.specs.Ordered.{blank_contact, others_in};
-ghost use Rattle.sq_track.specs.Ring.{IsRound, contacts_in, round};
+ghost use Rattle.sq_track.specs.Ordered.{IsTied, blank_contact, others_in};
+ghost use Rattle.sq_track.specs.Ring.{IsReached, IsRound, addresses_in, contacts_in, round};
 
 use crate::contact::{Contact, Side};
 use crate::heard::Heard;
@@ -100,6 +100,56 @@ fn blank() -> Contact
     }
 }
 
+// Finds the entry of an address, or makes one, and puts it at the end of the round. One that is there takes no memory.
+#[inline(always)]
+fn reach(
+    table: &mut IndexMap<u32, Linked>,
+    oldest: &mut usize,
+    address: u32,
+) -> Result<usize, AllocError>
+    requires tied { IsTied (contacts_in table.old.entries) (addresses_in table.old.entries oldest.old) }
+    requires round { IsRound table.old.entries oldest.old }
+    ensures ok { IfOk result (λ at. IsReached address at table.old.entries table.new.entries oldest.old oldest.new) }
+    ensures err { OnErr result ((table.new.entries ≡ table.old.entries) × (oldest.new ≡ oldest.old)) }
+    ensures absent { OnErr result (lookup (nat_eq address) (contacts_in table.old.entries) ≡ None) }
+{
+    match table.get_index_of(&address) {
+        Some(at) => {
+            *oldest = put_last(table, *oldest, at);
+            Ok(at)
+        }
+        None => enter(table, oldest, address),
+    }
+}
+
+// Makes an entry for an address that is not there, at the end of the round.
+#[inline(never)]
+fn enter(
+    table: &mut IndexMap<u32, Linked>,
+    oldest: &mut usize,
+    address: u32,
+) -> Result<usize, AllocError>
+    requires tied { IsTied (contacts_in table.old.entries) (addresses_in table.old.entries oldest.old) }
+    requires round { IsRound table.old.entries oldest.old }
+    requires absent { lookup (nat_eq address) (contacts_in table.old.entries) ≡ None }
+    ensures ok { IfOk result (λ at. IsReached address at table.old.entries table.new.entries oldest.old oldest.new) }
+    ensures err { OnErr result ((table.new.entries ≡ table.old.entries) × (oldest.new ≡ oldest.old)) }
+{
+    let at = table.len();
+    let linked = Linked {
+        before: at,
+        after: at,
+        contact: blank(),
+    };
+    match table.insert(address, linked) {
+        Ok(_) => {
+            *oldest = join(table, *oldest, at);
+            Ok(at)
+        }
+        Err(_) => Err(AllocError),
+    }
+}
+
 impl Contacts {
     /// No contacts.
     pub fn new(alloc: Global) -> Contacts
@@ -163,46 +213,8 @@ impl Contacts {
         ensures err { OnErr result (self.new ≡ self.old) }
         ensures absent { OnErr result (lookup (nat_eq address) self.old ≡ None) }
     {
-        match self.table.get_index_of(&address) {
-            Some(at) => {
-                self.oldest = put_last(&mut self.table, self.oldest, at);
-                Ok(hear_at(&mut self.table, at, window_ms, site, moment, squitter))
-            }
-            None => self.hear_new(window_ms, site, moment, address, squitter),
-        }
-    }
-
-    // Hears the first squitter of an address, and puts the address at the end.
-    #[inline(never)]
-    fn hear_new(
-        &mut self,
-        window_ms: u64,
-        site: Option<&Position>,
-        moment: u64,
-        address: u32,
-        squitter: &Squitter,
-    ) -> Result<Heard, AllocError>
-        requires { lookup (nat_eq address) self.old ≡ None }
-        ensures ok { IfOk result (λ heard. (after : Contact)
-            × IsContactHearing window_ms (option_copied site.entry) moment squitter.now blank_contact heard after
-            × (self.new ≡ others_in address self.old ++ (address, after) ∷ [])) }
-        ensures err { OnErr result (self.new ≡ self.old) }
-    {
-        let at = self.table.len();
-        let mut contact = blank();
-        let heard = contact.hear(window_ms, site, moment, squitter);
-        let linked = Linked {
-            before: at,
-            after: at,
-            contact,
-        };
-        match self.table.insert(address, linked) {
-            Ok(_) => {
-                self.oldest = join(&mut self.table, self.oldest, at);
-                Ok(heard)
-            }
-            Err(_) => Err(AllocError),
-        }
+        let at = reach(&mut self.table, &mut self.oldest, address)?;
+        Ok(hear_at(&mut self.table, at, window_ms, site, moment, squitter))
     }
 
     /// Drops an address.

@@ -6,7 +6,7 @@ use Rattle.std.specs.List.{AllByRecursion, IsDistinct}
 use Rattle.std.specs.Map.{keys_of, values_of, lookup}
 use Rattle.std.specs.Option.{option_map}
 use Rattle.std.specs.Cmp.{nat_eq_equiv}
-use Rattle.std.proofs.lemmas.Bool.{true≢false, eqb-true, eqb-false, eq-eqb, ne_eqb}
+use Rattle.std.proofs.lemmas.Bool.{false≢true, true≢false, eqb-true, eqb-false, eq-eqb, ne_eqb}
 use Rattle.std.proofs.lemmas.List.{length-map, length-append, map-append}
 use Rattle.std.proofs.lemmas.List.Quantifiers.{position-Some}
 use Rattle.std.proofs.lemmas.Option.{slice_get-map, slice_get_past, get_or_from_slice_get}
@@ -14,7 +14,7 @@ use Rattle.std.proofs.Math.Seq.{get_or-append_seam, take-append_seam}
 use Rattle.indexmap.specs.IndexMap.{IndexMap, Updates, with_value_at}
 use Rattle.indexmap.proofs.CallerLemmas.{index_map_len-with_value_at, keys-with_value_at, updates-with_value_at}
 use Rattle.sq_track.specs.Ordered.{IsTied, entries_in, entry_of, has_address, others_in, others_than, blank_contact}
-use Rattle.sq_track.specs.Ring.{IsPaired, IsRing, IsRound, chain, address_at, addresses_in, after_at, before_at, contacts_in, round}
+use Rattle.sq_track.specs.Ring.{IsPaired, IsReached, IsRing, IsRound, chain, address_at, addresses_in, after_at, before_at, contacts_in, round}
 use Rattle.sq_track.specs.declared.contact.Contact.{Contact}
 use Rattle.sq_track.specs.declared.links.Linked.{Linked}
 use Rattle.sq_track.proofs.Lists.Filters.{filter-cons_yes}
@@ -198,10 +198,6 @@ both_at [] i v at = none_is_some v at
 both_at (e ∷ es) zero v at = ap (λ u. Some (e.0, u)) (same_some e.1 v at)
 both_at (e ∷ es) (suc i) v at = both_at es i v at
 
-values_contacts : (es : Entries) → values_of (contacts_in es) ≡ map (λ (l : Linked). l.contact) (values_of es)
-values_contacts [] = refl
-values_contacts (e ∷ es) = ap (λ l. e.1.contact ∷ l) (values_contacts es)
-
 -- the addresses once an index is last
 pub last_address : (es fs : Entries) (oldest last address at : ℕ) → IsPlace es oldest address at
     → contacts_in fs ≡ contacts_in es → round fs last ≡ others_than at (round es oldest) ++ at ∷ []
@@ -213,41 +209,39 @@ last_address es fs oldest last address at here contacts order =
     ∙ ap (λ l. l ++ address_at es at ∷ []) (sym here.others)
     ∙ ap (λ a. others_than address (addresses_in es oldest) ++ a ∷ []) here.is
 
--- the table after a squitter of the address at an index was heard
-pub record IsHeardAt (es fs gs : Entries) (last address : ℕ) (before after : Contact) : Type 0 where
-  pub was : lookup (eqb address) (contacts_in es) ≡ Some before
+-- what the table has at an index, as contacts see it
+contact_entry : (es : Entries) (i : ℕ) (v : Linked) → slice_get (values_of es) i ≡ Some v
+    → slice_get (contacts_in es) i ≡ Some (address_at es i, v.contact)
+contact_entry [] i v at = none_is_some v at
+contact_entry (e ∷ es) zero v at = ap (λ (u : Linked). Some (e.0, u.contact)) (same_some e.1 v at)
+contact_entry (e ∷ es) (suc i) v at = contact_entry es i v at
+
+-- the table after a squitter was heard at an index that was reached
+pub record IsHeardAt (es gs : Entries) (oldest last address : ℕ) (before after : Contact) : Type 0 where
+  pub was : before ≡ unwrap_or (lookup (eqb address) (contacts_in es)) blank_contact
   pub updates : (k : ℕ) → lookup (eqb k) (contacts_in gs)
       ≡ cond (eqb address k) (Some after) (lookup (eqb k) (contacts_in es))
-  pub long : length (contacts_in gs) ≡ length (contacts_in es)
+  pub long : length (contacts_in gs)
+      ≡ length (contacts_in es) + one_unless (is_some (lookup (eqb address) (contacts_in es)))
   pub is_round : IsRound gs last
-  pub order : addresses_in gs last ≡ addresses_in fs last
+  pub order : addresses_in gs last ≡ others_than address (addresses_in es oldest) ++ address ∷ []
 
 module _ {S : Type 0} (m n : IndexMap ℕ Linked S) (es : Entries) (oldest last address at : ℕ) (before : Linked)
     (after : Contact) where
-  pub heard_at : IsPlace es oldest address at → IsDistinct eqb (keys_of es)
-      → slice_get (values_of es) at ≡ lookup (eqb address) es
-      → contacts_in m.entries ≡ contacts_in es → IsRound m.entries last
+  pub heard_at : IsReached address at es m.entries oldest last
       → slice_get (values_of m.entries) at ≡ Some before
       → n ≡ with_value_at m at (record { before = before.before; after = before.after; contact = after })
-      → IsHeardAt es m.entries n.entries last address before.contact after
-  heard_at here d found contacts is_round there is = record {
-    was = contact_lookup address es ∙ ap (option_map of_linked) (sym found)
-        ∙ sym (slice_get-map of_linked (values_of es) at)
-        ∙ ap (λ l. slice_get l at) (sym (values_contacts es) ∙ ap values_of (sym contacts) ∙ values_contacts m.entries)
-        ∙ slice_get-map of_linked (values_of m.entries) at ∙ ap (option_map of_linked) there;
+      → IsHeardAt es n.entries oldest last address before.contact after
+  heard_at reached there is = record {
+    was = ap (λ e. e.1) both;
     updates = λ k.
         contact_lookup k n.entries ∙ ap (option_map of_linked) (ups.0 k)
         ∙ under (eqb address k) (lookup (eqb k) m.entries)
-        ∙ ap (cond (eqb address k) (Some after)) (sym (contact_lookup k m.entries) ∙ ap (lookup (eqb k)) contacts);
-    long = omega (
-      arith,
-      length-map {B = ℕ × Contact} n.entries (λ e. (e.0, e.1.contact)),
-      length-map {B = ℕ × Contact} es (λ e. (e.0, e.1.contact)),
-      size,
-      same_length es m.entries contacts,
-    );
+        ∙ ap (cond (eqb address k) (Some after)) (sym (contact_lookup k m.entries) ∙ reached.contacts k)
+        ∙ twice (eqb address k) _ (lookup (eqb k) (contacts_in es));
+    long = count (is_some (lookup (eqb address) (contacts_in es))) refl;
     is_round = same.0;
-    order = same.1;
+    order = same.1 ∙ reached.order;
   }
     where
       of_linked : Linked → Contact
@@ -264,22 +258,42 @@ module _ {S : Type 0} (m n : IndexMap ℕ Linked S) (es : Entries) (oldest last 
           (ap (λ t. map (λ (e : ℕ × Linked). e.1.after) t.entries) is
           ∙ kept_at (λ e. e.1.after) m.entries at before w (λ j. refl) there)
           (ap (λ t. map (λ (e : ℕ × Linked). e.1.before) t.entries) is
-          ∙ kept_at (λ e. e.1.before) m.entries at before w (λ j. refl) there) is_round
+          ∙ kept_at (λ e. e.1.before) m.entries at before w (λ j. refl) there) reached.is_round
 
-      entry : slice_get m.entries at ≡ Some (address, before)
-      entry = both_at m.entries at before there
-          ∙ ap (λ a. Some (a, before)) (ap (λ l. get_or l at 0) (same_keys es m.entries contacts) ∙ here.is)
+      both : ◌≡◌ {A = ℕ × Contact} (address_at m.entries at, before.contact)
+          (address, unwrap_or (lookup (eqb address) (contacts_in es)) blank_contact)
+      both = same_some _ _ (sym (contact_entry m.entries at before there) ∙ reached.entry)
 
       ups : Updates eqb m n address (Some w)
       ups = subst (λ t. Updates eqb m t address (Some w)) (sym is)
-          (updates-with_value_at m at w nat_eq_equiv
-          (subst (IsDistinct eqb) (sym (same_keys es m.entries contacts)) d) address
-          before entry)
+          (updates-with_value_at m at w nat_eq_equiv reached.distinct address before
+          (both_at m.entries at before there ∙ ap (λ a. Some (a, before)) (ap (λ e. e.0) both)))
 
       under : (b : Bool) (o : Option Linked) → option_map of_linked (cond b (Some w) o)
           ≡ cond b (Some after) (option_map of_linked o)
       under true o = refl
       under false o = refl
+
+      twice : (b : Bool) (x o : Option Contact) → cond b (Some after) (cond b x o)
+          ≡ cond b (Some after) o
+      twice true x o = refl
+      twice false x o = refl
+
+      count : (b : Bool) → is_some (lookup (eqb address) (contacts_in es)) ≡ b
+          → length (contacts_in n.entries)
+          ≡ length (contacts_in es) + one_unless (is_some (lookup (eqb address) (contacts_in es)))
+      count b e = omega (
+        arith,
+        length-map {B = ℕ × Contact} n.entries (λ e. (e.0, e.1.contact)),
+        length-map {B = ℕ × Contact} es (λ e. (e.0, e.1.contact)),
+        size,
+        reached.long,
+        unless (is_some (lookup (eqb address) (contacts_in es))),
+      )
+        where
+          unless : (b : Bool) → cond b 0 1 ≡ one_unless b
+          unless true = refl
+          unless false = refl
 
 -- ---- an address that is not there
 
@@ -436,3 +450,76 @@ module _ (es hs : Entries) (oldest to address : ℕ) (contact : Contact)
   tied_at_end o is long = subst (IsTied (contacts_in hs)) (sym order)
       (put_tied (contacts_in es) (addresses_in es oldest) tied address contact (contacts_in hs) updates
       (subst (λ x. length (contacts_in hs) ≡ length (contacts_in es) + one_unless (is_some x)) (sym is) long))
+
+-- ---- an address that was reached
+
+known_contact : (cs : List (ℕ × Contact)) (address k : ℕ) (o : Option Contact) → lookup (eqb address) cs ≡ o
+    → is_some o ≡ true → (b : Bool) → eqb address k ≡ b
+    → lookup (eqb k) cs ≡ cond b (Some (unwrap_or o blank_contact)) (lookup (eqb k) cs)
+known_contact cs address k None is there b e = absurd (false≢true there)
+known_contact cs address k (Some c) is there true e = subst (λ j. lookup (eqb j) cs ≡ Some c) (eqb-true address k e) is
+known_contact cs address k (Some c) is there false e = refl
+
+pub reached_known : (es fs : Entries) (oldest last address at : ℕ) → IsPlace es oldest address at
+    → IsDistinct eqb (keys_of es) → slice_get (values_of es) at ≡ lookup (eqb address) es
+    → contacts_in fs ≡ contacts_in es → IsRound fs last → round fs last ≡ others_than at (round es oldest) ++ at ∷ []
+    → IsReached address at es fs oldest last
+reached_known es fs oldest last address at here d value contacts is_round order = record {
+  within = omega (arith, here.within, same_length es fs contacts);
+  entry = ap (λ l. slice_get l at) contacts ∙ own (lookup (eqb address) es) refl;
+  distinct = subst (IsDistinct eqb) (sym (same_keys es fs contacts)) d;
+  is_round = is_round;
+  order = last_address es fs oldest last address at here contacts order;
+  contacts = λ k. ap (lookup (eqb k)) contacts
+      ∙ known_contact (contacts_in es) address k (lookup (eqb address) (contacts_in es)) refl here.there (eqb address k)
+      refl;
+  long = omega (arith, same_length es fs contacts, ap {B = ℕ} (λ b. cond b 0 1) here.there);
+}
+  where
+    own : (o : Option Linked) → lookup (eqb address) es ≡ o
+        → slice_get (contacts_in es) at ≡ Some
+        (address, unwrap_or (lookup (eqb address) (contacts_in es)) blank_contact)
+    own None e =
+        absurd (false≢true (sym (ap (λ (x : Option Linked). is_some (option_map (λ (l : Linked). l.contact) x)) e)
+        ∙ sym (ap is_some (contact_lookup address es)) ∙ here.there))
+    own (Some l) e = contact_entry es at l (value ∙ e)
+        ∙ ap (λ a. Some (a, l.contact)) here.is
+        ∙ ap (λ o. Some (address, unwrap_or o blank_contact))
+        (sym (contact_lookup address es ∙ ap (option_map (λ (x : Linked). x.contact)) e))
+
+pub reached_new : (es fs gs : Entries) (oldest to address at : ℕ) (linked : Linked) → at ≡ length es
+    → fs ≡ es ++ (address, linked) ∷ [] → IsTied (contacts_in es) (addresses_in es oldest) → IsRound es oldest
+    → lookup (eqb address) (contacts_in es) ≡ None
+    → ((k : ℕ) → lookup (eqb k) fs ≡ cond (eqb address k) (Some linked) (lookup (eqb k) es))
+    → IsDistinct eqb (keys_of fs) → linked.contact ≡ blank_contact
+    → contacts_in gs ≡ contacts_in fs → IsRound gs to → round gs to ≡ round (take at fs) oldest ++ at ∷ []
+    → IsReached address at es gs oldest to
+reached_new es fs gs oldest to address at linked is grown tied old_round absent updates d blank contacts is_round
+    order =
+    record {
+      within = omega (arith, one_longer es fs (address, linked) at is grown, same_length fs gs contacts);
+      entry = ap (λ l. slice_get l at) (contacts ∙ ap contacts_in grown) ∙ ends es at is
+          ∙ ap (λ c. Some (address, c)) (blank ∙ none);
+      distinct = subst (IsDistinct eqb) (sym (same_keys fs gs contacts)) d;
+      is_round = is_round;
+      order = new_addresses es fs (address, linked) at is grown gs oldest to tied old_round absent contacts order;
+      contacts = λ k. put_contacts es fs gs address linked updates contacts k
+          ∙ ap (λ c. cond (eqb address k) (Some c) (lookup (eqb k) (contacts_in es))) (blank ∙ none);
+      long = omega (
+        arith,
+        same_length fs gs contacts,
+        one_longer es fs (address, linked) at is grown,
+        is,
+        ap {B = ℕ} (λ (o : Option Contact). cond (is_some o) 0 1) absent,
+      );
+    }
+  where
+    none : blank_contact ≡ unwrap_or (lookup (eqb address) (contacts_in es)) blank_contact
+    none = sym (ap (λ o. unwrap_or o blank_contact) absent)
+
+    ends : (xs : Entries) (i : ℕ) → i ≡ length xs
+        → slice_get (contacts_in (xs ++ (address, linked) ∷ [])) i ≡ Some (address, linked.contact)
+    ends [] zero e = refl
+    ends [] (suc i) e = absurd (omega (arith, e))
+    ends (x ∷ xs) zero e = absurd (omega (arith, e))
+    ends (x ∷ xs) (suc i) e = ends xs i (omega (arith, e))
