@@ -1,9 +1,9 @@
 -- Links between the entries of a table, which lead round through all of them.
 use Rattle.std.specs.Prelude.{◌≡◌, ℕ, ◌+◌, ◌<◌, List, [], ◌∷◌, ◌++◌, length, map, slice_index, nat_eq, if◌then◌else◌, Some}
-use Rattle.std.specs.Prelude.{is_some, slice_get, unwrap_or}
+use Rattle.std.specs.Prelude.{is_some, slice_get, take, true, unwrap_or}
 use Rattle.std.specs.List.{IsDistinct}
 use Rattle.std.specs.Map.{keys_of, lookup}
-use Rattle.sq_track.specs.Ordered.{blank_contact, others_than}
+use Rattle.sq_track.specs.Ordered.{IsTied, blank_contact, has_address, others_than}
 use Rattle.sq_track.specs.declared.contact.Contact.{Contact}
 use Rattle.sq_track.specs.declared.links.Linked.{Linked}
 
@@ -54,6 +54,26 @@ pub record IsRound (es : List (ℕ × Linked)) (oldest : ℕ) : Type 0 where
   pub forward : IsPaired (length es) (after_at es) (before_at es)
   pub backward : IsPaired (length es) (before_at es) (after_at es)
   pub ring : IsRing (after_at es) (round es oldest)
+
+-- a table and its round have the same addresses, each once
+pub record IsLinkedTable (es : List (ℕ × Linked)) (oldest : ℕ) : Type 0 where
+  pub tied : IsTied (contacts_in es) (addresses_in es oldest)
+  pub is_round : IsRound es oldest
+
+-- an index of a table is on its round, which has each index once
+pub record IsOnRound (es : List (ℕ × Linked)) (oldest at : ℕ) : Type 0 where
+  pub within : at < length es
+  pub is_round : IsRound es oldest
+  pub distinct : IsDistinct nat_eq (round es oldest)
+  pub known : has_address at (round es oldest) ≡ true
+
+-- the last entry of a table is linked to itself, and the entries in front of it have a round
+pub record IsEntered (es : List (ℕ × Linked)) (oldest at : ℕ) : Type 0 where
+  pub last : length es ≡ at + 1
+  pub is_round : IsRound (take at es) oldest
+  pub distinct : IsDistinct nat_eq (round (take at es) oldest)
+  pub after : after_at es at ≡ at
+  pub before : before_at es at ≡ at
 
 -- the second table is the first, with a link from one entry to another
 pub record IsLinking (from to : ℕ) (es fs : List (ℕ × Linked)) : Type 0 where

@@ -7,8 +7,8 @@ ghost use Rattle.sq_message.specs.Parts.{squitter_parts};
 ghost use Rattle.sq_track.specs.Held.{contact_of};
 ghost use Rattle.sq_track.specs.Kept.{IsContactHearing};
 ghost use Rattle.sq_track.specs.declared.contact.Contact.{Contact};
-ghost use Rattle.sq_track.specs.Ordered.{IsTied, blank_contact, others_in};
-ghost use Rattle.sq_track.specs.Ring.{IsReached, IsRound, addresses_in, contacts_in, round};
+ghost use Rattle.sq_track.specs.Ordered.{blank_contact, others_in};
+ghost use Rattle.sq_track.specs.Ring.{IsLinkedTable, IsReached, IsRound, contacts_in, round};
 
 use crate::contact::{Contact, Side};
 use crate::heard::Heard;
@@ -30,16 +30,15 @@ pub struct Contacts {
 
 impl Model for Contacts {
     ghost use Rattle.std.specs.Prelude.{ℕ, List};
-    ghost use Rattle.sq_track.specs.Ordered.{entries_in, IsTied};
-    ghost use Rattle.sq_track.specs.Ring.{IsRound, addresses_in, contacts_in};
+    ghost use Rattle.sq_track.specs.Ordered.{entries_in};
+    ghost use Rattle.sq_track.specs.Ring.{IsLinkedTable, addresses_in, contacts_in};
     ghost use Rattle.sq_track.specs.declared.contact.Contact.{Contact};
 
     ghost Value = { List (ℕ × Contact) };
 
     ghost view = { λ t. entries_in (contacts_in t.table.entries) (addresses_in t.table.entries t.oldest) };
 
-    ghost invariant = { λ t. IsTied (contacts_in t.table.entries) (addresses_in t.table.entries t.oldest)
-        × IsRound t.table.entries t.oldest };
+    ghost invariant = { λ t. IsLinkedTable t.table.entries t.oldest };
 }
 
 // The address at an index of the table, and what is kept of it.
@@ -107,8 +106,7 @@ fn reach(
     oldest: &mut usize,
     address: u32,
 ) -> Result<usize, AllocError>
-    requires tied { IsTied (contacts_in table.old.entries) (addresses_in table.old.entries oldest.old) }
-    requires round { IsRound table.old.entries oldest.old }
+    requires { IsLinkedTable table.old.entries oldest.old }
     ensures ok { IfOk result (λ at. IsReached address at table.old.entries table.new.entries oldest.old oldest.new) }
     ensures err { OnErr result ((table.new.entries ≡ table.old.entries) × (oldest.new ≡ oldest.old)) }
     ensures absent { OnErr result (lookup (nat_eq address) (contacts_in table.old.entries) ≡ None) }
@@ -129,8 +127,7 @@ fn enter(
     oldest: &mut usize,
     address: u32,
 ) -> Result<usize, AllocError>
-    requires tied { IsTied (contacts_in table.old.entries) (addresses_in table.old.entries oldest.old) }
-    requires round { IsRound table.old.entries oldest.old }
+    requires linked { IsLinkedTable table.old.entries oldest.old }
     requires absent { lookup (nat_eq address) (contacts_in table.old.entries) ≡ None }
     ensures ok { IfOk result (λ at. IsReached address at table.old.entries table.new.entries oldest.old oldest.new) }
     ensures err { OnErr result ((table.new.entries ≡ table.old.entries) × (oldest.new ≡ oldest.old)) }

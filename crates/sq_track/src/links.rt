@@ -1,12 +1,13 @@
 //! Links between the entries of a table, which lead round through all of them in the order of last hearing.
-ghost use Rattle.std.specs.Prelude.{◌≡◌, ◌≢◌, ℕ, List, ◌+◌, ◌<◌, ◌++◌, [], ◌∷◌, length, map, take, slice_get, nat_eq, true};
+ghost use Rattle.std.specs.Prelude.{◌≡◌, ◌≢◌, ℕ, List, ◌+◌, ◌<◌, ◌++◌, [], ◌∷◌, length, map, take, slice_get, nat_eq};
 ghost use Rattle.std.specs.Prelude.{Some, None, if◌then◌else◌, option_copied};
-ghost use Rattle.std.specs.List.{IsDistinct, swap_remove};
+ghost use Rattle.std.specs.List.{swap_remove};
 ghost use Rattle.std.specs.Map.{lookup};
 ghost use Rattle.indexmap.specs.IndexMap.{index_map_len, values, with_value_at};
 ghost use Rattle.sq_track.specs.Kept.{IsContactHearing};
-ghost use Rattle.sq_track.specs.Ordered.{has_address, others_than};
-ghost use Rattle.sq_track.specs.Ring.{IsLinking, IsRound, address_at, addresses_in, after_at, before_at, contacts_in, round};
+ghost use Rattle.sq_track.specs.Ordered.{others_than};
+ghost use Rattle.sq_track.specs.Ring.{IsEntered, IsLinking, IsOnRound, IsRound, address_at, addresses_in, after_at};
+ghost use Rattle.sq_track.specs.Ring.{before_at, contacts_in, round};
 ghost use Rattle.sq_track.specs.declared.contact.Contact.{Contact};
 
 use crate::contact::Contact;
@@ -71,10 +72,7 @@ fn pass_over(table: &mut IndexMap<u32, Linked>, at: usize)
 
 // Puts the last entry at the end of the round, and answers where that begins.
 pub(crate) fn join(table: &mut IndexMap<u32, Linked>, oldest: usize, at: usize) -> usize
-    requires last { index_map_len table.old ≡ at + 1 }
-    requires round { IsRound (take at table.old.entries) oldest }
-    requires distinct { IsDistinct nat_eq (round (take at table.old.entries) oldest) }
-    requires alone { (after_at table.old.entries at ≡ at) × (before_at table.old.entries at ≡ at) }
+    requires { IsEntered table.old.entries oldest at }
     ensures round { IsRound table.new.entries result }
     ensures order { round table.new.entries result ≡ round (take at table.old.entries) oldest ++ at ∷ [] }
     ensures contacts { contacts_in table.new.entries ≡ contacts_in table.old.entries }
@@ -91,10 +89,7 @@ pub(crate) fn join(table: &mut IndexMap<u32, Linked>, oldest: usize, at: usize) 
 // Puts an entry at the end of the round, and answers where that begins.
 #[inline(always)]
 pub(crate) fn put_last(table: &mut IndexMap<u32, Linked>, oldest: usize, at: usize) -> usize
-    requires within { at < index_map_len table.old }
-    requires round { IsRound table.old.entries oldest }
-    requires distinct { IsDistinct nat_eq (round table.old.entries oldest) }
-    requires known { has_address at (round table.old.entries oldest) ≡ true }
+    requires { IsOnRound table.old.entries oldest at }
     ensures round { IsRound table.new.entries result }
     ensures order { round table.new.entries result ≡ others_than at (round table.old.entries oldest) ++ at ∷ [] }
     ensures contacts { contacts_in table.new.entries ≡ contacts_in table.old.entries }
@@ -111,10 +106,7 @@ pub(crate) fn put_last(table: &mut IndexMap<u32, Linked>, oldest: usize, at: usi
 
 // Takes an entry out of the round and the table, and answers where the round begins.
 pub(crate) fn take_out(table: &mut IndexMap<u32, Linked>, oldest: usize, at: usize) -> usize
-    requires within { at < index_map_len table.old }
-    requires round { IsRound table.old.entries oldest }
-    requires distinct { IsDistinct nat_eq (round table.old.entries oldest) }
-    requires known { has_address at (round table.old.entries oldest) ≡ true }
+    requires { IsOnRound table.old.entries oldest at }
     ensures round { IsRound table.new.entries result }
     ensures order { addresses_in table.new.entries result
         ≡ map (address_at table.old.entries) (others_than at (round table.old.entries oldest)) }

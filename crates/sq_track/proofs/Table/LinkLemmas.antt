@@ -11,7 +11,8 @@ use Rattle.std.proofs.lemmas.List.{length-map, get_or-set_same, get_or-set_other
 use Rattle.std.proofs.lemmas.List.{get_or_default}
 use Rattle.std.specs.List.{swap_remove}
 use Rattle.indexmap.proofs.SetLemmas.{map-swap_remove}
-use Rattle.indexmap.specs.IndexMap.{IndexMap, Updates, set_value_at}
+use Rattle.indexmap.proofs.CallerLemmas.{index_map_len-with_value_at}
+use Rattle.indexmap.specs.IndexMap.{IndexMap, Updates, set_value_at, with_value_at}
 use Rattle.sq_track.specs.Ring.{IsLinking, address_at, contacts_in}
 use Rattle.sq_track.specs.declared.links.Linked.{Linked}
 use Rattle.sq_track.proofs.Lists.Found.{none_is_some, same_some}
@@ -52,6 +53,11 @@ pub written_at : (f : Linked → ℕ) (es : Entries) (i : ℕ) (w : Linked) (k :
     → get_or (map (λ e. f e.1) (set_value_at es i w)) k 0 ≡ cond (eqb k i) (f w) (get_or (map (λ e. f e.1) es) k 0)
 written_at f es i w k lt = ap (λ l. get_or l k 0) (set_at f es i w)
     ∙ number_at (map (λ e. f e.1) es) i k (f w) (omega (arith, lt, length-map es (λ e. f e.1)))
+
+-- an index of a table is one of it after a write, too
+pub still_within : {S : Type 0} (m : IndexMap ℕ Linked S) (at k : ℕ) (w : Linked) → k < length m.entries
+    → k < length (with_value_at m at w).entries
+still_within m at k w lt = omega (arith, lt, index_map_len-with_value_at m at w)
 
 -- both ends of a link
 pub linked : (from to : ℕ) (es fs : Entries) (v w : Linked) → from < length es → to < length fs

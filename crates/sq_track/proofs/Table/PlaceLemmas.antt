@@ -14,7 +14,8 @@ use Rattle.std.proofs.Math.Seq.{get_or-append_seam, take-append_seam}
 use Rattle.indexmap.specs.IndexMap.{IndexMap, Updates, with_value_at}
 use Rattle.indexmap.proofs.CallerLemmas.{index_map_len-with_value_at, keys-with_value_at, updates-with_value_at}
 use Rattle.sq_track.specs.Ordered.{IsTied, entries_in, entry_of, has_address, others_in, others_than, blank_contact}
-use Rattle.sq_track.specs.Ring.{IsPaired, IsReached, IsRing, IsRound, chain, address_at, addresses_in, after_at, before_at, contacts_in, round}
+use Rattle.sq_track.specs.Ring.{IsEntered, IsLinkedTable, IsOnRound, IsPaired, IsReached, IsRing, IsRound, chain}
+use Rattle.sq_track.specs.Ring.{address_at, addresses_in, after_at, before_at, contacts_in, round}
 use Rattle.sq_track.specs.declared.contact.Contact.{Contact}
 use Rattle.sq_track.specs.declared.links.Linked.{Linked}
 use Rattle.sq_track.proofs.Lists.Filters.{filter-cons_yes}
@@ -62,23 +63,23 @@ by_address es at k d within lt = by (eqb k at) refl
 
 -- an index at which an address was found
 pub record IsPlace (es : Entries) (oldest address at : ℕ) : Type 0 where
-  pub within : at < length es
+  pub on_round : IsOnRound es oldest at
   pub is : address_at es at ≡ address
-  pub distinct : IsDistinct eqb (round es oldest)
-  pub known : has_address at (round es oldest) ≡ true
   pub there : is_some (lookup (eqb address) (contacts_in es)) ≡ true
   pub others : others_than address (addresses_in es oldest) ≡ map (address_at es) (others_than at (round es oldest))
 
-pub place : (es : Entries) (oldest address at : ℕ) → IsTied (contacts_in es) (addresses_in es oldest)
-    → IsRound es oldest
+pub place : (es : Entries) (oldest address at : ℕ) → IsLinkedTable es oldest
     → IsDistinct eqb (keys_of es) → Some at ≡ position (eqb address) (keys_of es)
     → is_some (lookup (eqb address) es) ≡ true → IsPlace es oldest address at
-place es oldest address at tied is_round d is_at found = record {
-  within = within;
+place es oldest address at table d is_at found = record {
+  on_round = record {
+    within = within;
+    is_round = table.is_round;
+    distinct = distinct_indices (address_at es) (round es oldest) table.tied.distinct;
+    known = sym (has_by_index (length es) (address_at es) at same (round es oldest) below)
+        ∙ ap (λ a. has_address a (addresses_in es oldest)) is ∙ sym (table.tied.same address) ∙ there;
+  };
   is = is;
-  distinct = distinct_indices (address_at es) (round es oldest) tied.distinct;
-  known = sym (has_by_index (length es) (address_at es) at same (round es oldest) below)
-      ∙ ap (λ a. has_address a (addresses_in es oldest)) is ∙ sym (tied.same address) ∙ there;
   there = there;
   others = ap (λ a. others_than a (addresses_in es oldest)) (sym is)
       ∙ others_by_index (length es) (address_at es) at same (round es oldest) below;
@@ -98,8 +99,8 @@ place es oldest address at tied is_round d is_at found = record {
     same k lt = by_address es at k d within lt
 
     below : AllByRecursion (λ k. k < length es) (round es oldest)
-    below = chain-at (after_at es) (λ k. k < length es) is_round.forward.within (keys_of es) oldest
-        (is_round.within (omega (arith, within)))
+    below = chain-at (after_at es) (λ k. k < length es) table.is_round.forward.within (keys_of es) oldest
+        (table.is_round.within (omega (arith, within)))
 
     there : is_some (lookup (eqb address) (contacts_in es)) ≡ true
     there = ap is_some (contact_lookup address es) ∙ mapped (lookup (eqb address) es) found
@@ -392,23 +393,33 @@ module _ (es fs : Entries) (e : ℕ × Linked) (at : ℕ) (is : at ≡ length es
   pub last_is : (f : ℕ × Linked → ℕ) → get_or (map f fs) at 0 ≡ f e
   last_is f = ap (λ l. get_or (map f l) at 0) grown ∙ last_number f es e at is
 
-  pub new_addresses : (gs : Entries) (oldest to : ℕ) → IsTied (contacts_in es) (addresses_in es oldest)
-      → IsRound es oldest
+  -- an entry that is linked to itself was entered behind the others
+  pub entered : (oldest : ℕ) → IsLinkedTable es oldest → e.1.after ≡ at → e.1.before ≡ at → IsEntered fs oldest at
+  entered oldest table after before = record {
+    last = one_longer;
+    is_round = subst (λ l. IsRound l oldest) (sym front_is) table.is_round;
+    distinct = subst (λ l. IsDistinct eqb (round l oldest)) (sym front_is)
+        (distinct_indices (address_at es) (round es oldest) table.tied.distinct);
+    after = last_is (λ x. x.1.after) ∙ after;
+    before = last_is (λ x. x.1.before) ∙ before;
+  }
+
+  pub new_addresses : (gs : Entries) (oldest to : ℕ) → IsLinkedTable es oldest
       → lookup (eqb e.0) (contacts_in es) ≡ None → contacts_in gs ≡ contacts_in fs
       → round gs to ≡ round (take at fs) oldest ++ at ∷ []
       → addresses_in gs to ≡ others_than e.0 (addresses_in es oldest) ++ e.0 ∷ []
-  new_addresses gs oldest to tied is_round absent contacts order =
+  new_addresses gs oldest to table absent contacts order =
       ap (λ ks. map (λ i. get_or ks i 0) (round gs to)) (same_keys fs gs contacts)
       ∙ ap (map (address_at fs)) (order ∙ ap (λ l. round l oldest ++ at ∷ []) front_is)
       ∙ map-append (address_at fs) (round es oldest) (at ∷ [])
       ∙ (λ j. map_agree (address_at fs) (address_at es) (round es oldest) same j ++ last_is (λ x. x.0) j ∷ [])
       ∙ ap (λ l. l ++ e.0 ∷ []) (sym (others_than_absent e.0 (addresses_in es oldest)
-      (sym (tied.same e.0) ∙ ap is_some absent)))
+      (sym (table.tied.same e.0) ∙ ap is_some absent)))
     where
       below : (xs : Entries) → xs ≡ es → AllByRecursion (λ k. k < length es) (round es oldest)
       below [] none = subst (λ l. AllByRecursion (λ k. k < length es) (chain (after_at es) (keys_of l) oldest)) none tt
-      below (x ∷ xs) some = chain-at (after_at es) (λ k. k < length es) is_round.forward.within (keys_of es) oldest
-          (is_round.within (omega (arith, ap length some)))
+      below (x ∷ xs) some = chain-at (after_at es) (λ k. k < length es) table.is_round.forward.within (keys_of es)
+          oldest (table.is_round.within (omega (arith, ap length some)))
 
       same : AllByRecursion (λ k. address_at fs k ≡ address_at es k) (round es oldest)
       same = each_weaker (λ k. k < length es) (λ k. address_at fs k ≡ address_at es k) (round es oldest)
@@ -465,7 +476,7 @@ pub reached_known : (es fs : Entries) (oldest last address at : ℕ) → IsPlace
     → contacts_in fs ≡ contacts_in es → IsRound fs last → round fs last ≡ others_than at (round es oldest) ++ at ∷ []
     → IsReached address at es fs oldest last
 reached_known es fs oldest last address at here d value contacts is_round order = record {
-  within = omega (arith, here.within, same_length es fs contacts);
+  within = omega (arith, here.on_round.within, same_length es fs contacts);
   entry = ap (λ l. slice_get l at) contacts ∙ own (lookup (eqb address) es) refl;
   distinct = subst (IsDistinct eqb) (sym (same_keys es fs contacts)) d;
   is_round = is_round;
@@ -488,21 +499,20 @@ reached_known es fs oldest last address at here d value contacts is_round order 
         (sym (contact_lookup address es ∙ ap (option_map (λ (x : Linked). x.contact)) e))
 
 pub reached_new : (es fs gs : Entries) (oldest to address at : ℕ) (linked : Linked) → at ≡ length es
-    → fs ≡ es ++ (address, linked) ∷ [] → IsTied (contacts_in es) (addresses_in es oldest) → IsRound es oldest
+    → fs ≡ es ++ (address, linked) ∷ [] → IsLinkedTable es oldest
     → lookup (eqb address) (contacts_in es) ≡ None
     → ((k : ℕ) → lookup (eqb k) fs ≡ cond (eqb address k) (Some linked) (lookup (eqb k) es))
     → IsDistinct eqb (keys_of fs) → linked.contact ≡ blank_contact
     → contacts_in gs ≡ contacts_in fs → IsRound gs to → round gs to ≡ round (take at fs) oldest ++ at ∷ []
     → IsReached address at es gs oldest to
-reached_new es fs gs oldest to address at linked is grown tied old_round absent updates d blank contacts is_round
-    order =
+reached_new es fs gs oldest to address at linked is grown table absent updates d blank contacts is_round order =
     record {
       within = omega (arith, one_longer es fs (address, linked) at is grown, same_length fs gs contacts);
       entry = ap (λ l. slice_get l at) (contacts ∙ ap contacts_in grown) ∙ ends es at is
           ∙ ap (λ c. Some (address, c)) (blank ∙ none);
       distinct = subst (IsDistinct eqb) (sym (same_keys fs gs contacts)) d;
       is_round = is_round;
-      order = new_addresses es fs (address, linked) at is grown gs oldest to tied old_round absent contacts order;
+      order = new_addresses es fs (address, linked) at is grown gs oldest to table absent contacts order;
       contacts = λ k. put_contacts es fs gs address linked updates contacts k
           ∙ ap (λ c. cond (eqb address k) (Some c) (lookup (eqb k) (contacts_in es))) (blank ∙ none);
       long = omega (

@@ -7,7 +7,8 @@ use Rattle.std.proofs.lemmas.Bool.{eqb-true, eqb-false}
 use Rattle.std.proofs.lemmas.List.{length-map, length-append}
 use Rattle.std.proofs.Common.{◌⊎◌, inl, inr}
 use Rattle.sq_track.specs.Ordered.{others_than, has_address}
-use Rattle.sq_track.specs.Ring.{round, after_at, before_at, address_at, addresses_in, contacts_in, IsPath, IsPaired, IsRing, IsRound, IsLinking}
+use Rattle.sq_track.specs.Ring.{round, after_at, before_at, address_at, addresses_in, contacts_in, IsPath, IsPaired, IsRing}
+use Rattle.sq_track.specs.Ring.{IsRound, IsOnRound, IsEntered, IsLinking}
 use Rattle.sq_track.specs.declared.links.Linked.{Linked}
 use Rattle.sq_track.proofs.Lists.Rings.{IsPairedBut, unlinked, joined, turned, opened, closed, chain-length, chain-at}
 use Rattle.sq_track.proofs.Lists.Rings.{paired_more, paired_one, path_same, not_last, renamed, renamed_below}
@@ -83,10 +84,10 @@ others-length : (at : ℕ) (is : List ℕ) → IsDistinct eqb is → has_address
 others-length at is d known = omega (arith, length-others at is d, ap one_if known)
 
 -- the oldest goes to the end
-pub last_of_oldest : (es : Entries) (oldest : ℕ) → 0 < length es → IsRound es oldest → IsDistinct eqb (round es oldest)
+oldest_last : (es : Entries) (oldest : ℕ) → 0 < length es → IsRound es oldest → IsDistinct eqb (round es oldest)
     → IsRound es (after_at es oldest)
     × (round es (after_at es oldest) ≡ others_than oldest (round es oldest) ++ oldest ∷ [])
-last_of_oldest es oldest some is_round d =
+oldest_last es oldest some is_round d =
     let (rest, is_open) = open_round es oldest some is_round in
     let (next, others, made, leads, path) = turned (after_at es) oldest rest is_open.path in
     let long : length (next ∷ others) ≡ length es =
@@ -99,6 +100,15 @@ last_of_oldest es oldest some is_round d =
     ∙ ap (others_than oldest) (sym is_open.is)) in (
       subst (IsRound es) (sym leads) done.0,
       ap (round es) leads ∙ order,
+    )
+
+pub last_of_oldest : (es : Entries) (oldest at next : ℕ) → IsOnRound es oldest at → at ≡ oldest → next ≡ after_at es at
+    → IsRound es next × (round es next ≡ others_than at (round es oldest) ++ at ∷ [])
+last_of_oldest es oldest at next on same leads =
+    let done = oldest_last es oldest (omega (arith, on.within)) on.is_round on.distinct in
+    let is : next ≡ after_at es oldest = leads ∙ ap (after_at es) same in (
+      subst (IsRound es) (sym is) done.0,
+      ap (round es) is ∙ done.1 ∙ ap (λ i. others_than i (round es oldest) ++ i ∷ []) (sym same),
     )
 
 -- what is known of a round from which an entry other than the first is passed over
@@ -173,25 +183,27 @@ put_in es fs gs at first rest within lt long forward backward apart below others
     (done.0, done.1, contacts)
 
 -- an entry that is not the oldest goes to the end
-pub last_of_other : (es fs gs hs : Entries) (oldest at : ℕ) → at < length es → IsRound es oldest
-    → IsDistinct eqb (round es oldest) → has_address at (round es oldest) ≡ true → eqb at oldest ≡ false
+pub last_of_other : (es fs gs hs : Entries) (oldest at : ℕ) → IsOnRound es oldest at → eqb at oldest ≡ false
     → IsLinking (before_at es at) (after_at es at) es fs
     → IsLinking (before_at fs oldest) at fs gs → IsLinking at oldest gs hs
     → IsRound hs oldest × (round hs oldest ≡ others_than at (round es oldest) ++ at ∷ [])
-last_of_other es fs gs hs oldest at within is_round d known apart over one two =
-    let (rest, is_open) = open_round es oldest (omega (arith, within)) is_round in
-    let lt : oldest < length es = is_round.within (omega (arith, within)) in
+last_of_other es fs gs hs oldest at on apart over one two =
+    let some : 0 < length es = omega (arith, on.within) in
+    let (rest, is_open) = open_round es oldest some on.is_round in
+    let lt : oldest < length es = on.is_round.within some in
     let differ : eqb oldest at ≡ false = flip_test at oldest apart in
     let there : has_address at rest ≡ true =
-    ap (λ b. b || has_address at rest) (sym apart) ∙ ap (has_address at) (sym is_open.is) ∙ known in
-    let distinct : IsDistinct eqb (oldest ∷ rest) = subst (IsDistinct eqb) is_open.is d in
-    let off = passed es fs at oldest rest within lt is_round.forward is_round.backward differ there is_open.path over in
+    ap (λ b. b || has_address at rest) (sym apart) ∙ ap (has_address at) (sym is_open.is) ∙ on.known in
+    let distinct : IsDistinct eqb (oldest ∷ rest) = subst (IsDistinct eqb) is_open.is on.distinct in
+    let off =
+    passed es fs at oldest rest on.within lt on.is_round.forward on.is_round.backward differ there is_open.path over in
     let same : length fs ≡ length es = same_length es fs over.contacts in
     let left : others_than at (round es oldest) ≡ oldest ∷ others_than at rest =
     ap (others_than at) is_open.is ∙ others_than_later at oldest rest differ in
     let count : length (others_than at (round es oldest)) + 1 ≡ length (round es oldest) =
-    others-length at (round es oldest) d known in
-    let done = put_in fs gs hs at oldest (others_than at rest) (omega (arith, within, same)) (omega (arith, lt, same))
+    others-length at (round es oldest) on.distinct on.known in
+    let done = put_in fs gs hs at oldest (others_than at rest) (omega (arith, on.within, same))
+    (omega (arith, lt, same))
     (omega (arith, ap length left, count, ap length is_open.is, is_open.long, same))
     (subst (λ n. IsPairedBut n at (after_at fs) (before_at fs)) (sym same) off.forward)
     (subst (λ n. IsPairedBut n at (before_at fs) (after_at fs)) (sym same) off.backward) differ
@@ -204,42 +216,41 @@ last_of_other es fs gs hs oldest at within is_round d known apart over one two =
 
 -- ---- a new entry goes to the end
 
-pub last_of_one : (es : Entries) (oldest at : ℕ) → length es ≡ at + 1 → at ≡ 0 → after_at es at ≡ at
-    → before_at es at ≡ at
+pub last_of_one : (es : Entries) (oldest at : ℕ) → IsEntered es oldest at → at ≡ 0
     → IsRound es at × (round es at ≡ round (take at es) oldest ++ at ∷ [])
-last_of_one es oldest at long first leads back =
-    let done = close_round es at [] (omega (arith, long)) (omega (arith, long, first))
-    (paired_one (length es) at (after_at es) (before_at es) long first leads back)
-    (paired_one (length es) at (before_at es) (after_at es) long first back leads) leads in
+last_of_one es oldest at new first =
+    let done = close_round es at [] (omega (arith, new.last)) (omega (arith, new.last, first))
+    (paired_one (length es) at (after_at es) (before_at es) new.last first new.after new.before)
+    (paired_one (length es) at (before_at es) (after_at es) new.last first new.before new.after) new.after in
     (done.0, done.1 ∙ ap (λ n. round (take n es) oldest ++ at ∷ []) (sym first))
 
-pub newest_of_front : (es : Entries) (oldest at : ℕ) → length es ≡ at + 1 → (at ≡ 0 → ⊥) → IsRound (take at es) oldest
+pub newest_of_front : (es : Entries) (oldest at : ℕ) → IsEntered es oldest at → (at ≡ 0 → ⊥)
     → before_at es oldest < length es
-newest_of_front es oldest at long more is_round =
-    let front : length (take at es) ≡ at = length-take-le at es (omega (arith, long)) in
-    let lt : oldest < length (take at es) = is_round.within (omega (arith, front, more)) in
-    let bound : before_at (take at es) oldest < length (take at es) = is_round.backward.within oldest lt in
+newest_of_front es oldest at new more =
+    let front : length (take at es) ≡ at = length-take-le at es (omega (arith, new.last)) in
+    let lt : oldest < length (take at es) = new.is_round.within (omega (arith, front, more)) in
+    let bound : before_at (take at es) oldest < length (take at es) = new.is_round.backward.within oldest lt in
     subst (λ i. i < length es) (sym (front_at (λ e. e.1.before) es at oldest (omega (arith, front, lt))))
-    (omega (arith, bound, front, long))
+    (omega (arith, bound, front, new.last))
 
-pub last_of_new : (es gs hs : Entries) (oldest at : ℕ) → length es ≡ at + 1 → (at ≡ 0 → ⊥) → IsRound (take at es) oldest
-    → IsDistinct eqb (round (take at es) oldest)
+pub last_of_new : (es gs hs : Entries) (oldest at : ℕ) → IsEntered es oldest at → (at ≡ 0 → ⊥)
     → IsLinking (before_at es oldest) at es gs → IsLinking at oldest gs hs
     → IsRound hs oldest × (round hs oldest ≡ round (take at es) oldest ++ at ∷ []) × (contacts_in hs ≡ contacts_in es)
-last_of_new es gs hs oldest at long more is_round d one two =
+last_of_new es gs hs oldest at new more one two =
+    let long = new.last in
     let front : length (take at es) ≡ at = length-take-le at es (omega (arith, long)) in
     let some : 0 < length (take at es) = omega (arith, front, more) in
-    let (rest, is_open) = open_round (take at es) oldest some is_round in
-    let lt : oldest < at = omega (arith, front, is_round.within some) in
+    let (rest, is_open) = open_round (take at es) oldest some new.is_round in
+    let lt : oldest < at = omega (arith, front, new.is_round.within some) in
     let below : AllByRecursion (λ k. k < at) rest =
     subst (λ n. AllByRecursion (λ k. k < n) rest) front is_open.below.1 in
     let forward : IsPairedBut (at + 1) at (after_at es) (before_at es) =
     paired_more at (after_at (take at es)) (before_at (take at es)) (after_at es) (before_at es)
-    (subst (λ n. IsPaired n (after_at (take at es)) (before_at (take at es))) front is_round.forward)
+    (subst (λ n. IsPaired n (after_at (take at es)) (before_at (take at es))) front new.is_round.forward)
     (λ k k_lt. front_at (λ e. e.1.after) es at k k_lt) (λ k k_lt. front_at (λ e. e.1.before) es at k k_lt) in
     let backward : IsPairedBut (at + 1) at (before_at es) (after_at es) =
     paired_more at (before_at (take at es)) (after_at (take at es)) (before_at es) (after_at es)
-    (subst (λ n. IsPaired n (before_at (take at es)) (after_at (take at es))) front is_round.backward)
+    (subst (λ n. IsPaired n (before_at (take at es)) (after_at (take at es))) front new.is_round.backward)
     (λ k k_lt. front_at (λ e. e.1.before) es at k k_lt) (λ k k_lt. front_at (λ e. e.1.after) es at k k_lt) in
     let done = put_in es gs hs at oldest rest (omega (arith, long)) (omega (arith, long, lt))
     (omega (arith, long, front, is_open.long))
@@ -248,7 +259,7 @@ last_of_new es gs hs oldest at long more is_round d one two =
     (not_last oldest at lt)
     (each_weaker (λ k. k < at) (λ k. k < length es) rest (λ k k_lt. omega (arith, k_lt, long)) below)
     (each_weaker (λ k. k < at) (λ k. eqb k at ≡ false) rest (λ k k_lt. not_last k at k_lt) below)
-    (distinct_head oldest rest (subst (IsDistinct eqb) is_open.is d))
+    (distinct_head oldest rest (subst (IsDistinct eqb) is_open.is new.distinct))
     (path_same at (after_at (take at es)) (after_at es) (λ k k_lt. front_at (λ e. e.1.after) es at k k_lt) oldest rest
     oldest lt
     below is_open.path) one two in
@@ -280,30 +291,31 @@ start_at_next es oldest (i ∷ is) more d is_open =
       }),
     )
 
-start : (es : Entries) (oldest at first : ℕ) → 1 < length es → IsRound es oldest → IsDistinct eqb (round es oldest)
-    → has_address at (round es oldest) ≡ true → first ≡ cond (eqb oldest at) (after_at es at) oldest
+start : (es : Entries) (oldest at first : ℕ) → 1 < length es → IsOnRound es oldest at
+    → first ≡ cond (eqb oldest at) (after_at es at) oldest
     → (rest : List ℕ) × IsStart es oldest at first rest
-start es oldest at first more is_round d known is = by (eqb oldest at) refl
+start es oldest at first more on is = by (eqb oldest at) refl
   where
     by : (b : Bool) → eqb oldest at ≡ b → (rest : List ℕ) × IsStart es oldest at first rest
     by true e =
-        let (rest, is_open) = open_round es oldest (omega (arith, more)) is_round in
+        let (rest, is_open) = open_round es oldest (omega (arith, more)) on.is_round in
         let same : oldest ≡ at = eqb-true oldest at e in
-        let (others, begun) = start_at_next es oldest rest more (subst (IsDistinct eqb) is_open.is d) is_open in (
+        let (others, begun) =
+        start_at_next es oldest rest more (subst (IsDistinct eqb) is_open.is on.distinct) is_open in (
           others,
           subst (λ k. IsStart es oldest k first others) same
               (subst (λ k. IsStart es oldest oldest k others)
               (sym (is ∙ ap (λ b. cond b (after_at es at) oldest) e ∙ ap (after_at es) (sym same))) begun),
         )
     by false e =
-        let (rest, is_open) = open_round es oldest (omega (arith, more)) is_round in (
+        let (rest, is_open) = open_round es oldest (omega (arith, more)) on.is_round in (
           rest,
           subst (λ k. IsStart es oldest at k rest) (sym (is ∙ ap (λ b. cond b (after_at es at) oldest) e)) (record {
             path = is_open.path;
             apart = e;
             known = ap (λ b. b || has_address at rest) (sym (flip_test oldest at e))
                 ∙ ap (has_address at) (sym is_open.is)
-                ∙ known;
+                ∙ on.known;
             below = is_open.below;
             left = ap (others_than at) is_open.is ∙ others_than_later at oldest rest e;
           }),
@@ -364,10 +376,9 @@ no_entries [] none = refl
 no_entries (e ∷ es) none = absurd (omega (arith, none))
 
 -- without its only entry a table has no round
-left_empty : (es hs : Entries) (oldest at to : ℕ) → length es ≡ 1 → at < length es → IsRound es oldest
-    → IsDistinct eqb (round es oldest) → length hs ≡ 0
+left_empty : (es hs : Entries) (oldest at to : ℕ) → length es ≡ 1 → IsOnRound es oldest at → length hs ≡ 0
     → IsRound hs to × (addresses_in hs to ≡ map (address_at es) (others_than at (round es oldest)))
-left_empty es hs oldest at to one within is_round d none = (
+left_empty es hs oldest at to one on none = (
   subst (λ l. IsRound l to) (sym (no_entries hs none)) (record {
     within = λ lt. absurd (omega (arith, lt));
     forward = record { within = λ k lt. absurd (omega (arith, lt)); back = λ k lt. absurd (omega (arith, lt)) };
@@ -380,11 +391,12 @@ left_empty es hs oldest at to one within is_round d none = (
     left : others_than at (round es oldest) ≡ []
     left =
         let some : 0 < length es = omega (arith, one) in
-        let (rest, is_open) = open_round es oldest some is_round in
-        let lt : oldest < length es = is_round.within some in
-        let same : at ≡ oldest = omega (arith, within, lt, one) in
+        let (rest, is_open) = open_round es oldest some on.is_round in
+        let lt : oldest < length es = on.is_round.within some in
+        let same : at ≡ oldest = omega (arith, on.within, lt, one) in
         let all : others_than at (round es oldest) ≡ rest = ap (λ i. others_than i (round es oldest)) same
-        ∙ ap (others_than oldest) is_open.is ∙ others_than_first oldest rest (subst (IsDistinct eqb) is_open.is d) in
+        ∙ ap (others_than oldest) is_open.is
+        ∙ others_than_first oldest rest (subst (IsDistinct eqb) is_open.is on.distinct) in
         all ∙ empty rest (omega (arith, is_open.long, one))
       where
         empty : (is : List ℕ) → length is ≡ 0 → is ≡ []
@@ -392,15 +404,15 @@ left_empty es hs oldest at to one within is_round d none = (
         empty (i ∷ is) none = absurd (omega (arith, none))
 
 -- without an entry, and with the last in its place
-left_round : (es fs hs : Entries) (oldest at last first : ℕ) (rest : List ℕ) → length es ≡ last + 1 → at < length es
-    → IsDistinct eqb (round es oldest) → has_address at (round es oldest) ≡ true → length (round es oldest) ≡ length es
+left_round : (es fs hs : Entries) (oldest at last first : ℕ) (rest : List ℕ) → length es ≡ last + 1
+    → IsOnRound es oldest at → length (round es oldest) ≡ length es
     → IsStart es oldest at first rest
     → IsPassed (length es) at first rest fs → IsMoved at last fs hs → length hs ≡ last
     → ((j : ℕ) → j < last → address_at hs j ≡ cond (eqb j at) (address_at es last) (address_at es j))
     → IsRound hs (renamed at last first)
     × (addresses_in hs (renamed at last first) ≡ map (address_at es) (others_than at (round es oldest)))
-left_round es fs hs oldest at last first rest long within d known whole begun off moved short keys =
-    let inside : at < last + 1 = omega (arith, within, long) in
+left_round es fs hs oldest at last first rest long on whole begun off moved short keys =
+    let inside : at < last + 1 = omega (arith, on.within, long) in
     let forward : IsPairedBut (last + 1) at (after_at fs) (before_at fs) =
     subst (λ n. IsPairedBut n at (after_at fs) (before_at fs)) long off.forward in
     let backward : IsPairedBut (last + 1) at (before_at fs) (after_at fs) =
@@ -415,7 +427,7 @@ left_round es fs hs oldest at last first rest long within d known whole begun of
     path-renamed (after_at fs) (after_at hs) (renamed at last) (λ k. (k < last + 1) × (eqb k at ≡ false))
     (λ k h. moved.after k h.0 h.1) first others first (below.0, begun.apart) all off.path in
     let count : length (first ∷ others) + 1 ≡ length es =
-    ap (λ l. length l + 1) (sym begun.left) ∙ others-length at (round es oldest) d known ∙ whole in
+    ap (λ l. length l + 1) (sym begun.left) ∙ others-length at (round es oldest) on.distinct on.known ∙ whole in
     let lt : renamed at last first < last = renamed_below at last first inside below.0 begun.apart in
     let done = close_round hs (renamed at last first) (map (renamed at last) others) (omega (arith, lt, short))
     (omega (arith, length-map others (renamed at last), count, long, short))
@@ -435,8 +447,7 @@ left_round es fs hs oldest at last first rest long within d known whole begun of
 
 -- a table without an entry that was passed over, and with the last in its place
 pub taken_out : (es fs gs hs : Entries) (oldest at last first : ℕ) (p : ℕ × Linked) → length es ≡ last + 1
-    → at < length es
-    → IsRound es oldest → IsDistinct eqb (round es oldest) → has_address at (round es oldest) ≡ true
+    → IsOnRound es oldest at
     → first ≡ cond (eqb oldest at) (after_at es at) oldest
     → IsLinking (before_at es at) (after_at es at) es fs
     → (at ≡ last → gs ≡ fs)
@@ -446,9 +457,11 @@ pub taken_out : (es fs gs hs : Entries) (oldest at last first : ℕ) (p : ℕ ×
     → hs ≡ swap_remove gs at p → length hs ≡ last
     → IsRound hs (renamed at last first)
     × (addresses_in hs (renamed at last first) ≡ map (address_at es) (others_than at (round es oldest)))
-taken_out es fs gs hs oldest at last first p long within is_round d known is over itself other contacts out short =
-    by (nat_cases last)
+taken_out es fs gs hs oldest at last first p long on is over itself other contacts out short = by (nat_cases last)
   where
+    within : at < length es
+    within = on.within
+
     same : length fs ≡ length es
     same = same_length es fs over.contacts
 
@@ -482,12 +495,12 @@ taken_out es fs gs hs oldest at last first p long within is_round d known is ove
     by : (last ≡ 0) ⊎ (0 < last) → IsRound hs (renamed at last first)
         × (addresses_in hs (renamed at last first) ≡ map (address_at es) (others_than at (round es oldest)))
     by (inl none) =
-        left_empty es hs oldest at (renamed at last first) (omega (arith, long, none)) within is_round d (short ∙ none)
+        left_empty es hs oldest at (renamed at last first) (omega (arith, long, none)) on (short ∙ none)
     by (inr some) =
-        let (rest, begun) = start es oldest at first (omega (arith, long, some)) is_round d known is in
+        let (rest, begun) = start es oldest at first (omega (arith, long, some)) on is in
         let off =
-        passed es fs at first rest within begun.below.0 is_round.forward is_round.backward begun.apart begun.known
+        passed es fs at first rest within begun.below.0 on.is_round.forward on.is_round.backward begun.apart begun.known
         begun.path over in
-        left_round es fs hs oldest at last first rest long within d known whole begun off
+        left_round es fs hs oldest at last first rest long on whole begun off
         (moved (eqb last at) refl (subst (λ n. IsPairedBut n at (after_at fs) (before_at fs)) long off.forward)
         (subst (λ n. IsPairedBut n at (before_at fs) (after_at fs)) long off.backward)) short key

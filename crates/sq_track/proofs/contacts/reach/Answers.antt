@@ -3,19 +3,10 @@ use Rattle.sq_track.proofs.Table.ContactLemmas.{on_err}
 use Rattle.sq_track.proofs.Table.PlaceLemmas.{absent_contact, place, reached_known}
 use Rattle.sq_track.proofs.contacts.reach.Goals as goal
 
-pub put_last-requires-clause-distinct : goal.put_last-requires-clause-distinct
-put_last-requires-clause-distinct c =
-    let es = c.args.table.now.entries in
-    let here = place es c.args.oldest.now c.args.address c.in-Some.at c.requires.tied c.requires.round
-    c.in-Some.ensures.unique c.in-Some.ensures.index (sym c.in-Some.ensures.found) in
-    here.distinct
-
-pub put_last-requires-clause-known : goal.put_last-requires-clause-known
-put_last-requires-clause-known c =
-    let es = c.args.table.now.entries in
-    let here = place es c.args.oldest.now c.args.address c.in-Some.at c.requires.tied c.requires.round
-    c.in-Some.ensures.unique c.in-Some.ensures.index (sym c.in-Some.ensures.found) in
-    here.known
+pub put_last-requires : goal.put_last-requires
+put_last-requires c =
+    (place c.args.table.now.entries c.args.oldest.now c.args.address c.in-Some.at c.requires c.in-Some.ensures.unique
+    c.in-Some.ensures.index (sym c.in-Some.ensures.found)).on_round
 
 pub enter-requires-clause-absent : goal.enter-requires-clause-absent
 enter-requires-clause-absent c = absent_contact c.args.table.now.entries c.args.address c.in-None.ensures.found
@@ -23,8 +14,8 @@ enter-requires-clause-absent c = absent_contact c.args.table.now.entries c.args.
 pub returns-in-Some-clause-ok : goal.returns-in-Some-clause-ok
 returns-in-Some-clause-ok c =
     let es = c.args.table.now.entries in
-    let here = place es c.args.oldest.now c.args.address c.in-Some.at c.requires.tied c.requires.round
-    c.in-Some.ensures.unique c.in-Some.ensures.index (sym c.in-Some.ensures.found) in
+    let here = place es c.args.oldest.now c.args.address c.in-Some.at c.requires c.in-Some.ensures.unique
+    c.in-Some.ensures.index (sym c.in-Some.ensures.found) in
     reached_known es c.put_last.new.table.entries c.args.oldest.now c.put_last.result c.args.address c.in-Some.at here
     c.in-Some.ensures.unique c.in-Some.ensures.value c.put_last.ensures.contacts c.put_last.ensures.round
     c.put_last.ensures.order
