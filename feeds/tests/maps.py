@@ -104,11 +104,13 @@ def rows() -> None:
     for text in (header, ""):
         done = subprocess.run([MAPS, "-"], input=text.encode(), capture_output=True, timeout=60)
         same((done.returncode, json.loads(done.stdout)["features"]), (0, []))
+    good = "1,0,fix,40621D,air,52.0000000,4.0000000,-25\n"
     for row in ("1,0,fix,40621D,air,52.0,4.0,\n", "1,,fix,40621D,air,52.0000000,4.0000000,\n",
                 "1,0,fix,x,air,52.0000000,4.0000000,\n", "1,0,fix\n", "\n",
                 "1,0,fix,40621D,air,52.0000000,4.0000000,high\n"):
-        status, text, report = drawn(header + row, "")
-        same((status, text, "row 1 is no answer of track" in report), (1, "", True), row)
+        for before in (0, 2):
+            status, text, report = drawn(header + good * before + row, "")
+            same((status, text, f"row {before + 1} is no answer of track" in report), (1, "", True), row)
     for line in ('{"line":1}', '{"line":1', "null"):
         text = f"{line}\n" if line.startswith('{"line":') else f'{{"line":1,}}\n{line}\n'
         same(drawn(text, "")[0], 1, line)
