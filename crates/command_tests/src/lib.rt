@@ -1,4 +1,4 @@
-//! Tests of the command: its words, its devices, its lines, each command, and the whole program.
+//! Tests of the command: its devices, its lines, and each command.
 #![tactic(auto)]
 
 #[cfg(test)]
@@ -24,8 +24,4 @@ mod outcomes;
 #[cfg(test)]
 mod pair;
 #[cfg(test)]
-mod program;
-#[cfg(test)]
 mod track;
-#[cfg(test)]
-mod words;
