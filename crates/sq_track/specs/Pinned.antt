@@ -1,5 +1,9 @@
 -- Laws that say what worlds and what is said of them are, and no less and no more.
-use Rattle.std.specs.Prelude.{◌≡◌, ◌≢◌, ◌↔◌, [], ◌∷◌, ℕ, IsTrue, Contains, Option, Some, None, Ok, Err}
+use Rattle.std.specs.Prelude.{◌≡◌, ◌≢◌, ◌↔◌, [], ◌∷◌, ℕ, ℤ, pos, neg_ℤ, ◌*ℤ◌, IsTrue, Contains, Option, Some, None, Ok}
+use Rattle.std.specs.Prelude.{Err}
+use Rattle.sq_angle.specs.Angle.{degrees}
+use Rattle.sq_angle.specs.Fraction.{plus, ◌≃◌}
+use Rattle.sq_angle.specs.Position.{lat_of, lon_of}
 use Rattle.sq_angle.specs.declared.position.Position.{Position}
 use Rattle.sq_cpr.specs.Span.{air, ground}
 use Rattle.sq_cpr.specs.Grid.{Point, latitude, longitude}
@@ -31,8 +35,9 @@ use Rattle.sq_track.specs.Replies.{Settings, IsAcceptable, IsInTime, IsReply, of
 use Rattle.sq_track.specs.Worlds.{Arrival, World, IsEncodedFrom, IsTruePlace, IsTrueFix, IsTruePlaceHeard, IfHeard}
 use Rattle.sq_track.specs.Worlds.{ArisesFrom, received_of}
 use Rattle.sq_track.specs.Tame.{AreTamePlaces, AreSlowPlaces, AreNearPlaces, AreSlowToFollow, ArePairTogether, IsTame}
-use Rattle.sq_track.specs.Tame.{IsSlow, IsSlowForFollowing, IsNearSite, IsPositionNearSite}
-use Rattle.sq_track.specs.Standing.{IsStanding}
+use Rattle.sq_track.specs.Tame.{AreTogether, IsSlow, IsSlowForFollowing, IsTameForFollowing, IsNearSite}
+use Rattle.sq_track.specs.Tame.{IsPositionNearSite}
+use Rattle.sq_track.specs.Standing.{AreOnePlace, IsStanding}
 
 -- any squitter may arrive at any moment, from each position that its code was encoded from
 abbrev pub SomeArrival : Type 0
@@ -85,6 +90,50 @@ TamePairExactly =
     (window : ℕ) (site : Option Position) (a b : Arrival) (p q : Place) → ArePairTogether window a b
     → IsTruePlace a p → IsTruePlace b q
     → IsTame window site (a ∷ b ∷ []) ↔ AreTamePlaces site p q
+
+-- a world is tame exactly if each two of its arrivals are
+abbrev pub TameByPairs : Type 0
+TameByPairs =
+    (window : ℕ) (site : Option Position) (world : World)
+    → IsTame window site world
+    ↔ ((a b : Arrival) → Contains world a → Contains world b → IsTame window site (a ∷ b ∷ []))
+
+-- a world is tame for following exactly if each two of its arrivals are
+abbrev pub TameForFollowingByPairs : Type 0
+TameForFollowingByPairs =
+    (window : ℕ) (world : World)
+    → IsTameForFollowing window world
+    ↔ ((a b : Arrival) → Contains world a → Contains world b → IsTameForFollowing window (a ∷ b ∷ []))
+
+-- two arrivals that come together are tame for following exactly if their true places are strictly near one another
+abbrev pub TameForFollowingPairExactly : Type 0
+TameForFollowingPairExactly =
+    (window : ℕ) (a b : Arrival) (p q : Place) → AreTogether window a b → IsTruePlace a p → IsTruePlace b q
+    → IsTameForFollowing window (a ∷ b ∷ []) ↔ AreNearPlaces p q
+
+-- positions are one place exactly if they have one latitude, and one longitude after some whole turns of 360 degrees
+abbrev pub OnePlaceExactly : Type 0
+OnePlaceExactly =
+    (x y : Position) → AreOnePlace x y
+    ↔ ((degrees (lat_of x) ≃ degrees (lat_of y))
+    × ((turns : ℤ)
+    × (plus (degrees (lon_of x)) (record { num = pos 360 *ℤ turns; den = 1 }) ≃ degrees (lon_of y))))
+
+-- half a degree north at 180 degrees is one place in other terms, and under the other sign
+abbrev pub OnePlaceAt180 : Type 0
+OnePlaceAt180 =
+    (x y : Position) → degrees (lat_of x) ≡ record { num = pos 1; den = 2 }
+    → degrees (lon_of x) ≡ record { num = pos 180; den = 1 }
+    → degrees (lat_of y) ≡ record { num = pos 2; den = 4 }
+    → degrees (lon_of y) ≡ record { num = neg_ℤ (pos 540); den = 3 }
+    → AreOnePlace x y
+
+-- a world stands still exactly if all that arrives of a sender comes from one place
+abbrev pub StandsExactly : Type 0
+StandsExactly =
+    (world : World) → IsStanding world
+    ↔ ((a b : Arrival) → Contains world a → Contains world b → IsTrue (are_of_one_sender a.squitter b.squitter)
+    → AreOnePlace a.position b.position)
 
 -- a world whose senders keep one position stands
 abbrev pub OnePositionStands : Type 0

@@ -1,4 +1,4 @@
--- A world is slow by its pairs of arrivals.
+-- A world is slow, and tame, by its pairs of arrivals.
 use Rattle.std.proofs.Common.{◌≡◌, ◌≢◌, ◌∙◌, ◌⊎◌, inl, inr, ℕ, ◌+◌, ◌<◌, arith, [], ◌∷◌, Option, Some, Contains, refl}
 use Rattle.std.proofs.Common.{sym, ap, subst}
 use Rattle.std.specs.List.{AllByRecursion}
@@ -13,6 +13,7 @@ use Rattle.sq_track.specs.Worlds.{Arrival, IsTruePlace, IsEntryOf}
 use Rattle.sq_track.specs.Tame.{AreTogether, ArePairTogether, AreSlowPlaces, AreSlowToFollow}
 use Rattle.sq_track.specs.Laws.{ApartIsSlow, ArisesByArrivals, SlowByPairs, SlowForFollowingByPairs}
 use Rattle.sq_track.specs.Laws.{SlowForFollowingPairExactly, SlowPairExactly}
+use Rattle.sq_track.specs.Pinned.{TameByPairs, TameForFollowingByPairs}
 use Rattle.sq_track.proofs.Histories.Entries.{each_arrived, sender_parts, together_sym}
 use Rattle.sq_track.proofs.Lists.Found.{same_some}
 use Rattle.sq_track.proofs.Worlds.Standing.{followed_still, one_with_itself, own_kind}
@@ -38,6 +39,20 @@ slow_by_pairs window site world = (
 pub slow_for_following_by_pairs : SlowForFollowingByPairs
 slow_for_following_by_pairs window world = (
   λ slow a b a_in b_in c d c_in d_in. slow c d (each_of_pair (Contains world) a b c a_in b_in c_in)
+      (each_of_pair (Contains world) a b d a_in b_in d_in),
+  λ each a b a_in b_in. each a b a_in b_in a b (in_pair a b).0 (in_pair a b).1.0,
+)
+
+pub tame_by_pairs : TameByPairs
+tame_by_pairs window site world = (
+  λ tame a b a_in b_in c d c_in d_in. tame c d (each_of_pair (Contains world) a b c a_in b_in c_in)
+      (each_of_pair (Contains world) a b d a_in b_in d_in),
+  λ each a b a_in b_in. each a b a_in b_in a b (in_pair a b).0 (in_pair a b).1.0,
+)
+
+pub tame_for_following_by_pairs : TameForFollowingByPairs
+tame_for_following_by_pairs window world = (
+  λ tame a b a_in b_in c d c_in d_in. tame c d (each_of_pair (Contains world) a b c a_in b_in c_in)
       (each_of_pair (Contains world) a b d a_in b_in d_in),
   λ each a b a_in b_in. each a b a_in b_in a b (in_pair a b).0 (in_pair a b).1.0,
 )

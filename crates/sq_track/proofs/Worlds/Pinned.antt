@@ -1,6 +1,12 @@
 -- What worlds are, and what is said of them.
 use Rattle.std.proofs.Common.{◌≡◌, ◌≢◌, ◌∙◌, ◌⊎◌, inl, inr, ℕ, Bool, true, false, [], ◌∷◌, Contains, Option, refl, sym}
-use Rattle.std.proofs.Common.{subst}
+use Rattle.std.proofs.Common.{subst, subst₂, ◌*◌, ℤ, pos, neg_ℤ, ◌+ℤ◌, ◌-ℤ◌, ◌*ℤ◌, arith}
+use Rattle.std.proofs.lemmas.Int.{ints}
+use Rattle.sq_angle.specs.Angle.{degrees}
+use Rattle.sq_angle.specs.Fraction.{Fraction, ◌≃◌}
+use Rattle.sq_angle.specs.Position.{lon_of}
+use Rattle.sq_angle.specs.Scale.{scales}
+use Rattle.sq_cpr.specs.Close.{difference}
 use Rattle.std.proofs.lemmas.Bool.{eq-eqb, eqb-true}
 use Rattle.std.proofs.lemmas.List.Elements.{All-contains, All-from_recursion}
 use Rattle.sq_angle.specs.declared.position.Position.{Position}
@@ -10,13 +16,15 @@ use Rattle.sq_message.specs.Parts.{squitter_parts}
 use Rattle.sq_track.specs.History.{Entry, parity_of}
 use Rattle.sq_track.specs.Replies.{is_of_address}
 use Rattle.sq_track.specs.Worlds.{Arrival, IsTruePlace}
-use Rattle.sq_track.specs.Tame.{ArePairTogether, AreTamePlaces, IsTame}
-use Rattle.sq_track.specs.Standing.{AreOnePlace}
+use Rattle.sq_track.specs.Tame.{AreNearPlaces, ArePairTogether, AreTamePlaces, AreTogether, IsTame}
+use Rattle.sq_message.specs.declared.place.Place.TheVariants.{Air, Ground}
+use Rattle.sq_track.specs.Standing.{AreOneAngle, AreOnePlace}
 use Rattle.sq_track.specs.Pinned.{SomeArrival, OtherIsEncoded, PlacesExactly, OneParityIsSlow, TamePairExactly}
 use Rattle.sq_track.specs.Pinned.{OnePositionStands, OfAddressExactly, SaidExactly, MemoryExactly, TrueOfOne}
+use Rattle.sq_track.specs.Pinned.{OnePlaceExactly, OnePlaceAt180, StandsExactly, TameForFollowingPairExactly}
 use Rattle.sq_track.proofs.Lists.Filters.{filter-cons_yes, filter-cons_no}
 use Rattle.sq_track.proofs.Worlds.ByPairs.{Pairs, each_two, in_pair, is_one_of, odd_is_even, parity_at, pairs_itself}
-use Rattle.sq_track.proofs.Worlds.Standing.{one_with_itself}
+use Rattle.sq_track.proofs.Worlds.Standing.{near_itself, one_with_itself}
 use Rattle.sq_track.proofs.Worlds.Places.{one_true_place}
 
 pub some_arrival : SomeArrival
@@ -73,6 +81,66 @@ tame_pair window site a b p q pair h k tame c d c_in d_in other p' q' h' k' =
 pub tame_pair_exactly : TamePairExactly
 tame_pair_exactly window site a b p q pair h k =
     (λ tame. tame a b (in_pair a b).0 (in_pair a b).1.0 pair p q h k, tame_pair window site a b p q pair h k)
+
+-- wherever two arrivals come together, their true places are near one another
+abbrev Nears : ℕ → Arrival → Arrival → Type 0
+Nears window c d = AreTogether window c d → (p q : Place) → IsTruePlace c p → IsTruePlace d q → AreNearPlaces p q
+
+nears_itself : (window : ℕ) (a : Arrival) → Nears window a a
+nears_itself window a together p q h k = subst (AreNearPlaces p) (one_true_place a p q h k) (near_itself a p h)
+
+-- places are near one another in either order
+near_back : (p q : Place) → AreNearPlaces p q → AreNearPlaces q p
+near_back (Air p) (Air q) near = (near.1, near.0)
+near_back (Ground p) (Ground q) near = (near.1, near.0)
+near_back (Air p) (Ground q) near = near
+near_back (Ground p) (Air q) near = near
+
+pub tame_for_following_pair_exactly : TameForFollowingPairExactly
+tame_for_following_pair_exactly window a b p q together h k = (
+  λ tame. tame a b (in_pair a b).0 (in_pair a b).1.0 together p q h k,
+  λ near c d c_in d_in.
+      each_two (Nears window) a b c d (nears_itself window a) (λ t p' q' h' k'. at p' q' near h' k')
+      (λ t q' p' k' h'. near_back p' q' (at p' q' near h' k')) (nears_itself window b) (is_one_of a b c c_in)
+      (is_one_of a b d d_in),
+)
+  where
+    at : (p' q' : Place) → AreNearPlaces p q → IsTruePlace a p' → IsTruePlace b q' → AreNearPlaces p' q'
+    at p' q' near h' k' =
+        subst (AreNearPlaces p') (one_true_place b q q' k k')
+        (subst (λ x. AreNearPlaces x q) (one_true_place a p p' h h') near)
+
+-- after so many turns: the definition by a difference, and the law by a sum
+turned : (x y : Fraction) (turns : ℤ)
+    → (pos y.den *ℤ (pos 1 *ℤ x.num +ℤ pos x.den *ℤ (pos 360 *ℤ turns)) -ℤ pos (x.den * 1) *ℤ y.num)
+    ≡ (difference 360 x y turns).num
+turned x y turns = simp scales (omega (arith, ints))
+
+pub one_place_exactly : OnePlaceExactly
+one_place_exactly x y = (
+  λ one. (
+    one.latitudes,
+    (
+      one.turns,
+      omega (arith, ints, one.longitudes, turned (degrees (lon_of x)) (degrees (lon_of y)) one.turns),
+    ),
+  ),
+  λ h. record {
+    latitudes = h.0;
+    turns = h.1.0;
+    longitudes = omega (arith, ints, h.1.1, turned (degrees (lon_of x)) (degrees (lon_of y)) h.1.0);
+  },
+)
+
+pub one_place_at_180 : OnePlaceAt180
+one_place_at_180 x y x_lat x_lon y_lat y_lon = record {
+  latitudes = subst₂ (λ a b. a ≃ b) (sym x_lat) (sym y_lat) refl;
+  turns = neg_ℤ (pos 1);
+  longitudes = subst₂ (AreOneAngle (neg_ℤ (pos 1))) (sym x_lon) (sym y_lon) refl;
+}
+
+pub stands_exactly : StandsExactly
+stands_exactly world = (λ h. h, λ h. h)
 
 pub one_position_stands : OnePositionStands
 one_position_stands world one a b a_in b_in sender =
