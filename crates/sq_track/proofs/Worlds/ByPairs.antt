@@ -1,5 +1,5 @@
 -- A world is slow, and tame, by its pairs of arrivals.
-use Rattle.std.proofs.Common.{◌≡◌, ◌≢◌, ◌∙◌, ◌⊎◌, inl, inr, ℕ, ◌+◌, ◌<◌, arith, [], ◌∷◌, Option, Some, Contains, refl}
+use Rattle.std.proofs.Common.{◌≡◌, ◌≢◌, ◌↔◌, ◌∙◌, ◌⊎◌, inl, inr, ℕ, ◌+◌, ◌<◌, arith, [], ◌∷◌, Option, Some, Contains, refl}
 use Rattle.std.proofs.Common.{sym, ap, subst}
 use Rattle.std.specs.List.{AllByRecursion}
 use Rattle.std.proofs.lemmas.List.Elements.{All-contains, All-contains_itself, All-from_recursion, recursion_from_All}
@@ -9,8 +9,9 @@ use Rattle.sq_zones.specs.declared.parity.Parity.TheVariants.{Even, Odd}
 use Rattle.sq_message.specs.declared.place.Place.{Place}
 use Rattle.sq_message.specs.Parts.{squitter_parts}
 use Rattle.sq_track.specs.History.{Entry, parity_of}
-use Rattle.sq_track.specs.Worlds.{Arrival, IsTruePlace, IsEntryOf}
-use Rattle.sq_track.specs.Tame.{AreTogether, ArePairTogether, AreSlowPlaces, AreSlowToFollow}
+use Rattle.sq_track.specs.Worlds.{Arrival, World, IsTruePlace, IsEntryOf}
+use Rattle.sq_track.specs.Tame.{AreTogether, ArePairTogether, AreNearPlaces, AreSlowPlaces, AreSlowToFollow}
+use Rattle.sq_track.specs.Tame.{AreTamePlaces}
 use Rattle.sq_track.specs.Laws.{ApartIsSlow, ArisesByArrivals, SlowByPairs, SlowForFollowingByPairs}
 use Rattle.sq_track.specs.Laws.{SlowForFollowingPairExactly, SlowPairExactly}
 use Rattle.sq_track.specs.Pinned.{TameByPairs, TameForFollowingByPairs}
@@ -29,33 +30,47 @@ each_of_pair P a b c h k there = All-contains P (a ∷ b ∷ []) c (All-from_rec
 pub is_one_of : (a b c : Arrival) → Contains (a ∷ b ∷ []) c → (c ≡ a) ⊎ (c ≡ b)
 is_one_of a b c there = each_of_pair (λ x. (x ≡ a) ⊎ (x ≡ b)) a b c (inl refl) (inr refl) there
 
-pub slow_by_pairs : SlowByPairs
-slow_by_pairs window site world = (
-  λ slow a b a_in b_in c d c_in d_in. slow c d (each_of_pair (Contains world) a b c a_in b_in c_in)
+-- what holds of each two arrivals of a world holds of each two in each pair of them, and back
+by_pairs : (P : Arrival → Arrival → Type 0) (world : World)
+    → ((a b : Arrival) → Contains world a → Contains world b → P a b)
+    ↔ ((a b : Arrival) → Contains world a → Contains world b
+    → (c d : Arrival) → Contains (a ∷ b ∷ []) c → Contains (a ∷ b ∷ []) d → P c d)
+by_pairs P world = (
+  λ each a b a_in b_in c d c_in d_in. each c d (each_of_pair (Contains world) a b c a_in b_in c_in)
       (each_of_pair (Contains world) a b d a_in b_in d_in),
   λ each a b a_in b_in. each a b a_in b_in a b (in_pair a b).0 (in_pair a b).1.0,
 )
+
+-- two arrivals, in this order, are slow to follow wherever they come together
+abbrev Follows : ℕ → Arrival → Arrival → Type 0
+Follows window c d = AreTogether window c d → (p q : Place) → IsTruePlace c p → IsTruePlace d q
+    → AreSlowToFollow p q c.position d.position
+
+-- an even and an odd arrival are slow wherever they come together
+abbrev pub Pairs : ℕ → Option Position → Arrival → Arrival → Type 0
+Pairs window site c d = ArePairTogether window c d → (p q : Place) → IsTruePlace c p → IsTruePlace d q
+    → AreSlowPlaces site p q c.position d.position
+
+-- an even and an odd arrival are tame wherever they come together
+abbrev Tames : ℕ → Option Position → Arrival → Arrival → Type 0
+Tames window site c d = ArePairTogether window c d → (p q : Place) → IsTruePlace c p → IsTruePlace d q
+    → AreTamePlaces site p q
+
+-- two arrivals are near one another wherever they come together
+abbrev pub Nears : ℕ → Arrival → Arrival → Type 0
+Nears window c d = AreTogether window c d → (p q : Place) → IsTruePlace c p → IsTruePlace d q → AreNearPlaces p q
+
+pub slow_by_pairs : SlowByPairs
+slow_by_pairs window site world = by_pairs (Pairs window site) world
 
 pub slow_for_following_by_pairs : SlowForFollowingByPairs
-slow_for_following_by_pairs window world = (
-  λ slow a b a_in b_in c d c_in d_in. slow c d (each_of_pair (Contains world) a b c a_in b_in c_in)
-      (each_of_pair (Contains world) a b d a_in b_in d_in),
-  λ each a b a_in b_in. each a b a_in b_in a b (in_pair a b).0 (in_pair a b).1.0,
-)
+slow_for_following_by_pairs window world = by_pairs (Follows window) world
 
 pub tame_by_pairs : TameByPairs
-tame_by_pairs window site world = (
-  λ tame a b a_in b_in c d c_in d_in. tame c d (each_of_pair (Contains world) a b c a_in b_in c_in)
-      (each_of_pair (Contains world) a b d a_in b_in d_in),
-  λ each a b a_in b_in. each a b a_in b_in a b (in_pair a b).0 (in_pair a b).1.0,
-)
+tame_by_pairs window site world = by_pairs (Tames window site) world
 
 pub tame_for_following_by_pairs : TameForFollowingByPairs
-tame_for_following_by_pairs window world = (
-  λ tame a b a_in b_in c d c_in d_in. tame c d (each_of_pair (Contains world) a b c a_in b_in c_in)
-      (each_of_pair (Contains world) a b d a_in b_in d_in),
-  λ each a b a_in b_in. each a b a_in b_in a b (in_pair a b).0 (in_pair a b).1.0,
-)
+tame_for_following_by_pairs window world = by_pairs (Nears window) world
 
 pub odd_is_even : {A : Type 0} (o : Option Parity) → o ≡ Some Even → o ≡ Some Odd → A
 odd_is_even o even odd = let bad : ◌≡◌ {A = Parity} Even Odd = same_some Even Odd (sym even ∙ odd) in absurd (cc bad)
@@ -99,15 +114,6 @@ each_two P a b c d aa ab ba bb (inl e) (inl f) = subst (λ x. P x d) (sym e) (su
 each_two P a b c d aa ab ba bb (inl e) (inr f) = subst (λ x. P x d) (sym e) (subst (P a) (sym f) ab)
 each_two P a b c d aa ab ba bb (inr e) (inl f) = subst (λ x. P x d) (sym e) (subst (P b) (sym f) ba)
 each_two P a b c d aa ab ba bb (inr e) (inr f) = subst (λ x. P x d) (sym e) (subst (P b) (sym f) bb)
-
--- two arrivals, in this order, are slow to follow wherever they come together
-abbrev Follows : ℕ → Arrival → Arrival → Type 0
-Follows window c d = AreTogether window c d → (p q : Place) → IsTruePlace c p → IsTruePlace d q
-    → AreSlowToFollow p q c.position d.position
-
-abbrev pub Pairs : ℕ → Option Position → Arrival → Arrival → Type 0
-Pairs window site c d = ArePairTogether window c d → (p q : Place) → IsTruePlace c p → IsTruePlace d q
-    → AreSlowPlaces site p q c.position d.position
 
 follows_itself : (window : ℕ) (a : Arrival) → Follows window a a
 follows_itself window a together p q h k = with_itself a p q h k

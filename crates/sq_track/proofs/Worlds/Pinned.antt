@@ -16,14 +16,14 @@ use Rattle.sq_message.specs.Parts.{squitter_parts}
 use Rattle.sq_track.specs.History.{Entry, parity_of}
 use Rattle.sq_track.specs.Replies.{is_of_address}
 use Rattle.sq_track.specs.Worlds.{Arrival, IsTruePlace}
-use Rattle.sq_track.specs.Tame.{AreNearPlaces, ArePairTogether, AreTamePlaces, AreTogether, IsTame}
+use Rattle.sq_track.specs.Tame.{AreNearPlaces, ArePairTogether, AreTamePlaces, IsTame}
 use Rattle.sq_message.specs.declared.place.Place.TheVariants.{Air, Ground}
 use Rattle.sq_track.specs.Standing.{AreOneAngle, AreOnePlace}
 use Rattle.sq_track.specs.Pinned.{SomeArrival, OtherIsEncoded, PlacesExactly, OneParityIsSlow, TamePairExactly}
 use Rattle.sq_track.specs.Pinned.{OnePositionStands, OfAddressExactly, SaidExactly, MemoryExactly, TrueOfOne}
 use Rattle.sq_track.specs.Pinned.{OnePlaceExactly, OnePlaceAt180, StandsExactly, TameForFollowingPairExactly}
 use Rattle.sq_track.proofs.Lists.Filters.{filter-cons_yes, filter-cons_no}
-use Rattle.sq_track.proofs.Worlds.ByPairs.{Pairs, each_two, in_pair, is_one_of, odd_is_even, parity_at, pairs_itself}
+use Rattle.sq_track.proofs.Worlds.ByPairs.{Nears, Pairs, each_two, in_pair, is_one_of, odd_is_even, parity_at, pairs_itself}
 use Rattle.sq_track.proofs.Worlds.Standing.{near_itself, one_with_itself}
 use Rattle.sq_track.proofs.Worlds.Places.{one_true_place}
 
@@ -81,10 +81,6 @@ tame_pair window site a b p q pair h k tame c d c_in d_in other p' q' h' k' =
 pub tame_pair_exactly : TamePairExactly
 tame_pair_exactly window site a b p q pair h k =
     (λ tame. tame a b (in_pair a b).0 (in_pair a b).1.0 pair p q h k, tame_pair window site a b p q pair h k)
-
--- wherever two arrivals come together, their true places are near one another
-abbrev Nears : ℕ → Arrival → Arrival → Type 0
-Nears window c d = AreTogether window c d → (p q : Place) → IsTruePlace c p → IsTruePlace d q → AreNearPlaces p q
 
 nears_itself : (window : ℕ) (a : Arrival) → Nears window a a
 nears_itself window a together p q h k = subst (AreNearPlaces p) (one_true_place a p q h k) (near_itself a p h)
