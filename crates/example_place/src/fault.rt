@@ -4,11 +4,11 @@ ghost use Rattle.example_place.specs.declared.fault.Fault.TheVariants.{OfPlace, 
 
 use sq_message::PlaceFault;
 use sq_text::LineFault;
-use std::error::Error;
-use std::fmt;
+use thiserror::Error;
 
-/// Why texts give no place. Its `Display` is what the program prints.
-#[derive(Clone, Copy, Debug, PartialEq, Eq)]
+/// The reason why texts give no place. Its `Display` is what the program prints.
+#[derive(Clone, Copy, Debug, PartialEq, Eq, Error)]
+#[error("{0}")]
 pub enum Fault {
     /// A text spells no squitter.
     OfText(LineFault),
@@ -31,19 +31,3 @@ impl From<PlaceFault> for Fault {
         Fault::OfPlace(fault)
     }
 }
-
-impl fmt::Display for Fault {
-    ghost use Rattle.std.specs.Prelude.{Some};
-    ghost use Rattle.example_place.specs.Faults.{text_of};
-
-    ghost output = { λ fault. Some (text_of fault) };
-
-    fn fmt<W: fmt::Write>(&self, f: &mut fmt::Formatter<W>) -> fmt::Result {
-        match self {
-            Fault::OfText(fault) => write!(f, "{fault}"),
-            Fault::OfPlace(fault) => write!(f, "{fault}"),
-        }
-    }
-}
-
-impl Error for Fault {}

@@ -3,6 +3,7 @@ use arrayvec::ArrayString;
 use sq_cpr::{LocalFault, PairFault};
 use sq_digits::TextBuffer;
 use sq_text::{FrameFault, LineFault, PlaceFault, TextFault, push_fault, push_place_fault};
+use sq_track::TrackFault;
 use std::fmt;
 use std::fmt::Write;
 
@@ -79,9 +80,30 @@ fn tells_faults_of_places(rt: HostRuntime) {
 
 #[test]
 fn shows_faults_of_frames_as_those_of_lines(rt: HostRuntime) {
-    assert!(rt; shown(TextFault::Length(29)).as_str() == "bad length 29");
+    for fault in [
+        TextFault::Wrap,
+        TextFault::Short,
+        TextFault::Length(29),
+        TextFault::Digit(28),
+    ] {
+        assert!(rt; shown(fault).as_str() == line_text(LineFault::from(fault)).as_str());
+    }
     for fault in [FrameFault::NotDf17(18), FrameFault::Parity(0xABC)] {
         assert!(rt; shown(fault).as_str() == line_text(LineFault::from(fault)).as_str());
+    }
+}
+
+const TRACK_FAULTS: [(TrackFault, &str); 4] = [
+    (TrackFault::NoLimit, "limit is 0"),
+    (TrackFault::Memory, "out of memory"),
+    (TrackFault::MomentBack(15000), "moment back 15000"),
+    (TrackFault::Full, "table full"),
+];
+
+#[test]
+fn shows_faults_of_trackers(rt: HostRuntime) {
+    for (fault, text) in TRACK_FAULTS {
+        assert!(rt; shown(fault).as_str() == text, "{text}");
     }
 }
 

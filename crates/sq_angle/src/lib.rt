@@ -23,3 +23,4 @@ pub use angle::{Angle, MAX_DENOMINATOR};
 pub use position::Position;
 pub use quotients::quotient;
 pub use read::AngleFault;
+pub use sq_digits::TextBuffer;

@@ -10,14 +10,14 @@ ghost use Rattle.sq_angle.specs.Spelling.{Parts, IsSpelling, Spells, minus};
 ghost use Rattle.sq_angle.specs.Spelling.{signed as signed_number};
 
 use crate::angle::Angle;
-use std::error::Error;
-use std::fmt;
+use thiserror::Error;
 
 // The most digits that are read after the point.
 const MAX_DECIMALS: usize = 12;
 
 /// Why a text is no angle: the first of these that it is.
-#[derive(Clone, Copy, Debug, PartialEq, Eq)]
+#[derive(Clone, Copy, Debug, PartialEq, Eq, Error)]
+#[error("{text}", text = self.words())]
 pub enum AngleFault {
     /// The text is not an optional `-`, one to three digits, and optionally a point and one or more digits.
     NotANumber,
@@ -42,19 +42,6 @@ impl AngleFault {
         }
     }
 }
-
-impl fmt::Display for AngleFault {
-    ghost use Rattle.std.specs.Prelude.{Some};
-    ghost use Rattle.sq_angle.specs.Faults.{angle_fault_text};
-
-    ghost output = { λ fault. Some (angle_fault_text fault) };
-
-    fn fmt<W: fmt::Write>(&self, f: &mut fmt::Formatter<W>) -> fmt::Result {
-        f.write_str(self.words())
-    }
-}
-
-impl Error for AngleFault {}
 
 impl Angle {
     /// The angle that a text spells, in degrees: an optional `-`, one to three ASCII digits, and optionally a point and

@@ -52,9 +52,9 @@ broken_pair o older newer lat lon (Err fault, r, x) = absurd (cc x.0)
 module _ {S K F : Type 0} (s : SourceGhosts S) (k : SinkGhosts K) (f : SinkGhosts F) where
   pub broken_checks : BrokenChecks s k f
   broken_checks format from to old new before after (Ok tally, checked, ended) = absurd (whole_run tally ended.0)
-  broken_checks format from to old new before after (Err Read, (unfinished, took), ended) =
-      inl (unfinished, took, ended.1)
-  broken_checks format from to old new before after (Err Write, took, ended) = inr (took, ended.1)
+  broken_checks format from to old new before after (Err Read, (same, took), ended) = (same, inl (took, ended.1))
+  broken_checks format from to old new before after (Err Write, (failed, same, took), ended) =
+      (same, inr (failed, took, ended.1))
   broken_checks format from to old new before after (Err Memory, none, ended) = absurd none
 
   pub broken_logs : BrokenLogs s k f

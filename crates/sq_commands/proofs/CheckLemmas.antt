@@ -128,29 +128,23 @@ module _ (telling : Telling Squitter) where
           ),
         )
     checked (Err RunFaults.Write) whole finished unfinished unread unwritten unanswered =
-        let u = unwritten refl in
-        let failed = after.failed u.0 in
-        let still = after.unfinished unfinished in (
-          u.1.0,
-          u.1.1,
-          u.1.2,
-          elim u.1.3 [
-            | inl ended ↦ inl (λ by. (
-              failed,
-              front_after telling.header rest output _ after
-                  (stopped-check rest.before rest.after (ended_lines u.1.0) ended by),
-              still,
-            ))
-            | inr last ↦ inr (
-              last.0,
-              λ by. (
-                failed,
-                front_after telling.header rest output _ after
+        let u = unwritten refl in (
+          after.failed u.0,
+          after.unfinished unfinished,
+          (
+            u.1.0,
+            u.1.1,
+            u.1.2,
+            elim u.1.3 [
+              | inl ended ↦ inl (λ by. front_after telling.header rest output _ after
+                  (stopped-check rest.before rest.after (ended_lines u.1.0) ended by))
+              | inr last ↦ inr (
+                last.0,
+                λ by. front_after telling.header rest output _ after
                     (stopped-check rest.before rest.after (lines_of u.1.0) last.1 by),
-                still,
-              ),
-            )
-          ],
+              )
+            ],
+          ),
         )
     checked (Err Memory) whole finished unfinished unread unwritten unanswered =
         elim (unanswered refl).3 [
@@ -163,10 +157,14 @@ module _ (telling : Telling Squitter) where
       → output.failed ≡ true → WroteFront output.before output.after telling.header → Unfinished output
       → IsChecked telling (Err RunFaults.Write) (taken_from s source source) output
   header_failed s source output failed front unfinished = (
-    [],
-    Consumes-nil (s.to_come source),
-    omega arith,
-    inl (λ by. (failed, front_of_header telling.header _ output.before output.after front, unfinished)),
+    failed,
+    unfinished,
+    (
+      [],
+      Consumes-nil (s.to_come source),
+      omega arith,
+      inl (λ by. front_of_header telling.header _ output.before output.after front),
+    ),
   )
 
   -- where the source reports its bytes, the answers are those to all of them

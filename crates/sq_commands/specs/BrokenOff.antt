@@ -38,17 +38,18 @@ module _ {S K F : Type 0} (s : SourceGhosts S) (k : SinkGhosts K) (f : SinkGhost
   abbrev pub OfItsLines : (to : S) → (List (List ℕ) → Type 0) → List ℕ → Type 0
   OfItsLines to Of bytes = Of (ended_lines bytes) ⊎ (IsAtEnd (s.to_come to) × Of (lines_of bytes))
 
-  -- a run of `check`: a get failed, after the answers to the lines that were read whole; or the output did within them
+  -- A run of `check` that broke off finished no output. Either a get failed after the answers to the lines that were
+  -- read whole, or the output failed within them.
   abbrev pub BrokenChecks : Type 0
   BrokenChecks = (format : Format) (from to : S) (old new : K) (before after : F)
       → IsCheckRunIn format Broken (effects s from to (outputs k f old new before after))
-      → ((k.finishes new ≡ k.finishes old)
-      × TookPart (taken_from s from to) (λ bytes. (by : Checks)
+      → (k.finishes new ≡ k.finishes old)
+      × ((TookPart (taken_from s from to) (λ bytes. (by : Checks)
       → Appends (k.written old) (k.written new) (check_output (squitter_telling format) by (ended_lines bytes)))
       × WroteOrFailed (written_on f before after) (codes "read failed\n"))
-      ⊎ (TookSome (taken_from s from to) (OfItsLines to (λ lines. (by : Checks)
-      → FailedInside old new (check_output (squitter_telling format) by lines)))
-      × WroteOrFailed (written_on f before after) (codes "write failed\n"))
+      ⊎ ((k.has_failed new ≡ true) × TookSome (taken_from s from to) (OfItsLines to (λ lines. (by : Checks)
+      → WroteFront (k.written old) (k.written new) (check_output (squitter_telling format) by lines)))
+      × WroteOrFailed (written_on f before after) (codes "write failed\n")))
 
   -- the tracker may want memory for this line: a position on it, of an address that is not present, would be accepted
   abbrev pub WantsSome : Held → List ℕ → Type 0

@@ -1,7 +1,8 @@
 -- What `check` does.
-use Rattle.std.specs.Prelude.{◌≡◌, ◌==◌, ◌⊎◌, ℕ, List, Option, Result, Ok, Err, MatchResult, map, if◌then◌else◌}
-use Rattle.sq_devices.specs.Changes.{FailedWithin, FinishedOnce, Sent, Taken, TookAll, TookNothing, TookPart, TookSome}
+use Rattle.std.specs.Prelude.{◌≡◌, ◌==◌, ◌⊎◌, ℕ, List, Option, Result, Ok, Err, MatchResult, map, true, if◌then◌else◌}
+use Rattle.sq_devices.specs.Changes.{FinishedOnce, Sent, Taken, TookAll, TookNothing, TookPart, TookSome}
 use Rattle.sq_devices.specs.Changes.{Unfinished, Written, Wrote, WroteNothing}
+use Rattle.sq_devices.specs.Device.{WroteFront}
 use Rattle.sq_message.specs.declared.squitter.Squitter.{Squitter}
 use Rattle.sq_text.specs.Reading.{SquitterReader}
 use Rattle.sq_lines.specs.Content.{answer_by}
@@ -49,9 +50,10 @@ check_manner telling = record { stands_for = λ state by. Unit {0}; way = check_
 abbrev pub WroteChecks : Telling Squitter → Written → List (List ℕ) → Type 0
 WroteChecks telling output lines = (by : Checks) → Wrote output (check_output telling by lines)
 
--- the output has failed within the answers to these lines
-abbrev pub FailedWithinChecks : Telling Squitter → Written → List (List ℕ) → Type 0
-FailedWithinChecks telling output lines = (by : Checks) → FailedWithin output (check_output telling by lines)
+-- the answers to these lines were written up to some place
+abbrev pub WroteFrontOfChecks : Telling Squitter → Written → List (List ℕ) → Type 0
+WroteFrontOfChecks telling output lines =
+    (by : Checks) → WroteFront output.before output.after (check_output telling by lines)
 
 -- the lines of these bytes were answered and counted, and the output finished after that
 abbrev pub HasChecked : Telling Squitter → Tally → Written → List ℕ → Type 0
@@ -67,9 +69,10 @@ IsChecked telling (Ok tally) input output =
 -- where the source failed, the lines that were read whole were answered
 IsChecked telling (Err Read) input output =
     Unfinished output × TookPart input (λ bytes. WroteChecks telling output (ended_lines bytes))
--- where the sink failed, it did so within the answers to the lines that were read whole; the last part is a line at the
--- end of the input
-IsChecked telling (Err Write) input output = TookSome input (OfLines input (FailedWithinChecks telling output))
+-- the sink failed, within the answers to the lines that were read whole; the last part is a line at the end of the
+-- input
+IsChecked telling (Err Write) input output =
+    (output.failed ≡ true) × Unfinished output × TookSome input (OfLines input (WroteFrontOfChecks telling output))
 -- no memory is wanted
 IsChecked telling (Err Memory) input output = ⊥
 

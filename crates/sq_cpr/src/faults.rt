@@ -1,12 +1,12 @@
 //! Why codes are decoded to no point.
-ghost use Rattle.std.specs.Prelude.{◌≡◌, ◌≤◌, length, Some};
-ghost use Rattle.sq_cpr.specs.Faults.{local_fault_text, pair_fault_text, pair_fault_words};
+ghost use Rattle.std.specs.Prelude.{◌≡◌, ◌≤◌, length};
+ghost use Rattle.sq_cpr.specs.Faults.{local_fault_text, pair_fault_words};
 
-use std::error::Error;
-use std::fmt;
+use thiserror::Error;
 
 /// Why a code is decoded to no point near a reference.
-#[derive(Clone, Copy, Debug, PartialEq, Eq)]
+#[derive(Clone, Copy, Debug, PartialEq, Eq, Error)]
+#[error("{text}", text = self.words())]
 pub enum LocalFault {
     /// The latitude near the reference lies outside -90 to 90 degrees.
     OutOfRange,
@@ -24,22 +24,14 @@ impl LocalFault {
     }
 }
 
-impl fmt::Display for LocalFault {
-    ghost output = { λ fault. Some (local_fault_text fault) };
-
-    fn fmt<W: fmt::Write>(&self, f: &mut fmt::Formatter<W>) -> fmt::Result {
-        f.write_str(self.words())
-    }
-}
-
-impl Error for LocalFault {}
-
 /// Why an even and an odd code are decoded to no point: the first of these that applies.
-#[derive(Clone, Copy, Debug, PartialEq, Eq)]
+#[derive(Clone, Copy, Debug, PartialEq, Eq, Error)]
 pub enum PairFault {
     /// One of the two close latitudes lies outside -90 to 90 degrees.
+    #[error("{text}", text = self.words())]
     OutOfRange,
     /// The zone counts of the even and of the odd latitude, which differ.
+    #[error("{words}{0} {1}", words = self.words())]
     ZoneCounts(u8, u8),
 }
 
@@ -55,16 +47,3 @@ impl PairFault {
         }
     }
 }
-
-impl fmt::Display for PairFault {
-    ghost output = { λ fault. Some (pair_fault_text fault) };
-
-    fn fmt<W: fmt::Write>(&self, f: &mut fmt::Formatter<W>) -> fmt::Result {
-        match self {
-            PairFault::OutOfRange => f.write_str(self.words()),
-            PairFault::ZoneCounts(even, odd) => write!(f, "{}{even} {odd}", self.words()),
-        }
-    }
-}
-
-impl Error for PairFault {}

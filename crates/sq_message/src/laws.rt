@@ -328,11 +328,14 @@ pub fn sent_again_exactly()
     ensures { SentAgainExactly }
 {}
 
-/// What frames of positions say, whole.
+/// Two positions in the same latitude and longitude zones of a parity's grid are written as the same frame exactly if
+/// they round to the same grid point; a frame read with a reference strictly within half a zone of that point in both
+/// coordinates gives that point exactly, as does a close even and odd pair with equal zone counts; writing any decoded
+/// point again gives the same frame.
 ///
-/// Two positions in the same zones of a parity's grid are written as the same frame exactly if they round to the same
-/// grid point. A frame read with a reference strictly within half a zone of that point gives that point, and so does a
-/// close even and odd pair with equal zone counts. Writing any decoded point again gives the same frame.
+/// Each part stands twice below, for airborne and for surface positions. The heads of the frames are equal. Zones are
+/// shifted by half a step, and half a zone is counted with the zones of the point itself. The frames of a pair have one
+/// address and one kind; on the ground the site lies within 45 degrees of both points.
 pub fn headline()
     // Two positions in the same zones have one frame exactly if they round to one point.
     ensures same_frame_in_air { SameZones InAir }

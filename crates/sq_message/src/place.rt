@@ -11,8 +11,7 @@ use sq_angle::Position;
 use sq_cpr::{
     Air, Code, GridPoint, Ground, LocalFault, PairFault, Parity, local, pair_air, pair_ground,
 };
-use std::error::Error;
-use std::fmt;
+use thiserror::Error;
 
 /// Where a squitter is: a point of the air's grid or of the ground's.
 #[derive(Clone, Copy, Debug, PartialEq, Eq)]
@@ -37,21 +36,28 @@ impl Place {
 }
 
 /// Why squitters are decoded to no place: the first of these that applies.
-#[derive(Clone, Copy, Debug, PartialEq, Eq)]
+#[derive(Clone, Copy, Debug, PartialEq, Eq, Error)]
 pub enum PlaceFault {
     /// A squitter is no position: it is of kind other.
+    #[error("{text}", text = self.words())]
     NotPosition,
     /// The addresses of a pair differ.
+    #[error("{text}", text = self.words())]
     OtherAddress,
     /// One of a pair is in the air and one on the ground.
+    #[error("{text}", text = self.words())]
     OtherKind,
     /// Both of a pair are even, or both are odd.
+    #[error("{text}", text = self.words())]
     SameParity,
     /// A pair on the ground has no site.
+    #[error("{text}", text = self.words())]
     NoSite,
     /// The latitude near the reference, or one of the close latitudes of a pair, lies outside -90 to 90 degrees.
+    #[error("{text}", text = self.words())]
     OutOfRange,
     /// The zone counts of a pair's even and of its odd latitude, which differ.
+    #[error("{words}{0} {1}", words = self.words())]
     ZoneCounts(u8, u8),
 }
 
@@ -74,24 +80,6 @@ impl PlaceFault {
         }
     }
 }
-
-impl fmt::Display for PlaceFault {
-    ghost use Rattle.std.specs.Prelude.{Some};
-    ghost use Rattle.sq_message.specs.Faults.{place_fault_text};
-
-    ghost output = { λ fault. Some (place_fault_text fault) };
-
-    fn fmt<W: fmt::Write>(&self, f: &mut fmt::Formatter<W>) -> fmt::Result {
-        match *self {
-            PlaceFault::ZoneCounts(even, odd) => {
-                fmt::Display::fmt(&PairFault::ZoneCounts(even, odd), f)
-            }
-            _ => f.write_str(self.words()),
-        }
-    }
-}
-
-impl Error for PlaceFault {}
 
 impl From<LocalFault> for PlaceFault {
     ghost from_gives = { λ fault result. result ≡ of_local fault };

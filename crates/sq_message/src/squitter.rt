@@ -2,8 +2,7 @@
 ghost use Rattle.std.specs.Prelude.{◌≡◌, ◌<◌, ◌≤◌, ◌^◌, ◌↔◌, IfSome, IsSome, length};
 
 use crate::{Airborne, Other, Surface};
-use std::error::Error;
-use std::fmt;
+use thiserror::Error;
 
 // An address has 24 bits.
 pub(crate) const ADDRESSES: u32 = 1 << 24;
@@ -71,11 +70,13 @@ impl Squitter {
 }
 
 /// Why a frame spells no squitter: the first of these that applies.
-#[derive(Clone, Copy, Debug, PartialEq, Eq)]
+#[derive(Clone, Copy, Debug, PartialEq, Eq, Error)]
 pub enum FrameFault {
     /// The downlink format, bits 1 to 5, is not 17 but this.
+    #[error("{words}{0}", words = self.words())]
     NotDf17(u8),
     /// The remainder is not 0 but this.
+    #[error("{words}{0:06X}", words = self.words())]
     Parity(u32),
 }
 
@@ -93,19 +94,3 @@ impl FrameFault {
         }
     }
 }
-
-impl fmt::Display for FrameFault {
-    ghost use Rattle.std.specs.Prelude.{Some};
-    ghost use Rattle.sq_message.specs.Faults.{frame_fault_text};
-
-    ghost output = { λ fault. Some (frame_fault_text fault) };
-
-    fn fmt<W: fmt::Write>(&self, f: &mut fmt::Formatter<W>) -> fmt::Result {
-        match self {
-            FrameFault::NotDf17(format) => write!(f, "{}{format}", self.words()),
-            FrameFault::Parity(remainder) => write!(f, "{}{remainder:06X}", self.words()),
-        }
-    }
-}
-
-impl Error for FrameFault {}

@@ -12,6 +12,10 @@ pub use rows::{
     Form, push_blank, push_end, push_hexadecimal_word, push_line, push_number, push_signed,
     push_word,
 };
+pub use sq_angle::Angle;
+pub use sq_digits::TextBuffer;
+pub use sq_message::{Airborne, Me};
+pub use sq_text::LineFault;
 pub use squitters::{
     kind_name, push_airborne_feet, push_bit, push_degrees, push_fault_word, push_feet,
 };

@@ -1,36 +1,45 @@
 //! Why a line is refused.
-ghost use Rattle.std.specs.Prelude.{◌≡◌, ◌+◌, ◌≤◌, ◌++◌, length, Some};
+ghost use Rattle.std.specs.Prelude.{◌≡◌, ◌+◌, ◌≤◌, ◌++◌, length};
 ghost use Rattle.sq_digits.specs.Buffer.{text_len};
 ghost use Rattle.sq_text.specs.Faults.{fault_text, fault_words, of_frame, of_text};
 
 use crate::frame_text::TextFault;
 use sq_digits::{TextBuffer, push_decimal, push_six_places};
 use sq_message::FrameFault;
-use std::error::Error;
-use std::fmt;
+use thiserror::Error;
 
 /// The first fault of a line, or of a frame argument.
-#[derive(Clone, Copy, Debug, PartialEq, Eq)]
+#[derive(Clone, Copy, Debug, PartialEq, Eq, Error)]
 pub enum LineFault {
     /// More than 64 bytes stand before the line feed or the end of input.
+    #[error("{text}", text = self.words())]
     LongLine,
     /// What stands before the first space is no moment, or there is no space.
+    #[error("{text}", text = self.words())]
     Moment,
     /// One of `*` and `;` stands without the other.
+    #[error("{text}", text = self.words())]
     Wrap,
     /// The body of the frame text has 14 bytes.
+    #[error("{text}", text = self.words())]
     Short,
     /// The body has this many bytes, neither 28 nor 14.
+    #[error("{words}{0}", words = self.words())]
     Length(usize),
     /// This byte of the body, counted from 1, is the first that is no hexadecimal digit.
+    #[error("{words}{0}", words = self.words())]
     Digit(usize),
     /// The downlink format is not 17 but this.
+    #[error("{words}{0}", words = self.words())]
     NotDf17(u8),
     /// The remainder is not 0 but this.
+    #[error("{words}{0:06X}", words = self.words())]
     Parity(u32),
     /// The moment lies before this one, the last that was accepted.
+    #[error("{words}{0}", words = self.words())]
     MomentBack(u64),
     /// The table of addresses is full.
+    #[error("{text}", text = self.words())]
     Full,
 }
 
@@ -79,29 +88,7 @@ impl From<FrameFault> for LineFault {
     }
 }
 
-impl fmt::Display for LineFault {
-    ghost output = { λ fault. Some (fault_text fault) };
-
-    fn fmt<W: fmt::Write>(&self, f: &mut fmt::Formatter<W>) -> fmt::Result {
-        let mut text = TextBuffer::<32>::new();
-        push_fault(&mut text, *self);
-        f.write_str(text.as_str())
-    }
-}
-
-impl Error for LineFault {}
-
-impl fmt::Display for TextFault {
-    ghost output = { λ fault. Some (fault_text (of_text fault)) };
-
-    fn fmt<W: fmt::Write>(&self, f: &mut fmt::Formatter<W>) -> fmt::Result {
-        fmt::Display::fmt(&LineFault::from(*self), f)
-    }
-}
-
-impl Error for TextFault {}
-
-/// Appends the text of a fault, of at most 32 bytes; it is also what the fault's `Display` writes.
+/// Appends the text of a fault, at most 32 bytes.
 pub fn push_fault<const N: usize>(text: &mut TextBuffer<N>, fault: LineFault)
     requires { text_len text.old + 32 ≤ N }
     ensures bytes { text.new.bytes ≡ text.old.bytes ++ fault_text fault }

@@ -4,12 +4,15 @@ ghost use Rattle.hex.specs.Hex.{decode_of};
 ghost use Rattle.sq_text.specs.FrameText.{IsAnswer, IsBody, IsFirstBadDigit, IsFrameText, IsHalfWrapped};
 
 use crate::digit_values::{are_values, bytes_of, digit_values};
+use crate::faults::LineFault;
 use hex::FromHexError;
 use sq_bits::Frame;
 use std::simd::prelude::*;
+use thiserror::Error;
 
 /// Why a text is no frame text: the first of these that applies.
-#[derive(Clone, Copy, Debug, PartialEq, Eq)]
+#[derive(Clone, Copy, Debug, PartialEq, Eq, Error)]
+#[error("{fault}", fault = LineFault::from(*self))]
 pub enum TextFault {
     /// One of `*` and `;` stands without the other.
     Wrap,

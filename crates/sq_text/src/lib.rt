@@ -21,6 +21,7 @@ pub use place::{PlaceText, place_text, push_decimals};
 pub use place_faults::push_place_fault;
 pub use reading::read_squitter;
 pub use show::{ShowText, show_text};
+pub use sq_angle::Angle;
 pub use sq_digits::{TextBuffer, push_decimal, push_hexadecimal, push_six_places};
 pub use sq_message::{Frame, FrameFault, PlaceFault, Position, Received, Squitter};
 pub use summary::push_summary;

@@ -1,5 +1,1 @@
-pub mod Accepted
-pub mod Building
-pub mod Full
-pub mod Reading
 pub mod OneRuns

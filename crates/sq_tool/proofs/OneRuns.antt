@@ -3,7 +3,7 @@ use Rattle.std.proofs.Common.{◌∙◌, inl, inr, subst, sym}
 use Rattle.sq_devices.specs.declared.device.Sink.{Ghosts as SinkGhosts}
 use Rattle.sq_devices.specs.declared.device.Source.{Ghosts as SourceGhosts}
 use Rattle.sq_requests.specs.Requests.{Asked}
-use Rattle.sq_tool.specs.Requests.{OneRequest}
+use Rattle.sq_words.specs.Requests.{OneRequest}
 use Rattle.sq_commands.specs.OneRun.{OneRun, between}
 use Rattle.sq_commands.specs.Runs.{IsRun}
 use Rattle.sq_tool.specs.OneProgram.{BrokenProgram, OneProgramRun}

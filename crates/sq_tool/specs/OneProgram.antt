@@ -4,7 +4,7 @@ use Rattle.sq_devices.specs.Changes.{TookNothing, WroteNothing, WroteOrFailed, t
 use Rattle.sq_devices.specs.declared.device.Sink.{Ghosts as SinkGhosts}
 use Rattle.sq_devices.specs.declared.device.Source.{Ghosts as SourceGhosts}
 use Rattle.sq_requests.specs.Requests.{Asked, Text}
-use Rattle.sq_tool.specs.Requests.{Asks, IsFaulty}
+use Rattle.sq_words.specs.Requests.{Asks, IsFaulty}
 use Rattle.sq_commands.specs.declared.status.Status.{Status}
 use Rattle.sq_commands.specs.declared.status.Status.TheVariants.{Broken}
 use Rattle.sq_commands.specs.OneRun.{Devices, WroteAlike, between}

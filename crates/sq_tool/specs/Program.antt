@@ -2,7 +2,7 @@
 use Rattle.std.specs.Prelude.{◌≡◌, ◌⊎◌, List}
 use Rattle.sq_devices.specs.Changes.{TookNothing, WroteNothing}
 use Rattle.sq_requests.specs.Requests.{Asked, Text}
-use Rattle.sq_tool.specs.Requests.{Asks, IsFaulty}
+use Rattle.sq_words.specs.Requests.{Asks, IsFaulty}
 use Rattle.sq_commands.specs.declared.status.Status.{Status}
 use Rattle.sq_commands.specs.declared.status.Status.TheVariants.{Misused}
 use Rattle.sq_commands.specs.Outputs.{Effects, IsOutOfMemory}

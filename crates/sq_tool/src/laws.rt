@@ -1,25 +1,9 @@
-//! Laws of command lines and of the program, over the definitions that the contracts name.
+//! Laws of the program, over the definitions that its contracts name, and the laws below that a reader of them needs.
 ghost use Rattle.sq_tool.specs.OneProgram.{BrokenProgram, OneProgramRun};
-ghost use Rattle.sq_tool.specs.Requests.{AcceptedWordsAsk, OneRequest, RefusedWordsAskNothing};
 
 use sq_devices::{Sink, Source};
-
-/// Words ask for one thing: two readings of them are the same command with the same values.
-pub fn one_request()
-    ensures { OneRequest }
-{}
-
-/// Words in which clap finds no fault ask for one of the commands, with all the values that it
-/// needs.
-pub fn accepted_words_ask()
-    ensures { AcceptedWordsAsk }
-{}
-
-/// Words in which clap finds a fault, or that ask for its help, ask for no command: what the program does with words is
-/// one of the two.
-pub fn refused_words_ask_nothing()
-    ensures { RefusedWordsAskNothing }
-{}
+pub use sq_lines::laws::lines_in_pieces;
+pub use sq_words::laws::{accepted_words_ask, one_request, refused_words_ask_nothing};
 
 /// What the program did where a device or memory failed: what a request that the words ask for comes to, broken off;
 /// or there was no memory to read the words, so that nothing was read or written, and that was reported.

@@ -1,16 +1,17 @@
-//! The program `squitter` over its devices: what is written is a stated function of what is read.
+//! The program `squitter` over its devices: what it writes is a stated function of what it reads.
 //!
-//! [`run`] does what the words of a command line ask for, and answers the exit status. [`read_request`] has clap read
-//! the words: it answers a request exactly as clap reads them, as one command with its values, and refuses words only
-//! where clap finds a fault in them. Words without a fault ask for one thing, as [`laws`] says. No type of clap leaves
-//! this crate. The commands, the devices and the texts are crates of their own below.
+//! [`run`] does what the words of a command line ask for, and returns the exit status. The other names are those that
+//! a user of the program as a library needs: devices, lines, the two commands that read a stream, and the texts of
+//! frames. Each comes from a crate below, under its own name.
 #![tactic(auto)]
 
-mod command_line;
 pub mod laws;
 mod program;
-mod request;
 
 pub use program::run;
-pub use request::{Refusal, read_request};
-pub use sq_devices::{Sink, Source, Writing};
+pub use sq_commands::{run_check, run_track};
+pub use sq_devices::{Failed, Reading, Sink, Source, Writing};
+pub use sq_lines::{Cutter, RunFault, Tally};
+pub use sq_text::{Frame, TextFault, read_text};
+pub use sq_track::Tracker;
+pub use sq_words::{EncodeWords, Refusal, Request, TrackWords, read_request};

@@ -5,10 +5,10 @@ ghost use Rattle.sq_commands.specs.Statuses.{exit_status};
 ghost use Rattle.sq_commands.specs.declared.status.Status.{Status};
 ghost use Rattle.sq_tool.specs.Program.{IsProgramRun};
 
-use crate::request::{Refusal, read_request};
 use sq_commands::{Status, answer, break_off, report};
 use sq_devices::{Sink, Source};
 use sq_lines::RunFault;
+use sq_words::{Refusal, read_request};
 use std::alloc::Global;
 
 /// Does what the words ask for, and answers the exit status: 0 all is good; 1 a line, a frame or a place was refused; 2

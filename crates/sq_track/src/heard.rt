@@ -1,10 +1,9 @@
 //! What is heard of a squitter, and why a tracker refuses one.
-ghost use Rattle.std.specs.Prelude.{◌≡◌, ◌≤◌, length, Some};
-ghost use Rattle.sq_track.specs.Faults.{track_fault_text, track_fault_words};
+ghost use Rattle.std.specs.Prelude.{◌≡◌, ◌≤◌, length};
+ghost use Rattle.sq_track.specs.Faults.{track_fault_words};
 
 use sq_message::Place;
-use std::error::Error;
-use std::fmt;
+use thiserror::Error;
 
 /// What is heard of an accepted squitter: the first of these that applies.
 #[derive(Clone, Copy, Debug, PartialEq, Eq)]
@@ -28,15 +27,19 @@ pub enum Heard {
 }
 
 /// Why a tracker refuses a call: the first of these that applies, where `Memory` comes last.
-#[derive(Clone, Copy, Debug, PartialEq, Eq)]
+#[derive(Clone, Copy, Debug, PartialEq, Eq, Error)]
 pub enum TrackFault {
     /// The limit of addresses is 0.
+    #[error("{text}", text = self.words())]
     NoLimit,
     /// An allocation failed.
+    #[error("{text}", text = self.words())]
     Memory,
     /// The moment is below that of the last accepted call, which is this.
+    #[error("{words}{0}", words = self.words())]
     MomentBack(u64),
     /// The squitter is a position, and as many other addresses as the limit have one that is at most the window older.
+    #[error("{text}", text = self.words())]
     Full,
 }
 
@@ -54,16 +57,3 @@ impl TrackFault {
         }
     }
 }
-
-impl fmt::Display for TrackFault {
-    ghost output = { λ fault. Some (track_fault_text fault) };
-
-    fn fmt<W: fmt::Write>(&self, f: &mut fmt::Formatter<W>) -> fmt::Result {
-        match self {
-            TrackFault::MomentBack(last) => write!(f, "{}{last}", self.words()),
-            _ => f.write_str(self.words()),
-        }
-    }
-}
-
-impl Error for TrackFault {}

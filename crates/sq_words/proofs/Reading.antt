@@ -1,0 +1,162 @@
+-- From what clap says of the words to what they ask for.
+use Rattle.std.proofs.Common.{◌≡◌, ◌≢◌, ◌∙◌, true, false, true≢false, List, [], Option, None, Some, ap, sym, subst}
+use Rattle.std.proofs.Common.{refl, rules, ap₂, inl, inr}
+use Rattle.std.specs.Prelude.{codes, option_map, unwrap_or}
+use Rattle.std.specs.Str.{bytes_eq}
+use Rattle.clap.specs.Words.{Text, Row, App, HasMatchesOf, HasKind, Kinds, is_simple, is_simple_and_free, subcommand_of}
+use Rattle.clap.specs.Words.{fault_of, first_of, first_value, kind_of, rows_of, subcommand_rows_of, subcommand_name_of}
+use Rattle.clap.specs.declared.error.Error.{Error}
+use Rattle.clap.specs.declared.error.kind.ErrorKind.TheVariants as kind
+use Rattle.clap.specs.declared.parser.ArgMatches.{ArgMatches}
+use Rattle.clap.specs.declared.parser.ArgMatches.TheViews.{out-ArgMatches}
+use Rattle.std.proofs.lemmas.Slice.Eq.{bytes_eq-Decides}
+use Rattle.clap.specs.declared.parser.matches.Found.{Found}
+use Rattle.clap.proofs.WalkLemmas.{first_value-rows}
+use Rattle.clap.proofs.OnLiterals.{clap_on_literals}
+use Rattle.sq_words.specs.CommandLine.{squitter}
+use Rattle.sq_requests.specs.Requests.{Asked, AskedEncode, command_name}
+use Rattle.sq_words.specs.CommandLine.{HasValues}
+use Rattle.sq_words.specs.Requests.{Asks, IsAsked}
+use Rattle.sq_requests.specs.Requests.{Show, Encode, Local, Pair, Check, Track}
+
+-- clap says of this command line what it makes of the words
+pub squitter-is_simple : is_simple squitter ≡ true
+unfolding clap_on_literals
+squitter-is_simple = refl
+
+-- clap says of this command line which words it refuses
+pub squitter-is_free : is_simple_and_free squitter ≡ true
+unfolding clap_on_literals
+squitter-is_free = refl
+
+-- ---- the name of a command says which one it is
+
+-- texts that compare as different are not one
+other : {X : Type 0} (a b : Text) → a ≡ b → bytes_eq a b ≡ false → X
+other a b is differ = let same : bytes_eq a b
+    ≡ true = search (rules, bytes_eq-Decides) in absurd (true≢false (sym same ∙ differ))
+
+pub show_values : (rows : List Row) (asked : Asked) → IsAsked (codes "show") rows asked
+    → (frame : Text) × HasValues rows (Show frame)
+show_values rows (Show frame) is = (frame, is.values)
+show_values rows (Encode e) is = other _ _ is.named refl
+show_values rows (Local frame lat lon) is = other _ _ is.named refl
+show_values rows (Pair older newer lat lon) is = other _ _ is.named refl
+show_values rows (Check format) is = other _ _ is.named refl
+show_values rows (Track words) is = other _ _ is.named refl
+
+pub encode_values : (rows : List Row) (asked : Asked) → IsAsked (codes "encode") rows asked
+    → (e : AskedEncode) × HasValues rows (Encode e)
+encode_values rows (Show frame) is = other _ _ is.named refl
+encode_values rows (Encode e) is = (e, is.values)
+encode_values rows (Local frame lat lon) is = other _ _ is.named refl
+encode_values rows (Pair older newer lat lon) is = other _ _ is.named refl
+encode_values rows (Check format) is = other _ _ is.named refl
+encode_values rows (Track words) is = other _ _ is.named refl
+
+-- the values of `local`
+pub record LocalValues (rows : List Row) : Type 0 where
+  pub frame : Text
+  pub lat : Text
+  pub lon : Text
+  pub values : HasValues rows (Local frame lat lon)
+
+pub local_values : (rows : List Row) (asked : Asked) → IsAsked (codes "local") rows asked → LocalValues rows
+local_values rows (Show frame) is = other _ _ is.named refl
+local_values rows (Encode e) is = other _ _ is.named refl
+local_values rows (Local f a o) is = record { frame = f; lat = a; lon = o; values = is.values }
+local_values rows (Pair older newer lat lon) is = other _ _ is.named refl
+local_values rows (Check format) is = other _ _ is.named refl
+local_values rows (Track words) is = other _ _ is.named refl
+
+-- the values of `pair`
+pub record PairValues (rows : List Row) : Type 0 where
+  pub older : Text
+  pub newer : Text
+  pub lat : Option Text
+  pub lon : Option Text
+  pub values : HasValues rows (Pair older newer lat lon)
+
+pub pair_values : (rows : List Row) (asked : Asked) → IsAsked (codes "pair") rows asked → PairValues rows
+pair_values rows (Show frame) is = other _ _ is.named refl
+pair_values rows (Encode e) is = other _ _ is.named refl
+pair_values rows (Local frame lat lon) is = other _ _ is.named refl
+pair_values rows (Pair o n a b) is = record { older = o; newer = n; lat = a; lon = b; values = is.values }
+pair_values rows (Check format) is = other _ _ is.named refl
+pair_values rows (Track words) is = other _ _ is.named refl
+
+-- ---- what clap answers
+
+-- where nothing is at fault only memory can fail
+pub fails_by_memory : (kinds : Kinds) (e : Error) → kinds ≡ [] → HasKind kinds e → kind_of e ≡ kind.OutOfMemory
+fails_by_memory kinds e none has = elim (subst (λ (k : Kinds). HasKind k e) none has) [
+  | inl memory ↦ memory
+  | inr never ↦ absurd never
+]
+
+-- what clap says of the words where it accepted them
+pub record Accepted (words : List Text) (name : Text) (rows : List Row) : Type 0 where
+  pub accepted : fault_of squitter words ≡ []
+  pub entered : subcommand_of squitter words ≡ Some (name, rows)
+
+-- what is asked of the command that clap entered is what the words ask for
+pub asks_of : (words : List Text) (name : Text) (rows : List Row) (asked : Asked) → Accepted words name rows
+    → IsAsked name rows asked → Asks words asked
+asks_of words name rows asked clap is = record {
+  accepted = clap.accepted;
+  rows = rows;
+  entered = clap.entered ∙ ap (λ (n : Text). Some (n, rows)) is.named;
+  values = is.values;
+}
+
+-- and where nothing is asked of it the words ask for nothing
+pub asks_none : (words : List Text) (name : Text) (rows : List Row) → Accepted words name rows
+    → ((asked : Asked) → ¬ IsAsked name rows asked)
+    → (asked : Asked) → ¬ Asks words asked
+asks_none words name rows clap none asked asks =
+    let one : (name, rows) ≡ (command_name asked, asks.rows) =
+    ap (λ (o : Option (Text × List Row)). unwrap_or o (name, rows)) (sym clap.entered ∙ asks.entered) in
+    none asked (record {
+      named = ap (λ (p : Text × List Row). p.0) one;
+      values = subst (λ (r : List Row). HasValues r asked) (sym (ap (λ (p : Text × List Row). p.1) one)) asks.values;
+    })
+
+pair_of : {B : Type 0} (f : B → Text × List Row) (o : Option B) (name : Text) (rows : List Row)
+    → Some name ≡ option_map (λ b. (f b).0) o → Some rows ≡ option_map (λ p. p.1) (option_map f o)
+    → option_map f o ≡ Some (name, rows)
+pair_of f None name rows named has = cc
+pair_of f (Some b) name rows named has =
+    let at_name : name ≡ (f b).0 = cc in
+    let at_rows : rows ≡ (f b).1 = cc in
+    let pair : Text → List Row → Text × List Row = λ n r. (n, r) in
+    ap Some (sym (ap₂ pair at_name at_rows))
+
+-- what clap's matches say of the words
+pub accepted_by : (app : App) (words : List Text) (m : ArgMatches) (name : Text) (rows : List Row) → app ≡ squitter
+    → (is_simple_and_free app ≡ true → fault_of app words ≡ []) → HasMatchesOf app words m
+    → Some name ≡ subcommand_name_of m → Some rows ≡ option_map (λ p. p.1) (subcommand_rows_of m)
+    → Accepted words name rows
+accepted_by app words m name rows is kinds matches named has = record {
+  accepted = subst (λ (a : App). fault_of a words ≡ []) is (kinds (ap is_simple_and_free is ∙ squitter-is_free));
+  entered = ap (λ (a : App). subcommand_of a words) (sym is) ∙ sym (matches (ap is_simple is ∙ squitter-is_simple)).1
+      ∙ pair_of _ (out-ArgMatches m).subcommand name rows named has;
+}
+
+-- an error that is not memory's comes only where clap finds a fault
+pub refused_by : (app : App) (words : List Text) (e : Error) → app ≡ squitter
+    → (is_simple_and_free app ≡ true → HasKind (fault_of app words) e) → kind_of e ≢ kind.OutOfMemory
+    → fault_of squitter words ≢ []
+refused_by app words e is fails other_kind none =
+    let has : HasKind (fault_of app words) e = fails (ap is_simple_and_free is ∙ squitter-is_free) in
+    other_kind (fails_by_memory _ e (ap (λ (a : App). fault_of a words) is ∙ none) has)
+
+-- ---- one value
+
+-- what `get_str` gives is the value in clap's table
+pub value_is : (f : Found) (id : Text) (o : Option Text) → o ≡ first_value f id → first_of id (rows_of f) ≡ o
+value_is f id o is = sym (first_value-rows f id) ∙ sym is
+
+-- a value is not there and there
+pub no_value : {X : Type 0} (f : Found) (id value : Text) → None ≡ first_value f id
+    → first_of id (rows_of f) ≡ Some value → X
+no_value f id value none some = let there : first_value f id ≡ Some value = first_value-rows f id ∙ some in cc

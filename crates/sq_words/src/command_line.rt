@@ -1,0 +1,376 @@
+//! The command line: of each command its help, its arguments and options in clap's calls, and the request that its
+//! values are. clap puts the usage and the list of options between the texts of a command.
+ghost use Rattle.std.specs.Prelude.{◌≡◌, IfNone, IfOk, IfSome, codes, false};
+ghost use Rattle.clap.specs.Words.{app_of, found_of, new_app, new_rule, rows_of, rule_of};
+ghost use Rattle.clap.specs.declared.builder.Command.TheViews.{out-Command as fields_of};
+ghost use Rattle.sq_requests.specs.Requests.{Asked, asked_by};
+ghost use Rattle.sq_words.specs.CommandLine.{check as check_line, encode, encode_head as encode_first};
+ghost use Rattle.sq_words.specs.CommandLine.{frame_commands as frame_program, local, option as option_rule, pair};
+ghost use Rattle.sq_words.specs.CommandLine.{program as no_commands, required, show, squitter, track};
+ghost use Rattle.sq_words.specs.Requests.{IsAsked};
+
+use clap::{Arg, ArgMatches, Command};
+use sq_requests::{EncodeWords, Request, TrackWords};
+use std::alloc::{AllocError, Global};
+
+/// The command line of the program.
+pub(crate) fn squitter_command<'a>(alloc: Global) -> Result<Command<'a>, AllocError>
+    ensures { IfOk result (λ c. app_of c ≡ squitter) }
+{
+    frame_commands(alloc)?
+        .subcommand(pair_command(alloc)?)?
+        .subcommand(check_command(alloc)?)?
+        .subcommand(track_command(alloc)?)
+}
+
+// The program with its commands on one frame.
+fn frame_commands<'a>(alloc: Global) -> Result<Command<'a>, AllocError>
+    ensures { IfOk result (λ c. app_of c ≡ frame_program) }
+{
+    program(alloc)
+        .subcommand(show_command(alloc)?)?
+        .subcommand(encode_command(alloc)?)?
+        .subcommand(local_command(alloc)?)
+}
+
+/// What the values of the command with this name ask for.
+pub(crate) fn request_of<'a>(name: &'a str, values: &ArgMatches<'a>) -> Option<Request<'a>>
+    ensures some { IfSome result (λ request. IsAsked name.entry.now (rows_of (found_of values.now))
+        (asked_by request)) }
+    ensures none { IfNone result ((asked : Asked) → ¬ IsAsked name.entry.now (rows_of (found_of values.now)) asked) }
+{
+    match name {
+        "show" => show_request(values),
+        "encode" => encode_request(values),
+        "local" => local_request(values),
+        "pair" => pair_request(values),
+        "check" => Some(check_request(values)),
+        "track" => Some(track_request(values)),
+        _ => None,
+    }
+}
+
+const SQUITTER: CommandHelp = CommandHelp {
+    about: "Reads and writes the position squitters of ADS-B (DF17, 112 bits), exactly, to fractions of a degree",
+    usage: "squitter <COMMAND>",
+    after: "A frame is 28 hexadecimal digits, bare or between '*' and ';' as receivers print it.
+An angle is in degrees, with up to 12 decimals; south and west need the equals sign, as --lat=-33.9.
+'check' and 'track' read standard input, and take no name of a file.
+
+Exit status: 0 all is good; 1 a line, a frame or a place was refused; 2 a bad command line, and this
+help; 3 a read, write or memory fault. Faults and help go to standard error.
+
+Examples:
+  squitter show 8D40621D58C382D690C8AC2863A7
+  squitter check < frames.txt
+  squitter track --lat=52.31 --lon=4.76 < flights.log
+  squitter track --help",
+};
+
+// What `--version` says after the program's name.
+const VERSION: &str = "0.1.0";
+
+// The program with no command yet, one being required.
+fn program<'a>(alloc: Global) -> Command<'a>
+    ensures app { app_of result ≡ no_commands }
+    ensures own { (fields_of result).has_globals ≡ false }
+{
+    command(alloc, "squitter", SQUITTER)
+        .version(VERSION)
+        .subcommand_required(true)
+}
+
+const SHOW: CommandHelp = CommandHelp {
+    about: "Shows the fields of one frame, each on a line",
+    usage: "squitter show <FRAME>",
+    after: "'lat' and 'lon' are the code of the position, two numbers from 0 to 131071, and not degrees: 'local'
+and 'pair' decode it. A field with no unit is as the frame has it.
+
+Example:
+  squitter show 8D40621D58C382D690C8AC2863A7",
+};
+
+fn show_command<'a>(alloc: Global) -> Result<Command<'a>, AllocError>
+    ensures app { IfOk result (λ c. app_of c ≡ show) }
+    ensures own { IfOk result (λ c. (fields_of c).has_globals ≡ false) }
+{
+    command(alloc, "show", SHOW).arg(argument(alloc, "FRAME", FRAME))
+}
+
+fn show_request<'a>(values: &ArgMatches<'a>) -> Option<Request<'a>>
+    ensures some { IfSome result (λ request. IsAsked (codes "show") (rows_of (found_of values.now))
+        (asked_by request)) }
+    ensures none { IfNone result ((asked : Asked) → ¬ IsAsked (codes "show") (rows_of (found_of values.now)) asked) }
+{
+    let frame = values.get_str("FRAME")?;
+    Some(Request::Show { frame })
+}
+
+const ENCODE: CommandHelp = CommandHelp {
+    about: "Writes the frame of a position, rounded as the standard's encoder rounds it",
+    usage: "squitter encode --kind=<air|ground> --parity=<even|odd> --address=<HEX6> [--feet=<N>]
+                       --lat=<DEGREES> --lon=<DEGREES>
+       south and west need the equals sign: --lat=-33.9 --lon=-0.45",
+    after: "The other fields are 0, with type code 11 and capability 5 in the air, 7 and 4 on the ground.
+
+Examples:
+  squitter encode --kind=air --parity=even --address=40621D --feet=38000 --lat=52.2572021 --lon=3.9193726
+  squitter encode --kind=ground --parity=odd --address=484175 --lat=-33.9693 --lon=18.5972",
+};
+
+fn encode_command<'a>(alloc: Global) -> Result<Command<'a>, AllocError>
+    ensures app { IfOk result (λ c. app_of c ≡ encode) }
+    ensures own { IfOk result (λ c. (fields_of c).has_globals ≡ false) }
+{
+    encode_head(alloc)?
+        .arg(option(alloc, "feet", "N", FEET))?
+        .arg(required_option(alloc, "lat", "DEGREES", LAT))?
+        .arg(required_option(alloc, "lon", "DEGREES", LON))
+}
+
+// The options of `encode` up to the address.
+fn encode_head<'a>(alloc: Global) -> Result<Command<'a>, AllocError>
+    ensures app { IfOk result (λ c. app_of c ≡ encode_first) }
+    ensures own { IfOk result (λ c. (fields_of c).has_globals ≡ false) }
+{
+    command(alloc, "encode", ENCODE)
+        .arg(required_option(alloc, "kind", "air|ground", KIND))?
+        .arg(required_option(alloc, "parity", "even|odd", PARITY))?
+        .arg(required_option(alloc, "address", "HEX6", ADDRESS))
+}
+
+fn encode_request<'a>(values: &ArgMatches<'a>) -> Option<Request<'a>>
+    ensures some { IfSome result (λ request. IsAsked (codes "encode") (rows_of (found_of values.now))
+        (asked_by request)) }
+    ensures none { IfNone result ((asked : Asked) → ¬ IsAsked (codes "encode") (rows_of (found_of values.now)) asked) }
+{
+    Some(Request::Encode(EncodeWords {
+        kind: values.get_str("kind")?,
+        parity: values.get_str("parity")?,
+        address: values.get_str("address")?,
+        feet: values.get_str("feet"),
+        lat: values.get_str("lat")?,
+        lon: values.get_str("lon")?,
+    }))
+}
+
+const LOCAL: CommandHelp = CommandHelp {
+    about: "Decodes the place of one frame near a reference",
+    usage: "squitter local <FRAME> --lat=<DEGREES> --lon=<DEGREES>
+       south and west need the equals sign: --lat=-33.9 --lon=-0.45",
+    after: "Prints latitude and longitude with seven decimals, and again as exact fractions of a degree. The
+reference has to lie less than half a zone from the aircraft, in latitude and in longitude. Half a
+zone is 3 degrees of latitude in the air, and 0.75 on the ground.
+
+Example:
+  squitter local 8D40621D58C382D690C8AC2863A7 --lat=52.258 --lon=3.918",
+};
+
+fn local_command<'a>(alloc: Global) -> Result<Command<'a>, AllocError>
+    ensures app { IfOk result (λ c. app_of c ≡ local) }
+    ensures own { IfOk result (λ c. (fields_of c).has_globals ≡ false) }
+{
+    command(alloc, "local", LOCAL)
+        .arg(argument(alloc, "FRAME", FRAME))?
+        .arg(required_option(alloc, "lat", "DEGREES", NEAR_LAT))?
+        .arg(required_option(alloc, "lon", "DEGREES", NEAR_LON))
+}
+
+fn local_request<'a>(values: &ArgMatches<'a>) -> Option<Request<'a>>
+    ensures some { IfSome result (λ request. IsAsked (codes "local") (rows_of (found_of values.now))
+        (asked_by request)) }
+    ensures none { IfNone result ((asked : Asked) → ¬ IsAsked (codes "local") (rows_of (found_of values.now)) asked) }
+{
+    Some(Request::Local {
+        frame: values.get_str("FRAME")?,
+        lat: values.get_str("lat")?,
+        lon: values.get_str("lon")?,
+    })
+}
+
+const PAIR: CommandHelp = CommandHelp {
+    about: "Decodes the place of the newer of two frames, one even and one odd",
+    usage: "squitter pair <OLDER> <NEWER> [--lat=<DEGREES> --lon=<DEGREES>]
+       south and west need the equals sign: --lat=-33.9 --lon=-0.45",
+    after: "Prints latitude and longitude with seven decimals, and again as exact fractions of a degree.
+
+Examples:
+  squitter pair 8D40621D58C382D690C8AC2863A7 8D40621D58C386435CC412692AD6
+  squitter pair 8C4841753AAB238733C8CD4020B1 8C4841753A8A35323FAEBDAC702D --lat=51.99 --lon=4.375",
+};
+
+fn pair_command<'a>(alloc: Global) -> Result<Command<'a>, AllocError>
+    ensures app { IfOk result (λ c. app_of c ≡ pair) }
+    ensures own { IfOk result (λ c. (fields_of c).has_globals ≡ false) }
+{
+    command(alloc, "pair", PAIR)
+        .arg(argument(alloc, "OLDER", OLDER))?
+        .arg(argument(alloc, "NEWER", NEWER))?
+        .arg(option(alloc, "lat", "DEGREES", SITE_LAT))?
+        .arg(option(alloc, "lon", "DEGREES", SITE_LON))
+}
+
+fn pair_request<'a>(values: &ArgMatches<'a>) -> Option<Request<'a>>
+    ensures some { IfSome result (λ request. IsAsked (codes "pair") (rows_of (found_of values.now))
+        (asked_by request)) }
+    ensures none { IfNone result ((asked : Asked) → ¬ IsAsked (codes "pair") (rows_of (found_of values.now)) asked) }
+{
+    Some(Request::Pair {
+        older: values.get_str("OLDER")?,
+        newer: values.get_str("NEWER")?,
+        lat: values.get_str("lat"),
+        lon: values.get_str("lon"),
+    })
+}
+
+const CHECK: CommandHelp = CommandHelp {
+    about: "Reads frames from standard input, one a line, and answers each with a line",
+    usage: "squitter check [--format=<lines|csv|json>] < FRAMES",
+    after: "An answer is the number of the line, and then 'ok' with the address, the kind, the parity and the
+code of a good frame, or why the line is refused. Each line is answered before more input is awaited.
+As csv and json an answer has every field of the frame; 'squitter show' tells what each is.
+
+Examples:
+  squitter check < frames.txt
+  squitter check --format=json < frames.txt
+  rtl_adsb | squitter check",
+};
+
+fn check_command<'a>(alloc: Global) -> Result<Command<'a>, AllocError>
+    ensures app { IfOk result (λ c. app_of c ≡ check_line) }
+    ensures own { IfOk result (λ c. (fields_of c).has_globals ≡ false) }
+{
+    command(alloc, "check", CHECK).arg(option(alloc, "format", "FORMAT", FORMAT))
+}
+
+fn check_request<'a>(values: &ArgMatches<'a>) -> Request<'a>
+    ensures { IsAsked (codes "check") (rows_of (found_of values.now)) (asked_by result) }
+{
+    Request::Check {
+        format: values.get_str("format"),
+    }
+}
+
+const TRACK: CommandHelp = CommandHelp {
+    about: "Reads a log of frames from standard input, and answers each line with the place that it gives",
+    usage: "squitter track [--format=<lines|csv|json>] [--limit=<N>] [--window=<MS>]
+                      [--lat=<DEGREES> --lon=<DEGREES>] < LOG
+       south and west need the equals sign: --lat=-33.9 --lon=-0.45",
+    after: "A line of the log is a moment in milliseconds, one space, and a frame. An answer is the number of the
+line, and then what was heard: 'fix' of a pair or 'followed' from the last fix, with the address and
+the degrees; 'waiting' for a frame of the other parity; or why there is no place. As csv and json it
+has the line, moment, answer, address, kind, lat, lon and feet.
+
+Examples:
+  squitter track --lat=52.31 --lon=4.76 < flights.log
+  squitter track --format=csv < flights.log > flights.csv
+  squitter track --window=20000 --limit=5000 < flights.log",
+};
+
+fn track_command<'a>(alloc: Global) -> Result<Command<'a>, AllocError>
+    ensures app { IfOk result (λ c. app_of c ≡ track) }
+    ensures own { IfOk result (λ c. (fields_of c).has_globals ≡ false) }
+{
+    command(alloc, "track", TRACK)
+        .arg(option(alloc, "format", "FORMAT", FORMAT))?
+        .arg(option(alloc, "limit", "N", LIMIT))?
+        .arg(option(alloc, "window", "MS", WINDOW))?
+        .arg(option(alloc, "lat", "DEGREES", SITE_LAT))?
+        .arg(option(alloc, "lon", "DEGREES", SITE_LON))
+}
+
+fn track_request<'a>(values: &ArgMatches<'a>) -> Request<'a>
+    ensures { IsAsked (codes "track") (rows_of (found_of values.now)) (asked_by result) }
+{
+    Request::Track(TrackWords {
+        format: values.get_str("format"),
+        limit: values.get_str("limit"),
+        window: values.get_str("window"),
+        lat: values.get_str("lat"),
+        lon: values.get_str("lon"),
+    })
+}
+
+// What help says of arguments and options, some of which commands share.
+const FRAME: &str = "28 hexadecimal digits, bare or between '*' and ';'";
+
+const OLDER: &str = "The frame that came first: 28 hexadecimal digits, bare or between '*' and ';'";
+
+const NEWER: &str = "The frame that came last, of the same aircraft and the other parity";
+
+const KIND: &str = "In the air or on the ground";
+
+const PARITY: &str = "Which of the two grids: an aircraft sends even and odd frames in turn";
+
+const ADDRESS: &str = "The address, six hexadecimal digits, as 40621D";
+
+const FEET: &str = "The altitude in feet, in the air alone: a multiple of 25 from -1000
+to 50175, as --feet=-25. Left out, the frame has no altitude";
+
+const LAT: &str = "The latitude in degrees, from -90 to 90; south as --lat=-33.9";
+
+const LON: &str = "The longitude in degrees, from -180 to 180; west as --lon=-0.45";
+
+const NEAR_LAT: &str = "The reference's latitude in degrees, from -90 to 90; south as --lat=-33.9";
+
+const NEAR_LON: &str =
+    "The reference's longitude in degrees, from -180 to 180; west as --lon=-0.45";
+
+const SITE_LAT: &str = "The site's latitude in degrees, from -90 to 90; south as --lat=-33.9.
+Needed for aircraft on the ground alone, within 45 degrees of them";
+
+const SITE_LON: &str = "The site's longitude in degrees, from -180 to 180; west as --lon=-0.45.
+Give both or neither";
+
+const FORMAT: &str = "How answers are told: lines, csv or json, an object a line [default: lines]";
+
+const LIMIT: &str = "How many addresses are kept at most, from 1 to 4294967295 [default: 1000]";
+
+const WINDOW: &str = "How old a frame or a fix may be, in milliseconds, to be paired or
+followed, from 0 to 18446744073709551615 [default: 10000]";
+
+// The texts of a command: its sentence, its usage, and what follows the list of its options.
+#[derive(Clone, Copy)]
+struct CommandHelp {
+    about: &'static str,
+    usage: &'static str,
+    after: &'static str,
+}
+
+// A command with its help.
+fn command<'a>(alloc: Global, name: &'a str, help: CommandHelp) -> Command<'a>
+    ensures app { app_of result ≡ new_app name.entry.now }
+    ensures own { (fields_of result).has_globals ≡ false }
+{
+    Command::new(alloc, name)
+        .about(help.about)
+        .override_usage(help.usage)
+        .after_help(help.after)
+}
+
+// A word at its place.
+fn argument<'a>(alloc: Global, name: &'a str, help: &'a str) -> Arg<'a>
+    ensures rule { rule_of result ≡ required (new_rule name.entry.now) }
+    ensures here { result.global ≡ false }
+{
+    Arg::new(alloc, name).required(true).help(help)
+}
+
+// `--name VALUE` or `--name=VALUE`, where it is given; help calls the value by a name of its own.
+fn option<'a>(alloc: Global, name: &'a str, value: &'a str, help: &'a str) -> Arg<'a>
+    ensures rule { rule_of result ≡ option_rule name.entry.now }
+    ensures here { result.global ≡ false }
+{
+    Arg::new(alloc, name)
+        .long(name)
+        .value_name(value)
+        .help(help)
+}
+
+// `--name VALUE` or `--name=VALUE`, which has to be there.
+fn required_option<'a>(alloc: Global, name: &'a str, value: &'a str, help: &'a str) -> Arg<'a>
+    ensures rule { rule_of result ≡ required (option_rule name.entry.now) }
+    ensures here { result.global ≡ false }
+{
+    option(alloc, name, value, help).required(true)
+}

@@ -1,0 +1,13 @@
+//! The words of a command line, read by clap as a request.
+//!
+//! [`read_request`] returns the command that the words name, with its values, exactly as clap reads them. It refuses
+//! words only if clap finds a fault in them. Words without a fault ask for one thing, as [`laws`] says. No type of clap
+//! leaves this crate.
+#![tactic(auto)]
+
+mod command_line;
+pub mod laws;
+mod request;
+
+pub use request::{Refusal, read_request};
+pub use sq_requests::{EncodeWords, Request, TrackWords};

@@ -1,0 +1,68 @@
+//! What the words of a command line ask for.
+ghost use Rattle.std.specs.Prelude.{◌≡◌, ◌≢◌, IfErr, IfOk, map};
+ghost use Rattle.clap.specs.Words.{kind_of};
+ghost use Rattle.sq_requests.specs.Requests.{asked_by};
+ghost use Rattle.sq_words.specs.Requests.{Asks, IsFaulty};
+
+use crate::command_line::{request_of, squitter_command};
+use clap::error::ErrorKind;
+use sq_requests::Request;
+use std::alloc::{AllocError, Global};
+use thiserror::Error;
+
+/// The reason why no request was read.
+#[derive(Debug, Drop, Error)]
+pub enum Refusal {
+    /// An allocation failed.
+    #[error("out of memory")]
+    Memory,
+    /// clap found a fault in the words, or they ask for help: clap's text, in whole lines.
+    #[error("{0}")]
+    Words(String),
+}
+
+impl From<AllocError> for Refusal {
+    ghost use Rattle.sq_words.specs.declared.request.Refusal.TheVariants.{Memory};
+
+    ghost from_gives = { λ _ e. e ≡ Memory };
+
+    fn from(_error: AllocError) -> Refusal {
+        Refusal::Memory
+    }
+}
+
+/// The command that the words name, with its values. The first of the words is the program's name.
+///
+/// `Words` comes only for words in which clap finds a fault, a request for help among them, and
+/// `Memory` where an allocation fails.
+pub fn read_request<'a>(alloc: Global, words: &'a [&'a str]) -> Result<Request<'a>, Refusal>
+    ensures asks { IfOk result (λ request. Asks (map (λ word. word.now) words.entry.now) (asked_by request)) }
+    ensures refused { IfErr result (λ refusal. (text : _) → refusal ≡ Refusal.Words text
+        → IsFaulty (map (λ word. word.now) words.entry.now)) }
+{
+    let command = squitter_command(alloc)?;
+    let matches = match command.try_get_matches_from(words) {
+        Ok(matches) => matches,
+        Err(error) => return Err(refusal_of(alloc, &error)),
+    };
+    let Some((name, values)) = matches.subcommand() else {
+        unreachable!()
+    };
+    match request_of(name, values) {
+        Some(request) => Ok(request),
+        None => unreachable!(),
+    }
+}
+
+// Memory, or clap's text.
+fn refusal_of(alloc: Global, error: &clap::Error) -> Refusal
+    ensures { (text : _) → result ≡ Refusal.Words text → kind_of error.now ≢ ErrorKind.OutOfMemory }
+{
+    if error.kind() == ErrorKind::OutOfMemory {
+        return Refusal::Memory;
+    }
+    match error.to_string(alloc) {
+        Ok(text) => Refusal::Words(text),
+        Err(_) => Refusal::Memory,
+    }
+}
