@@ -1,0 +1,95 @@
+//! What the program comes to on a command line and an input.
+use sq_devices::{Reading, Sink, Source, Writing};
+use sq_tool::run;
+use std::alloc::Global;
+use std::io::{Read, Write};
+use std::process::Abort;
+
+/// A command line with its input, and what it comes to: the exit status, the output and the report.
+#[derive(Clone, Copy)]
+pub(crate) struct Row {
+    pub(crate) name: &'static str,
+    pub(crate) words: &'static [&'static str],
+    pub(crate) input: &'static [u8],
+    pub(crate) status: u8,
+    pub(crate) written: &'static str,
+    pub(crate) reported: &'static str,
+}
+
+/// What a run came to.
+#[derive(Drop)]
+pub(crate) struct Ran {
+    pub(crate) status: u8,
+    pub(crate) written: Vec<u8>,
+    pub(crate) reported: Vec<u8>,
+}
+
+// `run`, whose clauses no test needs.
+pub(crate) fn status_of(
+    alloc: Global,
+    words: &[&str],
+    input: &mut impl Source,
+    output: &mut impl Sink,
+    faults: &mut impl Sink,
+) -> u8 {
+    run(alloc, words, input, output, faults)
+}
+
+// A source and a sink, without the clauses.
+pub(crate) fn source_of<R: Read>(reader: R) -> Reading<R> {
+    Reading::new(reader, 1_000_000)
+}
+
+pub(crate) fn sink_of<W: Write>(writer: W) -> Writing<W> {
+    Writing::new(writer)
+}
+
+pub(crate) fn taken<W: Write>(sink: Writing<W>) -> W {
+    sink.into_inner()
+}
+
+/// What a command line comes to on an input, with these texts to write and to report to.
+pub(crate) fn run_into(
+    alloc: Global,
+    words: &[&str],
+    reader: impl Read + Drop,
+    written: Vec<u8>,
+    reported: Vec<u8>,
+) -> Ran {
+    let mut input = source_of(reader);
+    let mut output = sink_of(written);
+    let mut faults = sink_of(reported);
+    let status = status_of(alloc, words, &mut input, &mut output, &mut faults);
+    Ran {
+        status,
+        written: taken(output),
+        reported: taken(faults),
+    }
+}
+
+/// What a command line comes to on an input.
+pub(crate) fn run_on(alloc: Global, words: &[&str], reader: impl Read + Drop) -> Ran {
+    run_into(alloc, words, reader, Vec::new(alloc), Vec::new(alloc))
+}
+
+/// Asserts what a run came to.
+pub(crate) fn assert_ran(rt: &impl Abort, ran: &Ran, row: &Row) {
+    assert!(rt;
+        ran.written.as_slice() == row.written.as_bytes(),
+        "{}",
+        row.name
+    );
+    assert!(rt;
+        ran.reported.as_slice() == row.reported.as_bytes(),
+        "{}",
+        row.name
+    );
+    assert!(rt; ran.status == row.status, "{}", row.name);
+}
+
+/// Asserts what each command line comes to.
+pub(crate) fn assert_rows(rt: &impl Abort, alloc: Global, rows: &[Row]) {
+    for row in rows {
+        assert_ran(rt, &run_on(alloc, row.words, row.input), row);
+    }
+}
