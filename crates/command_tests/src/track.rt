@@ -9,6 +9,7 @@ use sq_requests::{Request, TrackWords};
 use sq_track::Tracker;
 use std::alloc::Global;
 use std::process::Abort;
+use std::test::Fail;
 
 // A log with a limit.
 fn with_limit(limit: Option<&str>) -> Request<'_> {
@@ -157,4 +158,111 @@ fn hears_the_line_that_cannot_be_written(rt: HostRuntime) {
     assert_heard_in(&rt, rt.alloc(), 17, 2, 1);
     assert_heard_in(&rt, rt.alloc(), 33, 2, 1);
     assert_heard_in(&rt, rt.alloc(), 67, 2, 2);
+}
+
+// A pair within the window, and a log whose last moment goes back.
+const PAIR: &[u8] = b"0 8D40621D58C382D690C8AC2863A7\n10000 8D40621D58C386435CC412692AD6\n";
+
+const BACK: &[u8] =
+    b"0 8D40621D58C382D690C8AC2863A7\n9000 8D40621D58C382D690C8AC2863A7\n15000 8D40621D58C386435CC412692AD6\n14999 8D40621D58C382D690C8AC2863A7\n";
+
+const BACK_ANSWERS: &[u8] =
+    b"1 waiting 40621D\n2 waiting 40621D\n3 fix 40621D 52.2657802 3.9389125\n4 moment back 15000\n";
+
+// A table of one that is full at first.
+const FULL: &[u8] =
+    b"0 8D40621D58C382D690C8AC2863A7\n10000 8C4841753AAB238733C8CD4020B1\n10001 8C4841753AAB238733C8CD4020B1\n10001 8C4841753A8A35323FAEBDAC702D\n";
+
+const FULL_ANSWERS: &[u8] = b"1 waiting 40621D\n2 table full\n3 waiting 484175\n4 no site 484175\n";
+
+// Hears a log into a tracker that is there, without the clauses.
+fn hear_into(
+    source: &mut impl Source,
+    sink: &mut impl Sink,
+    tracker: &mut Tracker,
+) -> Result<Tally, RunFault> {
+    run_track(source, sink, tracker)
+}
+
+// Asserts the only address that a tracker shows, with its moment.
+fn assert_alone(rt: &impl Abort, tracker: &Tracker, address: u32, moment: u64) {
+    assert!(rt; tracker.len() == 1);
+    assert!(rt; tracker.get(0) == Some((address, moment)));
+    assert!(rt; tracker.get(1).is_none());
+}
+
+// Asserts the answers to a log, its tally, and the address that its tracker shows afterwards.
+fn assert_tracked(
+    rt: &impl Abort,
+    alloc: Global,
+    tracker: &mut Tracker,
+    log: &'static [u8],
+    tally: Tally,
+    answers: &[u8],
+) {
+    let mut sink = sink_of(Vec::new(alloc));
+    assert!(rt; hear_into(&mut source_of(log), &mut sink, tracker) == Ok(tally));
+    assert!(rt; taken(sink).as_slice() == answers);
+}
+
+#[test]
+fn hears_into_the_tracker_that_is_given(rt: HostRuntime) -> Result<(), Fail> {
+    let mut back = Tracker::new(rt.alloc(), 1000, 10_000, None)?;
+    let one_refused = Tally {
+        good: 3,
+        refused: 1,
+    };
+    assert_tracked(&rt, rt.alloc(), &mut back, BACK, one_refused, BACK_ANSWERS);
+    assert_alone(&rt, &back, 0x40621D, 15_000);
+    let mut full = Tracker::new(rt.alloc(), 1, 10_000, None)?;
+    assert_tracked(&rt, rt.alloc(), &mut full, FULL, one_refused, FULL_ANSWERS);
+    assert_alone(&rt, &full, 0x484175, 10_001);
+    Ok(())
+}
+
+#[test]
+fn hears_one_line_before_a_write_fails(rt: HostRuntime) -> Result<(), Fail> {
+    let mut tracker = Tracker::new(rt.alloc(), 1000, 10_000, None)?;
+    let mut sink = sink_of(room_of(rt.alloc(), 0, End::Error));
+    let ended = hear_into(&mut source_of(PAIR), &mut sink, &mut tracker);
+    assert!(rt; ended == Err(RunFault::Write));
+    assert!(rt; taken(sink).taken.is_empty());
+    assert_alone(&rt, &tracker, 0x40621D, 0);
+    Ok(())
+}
+
+// How a log ended whose answers have their room before it begins; `None` where that room is refused.
+fn hear_in_room(
+    alloc: Global,
+    tracker: &mut Tracker,
+    log: &'static [u8],
+) -> Option<(Result<Tally, RunFault>, Vec<u8>)> {
+    let Ok(room) = Vec::with_capacity(alloc, 256) else {
+        return None;
+    };
+    let mut sink = sink_of(room);
+    let ended = hear_into(&mut source_of(log), &mut sink, tracker);
+    Some((ended, taken(sink)))
+}
+
+// Goes through as it stands, and also where any one allocation fails: then nothing was answered, the tracker is empty,
+// and the same log with memory is answered as it should be. `hostile/growths` refuses them one after another.
+#[test]
+fn a_log_whose_growths_are_refused(rt: HostRuntime) -> Result<(), Fail> {
+    let Ok(mut tracker) = Tracker::new(rt.alloc(), 1000, 10_000, None) else {
+        return Ok(());
+    };
+    let Some((ended, written)) = hear_in_room(rt.alloc(), &mut tracker, BACK) else {
+        return Ok(());
+    };
+    if ended == Err(RunFault::Memory) {
+        assert!(rt; written.is_empty());
+        assert!(rt; tracker.len() == 0);
+        let (ended, written) = hear_in_room(rt.alloc(), &mut tracker, BACK).expect(&rt, "room");
+        assert!(rt; ended.is_ok() && written.as_slice() == BACK_ANSWERS);
+    } else {
+        assert!(rt; ended.is_ok() && written.as_slice() == BACK_ANSWERS);
+    }
+    assert_alone(&rt, &tracker, 0x40621D, 15_000);
+    Ok(())
 }
