@@ -1106,7 +1106,7 @@
 	add	x8, sp, #5, lsl #12
 	add	x0, sp, #5, lsl #12
 	str	x9, [sp, #21720]
-	mov	w9, #301
+	mov	w9, #399
 	add	x8, x8, #1008
 	str	x9, [sp, #21816]
 	add	x9, x8, #392
@@ -2486,7 +2486,7 @@
 	movi	v0.2d, #0000000000000000
 	mov	w9, #5
 	str	x10, [sp, #23768]
-	mov	w10, #404
+	mov	w10, #485
 	ldr	q1, [sp, #96]
 	str	x10, [sp, #23864]
 	add	x10, sp, #5, lsl #12
@@ -2513,7 +2513,7 @@
 	add	x0, x0, #3744
 	add	x1, x1, #3056
 	str	q0, [x11]
-	mov	w11, #51
+	mov	w11, #135
 	add	x2, x2, #2368
 	str	x11, [sp, #23984]
 	add	x11, x10, #584
@@ -5791,7 +5791,7 @@
 	adrp	x8, .Lstatic.60
 	add	x8, x8, :lo12:.Lstatic.60
 	str	x9, [sp, #3304]
-	mov	w9, #549
+	mov	w9, #630
 	mov	w23, #1
 	str	x8, [sp, #3392]
 	add	x8, sp, #3072
@@ -5810,7 +5810,7 @@
 	stp	q1, q1, [x9, #48]
 	stp	q1, q1, [x9, #80]
 	str	q1, [x9]
-	mov	w9, #202
+	mov	w9, #294
 	str	x9, [sp, #3520]
 	add	x9, x8, #584
 	add	x8, x8, #632
@@ -93945,8 +93945,8 @@ main:
 	.type	.Lstatic.24,@object
 	.section	.rodata..Lstatic.24,"a",@progbits
 .Lstatic.24:
-	.ascii	"The other fields are 0, with type code 11 and capability 5 in the air, 7 and 4 on the ground.\n\nExamples:\n  squitter encode --kind=air --parity=even --address=40621D --feet=38000 --lat=52.2572021 --lon=3.9193726\n  squitter encode --kind=ground --parity=odd --address=484175 --lat=-33.9693 --lon=18.5972"
-	.size	.Lstatic.24, 301
+	.ascii	"The other fields are 0, with type code 11 and capability 5 in the air, 7 and 4 on the ground.\n'bad feet' says that --feet is no multiple of 25 from -1000 to 50175, or that the kind is ground.\n\nExamples:\n  squitter encode --kind=air --parity=even --address=40621D --feet=38000 --lat=52.2572021 --lon=3.9193726\n  squitter encode --kind=ground --parity=odd --address=484175 --lat=-33.9693 --lon=18.5972"
+	.size	.Lstatic.24, 399
 
 	.type	.Lstatic.25,@object
 	.section	.rodata.cst4,"aM",@progbits,4
@@ -94113,14 +94113,14 @@ main:
 	.type	.Lstatic.52,@object
 	.section	.rodata..Lstatic.52,"a",@progbits
 .Lstatic.52:
-	.ascii	"squitter check [--format=<lines|csv|json>] < FRAMES"
-	.size	.Lstatic.52, 51
+	.ascii	"squitter check [--format=<lines|csv|json>] < FRAMES\n       it waits for standard input; lines with a timestamp are for 'squitter track'"
+	.size	.Lstatic.52, 135
 
 	.type	.Lstatic.53,@object
 	.section	.rodata..Lstatic.53,"a",@progbits
 .Lstatic.53:
-	.ascii	"An answer is the number of the line, and then 'ok' with the address, the kind, the parity and the\ncode of a good frame, or why the line is refused. Each line is answered before more input is awaited.\nAs csv and json an answer has every field of the frame; 'squitter show' tells what each is.\n\nExamples:\n  squitter check < frames.txt\n  squitter check --format=json < frames.txt\n  rtl_adsb | squitter check"
-	.size	.Lstatic.53, 404
+	.ascii	"An answer is the number of the line, and then 'ok' with the address, the kind, the parity and the\ncode of a good frame, or why the line is refused. Each line is answered before more input is awaited.\nAs csv and json an answer has every field of the frame; 'squitter show' tells what each is.\nIf its output is closed, as by 'head', it ends with 'write failed' and status 3.\n\nExamples:\n  squitter check < frames.txt\n  squitter check --format=json < frames.txt\n  rtl_adsb | squitter check"
+	.size	.Lstatic.53, 485
 
 	.type	.Lstatic.54,@object
 	.section	.rodata..Lstatic.54,"a",@progbits
@@ -94155,14 +94155,14 @@ main:
 	.type	.Lstatic.59,@object
 	.section	.rodata..Lstatic.59,"a",@progbits
 .Lstatic.59:
-	.ascii	"squitter track [--format=<lines|csv|json>] [--limit=<N>] [--window=<MS>]\n                      [--lat=<DEGREES> --lon=<DEGREES>] < LOG\n       south and west need the equals sign: --lat=-33.9 --lon=-0.45"
-	.size	.Lstatic.59, 202
+	.ascii	"squitter track [--format=<lines|csv|json>] [--limit=<N>] [--window=<MS>]\n                      [--lat=<DEGREES> --lon=<DEGREES>] < LOG\n       it waits for standard input; 'squitter-feed' adds timestamps to lines that lack them\n       south and west need the equals sign: --lat=-33.9 --lon=-0.45"
+	.size	.Lstatic.59, 294
 
 	.type	.Lstatic.60,@object
 	.section	.rodata..Lstatic.60,"a",@progbits
 .Lstatic.60:
-	.ascii	"A line of the log is a moment in milliseconds, one space, and a frame. An answer is the number of the\nline, and then what was heard: 'fix' of a pair or 'followed' from the last fix, with the address and\nthe degrees; 'waiting' for a frame of the other parity; or why there is no place. As csv and json it\nhas the line, moment, answer, address, kind, lat, lon and feet.\n\nExamples:\n  squitter track --lat=52.31 --lon=4.76 < flights.log\n  squitter track --format=csv < flights.log > flights.csv\n  squitter track --window=20000 --limit=5000 < flights.log"
-	.size	.Lstatic.60, 549
+	.ascii	"A line of the log is a moment in milliseconds, one space, and a frame. An answer is the number of the\nline, and then what was heard: 'fix' of a pair or 'followed' from the last fix, with the address and\nthe degrees; 'waiting' for a frame of the other parity; or why there is no place. As csv and json it\nhas the line, moment, answer, address, kind, lat, lon and feet. If its output is closed, as by\n'head', it ends with 'write failed' and status 3.\n\nExamples:\n  squitter track --lat=52.31 --lon=4.76 < flights.log\n  squitter track --format=csv < flights.log > flights.csv\n  squitter track --window=20000 --limit=5000 < flights.log"
+	.size	.Lstatic.60, 630
 
 	.type	.Lstatic.61,@object
 	.section	.rodata..Lstatic.61,"a",@progbits

@@ -1060,7 +1060,7 @@
 	movq	$1, 10344(%rsp)
 	leaq	.Lstatic.24(%rip), %rax
 	movq	%rax, 10352(%rsp)
-	movq	$301, 10360(%rsp)
+	movq	$399, 10360(%rsp)
 	movdqu	%xmm0, 10368(%rsp)
 	movq	$0, 10384(%rsp)
 	leaq	8(%rsp), %rbp
@@ -2174,7 +2174,7 @@
 	movq	$1, 520(%rsp)
 	leaq	.Lstatic.53(%rip), %rax
 	movq	%rax, 528(%rsp)
-	movq	$404, 536(%rsp)
+	movq	$485, 536(%rsp)
 	movdqu	%xmm0, 544(%rsp)
 	movq	$0, 560(%rsp)
 	movq	%rbp, 568(%rsp)
@@ -2186,7 +2186,7 @@
 	movq	$1, 640(%rsp)
 	leaq	.Lstatic.52(%rip), %rax
 	movq	%rax, 648(%rsp)
-	movq	$51, 656(%rsp)
+	movq	$135, 656(%rsp)
 	movdqu	%xmm0, 760(%rsp)
 	movdqu	%xmm0, 744(%rsp)
 	movdqu	%xmm0, 728(%rsp)
@@ -5514,7 +5514,7 @@
 	movq	$1, 3360(%rsp)
 	leaq	.Lstatic.60(%rip), %rax
 	movq	%rax, 3368(%rsp)
-	movq	$549, 3376(%rsp)
+	movq	$630, 3376(%rsp)
 	movups	%xmm0, 3384(%rsp)
 	movq	$0, 3400(%rsp)
 	movq	%rsp, %r15
@@ -5527,7 +5527,7 @@
 	movq	$1, 3480(%rsp)
 	leaq	.Lstatic.59(%rip), %rax
 	movq	%rax, 3488(%rsp)
-	movq	$202, 3496(%rsp)
+	movq	$294, 3496(%rsp)
 	movups	%xmm0, 3600(%rsp)
 	movups	%xmm0, 3584(%rsp)
 	movups	%xmm0, 3568(%rsp)
@@ -99708,8 +99708,8 @@ main:
 	.type	.Lstatic.24,@object
 	.section	.rodata..Lstatic.24,"a",@progbits
 .Lstatic.24:
-	.ascii	"The other fields are 0, with type code 11 and capability 5 in the air, 7 and 4 on the ground.\n\nExamples:\n  squitter encode --kind=air --parity=even --address=40621D --feet=38000 --lat=52.2572021 --lon=3.9193726\n  squitter encode --kind=ground --parity=odd --address=484175 --lat=-33.9693 --lon=18.5972"
-	.size	.Lstatic.24, 301
+	.ascii	"The other fields are 0, with type code 11 and capability 5 in the air, 7 and 4 on the ground.\n'bad feet' says that --feet is no multiple of 25 from -1000 to 50175, or that the kind is ground.\n\nExamples:\n  squitter encode --kind=air --parity=even --address=40621D --feet=38000 --lat=52.2572021 --lon=3.9193726\n  squitter encode --kind=ground --parity=odd --address=484175 --lat=-33.9693 --lon=18.5972"
+	.size	.Lstatic.24, 399
 
 	.type	.Lstatic.25,@object
 	.section	.rodata.cst4,"aM",@progbits,4
@@ -99876,14 +99876,14 @@ main:
 	.type	.Lstatic.52,@object
 	.section	.rodata..Lstatic.52,"a",@progbits
 .Lstatic.52:
-	.ascii	"squitter check [--format=<lines|csv|json>] < FRAMES"
-	.size	.Lstatic.52, 51
+	.ascii	"squitter check [--format=<lines|csv|json>] < FRAMES\n       it waits for standard input; lines with a timestamp are for 'squitter track'"
+	.size	.Lstatic.52, 135
 
 	.type	.Lstatic.53,@object
 	.section	.rodata..Lstatic.53,"a",@progbits
 .Lstatic.53:
-	.ascii	"An answer is the number of the line, and then 'ok' with the address, the kind, the parity and the\ncode of a good frame, or why the line is refused. Each line is answered before more input is awaited.\nAs csv and json an answer has every field of the frame; 'squitter show' tells what each is.\n\nExamples:\n  squitter check < frames.txt\n  squitter check --format=json < frames.txt\n  rtl_adsb | squitter check"
-	.size	.Lstatic.53, 404
+	.ascii	"An answer is the number of the line, and then 'ok' with the address, the kind, the parity and the\ncode of a good frame, or why the line is refused. Each line is answered before more input is awaited.\nAs csv and json an answer has every field of the frame; 'squitter show' tells what each is.\nIf its output is closed, as by 'head', it ends with 'write failed' and status 3.\n\nExamples:\n  squitter check < frames.txt\n  squitter check --format=json < frames.txt\n  rtl_adsb | squitter check"
+	.size	.Lstatic.53, 485
 
 	.type	.Lstatic.54,@object
 	.section	.rodata..Lstatic.54,"a",@progbits
@@ -99918,14 +99918,14 @@ main:
 	.type	.Lstatic.59,@object
 	.section	.rodata..Lstatic.59,"a",@progbits
 .Lstatic.59:
-	.ascii	"squitter track [--format=<lines|csv|json>] [--limit=<N>] [--window=<MS>]\n                      [--lat=<DEGREES> --lon=<DEGREES>] < LOG\n       south and west need the equals sign: --lat=-33.9 --lon=-0.45"
-	.size	.Lstatic.59, 202
+	.ascii	"squitter track [--format=<lines|csv|json>] [--limit=<N>] [--window=<MS>]\n                      [--lat=<DEGREES> --lon=<DEGREES>] < LOG\n       it waits for standard input; 'squitter-feed' adds timestamps to lines that lack them\n       south and west need the equals sign: --lat=-33.9 --lon=-0.45"
+	.size	.Lstatic.59, 294
 
 	.type	.Lstatic.60,@object
 	.section	.rodata..Lstatic.60,"a",@progbits
 .Lstatic.60:
-	.ascii	"A line of the log is a moment in milliseconds, one space, and a frame. An answer is the number of the\nline, and then what was heard: 'fix' of a pair or 'followed' from the last fix, with the address and\nthe degrees; 'waiting' for a frame of the other parity; or why there is no place. As csv and json it\nhas the line, moment, answer, address, kind, lat, lon and feet.\n\nExamples:\n  squitter track --lat=52.31 --lon=4.76 < flights.log\n  squitter track --format=csv < flights.log > flights.csv\n  squitter track --window=20000 --limit=5000 < flights.log"
-	.size	.Lstatic.60, 549
+	.ascii	"A line of the log is a moment in milliseconds, one space, and a frame. An answer is the number of the\nline, and then what was heard: 'fix' of a pair or 'followed' from the last fix, with the address and\nthe degrees; 'waiting' for a frame of the other parity; or why there is no place. As csv and json it\nhas the line, moment, answer, address, kind, lat, lon and feet. If its output is closed, as by\n'head', it ends with 'write failed' and status 3.\n\nExamples:\n  squitter track --lat=52.31 --lon=4.76 < flights.log\n  squitter track --format=csv < flights.log > flights.csv\n  squitter track --window=20000 --limit=5000 < flights.log"
+	.size	.Lstatic.60, 630
 
 	.type	.Lstatic.61,@object
 	.section	.rodata..Lstatic.61,"a",@progbits

@@ -112,6 +112,7 @@ const ENCODE: CommandHelp = CommandHelp {
                        --lat=<DEGREES> --lon=<DEGREES>
        south and west need the equals sign: --lat=-33.9 --lon=-0.45",
     after: "The other fields are 0, with type code 11 and capability 5 in the air, 7 and 4 on the ground.
+'bad feet' says that --feet is no multiple of 25 from -1000 to 50175, or that the kind is ground.
 
 Examples:
   squitter encode --kind=air --parity=even --address=40621D --feet=38000 --lat=52.2572021 --lon=3.9193726
@@ -225,10 +226,12 @@ fn pair_request<'a>(values: &ArgMatches<'a>) -> Option<Request<'a>>
 
 const CHECK: CommandHelp = CommandHelp {
     about: "Reads frames from standard input, one a line, and answers each with a line",
-    usage: "squitter check [--format=<lines|csv|json>] < FRAMES",
+    usage: "squitter check [--format=<lines|csv|json>] < FRAMES
+       it waits for standard input; lines with a timestamp are for 'squitter track'",
     after: "An answer is the number of the line, and then 'ok' with the address, the kind, the parity and the
 code of a good frame, or why the line is refused. Each line is answered before more input is awaited.
 As csv and json an answer has every field of the frame; 'squitter show' tells what each is.
+If its output is closed, as by 'head', it ends with 'write failed' and status 3.
 
 Examples:
   squitter check < frames.txt
@@ -255,11 +258,13 @@ const TRACK: CommandHelp = CommandHelp {
     about: "Reads a log of frames from standard input, and answers each line with the place that it gives",
     usage: "squitter track [--format=<lines|csv|json>] [--limit=<N>] [--window=<MS>]
                       [--lat=<DEGREES> --lon=<DEGREES>] < LOG
+       it waits for standard input; 'squitter-feed' adds timestamps to lines that lack them
        south and west need the equals sign: --lat=-33.9 --lon=-0.45",
     after: "A line of the log is a moment in milliseconds, one space, and a frame. An answer is the number of the
 line, and then what was heard: 'fix' of a pair or 'followed' from the last fix, with the address and
 the degrees; 'waiting' for a frame of the other parity; or why there is no place. As csv and json it
-has the line, moment, answer, address, kind, lat, lon and feet.
+has the line, moment, answer, address, kind, lat, lon and feet. If its output is closed, as by
+'head', it ends with 'write failed' and status 3.
 
 Examples:
   squitter track --lat=52.31 --lon=4.76 < flights.log
