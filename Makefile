@@ -38,7 +38,7 @@ dist:
 install: all
 	install -D -m 755 "$(PROGRAM)" $(DESTDIR)$(PREFIX)/bin/squitter
 	install -D -m 755 -t $(DESTDIR)$(PREFIX)/bin feeds/squitter-feed feeds/squitter-geojson
-	install -D -m 644 feeds/squitter_feed.py $(DESTDIR)$(share)/squitter/squitter_feed.py
+	install -D -m 644 -t $(DESTDIR)$(share)/squitter feeds/squitter_*.py
 	for name in squitter squitter-feed squitter-geojson; do \
 	  install -D -m 644 man/$$name.1 $(DESTDIR)$(share)/man/man1/$$name.1 && \
 	  install -D -m 644 completions/$$name.bash $(DESTDIR)$(share)/bash-completion/completions/$$name && \
@@ -55,5 +55,5 @@ uninstall:
 	  rm -f $(DESTDIR)$(PREFIX)/bin/$$name $(DESTDIR)$(share)/man/man1/$$name.1 $(DESTDIR)$(FISHDIR)/$$name.fish \
 	    $(DESTDIR)$(share)/bash-completion/completions/$$name $(DESTDIR)$(ZSHDIR)/_$$name || exit; \
 	done
-	rm -f $(DESTDIR)$(share)/squitter/squitter_feed.py
+	rm -f $(patsubst feeds/%,$(DESTDIR)$(share)/squitter/%,$(wildcard feeds/squitter_*.py))
 	rmdir $(DESTDIR)$(share)/squitter 2> /dev/null || true

@@ -14,7 +14,7 @@ _squitter_feed() {
         --save | *[\<\>]) return ;;
     esac
     case $word in
-        -*) COMPREPLY=($(compgen -W "--reorder --leap --arrival --all --save --help" -- "$word")) ;;
+        -*) COMPREPLY=($(compgen -W "--reorder --leap --arrival --all --save --help --version" -- "$word")) ;;
     esac
 }
 

@@ -8,7 +8,7 @@ import csv
 import heapq
 import re
 from collections import Counter
-from typing import Callable, Dict, Iterator, List, NamedTuple, Optional, Tuple, Type
+from typing import Callable, Dict, Iterable, Iterator, List, NamedTuple, Optional, Tuple, Type, Union
 
 LONGEST_LINE = 4096  # bytes
 UNDECIDED = 16_384  # bytes within which a format has to show itself
@@ -31,6 +31,13 @@ MARKED = re.compile(
 BARE = re.compile(FRAME)
 LOGGED = re.compile(rb"(\d{1,20}) \*?(%b);?" % FRAME)
 SECONDS = re.compile(r"(\d{1,12})(?:\.(\d*))?")
+SQUITTER_DIGITS = "8[89A-F][0-9A-F]{26}"
+OTHER_LINE = r"([^\n]*)\n"
+# A line of a log with a squitter: the moment, its last three digits apart, and the frame. Else the whole line.
+PLAIN_LOG = re.compile(rf"([0-9]{{1,16}})([0-9]{{3}}) \*?({SQUITTER_DIGITS});?\r?\n|{OTHER_LINE}")
+CELL = r"[ !#-+\--~]{0,64}"  # a cell of CSV without quotes
+PLAIN_COLUMNS = 16  # a table whose time or frame stands further behind is read row by row
+PRINTABLE = re.compile(rb"[\t -~]*")  # bytes by chance are no line that shows a format
 SBS = re.compile(rb"(?:MSG|SEL|ID|AIR|STA|CLK),\d*,")
 
 ESCAPE = b"\x1a"
@@ -38,13 +45,21 @@ BEAST_BYTE = rb"(?:[^\x1a]|\x1a\x1a)"
 # Six bytes of clock and one of signal, and then a frame of 2, 7 or 14 bytes. An escape within is doubled.
 BEAST = re.compile(rb"\x1a(?:1(%b{9})|2(%b{14})|3(%b{21}))" % (BEAST_BYTE, BEAST_BYTE, BEAST_BYTE), re.S)
 BEAST_DATA = re.compile(rb"(?:[^\x1a]+|\x1a\x1a)*", re.S)
-BEAST_STATUS = b"\x1a4"  # what a receiver says of itself
+BEAST_STATUS = b"\x1a4"  # what a receiver says of itself, as long as a frame of 14 bytes
+BEAST_MESSAGE = rb"\x1a(?:1%b{9}|2%b{14}|[34]%b{21})" % (BEAST_BYTE, BEAST_BYTE, BEAST_BYTE)
+BEAST_CUT = rb"\x1a(?:(?:1%b{0,8}|2%b{0,13}|[34]%b{0,20})\x1a?)?" % (BEAST_BYTE, BEAST_BYTE, BEAST_BYTE)
+BEAST_LONGEST = 2 + 2 * 21  # bytes of a message
+BEAST_RUN = 3  # messages that follow each other directly, by which a source is Beast
+BEAST_BEGUN = re.compile(rb"(?=((?:%b){%d}))" % (BEAST_MESSAGE, BEAST_RUN), re.S)
+# A source that ends before it has so many: whole messages alone, and the start of one that was cut off.
+BEAST_SHORT = re.compile(rb"(?:%b)+(?:%b)?" % (BEAST_MESSAGE, BEAST_CUT), re.S)
+TAR, TAR_AT = b"ustar", 257
 
 REFUSED_SBS = (
     "this is SBS (BaseStation) text, which has places and no frames: give the receiver's Beast port (30005) or its raw "
     "port (30002)"
 )
-REFUSED_GZIP = "this is compressed: gunzip -c FILE | squitter-feed -"
+REFUSED_TAR = "this is a tar archive: tar -xOf FILE | squitter-feed -"
 REFUSED_UNKNOWN = (
     "no frame is in its first bytes: a feed is AVR text, Beast binary, CSV of time,icao24,rawmsg, or a log of track"
 )
@@ -73,18 +88,26 @@ class Lines:
         self.skipping = False
         self.long = 0
 
-    def split(self, data: bytes) -> List[bytes]:
-        *lines, self.rest = (self.rest + data).split(b"\n")
+    def whole(self, data: bytes) -> bytes:
+        """Returns the lines that are complete now, each with its line feed."""
+        data = self.rest + data
+        end = data.rfind(b"\n") + 1
+        lines, self.rest = data[:end], data[end:]
         if self.skipping and lines:
-            del lines[0]
+            lines = lines[lines.index(b"\n") + 1 :]
             self.skipping = False
-        kept = [line for line in lines if len(line) <= LONGEST_LINE]
-        self.long += len(lines) - len(kept)
         if self.skipping:
             self.rest = b""
         elif len(self.rest) > LONGEST_LINE:
             self.rest, self.skipping = b"", True
             self.long += 1
+        return lines
+
+    def split(self, data: bytes) -> List[bytes]:
+        """Returns the lines that are complete now, but for those that are too long."""
+        lines = self.whole(data).split(b"\n")[:-1]
+        kept = [line for line in lines if len(line) <= LONGEST_LINE]
+        self.long += len(lines) - len(kept)
         return kept
 
     def last(self) -> List[bytes]:
@@ -105,6 +128,10 @@ class Format:
         raise NotImplementedError
 
     def last(self) -> Iterator[Heard]:
+        raise NotImplementedError
+
+    def drop(self) -> None:
+        """Drops what is unfinished, and counts it as damaged: its source was lost."""
         raise NotImplementedError
 
 
@@ -128,6 +155,34 @@ class TextFormat(Format):
         for line in self.lines.last():
             yield from self.frames(line.strip())
 
+    def drop(self) -> None:
+        self.damaged += sum(1 for line in self.lines.last() if line.strip())
+
+
+class TimedText(TextFormat):
+    """A format whose lines have times of their own. Plain rows, as most are, are read many at a time."""
+
+    plain: re.Pattern[str]
+
+    def text(self, data: bytes) -> str:
+        """Returns the lines that are complete now, in upper case."""
+        long = self.lines.long
+        whole = self.lines.whole(data)
+        self.damaged += self.lines.long - long
+        return whole.upper().decode("latin-1")
+
+    def rows(self, text: str) -> List[Tuple[str, str, str, str]]:
+        """Returns the digits of the seconds, up to three of the decimals, and the squitter of each plain row; or four
+        texts of which the last alone is not empty, a line that is no such row."""
+        return self.plain.findall(text)
+
+    def line(self, text: str) -> Iterator[Heard]:
+        """The frames of a line that is no plain row."""
+        if len(text) <= LONGEST_LINE:
+            return self.frames(text.encode("latin-1").strip())
+        self.damaged += 1
+        return iter(())
+
 
 class AvrText(TextFormat):
     """Frames between `*` and `;`, between `@` with twelve digits of clock and `;`, or bare on a line."""
@@ -147,10 +202,11 @@ class AvrText(TextFormat):
         self.damaged += read < len(line.replace(b" ", b""))
 
 
-class LogText(TextFormat):
+class LogText(TimedText):
     """The log that `track` reads: a moment in milliseconds and a frame on each line."""
 
     name = "log"
+    plain = PLAIN_LOG
 
     def frames(self, line: bytes) -> Iterator[Heard]:
         logged = LOGGED.fullmatch(line)
@@ -160,14 +216,30 @@ class LogText(TextFormat):
             self.damaged += bool(line)
 
 
-class CsvText(TextFormat):
+class CsvText(TimedText):
     """Rows with the columns time, in seconds, icao24 and rawmsg. A first row of names may put them in another order."""
 
     name = "CSV"
 
     def __init__(self) -> None:
         super().__init__()
-        self.time_column, self.frame_column = 0, 2
+        self.arrange(0, 2)
+
+    def arrange(self, time_column: int, frame_column: int) -> None:
+        """Takes the time and the frame from these columns, from now on."""
+        self.time_column, self.frame_column = time_column, frame_column
+        last = max(time_column, frame_column)
+        cells = [CELL] * (last + 1)
+        cells[time_column] = r"(?P<s>[0-9]{1,12})(?:\.(?P<ms>[0-9]{0,3})[0-9]{0,20})?"
+        cells[frame_column] = rf"(?P<frame>{SQUITTER_DIGITS})"
+        row = rf"{','.join(cells)}(?:,{CELL}){{0,{PLAIN_COLUMNS}}}\r?\n|" if last < PLAIN_COLUMNS else "(?!)()()()|"
+        self.plain = re.compile(row + OTHER_LINE)
+
+    def rows(self, text: str) -> List[Tuple[str, str, str, str]]:
+        rows = self.plain.findall(text)
+        if self.frame_column < self.time_column:
+            return [(seconds, decimals, frame, line) for frame, seconds, decimals, line in rows]
+        return rows
 
     @staticmethod
     def columns(line: bytes) -> Optional[Tuple[int, int]]:
@@ -201,7 +273,7 @@ class CsvText(TextFormat):
                 return
         columns = self.columns(line)
         if columns:
-            self.time_column, self.frame_column = columns
+            self.arrange(*columns)
         else:
             self.damaged += bool(line)
 
@@ -240,38 +312,84 @@ class BeastBinary(Format):
         return Heard(data[7:].hex().upper(), int.from_bytes(data[:6], "big"))
 
     def last(self) -> Iterator[Heard]:
-        self.damaged += bool(self.rest) and not self.rest.startswith(BEAST_STATUS)
-        self.rest = b""
+        self.drop()
         return iter(())
 
+    def drop(self) -> None:
+        self.damaged += bool(self.rest) and not self.rest.startswith(BEAST_STATUS)
+        self.rest = b""
 
-def text_format(line: bytes) -> Optional[Type[Format]]:
-    """The format of which a line is."""
+
+def text_sign(line: bytes) -> Optional[Union[Type[Format], Refused]]:
+    """Returns the format that a line shows, a refusal where it shows one that is not read, or `None`."""
+    line = line.strip()
+    if len(line) > LONGEST_LINE or not PRINTABLE.fullmatch(line):
+        return None
     if LOGGED.fullmatch(line):
         return LogText
     if MARKED.search(line) or BARE.fullmatch(line) and len(line) > MODE_AC:
         return AvrText
     if CsvText.columns(line) or any(CsvText().frames(line)):
         return CsvText
-    if SBS.match(line):
-        raise Refused(REFUSED_SBS)
-    return None
+    return Refused(REFUSED_SBS) if SBS.match(line) else None
 
 
-def format_of(data: bytes, ended: bool) -> Optional[Type[Format]]:
-    """The format of a source, by its first bytes; None while these do not say."""
-    lines = data.split(b"\n")
-    for line in lines if ended else lines[:-1]:
-        found = text_format(line.strip()) if len(line) <= LONGEST_LINE else None
-        if found:
-            return found
-    if any(True for _ in BeastBinary().split(data)):
-        return BeastBinary
-    if data.startswith(b"\x1f\x8b"):
-        raise Refused(REFUSED_GZIP)
-    if len(data) > UNDECIDED or ended and data:
-        raise Refused(REFUSED_UNKNOWN)
-    return None
+class Sniffer:
+    """Finds the format of a source by its first bytes, and at the same byte whatever pieces these come in.
+
+    The first of these decides: a line of a text format, three messages of Beast that follow each other directly, or a
+    sign of what is refused."""
+
+    def __init__(self) -> None:
+        self.pieces: List[Tuple[bytes, int]] = []  # with their arrivals: what is heard again, once the format is known
+        self.data = b""  # the first of these bytes, in which a format has to show itself
+        self.line = 0  # where the line begins that is not complete
+        self.beast = 0  # where a run of messages may begin that is not complete
+
+    def hear(self, data: bytes, arrival: int) -> Optional[Type[Format]]:
+        """Returns the format, once the bytes say it. Raises `Refused` where it is none that is read."""
+        self.pieces.append((data, arrival))
+        is_full = len(self.data) + len(data) > UNDECIDED
+        self.data += data[: UNDECIDED - len(self.data)]
+        signs = [sign for sign in (self._by_line(), self._by_run(), self._by_tar()) if sign is not None]
+        if signs:
+            return self._decided(min(signs, key=lambda sign: sign[0])[1])
+        return self._decided(Refused(REFUSED_UNKNOWN)) if is_full else None
+
+    def end(self, lost: bool) -> Optional[Type[Format]]:
+        """Returns the format of a source that ends here, or was lost here, by an unfinished line or a short run."""
+        last = self.data[self.line :]
+        found = text_sign(last) if not lost else None
+        if found is None and BEAST_SHORT.fullmatch(self.data):
+            found = BeastBinary
+        if found is None and self.data:
+            found = Refused(REFUSED_UNKNOWN)
+        return self._decided(found) if found is not None else None
+
+    @staticmethod
+    def _decided(sign: Union[Type[Format], Refused]) -> Type[Format]:
+        if isinstance(sign, Refused):
+            raise sign
+        return sign
+
+    def _by_line(self) -> Optional[Tuple[int, Union[Type[Format], Refused]]]:
+        while True:
+            end = self.data.find(b"\n", self.line)
+            if end < 0:
+                return None
+            sign = text_sign(self.data[self.line : end])
+            if sign is not None:
+                return end + 1, sign
+            self.line = end + 1
+
+    def _by_run(self) -> Optional[Tuple[int, Type[Format]]]:
+        ends = [found.end(1) for found in BEAST_BEGUN.finditer(self.data, self.beast)]
+        self.beast = max(self.beast, len(self.data) - BEAST_RUN * BEAST_LONGEST + 1)
+        return (min(ends), BeastBinary) if ends else None
+
+    def _by_tar(self) -> Optional[Tuple[int, Refused]]:
+        is_tar = self.data.startswith(TAR, TAR_AT)
+        return (TAR_AT + len(TAR), Refused(REFUSED_TAR)) if is_tar else None
 
 
 class Reading(NamedTuple):
@@ -384,9 +502,11 @@ class Moments:
         """Accepts readings that agree, as a clock's that is begun anew where it jumped."""
         first = min(reading.millis for reading in group)
         clocked = group[0].ticks is not None
-        if clocked and self.live:
+        if not clocked:
+            self.offset = 0  # (a clock may have been heard before, on another connection)
+        elif self.live:
             self.offset = self._elapsed(group[0].arrival) - first
-        elif clocked and self.last is not None and first < self.last.millis:
+        elif self.last is not None and first < self.last.millis:
             self.offset = self.moment + self.leap - first
         if self.last is not None and clocked:
             self.begun_anew += 1
@@ -481,45 +601,54 @@ class Feed:
         self.live = live
         self.tell = tell
         self.format: Optional[Format] = None
-        self.sniffed = b""
+        self.sniffer = Sniffer()
+        self.arrival: Optional[int] = None  # of the last piece
+        self.refusal: Optional[Refused] = None  # why the source was not read to its end
         self.moments = Moments(options.leap, options.reorder, live, tell)
         self.order = Order(options.reorder, live)
         self.damaged = self.printed = self.mode_ac = self.multilaterated = self.unclocked = 0
         self.others: Dict[int, int] = Counter()
 
     def hear(self, data: bytes, arrival: int) -> List[str]:
-        """The lines that a piece of the source gives."""
-        if self.format is None:
-            data = self._sniff(data, ended=False)
-        return self._lines(self.format.split(data), arrival) if self.format else []
-
-    def disconnected(self, arrival: int) -> List[str]:
-        """The source was lost: the lines that its last bytes give. The next ones are of a source that starts again."""
+        """The lines that a piece of the source gives. Raises `Refused` where it is of no format that is read."""
+        self.arrival = arrival
+        if self.format is not None:
+            return self._heard(data, arrival)
         try:
-            lines = self._last(arrival)
+            found = self.sniffer.hear(data, arrival)
         except Refused:
-            self.damaged += 1
-            lines = []
-        self.format, self.sniffed = None, b""
+            self.sniffer = Sniffer()
+            raise
+        return self._begun(found) if found else []
+
+    def disconnected(self) -> List[str]:
+        """The source was lost: the lines that its whole frames give. What was cut off is left out, and counted.
+
+        The next bytes are of a source that starts again."""
+        lines = self._ended(lost=True)
+        self.damaged += self.refusal is not None
+        self.refusal = None
         self.moments.disconnected()
         return lines
 
-    def end(self, arrival: int) -> List[str]:
-        """No more comes: all lines that are left."""
-        lines = self._last(arrival)
+    def end(self, now: int) -> List[str]:
+        """No more comes: all lines that are left. `refusal` says whether the source was of no format that is read."""
+        lines = self._ended(lost=False)
         for moment, heard in self.moments.end():
-            lines += self._put(moment, arrival, heard)
+            lines += self._put(moment, now, heard)
         return lines + self._count(self.order.end())
 
     def due(self, now: int) -> List[str]:
         """The lines that have been held for long enough."""
         return self._count(self.order.due(now))
 
-    def summary(self) -> str:
-        """What was printed and what was left out, in a line."""
+    def summary(self, unwritten: int = 0, unsaved: int = 0) -> str:
+        """What was printed and what was left out, in a line; of these lines the output took fewer, and the file."""
         others = ", ".join(f"DF{number} {count}" for number, count in sorted(self.others.items()))
         among = " among them" if self.options.all_formats else ""
         parts = [
+            (unwritten, "not written"),
+            (unsaved, "not saved"),
             (sum(self.others.values()), f"of other downlink formats ({others}){among}"),
             (self.mode_ac, "of Mode A/C"),
             (self.multilaterated, "multilaterated"),
@@ -528,24 +657,86 @@ class Feed:
             (self.damaged + (self.format.damaged if self.format else 0), "damaged"),
             (self.moments.begun_anew, "jumps of the clock"),
         ]
-        return ", ".join([f"{self.printed} printed"] + [f"{count} {what}" for count, what in parts if count])
+        counted = [f"{count} {what}" for count, what in parts if count]
+        return ", ".join([f"{self.printed - unwritten} printed", *counted])
 
-    def _last(self, arrival: int) -> List[str]:
-        data = self._sniff(b"", ended=True) if self.format is None else b""
-        if self.format is None:
-            return []
-        lines = self._lines(self.format.split(data), arrival) + self._lines(self.format.last(), arrival)
-        self.damaged += self.format.damaged
-        self.format.damaged = 0
+    def _begun(self, found: Type[Format]) -> List[str]:
+        """The lines of the pieces by which the format was found, each with its own arrival."""
+        self.format = found()
+        pieces, self.sniffer = self.sniffer.pieces, Sniffer()
+        return [line for data, arrival in pieces for line in self._heard(data, arrival)]
+
+    def _heard(self, data: bytes, arrival: int) -> List[str]:
+        if isinstance(self.format, TimedText):
+            return self._rows(self.format, data, arrival)
+        return self._lines(self.format.split(data), arrival) if self.format else []
+
+    def _ended(self, lost: bool) -> List[str]:
+        """Ends the format: an unfinished line has come with the last piece, but for one that a lost source cut off."""
+        lines: List[str] = []
+        try:
+            found = self.sniffer.end(lost) if self.format is None else None
+            lines = self._begun(found) if found else []
+        except Refused as why:
+            self.refusal, self.sniffer = why, Sniffer()
+        if self.format is not None and self.arrival is not None:
+            if not lost:
+                lines += self._lines(self.format.last(), self.arrival)
+            self.format.drop()
+            self.damaged += self.format.damaged
+        self.format = None
         return lines
 
-    def _sniff(self, data: bytes, ended: bool) -> bytes:
-        data = self.sniffed + data
-        found = format_of(data, ended)
-        self.format, self.sniffed = (found(), b"") if found else (None, b"" if ended else data)
-        return data
+    def _rows(self, form: TimedText, data: bytes, arrival: int) -> List[str]:
+        """The lines of rows with times: a short way for squitters in order, with the results of the long one."""
+        lines: List[str] = []
+        printed = self.printed
+        text = form.text(data)
+        while text:
+            text = self._plain_rows(form, text, arrival, lines)
+        self.printed = printed + len(lines)
+        return lines
 
-    def _lines(self, frames: Iterator[Heard], arrival: int) -> List[str]:
+    def _plain_rows(self, form: TimedText, text: str, arrival: int, lines: List[str]) -> str:
+        """Adds the lines of rows. Returns the text behind a row that names other columns; an empty one without."""
+        plain = form.plain
+        first, last = self._in_order()
+        done = len(lines)
+        for count, (seconds, decimals, frame, line) in enumerate(form.rows(text), 1):
+            digits = seconds + (decimals if len(decimals) == 3 else decimals.ljust(3, "0"))
+            # (of as many digits, texts compare as numbers do)
+            if frame and first <= digits <= last and len(digits) == len(first):
+                first = digits
+                lines.append(f"{digits} {frame}\n")
+                continue
+            if len(lines) > done:
+                self._go_on(int(first), arrival)
+            lines += self._lines([Heard(frame, millis=int(digits))] if frame else form.line(line), arrival)
+            first, last = self._in_order()
+            done = len(lines)
+            if form.plain is not plain:
+                return text.split("\n", count)[count]
+        if len(lines) > done:
+            self._go_on(int(first), arrival)
+        return ""
+
+    def _in_order(self) -> Tuple[str, str]:
+        """The moments between which the next row is printed at once: the last one, and a leap later; or two empty
+        texts, where rows have to go the long way."""
+        moments, order = self.moments, self.order
+        if moments.last is None or moments.last.ticks is not None or moments.aside or order.held or order.reorder:
+            return "", ""
+        last = moments.last.millis
+        is_last = last == moments.moment == order.newest == order.printed and not moments.offset
+        return (str(last), str(last + self.options.leap)) if is_last else ("", "")
+
+    def _go_on(self, moment: int, arrival: int) -> None:
+        """Notes that rows up to this moment were printed."""
+        self.moments.last = Reading(moment, None, arrival, Heard("", millis=moment))
+        self.moments.moment, self.moments.arrival = moment, arrival
+        self.order.newest = self.order.printed = moment
+
+    def _lines(self, frames: Iterable[Heard], arrival: int) -> List[str]:
         lines: List[str] = []
         for heard in frames:
             if self._is_wanted(heard):

@@ -16,7 +16,6 @@ from trying import (
     GROUND,
     LATER,
     REPLY,
-    Failed,
     beast,
     clocked,
     expect,
@@ -206,45 +205,6 @@ def log_lines() -> None:
     cut_anywhere(LogText, data, ([AIR_EVEN, AIR_EVEN], 3))
 
 
-def told_apart() -> None:
-    """Formats are told apart after garbage and in any pieces; what is none is refused by name."""
-    e = AIR_EVEN.encode()
-    garbage = b"\x00\xff\x1a9 garbage 12\n1234\n"
-    rows = [
-        (b"*%s;\n" % e, AvrText),
-        (clocked(AIR_EVEN, 1), AvrText),
-        (e + b"\n", AvrText),
-        (b"*0000;\n", AvrText),
-        (beast(AIR_EVEN), BeastBinary),
-        (beast("0000"), BeastBinary),
-        (row("1.5"), CsvText),
-        (b"time,icao24,rawmsg\n", CsvText),
-        (b"5 %s\n" % e, LogText),
-        (b"5 *%s;\n" % e, LogText),
-    ]
-    for data, wanted in rows:
-        for whole in (data, garbage + data):
-            feed = Feed(Options(), True, print)
-            for place in range(len(whole)):
-                feed.hear(whole[place : place + 1], 0)
-            same(type(feed.format), wanted, whole)
-        same(squitter_feed.format_of(data.rstrip(b"\n"), ended=True), wanted, data)
-    for data, part in (
-        (b"MSG,3,1,1,4B1001,1,2026/11/23\n", "SBS"),
-        (b"\x1f\x8b\x08\x00", "gunzip"),
-        (b"x" * 20_000, "Beast binary"),
-        (b"{}\n" * 9000, "Beast binary"),
-        (b"2026\n" * 9000, "Beast binary"),
-    ):
-        try:
-            found = squitter_feed.format_of(data, ended=False)
-        except squitter_feed.Refused as why:
-            expect(part in str(why), data[:20], why)
-        else:
-            raise Failed(f"{data[:20]!r} is {found}")
-    same(fed([], live=True)[0], [])
-
-
 SECOND = 12_000_000  # ticks
 
 
@@ -323,15 +283,65 @@ def lost_connection() -> None:
     """A connection that was lost: half a frame is counted, the clock is begun anew, and the format is told again."""
     feed = Feed(Options(), True, print)
     lines = feed.hear(beast(AIR_EVEN, 12_000_000) + beast(AIR_ODD, 24_000_000) + beast(AIR_ODD)[:9], 5000)
-    lines += feed.disconnected(6000)
+    lines += feed.disconnected()
     lines += feed.hear(clocked(AIR_ODD, 96_000), 9000) + feed.hear(clocked(AIR_EVEN, 108_000), 9900)
     same([int(line.split()[0]) for line in lines], [5000, 6000, 10_000, 10_001])
     expect(", 1 damaged" in feed.summary(), feed.summary())
+    expect(feed.format is not None and feed.refusal is None, feed.refusal)
     half = Feed(Options(), True, print)
-    same(
-        half.hear(b"nonsense", 0) + half.disconnected(1) + half.hear(b"*%s;\n" % AIR_ODD.encode(), 7),
-        [f"7 {AIR_ODD}\n"],
-    )
+    lines = half.hear(b"nonsense", 0) + half.disconnected() + half.hear(b"*%s;\n" % AIR_ODD.encode(), 7)
+    same((lines, half.refusal, half.summary()), ([f"7 {AIR_ODD}\n"], None, "1 printed, 1 damaged"))
+
+
+def cut_off() -> None:
+    """A frame that a lost connection cut off is left out and counted, and not stamped when the next one is there."""
+    e, o = AIR_EVEN.encode(), AIR_ODD.encode()
+    csv = b"time,icao24,rawmsg\n" + row("1") * 3
+    rows = [
+        (b"*%s;\n*%s;" % (e, o), 1),
+        (b"*%s;\n*%s" % (e, o[:9]), 1),
+        (b"*%s;\n%s" % (e, o), 1),
+        (b"*%s;\n  " % e, 0),
+        (beast(AIR_EVEN) * 3 + beast(AIR_ODD)[:-1], 1),
+        (beast(AIR_EVEN) * 2 + beast(AIR_ODD)[:-1], 1),
+        (beast(AIR_EVEN), 0),
+        (beast(AIR_EVEN)[:-1], 1),
+        (csv + row("2", AIR_ODD).strip(), 1),
+        (b"5 %s\n6 %s" % (e, o), 1),
+        (b"*%s;" % o, 1),
+        (b"", 0),
+    ]
+    for data, damaged in rows:
+        feed = Feed(Options(), True, print)
+        lines = feed.hear(data, 1000) + feed.disconnected()
+        expect(all(AIR_ODD not in line for line in lines), data, lines)
+        same((feed.damaged, feed.refusal, feed.format), (damaged, None, None), data)
+        lines = feed.hear(b"*%s;\n" % o, 31_000)
+        same(lines[-1:], [f"31000 {AIR_ODD}\n"], data)
+
+
+def own_arrivals() -> None:
+    """Frames have the arrival of the piece they came with: while the format is not known, and at the end."""
+    feed = Feed(Options(), True, print)
+    odd = beast(AIR_ODD)
+    pieces = [(beast(AIR_EVEN), 1000), (odd[:9], 2000), (odd[9:], 31_000), (beast(GROUND), 62_000)]
+    lines = [line for piece, arrival in pieces for line in feed.hear(piece, arrival)]
+    same(lines, [f"1000 {AIR_EVEN}\n", f"31000 {AIR_ODD}\n", f"62000 {GROUND}\n"])
+    feed = Feed(Options(), True, print)
+    lines = feed.hear(b"*%s;\n*%s;" % (AIR_EVEN.encode(), AIR_ODD.encode()), 1000) + feed.end(31_000)
+    same(lines, [f"1000 {AIR_EVEN}\n", f"1000 {AIR_ODD}\n"], "a last line")
+    feed = Feed(Options(), True, print)
+    lines = feed.hear(beast(AIR_EVEN), 1000) + feed.hear(beast(AIR_ODD), 2000) + feed.end(31_000)
+    same(lines, [f"1000 {AIR_EVEN}\n", f"2000 {AIR_ODD}\n"], "a short source")
+
+
+def other_clock_again() -> None:
+    """Times of a log are taken as they are, also where a clock was heard before on another connection."""
+    feed = Feed(Options(), True, print)
+    feed.hear(clocked(AIR_EVEN, 12_000_000), 5000)
+    feed.disconnected()
+    lines = feed.hear(b"".join(b"%d %s\n" % (k, AIR_ODD.encode()) for k in (7000, 7001, 7002)), 6000)
+    same(lines, [f"{k} {AIR_ODD}\n" for k in (7000, 7001, 7002)])
 
 
 def leaps() -> None:

@@ -106,12 +106,14 @@ def refusals() -> None:
         expect((status, printed) == (wanted, "") and part in said and "Traceback" not in said, words, status, said)
     same(ran(["-"])[:2], (0, ""), "nothing")
     same(ran(["--help"])[0], 0, "help")
+    status, printed, said = ran(["--version"])
+    expect(status == 0 and re.fullmatch(r"squitter-feed \d+\.\d+\.\d+\n", printed) and not said, printed, said)
     frame = b"*%s;\n" % AIR_EVEN.encode()
     same(ran(["-", "--save=/dev/full"], frame)[0], 3, "a full disk")
     with open("/dev/full", "wb") as full:
         done = subprocess.run([FEED, "-"], input=frame, stdout=full, stderr=subprocess.PIPE)
     expect(done.returncode == 3 and b"No space" in done.stderr, done)
-    for closed, wanted in ((">&-", 3), ("<&-", 3), ("2>&-", 0)):
+    for closed, wanted in ((">&-", 3), ("<&-", 3), ("2>&-", 0), ("2>/dev/full", 0)):
         done = subprocess.run(["sh", "-c", f'"$0" - {closed}', FEED], input=frame, capture_output=True)
         expect(done.returncode == wanted and done.stdout.count(b"\n") == (wanted == 0), closed, done)
 
@@ -243,8 +245,8 @@ def connects_again() -> None:
             listener.settimeout(20)
             link, _ = listener.accept()
             expect(1.5 < time.monotonic() - begun < 9, "connected after", time.monotonic() - begun)
-            link.sendall(beast(AIR_EVEN, 12_000_000) + beast(AIR_ODD, 24_000_000)[:5])
-            first = line_of(run).split()
+            link.sendall(beast(AIR_EVEN, 12_000_000) * 3 + beast(AIR_ODD, 24_000_000)[:5])
+            first = [line_of(run).split() for _ in range(3)][0]
             link.close()
             begun = time.monotonic()
             link, _ = listener.accept()
@@ -258,4 +260,4 @@ def connects_again() -> None:
             said += reported(run)
             link.close()
     same(re.findall(r"again in (\d+) s", said), ["1", "2", "1"], said)
-    expect("2 printed, 1 damaged" in said, said)
+    expect("4 printed, 1 damaged" in said, said)

@@ -1,6 +1,10 @@
 """What the tries of squitter-feed share: what is expected, and frames in each format, written here from its words."""
 from __future__ import annotations
 
+import inspect
+from types import ModuleType
+from typing import Callable, Iterator
+
 AIR_EVEN = "8D40621D58C382D690C8AC2863A7"
 AIR_ODD = "8D40621D58C386435CC412692AD6"
 GROUND = "8C4841753A9A153237AEF0F275BE"
@@ -41,3 +45,17 @@ def clocked(frame: str, ticks: int) -> bytes:
 
 def row(seconds: str, frame: str = AIR_EVEN) -> bytes:
     return f"{seconds},40621d,{frame.lower()}\n".encode()
+
+
+def tests_of(module: ModuleType) -> Iterator[Callable[[], None]]:
+    """The tests of a module, in their order: its functions that take no argument and return None.
+
+    One without an annotation could be a test that is never run, and is refused."""
+    for name, one in list(vars(module).items()):
+        if not inspect.isfunction(one) or one.__module__ != module.__name__:
+            continue
+        known = inspect.signature(one)
+        if known.return_annotation is inspect.Signature.empty:
+            raise Failed(f"{module.__name__}.{name} does not say what it returns")
+        if not known.parameters and known.return_annotation in (None, "None"):
+            yield one

@@ -1,0 +1,290 @@
+"""How a run of squitter-feed ends: by signals, wherever it waits, and where its output or its file takes no more."""
+from __future__ import annotations
+
+import fcntl
+import os
+import re
+import signal
+import socket
+import subprocess
+import tempfile
+import termios
+import threading
+import time
+from contextlib import contextmanager
+from typing import Callable, Iterator, List, Optional, Tuple
+
+from process import FEED, fault_of, line_of, listening, put, ran, started
+from trying import AIR_EVEN, AIR_ODD, beast, expect, same
+
+LINE = b"*%s;\n" % AIR_EVEN.encode()
+ALL = (signal.SIGTERM, signal.SIGINT, signal.SIGHUP)
+SOON = 2  # seconds within which a signal ends a run, on a busy machine
+
+
+def reading(path: str) -> Callable[[int], bool]:
+    """Whether a process has this file open."""
+    real = os.path.realpath(path)
+
+    def is_open(process: int) -> bool:
+        try:
+            return any(os.path.realpath(f"/proc/{process}/fd/{number}") == real
+                       for number in os.listdir(f"/proc/{process}/fd"))
+        except OSError:
+            return False
+
+    return is_open
+
+
+def wait_until(good: Callable[[], bool], what: str) -> None:
+    for _ in range(400):
+        if good():
+            return
+        time.sleep(0.02)
+    expect(False, "it never comes to", what)
+
+
+def is_waiting(process: int) -> bool:
+    """Whether a process has its handlers of signals, and sleeps."""
+    with open(f"/proc/{process}/status") as status:
+        text = status.read()
+    caught = int(re.findall(r"SigCgt:\s*(\w+)", text)[0], 16)
+    return bool(caught >> (signal.SIGTERM - 1) & 1) and "State:\tS" in text
+
+
+def ended(run: subprocess.Popen[bytes], number: int) -> float:
+    """Sends a signal to a run that waits. Returns how many seconds it went on."""
+    wait_until(lambda: is_waiting(run.pid), "waiting")
+    begun = time.monotonic()
+    run.send_signal(number)
+    run.wait(timeout=20)
+    return time.monotonic() - begun
+
+
+def while_opening() -> None:
+    """A signal ends a run that waits for a writer of a named pipe; one that comes is read to its end."""
+    with tempfile.TemporaryDirectory() as work:
+        path = f"{work}/pipe"
+        os.mkfifo(path)
+        for number in ALL:
+            with started([path]) as run:
+                expect(ended(run, number) < SOON, number, "is not heard")
+                same((run.returncode, *run.communicate()), (0, b"", b"squitter-feed: 0 printed\n"))
+        with started([path]) as run:
+            wait_until(lambda: reading(path)(run.pid), "the pipe")
+            with open(path, "wb", buffering=0) as pipe:
+                pipe.write(LINE)
+                expect(line_of(run).endswith(AIR_EVEN.encode() + b"\n"), "a line of the pipe")
+                pipe.write(LINE)
+            same((run.wait(timeout=20), run.communicate()[0].count(b"\n")), (0, 1))
+
+
+@contextmanager
+def full_backlog() -> Iterator[int]:
+    """A port at which connections are neither made nor refused."""
+    with socket.socket() as listener:
+        listener.bind(("127.0.0.1", 0))
+        listener.listen(0)
+        tried = [socket.socket() for _ in range(4)]
+        for one in tried:
+            one.setblocking(False)
+            one.connect_ex(listener.getsockname())
+        yield listener.getsockname()[1]
+        for one in tried:
+            one.close()
+
+
+def while_connecting() -> None:
+    """A signal ends a run that connects, or that waits before it connects again; and a closed output does."""
+    for number in ALL:
+        with full_backlog() as port, started([f"127.0.0.1:{port}"]) as run:
+            time.sleep(0.3)
+            expect(ended(run, number) < SOON, number, "is not heard while connecting")
+            same((run.returncode, *run.communicate()), (0, b"", b"squitter-feed: 0 printed\n"))
+    with full_backlog() as port, started([f"127.0.0.1:{port}"]) as run:
+        if run.stdout:
+            run.stdout.close()
+        same(run.wait(timeout=5), 0, "a closed output while connecting")
+    with listening() as listener:
+        port = listener.getsockname()[1]
+    with started([f"127.0.0.1:{port}"]) as run:
+        expect("again in 1 s" in fault_of(run), "no pause")
+        expect("again in 2 s" in fault_of(run), "no second pause")
+        expect(ended(run, signal.SIGTERM) < SOON, "not heard in a pause")
+    with started(["no host.example:1"]) as run:
+        said = fault_of(run)
+        expect("cannot connect to no host.example:1" in said, said)
+
+
+def while_reading() -> None:
+    """A signal ends a run that waits for more, and prints what is held and what is set aside."""
+    log = b"1 %s\n2 %s\n" % (AIR_EVEN.encode(), AIR_ODD.encode())
+    unended = LINE + b"*%s;" % AIR_ODD.encode()
+    held = (LINE * 3, ["--reorder=60000"], 3)
+    for data, words, lines in (held, (log, [], 2), (unended, [], 2), (beast(AIR_EVEN), [], 1)):
+        for number in ALL:
+            with started(["-", *words]) as run:
+                put(run, data)
+                time.sleep(0.2)
+                expect(ended(run, number) < SOON, number, words)
+                printed, said = run.communicate()
+                same((run.returncode, printed.count(b"\n")), (0, lines), data)
+                same(said, b"squitter-feed: %d printed\n" % lines)
+
+
+def numbers_of(said: bytes) -> Tuple[int, ...]:
+    """How many lines were printed, not written and not saved, by a report."""
+    found = [re.search(rb"(\d+) " + word, said) for word in (b"printed", b"not written", b"not saved")]
+    return tuple(int(one[1]) if one else 0 for one in found)
+
+
+def offer(run: subprocess.Popen[bytes], data: bytes) -> None:
+    """Gives a run data, for as long as it takes any."""
+    try:
+        put(run, data)
+    except BrokenPipeError:
+        pass
+
+
+def full_output(count: int, words: List[str], nonblocking: bool) -> None:
+    """A run of so many lines with a pipe that takes 4 KiB: by a signal, the rest is counted as not written."""
+    reader, writer = os.pipe()
+    fcntl.fcntl(writer, fcntl.F_SETPIPE_SZ, 4096)
+    os.set_blocking(writer, not nonblocking)
+    run = subprocess.Popen([FEED, "-", *words], stdin=subprocess.PIPE, stdout=writer, stderr=subprocess.PIPE)
+    os.close(writer)
+    feeder = threading.Thread(target=offer, args=[run, LINE * count], daemon=True)
+    feeder.start()
+    try:
+        wait_until(lambda: int.from_bytes(fcntl.ioctl(reader, termios.FIONREAD, bytes(4)), "little") > 4000, "full")
+        expect(ended(run, signal.SIGTERM) < SOON, "a full output is waited for")
+        printed = b""
+        os.set_blocking(reader, True)
+        while True:
+            piece = os.read(reader, 65_536)
+            if not piece:
+                break
+            printed += piece
+    finally:
+        run.kill()
+        os.close(reader)
+    said = run.stderr.read() if run.stderr else b""
+    same(run.returncode, 0, said)
+    lines = printed.splitlines(True)
+    expect(lines and all(re.fullmatch(rb"\d+ %s\n" % AIR_EVEN.encode(), line) for line in lines), "torn lines")
+    same(numbers_of(said)[0], len(lines), said)
+    expect(numbers_of(said)[1] > 0 and sum(numbers_of(said)[:2]) <= count, said)
+    feeder.join(timeout=5)
+
+
+def while_output_is_full() -> None:
+    """What a full output takes at once is printed in whole lines, and the rest is counted as not written."""
+    for nonblocking in (False, True):
+        full_output(200, [], nonblocking)
+        full_output(50_000, [], nonblocking)
+    with tempfile.TemporaryDirectory() as work:
+        full_output(200, [f"--save={work}/log"], False)
+        with open(f"{work}/log", "rb") as log:
+            same(log.read().count(b"\n"), 200, "all is saved")
+
+
+def second_signal() -> None:
+    """A second signal ends a run at once, though it waits for what cannot be interrupted."""
+    reader, writer = os.pipe()
+    script = (
+        "import os, runpy, sys, time\n"
+        "sys.argv = [sys.argv[1], '-']\n"
+        "found = runpy.run_path(sys.argv[0])\n"
+        "signals = found['Signals']()\n"
+        f"os.write({writer}, b'x')\n"
+        "while True: time.sleep(60)\n"
+    )
+    for number in ALL:
+        run = subprocess.Popen(["python3", "-c", script, FEED], pass_fds=[writer], stderr=subprocess.PIPE)
+        os.read(reader, 1)
+        run.send_signal(number)
+        time.sleep(0.2)
+        same(run.poll(), None, "one signal alone does not end what does not look")
+        run.send_signal(number)
+        same(run.wait(timeout=SOON), 128 + number)
+        run.communicate()
+    os.close(reader)
+    os.close(writer)
+
+
+def full_file() -> None:
+    """A file that takes no more is an error, with what was printed and what was not saved; the lines are printed."""
+    status, printed, said = ran(["-", "--save=/dev/full"], LINE * 3)
+    same((status, printed.count("\n")), (3, 3))
+    fault = "cannot write /dev/full: No space left on device"
+    same(said, f"squitter-feed: {fault}\nsquitter-feed: 3 printed, 3 not saved\n")
+    status, printed, said = ran(["-", "--save=/dev/full", "--reorder=60000"], LINE * 3)
+    same((status, printed.count("\n"), numbers_of(said.encode())), (3, 3, (3, 0, 3)), "held until the end")
+    with tempfile.TemporaryDirectory() as work:
+        path = f"{work}/log"
+        script = f"ulimit -f 1; trap '' XFSZ; exec {FEED} - --save={path}"
+        done = subprocess.run(["bash", "-c", script], input=LINE * 50, capture_output=True, timeout=30)
+        with open(path, "rb") as log:
+            saved = log.read()
+        same((done.returncode, done.stdout.count(b"\n"), len(saved)), (3, 50, 1024), done.stderr)
+        same(numbers_of(done.stderr), (50, 0, 50 - saved.count(b"\n")), done.stderr)
+        same(ran(["-", f"--save={path}"], LINE)[0], 0)
+        with open(path, "rb") as log:
+            same(log.read().count(b"\n"), saved.count(b"\n") + 2, "a half line is ended by the next run")
+    with open("/dev/full", "wb") as full, tempfile.TemporaryDirectory() as work:
+        done = subprocess.run([FEED, "-", f"--save={work}/log"], input=LINE * 3, stdout=full, stderr=subprocess.PIPE)
+        same((done.returncode, numbers_of(done.stderr)), (3, (0, 3, 0)), done.stderr)
+        with open(f"{work}/log", "rb") as log:
+            same(log.read().count(b"\n"), 3, "what is not printed is saved")
+
+
+def short_writes() -> None:
+    """An output that takes less than it is given is given the rest: a socket, with a reader that is slow."""
+    ours, theirs = socket.socketpair()
+    ours.setsockopt(socket.SOL_SOCKET, socket.SO_RCVBUF, 4096)
+    theirs.setsockopt(socket.SOL_SOCKET, socket.SO_SNDBUF, 4096)
+    theirs.setblocking(False)
+    run = subprocess.Popen([FEED, "-"], stdin=subprocess.PIPE, stdout=theirs, stderr=subprocess.PIPE)
+    theirs.close()
+    feeder = threading.Thread(target=run.communicate, args=[LINE * 20_000], daemon=True)
+    feeder.start()
+    data = b""
+    while True:
+        piece = ours.recv(3000)
+        if not piece:
+            break
+        data += piece
+    feeder.join(timeout=20)
+    lines = data.splitlines(True)
+    same((len(lines), run.returncode), (20_000, 0))
+    expect(all(line.endswith(b" %s\n" % AIR_EVEN.encode()) for line in lines), "torn lines")
+    ours.close()
+
+
+def closed_output() -> None:
+    """Where the reader of the output goes away, what it did not take is counted; the status is 0."""
+    with tempfile.TemporaryDirectory() as work:
+        with open(f"{work}/feed", "wb") as file:
+            file.write(LINE * 50_000)
+        script = f"{FEED} {work}/feed 2> {work}/said | head -n 1; echo ${{PIPESTATUS[0]}}"
+        done = subprocess.run(["bash", "-c", script], capture_output=True, timeout=30)
+        with open(f"{work}/said", "rb") as file:
+            said = file.read()
+        same(done.stdout.splitlines()[1:], [b"0"])
+        expect(numbers_of(said)[1] > 0, said)
+
+
+def keepalive() -> None:
+    """A connection asks from time to time whether its peer is still there."""
+    with listening() as listener, started([f"127.0.0.1:{listener.getsockname()[1]}"]) as run:
+        listener.settimeout(20)
+        link, _ = listener.accept()
+        link.sendall(LINE)
+        line_of(run)
+        port = link.getpeername()[1]
+        with open("/proc/net/tcp") as table:
+            rows = [line.split() for line in table]
+        timers: List[Optional[str]] = [row[5] for row in rows if row[1].endswith(f":{port:04X}")]
+        # (02 is the timer of keepalive)
+        expect(timers and timers[0] and timers[0].startswith("02:"), timers)
+        link.close()

@@ -1,0 +1,305 @@
+"""How squitter-feed finds the format of a source: by which bytes, in any pieces, and of archives too."""
+from __future__ import annotations
+
+import bz2
+import gzip
+import lzma
+import random
+import struct
+import tarfile
+import time
+import zlib
+from io import BytesIO
+from typing import Callable, Dict, Iterable, List, Optional, Tuple
+
+import squitter_unpack
+from process import ran
+from squitter_feed import (
+    LONGEST_LINE,
+    UNDECIDED,
+    AvrText,
+    BeastBinary,
+    CsvText,
+    Feed,
+    LogText,
+    Options,
+    Refused,
+    Sniffer,
+)
+from squitter_unpack import Unpacking
+from trying import AIR_EVEN, AIR_ODD, GROUND, REPLY, Failed, beast, clocked, expect, row, same
+
+E = AIR_EVEN.encode()
+GARBAGE = b"\x00\xff\x1a9 garbage 12\n1234\n"
+LINE = b"*%s;\n" % E
+STATUS = b"\x1a4" + bytes(range(1, 22))
+
+
+def decided(pieces: Iterable[bytes], ends: bool = False, lost: bool = False) -> Tuple[object, int]:
+    """What pieces are taken for, a format's name or the words of a refusal; and after how many bytes."""
+    sniffer, count = Sniffer(), 0
+    try:
+        for piece in pieces:
+            count += len(piece)
+            found = sniffer.hear(piece, 0)
+            if found:
+                return found.name, count
+        found = sniffer.end(lost) if ends else None
+        return found.name if found else None, count
+    except Refused as why:
+        return str(why), count
+
+
+def byte_by_byte(data: bytes) -> List[bytes]:
+    return [data[place : place + 1] for place in range(len(data))]
+
+
+def cut_anywhere(data: bytes) -> Tuple[object, int]:
+    """What data are taken for: the same of the whole, byte by byte, and of two pieces; and by how many bytes."""
+    wanted, count = decided(byte_by_byte(data))
+    same(decided([data])[0], wanted, data[:80], "in one piece")
+    for place in range(1, min(len(data), 400)):
+        same(decided([data[:place], data[place:]])[0], wanted, data[:80], "cut at", place)
+    return wanted, count
+
+
+def told_apart() -> None:
+    """Formats are told apart after garbage too, by the last byte of the line or of the third message."""
+    rows = [
+        (LINE, AvrText),
+        (clocked(AIR_EVEN, 1), AvrText),
+        (E + b"\n", AvrText),
+        (b"%s\n" % E[:14], AvrText),
+        (b"*0000;\n", AvrText),
+        (beast(AIR_EVEN) + beast(REPLY) + beast("0000"), BeastBinary),
+        (beast(AIR_EVEN) + STATUS + beast(AIR_EVEN, 0x1A1A), BeastBinary),
+        (row("1.5"), CsvText),
+        (b"time,icao24,rawmsg\n", CsvText),
+        (b"5 %s\n" % E, LogText),
+        (b"5 *%s;\r\n" % E, LogText),
+    ]
+    for data, wanted in rows:
+        for front in (b"", GARBAGE):
+            for after in (b"", LINE, b"5 %s\n" % E, beast(AIR_ODD) * 3):
+                same(cut_anywhere(front + data + after), (wanted.name, len(front + data)), front + data)
+        if data.endswith(b"\n"):
+            same(decided([data.rstrip(b"\n")]), (None, len(data) - 1), data)
+            same(decided([data.rstrip(b"\n")], ends=True)[0], wanted.name, data, "at the end")
+            expect(decided([data.rstrip(b"\n")], ends=True, lost=True)[0] != wanted.name, data, "lost")
+
+
+def not_yet() -> None:
+    """What only looks like a format does not decide it: two messages, three that are apart, a line that has bytes by
+    chance."""
+    one = beast(AIR_EVEN)
+    rows = [
+        one * 2,
+        one * 2 + b"\x00" + one * 2,
+        one * 2 + one[:-1],
+        one * 2 + b"\x1a5" + one[2:],
+        one * 2 + b"\x1a\x1a" + one,
+        b"garbage \x1a1123456789 and more\n",
+        b"\x00*%s;\n" % E,
+        b"1234\n",
+        b"*%sG;\n" % E[:-1],
+        b"x,%s,9\n" % E,
+    ]
+    for data in rows:
+        same(cut_anywhere(data), (None, len(data)), data)
+        same(cut_anywhere(data + LINE)[0], AvrText.name, data) if data.endswith(b"\n") else None
+    text = b"garbage \x1a1123456789 and more\n" + LINE
+    same(cut_anywhere(text), (AvrText.name, len(text)), "an escape in text")
+
+
+def short_sources() -> None:
+    """A source that ends with one or two messages is Beast, with one that is cut off too; with anything else it is
+    refused."""
+    one, odd = beast(AIR_EVEN, 5), beast(AIR_ODD, 0x1A1A1A)
+    cut = (one + odd[:-1], one + b"\x1a", one + odd[:5], odd + odd[:6])
+    for data in (one, one + odd, beast("0000"), STATUS + one, *cut):
+        for lost in (False, True):
+            same(decided([data], ends=True, lost=lost)[0], BeastBinary.name, data, lost)
+    for data in (b"x" + one, one + b"x", one[:-1], b"\x1a", one + b"\x1a9", one + b"\x1a1" + bytes(10), b"x", b"\n"):
+        expect("no frame" in str(decided([data], ends=True)[0]), data)
+    same(decided([], ends=True), (None, 0), "nothing")
+
+
+def borders() -> None:
+    """The first 16 KiB decide, to the byte; a line of more than 4096 bytes does not."""
+    for size in (UNDECIDED - 1, UNDECIDED, UNDECIDED + 1):
+        front = b"x" * (LONGEST_LINE + 1) + b"\n"
+        data = front + b"x" * (size - len(front) - len(LINE) - 1) + b"\n" + LINE
+        wanted = AvrText.name if size <= UNDECIDED else "refused"
+        for pieces in ([data], byte_by_byte(data), [data[:-1], data[-1:]], [data[:UNDECIDED], data[UNDECIDED:]]):
+            got, count = decided(pieces)
+            same(got if got == AvrText.name else "refused" if "no frame" in str(got) else got, wanted, size)
+            same(count, size, "bytes")
+        beasts = b"x" * (size - 3 * len(beast(AIR_EVEN))) + beast(AIR_EVEN) * 3
+        for pieces in ([beasts], byte_by_byte(beasts)):
+            expect((decided(pieces)[0] == BeastBinary.name) == (size <= UNDECIDED), size)
+    expect("no frame" in str(decided([b"x" * (UNDECIDED + 1)])[0]), "too many")
+    same(decided([b"x" * UNDECIDED])[0], None, "not too many")
+    for size in (LONGEST_LINE - 1, LONGEST_LINE, LONGEST_LINE + 1):
+        line = b"*%s;" % E + b" " * (size - len(LINE)) + b"x"
+        got, count = decided([line + b"\n" + LINE])
+        same(cut_anywhere(line + b"\n" + LINE)[1], size + 1 + len(LINE) * (size > LONGEST_LINE), size)
+
+
+def fast() -> None:
+    """Searching is linear: 16 KiB byte by byte, of line feeds, escapes and starts of messages."""
+    for data in (b"\n", b"\x1a", b"\x1a1", b"\x1a1\x00\x00\x00\x00\x00\x00\x00\x00\x00", b"x", b"1234\n"):
+        whole = (data * UNDECIDED)[: UNDECIDED - 200]
+        begun = time.process_time()
+        same(decided(byte_by_byte(whole))[0], BeastBinary.name if len(data) == 11 else None, data)
+        expect(time.process_time() - begun < 3, data, "took", time.process_time() - begun)
+
+
+def kept_small() -> None:
+    """A source without a format is not kept: after it is refused nothing is."""
+    feed = Feed(Options(), True, print)
+    for size in (UNDECIDED, 5 * UNDECIDED):
+        try:
+            feed.hear(b"x" * UNDECIDED, 0)
+            feed.hear(b"x" * size, 0)
+        except Refused:
+            same((feed.sniffer.data, feed.sniffer.pieces), (b"", []))
+        else:
+            raise Failed("it is not refused")
+
+
+def refused_by_name() -> None:
+    """What is no feed is refused by its name, in any pieces."""
+    tar = BytesIO()
+    with tarfile.open(fileobj=tar, mode="w") as archive:
+        member = tarfile.TarInfo("feed.csv")
+        member.size = 1000
+        archive.addfile(member, BytesIO(row("1") * 50))
+    rows = [(magic + bytes(30), text) for magic, text in squitter_unpack.REFUSED.items()]
+    rows += [(tar.getvalue(), "a tar archive"), (b"MSG,3,1,1,4B1001,1,2026/11/23\n", "SBS"), (b"STA,,1\n", "SBS")]
+    for data, text in rows:
+        for pieces in ([data], byte_by_byte(data)):
+            same(heard(pieces)[:1], ([],), text)
+            expect(text in str(heard(pieces)[1]), text, heard(pieces)[1])
+    status, printed, said = ran(["-"], b"PK\x03\x04" + bytes(100))
+    expect((status, printed) == (1, "") and "a zip archive" in said, said)
+    same(decided([tar.getvalue()[:257] + b"ustaR"])[0], None)
+
+
+def heard(pieces: Iterable[bytes], live: bool = True) -> Tuple[List[str], Optional[str]]:
+    """The lines of a source in pieces, through unpacking and a feed; and the words by which it is refused."""
+    feed, unpacking = Feed(Options(), live, lambda _: None), Unpacking()
+    lines: List[str] = []
+    refusal = None
+    try:
+        for data in pieces:
+            for piece in unpacking.pieces(data):
+                lines += feed.hear(piece, 7)
+        for piece in unpacking.end():
+            lines += feed.hear(piece, 7)
+    except Refused as why:
+        refusal = str(why)
+    lines += feed.end(7)
+    return lines, refusal or (str(feed.refusal) if feed.refusal else None)
+
+
+ARCHIVES: Dict[str, Callable[[bytes], bytes]] = {"gzip": gzip.compress, "bzip2": bz2.compress, "xz": lzma.compress}
+
+
+def many_rows(count: int) -> bytes:
+    """Rows of CSV that no archive makes very small."""
+    chance = random.Random(5)
+    return b"time,icao24,rawmsg\n" + b"".join(
+        b"%d.%03d,40621d,8d%s\n" % (k, chance.randrange(1000), chance.randbytes(13).hex().encode())
+        for k in range(count)
+    )
+
+
+def archives() -> None:
+    """gzip, bzip2 and xz are read as what is packed in them, in any pieces, of many members, and filled up with
+    zeros."""
+    for data in (LINE, b"", many_rows(20), many_rows(30_000)):
+        wanted = heard([data])
+        for name, pack in ARCHIVES.items():
+            packed = pack(data)
+            half = len(data) // 2
+            for archive in (packed, pack(data[:half]) + pack(data[half:]), packed + bytes(1024), pack(b"") + packed):
+                same(heard([archive]), wanted, name)
+                pieces = [archive[place : place + 4096] for place in range(0, len(archive), 4096)]
+                same(heard(pieces), wanted, name, "in pieces")
+                if len(archive) < 5000:
+                    same(heard(byte_by_byte(archive)), wanted, name, "byte by byte")
+    twice = gzip.compress(gzip.compress(LINE))
+    same(heard([twice])[0], [], "packed twice")
+    expect("no frame" in str(heard([twice])[1]), "packed twice")
+    for name, pack in ARCHIVES.items():
+        expect("no frame" in str(heard([pack(b"x" * 100_000)])[1]), name)
+
+
+def by_process() -> None:
+    """An archive in a file and by a pipe; one that is damaged, or ends early: what came before is printed, status 1."""
+    data = many_rows(5000)
+    whole = ran(["-"], data)[1]
+    same(whole.count("\n"), 5000)
+    for name, pack in ARCHIVES.items():
+        packed = pack(data)
+        same(ran(["-"], packed), (0, whole, "squitter-feed: 5000 printed\n"), name)
+        status, printed, said = ran(["-"], packed[: len(packed) // 2])
+        expect(status == 1 and f"the {name} archive ends early" in said, name, status, said)
+        expect(whole.startswith(printed) and printed.count("\n") > (1000 if name != "bzip2" else -1), name)
+        expect(f": {printed.count(chr(10))} printed" in said, said)
+        harmed = bytearray(packed)
+        harmed[len(packed) * 2 // 3] ^= 0x55
+        status, printed, said = ran(["-"], bytes(harmed))
+        expect(status == 1 and f"the {name} archive is damaged" in said, name, status, said)
+        expect(printed.count("\n") > (1000 if name == "gzip" else -1), name, printed.count("\n"))
+
+
+def damaged() -> None:
+    """Of a damaged gzip archive all is read that stands before the damage; an archive with a foreign end is refused."""
+    data = many_rows(300)
+    wanted = heard([data])[0]
+    packed = gzip.compress(data)
+    for place in (len(packed) - 1, len(packed) - 8):
+        harmed = packed[:place] + bytes([packed[place] ^ 1]) + packed[place + 1 :]
+        same(heard([harmed]), (wanted, "the gzip archive is damaged"), place)
+    for name, pack in ARCHIVES.items():
+        packed = pack(data)
+        for count in range(len(packed) - 20, len(packed)):
+            same(heard([packed[:count]])[1], f"the {name} archive ends early", count)
+        same(heard([packed + b"\x00\x00x"]), (wanted, f"the {name} archive is damaged at its end"), name)
+        same(heard([packed + packed[:2]]), (wanted, f"the {name} archive ends early"), name)
+        for place in (12, len(packed) // 2):
+            harmed = packed[:place] + bytes(40) + packed[place + 40 :]
+            expect(heard([harmed])[1] is not None, name, place)
+    same(heard([b"\x1f\x8b" + bytes(30)]), ([], "the gzip archive is damaged"))
+    same(heard([b"\x1f"])[1], heard([b"x"])[1], "one byte")
+
+
+def too_large() -> None:
+    """An xz archive that wants more memory than there may be taken is refused; a very small one of much is not kept."""
+    packed = bytearray(lzma.compress(LINE * 10))
+    head = 12  # of the stream; then comes the head of the block, with the size of the dictionary, and its sum
+    size = (packed[head] + 1) * 4
+    place = packed.index(b"\x21\x01", head) + 2
+    packed[place] = 39  # 3 GiB
+    packed[head + size - 4 : head + size] = struct.pack("<I", zlib.crc32(packed[head : head + size - 4]))
+    same(heard([bytes(packed)]), ([], "the xz archive wants too much memory"))
+    for name, pack in ARCHIVES.items():
+        packed_zeros = pack(b"\n" * 50_000_000)
+        largest = max(len(piece) for piece in Unpacking().pieces(packed_zeros))
+        expect(largest <= squitter_unpack.ROOM, name, largest)
+
+
+def never_well() -> None:
+    """Bytes by chance and archives of other kinds never end with status 0."""
+    chance = random.Random(7)
+    for number in range(400):
+        size = chance.choice((1, 2, 5, 11, 50, 300, 5000, 20_000))
+        data = chance.randbytes(size)
+        lines, refusal = heard([data])
+        expect(not lines and refusal is not None, number, data[:40], lines)
+    packed = zlib.compress(many_rows(2000))
+    for data in (packed, packed[2:], lzma.compress(LINE, lzma.FORMAT_ALONE)):
+        expect(heard([data])[1] is not None and not heard([data])[0], data[:20])
+    same(ran(["-"], chance.randbytes(200_000))[:2], (1, ""))
+    same(heard([beast(GROUND) * 3])[1], None)
