@@ -39,7 +39,7 @@ def features(text: str) -> Dict[str, Any]:
 
 def lines_of(one: Any) -> List[List[List[Any]]]:
     """The lines of a feature, each position with its moment."""
-    shape, moments = one["geometry"]["coordinates"], one["properties"]["moments"]
+    shape, moments = one["geometry"]["coordinates"], one["properties"]["moment"]
     kind = one["geometry"]["type"]
     if kind == "LineString":
         shape, moments = [shape], [moments]
@@ -81,8 +81,29 @@ def flights() -> None:
     expect(crossings == 1, crossings, "lines begin at 180 degrees")
 
 
+COLUMNS = ["line", "moment", "answer", "address", "kind", "lat", "lon", "feet"]
+HEADER = ",".join(COLUMNS) + "\n"
+GOOD = "1,0,fix,40621D,air,52.0000000,4.0000000,-25\n"
+OF_JSON = dict(zip(COLUMNS, (1, 0, "fix", "40621D", "air", 52.5, 4, 75)))
+
+
+def of_rows(text: str, *words: str) -> Tuple[int, str, str]:
+    """The status, the map and the report of rows."""
+    done = subprocess.run([MAPS, "-", *words], input=text.encode(), capture_output=True, timeout=60)
+    return done.returncode, done.stdout.decode(), done.stderr.decode()
+
+
+def without(text: str, *names: str) -> Any:
+    """A map without some properties."""
+    found = json.loads(text, parse_float=str)
+    for one in found["features"]:
+        for name in names:
+            one["properties"].pop(name, None)
+    return found
+
+
 def rows() -> None:
-    """Of rows in either form the map is that of the lines, with the altitudes; there it needs no log."""
+    """Of rows in either form the map is that of the lines, with kinds and altitudes; there it needs no log."""
     with open(LOG) as file:
         log = file.read()
     wanted = drawn(log, answers())
@@ -90,30 +111,99 @@ def rows() -> None:
     for form in ("csv", "json"):
         with open(LOG, "rb") as given:
             words = [program(), "track", f"--format={form}", *SITE]
-            told = subprocess.run(words, stdin=given, stdout=subprocess.PIPE).stdout
-        done = subprocess.run([MAPS, "-"], input=told, capture_output=True, timeout=60)
-        same((done.returncode, done.stdout.decode(), done.stderr), (0, wanted[1], b""))
-    header = "line,moment,answer,address,kind,lat,lon,feet\n"
-    table = header + ("1,0,fix,40621D,air,52.0000000,179.9999999,-25\n2,1,waiting,40621D,air,,,\n"
+            told = subprocess.run(words, stdin=given, stdout=subprocess.PIPE).stdout.decode()
+        for text in (told, told.replace("\n", "\r\n")):
+            status, drawing, said = of_rows(text)
+            same((status, said), (0, ""), form)
+            same(without(drawing, "kind", "feet"), json.loads(wanted[1], parse_float=str), form)
+    table = HEADER + ("1,0,fix,40621D,air,52.0000000,179.9999999,-25\n2,1,waiting,40621D,air,,,\n"
                       "3,9,followed,40621D,air,52.0000002,-179.9999999,\n4,,bad moment,,,,,\n")
-    one = features(drawn(table, "")[1])["40621D"]
+    one = features(of_rows(table)[1])["40621D"]
     same(one["geometry"]["type"], "MultiLineString")
-    same(one["properties"]["feet"], [[-25, None], [None, None]])
-    same(one["properties"]["moments"], [[0, 5], [5, 9]])
+    same(list(one["properties"]), ["line", "moment", "answer", "address", "kind", "feet", "places"])
+    same(one["properties"], {
+        "line": [[1, None], [None, 3]], "moment": [[0, 5], [5, 9]], "answer": [["fix", None], [None, "followed"]],
+        "address": "40621D", "kind": [["air", None], [None, "air"]], "feet": [[-25, None], [None, None]], "places": 2})
     same(drawn(table, "", "-")[0], 2)
-    for text in (header, ""):
-        done = subprocess.run([MAPS, "-"], input=text.encode(), capture_output=True, timeout=60)
-        same((done.returncode, json.loads(done.stdout)["features"]), (0, []))
-    good = "1,0,fix,40621D,air,52.0000000,4.0000000,-25\n"
-    for row in ("1,0,fix,40621D,air,52.0,4.0,\n", "1,,fix,40621D,air,52.0000000,4.0000000,\n",
-                "1,0,fix,x,air,52.0000000,4.0000000,\n", "1,0,fix\n", "\n",
-                "1,0,fix,40621D,air,52.0000000,4.0000000,high\n"):
+    same(list(features(of_rows(HEADER + GOOD[:-4] + "\n")[1])["40621D"]["properties"]),
+         ["line", "moment", "answer", "address", "kind", "places"], "no altitude")
+    for text in (HEADER, ""):
+        same((of_rows(text)[0], json.loads(of_rows(text)[1])["features"]), (0, []))
+
+
+def columns() -> None:
+    """Columns are found by their names, in any order and among others; members of JSON too."""
+    wanted = features(of_rows(HEADER + GOOD)[1])["40621D"]
+    cells = dict(zip(COLUMNS, GOOD.strip().split(",")))
+    orders = [COLUMNS[::-1], COLUMNS[3:] + COLUMNS[:3], ["x", *COLUMNS, "lat_e7", "fault"]]
+    for order in orders:
+        for end in ("\n", "\r\n"):
+            text = ",".join(order) + end + ",".join(cells.get(name, "a b") for name in order) + end
+            same(features(of_rows(text)[1])["40621D"], wanted, order)
+            same(features(of_rows(f"\ufeff{text}")[1])["40621D"], wanted, "a mark of UTF-8")
+    quoted = 'note,"' + '","'.join(COLUMNS) + '"\n"two\nlines","' + '","'.join(cells.values()) + '"\n'
+    same(features(of_rows(quoted)[1])["40621D"], wanted, "quotes")
+    for names in (["line"], ["kind", "feet"], ["line", "kind", "feet"]):
+        left = [name for name in COLUMNS if name not in names]
+        status, drawing, said = of_rows(",".join(left) + "\n" + ",".join(cells[name] for name in left) + "\n")
+        same((status, said), (0, ""), names)
+        same(list(features(drawing)["40621D"]["properties"]),
+             [name for name in [*COLUMNS[:5], "feet", "places"] if name not in names])
+    for name in ("moment", "answer", "address", "lat", "lon"):
+        left = [other for other in COLUMNS if other != name]
+        status, drawing, said = of_rows(",".join(left) + "\n" + ",".join(cells[other] for other in left) + "\n")
+        same((status, drawing), (1, ""), name)
+        expect(f"has no {name}; expected {HEADER.strip()}" in said, said)
+        row = {other: value for other, value in OF_JSON.items() if other != name}
+        same(of_rows(json.dumps(row) + "\n")[:2], (1, ""), "JSON without", name)
+    for row in (dict(reversed(OF_JSON.items())), {"x": [1], **OF_JSON}, {**OF_JSON, "y": None}):
+        got = features(of_rows(json.dumps(row) + "\n")[1])["40621D"]
+        same(got["geometry"]["coordinates"], ["4.0000000", "52.5000000"], row)
+        same(got["properties"]["feet"], 75)
+
+
+def foreign() -> None:
+    """A file that has neither rows nor a log says what was expected; a row that is none of track's is named."""
+    for text in ("id;moment\n", "time,icao24,rawmsg\n1.5,x,8D\n", GOOD, "x\n" * 200, "\xff\x00\n", "1,0,fix\n"):
+        for given in (of_rows(text), drawn(text, "")):
+            expect(given[:2] == (1, "") and HEADER.strip() in given[2] and "Traceback" not in given[2], text, given)
+    same(drawn("x\n" * 99 + f"5 8D40621D{'0' * 20}\n", "")[0], 0, "a log whose first lines are damaged")
+    same(drawn("x\n" * 100 + f"5 8D40621D{'0' * 20}\n", "")[0], 1, "a log whose first lines are all damaged")
+    bad_cells = {
+        "lat": ["", "x", "90.0000001", "-90.0000001", "1234", "1.12345678", "\u0665.0000000", "1e1", "nan"],
+        "lon": ["", "180.0000001", "-180.0000001", "+1"], "moment": ["", "-1", "1.5", "1" * 21, "\u0665"],
+        "address": ["", "x", "40621d", "40621DD"], "kind": ["x"], "feet": ["high", "1.5", "1234567"],
+        "line": ["x", "-1"],
+        "answer": ["", "x", "Fix", "bad", "fixed", "parity 12", "moment back"],
+    }
+    cells = dict(zip(COLUMNS, GOOD.strip().split(",")))
+    rows = [",".join({**cells, name: cell}.values()) + "\n" for name, bad in bad_cells.items() for cell in bad]
+    rows += ["1,0,fix\n", "\n", GOOD.strip() + ",x\n", '"' + "x" * 200_000 + '"\n', "1,0,fix,40621D,air,52,4\n"]
+    for row in rows:
         for before in (0, 2):
-            status, text, report = drawn(header + good * before + row, "")
-            same((status, text, f"row {before + 1} is no answer of track" in report), (1, "", True), row)
-    for line in ('{"line":1}', '{"line":1', "null"):
-        text = f"{line}\n" if line.startswith('{"line":') else f'{{"line":1,}}\n{line}\n'
-        same(drawn(text, "")[0], 1, line)
+            status, text, report = of_rows(HEADER + GOOD * before + row)
+            expect((status, text) == (1, "") and f"row {before + 1} is no answer of track" in report, row, report)
+    for name, cell in (("lat", "90.0000000"), ("lat", "-90"), ("lon", "-180.0000000"), ("lon", "180"), ("feet", ""),
+                       ("kind", ""), ("line", ""), ("lat", "5.1"), ("moment", "9" * 20), ("kind", "ground")):
+        same(of_rows(HEADER + ",".join({**cells, name: cell}.values()) + "\n")[0], 0, name, cell)
+    for answer in ("waiting", "split", "far", "no site", "no position", "bad wrapping", "short frame",
+                   "bad length 7", "bad digit 3", "not DF17 11", "parity 0000FF", "long line", "bad moment",
+                   "moment back 5", "table full"):
+        same(of_rows(f"{HEADER}1,,{answer},,,,,\n")[0], 0, answer)
+
+
+def foreign_objects() -> None:
+    """Rows of JSON that are none of track's are named."""
+    texts = [json.dumps({**OF_JSON, name: value}) for name, value in (
+        ("lat", True), ("address", ["x"]), ("lat", "\u0665.0"), ("answer", None), ("answer", 5), ("feet", {}),
+        ("moment", -1), ("lon", 1e300), ("lat", float("nan")), ("line", False))]
+    texts += ['{"line":1}', '{"line":1', "null", "[]", "{}", '{"x":' + "[" * 200_000, "5", "\xff", ""]
+    for text in texts:
+        status, printed, said = of_rows(json.dumps(OF_JSON) + f"\n{text}\n")
+        expect((status, printed) == (1, "") and "row 2 is no answer of track" in said, text[:50], said)
+        status, printed, said = of_rows(f"{text}\n")
+        expect(status == 1 and not printed and "Traceback" not in said, text[:50], said)
+    same(of_rows(json.dumps({**OF_JSON, "feet": None, "line": None}) + "\n")[0], 0)
 
 
 def cut() -> None:
@@ -130,7 +220,7 @@ def cut() -> None:
     last = [["179.8000000", "10.0000000", 16_001], ["179.7000000", "-0.0000001", 16_002]]
     same(lines_of(found["4B1001"]), [[[*start, 0], east], [west, far, back_west], [back_east, [*start, 6000]], last])
     same(found["A00002"]["geometry"], {"type": "Point", "coordinates": ["-0.5000000", "-33.9000000"]})
-    same(found["A00002"]["properties"]["moments"], 16_003)
+    same(found["A00002"]["properties"]["moment"], 16_003)
     same(len(lines_of(features(drawn(log, text, "--silence=10001")[1])["4B1001"])), 3, "--silence")
     same(features(drawn("", "")[1]), {}, "nothing")
 
@@ -166,7 +256,7 @@ def kml() -> None:
 def refusals() -> None:
     """Answers that are of another log, what are no answers, files that are not there, and a closed pipe."""
     log, text = log_of_places((0, "4B1001", "1.0000000", "2.0000000"), (5, "4B1001", "1.0000000", "2.0000000"))
-    for other in (log[2:], "", log.replace("4B1001", "4B1002"), f"x\n{log}"):
+    for other in (log[:2] + log[3:], "", log.replace("4B1001", "4B1002"), f"x\n{log}", log.splitlines(True)[0]):
         status, printed, said = drawn(other, text)
         expect((status, printed) == (1, "") and "not of this log" in said, other, status, said)
     for wrong in ("no answers\n", "{}\n", "\n", log):
@@ -182,6 +272,19 @@ def refusals() -> None:
     for words, wanted in rows:
         done = subprocess.run([MAPS, *words], stdin=subprocess.DEVNULL, capture_output=True)
         expect(done.returncode == wanted and done.stdout == b"" and b"Traceback" not in done.stderr, words, done)
+    for closed, status in ((">&-", 3), ("2>&-", 0), ("<&-", 0)):
+        with tempfile.TemporaryDirectory() as work:
+            with open(f"{work}/rows.csv", "w") as file:
+                file.write(HEADER + GOOD)
+            done = subprocess.run(["sh", "-c", f'"$0" {work}/rows.csv {closed}', MAPS], capture_output=True)
+            expect(done.returncode == status and b"Traceback" not in done.stderr, closed, done)
+            if status:
+                same(done.stderr, b"squitter-geojson: standard output is closed\n")
+    done = subprocess.run(["sh", "-c", f'"$0" - <&-', MAPS], capture_output=True)
+    expect(done.returncode == 3 and b"Bad file descriptor" in done.stderr, done)
+    done = subprocess.run(["bash", "-c", f'set -o pipefail; "$0" {LOG} | head -c 1', MAPS], input=answers().encode(),
+                          capture_output=True)
+    same((done.returncode, done.stdout, done.stderr), (0, b"{", b""), "a closed pipe")
     with open("/dev/full", "wb") as full:
         done = subprocess.run([MAPS, "/dev/null"], stdin=subprocess.DEVNULL, stdout=full, stderr=subprocess.PIPE)
     expect(done.returncode == 3 and b"Traceback" not in done.stderr and b"Exception" not in done.stderr, done)
