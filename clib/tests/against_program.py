@@ -126,7 +126,7 @@ def shown(answer):
     return out if status == 0 else report.strip()
 
 
-def compare_logs(rng, texts):
+def compare_logs(rng, texts, _count):
     out, _, _ = run("check", text="".join(f"{text}\n" for text in texts))
     *lines, tally = out.splitlines()
     for number, (text, line) in enumerate(zip(texts, lines), 1):
@@ -179,7 +179,7 @@ def places_of(answers):
     return [(one.code, one.first, one.second) if isinstance(one, Fault) else one for one in answers]
 
 
-def compare_arrays(rng, texts):
+def compare_arrays(rng, texts, _count):
     """Each call of arrays beside the single calls, with a frame at each place that is now and then at fault."""
     frames = [frame for frame in (single(squitter.frame, text) for text in texts) if isinstance(frame, bytes)]
     older = [rng.choice(frames) for _ in frames]
@@ -209,11 +209,11 @@ def main():
     count = int(sys.argv[1]) if len(sys.argv) > 1 else 10_000
     rng = random.Random(20261122)
     texts = list(random_frames(rng, count))
-    lines = compare_logs(rng, texts)
-    calls = compare_calls(rng, texts, count)
-    places = compare_arrays(rng, texts)
-    print(f"against the program: {lines} frames by check and by track, {calls} calls of local, pair and encode; "
-          f"{places} places of each call of arrays; {differences} differ")
+    # each function of this file whose name begins so is tried
+    counts = {name: one(rng, texts, count) for name, one in list(globals().items()) if name.startswith("compare_")}
+    print(f"against the program: {counts['compare_logs']} frames by check and by track, "
+          f"{counts['compare_calls']} calls of local, pair and encode; "
+          f"{counts['compare_arrays']} places of each call of arrays; {differences} differ")
     sys.exit(differences != 0)
 
 

@@ -273,13 +273,26 @@ def check_heap():
             differ("heap.c and dist/os.c")
 
 
+def check_tests():
+    """The tests: each file of them is named by the Makefile, and each method of a test case is a test, or is used."""
+    with open(os.path.join(CLIB, "Makefile"), encoding="utf-8") as file:
+        make = file.read()
+    for name in sorted(os.listdir(HERE)):
+        if not name.startswith((".", "__")) and f"tests/{name}" not in make:
+            differ(f"the Makefile does not run tests/{name}")
+        if name.startswith("test_"):
+            with open(os.path.join(HERE, name), encoding="utf-8") as file:
+                text = file.read()
+            for method in re.findall(r"^    def (\w+)\(self\)", text, re.M):
+                if not method.startswith(("test_", "setUp", "tearDown")) and text.count(f".{method}(") == 0:
+                    differ(f"{method} of tests/{name} is no test, and nothing calls it")
+
+
 def main():
-    check_c()
-    check_heap()
-    check_python_structs()
-    check_codes()
-    check_enums()
-    check_symbols()
+    # each function of this file whose name begins so is tried
+    for name, one in list(globals().items()):
+        if name.startswith("check_"):
+            one()
     print(f"same: {len(list(exports()))} calls, {len(list(structs()))} structs, {len(squitter.Code)} codes")
     sys.exit(bool(differences))
 
