@@ -3,10 +3,9 @@
 
 An archive is files of CSV, plain or compressed by gzip, in the order of their time, as one for each hour: rows of
 time, in seconds with any decimals, icao24 and rawmsg, or of the columns that a first row names. For each file FOLDER
-gets one of the same name with the answers, in order: CSV of line, moment, answer, icao24, lat, lon, even and odd,
-whose words and decimals are those of `squitter track`, and with --parquet a file of Parquet beside it (needs
-pyarrow), with the exact fractions too. The lines are numbered over the whole archive, rows of names left out. A file
-that is there is whole.
+gets one of the same name with the answers, in order: the rows of `squitter track --format=csv`, byte for byte. With
+--parquet there is a file of Parquet beside it (needs pyarrow), with the same columns and the exact fractions behind
+them. The lines are numbered over the whole archive, rows of names left out. A file that is there is whole.
 
 Why it is right: what `track` answers to a line that it accepts depends on what it accepted of the same address
 before, and of no other (docs/THEOREMS.md, `one_address_alone`). So the lines are cut by address, and each part is
@@ -21,25 +20,34 @@ cluster that sees the same files. Some hours are read at once; the parts of each
 and what a part keeps, 192 bytes for an address, goes on to its next hour. If a process is lost, its tasks are run
 again: each depends on its arguments alone."""
 import argparse
+import contextlib
 import copy
 import csv
 import gzip
+import importlib.util
 import os
 import re
 import sys
 from dataclasses import dataclass, replace
 from typing import Any, List, Optional, Sequence, Tuple
 
-import dask.config
-import numpy as np
-from dask.base import compute
-from dask.delayed import delayed
-from numpy.typing import NDArray
+NEEDED = {"numpy": "python3-numpy", "dask": "python3-dask", "distributed": "python3-distributed"}
+missing = [package for name, package in NEEDED.items() if importlib.util.find_spec(name) is None]
+if missing:
+    sys.exit(f"archive.py: needs {', '.join(missing)} of Debian")
+try:
+    import squitter
+except (ImportError, OSError) as fault:
+    sys.exit(f"archive.py: needs squitter for Python, as `make -C clib` and PYTHONPATH=clib give it: {fault}")
+import dask.config  # noqa: E402
+import numpy as np  # noqa: E402
+from dask.base import compute, persist  # noqa: E402
+from dask.delayed import delayed  # noqa: E402
+from distributed import progress  # noqa: E402
+from numpy.typing import NDArray  # noqa: E402
+from squitter import batch  # noqa: E402
 
-import squitter
-from squitter import batch
-
-HEADER = b"line,moment,answer,icao24,lat,lon,even,odd\n"
+HEADER = ",".join(batch.COLUMNS).encode() + b"\n"
 # Dask has its processes give memory back at once: arrays that come and go then cost as much as what is done with them.
 MEMORY = {"MALLOC_TRIM_THRESHOLD_": 1 << 30, "MALLOC_MMAP_THRESHOLD_": 1 << 25, "MALLOC_ARENA_MAX": 1}
 SECONDS = re.compile(r"([0-9]{1,12})(?:\.([0-9]*))?")
@@ -243,18 +251,29 @@ def write(
             file.write(batch.csv_rows(hour.moments, answers, cut_hour.faults, before.lines + 1))
     os.replace(f"{path}.part", path)
     if parquet:
-        write_parquet(f"{path}.parquet", hour.moments, answers, cut_hour.faults)
+        write_parquet(f"{path}.parquet", hour.moments, answers, cut_hour.faults, before.lines + 1)
     return len(answers)
 
 
-def write_parquet(path: str, moments: NDArray[np.uint64], answers: NDArray[np.void], faults: NDArray[np.void]) -> None:
-    """The same as a table of numbers: the moments, the fields of TRACKED, and those of FAULT after `fault_`."""
+def write_parquet(
+    path: str, moments: NDArray[np.uint64], answers: NDArray[np.void], faults: NDArray[np.void], first: int
+) -> None:
+    """The same as a table: the columns of `batch.columns`, the exact fractions, and the numbers of splits and faults.
+    What a line has not is null."""
     import pyarrow
     import pyarrow.parquet
 
-    columns = {"moment": moments, **{name: answers[name] for name in answers.dtype.names or ()}}
-    columns.update({f"fault_{name}": faults[name] for name in faults.dtype.names or ()})
-    table = pyarrow.table({name: np.ascontiguousarray(column) for name, column in columns.items()})
+    columns = batch.columns(moments, answers, faults, first)
+    nowhere = np.ma.getmaskarray(columns["lat"])
+    for name in batch.POSITION.names or ():
+        columns[name] = np.ma.MaskedArray(answers[name], nowhere)
+    whole = answers["what"] != squitter.What.SPLIT
+    columns.update({name: np.ma.MaskedArray(answers[name], whole) for name in ("even", "odd")})
+    good = faults["code"] == 0
+    columns.update({f"fault_{name}": np.ma.MaskedArray(faults[name], good) for name in ("first", "second")})
+    table = pyarrow.table({
+        name: pyarrow.array(np.ascontiguousarray(column.data), mask=np.ma.getmaskarray(column))
+        for name, column in columns.items()})
     pyarrow.parquet.write_table(table, f"{path}.part")
     os.replace(f"{path}.part", path)
 
@@ -285,7 +304,12 @@ def hours(
         written.append(delayed(write)(to, hour, before, pieces, [heard for _, heard in told], parquet))
         trackers = [tracker for tracker, _ in told]
         before = delayed(following)(before, hour)
-    _, after, kept = compute(written, before, trackers)
+    # (the bar of dask.diagnostics is for schedulers within one process; this one is of its kind)
+    begun = persist(*written, before, *trackers)
+    with contextlib.redirect_stdout(sys.stderr):
+        progress(begun, notebook=False)
+    print(file=sys.stderr)
+    _, after, *kept = compute(begun[:len(written)], *begun[len(written):])
     return after, kept
 
 
@@ -307,6 +331,8 @@ def options_of(words: Optional[Sequence[str]] = None) -> argparse.Namespace:
         parser.error("a site is --lat and --lon")
     if any(number is not None and number < 1 for number in (options.workers, options.parts, options.hours)):
         parser.error("workers, parts and hours are numbers from 1")
+    if options.parquet and importlib.util.find_spec("pyarrow") is None:
+        parser.error("--parquet needs pyarrow, which is not installed")
     names = [os.path.basename(path) for path in options.files]
     if len(set(names)) < len(names):
         parser.error("two files have one name")

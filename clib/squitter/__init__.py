@@ -1,8 +1,9 @@
 """ADS-B position squitters (DF17), read, decoded and written exactly: libsquitter for Python.
 
-Angles are ``fractions.Fraction`` in degrees, in and out, so nothing is rounded. A frame is 14 bytes, or its text of 28
-hexadecimal digits, bare or between ``*`` and ``;``. What has no answer raises a :class:`Fault`, whose text is the
-library's; a value that does not fit a C number of its field is refused by the fault that the field has.
+Angles are ``fractions.Fraction`` in degrees, so nothing is rounded. Whole numbers, ``decimal.Decimal`` and texts such
+as ``"52.25"`` are taken too. A float is refused, since its digits are not those that were written. A frame is 14 bytes,
+or its text of 28 hexadecimal digits, bare or between ``*`` and ``;``. What has no answer raises a :class:`Fault`, whose
+text is the library's; a value that does not fit a C number of its field is refused by the fault that the field has.
 
 >>> import squitter
 >>> squitter.read("8D40621D58C382D690C8AC2863A7").feet
@@ -19,9 +20,12 @@ import operator
 import threading
 import weakref
 from dataclasses import dataclass
+from decimal import Decimal
 from fractions import Fraction
 from numbers import Rational
-from typing import Iterable, Iterator, List, NamedTuple, Optional, Sequence, Tuple, Type, TypeVar, Union
+from typing import (
+    Any, Iterable, Iterator, List, NamedTuple, Optional, Sequence, SupportsIndex, Tuple, Type, TypeVar, Union,
+)
 
 from squitter._library import (
     _FRAME, _AirHead, _Altitude, _Angle, _DegreesE7, _Entry, _Fault, _Fields, _GroundHead, _Heard, _Position, _Present,
@@ -41,8 +45,8 @@ Frame = Union[bytes, bytearray, str]
 Frames = Union[bytes, bytearray, memoryview]
 """Frames one after the other, 14 bytes each."""
 
-Degrees = Union[int, Rational]
-"""An exact number of degrees: an int or a Fraction. A float is refused."""
+Degrees = Union[int, Rational, Decimal, str]
+"""An exact number of degrees: an int, a Fraction, a Decimal or a text. A float is refused."""
 
 
 class Code(enum.IntEnum):
@@ -151,6 +155,16 @@ class Fields(NamedTuple):
     track: int
     raw: int
 
+    @property
+    def lat_code(self) -> int:
+        """The code of the latitude, 17 bits: the field `lat`, which is no number of degrees."""
+        return self.lat
+
+    @property
+    def lon_code(self) -> int:
+        """The code of the longitude, 17 bits: the field `lon`, which is no number of degrees."""
+        return self.lon
+
 
 @dataclass(frozen=True)
 class AirHead:
@@ -227,10 +241,24 @@ def _done(fault: _Fault) -> None:
         raise Fault(fault.code, fault.first, fault.second)
 
 
+def _exact(degrees: Degrees, code: Code) -> Rational:
+    """An exact number as a fraction. One that is none, or far too large, is refused with this code."""
+    if isinstance(degrees, str):
+        return angle(degrees)
+    if isinstance(degrees, Decimal):
+        if not degrees.is_finite() or degrees.adjusted() > 20 or int(degrees.as_tuple().exponent) < -400:
+            raise Fault(code)
+        return Fraction(degrees)
+    if not isinstance(degrees, Rational):
+        written = f": write '{degrees!r}' for these digits, or Fraction({degrees!r}) for the float itself"
+        raise TypeError(f"degrees are an int, a Fraction, a Decimal or a text, and not {type(degrees).__name__}"
+                        + (written if isinstance(degrees, float) else ""))
+    return degrees
+
+
 def _angle(degrees: Degrees, code: Code) -> _Angle:
     """The fraction of an exact number; a numerator or denominator that is too large is refused with this code."""
-    if not isinstance(degrees, Rational):
-        raise TypeError("degrees are an int or a Fraction, not " + type(degrees).__name__)
+    degrees = _exact(degrees, code)
     num, den = int(degrees.numerator), int(degrees.denominator)
     if not -1 << 63 <= num < 1 << 63 or not _fits(den, 64):
         raise Fault(code)
@@ -418,14 +446,14 @@ class Contact:
         self._entry, self._window = _Entry(), operator.index(window)
         self._site = None if site is None else _position(site)
 
-    def __copy__(self) -> Contact:
-        other = Contact(self._window)
-        other._entry = _Entry.from_buffer_copy(self._entry)
-        other._site = None if self._site is None else _Position.from_buffer_copy(self._site)
-        return other
-
-    def __deepcopy__(self, memo: object) -> Contact:
-        return self.__copy__()
+    def __reduce_ex__(self, protocol: SupportsIndex) -> Tuple[Any, ...]:
+        """Returns what a copy, a deep copy or a pickle is made of: the class, its attributes, and an entry of its
+        own."""
+        call, arguments, state, *more = super().__reduce_ex__(max(2, operator.index(protocol)))
+        if isinstance(state, tuple):
+            names, slots = state
+            state = names, {**slots, "_entry": _Entry.from_buffer_copy(self._entry)}
+        return (call, arguments, state, *more)
 
     def hear(self, moment: int, source: Frame) -> Heard:
         """What is heard of a frame, by those that were heard before. A Fault leaves the contact as it was."""
@@ -470,8 +498,9 @@ class Tracker:
     """All addresses at once, as the program ``squitter track`` hears them: what each frame answers by those before it.
 
     Its memory is the library's, and is given back by :meth:`close`, at the end of a ``with``, or with the tracker
-    itself; afterwards each call raises the Fault NO_TRACKER. Calls from several threads wait for one another. A tracker
-    has no copy and no pickle: :class:`Contact` and ``squitter.batch.Tracker`` have.
+    itself; afterwards each call but :meth:`close` raises the Fault NO_TRACKER, whatever its arguments. Calls from
+    several threads wait for one another, and a handler of signals may ask too. A tracker has no copy and no pickle:
+    :class:`Contact` and ``squitter.batch.Tracker`` have.
 
     >>> with Tracker(window=10_000) as tracker:
     ...     tracker.hear(0, "8D40621D58C386435CC412692AD6").what.name
@@ -497,7 +526,8 @@ class Tracker:
             _done(_lib.squitter_tracker_new(tracker, limit, window))
         else:
             _done(_lib.squitter_tracker_new_at(tracker, limit, window, ctypes.byref(_position(site))))
-        self._tracker, self._lock = held, threading.Lock()
+        # (a handler of signals runs in a thread that may hold the lock, but in no call of the library)
+        self._tracker, self._lock = held, threading.RLock()
         self._free = weakref.finalize(self, _lib.squitter_tracker_free, held)
 
     def close(self) -> None:
@@ -505,7 +535,13 @@ class Tracker:
         with self._lock:
             self._free()
 
+    def _look_open(self) -> None:
+        """Raises NO_TRACKER where the tracker is closed."""
+        if not self._free.alive:
+            raise Fault(Code.NO_TRACKER)
+
     def __enter__(self) -> Tracker:
+        self._look_open()
         return self
 
     def __exit__(self, *fault: object) -> None:
@@ -516,31 +552,35 @@ class Tracker:
 
     def hear(self, moment: int, source: Frame) -> Heard:
         """What is heard of a frame. A Fault leaves the tracker as it was."""
-        times, bytes_of, out = _times([moment], 1), frame(source), _Heard()
         with self._lock:
+            self._look_open()
+            times, bytes_of, out = _times([moment], 1), frame(source), _Heard()
             _done(_lib.squitter_tracker_hear(ctypes.byref(self._tracker), times[0], bytes_of, ctypes.byref(out)))
         return _read_heard(out)
 
     def hear_many(self, moments: Sequence[int], frames: Frames) -> List[Union[Heard, Fault]]:
         """What is heard of each frame at its moment, one after the other, or its fault, which is not raised. Other than
         one moment a frame is a ValueError."""
-        source, count = _frames(frames)
-        times = _times(moments, count)
-        arrays = (ctypes.addressof(times), count, source, count)
         with self._lock:
+            self._look_open()
+            source, count = _frames(frames)
+            times = _times(moments, count)
+            arrays = (ctypes.addressof(times), count, source, count)
             answers = list(_many("tracker_hear_many", _Heard, count, ctypes.byref(self._tracker), *arrays))
         return [fault or _read_heard(out) for out, fault in answers]
 
     def __len__(self) -> int:
-        """How many addresses are present, at most the limit; 0 of one that is closed."""
+        """How many addresses are present, at most the limit."""
         with self._lock:
+            self._look_open()
             return int(_lib.squitter_tracker_len(ctypes.byref(self._tracker)))
 
     def __getitem__(self, index: int) -> Present:
         """The present address at an index, the longest unheard first; below 0 from the newest on. The time grows with
         the index."""
-        place, out = operator.index(index), _Present()
         with self._lock:
+            self._look_open()
+            place, out = operator.index(index), _Present()
             count = int(_lib.squitter_tracker_len(ctypes.byref(self._tracker)))
             if not -count <= place < count:
                 raise IndexError(f"{count} addresses are present")
@@ -651,3 +691,6 @@ def version() -> str:
     """The version of the library."""
     number = _lib.squitter_version()
     return f"{number >> 16}.{number >> 8 & 255}.{number & 255}"
+
+
+__version__ = version()

@@ -17,7 +17,7 @@ layout is a ValueError that names it. While a call runs nobody else may write to
 >>> batch.lines(heard, faults).decode().splitlines()
 ['1 waiting 40621D', '2 fix 40621D 52.2572021 3.9193726']
 >>> batch.csv_rows([0, 400], heard, faults).decode().splitlines()
-['1,0,waiting,40621D,,,,', '2,400,fix,40621D,52.2572021,3.9193726,,']
+['1,0,waiting,40621D,air,,,38000', '2,400,fix,40621D,air,52.2572021,3.9193726,38000']
 >>> heard[["lat_e7", "lon_e7", "lat_num", "lat_den"]][1].tolist()
 (522572021, 39193726, 428091, 8192)
 """
@@ -29,47 +29,21 @@ import operator
 from collections import OrderedDict
 from concurrent.futures import ThreadPoolExecutor
 from contextlib import closing
-from typing import Any, Callable, Generator, Iterable, Iterator, NamedTuple, Optional, Sequence, Tuple
+from typing import Any, Callable, Generator, Iterable, NamedTuple, Optional, Sequence, Tuple
 
 import numpy as np
 import numpy.typing as npt
 
 import squitter
 from squitter import Code, Kind, Position, What
+from squitter._answers import columns, csv_rows, dataframe, fractions, lines
 from squitter._library import _ARRAY, _FRAME, _Entry, _fits, _lib, _text
+from squitter._records import COLUMNS, DEGREES, FAULT, FIELDS, POSITION, TRACKED, Records, _is_missing, _moments
 
 __all__ = [
-    "DEGREES", "FAULT", "FIELDS", "POSITION", "TRACKED", "Tracker", "csv_rows", "lines", "local", "pair", "pair_at",
-    "position_e7", "positions", "read", "track",
+    "COLUMNS", "DEGREES", "FAULT", "FIELDS", "POSITION", "TRACKED", "Tracker", "columns", "csv_rows", "dataframe",
+    "fractions", "lines", "local", "pair", "pair_at", "position_e7", "positions", "read", "track",
 ]
-
-Records = npt.NDArray[np.void]
-"""A structured array of one dimension."""
-
-FAULT = np.dtype([("code", "u4"), ("second", "u4"), ("first", "u8")], align=True)
-"""A fault: `code` is one of :class:`squitter.Code`, 0 where there is an answer, with the numbers that the code has."""
-
-FIELDS = np.dtype([
-    ("raw", "u8"), ("address", "u4"), ("lat", "u4"), ("lon", "u4"), ("feet", "i4"), ("altitude", "u2"),
-    ("altitude_form", "u1"), ("kind", "u1"), ("ca", "u1"), ("type_code", "u1"), ("odd", "u1"), ("time", "u1"),
-    ("status", "u1"), ("flag", "u1"), ("movement", "u1"), ("track_status", "u1"), ("track", "u1"),
-], align=True)
-"""A squitter, field by field, as ``squitter_fields`` of squitter.h says them. `lat` and `lon` are the code of the
-position."""
-
-POSITION = np.dtype([("lat_num", "i8"), ("lat_den", "u8"), ("lon_num", "i8"), ("lon_den", "u8")], align=True)
-"""A latitude, north positive, and a longitude, east positive: lat_num / lat_den and lon_num / lon_den degrees,
-exactly. What is answered is in lowest terms; a denominator of 0 is no position."""
-
-DEGREES = np.dtype([("lat_e7", "i8"), ("lon_e7", "i8")], align=True)
-"""A latitude and a longitude in whole numbers of 10^-7 degree, rounded, ties away from zero. They would fit 32 bits;
-the difference of two longitudes would not."""
-
-TRACKED = np.dtype([*POSITION.descr, ("what", "u1"), ("even", "u1"), ("odd", "u1"), ("address", "u4"), *DEGREES.descr],
-                   align=True)
-"""What is heard of a line of a log. `address` is the ICAO address, and `what` one of :class:`squitter.What`. Of FIX
-and FOLLOWED the place stands in the fields of POSITION and of DEGREES, which are else all 0: a longitude of 0 is a
-place only where lon_den is not 0. `even` and `odd` are the zone counts of SPLIT, and else 0."""
 
 _HEARD = np.dtype([*POSITION.descr, ("what", "u1"), ("even", "u1"), ("odd", "u1")], align=True)
 _DEGREES_E7 = np.dtype([("lat", "i4"), ("lon", "i4")], align=True)
@@ -154,11 +128,12 @@ _NO_BODY = "-" * _BODY
 
 
 def _frames_of_texts(name: str, texts: Sequence[Any]) -> _Frames:
-    """The frames of str."""
+    """The frames of str. A missing value is an empty text, which is a fault."""
     if not set(map(type, texts)) <= {str}:
         for place, text in enumerate(texts):
-            if not isinstance(text, str):
+            if not isinstance(text, str) and not _is_missing(text):
                 raise ValueError(f"{name}[{place}] is no str, but of type {type(text).__name__}")
+        texts = [text if isinstance(text, str) else "" for text in texts]
     # a byte for each character: one that is no digit stays none
     joined = "".join(map(_body, texts)).encode("latin-1", "replace")
     digits = np.frombuffer(joined, np.uint8) if texts else np.zeros(0, np.uint8)
@@ -372,9 +347,8 @@ def track(
     the answers are those of `track --limit=16777216`, which is as many addresses as there are. A site that is no
     position is the Fault BAD_POSITION.
     """
-    source = _frames("frames", frames)
-    count = len(source.bytes)
-    times = _moments(moments, count)
+    source, times = _log(moments, frames)
+    count = len(times)
     # New arrays are written part by part, so that their pages come beside what is heard.
     blank = None if out is not None else np.zeros(1, TRACKED)
     rooms = [np.empty(count, dtype) if room is None else room for room, dtype in ((out, TRACKED), (faults, FAULT))]
@@ -383,7 +357,7 @@ def track(
     at_once = min(count, _PART)
     parts = [slice(at, min(at + at_once, count)) for at in range(0, count, at_once or 1)]
     heard_in_turn = [np.zeros(at_once, _HEARD) for _ in parts[:2]]
-    room = [np.zeros(at_once, dtype) for dtype in (POSITION, _DEGREES_E7, FAULT)]
+    room = [np.zeros(at_once, dtype) for dtype in (POSITION, _DEGREES_E7, FAULT, FIELDS)]
 
     def hear(number: int) -> Records:
         part = parts[number]
@@ -430,9 +404,9 @@ def _write_part(
     heard: Records, frames: npt.NDArray[np.uint8], room: Sequence[Records], blank: Optional[Records], out: Records,
     faults: Records,
 ) -> None:
-    """Writes what was heard of some lines. The room is for the places, these in degrees, and which of them are none. At
-    a fault the record stays as it was, or is blank."""
-    places, degrees, nowhere = room
+    """Writes what was heard of some lines. The room is for the places, these in degrees, which of them are none, and
+    the fields of the frames. At a fault the record stays as it was, or is blank."""
+    places, degrees, nowhere, fields = room
     bad = np.flatnonzero(faults["code"])
     if (faults["code"][bad] == Code.NO_MEMORY).any():
         raise MemoryError(squitter.fault_text(Code.NO_MEMORY))
@@ -444,6 +418,9 @@ def _write_part(
     # (the front of a record has room for an address behind what was heard, so it comes after that)
     np.bitwise_and(_first_words(frames), np.uint32(0xFFFFFF), out=out["address"])
     out["lat_e7"], out["lon_e7"] = degrees["lat"], degrees["lon"]
+    _lib.squitter_read_many(*_given(frames), *_given(fields), *_given(nowhere))
+    for field in ("kind", "feet", "altitude_form"):
+        out[field] = fields[field]
     _whole(out)[bad] = before
 
 
@@ -494,9 +471,8 @@ class Tracker:
         faults: Optional[Records] = None,
     ) -> Tuple[Records, Records]:
         """What is heard of the next lines (TRACKED), as :func:`track` says it."""
-        source = _frames("frames", frames)
-        count = len(source.bytes)
-        times = _moments(moments, count)
+        source, times = _log(moments, frames)
+        count = len(times)
         out, faults = _rooms(count, TRACKED, out, faults, source.bytes, times)
         fields = np.empty(min(count, _BLOCK), FIELDS)
         for at in range(0, count, _BLOCK):
@@ -532,6 +508,9 @@ class Tracker:
         told = np.zeros(len(others), TRACKED)
         told["what"], told["address"] = What.NO_PLACE, fields["address"][others]
         _whole(out)[others] = _whole(told)
+        heard = np.flatnonzero(accepted)
+        for field in ("kind", "feet", "altitude_form"):
+            out[field][heard] = fields[field][heard]
         # what is older than the window is as good as nothing, and all zero is what was never heard
         kept = entries.any(axis=1) & (np.uint64(last) - entries[:, 1] <= np.uint64(self._window))
         self._addresses, self._entries, self._last = known[kept], entries[kept], last
@@ -618,8 +597,10 @@ def _words_of_places(records: Records) -> npt.NDArray[np.uint64]:
 
 
 def _whole(rows: npt.NDArray[Any]) -> npt.NDArray[np.void]:
-    """Rows or records as pieces of memory, which NumPy moves whole, and not field by field."""
-    return rows.view(f"V{rows.strides[0]}").reshape(-1)
+    """Rows or records as pieces of memory, which NumPy moves whole, and not field by field. (Of one row the stride may
+    be any.)"""
+    width = rows.itemsize * (rows.shape[1] if rows.ndim == 2 else 1)
+    return np.ndarray(len(rows), f"V{width}", rows, 0, rows.strides[:1])
 
 
 def _hearing(window: int, site: Optional[bytes]) -> Callable[..., int]:
@@ -634,19 +615,18 @@ def _hearing(window: int, site: Optional[bytes]) -> Callable[..., int]:
     return lambda entry, *arrays: call(entry, window, site, *arrays)
 
 
-def _moments(source: npt.ArrayLike, count: int) -> npt.NDArray[np.uint64]:
-    """The moments of so many lines, as they lie in memory for C."""
-    if isinstance(source, (list, tuple, range)):
-        whole = all(isinstance(moment, (int, np.integer)) and 0 <= moment < 1 << 64 for moment in source)
-        array = np.array(list(map(int, source)) if whole else [], np.uint64)
-    else:
-        array = np.asarray(source)
-        whole = array.dtype.kind in "iu" and (array.dtype.kind == "u" or not (array < 0).any())
-    if not whole:
-        raise ValueError("moments are whole numbers from 0, below 2**64")
-    if array.shape != (count,):
-        raise ValueError(f"moments have the shape {array.shape}, and are to have ({count},)")
-    return np.require(array.astype(np.uint64, copy=False), None, ["C", "A"])
+def _log(moments: npt.ArrayLike, frames: npt.ArrayLike) -> Tuple[_Frames, npt.NDArray[np.uint64]]:
+    """The frames and the moments of a log. A line without a moment has the fault BAD_MOMENT, and its frame is 0."""
+    source = _frames("frames", frames)
+    times, missing = _moments(moments, len(source.bytes))
+    if not len(missing):
+        return source, times
+    blank, bad = source.bytes.copy(), np.union1d(source.bad, missing)
+    blank[missing] = 0
+    faults = np.zeros(len(bad), FAULT)
+    faults[np.searchsorted(bad, source.bad)] = source.faults
+    faults[np.searchsorted(bad, missing)] = Code.BAD_MOMENT, 0, 0
+    return _Frames(blank, bad, faults), times
 
 
 def _in_order(addresses: npt.NDArray[np.uint32]) -> npt.NDArray[np.intp]:
@@ -654,125 +634,3 @@ def _in_order(addresses: npt.NDArray[np.uint32]) -> npt.NDArray[np.intp]:
     bits and then by the others, which takes a time that grows with the number of places alone."""
     order = np.argsort(addresses.astype(np.uint16), kind="stable")
     return order[np.argsort((addresses[order] >> 16).astype(np.uint8), kind="stable")]
-
-
-# ---- texts of answers ----
-
-_WORDS = np.array(["", "fix", "followed", "waiting", "split", "far", "no site", "no position"], "S11")
-
-
-def lines(heard: Records, faults: Records, first: int = 1) -> bytes:
-    """The lines that `squitter track` prints of these answers, of which the first is that of the line of this number.
-    An empty line, to which the program answers nothing, has no place in arrays."""
-    _look(heard, faults)
-    return b"".join(_lines(heard[some], faults[some], first + some.start) for some in _blocks(len(heard)))
-
-
-def csv_rows(moments: npt.ArrayLike, heard: Records, faults: Records, first: int = 1) -> bytes:
-    """The same as rows of CSV, with the moments: line,moment,answer,icao24,lat,lon,even,odd. What a line has not is
-    empty; what is there is spelled as `squitter track` spells it."""
-    _look(heard, faults)
-    times = _moments(moments, len(heard))
-    blocks = _blocks(len(heard))
-    return b"".join(_csv_rows(times[some], heard[some], faults[some], first + some.start) for some in blocks)
-
-
-def _look(heard: Records, faults: Records) -> None:
-    """Raises ValueError for what are no answers of `track`."""
-    for name, array, dtype in (("heard", heard, TRACKED), ("faults", faults, FAULT)):
-        if not isinstance(array, np.ndarray) or array.dtype != dtype or array.ndim != 1:
-            raise ValueError(f"{name} is an array of another type than {dtype}, or of more dimensions")
-    if len(heard) != len(faults):
-        raise ValueError(f"heard are {len(heard)}, and faults {len(faults)}")
-
-
-def _blocks(count: int) -> Iterator[slice]:
-    """Places of so many, some at once, so that the characters of few lines are in memory."""
-    return (slice(at, at + (1 << 15)) for at in range(0, count, 1 << 15))
-
-
-Characters = npt.NDArray[np.uint8]
-"""A row of characters for each line, in which a 0 is none."""
-
-
-def _lines(heard: Records, faults: Records, first: int) -> bytes:
-    good, words = _words(heard, faults)
-    placed, split = good & (heard["what"] <= What.FOLLOWED), good & (heard["what"] == What.SPLIT)
-    space = _mark(" ")
-    return _joined(len(heard), [
-        _decimal(np.arange(first, first + len(heard))), space, words,
-        _if(good, space, _hexadecimal(heard["address"])),
-        _if(placed, space, _degrees(heard["lat_e7"]), space, _degrees(heard["lon_e7"])),
-        _if(split, space, _decimal(heard["even"]), space, _decimal(heard["odd"])), _mark("\n"),
-    ])
-
-
-def _csv_rows(times: npt.NDArray[np.uint64], heard: Records, faults: Records, first: int) -> bytes:
-    good, words = _words(heard, faults)
-    placed, split = good & (heard["what"] <= What.FOLLOWED), good & (heard["what"] == What.SPLIT)
-    comma = _mark(",")
-    return _joined(len(heard), [
-        _decimal(np.arange(first, first + len(heard))), comma, _decimal(times), comma, words, comma,
-        _if(good, _hexadecimal(heard["address"])), comma, _if(placed, _degrees(heard["lat_e7"])), comma,
-        _if(placed, _degrees(heard["lon_e7"])), comma, _if(split, _decimal(heard["even"])), comma,
-        _if(split, _decimal(heard["odd"])), _mark("\n"),
-    ])
-
-
-def _words(heard: Records, faults: Records) -> Tuple[npt.NDArray[np.bool_], Characters]:
-    """Which lines have an answer, and what each is: one of the seven, or the text of the fault."""
-    good = faults["code"] == 0
-    words = _WORDS[np.where(good, heard["what"], 0)]
-    bad = np.flatnonzero(~good)
-    if len(bad):
-        told = faults[bad].tolist()
-        texts = np.array([squitter.fault_text(code, first, second) for code, second, first in told], "S")
-        words = words.astype(np.promote_types(words.dtype, texts.dtype))
-        words[bad] = texts
-    return good, words.view(np.uint8).reshape(len(heard), words.itemsize)
-
-
-def _joined(count: int, columns: Sequence[Characters]) -> bytes:
-    """The characters of all columns, line by line."""
-    rows = np.hstack([np.broadcast_to(column, (count, column.shape[1])) for column in columns])
-    return bytes(rows[rows != 0])
-
-
-def _mark(character: str) -> Characters:
-    """A character of each line."""
-    return np.array([[ord(character)]], np.uint8)
-
-
-def _if(these: npt.NDArray[np.bool_], *columns: Characters) -> Characters:
-    """Columns that these lines alone have."""
-    rows = np.hstack([np.broadcast_to(column, (len(these), column.shape[1])) for column in columns])
-    return np.where(these[:, np.newaxis], rows, np.uint8(0))
-
-
-def _decimal(values: npt.NDArray[Any], least: int = 1) -> Characters:
-    """Whole numbers in decimal, with so many digits at least."""
-    most = int(values.max(initial=0))
-    width = max(least, len(str(most)))
-    digits = np.empty((width, len(values)), np.uint8)
-    rest = values.astype(np.uint32 if most < 1 << 32 else np.uint64)
-    for place in range(width - 1, -1, -1):
-        above = rest // rest.dtype.type(10)
-        digits[place] = rest - above * rest.dtype.type(10) + ord("0")
-        if place < width - least:
-            digits[place] *= rest != 0
-        rest = above
-    return digits.T
-
-
-def _hexadecimal(addresses: npt.NDArray[np.uint32]) -> Characters:
-    """Addresses in six hexadecimal digits."""
-    digits = np.stack([addresses >> np.uint32(shift) & np.uint32(15) for shift in range(20, -1, -4)], axis=1)
-    return np.where(digits < 10, digits + ord("0"), digits + ord("A") - 10).astype(np.uint8)
-
-
-def _degrees(angles: npt.NDArray[np.int64]) -> Characters:
-    """Angles in degrees, with seven decimals."""
-    whole, part = np.divmod(np.abs(angles), 10**7)
-    sign = np.where(angles < 0, np.uint8(ord("-")), np.uint8(0))[:, np.newaxis]
-    point = np.broadcast_to(_mark("."), (len(angles), 1))
-    return np.hstack([sign, _decimal(whole), point, _decimal(part, 7)])

@@ -7,6 +7,7 @@ import contextlib
 import gzip
 import io
 import os
+import pickle
 import random
 import runpy
 import signal
@@ -19,8 +20,6 @@ from fractions import Fraction
 from typing import Iterator, List, Tuple
 from unittest import mock
 
-import numpy as np
-
 HERE = os.path.dirname(os.path.abspath(__file__))
 TOP = os.path.join(HERE, "..", "..")
 sys.path.insert(0, os.path.join(HERE, ".."))
@@ -30,6 +29,7 @@ from squitter import AirHead, GroundHead, Position, batch  # noqa: E402
 PROGRAM = os.environ.get("PROGRAM") or os.path.join(TOP, "squitter")
 ARCHIVE = os.path.join(TOP, "examples", "archive.py")
 HOURS, LINES = 12, 6000
+HEADER = ",".join(batch.COLUMNS).encode()
 ENVIRONMENT = dict(os.environ, PYTHONPATH=os.path.abspath(os.path.join(HERE, "..")))
 if "LIBSQUITTER" in ENVIRONMENT:
     ENVIRONMENT["LIBSQUITTER"] = os.path.abspath(ENVIRONMENT["LIBSQUITTER"])
@@ -95,24 +95,22 @@ def archive(folder: str, rng: random.Random) -> Tuple[List[str], bytes]:
 
 
 def answers(paths: List[str], folder: str) -> bytes:
-    """What the files of answers say, as `track` says it."""
+    """What the files of answers say: the rows of `track --format=csv` below a header each."""
     said = []
     for path in paths:
         to = os.path.join(folder, os.path.basename(path))
         with (gzip.open if path.endswith(".gz") else open)(to, "rb") as file:
             rows = file.read().split(b"\n")
-        assert rows[0] == b"line,moment,answer,icao24,lat,lon,even,odd" and rows[-1] == b"", rows[0]
-        for row in rows[1:-1]:
-            line, _, *words = row.split(b",")
-            said.append(b" ".join([line, *filter(None, words)]) + b"\n")
+        assert rows[0] == HEADER and rows[-1] == b"", rows[0]
+        said += [row + b"\n" for row in rows[1:-1]]
     return b"".join(said)
 
 
 # In place of pyarrow, which Debian has not: a table is its columns, and is written as NumPy writes them.
 STAND_IN = {
-    "__init__.py": "def table(columns):\n    return columns\n",
-    "parquet.py": "import numpy\n\ndef write_table(table, path):\n    with open(path, 'wb') as file:\n"
-                  "        numpy.savez(file, **table)\n",
+    "__init__.py": "def table(columns):\n    return columns\n\ndef array(values, mask):\n    return values, mask\n",
+    "parquet.py": "import pickle\n\ndef write_table(table, path):\n    with open(path, 'wb') as file:\n"
+                  "        pickle.dump(table, file)\n",
 }
 
 
@@ -137,10 +135,11 @@ class Archive(unittest.TestCase):
         self.folder = tempfile.TemporaryDirectory()
         self.addCleanup(self.folder.cleanup)
         self.paths, log = archive(self.folder.name, random.Random(11))
-        run = [PROGRAM, "track", "--limit=16777216", *SITE]
-        self.wanted = subprocess.run(run, input=log, stdout=subprocess.PIPE).stdout
+        run = [PROGRAM, "track", "--limit=16777216", "--format=csv", *SITE]
+        head, _, self.wanted = subprocess.run(run, input=log, stdout=subprocess.PIPE).stdout.partition(b"\n")
+        self.assertEqual(head, HEADER)
         for word in (b"fix", b"waiting", b"moment back", b"long line", b"bad moment", b"parity", b"bad digit"):
-            self.assertIn(b" %s" % word, self.wanted)
+            self.assertIn(b",%s" % word, self.wanted)
 
     def started(self, *words: str) -> Tuple[subprocess.Popen, str]:
         to = f"{self.folder.name}/answers{len(os.listdir(self.folder.name))}"
@@ -161,17 +160,40 @@ class Archive(unittest.TestCase):
         _, said = run.communicate(timeout=300)
         self.assertEqual(run.returncode, 0, said)
         self.assertEqual(answers(self.paths, to), self.wanted)
-        first, rows = 1, b""
+        rows, more = b"", ["lat_e7", "lon_e7", "fault", *batch.POSITION.names, "even", "odd", "fault_first",
+                           "fault_second"]
         for name in map(os.path.basename, self.paths):
-            with np.load(f"{to}/{name}.parquet") as columns:
-                heard, faults = (np.zeros(len(columns["moment"]), dtype) for dtype in (batch.TRACKED, batch.FAULT))
-                for field in batch.TRACKED.names:
-                    heard[field] = columns[field]
-                for field in batch.FAULT.names:
-                    faults[field] = columns[f"fault_{field}"]
-                rows += batch.lines(heard, faults, first)
-                first += len(heard)
+            with open(f"{to}/{name}.parquet", "rb") as file:
+                columns = pickle.load(file)
+            self.assertEqual(list(columns), [*batch.COLUMNS, *more])
+            told = {name: [None if none else value for value, none in zip(values.tolist(), mask.tolist())]
+                    for name, (values, mask) in columns.items()}
+            for name in ("lat", "lon"):
+                told[name] = [None if value is None else f"{value:.7f}" for value in told[name]]
+                for value, num, den in zip(told[name], told[f"{name}_num"], told[f"{name}_den"]):
+                    self.assertEqual(value, num and squitter.angle_text(Fraction(num, den)))
+            for row in zip(*(told[name] for name in batch.COLUMNS)):
+                rows += ",".join("" if cell is None else str(cell) for cell in row).encode() + b"\n"
         self.assertEqual(rows, self.wanted)
+
+    def test_refused_first(self) -> None:
+        """What is not installed is said before any work, and nothing is written."""
+        for words, hidden, status, why in (
+            (["--parquet"], "pyarrow", 2, "--parquet needs pyarrow"), ([], "dask", 1, "needs python3-dask"),
+            ([], "numpy", 1, "needs python3-numpy"), ([], "distributed", 1, "needs python3-distributed"),
+        ):
+            script = ("import importlib.util, runpy, sys\nfind = importlib.util.find_spec\n"
+                      "importlib.util.find_spec = lambda name, *more: (\n"
+                      f"    None if name == {hidden!r} else find(name, *more))\n"
+                      "sys.argv = sys.argv[1:]\nrunpy.run_path(sys.argv[0], run_name='__main__')\n")
+            to = f"{self.folder.name}/none"
+            done = subprocess.run([sys.executable, "-c", script, ARCHIVE, *words, to, *self.paths], env=ENVIRONMENT,
+                                  capture_output=True, text=True, timeout=60)
+            self.assertEqual((done.returncode, why in done.stderr, os.path.exists(to)), (status, True, False), done)
+            self.assertNotIn("Traceback", done.stderr)
+        nowhere = {**ENVIRONMENT, "LIBSQUITTER": "/nonesuch"}
+        done = subprocess.run([sys.executable, ARCHIVE, to, *self.paths], env=nowhere, capture_output=True, text=True)
+        self.assertEqual((done.returncode, "needs squitter for Python" in done.stderr), (1, True), done)
 
     def test_one_is_killed(self) -> None:
         run, to = self.started("--workers=4", "--hours=3", "--parts=5")
@@ -185,6 +207,7 @@ class Archive(unittest.TestCase):
         self.assertEqual(run.returncode, 0, said)
         self.assertEqual(answers(self.paths, to), self.wanted)
         self.assertEqual(len(os.listdir(to)), HOURS)
+        self.assertIn("100% Completed", said, "a bar of progress")
 
     def test_one_process(self) -> None:
         run, to = self.started("--workers=1", "--hours=5", "--parts=1")

@@ -5,15 +5,19 @@ read-only, not contiguous or of the other byte order. PROGRAM is the program (th
 repository where it is not set). Needs NumPy."""
 import ctypes
 import doctest
+import io
 import json
 import os
+import pathlib
 import pickle
 import random
 import re
 import subprocess
 import sys
+import tempfile
 import threading
 import unittest
+from datetime import datetime, timedelta, timezone
 from fractions import Fraction
 from typing import Any, Callable, Dict, Iterable, Iterator, List, Sequence, Tuple
 from unittest import mock
@@ -24,7 +28,13 @@ HERE = os.path.dirname(os.path.abspath(__file__))
 TOP = os.path.join(HERE, "..", "..")
 sys.path.insert(0, os.path.join(HERE, ".."))
 import squitter  # noqa: E402
-from squitter import AirHead, Code, Contact, Fault, GroundHead, Position, What, _library, batch  # noqa: E402
+from squitter import AirHead, Code, Contact, Fault, GroundHead, Kind, Position, What, _library, batch  # noqa: E402
+
+try:
+    import pandas
+except ImportError:
+    pandas = None
+NA = [] if pandas is None else [pandas.NA, pandas.NaT]  # what pandas has in the place of a missing value
 
 PROGRAM = os.environ.get("PROGRAM") or os.path.join(TOP, "squitter")
 COUNT = 50_000
@@ -206,14 +216,16 @@ class Track(unittest.TestCase):
         times = np.array(moments, np.uint64)
         heard, faults = batch.track(times, texts, window, site, limit)
         self.assertEqual(batch.lines(heard, faults), answers)
-        rows = [row.split(",") for row in batch.csv_rows(times, heard, faults).decode().splitlines()]
-        self.assertEqual([row[1] for row in rows], list(map(str, moments)))
-        words = ([row[0], *filter(None, row[2:])] for row in rows)
-        self.assertEqual("".join(" ".join(line) + "\n" for line in words), answers.decode())
+        table = by_program(moments, texts, "--format=csv", *words)
+        header = ",".join(batch.COLUMNS) + "\n"
+        self.assertEqual(header.encode() + batch.csv_rows(times, heard, faults), table)
         tracker, rng, at, pieces = batch.Tracker(window, site, limit), random.Random(len(texts)), 0, b""
         while at < len(texts):
             to = at + rng.choice([0, 1, 2, 50, 3000])
-            pieces += batch.lines(*tracker.hear(times[at:to], texts[at:to]), first=at + 1)
+            heard_of, faults_of = tracker.hear(times[at:to], texts[at:to])
+            pieces += batch.lines(heard_of, faults_of, first=at + 1)
+            np.testing.assert_array_equal(heard_of, heard[at:to])
+            np.testing.assert_array_equal(faults_of, faults[at:to])
             tracker, at = pickle.loads(pickle.dumps(tracker)), to
         self.assertEqual(pieces, answers)
         return answers
@@ -306,7 +318,7 @@ class Track(unittest.TestCase):
         self.assertEqual(list(map(squitter.position_e7, places)), heard[["lat_e7", "lon_e7"]].tolist()[1:])
         self.assertEqual(heard["what"].tolist(), [What.WAITING, What.FIX, What.FIX])
         self.assertEqual(heard["address"].tolist(), [0x40621D] * 3)
-        self.assertEqual(heard[0].tolist(), (0, 0, 0, 0, What.WAITING, 0, 0, 0x40621D, 0, 0))
+        self.assertEqual(heard[0].tolist(), (0, 0, 0, 0, What.WAITING, 0, 0, Kind.AIR, 0x40621D, 0, 0, 38000, 1))
 
     def test_tracker(self) -> None:
         tracker = batch.Tracker()
@@ -354,8 +366,8 @@ class Arrays(unittest.TestCase):
         frames = self.frames
         for wrong in (EVEN, 5, None, frames[0], frames[:, :13], frames.astype(np.int64), frames.view(np.int8),
                       frames.reshape(3, 2, 14), np.zeros((2, 2), "S28"), np.zeros(3), np.zeros(3, "V13"), b"x" * 15,
-                      np.zeros(3, "M8[s]"), [EVEN, b"x" * 14], [EVEN, None], [EVEN, float("nan")], [[0] * 14],
-                      np.array([EVEN, None]), memoryview(np.zeros(14, "u2")), np.zeros(2, batch.FIELDS)):
+                      np.zeros(3, "M8[s]"), [EVEN, b"x" * 14], [EVEN, 1.5], [EVEN, True], [[0] * 14],
+                      np.array([EVEN, 5], object), memoryview(np.zeros(14, "u2")), np.zeros(2, batch.FIELDS)):
             self.refused("frames", batch.read, wrong)
             self.refused("older", batch.pair, wrong, self.frames)
             self.refused("newer", batch.pair, self.frames, wrong)
@@ -370,9 +382,117 @@ class Arrays(unittest.TestCase):
         last = [(1 << 64) - 1] * 6
         for same in (last, np.array(last, np.uint64), np.array(last, ">u8")):
             self.assertEqual(batch.lines(*batch.track(same, self.frames)), told)
-        for wrong in (np.arange(5), np.arange(6.0), -np.arange(6), np.arange(6).reshape(2, 3), [0] * 5 + [-1], 5, None,
-                      [0] * 5 + [1 << 64], [0] * 5 + [5.0], np.zeros(6, "M8[ms]"), np.zeros(6, bool), "012345"):
+        for wrong in (np.arange(5), np.arange(6) / 2, -np.arange(6), np.arange(6).reshape(2, 3), [0] * 5 + [-1], 5,
+                      None, [0] * 5 + [1 << 64], [0] * 5 + [5.5], np.array([-1] * 6, "M8[ms]"), np.zeros(6, bool),
+                      "012345",
+                      np.array([np.inf] * 6), [0] * 5 + ["5"], [0] * 5 + [float(1 << 60)], [0] * 5 + [float("inf")],
+                      np.full(6, float(1 << 54)), [datetime(1969, 12, 31)] * 6):
             self.refused("moments", batch.track, wrong, self.frames)
+
+    def test_one_row(self) -> None:
+        """Views of one row or one record, whose stride may be any."""
+        frames, big = self.frames, np.zeros(6, batch.TRACKED)
+        wanted = batch.track([7], frames[:1])
+        of_columns = np.asfortranarray(frames)[:1]
+        for one in (frames[0][None], frames[::2][:1], frames[::-1][-1:], frames[::5][:1], of_columns):
+            for call in (batch.track, batch.Tracker().hear):
+                heard, faults = call([7], one)
+                np.testing.assert_array_equal(heard, wanted[0])
+                out, told = big[::3][:1], np.zeros(4, batch.FAULT)[::2][:1]
+                heard, faults = (batch.track if call is batch.track else batch.Tracker().hear)([7], one, out=out,
+                                                                                               faults=told)
+                np.testing.assert_array_equal(big[:1], wanted[0])
+                big.fill(0)
+            np.testing.assert_array_equal(batch.read(one)[0], batch.read(frames[:1])[0])
+        self.assertEqual(batch.lines(big[::3][:1], np.ones(3, batch.FAULT)[::3], 5), b"5 bad wrapping\n")
+
+    def test_missing(self) -> None:
+        """A missing moment or frame is a fault at its row, and the others are answered as without it."""
+        texts = [ODD, EVEN, ODD, EVEN, "*", ODD]
+        wanted = batch.lines(*batch.track([0, 2, 3, 5], [ODD, ODD, EVEN, ODD]))
+        missing = [None, float("nan"), np.float64("nan"), np.datetime64("NaT"), *NA]
+        for none in missing:
+            for moments in ([0, none, 2, 3, none, 5], np.array([0, none, 2, 3, none, 5], object)):
+                for call in (batch.track, batch.Tracker().hear):
+                    heard, faults = call(moments, texts)
+                    self.assertEqual(faults["code"].tolist(), [0, Code.BAD_MOMENT, 0, 0, Code.BAD_MOMENT, 0])
+                    kept = [0, 2, 3, 5]
+                    renumbered = batch.lines(heard[kept], faults[kept])
+                    self.assertEqual(renumbered, wanted)
+                    self.assertEqual(heard[1], np.zeros((), batch.TRACKED))
+                    rows = batch.csv_rows(moments, heard, faults).split(b"\n")
+                    self.assertEqual((rows[1], rows[4]), (b"2,,bad moment,,,,,", b"5,,bad moment,,,,,"))
+            for given in ([ODD, none, EVEN], np.array([ODD, none, EVEN], object)):
+                for call in (batch.track, batch.Tracker().hear):
+                    heard, faults = call([0, 1, 2], given)
+                    self.assertEqual(faults.tolist(), [(0, 0, 0), (Code.LENGTH, 0, 0), (0, 0, 0)])
+                    self.assertEqual(heard["what"].tolist(), [What.WAITING, 0, What.FIX])
+                self.assertEqual(batch.read(given)[1]["code"].tolist(), [0, Code.LENGTH, 0])
+        floats = np.array([0, np.nan, 2, 3, np.nan, 5])
+        self.assertEqual(batch.track(floats, texts)[1]["code"].tolist(), [0, 41, 0, 0, 41, 0])
+        self.assertEqual(batch.track(np.array([0.0, float(1 << 53)]), [ODD, EVEN])[1]["code"].tolist(), [0, 0])
+        in_blocks, was = batch.track(floats, texts), batch._BLOCK
+        try:
+            for batch._BLOCK in (1, 2, 3):
+                for ours, theirs in zip(batch.Tracker().hear(floats, texts), in_blocks):
+                    np.testing.assert_array_equal(ours, theirs)
+        finally:
+            batch._BLOCK = was
+
+    def test_dates(self) -> None:
+        """Dates are milliseconds since 1970, rounded down; NaT is missing."""
+        wanted = batch.lines(*batch.track([0, 1999, 2000], [ODD, EVEN, ODD]))
+        late = timezone(timedelta(hours=2))
+        aware = [datetime(1970, 1, 1, 2, 0, second, micro, late) for second, micro in ((0, 0), (1, 999_999), (2, 0))]
+        naive = [one.replace(tzinfo=None) - timedelta(hours=2) for one in aware]
+        nanos = np.array([0, 1_999_999_999, 2_000_000_000], "M8[ns]")
+        given = [nanos, nanos.astype("M8[us]"), nanos.astype("M8[ms]"), aware, naive, list(nanos),
+                 np.array(aware, object)]
+        if pandas is not None:
+            given += [pandas.Series(nanos), pandas.Series(nanos).dt.tz_localize("UTC"), pandas.to_datetime(aware)]
+        for moments in given:
+            self.assertEqual(batch.lines(*batch.track(moments, [ODD, EVEN, ODD])), wanted, repr(moments))
+            self.assertEqual(batch.lines(*batch.Tracker().hear(moments, [ODD, EVEN, ODD])), wanted)
+        gap = np.array(["1970-01-01", "NaT", "1970-01-02"], "M8[D]")
+        self.assertEqual(batch.track(gap, [ODD, EVEN, ODD])[1]["code"].tolist(), [0, Code.BAD_MOMENT, 0])
+        heard, faults = batch.track(gap, [ODD, EVEN, ODD])
+        self.assertEqual(batch.csv_rows(gap, heard, faults).splitlines()[2], b"3,86400000,waiting,40621D,air,,,38000")
+
+    def test_numbers_of_lines(self) -> None:
+        """The first number is whole, from 0, and the last below 2**64."""
+        heard, faults = batch.track([0, 1], [ODD, EVEN])
+        for first in (0, 1, (1 << 63) - 1, 1 << 63, (1 << 64) - 2, np.uint64(7), np.int8(7), True):
+            numbers = [int(row.split(b" ")[0]) for row in batch.lines(heard, faults, first).splitlines()]
+            self.assertEqual(numbers, [int(first), int(first) + 1])
+            rows = batch.csv_rows([0, 1], heard, faults, first).splitlines()
+            self.assertEqual([int(row.split(b",")[0]) for row in rows], numbers)
+        last = (1 << 64) - 1
+        self.assertEqual(batch.lines(heard[:1], faults[:1], last), b"18446744073709551615 waiting 40621D\n")
+        for wrong in (-1, (1 << 64) - 1, 1 << 64, 1.5, 1.0, "1", None, float("nan")):
+            for call in (batch.lines, lambda *given: batch.csv_rows([0, 1], *given)):
+                self.refused("first number", call, heard, faults, wrong)
+        self.assertEqual(batch.lines(heard[:0], faults[:0], last), b"")
+        self.refused("first number", batch.lines, heard[:0], faults[:0], last + 1)
+
+    def test_columns(self) -> None:
+        """Columns have a mask where a line has no value."""
+        told = batch.columns([0, 1, None, 400], *batch.track([0, 1, None, 400], [ODD, "*", EVEN, EVEN]), first=7)
+        self.assertEqual(list(told), [*batch.COLUMNS, "lat_e7", "lon_e7", "fault"])
+        self.assertEqual({name: column.tolist() for name, column in told.items()}, {
+            "line": [7, 8, 9, 10], "moment": [0, None, None, 400],
+            "answer": ["waiting", "bad wrapping", "bad moment", "fix"], "address": ["40621D", None, None, "40621D"],
+            "kind": ["air", None, None, "air"], "lat": [None, None, None, 52.2572021],
+            "lon": [None, None, None, 3.9193726], "feet": [38000, None, None, 38000],
+            "lat_e7": [None, None, None, 522572021], "lon_e7": [None, None, None, 39193726],
+            "fault": [0, Code.WRAP, Code.BAD_MOMENT, 0]})
+        self.assertEqual([len(column) for column in batch.columns([], *batch.track([], [])).values()], [0] * 11)
+
+    def test_fractions(self) -> None:
+        heard, _ = batch.track([0, 1], [ODD, EVEN])
+        place = Position(Fraction(428091, 8192), Fraction(64215, 16384))
+        self.assertEqual(batch.fractions(heard), [None, place])
+        self.assertEqual(batch.fractions(batch.local([EVEN, "*"], Position(52, 4))[0]), [place, None])
+        self.assertEqual(batch.fractions(heard[:0]), [])
 
     def test_references(self) -> None:
         near = batch.positions([520_000_000] * 6, np.full(6, 40_000_000, ">i8"))
@@ -445,6 +565,79 @@ class Arrays(unittest.TestCase):
             self.assertEqual(faults["code"].tolist(), [0, 0, Code.PARITY, 0, 0, 0])
             self.assertEqual(out[2].tobytes(), was)
             self.assertNotEqual(out[3].tobytes(), was)
+
+
+@unittest.skipUnless(pandas is not None, "needs pandas")
+class Frames(unittest.TestCase):
+    log = os.path.join(TOP, "examples", "flights.log")
+
+    def table(self, text: bytes) -> Any:
+        """A table of the program, as pandas reads it."""
+        known = {name: "string" for name in ("answer", "address", "kind")}
+        whole = {"line": "UInt64", "moment": "UInt64", "feet": "Int64"}
+        return pandas.read_csv(io.BytesIO(text), dtype={**known, **whole})
+
+    def test_as_program(self) -> None:
+        """The columns of the one schema are those of the program, name by name and value by value."""
+        with open(self.log, "rb") as log:
+            data = log.read()
+        data = data.replace(b"\n", b"\r\n\n", 5) + b"\nx\n7 8D\n" + b"9" * 65 + b"\n" + b"1" * 21 + b" x\n*\n99999 \xff"
+        got = subprocess.run([PROGRAM, "track", "--format=csv", "--lat=52.31", "--lon=4.76"], input=data,
+                             stdout=subprocess.PIPE).stdout
+        wanted = self.table(got)
+        with tempfile.NamedTemporaryFile() as file:
+            file.write(data)
+            file.flush()
+            for source in (file.name, pathlib.Path(file.name), io.BytesIO(data)):
+                frame = batch.dataframe(source, site=SITE)
+                self.assertEqual(list(frame.columns), [*batch.COLUMNS, "lat_e7", "lon_e7", "fault"])
+                for name in batch.COLUMNS:
+                    ours, theirs = frame[name], wanted[name]
+                    self.assertEqual(ours.isna().tolist(), theirs.isna().tolist(), name)
+                    self.assertEqual(ours.dropna().tolist(), theirs.dropna().tolist(), name)
+        for name, kind in (("lat", "float64"), ("lon", "float64"), ("feet", "Int64"), ("lat_e7", "Int64"),
+                           ("moment", "UInt64"), ("lon_e7", "Int64"), ("line", "uint64"), ("fault", "int64")):
+            self.assertEqual(str(frame[name].dtype), kind, name)
+
+    def test_without_a_place(self) -> None:
+        """A row without a place has none in any column, and one at 0, 0 has it."""
+        frame = batch.dataframe(self.log, site=SITE)
+        placed = frame["answer"].isin(["fix", "followed"])
+        for name in ("lat", "lon", "lat_e7", "lon_e7"):
+            self.assertEqual(frame[name].notna().tolist(), placed.tolist(), name)
+        self.assertFalse(((frame["lat"] == 0) & (frame["lon"] == 0)).any())
+        refused = frame["fault"] != 0
+        for name in ("moment", "address", "kind", "feet"):
+            self.assertTrue(frame.loc[refused, name].isna().all(), name)
+        frames = [squitter.frame_text(squitter.encode(AirHead(5, odd=odd), Position(0, 0))) for odd in (0, 1)]
+        one = batch.dataframe({"moment": [1, 2], "frame": frames})
+        self.assertEqual(one[["lat", "lon", "lat_e7", "lon_e7"]].iloc[1].tolist(), [0, 0, 0, 0])
+        self.assertEqual(one["feet"].isna().tolist(), [True, True])
+
+    def test_tables(self) -> None:
+        """A table with moments and frames, of which some are missing; exact fractions behind."""
+        dates = pandas.to_datetime([0, None, 400], unit="ms")
+        rows = {"moment": dates, "frame": [ODD, EVEN, EVEN]}
+        for source in (rows, pandas.DataFrame(rows), {**rows, "moment": pandas.array([0, None, 400], "Int64")}):
+            frame = batch.dataframe(source, exact=True)
+            self.assertEqual(frame["answer"].tolist(), ["waiting", "bad moment", "fix"])
+            self.assertEqual(frame["line"].tolist(), [1, 2, 3])
+            self.assertEqual(frame["fault"].tolist(), [0, Code.BAD_MOMENT, 0])
+            self.assertEqual(list(frame.columns)[-2:], ["lat_exact", "lon_exact"])
+            self.assertEqual(frame["lat_exact"].tolist(), [None, None, Fraction(428091, 8192)])
+            self.assertEqual(frame["lon_exact"].tolist(), [None, None, Fraction(64215, 16384)])
+            self.assertEqual(frame["address"].tolist(), ["40621D", None, "40621D"])
+        empty = batch.dataframe({"moment": [], "frame": []}, exact=True)
+        self.assertEqual((len(empty), len(empty.columns)), (0, 13))
+        self.assertEqual(len(batch.dataframe(io.BytesIO(b"\n\r\n"))), 0)
+        limited = {"moment": [0, 0], "frame": [ODD, squitter.frame_text(squitter.encode(AirHead(5), Position(0, 0)))]}
+        self.assertEqual(batch.dataframe(limited, limit=1)["answer"].tolist(), ["waiting", "table full"])
+        apart = {"moment": [0, 11], "frame": [ODD, EVEN]}
+        self.assertEqual(batch.dataframe(apart, 10)["answer"].tolist(), ["waiting", "waiting"])
+        with self.assertRaises(KeyError):
+            batch.dataframe({"moment": []})
+        with self.assertRaises(FileNotFoundError):
+            batch.dataframe("/nonesuch")
 
 
 def aside(dtype: np.dtype, count: int) -> np.ndarray:

@@ -6,9 +6,11 @@ import doctest
 import gc
 import os
 import pickle
+import signal
 import sys
 import threading
 import unittest
+from decimal import Decimal
 from fractions import Fraction
 
 sys.path.insert(0, os.path.join(os.path.dirname(os.path.abspath(__file__)), ".."))
@@ -24,6 +26,20 @@ GROUND_NEWER = "8C4841753A8A35323FAEBDAC702D"
 PLACE = Position(Fraction(428091, 8192), Fraction(64215, 16384))
 GROUND_PLACE = Position(Fraction(202304115, 3866624), Fraction(2172069, 458752))
 SITE = Position(Fraction(51990, 1000), Fraction(4375, 1000))
+
+
+class Named(Contact):
+    """A contact with more: a slot, and attributes."""
+
+    __slots__ = ("name", "__dict__")
+
+
+def iter_once(tracker):
+    return next(iter(tracker))
+
+
+def reversed_once(tracker):
+    return next(reversed(tracker))
 
 
 class Calls(unittest.TestCase):
@@ -104,6 +120,37 @@ class Calls(unittest.TestCase):
         self.refused(Code.BAD_POSITION, squitter.local, EVEN, Position(Fraction(1, 1 << 64), 0))
         with self.assertRaises(TypeError):
             squitter.local(EVEN, Position(52.0, 4.0))
+
+    def test_degrees(self):
+        """Positions are whole numbers, fractions, decimals and texts; what to write for a float is said."""
+        here = Position(Fraction(5225, 100), Fraction(-1, 8))
+        wanted = squitter.local(EVEN, Position(Fraction(5225, 100), 4))
+        for lat in ("52.25", Decimal("52.25"), Decimal("5225E-2"), Fraction(209, 4), "52.250000000000"):
+            self.assertEqual(squitter.local(EVEN, Position(lat, "4")), wanted)
+            self.assertEqual(squitter.position_e7(Position(lat, "-0.125")), squitter.position_e7(here))
+            site = Position("51.99", Decimal("4.375"))
+            self.assertEqual(squitter.pair(GROUND_OLDER, GROUND_NEWER, site), GROUND_PLACE)
+            self.assertEqual(squitter.zone_count(lat), 36)
+            self.assertEqual(Contact(10, Position(lat, 4)).hear(1, ODD).what, What.WAITING)
+        self.assertEqual(squitter.angle_text(Decimal("-0.125")), "-0.1250000")
+        for text, code in (("x", Code.NOT_A_NUMBER), ("1.0000000000000", Code.TOO_MANY_DECIMALS),
+                           ("361", Code.ANGLE_RANGE), ("", Code.NOT_A_NUMBER)):
+            self.refused(code, squitter.local, EVEN, Position(text, 4))
+        for number in ("NaN", "Infinity", "1E+30", "1E-500", "1E-70", "1E+1000000", "91", "-sNaN"):
+            self.refused(Code.BAD_POSITION, squitter.local, EVEN, Position(Decimal(number), 4))
+        self.refused(Code.BAD_ANGLE, squitter.angle_text, Decimal("NaN"))
+        for wrong in (52.25, float("nan")):
+            with self.assertRaisesRegex(TypeError, f"write '{wrong}' for these digits, or Fraction"):
+                squitter.local(EVEN, Position(wrong, 4))
+        for wrong in (None, b"52", 1j, [52]):
+            with self.assertRaisesRegex(TypeError, "degrees are an int, a Fraction, a Decimal or a text"):
+                squitter.local(EVEN, Position(wrong, 4))
+
+    def test_names(self):
+        fields = squitter.read(EVEN)
+        self.assertEqual((fields.lat_code, fields.lon_code), (fields.lat, fields.lon))
+        self.assertEqual((fields.lat_code, fields.lon_code), (93000, 51372))
+        self.assertEqual(squitter.__version__, squitter.version())
 
     def test_zones(self):
         self.assertEqual(squitter.local_zones(EVEN, Position(52, 4)), (8, 0, 360, 60, 36, 36, 0))
@@ -200,12 +247,59 @@ class Calls(unittest.TestCase):
                     tracker[index]
             with self.assertRaises(TypeError):
                 tracker["0"]
-        self.assertEqual(len(tracker), 0)
-        self.refused(Code.NO_TRACKER, tracker.hear, 10_007, EVEN)
-        self.assertEqual([fault.code for fault in tracker.hear_many([1, 2], bytes(28))], [Code.NO_TRACKER] * 2)
         tracker.close()
-        with self.assertRaises(IndexError):
-            tracker[0]
+
+    def test_closed_tracker(self):
+        """Each call of a closed tracker is NO_TRACKER, whatever its arguments."""
+        tracker = Tracker()
+        tracker.hear(1, ODD)
+        for _ in range(2):
+            tracker.close()
+            for call in (
+                len, list, iter_once, reversed_once, bool, lambda it: it[0], lambda it: it[-1], lambda it: it["0"],
+                lambda it: it[1 << 70], lambda it: it.hear(2, EVEN), lambda it: it.hear(2, "*"),
+                lambda it: it.hear(-1, EVEN), lambda it: it.hear(1.0, None), lambda it: it.hear_many([1, 2], bytes(28)),
+                lambda it: it.hear_many([], b""), lambda it: it.hear_many([1], b"x"), lambda it: it.__enter__(),
+                lambda it: ODD in it,
+            ):
+                self.refused(Code.NO_TRACKER, call, tracker)
+
+    def test_closed_by_another_thread(self):
+        """What closes a tracker waits until the calls that are under way are done."""
+        tracker = Tracker()
+        with tracker._lock:
+            closing = threading.Thread(target=tracker.close)
+            closing.start()
+            closing.join(0.2)
+            self.assertTrue(closing.is_alive() and tracker._free.alive)
+        closing.join(5)
+        self.assertFalse(closing.is_alive() or tracker._free.alive)
+
+    def test_signal_handler(self):
+        """A handler of signals may ask a tracker in the middle of what the thread asks of it."""
+        tracker, told = Tracker(), []
+        tracker.hear(1, ODD)
+
+        def handler(*_):
+            told.append((len(tracker), tracker[0].address, tracker.hear(5, EVEN).what))
+
+        was = signal.signal(signal.SIGALRM, handler)
+        self.addCleanup(signal.signal, signal.SIGALRM, was)
+        taken = tracker._lock
+
+        class Slow:
+            """Moments that come late, so that the signal comes while they are read."""
+
+            def __len__(self):
+                return 1
+
+            def __iter__(self):
+                signal.raise_signal(signal.SIGALRM)
+                return iter([9])
+
+        self.assertEqual(tracker.hear_many(Slow(), squitter.frame(ODD))[0].what, What.FIX)
+        self.assertEqual(told, [(1, 0x40621D, What.FIX)] * len(told))
+        self.assertTrue(told and taken is tracker._lock)
 
     def test_tracker_of_many(self):
         frames = [squitter.frame(text) for text in (ODD, GROUND_OLDER, EVEN, GROUND_NEWER)]
@@ -274,6 +368,16 @@ class Calls(unittest.TestCase):
         self.assertEqual(contact.hear(6, EVEN).what, What.FIX)
         # its parts are named by the package too, not by a module in it
         self.assertNotIn(b"squitter.", pickle.dumps(contact))
+        mine = Named(10_000, SITE)
+        mine.name, mine.notes, mine.__dict__["free"] = "A", [1], 5
+        mine.hear(5, ODD)
+        for take in (copy.copy, copy.deepcopy, lambda one: pickle.loads(pickle.dumps(one)),
+                     lambda one: pickle.loads(pickle.dumps(one, 0))):
+            other = take(mine)
+            self.assertEqual((type(other), other.name, other.notes, other.free), (Named, "A", [1], 5))
+            self.assertEqual(other.notes is mine.notes, take is copy.copy)
+            self.assertEqual(other.hear(6, EVEN).position, PLACE)
+            self.assertEqual((mine.last, other.last), (5, 6))
         fault = Fault(Code.ZONE_COUNTS, 45, 44)
         for other in (copy.copy(fault), copy.deepcopy(fault), pickle.loads(pickle.dumps(fault))):
             self.assertEqual((other.code, other.first, other.second), (Code.ZONE_COUNTS, 45, 44))

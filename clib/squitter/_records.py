@@ -1,0 +1,117 @@
+"""The records of squitter.batch: their types, and the moments of a log as C takes them."""
+from __future__ import annotations
+
+from datetime import datetime, timedelta, timezone
+from typing import Any, Sequence, Tuple
+
+import numpy as np
+import numpy.typing as npt
+
+COLUMNS = ("line", "moment", "answer", "address", "kind", "lat", "lon", "feet")
+"""The columns of `squitter track --format=csv`, which rows and data frames have, in this order."""
+
+Records = npt.NDArray[np.void]
+"""A structured array of one dimension."""
+
+FAULT = np.dtype([("code", "u4"), ("second", "u4"), ("first", "u8")], align=True)
+"""A fault: `code` is one of :class:`squitter.Code`, 0 where there is an answer, with the numbers that the code has."""
+
+FIELDS = np.dtype([
+    ("raw", "u8"), ("address", "u4"), ("lat", "u4"), ("lon", "u4"), ("feet", "i4"), ("altitude", "u2"),
+    ("altitude_form", "u1"), ("kind", "u1"), ("ca", "u1"), ("type_code", "u1"), ("odd", "u1"), ("time", "u1"),
+    ("status", "u1"), ("flag", "u1"), ("movement", "u1"), ("track_status", "u1"), ("track", "u1"),
+], align=True)
+"""A squitter, field by field, as ``squitter_fields`` of squitter.h says them. `lat` and `lon` are the code of the
+position."""
+
+POSITION = np.dtype([("lat_num", "i8"), ("lat_den", "u8"), ("lon_num", "i8"), ("lon_den", "u8")], align=True)
+"""A latitude, north positive, and a longitude, east positive: lat_num / lat_den and lon_num / lon_den degrees,
+exactly. What is answered is in lowest terms; a denominator of 0 is no position."""
+
+DEGREES = np.dtype([("lat_e7", "i8"), ("lon_e7", "i8")], align=True)
+"""A latitude and a longitude in whole numbers of 10^-7 degree, rounded, ties away from zero. They would fit 32 bits;
+the difference of two longitudes would not."""
+
+TRACKED = np.dtype([
+    *POSITION.descr, ("what", "u1"), ("even", "u1"), ("odd", "u1"), ("kind", "u1"), ("address", "u4"), *DEGREES.descr,
+    ("feet", "i4"), ("altitude_form", "u1"),
+], align=True)
+"""What is heard of a line of a log. `address` is the ICAO address, `kind` one of :class:`squitter.Kind`, and `what` one
+of :class:`squitter.What`. Of FIX and FOLLOWED the place stands in the fields of POSITION and of DEGREES, which are else
+all 0: a longitude of 0 is a place only where lon_den is not 0. `even` and `odd` are the zone counts of SPLIT, and else
+0. `feet` is the altitude where `altitude_form` is FEET, one of :class:`squitter.AltitudeForm`, and else 0."""
+
+
+def _is_missing(value: Any) -> bool:
+    """Whether a value stands for none: None, NaN, NaT, or NA of pandas."""
+    if value is None:
+        return True
+    if isinstance(value, (float, np.floating, np.datetime64, datetime)):
+        return bool(value != value)
+    return type(value).__name__ == "NAType"
+
+
+def _moments(source: npt.ArrayLike, count: int) -> Tuple[npt.NDArray[np.uint64], npt.NDArray[np.intp]]:
+    """The moments of so many lines, as they lie in memory for C; and the lines that have none, whose moment is 0."""
+    if isinstance(source, (list, tuple, range)):
+        # (an array of them all would be of floats where one is NaN)
+        array = np.empty(len(source), object)
+        array[:] = source
+    else:
+        array = np.asarray(source)
+    if array.shape != (count,):
+        raise ValueError(f"moments have the shape {array.shape}, and are to have ({count},)")
+    missing = np.zeros(0, np.intp)
+    if array.dtype.kind == "M":
+        missing = np.flatnonzero(np.isnat(array))
+        array = _since_1970(array)
+    elif array.dtype.kind == "f":
+        missing = np.flatnonzero(np.isnan(array))
+        array = _whole_floats(array)
+    elif array.dtype.kind == "O":
+        values = array.tolist()
+        if set(map(type, values)) != {int}:
+            values = [None if _is_missing(value) else value for value in values]
+        missing = np.array([place for place, value in enumerate(values) if value is None], np.intp)
+        array = _whole_objects(values)
+    if array.dtype.kind not in "iu" and count or array.dtype.kind == "i" and (array < 0).any():
+        raise ValueError(_NO_MOMENTS)
+    return np.require(array.astype(np.uint64, copy=False), None, ["C", "A"]), missing
+
+
+_NO_MOMENTS = "moments are whole numbers from 0, below 2**64, or dates since 1970"
+_EPOCH = datetime(1970, 1, 1, tzinfo=timezone.utc)
+
+
+def _since_1970(dates: npt.NDArray[np.datetime64]) -> npt.NDArray[np.int64]:
+    """Dates of NumPy in whole milliseconds since 1970, rounded down; 0 of NaT."""
+    millis = dates.astype("M8[ms]").astype(np.int64)
+    return np.where(np.isnat(dates), np.int64(0), millis)
+
+
+def _whole_floats(numbers: npt.NDArray[np.floating[Any]]) -> npt.NDArray[Any]:
+    """Whole numbers of an array that is of floats, as pandas makes it where one is missing; 0 of NaN. Others are left
+    as they are."""
+    filled = np.where(np.isnan(numbers), 0, numbers)
+    # (above 2**53 a float is not the number that was written)
+    whole = (filled == np.floor(filled)) & (np.abs(filled) <= 1 << 53)
+    return filled.astype(np.int64) if whole.all() else numbers
+
+
+def _whole_objects(values: Sequence[Any]) -> npt.NDArray[Any]:
+    """Whole numbers, floats that are whole, and dates; 0 of None."""
+    if set(map(type, values)) == {int} and 0 <= min(values) and max(values) < 1 << 64:
+        return np.array(values, np.uint64)
+    told = []
+    for value in values:
+        if isinstance(value, datetime):
+            date = value if value.tzinfo else value.replace(tzinfo=timezone.utc)
+            value = (date - _EPOCH) // timedelta(milliseconds=1)
+        elif isinstance(value, np.datetime64):
+            value = int(_since_1970(np.array([value]))[0])
+        elif isinstance(value, (float, np.floating)) and abs(value) <= 1 << 53 and value == int(value):
+            value = int(value)
+        if value is not None and not (isinstance(value, (int, np.integer)) and 0 <= value < 1 << 64):
+            raise ValueError(_NO_MOMENTS)
+        told.append(int(value or 0))
+    return np.array(told, np.uint64)
