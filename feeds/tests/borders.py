@@ -65,7 +65,7 @@ def leap() -> None:
 
 
 def agreeing() -> None:
-    """A leap is for good by the third frame that agrees, and not by the second; by the third of rising ones after it."""
+    """A leap is for good by the third frame that agrees, and not by the second; or by the third later one that rises."""
     def aside(*seconds: int) -> List[int]:
         feed = Feed(Options(), False, lambda _: None)
         given = [feed.hear(row(str(second)), 0) for second in seconds]
@@ -101,6 +101,7 @@ def newest() -> None:
     same(order.put(1099, 0, "E"), [])
     same(order.put(1010, 0, "F"), [])
     same(order.put(1100, 0, "G"), ["1000 A\n", "1000 D\n"])
+    same(order.put(1000, 0, "X"), ["1000 X\n"], "at once, as the newest is 1100")
     same(order.put(1001, 0, "H"), [])
     same(order.put(999, 0, "I"), [])
     same((order.late, order.end()), (1, [f"{m} {n}\n" for m, n in ((1001, "H"), (1010, "F"), (1060, "C"),

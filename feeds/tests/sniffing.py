@@ -73,6 +73,7 @@ def told_apart() -> None:
         (b"*0000;\n", AvrText),
         (beast(AIR_EVEN) + beast(REPLY) + beast("0000"), BeastBinary),
         (beast(AIR_EVEN) + STATUS + beast(AIR_EVEN, 0x1A1A), BeastBinary),
+        (beast("1A" * 14, 0x1A1A1A1A1A1A, 0x1A) * 3, BeastBinary),
         (row("1.5"), CsvText),
         (b"time,icao24,rawmsg\n", CsvText),
         (b"5 %s\n" % E, LogText),
@@ -80,7 +81,7 @@ def told_apart() -> None:
     ]
     for data, wanted in rows:
         for front in (b"", GARBAGE):
-            for after in (b"", LINE, b"5 %s\n" % E, beast(AIR_ODD) * 3):
+            for after in (b"", LINE, b"5 %s\n" % E, beast(AIR_ODD) * 3, LINE + beast(AIR_ODD) * 3):
                 same(cut_anywhere(front + data + after), (wanted.name, len(front + data)), front + data)
         if data.endswith(b"\n"):
             same(decided([data.rstrip(b"\n")]), (None, len(data) - 1), data)
@@ -126,6 +127,7 @@ def short_sources() -> None:
 
 def borders() -> None:
     """The first 16 KiB decide, to the byte; a line of more than 4096 bytes does not."""
+    same(UNDECIDED, 16_384)
     for size in (UNDECIDED - 1, UNDECIDED, UNDECIDED + 1):
         front = b"x" * (LONGEST_LINE + 1) + b"\n"
         data = front + b"x" * (size - len(front) - len(LINE) - 1) + b"\n" + LINE
