@@ -29,7 +29,7 @@ def points(lat, lon):
 def main():
     truth = {}
     for line in open(sys.argv[1]):
-        number, address, lat, lon = line.split()
+        number, address, lat, lon, _ = line.split()
         truth[number] = (address, set(points(Fraction(lat), Fraction(lon))))
     compared = waiting = refused = wrong = 0
     for line in sys.stdin:

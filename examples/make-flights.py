@@ -2,8 +2,8 @@
 """make-flights.py PROGRAM: writes flights.log and flights.truth, a log of five flights and where they truly were.
 
 Each line of the log is a moment in milliseconds and a frame; the frame of each position is made by PROGRAM's `encode`.
-Each line of the truth is the number of a line of the log, its address, and the position that was encoded. Lines of the
-log that are damaged, or that come after later ones, are not in the truth."""
+Each line of the truth is the number of a line of the log, its address, the position that was encoded, and the altitude
+in feet, or - on the ground. Lines of the log that are damaged, or that come after later ones, are not in the truth."""
 import os
 import subprocess
 import sys
@@ -11,27 +11,29 @@ import sys
 STEP = 500  # milliseconds between the frames of one aircraft
 
 
-def track(address, start, count, lat, lon, north, east, kind="air", silent=range(0)):
-    """Positions of one aircraft in ten-millionths of a degree, so many to the north and to the east a step."""
+def track(address, start, count, lat, lon, north, east, kind="air", silent=range(0), feet=0, up=0):
+    """Positions of one aircraft in ten-millionths of a degree, so many to the north and to the east a step; and its
+    altitude, so many feet up a step."""
     for step in range(count):
         if step not in silent:
             place = (lat + north * step, (lon + east * step + 1_800_000_000) % 3_600_000_000 - 1_800_000_000)
-            yield start + step * STEP, address, kind, "odd" if step % 2 else "even", place
+            height = feet + up * step if kind == "air" else None
+            yield start + step * STEP, address, kind, "odd" if step % 2 else "even", place, height
 
 
 def flights():
     # over a border of zone counts, at 10.4704713 degrees
-    yield from track("4B1001", 0, 400, 104_000_000, 80_000_000, 4_001, 1_003)
+    yield from track("4B1001", 0, 400, 104_000_000, 80_000_000, 4_001, 1_003, feet=38_000)
     # near the north pole, where degrees of longitude are short
-    yield from track("A00002", 120, 400, 885_000_000, -1_200_000_000, 1_501, 400_007)
+    yield from track("A00002", 120, 400, 885_000_000, -1_200_000_000, 1_501, 400_007, feet=41_000)
     # over 180 degrees
-    yield from track("7C0003", 240, 400, -170_000_000, 1_797_000_000, -2_003, 15_011)
+    yield from track("7C0003", 240, 400, -170_000_000, 1_797_000_000, -2_003, 15_011, feet=28_000, up=25)
     # taxies, takes off and flies away
     yield from track("484004", 310, 200, 523_080_000, 47_630_000, 211, 307, kind="ground")
-    yield from track("484004", 310 + 200 * STEP, 200, 523_122_200, 47_691_400, 5_003, 9_001)
+    yield from track("484004", 310 + 200 * STEP, 200, 523_122_200, 47_691_400, 5_003, 9_001, feet=-25, up=25)
     # falls silent for longer than the window, twice
     silent = [*range(120, 160), *range(300, 330)]
-    yield from track("3C0005", 430, 460, 480_000_000, 110_000_000, -3_001, 12_007, silent=silent)
+    yield from track("3C0005", 430, 460, 480_000_000, 110_000_000, -3_001, 12_007, silent=silent, feet=19_000, up=-25)
 
 
 def degrees(ten_millionths):
@@ -44,14 +46,15 @@ def main():
     here = os.path.dirname(os.path.abspath(__file__))
     with open(f"{here}/flights.log", "w") as log, open(f"{here}/flights.truth", "w") as truth:
         number = 0
-        for count, (moment, address, kind, parity, (lat, lon)) in enumerate(sorted(flights())):
+        for count, (moment, address, kind, parity, (lat, lon), feet) in enumerate(sorted(flights())):
             words = [f"--kind={kind}", f"--parity={parity}", f"--address={address}"]
+            words += [] if feet is None else [f"--feet={feet}"]
             words += [f"--lat={degrees(lat)}", f"--lon={degrees(lon)}"]
             encoded = subprocess.run([program, "encode", *words], capture_output=True, text=True, check=True)
             frame = encoded.stdout.strip()
             number += 1
             log.write(f"{moment} *{frame};\n")
-            truth.write(f"{number} {address} {degrees(lat)} {degrees(lon)}\n")
+            truth.write(f"{number} {address} {degrees(lat)} {degrees(lon)} {'-' if feet is None else feet}\n")
             if count % 97 == 50:  # the same frame with a damaged digit
                 number += 1
                 log.write(f"{moment} *{frame[:20]}{'0' if frame[20] != '0' else '1'}{frame[21:]};\n")
