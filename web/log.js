@@ -5,6 +5,9 @@
 
 const ROWS_SHOWN = 100;
 
+/** The site of the example's receiver, which no other log is heard with. */
+const EXAMPLE_SITE = ["52.31", "4.76"];
+
 /** Nothing but a text that the page has put together itself may become a script, and that only of a worker. */
 const WORKER_POLICY = /** @type {any} */ (window).trustedTypes?.createPolicy("squitter-worker", {
   createScriptURL(address) {
@@ -23,6 +26,7 @@ class LogAnswers {
     this.count = 0;
     this.places = 0;
     this.refused = 0;
+    this.withoutSite = 0;
     /** @type {(what: number, address: number) => boolean} */
     this.wanted = () => true;
     /** @type {number[]} */
@@ -38,6 +42,7 @@ class LogAnswers {
     for (const what of answers.whats) {
       if (what === 1 || what === 2) this.places++;
       if (what === 0) this.refused++;
+      if (what === 6) this.withoutSite++;
     }
     this.sift(chunk);
   }
@@ -93,8 +98,9 @@ class LogPanel {
     this.listen();
   }
 
-  /** What is typed of the settings. @returns {HearingSettings} */
-  settings() {
+  /** What is typed of the settings, with another site where one is given.
+   * @param {string[]} [where] @returns {HearingSettings} */
+  settings(where = [byId("log-lat").value, byId("log-lon").value]) {
     const whole = (name, most) => {
       const text = byId(`log-${name}`).value.trim();
       if (!/^\d{1,20}$/.test(text) || BigInt(text) > most) throw new Error(`bad ${name}`);
@@ -102,19 +108,20 @@ class LogPanel {
     };
     const window = whole("window", (1n << 64n) - 1n), limit = Number(whole("limit", (1n << 32n) - 1n));
     if (!limit) throw new Error("limit is 0");
-    const lat = byId("log-lat").value, lon = byId("log-lon").value;
+    const [lat, lon] = where;
     const site = lat.trim() || lon.trim() ? positionOf(this.library, lat, lon) : null;
     // (a site that is no position is refused here, before any line is)
     if (site) this.library.encode(new AirHead({ address: 0 }), site);
     return { window, limit, site };
   }
 
-  /** Hears a log from its beginning. @param {Blob} file @param {string} name */
-  hear(file, name) {
+  /** Hears a log from its beginning; near a site of its own where one is given.
+   * @param {Blob} file @param {string} name @param {string[]} [where] */
+  hear(file, name, where) {
     this.stop();
     let settings;
     try {
-      settings = this.settings();
+      settings = this.settings(where);
     } catch (error) {
       return this.say(`Refused: ${error.message}`);
     }
@@ -157,11 +164,12 @@ class LogPanel {
   /** The log is at its end, or was left. */
   end(how) {
     this.stop();
-    const { count, places, refused } = this.answers;
+    const { count, places, refused, withoutSite } = this.answers;
     this.seconds = (performance.now() - this.started) / 1000;
     byId("log-progress").value = how === "heard" ? 1 : byId("log-progress").value;
     const counts = `${count} answers, ${places} places, ${refused} refused`;
-    this.say(`${this.name}: ${how}. ${counts}, in ${this.seconds.toFixed(1)} seconds.`);
+    const ground = withoutSite ? ` Frames from the ground without a place: ${withoutSite}. Type where your receiver is.` : "";
+    this.say(`${this.name}: ${how}. ${counts}, in ${this.seconds.toFixed(1)} seconds.${ground}`);
     this.showRows();
     this.nameTracks();
     if (!this.map.moved) this.map.fit();
@@ -230,7 +238,8 @@ class LogPanel {
       const [file] = byId("log-file").files;
       if (file) this.hear(file, file.name);
     });
-    byId("log-example").addEventListener("click", () => this.hear(exampleLog(), "examples/flights.log"));
+    byId("log-example").addEventListener("click", () => 
+      this.hear(exampleLog(), `examples/flights.log, near ${EXAMPLE_SITE.join(", ")}`, EXAMPLE_SITE));
     byId("log-cancel").addEventListener("click", () => this.end("cancelled"));
     byId("log-text").addEventListener("click", () =>
       save("answers.txt", "text/plain", this.answers.chunks.map(({ text }) => text)));

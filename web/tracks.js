@@ -112,10 +112,12 @@ class Tracks {
   geojson() {
     const features = [];
     for (const [address, { pieces }] of this.all) {
-      for (const { lons, lats, lines } of pieces) {
+      for (const { lons, lats, moments, lines } of pieces) {
         const places = lons.map((lon, at) => [lon, lats[at]]);
         const isLine = places.length > 1, coordinates = isLine ? places : places[0];
-        const properties = { address: hexadecimal(address, 6), firstLine: lines[0], lastLine: lines[lines.length - 1] };
+        // (named and in the order as the columns of track are)
+        const [line, moment] = isLine ? [lines, moments] : [lines[0], moments[0]];
+        const properties = { line, moment, address: hexadecimal(address, 6) };
         const geometry = { type: isLine ? "LineString" : "Point", coordinates };
         features.push({ type: "Feature", properties, geometry });
       }

@@ -65,7 +65,7 @@ def leap() -> None:
 
 
 def agreeing() -> None:
-    """A leap is for good by the third frame that agrees, and not by the second; or by the third later one that rises."""
+    """A leap is for good by the third frame that agrees, or by three later ones, each later than the one before."""
     def aside(*seconds: int) -> List[int]:
         feed = Feed(Options(), False, lambda _: None)
         given = [feed.hear(row(str(second)), 0) for second in seconds]

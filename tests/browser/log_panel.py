@@ -2,6 +2,7 @@
 import json
 import os
 import re
+import subprocess
 import time
 
 from chromium import Chromium
@@ -27,6 +28,14 @@ def example(tries: Tries) -> str:
         all(abs(a[0] - b[0]) < 180 for line in lines for a, b in zip(line, line[1:])), "a line goes around the Earth"
     )
     expect({one["properties"]["address"] for one in features} >= {"7C0003", "A00002"}, features)
+    log_lines = flights().splitlines()
+    for one in features:
+        expect(list(one["properties"]) == ["line", "moment", "address"], one["properties"])
+        is_line = one["geometry"]["type"] == "LineString"
+        numbers, moments = (one["properties"][name] if is_line else [one["properties"][name]]
+                            for name in ("line", "moment"))
+        expect(len(numbers) == len(one["geometry"]["coordinates"]) if is_line else 1, one)
+        expect([int(log_lines[number - 1].split()[0]) for number in numbers] == moments, one["properties"])
     typed(browser, filter_what="0")
     expect(
         shown(browser, "#log-rows").endswith(f"of {len(re.findall(rb'(bad|parity|short|not DF17|moment)', wanted))}."),
@@ -75,10 +84,51 @@ def logs_in_browser(tries: Tries) -> str:
     for field, bad in (("log_window", "x"), ("log_limit", "0"), ("log_lat", "91"), ("log_lon", "")):
         typed(browser, log_window="10000", log_limit="1000", log_lat="1", log_lon="1")
         typed(browser, **{field: bad})
-        clicked(browser, "#log-example")
+        browser.evaluate(DROP)
         expect(shown(browser, "#log-state").startswith("Refused: "), field, shown(browser, "#log-state"))
     silent(browser)
     return f"{count} logs, and one dropped"
+
+
+def own_site(tries: Tries) -> str:
+    """The site starts empty and is that of the user: the example's is for the example alone, and typed or not a file
+    is heard with what is typed. Frames from the ground without a site say in words what is wanted."""
+    browser = tries.page("log")
+    here = browser.evaluate("[document.getElementById('log-lat').value, document.getElementById('log-lon').value]")
+    expect(here == ["", ""], "the site starts as", here)
+    sydney = ("-33.95", "151.18")
+    pair = b"".join(
+        b"%d %s\n" % (moment, frame.encode())
+        for moment, frame in enumerate(
+            subprocess.run(
+                [tries.program, "encode", "--kind=ground", f"--parity={parity}", "--address=7C1234",
+                 f"--lat={sydney[0]}", f"--lon={sydney[1]}"],
+                check=True, stdout=subprocess.PIPE, text=True,
+            ).stdout.strip()
+            for parity in ("even", "odd")
+        )
+    )
+    for before in (False, True):
+        if before:
+            clicked(browser, "#log-example")
+            expect(heard(browser) == tracked(tries.program, flights(), (10_000, 1000, SITE)), "the example")
+            expect("near 52.31, 4.76" in shown(browser, "#log-state"), shown(browser, "#log-state"))
+            expect("without a place" not in shown(browser, "#log-state"), shown(browser, "#log-state"))
+        given_log(browser, tries, pair)
+        got = heard(browser)
+        expect(got == tracked(tries.program, pair, USUAL) and got.endswith(b"no site 7C1234\n"), before, got)
+        expect(
+            shown(browser, "#log-state").endswith("Frames from the ground without a place: 1. Type where your receiver is."),
+            shown(browser, "#log-state"),
+        )
+    typed(browser, log_lat=sydney[0], log_lon=sydney[1])
+    given_log(browser, tries, pair)
+    got = heard(browser)
+    expect(got == tracked(tries.program, pair, (10_000, 1000, sydney)) and b" fix " in got, got)
+    clicked(browser, "#log-example")
+    expect(heard(browser) == tracked(tries.program, flights(), (10_000, 1000, SITE)), "the example, with another site")
+    silent(browser)
+    return "two lines from Sydney, with and without a site"
 
 
 def huge_line(tries: Tries) -> str:
@@ -113,7 +163,7 @@ def long_log(tries: Tries) -> str:
         browser.evaluate("document.getElementById('log-progress').value")
         slowest = max(slowest, time.monotonic() - start)
     expect(slowest < 5, "the page did not answer for", slowest, "seconds")
-    got, wanted = heard(browser), tracked(tries.program, log, (10_000, 1000, SITE))
+    got, wanted = heard(browser), tracked(tries.program, log, USUAL)
     expect(got == wanted, first_difference(got, wanted))
     browser.evaluate("document.getElementById('log-file').value = ''")
     browser.give("#log-file", path)
