@@ -75,6 +75,11 @@ const REFUSED = [
   [Code.NOT_DF17, () => library.read(new Uint8Array(14))],
   [Code.BAD_POSITION, () => library.local("x", bad)],
   [Code.LENGTH, () => library.local("x", zero)],
+  [Code.BAD_POSITION, () => library.local("x", { lat: 0, lon: 181 })],
+  [Code.BAD_POSITION, () => library.local("x", { lat: -91, lon: 0 })],
+  [Code.BAD_POSITION, () => library.localZones("x", { lat: 0, lon: -181 })],
+  [Code.BAD_POSITION, () => library.pair("x", FRAME, { lat: 0, lon: 181 })],
+  [Code.BAD_POSITION, () => new Contact(library, 1, { lat: 0, lon: 181 }).hear(0, "x")],
   [Code.BAD_POSITION, () => library.local(FRAME, { lat: huge, lon: 0 })],
   [Code.BAD_POSITION, () => library.localZones("x", bad)],
   [Code.BAD_POSITION, () => library.local(FRAME, { lat: 0, lon: { num: 1, den: 0 } })],
@@ -117,6 +122,41 @@ const REFUSED = [
   [RangeError, () => library.faultText(1n << 32n)],
 ];
 
+/** Frames of other bytes: part of a larger buffer, and changed after they were handed over. */
+function foreignBytes() {
+  const bytes = library.frame(FRAME), room = new Uint8Array(40);
+  room.set(bytes, 9);
+  const parts = [room.subarray(9, 23), new DataView(room.buffer, 9, 14), new Uint8ClampedArray(room.buffer, 9, 14)];
+  for (const part of parts) if (library.frameText(part) !== FRAME) throw new Error("bytes within a buffer");
+  const taken = library.frame(parts[0]);
+  room.fill(0);
+  if (library.frameText(taken) !== FRAME) throw new Error("a frame is no copy");
+}
+
+/** Hears an even and an odd frame, and then the odd one alone: all of what is kept counts, also in a copy. */
+function keptWhole() {
+  const air = ["8D40621D58C382D690C8AC2863A7", "8D40621D58C386435CC412692AD6"];
+  const ground = ["8C4841753AAB238733C8CD4020B1", "8C4841753A8A35323FAEBDAC702D"];
+  for (const [older, newer] of [air, ground]) {
+    const one = new Contact(library, 10, { lat: 52, lon: { num: 4375, den: 1000 } });
+    one.hear(0, older);
+    const fix = one.hear(1, newer), copy = one.copy();
+    const followed = [one.hear(11, newer), copy.hear(11, newer)], late = one.hear(22, newer);
+    if (fix.what !== What.FIX || late.what !== What.WAITING) throw new Error(`${older}: ${fix.what} ${late.what}`);
+    for (const { what, position } of followed) {
+      const same = what === What.FOLLOWED && String(position.lat) === String(fix.position.lat);
+      if (!same) throw new Error(`${older}: ${what} is not followed`);
+    }
+    const before = one.last;
+    try {
+      one.hear(5, newer);
+    } catch (error) {
+      if (!(error instanceof Fault)) throw error;
+    }
+    if (one.last !== before || one.hear(23, older).what !== What.FIX) throw new Error("a fault has changed a contact");
+  }
+}
+
 /** Tries each refusal, and that one leaves nothing behind for the next call. */
 function refusals() {
   for (const [wanted, call] of REFUSED) {
@@ -130,6 +170,8 @@ function refusals() {
     if (!good) throw new Error(`${call} answered ${got}`);
     if (checked(FRAME) !== "ok 40621D air even 93000 51372") throw new Error(`${call} has damaged the next call`);
   }
+  foreignBytes();
+  keptWhole();
   const bytes = library.frame(FRAME), copy = contact.copy();
   const kinds = [bytes, bytes.buffer, new DataView(bytes.buffer), new Uint8ClampedArray(bytes)];
   if (!kinds.every((one) => library.frameText(one) === FRAME)) throw new Error("bytes of another kind");
