@@ -197,6 +197,7 @@ def foreign_objects() -> None:
     texts = [json.dumps({**OF_JSON, name: value}) for name, value in (
         ("lat", True), ("address", ["x"]), ("lat", "\u0665.0"), ("answer", None), ("answer", 5), ("feet", {}),
         ("moment", -1), ("lon", 1e300), ("lat", float("nan")), ("line", False))]
+    texts += ['{"line":1,"moment":0,"answer":"waiting","address":"40621D"}']
     texts += ['{"line":1}', '{"line":1', "null", "[]", "{}", '{"x":' + "[" * 200_000, "5", "\xff", ""]
     for text in texts:
         status, printed, said = of_rows(json.dumps(OF_JSON) + f"\n{text}\n")
@@ -225,6 +226,19 @@ def cut() -> None:
     same(features(drawn("", "")[1]), {}, "nothing")
 
 
+def one_place() -> None:
+    """A line that stays at one place has it twice; places half a turn apart are not cut, and more than that are."""
+    log, text = log_of_places((0, "4B1001", "1.0000000", "2.0000000"), (20_000, "4B1001", "1.0000000", "3.0000000"),
+                              (21_000, "4B1001", "1.0000000", "4.0000000"))
+    one = features(drawn(log, text)[1])["4B1001"]
+    same(one["geometry"]["coordinates"][0], [["2.0000000", "1.0000000"]] * 2)
+    same((one["properties"]["moment"][0], one["properties"]["line"][0]), ([0, 0], [1, 1]))
+    same(one["properties"]["places"], 3)
+    for east, kind in (("89.9999999", "LineString"), ("90.0000000", "LineString"), ("90.0000001", "MultiLineString")):
+        log, text = log_of_places((0, "4B1001", "1.0000000", "-90.0000000"), (1, "4B1001", "1.0000000", east))
+        same(features(drawn(log, text)[1])["4B1001"]["geometry"]["type"], kind, east)
+
+
 def date_of(moment: int) -> str:
     """A moment of the first hour of 1970."""
     return f"1970-01-01T00:{moment // 60_000:02d}:{moment % 60_000 / 1000:06.3f}Z"
@@ -250,7 +264,11 @@ def kml() -> None:
         for address, parts in lines.items()
     }
     same(found, wanted)
-    same(drawn(*log_of_places((2**64 - 1, "4B1001", "1.0000000", "2.0000000")), "--kml")[0], 0, "the last moment")
+    for moment, wanted in ((2**64 - 1, "9999-12-31T23:59:59.999Z"), (200_000_000_000_000, "8307-10-01T19:33:20.000Z"),
+                           (253_402_300_799_999, "9999-12-31T23:59:59.999Z"), (0, "1970-01-01T00:00:00.000Z"),
+                           (253_402_300_799_998, "9999-12-31T23:59:59.998Z")):
+        drawing = drawn(*log_of_places((moment, "4B1001", "1.0000000", "2.0000000")), "--kml")[1]
+        expect(f"<when>{wanted}</when>" in drawing, moment, drawing)
 
 
 def refusals() -> None:
