@@ -78,6 +78,8 @@ def same_lines(expected: List[Dict[str, Any]], given: Any, exact: bool) -> bool:
 def matches(expected: Dict[str, Any], given: Dict[str, Any], exact: bool) -> bool:
     """The answer is the expected one. Who is not exact may leave out what is beside the point, and words of refusals.
     """
+    if expected.get("any") == "lon":
+        return "lat" in given and abs(number(given["lat"]) - number(expected["lat"])) <= TOLERANCE
     if expected.get("any"):
         return "refused" not in given
     if "refused" in expected or "refused" in given:

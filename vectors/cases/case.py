@@ -32,6 +32,7 @@ POLICIES = {
     "out-of-range": Profile(out_of_range=True),
     "latitude-in-range": Profile(in_range=True),
     "zone-counts": Profile(zone_counts=True),
+    "lower-end": Profile(lower_end=True),
 }
 
 
@@ -156,6 +157,8 @@ def policies_of(operation: str, asked: Dict[str, Any], expected: Dict[str, Any])
             other = answer(operation, asked, profile)
             if other != expected:
                 found[name] = other
+    if expected.get("lat") in ("90/1", "-90/1"):
+        found["pole-longitude"] = {"lat": expected["lat"], "any": "lon"}
     if operation == "nl" and any(
         abs(abs(Fraction(asked["lat"])) - limit) <= Fraction(1, 2 * 10**8) for limit in TRANSITIONS[:-1]
     ):
@@ -239,6 +242,8 @@ class Collection:
         if beside:
             case["beside"] = beside
         others = {**policies_of(self.operation, asked, expected), **(policies or {})}
+        # (at an edge the answer on its other side passes already)
+        others = {name: other for name, other in others.items() if name != "lower-end" or other != beside}
         if others:
             case["policies"] = others
         if note:

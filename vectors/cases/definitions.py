@@ -39,6 +39,7 @@ class Profile(NamedTuple):
     out_of_range: bool = False  # a latitude beyond 90 degrees is answered, not refused
     in_range: bool = False  # on the ground, of the latitudes up to 90 degrees the one nearest to the site
     zone_counts: bool = False  # a pair whose zone counts differ is answered by the newer frame's own count
+    lower_end: bool = False  # on the ground, of two candidates that are 45 degrees from the site the lower one
 
 
 OURS = Profile()
@@ -187,6 +188,8 @@ def representative(lat: Fraction, span: Span, site: Optional[Place], profile: Pr
     if span is GROUND:
         assert site is not None
         chosen = around(lat, site.lat, 90)
+        if profile.lower_end and chosen - site.lat == 45 and chosen - 90 >= -90:
+            chosen -= 90
         if profile.in_range and abs(chosen) > 90:
             chosen = min(
                 (lat + 90 * t for t in range(-2, 3) if abs(lat + 90 * t) <= 90), key=lambda x: abs(x - site.lat)
@@ -224,6 +227,8 @@ def pair(
     if span is GROUND:
         assert site is not None
         lon = nearest_turn(lon, site.lon)
+        if profile.lower_end and lon - site.lon == 45:
+            lon -= 90
     return Place(lats[newest], eastward(lon))
 
 
