@@ -224,7 +224,9 @@ def archives() -> None:
         for name, pack in ARCHIVES.items():
             packed = pack(data)
             half = len(data) // 2
-            for archive in (packed, pack(data[:half]) + pack(data[half:]), packed + bytes(1024), pack(b"") + packed):
+            halves = pack(data[:half]) + bytes(512) + pack(data[half:])
+            both = pack(data[:half]) + pack(data[half:])
+            for archive in (packed, both, halves, packed + bytes(1024), pack(b"") + packed):
                 same(heard([archive]), wanted, name)
                 pieces = [archive[place : place + 4096] for place in range(0, len(archive), 4096)]
                 same(heard(pieces), wanted, name, "in pieces")
@@ -286,6 +288,7 @@ def too_large() -> None:
     packed[place] = 39  # 3 GiB
     packed[head + size - 4 : head + size] = struct.pack("<I", zlib.crc32(packed[head : head + size - 4]))
     same(heard([bytes(packed)]), ([], "the xz archive wants too much memory"))
+    same(squitter_unpack.ROOM, 65_536)
     for name, pack in ARCHIVES.items():
         packed_zeros = pack(b"\n" * 50_000_000)
         largest = max(len(piece) for piece in Unpacking().pieces(packed_zeros))
