@@ -16,6 +16,7 @@ import subprocess
 import sys
 import tempfile
 import threading
+import time
 import unittest
 from datetime import datetime, timedelta, timezone
 from fractions import Fraction
@@ -170,7 +171,8 @@ class Batch(unittest.TestCase):
         self.alike(batch.pair(others, texts), (single(squitter.pair, *two) for two in zip(others, texts)), numbers)
 
     def test_bytes_of_each_width(self) -> None:
-        texts = [EVEN, f"*{EVEN};", EVEN[:14], EVEN.lower(), f"*{EVEN}0", "", f"x{EVEN};", EVEN + "00;"]
+        texts = [EVEN, f"*{EVEN};", EVEN[:14], EVEN.lower(), f"*{EVEN}0", "", f"x{EVEN};", EVEN + "00;", f"*{EVEN};0",
+                 f"*{EVEN};;", f"*{EVEN}; ", f"*{EVEN};{'0' * 33}"]
         for width in (1, 14, 27, 28, 29, 30, 31, 64):
             cut = np.array([text.encode() for text in texts], f"S{width}")
             self.alike(batch.read(cut), (single(squitter.read, one.decode()) for one in cut.tolist()), fields)
@@ -302,10 +304,44 @@ class Track(unittest.TestCase):
         whole, was = batch.track(moments, texts, site=SITE, limit=30), batch._BLOCK
         try:
             for batch._BLOCK in (1, 7, 1000):
-                for ours, theirs in zip(batch.track(moments, texts, site=SITE, limit=30), whole):
-                    np.testing.assert_array_equal(ours, theirs)
+                tracker = batch.Tracker(site=SITE, limit=30)
+                for call in (batch.track, tracker.hear):
+                    options = {"site": SITE, "limit": 30} if call is batch.track else {}
+                    for ours, theirs in zip(call(moments, texts, **options), whole):
+                        np.testing.assert_array_equal(ours, theirs)
         finally:
             batch._BLOCK = was
+
+    def test_parts(self) -> None:
+        """What is heard ahead, in another thread, does not take the place of what is not yet written."""
+        moments, texts = random_log(random.Random(10), 2000)
+        whole, write = batch.track(moments, texts, site=SITE), batch._write_part
+
+        def late(*given: Any) -> None:
+            time.sleep(0.02)  # (the next part is heard meanwhile)
+            write(*given)
+
+        for size in (1, 2, 90, 700):
+            count = min(len(texts), 12 * size)
+            with mock.patch.object(batch, "_PART", size), mock.patch.object(batch, "_write_part", late):
+                for ours, theirs in zip(batch.track(moments[:count], texts[:count], site=SITE), whole):
+                    np.testing.assert_array_equal(ours, theirs[:count])
+
+    def test_at_the_window(self) -> None:
+        """What is as old as the window is kept between pieces, and what is older is not."""
+        other = squitter.frame_text(squitter.encode(AirHead(5), Position(1, 1)))
+        for age, what in ((9, What.FIX), (10, What.FIX), (11, What.WAITING)):
+            for pieces in ([([0], [ODD]), ([age], [other]), ([age], [EVEN])], [([0, age, age], [ODD, other, EVEN])]):
+                tracker = batch.Tracker(window=10)
+                for piece in pieces:
+                    heard, faults = tracker.hear(*piece)
+                    tracker = pickle.loads(pickle.dumps(tracker))
+                self.assertEqual((heard["what"][-1], faults["code"][-1]), (what, 0), age)
+        full = batch.Tracker(window=10, limit=1)
+        refused = Code.TABLE_FULL
+        for moment, text, code in ((0, ODD, 0), (10, other, refused), (11, other, 0), (11, ODD, refused)):
+            self.assertEqual(full.hear([moment], [text])[1]["code"].tolist(), [code], moment)
+        self.assertEqual((full.last, len(full._addresses)), (11, 1))
 
     def test_beside_contacts(self) -> None:
         """The exact places are those that the library hears of one address."""
