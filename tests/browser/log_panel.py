@@ -118,7 +118,7 @@ def own_site(tries: Tries) -> str:
         got = heard(browser)
         expect(got == tracked(tries.program, pair, USUAL) and got.endswith(b"no site 7C1234\n"), before, got)
         expect(
-            shown(browser, "#log-state").endswith("Frames from the ground without a place: 1. Type where your receiver is."),
+            "Frames from the ground without a place: 1. Type where" in shown(browser, "#log-state"),
             shown(browser, "#log-state"),
         )
     typed(browser, log_lat=sydney[0], log_lon=sydney[1])
