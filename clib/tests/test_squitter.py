@@ -281,6 +281,9 @@ class Calls(unittest.TestCase):
         tracker.hear(1, ODD)
 
         def handler(*_):
+            if not tracker._lock.acquire(blocking=False):
+                return  # (the calls below would wait for ever)
+            tracker._lock.release()
             told.append((len(tracker), tracker[0].address, tracker.hear(5, EVEN).what))
 
         was = signal.signal(signal.SIGALRM, handler)

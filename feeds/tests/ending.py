@@ -201,13 +201,16 @@ def second_signal() -> None:
     )
     for number in ALL:
         run = subprocess.Popen(["python3", "-c", script, FEED], pass_fds=[writer], stderr=subprocess.PIPE)
-        os.read(reader, 1)
-        run.send_signal(number)
-        time.sleep(0.2)
-        same(run.poll(), None, "one signal alone does not end what does not look")
-        run.send_signal(number)
-        same(run.wait(timeout=SOON), 128 + number)
-        run.communicate()
+        try:
+            os.read(reader, 1)
+            run.send_signal(number)
+            time.sleep(0.2)
+            same(run.poll(), None, "one signal alone does not end what does not look")
+            run.send_signal(number)
+            same(run.wait(timeout=10), 128 + number)
+        finally:
+            run.kill()
+            run.communicate()
     os.close(reader)
     os.close(writer)
 
