@@ -4,6 +4,7 @@ from __future__ import annotations
 import fcntl
 import os
 import re
+import runpy
 import signal
 import socket
 import subprocess
@@ -12,7 +13,9 @@ import termios
 import threading
 import time
 from contextlib import contextmanager
+from types import SimpleNamespace
 from typing import Callable, Iterator, List, Optional, Tuple
+from unittest import mock
 
 from process import FEED, fault_of, line_of, listening, put, ran, started
 from trying import AIR_EVEN, AIR_ODD, beast, expect, same
@@ -262,6 +265,25 @@ def short_writes() -> None:
     same((len(lines), run.returncode), (20_000, 0))
     expect(all(line.endswith(b" %s\n" % AIR_EVEN.encode()) for line in lines), "torn lines")
     ours.close()
+
+
+def full_after_all() -> None:
+    """An output that is full although there was room is waited for again."""
+    sink_of = runpy.run_path(FEED)["Sink"]
+    (reader, writer), (never, other) = os.pipe(), os.pipe()
+    sink, write, sizes = sink_of(writer, SimpleNamespace(reader=never, ended=False)), os.write, []
+
+    def full_at_first(number: int, data: bytes) -> int:
+        sizes.append(len(data))
+        if len(sizes) == 1:
+            raise BlockingIOError
+        return write(number, data[:3] if len(sizes) == 2 else data)
+
+    with mock.patch("os.write", full_at_first):
+        sink.write(b"5 first\n6 second\n")
+    same((os.read(reader, 100), sizes, sink.left), (b"5 first\n6 second\n", [17, 17, 14], 0))
+    for number in (reader, writer, never, other):
+        os.close(number)
 
 
 def closed_output() -> None:
