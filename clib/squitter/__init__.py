@@ -449,7 +449,8 @@ class Contact:
     def __reduce_ex__(self, protocol: SupportsIndex) -> Tuple[Any, ...]:
         """Returns what a copy, a deep copy or a pickle is made of: the class, its attributes, and an entry of its
         own."""
-        call, arguments, state, *more = super().__reduce_ex__(max(2, operator.index(protocol)))
+        made: Any = super().__reduce_ex__(max(2, operator.index(protocol)))
+        call, arguments, state, *more = made
         if isinstance(state, tuple):
             names, slots = state
             state = names, {**slots, "_entry": _Entry.from_buffer_copy(self._entry)}

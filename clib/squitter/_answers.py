@@ -15,7 +15,7 @@ from squitter import AltitudeForm, Code, Position, What
 from squitter._records import FAULT, POSITION, TRACKED, Records, _moments
 
 if TYPE_CHECKING:
-    import pandas
+    import pandas  # type: ignore[import]
 
 # ---- texts ----
 
@@ -181,7 +181,12 @@ def columns(
         "lat_e7": (heard["lat_e7"], placed), "lon_e7": (heard["lon_e7"], placed),
         "fault": (faults["code"].astype(np.int64), every),
     }
-    return {name: np.ma.MaskedArray(values, ~these) for name, (values, these) in told.items()}
+    return {name: _masked(values, ~these) for name, (values, these) in told.items()}
+
+
+def _masked(values: npt.NDArray[Any], mask: npt.NDArray[np.bool_]) -> np.ma.MaskedArray[Any, Any]:
+    made: Any = np.ma.MaskedArray
+    return made(values, mask)  # type: ignore[no-any-return]
 
 
 Source = Union[str, "os.PathLike[str]", Any]
@@ -210,7 +215,7 @@ def dataframe(
     heard, faults = track(moments, frames, window, site, limit)
     faults[long] = Code.LONG_LINE, 0, 0
     told = columns(moments, heard, faults)
-    told["line"] = np.ma.MaskedArray(numbers)
+    told["line"] = _masked(numbers, np.zeros(len(numbers), np.bool_))
     frame = pandas.DataFrame({name: _of_pandas(values) for name, values in told.items()})
     for name in ("line", "fault"):
         frame[name] = told[name].data
@@ -225,12 +230,15 @@ def _of_pandas(column: np.ma.MaskedArray[Any, Any]) -> Any:
     """A column as pandas has it: what is masked is NaN of a float, None of a text, and NA of a whole number."""
     import pandas
 
-    mask = np.ma.getmaskarray(column)
+    values: Any = column.data
+    mask: Any = np.broadcast_to(column.mask, values.shape)
     if column.dtype.kind == "f":
-        return np.where(mask, np.nan, column.data)
+        return np.where(mask, np.nan, values)
     if column.dtype.kind == "O":
-        return np.where(mask, None, column.data)
-    return pandas.arrays.IntegerArray(column.data.copy(), mask.copy())
+        told = values.copy()
+        told[mask] = None
+        return told
+    return pandas.arrays.IntegerArray(values.copy(), mask.copy())
 
 
 def fractions(heard: Records) -> List[Optional[Position]]:
@@ -259,7 +267,10 @@ def _read_log(
     else:
         with open(log, "rb") as file:
             data = file.read()
-    numbers, times, texts, long = [], [], [], []
+    numbers: List[int] = []
+    times: List[Optional[int]] = []
+    texts: List[str] = []
+    long: List[int] = []
     for number, line in enumerate(data.split(b"\n"), 1):
         if len(line) > _LONGEST:
             long.append(len(numbers))

@@ -1,8 +1,9 @@
 """The records of squitter.batch: their types, and the moments of a log as C takes them."""
 from __future__ import annotations
 
+import operator
 from datetime import datetime, timedelta, timezone
-from typing import Any, Sequence, Tuple
+from typing import Any, List, Sequence, Tuple
 
 import numpy as np
 import numpy.typing as npt
@@ -102,16 +103,18 @@ def _whole_objects(values: Sequence[Any]) -> npt.NDArray[Any]:
     """Whole numbers, floats that are whole, and dates; 0 of None."""
     if set(map(type, values)) == {int} and 0 <= min(values) and max(values) < 1 << 64:
         return np.array(values, np.uint64)
-    told = []
+    told: List[int] = []
+    value: Any
     for value in values:
         if isinstance(value, datetime):
             date = value if value.tzinfo else value.replace(tzinfo=timezone.utc)
             value = (date - _EPOCH) // timedelta(milliseconds=1)
         elif isinstance(value, np.datetime64):
             value = int(_since_1970(np.array([value]))[0])
-        elif isinstance(value, (float, np.floating)) and abs(value) <= 1 << 53 and value == int(value):
+        elif isinstance(value, (float, np.floating)) and abs(float(value)) <= 1 << 53 and value == int(value):
             value = int(value)
-        if value is not None and not (isinstance(value, (int, np.integer)) and 0 <= value < 1 << 64):
+        number = operator.index(value) if isinstance(value, (int, np.integer)) else -1 if value is not None else 0
+        if not 0 <= number < 1 << 64:
             raise ValueError(_NO_MOMENTS)
-        told.append(int(value or 0))
+        told.append(number)
     return np.array(told, np.uint64)

@@ -359,10 +359,13 @@ def track(
     heard_in_turn = [np.zeros(at_once, _HEARD) for _ in parts[:2]]
     room = [np.zeros(at_once, dtype) for dtype in (POSITION, _DEGREES_E7, FAULT, FIELDS)]
 
+    told: Records = faults
+
     def hear(number: int) -> Records:
         part = parts[number]
         heard = heard_in_turn[number % 2][:part.stop - part.start]
-        lines_of = [word for array in (times[part], source.bytes[part], heard, faults[part]) for word in _given(array)]
+        arrays: Tuple[npt.NDArray[Any], ...] = (times[part], source.bytes[part], heard, told[part])
+        lines_of = [word for array in arrays for word in _given(array)]
         _lib.squitter_tracker_hear_many(ctypes.byref(tracker._tracker), *lines_of)
         return heard
 

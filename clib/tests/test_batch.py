@@ -220,7 +220,7 @@ class Track(unittest.TestCase):
         self.assertEqual(batch.lines(heard, faults), answers)
         table = by_program(moments, texts, "--format=csv", *words)
         header = ",".join(batch.COLUMNS) + "\n"
-        self.assertEqual(header.encode() + batch.csv_rows(times, heard, faults), table)
+        self.assertTrue(header.encode() + batch.csv_rows(times, heard, faults) == table, "rows")
         tracker, rng, at, pieces = batch.Tracker(window, site, limit), random.Random(len(texts)), 0, b""
         while at < len(texts):
             to = at + rng.choice([0, 1, 2, 50, 3000])
@@ -629,8 +629,9 @@ class Frames(unittest.TestCase):
                 self.assertEqual(list(frame.columns), [*batch.COLUMNS, "lat_e7", "lon_e7", "fault"])
                 for name in batch.COLUMNS:
                     ours, theirs = frame[name], wanted[name]
-                    self.assertEqual(ours.isna().tolist(), theirs.isna().tolist(), name)
-                    self.assertEqual(ours.dropna().tolist(), theirs.dropna().tolist(), name)
+                    # (to show how two thousand values differ takes minutes)
+                    self.assertTrue(ours.isna().tolist() == theirs.isna().tolist(), name)
+                    self.assertTrue(ours.dropna().tolist() == theirs.dropna().tolist(), name)
         for name, kind in (("lat", "float64"), ("lon", "float64"), ("feet", "Int64"), ("lat_e7", "Int64"),
                            ("moment", "UInt64"), ("lon_e7", "Int64"), ("line", "uint64"), ("fault", "int64")):
             self.assertEqual(str(frame[name].dtype), kind, name)
@@ -640,7 +641,7 @@ class Frames(unittest.TestCase):
         frame = batch.dataframe(self.log, site=SITE)
         placed = frame["answer"].isin(["fix", "followed"])
         for name in ("lat", "lon", "lat_e7", "lon_e7"):
-            self.assertEqual(frame[name].notna().tolist(), placed.tolist(), name)
+            self.assertTrue(frame[name].notna().tolist() == placed.tolist(), name)
         self.assertFalse(((frame["lat"] == 0) & (frame["lon"] == 0)).any())
         refused = frame["fault"] != 0
         for name in ("moment", "address", "kind", "feet"):
