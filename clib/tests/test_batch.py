@@ -488,7 +488,10 @@ class Arrays(unittest.TestCase):
             given += [pandas.Series(nanos), pandas.Series(nanos).dt.tz_localize("UTC"), pandas.to_datetime(aware)]
         for moments in given:
             self.assertEqual(batch.lines(*batch.track(moments, [ODD, EVEN, ODD])), wanted, repr(moments))
-            self.assertEqual(batch.lines(*batch.Tracker().hear(moments, [ODD, EVEN, ODD])), wanted)
+            heard, faults = batch.Tracker().hear(moments, [ODD, EVEN, ODD])
+            self.assertEqual(batch.lines(heard, faults), wanted)
+            rows = batch.csv_rows(moments, heard, faults).splitlines()
+            self.assertEqual([row.split(b",")[1] for row in rows], [b"0", b"1999", b"2000"], repr(moments))
         gap = np.array(["1970-01-01", "NaT", "1970-01-02"], "M8[D]")
         self.assertEqual(batch.track(gap, [ODD, EVEN, ODD])[1]["code"].tolist(), [0, Code.BAD_MOMENT, 0])
         heard, faults = batch.track(gap, [ODD, EVEN, ODD])
@@ -529,6 +532,8 @@ class Arrays(unittest.TestCase):
         self.assertEqual(batch.fractions(heard), [None, place])
         self.assertEqual(batch.fractions(batch.local([EVEN, "*"], Position(52, 4))[0]), [place, None])
         self.assertEqual(batch.fractions(heard[:0]), [])
+        frames = [squitter.encode(AirHead(5, odd=odd), Position(0, 0)) for odd in (0, 1)]
+        self.assertEqual(batch.fractions(batch.track([0, 1], b"".join(frames))[0]), [None, Position(0, 0)])
 
     def test_references(self) -> None:
         near = batch.positions([520_000_000] * 6, np.full(6, 40_000_000, ">i8"))
@@ -617,6 +622,7 @@ class Frames(unittest.TestCase):
         """The columns of the one schema are those of the program, name by name and value by value."""
         with open(self.log, "rb") as log:
             data = log.read()
+        data += b"".join(b"5 %s%s\n" % (b"8" * count, end) for count in (60, 61, 62, 63) for end in (b"", b"\r"))
         data = data.replace(b"\n", b"\r\n\n", 5) + b"\nx\n7 8D\n" + b"9" * 65 + b"\n" + b"1" * 21 + b" x\n*\n99999 \xff"
         got = subprocess.run([PROGRAM, "track", "--format=csv", "--lat=52.31", "--lon=4.76"], input=data,
                              stdout=subprocess.PIPE).stdout

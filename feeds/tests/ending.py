@@ -286,6 +286,16 @@ def full_after_all() -> None:
         os.close(number)
 
 
+def ports() -> None:
+    """A source is a port where it ends with a number from 1 to 65535, and a file otherwise."""
+    place_of = runpy.run_path(FEED)["place_of"]
+    for number, is_port in ((0, False), (1, True), (65_535, True), (65_536, False), (99_999, False)):
+        same(place_of(f"host:{number}"), ("host", number) if is_port else None)
+        same(place_of(f"[::1]:{number}"), ("::1", number) if is_port else None)
+    for name in ("host", "host:", "a/b:5", ":5", "host:123456", "a:b:5", "host:-1"):
+        same(place_of(name), None, name)
+
+
 def closed_output() -> None:
     """Where the reader of the output goes away, what it did not take is counted; the status is 0."""
     with tempfile.TemporaryDirectory() as work:

@@ -13,7 +13,7 @@ from io import BytesIO
 from typing import Callable, Dict, Iterable, List, Optional, Tuple
 
 import squitter_unpack
-from process import ran
+from process import line_of, listening, ran, started
 from squitter_feed import (
     LONGEST_LINE,
     UNDECIDED,
@@ -256,6 +256,22 @@ def by_process() -> None:
         status, printed, said = ran(["-"], bytes(harmed))
         expect(status == 1 and f"the {name} archive is damaged" in said, name, status, said)
         expect(printed.count("\n") > (1000 if name == "gzip" else -1), name, printed.count("\n"))
+
+
+def lost_in_an_archive() -> None:
+    """A connection that was lost in the middle of an archive begins anew, whatever it gives then."""
+    packed = gzip.compress(many_rows(300))
+    with listening() as listener, started([f"127.0.0.1:{listener.getsockname()[1]}"]) as run:
+        listener.settimeout(20)
+        for data in (packed[: len(packed) // 2], LINE, gzip.compress(LINE)):
+            link, _ = listener.accept()
+            link.sendall(data)
+            expect(line_of(run), "no line of", data[:20])
+            link.close()
+        run.terminate()
+        printed, said = run.communicate(timeout=10)
+        same((run.returncode, printed.count(AIR_EVEN.encode()) > 0), (0, True), said)
+        expect(b"archive" not in said, "a part of an archive is no fault of the run", said)
 
 
 def damaged() -> None:
