@@ -279,6 +279,7 @@ def full_after_all() -> None:
             raise BlockingIOError
         return write(number, data[:3] if len(sizes) == 2 else data)
 
+    os.set_blocking(reader, False)
     with mock.patch("os.write", full_at_first):
         sink.write(b"5 first\n6 second\n")
     same((os.read(reader, 100), sizes, sink.left), (b"5 first\n6 second\n", [17, 17, 14], 0))
