@@ -25,7 +25,7 @@ _KINDS = np.array(["other", "air", "ground"], "S6")
 
 def lines(heard: Records, faults: Records, first: int = 1) -> bytes:
     """The lines that `squitter track` prints of these answers, of which the first is that of the line of this number.
-    An empty line, to which the program answers nothing, has no place in arrays."""
+    Empty lines have no answer, and so no place in arrays."""
     numbers = _numbers(heard, faults, first)
     return b"".join(_lines(heard[some], faults[some], numbers[some]) for some in _blocks(len(heard)))
 

@@ -209,7 +209,7 @@ def main():
     count = int(sys.argv[1]) if len(sys.argv) > 1 else 10_000
     rng = random.Random(20261122)
     texts = list(random_frames(rng, count))
-    # each function of this file whose name begins so is tried
+    # (tries each function of this file with this prefix)
     counts = {name: one(rng, texts, count) for name, one in list(globals().items()) if name.startswith("compare_")}
     print(f"against the program: {counts['compare_logs']} frames by check and by track, "
           f"{counts['compare_calls']} calls of local, pair and encode; "

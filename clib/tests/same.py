@@ -289,7 +289,7 @@ def check_tests():
 
 
 def main():
-    # each function of this file whose name begins so is tried
+    # (tries each function of this file with this prefix)
     for name, one in list(globals().items()):
         if name.startswith("check_"):
             one()
