@@ -43,3 +43,14 @@ decimal_thousands n long fits =
       a,
       three_of n,
     ) (simp append_assoc refl)
+
+-- a number of seven digits or more, and its last six
+pub decimal_millions : (n : ℕ) → 1000000 ≤ n → n < 2 ^ 64
+    → decimal n ≡ decimal (n / 1000000) ++ (fixed_digits 3 (n / 1000 % 1000) ++ fixed_digits 3 (n % 1000))
+decimal_millions n long fits =
+    let first : n / 1000 / 1000 ≡ n / 1000000 = omega arith in
+    rw (
+      decimal_thousands n (omega arith) fits,
+      decimal_thousands (n / 1000) (omega arith) (omega arith),
+      first,
+    ) (simp append_assoc refl)

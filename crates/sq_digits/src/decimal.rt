@@ -1,5 +1,5 @@
 //! Numbers in decimal digits.
-ghost use Rattle.std.specs.Prelude.{◌≡◌, ◌+◌, ◌<◌, ◌≤◌, ◌^◌, ◌++◌, ◌∷◌, [], decimal, length, take};
+ghost use Rattle.std.specs.Prelude.{◌≡◌, ◌+◌, ◌/◌, ◌%◌, ◌<◌, ◌≤◌, ◌^◌, ◌++◌, ◌∷◌, [], decimal, length, take};
 ghost use Rattle.std.specs.Str.{IsAscii};
 ghost use Rattle.sq_digits.specs.Buffer.{text_len};
 ghost use Rattle.sq_digits.specs.Digits.{fixed_digits};
@@ -59,14 +59,26 @@ pub fn push_decimal<const N: usize>(text: &mut TextBuffer<N>, number: u64)
     ensures bytes { text.new.bytes ≡ text.old.bytes ++ decimal number }
     ensures len { text_len text.new ≤ text_len text.old + 20 }
 {
-    if number < 1_000_000 {
-        push_short(text, number);
-    } else if number < 1_000_000_000 {
-        push_leading(text, number / 1_000_000);
-        push_next_three(text, number / 1_000 % 1_000);
-        push_next_three(text, number % 1_000);
+    if number < 1_000_000_000 {
+        push_nine(text, number);
     } else {
         push_long(text, number);
+    }
+}
+
+// Appends a number of at most nine digits, three at a time.
+#[inline(always)]
+fn push_nine<const N: usize>(text: &mut TextBuffer<N>, number: u64)
+    requires small { number < 10 ^ 9 }
+    requires room { text_len text.old + 10 ≤ N }
+    ensures bytes { text.new.bytes ≡ text.old.bytes ++ decimal number }
+    ensures len { text_len text.new ≤ text_len text.old + 9 }
+{
+    if number < 1_000_000 {
+        push_short(text, number);
+    } else {
+        push_leading(text, number / 1_000_000);
+        push_last_six(text, number);
     }
 }
 
@@ -86,10 +98,38 @@ pub fn push_short<const N: usize>(text: &mut TextBuffer<N>, number: u64)
     }
 }
 
+// Appends a number of seven digits or more. Up to fifteen, as moments have, go three at a time.
+#[inline(never)]
+fn push_long<const N: usize>(text: &mut TextBuffer<N>, number: u64)
+    requires long { 10 ^ 6 ≤ number }
+    requires room { text_len text.old + 20 ≤ N }
+    ensures bytes { text.new.bytes ≡ text.old.bytes ++ decimal number }
+    ensures len { text_len text.new ≤ text_len text.old + 20 }
+{
+    if number < 1_000_000_000_000_000 {
+        push_nine(text, number / 1_000_000);
+        push_last_six(text, number);
+    } else {
+        push_longest(text, number);
+    }
+}
+
+// Appends the last six decimal digits of a number, where there is room for one more character.
+#[inline(always)]
+fn push_last_six<const N: usize>(text: &mut TextBuffer<N>, number: u64)
+    requires { text_len text.old + 7 ≤ N }
+    ensures bytes { text.new.bytes ≡ text.old.bytes
+        ++ (fixed_digits 3 (number / 1000 % 1000) ++ fixed_digits 3 (number % 1000)) }
+    ensures len { text_len text.new ≡ text_len text.old + 6 }
+{
+    push_next_three(text, number / 1_000 % 1_000);
+    push_next_three(text, number % 1_000);
+}
+
 // Appends any number.
 #[cold]
 #[inline(never)]
-fn push_long<const N: usize>(text: &mut TextBuffer<N>, number: u64)
+fn push_longest<const N: usize>(text: &mut TextBuffer<N>, number: u64)
     requires { text_len text.old + 20 ≤ N }
     ensures bytes { text.new.bytes ≡ text.old.bytes ++ decimal number }
     ensures len { text_len text.new ≤ text_len text.old + 20 }
