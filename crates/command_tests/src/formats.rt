@@ -8,9 +8,9 @@ use sq_digits::TextBuffer;
 use sq_message::{Me, Squitter};
 use sq_requests::{Request, TrackWords};
 use sq_rows::{
-    Form, kind_name, push_airborne_feet, push_bit, push_blank, push_degrees, push_end,
-    push_fault_word, push_feet, push_hexadecimal_word, push_line, push_number, push_signed,
-    push_word,
+    Form, kind_name, push_address, push_airborne_feet, push_bit, push_blank, push_degrees,
+    push_end, push_fault_word, push_feet, push_hexadecimal_word, push_line, push_number,
+    push_signed, push_word,
 };
 use sq_text::{LineFault, read_squitter};
 use std::alloc::Global;
@@ -33,6 +33,7 @@ fn row_of(rt: &impl Abort, form: Form, me: &Me) -> TextBuffer<256> {
     push_signed(&mut text, form, "signed", -5);
     push_word(&mut text, form, "kind", kind_name(me));
     push_hexadecimal_word(&mut text, form, "digits", 0x0C3, 3);
+    push_address(&mut text, form, "address", 0xFF0A_621D);
     push_bit(&mut text, form, "bit", true);
     push_feet(&mut text, form, me);
     match Angle::read("-0.4500000") {
@@ -50,11 +51,11 @@ const AIR_FRAME: &[u8] = b"8D40621D58C382D690C8AC2863A7";
 fn makes_rows(rt: HostRuntime) {
     let me = squitter_of(&rt, AIR_FRAME).me();
     let csv = row_of(&rt, Form::Csv, &me);
-    assert!(rt; csv.as_str() == "7,,42,-5,air,0C3,1,38000,-0.4500000,bad digit 3\n");
+    assert!(rt; csv.as_str() == "7,,42,-5,air,0C3,0A621D,1,38000,-0.4500000,bad digit 3\n");
     let json = row_of(&rt, Form::Json, &me);
     assert!(rt;
         json.as_str()
-            == "{\"line\":7,\"none\":null,\"count\":42,\"signed\":-5,\"kind\":\"air\",\"digits\":\"0C3\",\"bit\":1,\"feet\":38000,\"lon\":-0.4500000,\"answer\":\"bad digit 3\"}\n"
+            == "{\"line\":7,\"none\":null,\"count\":42,\"signed\":-5,\"kind\":\"air\",\"digits\":\"0C3\",\"address\":\"0A621D\",\"bit\":1,\"feet\":38000,\"lon\":-0.4500000,\"answer\":\"bad digit 3\"}\n"
     );
 }
 

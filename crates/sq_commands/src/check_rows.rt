@@ -12,10 +12,11 @@ ghost use Rattle.sq_commands.specs.Formats.{Writers};
 ghost use Rattle.sq_commands.specs.Squitters.{air_row, ground_row, message_row, message_text, no_message, other_row};
 ghost use Rattle.sq_commands.specs.Squitters.{squitter_row_text};
 
+use crate::formats::RowForm;
 use sq_lines::LineText;
 use sq_message::{Airborne, Code, Me, Other, Parity, Squitter, Surface};
 use sq_rows::{
-    Form, push_airborne_feet, push_bit, push_blank, push_end, push_fault_word,
+    Form, push_address, push_airborne_feet, push_bit, push_blank, push_end, push_fault_word,
     push_hexadecimal_word, push_line, push_number, push_word,
 };
 use sq_text::LineFault;
@@ -26,23 +27,25 @@ pub(crate) const CHECK_COLUMNS: &str =
 feet,altitude,status,flag,movement,track_status,track,me\n";
 
 /// Makes the row of a good frame, in an empty text.
-pub(crate) fn push_squitter(text: &mut LineText, form: Form, number: u64, squitter: &Squitter)
+pub(crate) fn push_squitter<R: RowForm>(text: &mut LineText, number: u64, squitter: &Squitter)
     requires { text.old.bytes ≡ [] }
-    ensures { (writers : Writers) → text.new.bytes ≡ squitter_row_text form writers number (Ok squitter.now) }
+    ensures { (writers : Writers) → text.new.bytes ≡ squitter_row_text R.shape writers number (Ok squitter.now) }
 {
+    let form = R::form();
     push_line(text, form, number);
     push_word(text, form, "answer", "ok");
-    push_hexadecimal_word(text, form, "address", u64::from(squitter.address()), 6);
+    push_address(text, form, "address", squitter.address());
     push_number(text, form, "ca", u64::from(squitter.ca()));
-    push_message(text, form, &squitter.me());
+    push_message::<R>(text, &squitter.me());
     push_end(text, form);
 }
 
 /// Makes the row of a line that is refused, in an empty text.
-pub(crate) fn push_refused_frame(text: &mut LineText, form: Form, number: u64, fault: LineFault)
+pub(crate) fn push_refused_frame<R: RowForm>(text: &mut LineText, number: u64, fault: LineFault)
     requires { text.old.bytes ≡ [] }
-    ensures { (writers : Writers) → text.new.bytes ≡ squitter_row_text form writers number (Err fault) }
+    ensures { (writers : Writers) → text.new.bytes ≡ squitter_row_text R.shape writers number (Err fault) }
 {
+    let form = R::form();
     push_line(text, form, number);
     push_fault_word(text, form, "answer", fault);
     push_blank(text, form, "address");
@@ -52,26 +55,28 @@ pub(crate) fn push_refused_frame(text: &mut LineText, form: Form, number: u64, f
 }
 
 // Appends the columns of a message.
-fn push_message(text: &mut LineText, form: Form, me: &Me)
+#[inline(always)]
+fn push_message<R: RowForm>(text: &mut LineText, me: &Me)
     requires { text_len text.old ≤ 100 }
     ensures bytes { (altitudes : AltitudeReader)
-        → text.new.bytes ≡ text.old.bytes ++ message_text form (message_row altitudes me.now) }
+        → text.new.bytes ≡ text.old.bytes ++ message_text R.shape (message_row altitudes me.now) }
     ensures len { text_len text.new ≤ text_len text.old + 400 }
 {
     match me {
-        Me::Airborne(airborne) => push_airborne(text, form, airborne),
-        Me::Surface(surface) => push_surface(text, form, surface),
-        Me::Other(other) => push_other(text, form, other),
+        Me::Airborne(airborne) => push_airborne::<R>(text, airborne),
+        Me::Surface(surface) => push_surface::<R>(text, surface),
+        Me::Other(other) => push_other::<R>(text, other),
     }
 }
 
 // Appends the columns of an airborne position.
-fn push_airborne(text: &mut LineText, form: Form, airborne: &Airborne)
+fn push_airborne<R: RowForm>(text: &mut LineText, airborne: &Airborne)
     requires { text_len text.old ≤ 100 }
     ensures bytes { (altitudes : AltitudeReader)
-        → text.new.bytes ≡ text.old.bytes ++ message_text form (air_row altitudes airborne.now) }
+        → text.new.bytes ≡ text.old.bytes ++ message_text R.shape (air_row altitudes airborne.now) }
     ensures len { text_len text.new ≤ text_len text.old + 400 }
 {
+    let form = R::form();
     push_number(text, form, "type", u64::from(airborne.fields.type_code()));
     push_word(text, form, "kind", "air");
     push_code(
@@ -87,11 +92,12 @@ fn push_airborne(text: &mut LineText, form: Form, airborne: &Airborne)
 }
 
 // Appends the columns of a surface position.
-fn push_surface(text: &mut LineText, form: Form, surface: &Surface)
+fn push_surface<R: RowForm>(text: &mut LineText, surface: &Surface)
     requires { text_len text.old ≤ 100 }
-    ensures bytes { text.new.bytes ≡ text.old.bytes ++ message_text form (ground_row surface.now) }
+    ensures bytes { text.new.bytes ≡ text.old.bytes ++ message_text R.shape (ground_row surface.now) }
     ensures len { text_len text.new ≤ text_len text.old + 400 }
 {
+    let form = R::form();
     push_number(text, form, "type", u64::from(surface.fields.type_code()));
     push_word(text, form, "kind", "ground");
     push_code(
@@ -107,11 +113,12 @@ fn push_surface(text: &mut LineText, form: Form, surface: &Surface)
 }
 
 // Appends the columns of another message.
-fn push_other(text: &mut LineText, form: Form, other: &Other)
+fn push_other<R: RowForm>(text: &mut LineText, other: &Other)
     requires { text_len text.old ≤ 100 }
-    ensures bytes { text.new.bytes ≡ text.old.bytes ++ message_text form (other_row other.now) }
+    ensures bytes { text.new.bytes ≡ text.old.bytes ++ message_text R.shape (other_row other.now) }
     ensures len { text_len text.new ≤ text_len text.old + 400 }
 {
+    let form = R::form();
     push_number(text, form, "type", u64::from(other.type_code()));
     push_word(text, form, "kind", "other");
     push_no_code(text, form);
@@ -121,6 +128,7 @@ fn push_other(text: &mut LineText, form: Form, other: &Other)
 }
 
 // Appends that there is no message.
+#[inline(always)]
 fn push_no_message(text: &mut LineText, form: Form)
     requires { text_len text.old ≤ 100 }
     ensures bytes { text.new.bytes ≡ text.old.bytes ++ message_text form no_message }
@@ -135,6 +143,7 @@ fn push_no_message(text: &mut LineText, form: Form)
 }
 
 // Appends what a position of either kind has: the parity, the code and T.
+#[inline(always)]
 fn push_code(text: &mut LineText, form: Form, parity: Parity, code: &Code, time: bool)
     requires { text_len text.old ≤ 200 }
     ensures bytes { text.new.bytes ≡ text.old.bytes ++ (cell form (codes "parity") (Word (parity_name parity))
@@ -149,6 +158,7 @@ fn push_code(text: &mut LineText, form: Form, parity: Parity, code: &Code, time:
     push_bit(text, form, "time", time);
 }
 
+#[inline(always)]
 fn parity_name(parity: Parity) -> &'static str
     ensures text { result.now ≡ parity_name parity }
     ensures short { length result.now ≤ 4 }
@@ -160,6 +170,7 @@ fn parity_name(parity: Parity) -> &'static str
 }
 
 // Appends that there is no position.
+#[inline(always)]
 fn push_no_code(text: &mut LineText, form: Form)
     requires { text_len text.old ≤ 200 }
     ensures bytes { text.new.bytes ≡ text.old.bytes ++ (cell form (codes "parity") Blank
@@ -174,6 +185,7 @@ fn push_no_code(text: &mut LineText, form: Form)
 }
 
 // Appends what an airborne position alone has.
+#[inline(always)]
 fn push_air_fields(text: &mut LineText, form: Form, airborne: &Airborne)
     requires { text_len text.old ≤ 300 }
     ensures bytes { (altitudes : AltitudeReader) → text.new.bytes ≡ text.old.bytes
@@ -191,6 +203,7 @@ fn push_air_fields(text: &mut LineText, form: Form, airborne: &Airborne)
 }
 
 // Appends that there is no airborne position.
+#[inline(always)]
 fn push_no_air_fields(text: &mut LineText, form: Form)
     requires { text_len text.old ≤ 300 }
     ensures bytes { text.new.bytes ≡ text.old.bytes ++ (cell form (codes "feet") Blank
@@ -204,6 +217,7 @@ fn push_no_air_fields(text: &mut LineText, form: Form)
 }
 
 // Appends what a surface position alone has.
+#[inline(always)]
 fn push_ground_fields(text: &mut LineText, form: Form, surface: &Surface)
     requires { text_len text.old ≤ 350 }
     ensures bytes { text.new.bytes ≡ text.old.bytes
@@ -219,6 +233,7 @@ fn push_ground_fields(text: &mut LineText, form: Form, surface: &Surface)
 }
 
 // Appends that there is no surface position.
+#[inline(always)]
 fn push_no_ground_fields(text: &mut LineText, form: Form)
     requires { text_len text.old ≤ 400 }
     ensures bytes { text.new.bytes ≡ text.old.bytes ++ (cell form (codes "movement") Blank

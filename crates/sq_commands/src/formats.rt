@@ -3,9 +3,11 @@ ghost use Rattle.std.specs.Prelude.{◌≡◌, [], Ok, Err};
 ghost use Rattle.sq_message.specs.declared.squitter.Squitter.{Squitter};
 ghost use Rattle.sq_commands.specs.Formats.{Telling, Writers};
 ghost use Rattle.sq_commands.specs.Heard.{HeardSquitter};
+ghost use Rattle.sq_rows.specs.declared.rows.Form.{Form};
 
 use sq_lines::LineText;
 use sq_message::{Received, Squitter};
+use sq_rows::Form;
 use sq_text::LineFault;
 use sq_track::Heard;
 
@@ -57,4 +59,14 @@ pub(crate) trait TrackFormat {
     fn refuse(&self, number: u64, fault: LineFault, into: &mut LineText)
         requires { into.old.bytes ≡ [] }
         ensures { (writers : Writers) → into.new.bytes ≡ telling.text writers number (Err fault) };
+}
+
+/// A form of rows as a type, so that what makes rows is compiled for each form, with its names, commas and braces as
+/// constants.
+pub(crate) trait RowForm {
+    ghost shape: { Form };
+
+    /// The form.
+    fn form() -> Form
+        ensures { result ≡ shape };
 }

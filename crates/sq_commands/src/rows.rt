@@ -5,7 +5,7 @@ ghost use Rattle.sq_commands.specs.Heard.{heard_rows};
 ghost use Rattle.sq_commands.specs.Squitters.{squitter_rows};
 
 use crate::check_rows::{CHECK_COLUMNS, push_refused_frame, push_squitter};
-use crate::formats::{CheckFormat, TrackFormat};
+use crate::formats::{CheckFormat, RowForm, TrackFormat};
 use crate::track_rows::{TRACK_COLUMNS, push_heard_row, push_refused_row};
 use sq_lines::LineText;
 use sq_message::{Received, Squitter};
@@ -21,6 +21,24 @@ pub(crate) struct CsvRows;
 #[derive(Clone, Copy)]
 pub(crate) struct JsonRows;
 
+impl RowForm for CsvRows {
+    ghost shape = { forms.Csv };
+
+    #[inline(always)]
+    fn form() -> Form {
+        Form::Csv
+    }
+}
+
+impl RowForm for JsonRows {
+    ghost shape = { forms.Json };
+
+    #[inline(always)]
+    fn form() -> Form {
+        Form::Json
+    }
+}
+
 impl CheckFormat for CsvRows {
     ghost telling = { squitter_rows forms.Csv };
 
@@ -29,11 +47,11 @@ impl CheckFormat for CsvRows {
     }
 
     fn tell(&self, number: u64, squitter: &Squitter, into: &mut LineText) {
-        push_squitter(into, Form::Csv, number, squitter);
+        push_squitter::<CsvRows>(into, number, squitter);
     }
 
     fn refuse(&self, number: u64, fault: LineFault, into: &mut LineText) {
-        push_refused_frame(into, Form::Csv, number, fault);
+        push_refused_frame::<CsvRows>(into, number, fault);
     }
 }
 
@@ -45,11 +63,11 @@ impl CheckFormat for JsonRows {
     }
 
     fn tell(&self, number: u64, squitter: &Squitter, into: &mut LineText) {
-        push_squitter(into, Form::Json, number, squitter);
+        push_squitter::<JsonRows>(into, number, squitter);
     }
 
     fn refuse(&self, number: u64, fault: LineFault, into: &mut LineText) {
-        push_refused_frame(into, Form::Json, number, fault);
+        push_refused_frame::<JsonRows>(into, number, fault);
     }
 }
 
@@ -61,11 +79,11 @@ impl TrackFormat for CsvRows {
     }
 
     fn tell(&self, number: u64, timed: &Received, heard: &Heard, into: &mut LineText) {
-        push_heard_row(into, Form::Csv, number, timed, heard);
+        push_heard_row::<CsvRows>(into, number, timed, heard);
     }
 
     fn refuse(&self, number: u64, fault: LineFault, into: &mut LineText) {
-        push_refused_row(into, Form::Csv, number, fault);
+        push_refused_row::<CsvRows>(into, number, fault);
     }
 }
 
@@ -77,10 +95,10 @@ impl TrackFormat for JsonRows {
     }
 
     fn tell(&self, number: u64, timed: &Received, heard: &Heard, into: &mut LineText) {
-        push_heard_row(into, Form::Json, number, timed, heard);
+        push_heard_row::<JsonRows>(into, number, timed, heard);
     }
 
     fn refuse(&self, number: u64, fault: LineFault, into: &mut LineText) {
-        push_refused_row(into, Form::Json, number, fault);
+        push_refused_row::<JsonRows>(into, number, fault);
     }
 }

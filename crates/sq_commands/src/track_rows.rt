@@ -7,11 +7,12 @@ ghost use Rattle.sq_rows.specs.Rows.{Blank, Number, cell};
 ghost use Rattle.sq_commands.specs.Formats.{Writers};
 ghost use Rattle.sq_commands.specs.Heard.{answer_word, coordinate, heard_row, track_columns, track_row_text};
 
+use crate::formats::RowForm;
 use sq_lines::LineText;
 use sq_message::{Place, Received};
 use sq_rows::{
-    Form, kind_name, push_blank, push_degrees, push_end, push_fault_word, push_feet,
-    push_hexadecimal_word, push_line, push_number, push_word,
+    Form, kind_name, push_address, push_blank, push_degrees, push_end, push_fault_word, push_feet,
+    push_line, push_number, push_word,
 };
 use sq_text::LineFault;
 use sq_track::Heard;
@@ -20,28 +21,22 @@ use sq_track::Heard;
 pub(crate) const TRACK_COLUMNS: &str = "line,moment,answer,address,kind,lat,lon,feet\n";
 
 /// Makes the row of a squitter that was heard, in an empty text.
-pub(crate) fn push_heard_row(
+pub(crate) fn push_heard_row<R: RowForm>(
     text: &mut LineText,
-    form: Form,
     number: u64,
     timed: &Received,
     heard: &Heard,
 )
     requires { text.old.bytes ≡ [] }
     ensures { (writers : Writers) → text.new.bytes
-        ≡ track_row_text form number (heard_row writers (Ok (record { timed = timed.now; heard = heard.now }))) }
+        ≡ track_row_text R.shape number (heard_row writers (Ok (record { timed = timed.now; heard = heard.now }))) }
 {
+    let form = R::form();
     let me = timed.squitter.me();
     push_line(text, form, number);
     push_number(text, form, "moment", timed.moment);
     push_word(text, form, "answer", answer_word(heard));
-    push_hexadecimal_word(
-        text,
-        form,
-        "address",
-        u64::from(timed.squitter.address()),
-        6,
-    );
+    push_address(text, form, "address", timed.squitter.address());
     push_word(text, form, "kind", kind_name(&me));
     push_coordinates(text, form, heard);
     push_feet(text, form, &me);
@@ -49,10 +44,11 @@ pub(crate) fn push_heard_row(
 }
 
 /// Makes the row of a line that is refused, in an empty text.
-pub(crate) fn push_refused_row(text: &mut LineText, form: Form, number: u64, fault: LineFault)
+pub(crate) fn push_refused_row<R: RowForm>(text: &mut LineText, number: u64, fault: LineFault)
     requires { text.old.bytes ≡ [] }
-    ensures { (writers : Writers) → text.new.bytes ≡ track_row_text form number (heard_row writers (Err fault)) }
+    ensures { (writers : Writers) → text.new.bytes ≡ track_row_text R.shape number (heard_row writers (Err fault)) }
 {
+    let form = R::form();
     push_line(text, form, number);
     push_blank(text, form, "moment");
     push_fault_word(text, form, "answer", fault);
@@ -64,6 +60,7 @@ pub(crate) fn push_refused_row(text: &mut LineText, form: Form, number: u64, fau
 }
 
 // The answer in a word or two.
+#[inline(always)]
 fn answer_word(heard: &Heard) -> &'static str
     ensures text { result.now ≡ answer_word heard.now }
     ensures short { length result.now ≤ 11 }
@@ -80,6 +77,7 @@ fn answer_word(heard: &Heard) -> &'static str
 }
 
 // Appends the coordinates of the place that was heard, where there is one.
+#[inline(always)]
 fn push_coordinates(text: &mut LineText, form: Form, heard: &Heard)
     requires { text_len text.old ≤ 200 }
     ensures bytes { (decimals : DecimalWriter) → text.new.bytes ≡ text.old.bytes
@@ -96,6 +94,7 @@ fn push_coordinates(text: &mut LineText, form: Form, heard: &Heard)
 }
 
 // Appends the coordinates of a place.
+#[inline(always)]
 fn push_place(text: &mut LineText, form: Form, place: &Place)
     requires { text_len text.old ≤ 200 }
     ensures bytes { (decimals : DecimalWriter) → text.new.bytes ≡ text.old.bytes
@@ -109,6 +108,7 @@ fn push_place(text: &mut LineText, form: Form, place: &Place)
 }
 
 // Appends that there is no place.
+#[inline(always)]
 fn push_no_coordinates(text: &mut LineText, form: Form)
     requires { text_len text.old ≤ 200 }
     ensures bytes { text.new.bytes ≡ text.old.bytes

@@ -9,8 +9,8 @@ mod rows;
 mod squitters;
 
 pub use rows::{
-    Form, push_blank, push_end, push_hexadecimal_word, push_line, push_number, push_signed,
-    push_word,
+    Form, push_address, push_blank, push_end, push_hexadecimal_word, push_line, push_number,
+    push_signed, push_word,
 };
 pub use sq_angle::Angle;
 pub use sq_digits::TextBuffer;

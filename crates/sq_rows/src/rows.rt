@@ -8,7 +8,7 @@ ghost use Rattle.sq_rows.specs.Rows.{row_start};
 
 use itoa::Buffer;
 use sq_digits::TextBuffer;
-use sq_text::{push_decimal, push_hexadecimal};
+use sq_text::{push_decimal, push_hexadecimal, push_six_places};
 
 /// The form of a row.
 #[derive(Clone, Copy, Debug, PartialEq, Eq)]
@@ -21,6 +21,7 @@ pub enum Form {
 
 /// Begins the row of the line with this number, with at most 28 bytes.
 #[tactic(auto, unfolding(crate::specs::Rows::line_number))]
+#[inline(always)]
 pub fn push_line<const N: usize>(text: &mut TextBuffer<N>, form: Form, line: u64)
     requires { text_len text.old + 28 ≤ N }
     ensures bytes { text.new.bytes ≡ text.old.bytes ++ line_number form line }
@@ -30,6 +31,7 @@ pub fn push_line<const N: usize>(text: &mut TextBuffer<N>, form: Form, line: u64
     push_decimal(text, line);
 }
 
+#[inline(always)]
 fn row_start(form: Form) -> &'static str
     ensures text { result.now ≡ row_start form }
     ensures short { length result.now ≤ 8 }
@@ -42,6 +44,7 @@ fn row_start(form: Form) -> &'static str
 
 /// Appends no value, with at most 8 bytes beside its name: nothing in CSV, `null` in JSON.
 #[tactic(auto, unfolding(crate::specs::Rows::cell))]
+#[inline(always)]
 pub fn push_blank<const N: usize>(text: &mut TextBuffer<N>, form: Form, name: &str)
     requires { text_len text.old + length name.now + 8 ≤ N }
     ensures bytes { text.new.bytes ≡ text.old.bytes ++ cell form name.now Blank }
@@ -51,6 +54,7 @@ pub fn push_blank<const N: usize>(text: &mut TextBuffer<N>, form: Form, name: &s
     text.push_str(no_value(form));
 }
 
+#[inline(always)]
 fn no_value(form: Form) -> &'static str
     ensures text { result.now ≡ no_value form }
     ensures short { length result.now ≤ 4 }
@@ -63,6 +67,7 @@ fn no_value(form: Form) -> &'static str
 
 /// Appends a number in decimal digits, with at most 24 bytes beside its name.
 #[tactic(auto, unfolding(crate::specs::Rows::cell))]
+#[inline(always)]
 pub fn push_number<const N: usize>(text: &mut TextBuffer<N>, form: Form, name: &str, number: u64)
     requires { text_len text.old + length name.now + 24 ≤ N }
     ensures bytes { text.new.bytes ≡ text.old.bytes ++ cell form name.now (Number (decimal number)) }
@@ -74,6 +79,7 @@ pub fn push_number<const N: usize>(text: &mut TextBuffer<N>, form: Form, name: &
 
 /// Appends a number with its sign, with at most 15 bytes beside its name.
 #[tactic(auto, unfolding(crate::specs::Rows::cell))]
+#[inline(always)]
 pub fn push_signed<const N: usize>(text: &mut TextBuffer<N>, form: Form, name: &str, number: i32)
     requires { text_len text.old + length name.now + 15 ≤ N }
     ensures bytes { text.new.bytes ≡ text.old.bytes ++ cell form name.now (Number (signed_decimal number)) }
@@ -87,6 +93,7 @@ pub fn push_signed<const N: usize>(text: &mut TextBuffer<N>, form: Form, name: &
 /// Appends a word, in quotes in JSON, with at most 6 bytes beside it and its name. The word has no comma, quote or
 /// backslash.
 #[tactic(auto, unfolding(crate::specs::Rows::cell))]
+#[inline(always)]
 pub fn push_word<const N: usize>(text: &mut TextBuffer<N>, form: Form, name: &str, word: &str)
     requires { text_len text.old + length name.now + length word.now + 6 ≤ N }
     ensures bytes { text.new.bytes ≡ text.old.bytes ++ cell form name.now (Word word.now) }
@@ -99,6 +106,7 @@ pub fn push_word<const N: usize>(text: &mut TextBuffer<N>, form: Form, name: &st
 
 /// Appends the lowest so many places of a number, at most 16, as a word of upper-case hexadecimal digits.
 #[tactic(auto, unfolding(crate::specs::Rows::cell))]
+#[inline(always)]
 pub fn push_hexadecimal_word<const N: usize>(
     text: &mut TextBuffer<N>,
     form: Form,
@@ -116,7 +124,21 @@ pub fn push_hexadecimal_word<const N: usize>(
     text.push_str(quote(form));
 }
 
+/// Appends an address as a word of six upper-case hexadecimal digits, its lowest places.
+#[tactic(auto, unfolding(crate::specs::Rows::cell))]
+#[inline(always)]
+pub fn push_address<const N: usize>(text: &mut TextBuffer<N>, form: Form, name: &str, address: u32)
+    requires { text_len text.old + length name.now + 12 ≤ N }
+    ensures bytes { text.new.bytes ≡ text.old.bytes ++ cell form name.now (Word (hexadecimal 6 address)) }
+    ensures len { text_len text.new ≤ text_len text.old + length name.now + 12 }
+{
+    push_quoted_name(text, form, name);
+    push_six_places(text, address);
+    text.push_str(quote(form));
+}
+
 /// Ends a row with a line feed, with at most 2 bytes.
+#[inline(always)]
 pub fn push_end<const N: usize>(text: &mut TextBuffer<N>, form: Form)
     requires { text_len text.old + 2 ≤ N }
     ensures bytes { text.new.bytes ≡ text.old.bytes ++ row_end form }
@@ -129,6 +151,7 @@ pub fn push_end<const N: usize>(text: &mut TextBuffer<N>, form: Form)
 }
 
 // Appends what stands before a value.
+#[inline(always)]
 pub(crate) fn push_name<const N: usize>(text: &mut TextBuffer<N>, form: Form, name: &str)
     requires { text_len text.old + length name.now + 4 ≤ N }
     ensures bytes { text.new.bytes ≡ text.old.bytes ++ between form name.now }
@@ -145,6 +168,7 @@ pub(crate) fn push_name<const N: usize>(text: &mut TextBuffer<N>, form: Form, na
 }
 
 // Appends what stands before a word.
+#[inline(always)]
 pub(crate) fn push_quoted_name<const N: usize>(text: &mut TextBuffer<N>, form: Form, name: &str)
     requires { text_len text.old + length name.now + 5 ≤ N }
     ensures bytes { text.new.bytes ≡ text.old.bytes ++ (between form name.now ++ quote form) }
@@ -155,6 +179,7 @@ pub(crate) fn push_quoted_name<const N: usize>(text: &mut TextBuffer<N>, form: F
 }
 
 // What stands at both ends of a word.
+#[inline(always)]
 pub(crate) fn quote(form: Form) -> &'static str
     ensures text { result.now ≡ quote form }
     ensures short { length result.now ≤ 1 }

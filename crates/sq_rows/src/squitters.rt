@@ -15,6 +15,7 @@ use sq_message::{Airborne, Altitude, Me, altitude};
 use sq_text::{LineFault, push_decimals, push_fault};
 
 /// The kind of a message: `air`, `ground` or `other`.
+#[inline(always)]
 pub fn kind_name(me: &Me) -> &'static str
     ensures text { result.now ≡ kind_name me.now }
     ensures short { length result.now ≤ 6 }
@@ -28,6 +29,7 @@ pub fn kind_name(me: &Me) -> &'static str
 
 /// Appends the altitude of a message in feet as `feet`, at most 19 bytes: no value, where it has none in steps of 25
 /// feet.
+#[inline(always)]
 pub fn push_feet<const N: usize>(text: &mut TextBuffer<N>, form: Form, me: &Me)
     requires { text_len text.old + 19 ≤ N }
     ensures bytes { (altitudes : AltitudeReader)
@@ -42,6 +44,7 @@ pub fn push_feet<const N: usize>(text: &mut TextBuffer<N>, form: Form, me: &Me)
 
 /// Appends the altitude of an airborne position in feet as `feet`, at most 19 bytes: no value, where it has none in
 /// steps of 25 feet (ICAO Doc 9871, register 0,5).
+#[inline(always)]
 pub fn push_airborne_feet<const N: usize>(text: &mut TextBuffer<N>, form: Form, airborne: &Airborne)
     requires { text_len text.old + 19 ≤ N }
     ensures bytes { (altitudes : AltitudeReader) → text.new.bytes
@@ -55,6 +58,7 @@ pub fn push_airborne_feet<const N: usize>(text: &mut TextBuffer<N>, form: Form, 
 }
 
 /// Appends a bit as 0 or 1, with at most 24 bytes beside its name.
+#[inline(always)]
 pub fn push_bit<const N: usize>(text: &mut TextBuffer<N>, form: Form, name: &str, bit: bool)
     requires { text_len text.old + length name.now + 24 ≤ N }
     ensures bytes { text.new.bytes ≡ text.old.bytes ++ cell form name.now (bit_cell bit) }
@@ -65,6 +69,7 @@ pub fn push_bit<const N: usize>(text: &mut TextBuffer<N>, form: Form, name: &str
 
 /// Appends an angle in degrees with seven decimals, with at most 16 bytes beside its name.
 #[tactic(auto, unfolding(crate::specs::Rows::cell))]
+#[inline(always)]
 pub fn push_degrees<const N: usize>(text: &mut TextBuffer<N>, form: Form, name: &str, angle: &Angle)
     requires { text_len text.old + length name.now + 16 ≤ N }
     ensures bytes { (part : List ℕ) × IsDecimal7 (degrees angle.now) part

@@ -1,0 +1,17 @@
+use Rattle.std.proofs.Common.{append_assoc, refl}
+use Rattle.sq_commands.proofs.check_rows.push_airborne.Goals as goal
+
+pub returns-clause-bytes : goal.returns-clause-bytes
+returns-clause-bytes g c altitudes =
+    rw (
+      ← c.form-form.ensures,
+      c.push_blank.ensures.bytes,
+      c.push_no_ground_fields.ensures.bytes,
+      c.push_air_fields.ensures.bytes altitudes,
+      c.push_code.ensures.bytes,
+      c.push_word.ensures.bytes,
+      c.push_number.ensures.bytes,
+      c.from.ensures,
+      c.type_code.ensures.value,
+      c.time.ensures,
+    ) (simp append_assoc refl)
