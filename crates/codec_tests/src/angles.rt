@@ -92,7 +92,13 @@ const LOWEST_TERMS: &str = "\
 -50/100 -1/2
 0/7 0/1
 360000000000000/1000000000000 360/1
--21060000/1966080 -43875/4096";
+-21060000/1966080 -43875/4096
+360000000000/1000000000000 9/25
+7/999999999989 7/999999999989
+-179999999999999/1000000000000 -179999999999999/1000000000000
+123456789012345/999999999999 41152263004115/333333333333
+15461882265/128849018880 1030792151/8589934592
+-25261515/483328 -25261515/483328";
 
 // Whether a row's second fraction is the first one in lowest terms. None where the row is not these.
 fn is_reduced(row: &str) -> Option<bool> {
@@ -104,7 +110,7 @@ fn is_reduced(row: &str) -> Option<bool> {
 
 #[test]
 fn lowest_terms(rt: HostRuntime) {
-    assert!(rt; LOWEST_TERMS.lines().count() == 6);
+    assert!(rt; LOWEST_TERMS.lines().count() == 12);
     for row in LOWEST_TERMS.lines() {
         assert!(rt; is_reduced(row) == Some(true), "{row}");
     }

@@ -1,11 +1,14 @@
 -- Greatest common divisors by the zeros at the ends of both numbers.
-use Rattle.std.proofs.Common.{◌≡◌, ◌⊎◌, inl, inr, ◌*◌, ◌/◌, ◌%◌, ◌^◌, ◌<◌, ℕ, min, ap, sym, subst, arith, w64}
+use Rattle.std.proofs.Common.{◌≡◌, ◌⊎◌, inl, inr, ◌+◌, ◌-◌, ◌*◌, ◌/◌, ◌%◌, ◌^◌, ◌<◌, ◌≤◌, ℕ, min, max, ap, sym}
+use Rattle.std.proofs.Common.{subst, subst₂, arith, w64}
 use Rattle.std.proofs.Common.{eq-zero-or-pos}
+use Rattle.std.proofs.Math.Nat.{div-le_self}
 use Rattle.std.proofs.lemmas.Bool.{cases_lt}
 use Rattle.std.proofs.lemmas.Nat.Bits.{bit_at-trailing_zeros, bit_at-zero}
 use Rattle.std.specs.Int.{IsGcd, bit_at, trailing_zeros}
 use Rattle.std.specs.Int.Count.{count_trailing_zeros}
-use Rattle.sq_angle.proofs.Twos.{gcd_of_rest, multiple_of_power}
+use Rattle.std.proofs.lemmas.Nat.Gcd.{IsGcd-from_sub, IsGcd-swap}
+use Rattle.sq_angle.proofs.Twos.{gcd_of_rest, multiple_of_power, times_second}
 
 -- the first t bits are 0, of which the number has no more, or t is z
 first_zeros : (a z t : ℕ) → a < 2 ^ 64 → z < 64 → t ≡ min z (trailing_zeros w64 a)
@@ -39,3 +42,53 @@ gcd_by_zeros a b t g some small_a small_b is h =
     let first = first_zeros a (trailing_zeros w64 b) t small_a low.0 is in
     gcd_of_rest a b t (trailing_zeros w64 b) g (multiple_of_power a t first.0)
     (multiple_of_power b (trailing_zeros w64 b) low.2) (omega (arith, is)) first.1 h
+
+-- what is left of a number once its twos are taken out is odd
+pub odd_rest : (n : ℕ) → 0 < n → n < 2 ^ 64 → n / 2 ^ trailing_zeros w64 n % 2 ≡ 1
+odd_rest n some small = (bit_at-trailing_zeros w64 n some small).1
+
+-- with an odd number a number has in common what is left of it once its twos are taken out
+pub gcd_by_rest : (x y g : ℕ) → 0 < x → x < 2 ^ 64 → y % 2 ≡ 1 → IsGcd (x / 2 ^ trailing_zeros w64 x) y g → IsGcd x y g
+gcd_by_rest x y g some small odd h =
+    let t = trailing_zeros w64 x in
+    let rest = x / 2 ^ t in
+    let whole : 2 ^ t * rest ≡ x = multiple_of_power x t (bit_at-trailing_zeros w64 x some small).2 in
+    let twice : IsGcd y (2 ^ t * rest) g = times_second t y rest g odd (IsGcd-swap rest y g h) in
+    IsGcd-swap y x g (subst (λ n. IsGcd y n g) whole twice)
+
+-- A step of the binary algorithm: an odd number and what is left of another once its twos are taken out have in common
+-- what their difference and the smaller of them have.
+pub gcd_by_step : (x y d m g : ℕ) → 0 < x → x < 2 ^ 64 → y % 2 ≡ 1 → m ≡ min (x / 2 ^ trailing_zeros w64 x) y
+    → d ≡ max (x / 2 ^ trailing_zeros w64 x) y - min (x / 2 ^ trailing_zeros w64 x) y → IsGcd d m g → IsGcd x y g
+gcd_by_step x y d m g some small odd least apart h =
+    let o : ℕ = x / 2 ^ trailing_zeros w64 x in
+    gcd_by_rest x y g some small odd (elim (cases_lt o y) [
+      | inl less ↦
+          let is_m : m ≡ o = omega (arith, least, less) in
+          let is_d : d ≡ y - o = omega (arith, apart, less) in
+          IsGcd-swap y o g (IsGcd-from_sub y o g (omega (arith, less)) (subst₂ (λ a b. IsGcd a b g) is_d is_m h))
+      | inr more ↦
+          let is_m : m ≡ y = omega (arith, least, more) in
+          let is_d : d ≡ o - y = omega (arith, apart, more) in
+          IsGcd-from_sub o y g more (subst₂ (λ a b. IsGcd a b g) is_d is_m h)
+    ])
+
+-- and the smaller of them is odd
+pub odd_after_step : (x y m : ℕ) → 0 < x → x < 2 ^ 64 → y % 2 ≡ 1 → m ≡ min (x / 2 ^ trailing_zeros w64 x) y → m % 2 ≡ 1
+odd_after_step x y m some small odd least =
+    let o : ℕ = x / 2 ^ trailing_zeros w64 x in
+    elim (cases_lt o y) [
+      | inl less ↦
+          let is : m ≡ o = omega (arith, least, less) in
+          subst (λ n. n % 2 ≡ 1) (sym is) (odd_rest x some small)
+      | inr more ↦
+          let is : m ≡ y = omega (arith, least, more) in
+          subst (λ n. n % 2 ≡ 1) (sym is) odd
+    ]
+
+-- and both together are smaller
+pub less_after_step : (x y d m : ℕ) → 0 < x → y % 2 ≡ 1 → m ≡ min (x / 2 ^ trailing_zeros w64 x) y
+    → d ≡ max (x / 2 ^ trailing_zeros w64 x) y - min (x / 2 ^ trailing_zeros w64 x) y → d + m < x + y
+less_after_step x y d m some odd least apart =
+    let within : x / 2 ^ trailing_zeros w64 x ≤ x = div-le_self x (2 ^ trailing_zeros w64 x) in
+    omega (arith, within, least, apart, odd, some)

@@ -121,7 +121,7 @@ times_both (suc k) x y g h =
     subst (λ n. IsGcd (n * x) (n * y) (n * g)) power (rw (mul_assoc 2 p x, mul_assoc 2 p y, mul_assoc 2 p g) twice)
 
 -- an odd number has no more in common with a number times a power of two
-times_second : (k x y g : ℕ) → x % 2 ≡ 1 → IsGcd x y g → IsGcd x (2 ^ k * y) g
+pub times_second : (k x y g : ℕ) → x % 2 ≡ 1 → IsGcd x y g → IsGcd x (2 ^ k * y) g
 times_second zero x y g odd h = rw (one-mul y) h
 times_second (suc k) x y g odd h =
     let p = 2 ^ k in

@@ -1,5 +1,5 @@
 //! An angle in lowest terms.
-ghost use Rattle.std.specs.Prelude.{◌≡◌, ◌<◌, ◌≤◌, ◌*◌};
+ghost use Rattle.std.specs.Prelude.{◌≡◌, ◌<◌, ◌≤◌, ◌*◌, ◌-◌, ◌%◌, max, min};
 ghost use Rattle.std.specs.Int.{IsGcd};
 ghost use Rattle.sq_angle.specs.Angle.{degrees};
 ghost use Rattle.sq_angle.specs.Lowest.{IsLowestFormOf};
@@ -27,6 +27,9 @@ fn lowest_terms(num: u64, den: u64) -> (u64, u64)
     ensures value { result.0 * den ≡ num * result.1 }
 {
     let divisor = gcd(num, den);
+    if divisor == 1 {
+        return (num, den);
+    }
     (num / divisor, den / divisor)
 }
 
@@ -37,16 +40,28 @@ fn gcd(a: u64, b: u64) -> u64
 {
     let zeros = b.trailing_zeros();
     let twos = zeros.min(a.trailing_zeros());
-    euclid(a >> twos, b >> zeros) << twos
+    odd_gcd(a >> twos, b >> zeros) << twos
 }
 
-// The greatest common divisor, by Euclid's steps.
-fn euclid(a: u64, b: u64) -> u64
+// The greatest common divisor with an odd number: a remainder, and then differences of odd numbers without their twos
+// (the binary algorithm of Stein). A division takes as long as some five of these steps.
+fn odd_gcd(a: u64, b: u64) -> u64
+    requires { b % 2 ≡ 1 }
     ensures { IsGcd a b result }
 {
-    let (mut x, mut y) = (a, b);
-    while y != 0 {
-        (x, y) = (y, x % y);
+    let (mut x, mut y) = (a % b, b);
+    while x != 0 {
+        let odd = x >> x.trailing_zeros();
+        (x, y) = apart(odd, y);
     }
-    x
+    y
+}
+
+// The difference of two numbers, and the smaller one.
+#[inline(always)]
+fn apart(a: u64, b: u64) -> (u64, u64)
+    ensures smaller { result.1 ≡ min a b }
+    ensures difference { result.0 ≡ max a b - min a b }
+{
+    if a < b { (b - a, a) } else { (a - b, b) }
 }

@@ -1,8 +1,0 @@
-use Rattle.std.proofs.lemmas.Nat.Gcd.{IsGcd-from_mod, IsGcd-from_zero}
-use Rattle.sq_angle.proofs.lowest.euclid.Goals as goal
-
-pub loop-y-preserved : goal.loop-y-preserved
-loop-y-preserved c = λ g h. c.loop-y.invariant g (IsGcd-from_mod c.loop-y.x c.loop-y.y g h)
-
-pub returns : goal.returns
-returns c = c.loop-y.invariant c.loop-y.x (IsGcd-from_zero c.loop-y.x c.loop-y.y c.loop-y-test.false)
