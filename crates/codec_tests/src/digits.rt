@@ -1,7 +1,7 @@
 //! Texts in buffers, and numbers as digits in them.
 use sq_digits::{
     TextBuffer, push_decimal, push_digit, push_hexadecimal, push_leading, push_short,
-    push_six_places, push_three,
+    push_signed_decimal, push_signed_short, push_six_places, push_three,
 };
 
 // The number in decimal digits.
@@ -69,6 +69,36 @@ fn numbers_below_a_million(rt: HostRuntime) {
     text.push(b' ');
     push_short(&mut text, 999_999);
     assert!(rt; text.as_str() == "0 999 1000 131071 999999");
+}
+
+// Signed numbers, as decimal digits.
+const SIGNED: [(i64, &str); 6] = [
+    (0, "0"),
+    (-1, "-1"),
+    (1_000_000, "1000000"),
+    (-1_790_000_000_123, "-1790000000123"),
+    (9_223_372_036_854_775_807, "9223372036854775807"),
+    (-9_223_372_036_854_775_808, "-9223372036854775808"),
+];
+
+#[test]
+fn signed_numbers(rt: HostRuntime) {
+    for (number, digits) in SIGNED {
+        let mut text = TextBuffer::<24>::new();
+        push_signed_decimal(&mut text, number);
+        assert!(rt; text.as_str() == digits, "{digits}");
+    }
+}
+
+#[test]
+fn short_signed_numbers(rt: HostRuntime) {
+    let mut text = TextBuffer::<40>::new();
+    push_signed_short(&mut text, 0);
+    text.push(b' ');
+    push_signed_short(&mut text, -999_999);
+    text.push(b' ');
+    push_signed_short(&mut text, 50_175);
+    assert!(rt; text.as_str() == "0 -999999 50175");
 }
 
 #[test]

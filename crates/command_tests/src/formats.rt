@@ -60,6 +60,17 @@ fn makes_rows(rt: HostRuntime) {
 }
 
 #[test]
+fn signed_values_of_each_length(rt: HostRuntime) {
+    let mut text = TextBuffer::<128>::new();
+    push_signed(&mut text, Form::Csv, "value", 999_999);
+    push_signed(&mut text, Form::Csv, "value", 1_000_000);
+    push_signed(&mut text, Form::Csv, "value", -999_999);
+    push_signed(&mut text, Form::Csv, "value", -1_000_000);
+    push_signed(&mut text, Form::Csv, "value", -2_147_483_648);
+    assert!(rt; text.as_str() == ",999999,1000000,-999999,-1000000,-2147483648");
+}
+
+#[test]
 fn tells_feet_of_airborne_positions_alone(rt: HostRuntime) {
     let mut text = TextBuffer::<64>::new();
     push_feet(

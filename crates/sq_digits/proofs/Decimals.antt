@@ -2,7 +2,9 @@
 use Rattle.std.proofs.Common.{◌≡◌, ℕ, ◌+◌, ◌/◌, ◌%◌, ◌<◌, ◌≤◌, ◌^◌, [], ◌∷◌, ◌++◌, decimal, arith, ap, ap₂, ◌∙◌, refl}
 use Rattle.std.proofs.Common.{append_assoc}
 use Rattle.std.proofs.lemmas.Fmt.{decimal_digit, decimal_step}
-use Rattle.sq_digits.specs.Digits.{fixed_digits}
+use Rattle.std.proofs.Common.{ℤ, pos, negsuc, unsigned_abs, List}
+use Rattle.std.specs.Fmt.{signed_decimal}
+use Rattle.sq_digits.specs.Digits.{fixed_digits, minus_of}
 
 -- a number of one digit
 pub decimal_one : (n : ℕ) → n < 10 → decimal n ≡ (48 + n) ∷ []
@@ -54,3 +56,15 @@ decimal_millions n long fits =
       decimal_thousands (n / 1000) (omega arith) (omega arith),
       first,
     ) (simp append_assoc refl)
+
+-- a number with its sign, by its magnitude
+signed_by_minus : (z : ℤ) → minus_of z ++ decimal (unsigned_abs z) ≡ signed_decimal z
+signed_by_minus (pos n) = refl
+signed_by_minus (negsuc n) = refl
+
+-- the sign of a number and then the digits of its magnitude, behind a text
+pub signed_pushed : (old signed new : List ℕ) (z n : ℤ) (m : ℕ) → z ≡ n → signed ≡ old ++ minus_of z
+    → m ≡ unsigned_abs z → new ≡ signed ++ decimal m → new ≡ old ++ signed_decimal n
+signed_pushed old signed new z n m same front magnitude back =
+    back ∙ ap₂ (λ t k. t ++ decimal k) front magnitude ∙ append_assoc old (minus_of z) (decimal (unsigned_abs z))
+    ∙ ap (λ t. old ++ t) (signed_by_minus z ∙ ap signed_decimal same)

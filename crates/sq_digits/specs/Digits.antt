@@ -1,5 +1,5 @@
 -- Numbers in so many digits.
-use Rattle.std.specs.Prelude.{ℕ, zero, suc, ◌/◌, ◌%◌, List, [], ◌∷◌, ◌++◌, true}
+use Rattle.std.specs.Prelude.{ℕ, zero, suc, ℤ, pos, negsuc, ◌/◌, ◌%◌, List, [], ◌∷◌, ◌++◌, true}
 use Rattle.std.specs.Fmt.{digit_glyph}
 use Rattle.sq_digits.specs.Characters.{digit}
 
@@ -12,3 +12,8 @@ fixed_digits (suc places) n = fixed_digits places (n / 10) ++ digit (n % 10) ∷
 abbrev pub hexadecimal : ℕ → ℕ → List ℕ
 hexadecimal zero n = []
 hexadecimal (suc places) n = hexadecimal places (n / 16) ++ digit_glyph true (n % 16) ∷ []
+
+-- what stands before the digits of a number: `-` before a negative one
+abbrev pub minus_of : ℤ → List ℕ
+minus_of (pos n) = []
+minus_of (negsuc n) = 45 ∷ []

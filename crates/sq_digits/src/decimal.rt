@@ -1,8 +1,10 @@
 //! Numbers in decimal digits.
 ghost use Rattle.std.specs.Prelude.{◌≡◌, ◌+◌, ◌/◌, ◌%◌, ◌<◌, ◌≤◌, ◌^◌, ◌++◌, ◌∷◌, [], decimal, length, take};
+ghost use Rattle.std.specs.Prelude.{unsigned_abs};
+ghost use Rattle.std.specs.Fmt.{signed_decimal};
 ghost use Rattle.std.specs.Str.{IsAscii};
 ghost use Rattle.sq_digits.specs.Buffer.{text_len};
-ghost use Rattle.sq_digits.specs.Digits.{fixed_digits};
+ghost use Rattle.sq_digits.specs.Digits.{fixed_digits, minus_of};
 
 use crate::buffer::TextBuffer;
 use itoa::Buffer;
@@ -63,6 +65,42 @@ pub fn push_decimal<const N: usize>(text: &mut TextBuffer<N>, number: u64)
         push_nine(text, number);
     } else {
         push_long(text, number);
+    }
+}
+
+/// Appends a number with its sign in decimal digits, at most 21 bytes, with no leading zeros.
+#[inline(always)]
+pub fn push_signed_decimal<const N: usize>(text: &mut TextBuffer<N>, number: i64)
+    requires { text_len text.old + 21 ≤ N }
+    ensures bytes { text.new.bytes ≡ text.old.bytes ++ signed_decimal number }
+    ensures len { text_len text.new ≤ text_len text.old + 21 }
+{
+    push_minus(text, number);
+    push_decimal(text, number.unsigned_abs());
+}
+
+/// Appends a number between -10^6 and 10^6 with its sign in decimal digits, at most seven bytes. There must be room for
+/// eight.
+#[inline(always)]
+pub fn push_signed_short<const N: usize>(text: &mut TextBuffer<N>, number: i64)
+    requires small { unsigned_abs number < 1000000 }
+    requires room { text_len text.old + 8 ≤ N }
+    ensures bytes { text.new.bytes ≡ text.old.bytes ++ signed_decimal number }
+    ensures len { text_len text.new ≤ text_len text.old + 7 }
+{
+    push_minus(text, number);
+    push_short(text, number.unsigned_abs());
+}
+
+// Appends the sign of a negative number.
+#[inline(always)]
+fn push_minus<const N: usize>(text: &mut TextBuffer<N>, number: i64)
+    requires { text_len text.old + 1 ≤ N }
+    ensures bytes { text.new.bytes ≡ text.old.bytes ++ minus_of number }
+    ensures len { text_len text.new ≤ text_len text.old + 1 }
+{
+    if number < 0 {
+        text.push(b'-');
     }
 }
 

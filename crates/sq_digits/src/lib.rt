@@ -6,5 +6,8 @@ mod decimal;
 mod hexadecimal;
 
 pub use buffer::TextBuffer;
-pub use decimal::{push_decimal, push_digit, push_leading, push_short, push_three};
+pub use decimal::{
+    push_decimal, push_digit, push_leading, push_short, push_signed_decimal, push_signed_short,
+    push_three,
+};
 pub use hexadecimal::{push_hexadecimal, push_six_places};

@@ -7,7 +7,7 @@ ghost use Rattle.sq_rows.specs.Rows.{Blank, Number, Word, between, cell, line_nu
 ghost use Rattle.sq_rows.specs.Rows.{row_start};
 
 use itoa::Buffer;
-use sq_digits::TextBuffer;
+use sq_digits::{TextBuffer, push_signed_short};
 use sq_text::{push_decimal, push_hexadecimal, push_six_places};
 
 /// The form of a row.
@@ -86,6 +86,22 @@ pub fn push_signed<const N: usize>(text: &mut TextBuffer<N>, form: Form, name: &
     ensures len { text_len text.new ≤ text_len text.old + length name.now + 15 }
 {
     push_name(text, form, name);
+    // An altitude has at most five digits.
+    if number.unsigned_abs() < 1_000_000 {
+        push_signed_short(text, i64::from(number));
+    } else {
+        push_signed_long(text, number);
+    }
+}
+
+// Appends any number with its sign.
+#[cold]
+#[inline(never)]
+fn push_signed_long<const N: usize>(text: &mut TextBuffer<N>, number: i32)
+    requires { text_len text.old + 11 ≤ N }
+    ensures bytes { text.new.bytes ≡ text.old.bytes ++ signed_decimal number }
+    ensures len { text_len text.new ≤ text_len text.old + 11 }
+{
     let mut buffer = Buffer::new();
     text.push_str(buffer.format(number));
 }

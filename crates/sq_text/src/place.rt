@@ -6,9 +6,8 @@ ghost use Rattle.sq_angle.specs.Angle.{degrees};
 ghost use Rattle.sq_angle.specs.Decimal.{IsDecimal7};
 ghost use Rattle.sq_text.specs.Place.{IsFractionText, IsPlaceText};
 
-use itoa::Buffer;
 use sq_angle::{Angle, Position};
-use sq_digits::{TextBuffer, push_decimal};
+use sq_digits::{TextBuffer, push_decimal, push_signed_decimal};
 
 /// The text of a position: two lines.
 pub type PlaceText = TextBuffer<160>;
@@ -43,11 +42,10 @@ fn push_fraction(text: &mut PlaceText, angle: &Angle)
     requires { text_len text.old ≤ 100 }
     ensures bytes { (part : List ℕ) × IsFractionText (degrees angle.now) part
         × (text.new.bytes ≡ text.old.bytes ++ part) }
-    ensures len { text_len text.new ≤ text_len text.old + 41 }
+    ensures len { text_len text.new ≤ text_len text.old + 42 }
 {
     let (num, den) = angle.reduced();
-    let mut buffer = Buffer::new();
-    text.push_str(buffer.format(num));
-    text.push_str("/");
+    push_signed_decimal(text, num);
+    text.push(b'/');
     push_decimal(text, den);
 }
