@@ -9,7 +9,7 @@ use Rattle.std.specs.Int.Digits.{number_from_digits, number_from_digits_after, A
 use Rattle.sq_bits.specs.declared.frame.Frame.{Frame}
 use Rattle.sq_bits.specs.Frames.{frame_number, IsFrame, bit_of}
 use Rattle.sq_bits.proofs.Quotient.{quotient_of}
-use Rattle.sq_bits.proofs.Digits.{pow_byte}
+use Rattle.sq_bits.proofs.Digits.{pow_byte, AllBelowBase-get_or}
 use Rattle.std.proofs.Math.Nat.{pow-suc}
 use Rattle.sq_bits.proofs.Fields.{mod-mod_pow, field_parts, field_small}
 use Rattle.std.specs.List.{range_with_len}
@@ -56,11 +56,6 @@ AllBelowBase-drop : (k : ℕ) (ds : List ℕ) → AllBelowBase 256 ds → AllBel
 AllBelowBase-drop zero ds all = all
 AllBelowBase-drop (suc k) [] all = all
 AllBelowBase-drop (suc k) (d ∷ ds) all = AllBelowBase-drop k ds all.1
-
-AllBelowBase-get_or : (ds : List ℕ) (i : ℕ) → AllBelowBase 256 ds → get_or ds i 0 < 256
-AllBelowBase-get_or [] i all = omega arith
-AllBelowBase-get_or (d ∷ ds) zero all = all.0
-AllBelowBase-get_or (d ∷ ds) (suc i) all = AllBelowBase-get_or ds i all.1
 
 -- byte i of a frame, in its number
 byte_of : (f : Frame) (i : ℕ) → IsFrame f → i < 14 → frame_number f / 2 ^ (8 * (13 - i)) % 2 ^ 8 ≡ get_or f.0 i 0

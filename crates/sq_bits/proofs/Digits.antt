@@ -1,55 +1,16 @@
 -- Bytes as the digits of a number.
-use Rattle.std.proofs.Common.{◌≡◌, ℕ, ◌+◌, ◌-◌, ◌*◌, ◌/◌, ◌<◌, ◌≤◌, ◌^◌, List, length, take, set, get_or, refl, sym, ap}
-use Rattle.std.proofs.Common.{ap₂, ◌∙◌, arith, bit_and, [], ◌∷◌, ◌++◌}
-use Rattle.std.proofs.lemmas.Nat.{pow-add, shr-shr, shr_split, and_mask, and_le_r}
+use Rattle.std.proofs.Common.{◌≡◌, ℕ, ◌+◌, ◌*◌, ◌/◌, ◌%◌, ◌<◌, ◌≤◌, ◌^◌, List, length, take, get_or, sym, ap, ap₂, ◌∙◌}
+use Rattle.std.proofs.Common.{arith, [], ◌∷◌, ◌++◌, refl, zero, suc}
+use Rattle.std.proofs.lemmas.Nat.{pow-add, le_bytes_2, le_bytes_4, le_bytes_8, from_be_bytes-to_be_bytes_2}
+use Rattle.std.proofs.lemmas.Nat.{from_be_bytes-to_be_bytes_4, from_be_bytes-to_be_bytes_8}
 use Rattle.std.proofs.lemmas.Int.Digits.{number_more}
-use Rattle.std.proofs.Math.ListN.{length-set}
-use Rattle.std.proofs.lemmas.List.{take-set, take_more_set, take_all, get_or-set_same}
-use Rattle.std.proofs.Math.Nat.{pow-le-pow_right}
+use Rattle.std.proofs.lemmas.List.{take_all}
+use Rattle.std.specs.Int.{to_le_bytes, to_be_bytes, from_le_bytes, from_be_bytes, swap_bytes, w16, w32, w64}
 use Rattle.std.specs.Int.Digits.{number_from_digits, AllBelowBase}
 
 -- one more byte below it multiplies a bound by 256
 pub pow_byte : (i : ℕ) → 2 ^ (8 * (i + 1)) ≡ 2 ^ (8 * i) * 256
 pow_byte i = let e : 8 * (i + 1) ≡ 8 * i + 8 = omega arith in rw e (pow-add 2 (8 * i) 8)
-
-pub pow_byte-le : (i : ℕ) → i < 14 → 2 ^ (8 * i) * 256 ≤ 2 ^ 112
-pow_byte-le i small =
-    let fits : 8 * (i + 1) ≤ 112 = omega arith in
-    let bound : 2 ^ (8 * (i + 1)) ≤ 2 ^ 112 = pow-le-pow_right (omega arith) fits in
-    rw (pow_byte i) at bound
-
--- a byte written after those before it
-pub digit_written : (bs : List ℕ) (i v : ℕ) → i < length bs
-    → number_from_digits 256 (take (i + 1) (set bs i v)) ≡ number_from_digits 256 (take i bs) * 256 + v
-digit_written bs i v within =
-    let long : i < length (set bs i v) = rw length-set within in
-    number_more 256 (set bs i v) i long ∙ rw (get_or-set_same bs i v 0 within, take-set) refl
-
--- the leading bits of a number, and the eight below them
-pub byte_below : (n i : ℕ) → i < 14
-    → n / 2 ^ (112 - 8 * i) * 256 + bit_and (n / 2 ^ (104 - 8 * i)) 255 ≡ n / 2 ^ (112 - 8 * (i + 1))
-byte_below n i small =
-    let k : ℕ = 104 - 8 * i in
-    let high : 112 - 8 * i ≡ k + 8 = omega arith in
-    let low : 112 - 8 * (i + 1) ≡ k = omega arith in
-    rw (high, low, ← shr-shr n k 8, and_mask (n / 2 ^ k) 8) (shr_split (n / 2 ^ k) 8)
-
--- one more byte after a number of i bytes
-pub byte_more : (n b i : ℕ) → n < 2 ^ (8 * i) → b < 256 → i < 14
-    → (n * 256 + b < 2 ^ (8 * (i + 1))) × (n * 256 + b < 2 ^ 112)
-byte_more n b i small byte within =
-    let less : n * 256 + b < 2 ^ (8 * i) * 256 = omega arith in
-    (rw pow_byte less, omega (arith, pow_byte-le i within))
-
-AllBelowBase-push : (b x : ℕ) (xs : List ℕ) → AllBelowBase b xs → x < b → AllBelowBase b (xs ++ x ∷ [])
-AllBelowBase-push b x [] all last = (last, tt)
-AllBelowBase-push b x (y ∷ ys) all last = (all.0, AllBelowBase-push b x ys all.1 last)
-
-pub AllBelowBase-written : (bs : List ℕ) (i n : ℕ) → i < length bs → AllBelowBase 256 (take i bs)
-    → AllBelowBase 256 (take (i + 1) (set bs i (bit_and n 255)))
-AllBelowBase-written bs i n within all =
-    rw (take_more_set bs i (bit_and n 255) within)
-    (AllBelowBase-push 256 (bit_and n 255) (take i bs) all (omega (arith, and_le_r n 255)))
 
 -- two bytes of a number, and three more after a number
 pub two_bytes : (bs : List ℕ) → 2 ≤ length bs
@@ -95,3 +56,54 @@ five_words bs h a b c d long ih ia ib ic id =
     let j : number_from_digits 256 (take 14 bs) ≡ (((h * 2 ^ 24 + a) * 2 ^ 24 + b) * 2 ^ 24 + c) * 2 ^ 24 + d =
     three_bytes bs 11 (omega arith) ∙ ap₂ (λ n w. n * 2 ^ 24 + w) i (sym id) in
     sym j ∙ ap (number_from_digits 256) (take_all 14 bs (omega arith))
+
+pub AllBelowBase-get_or : (ds : List ℕ) (i : ℕ) → AllBelowBase 256 ds → get_or ds i 0 < 256
+AllBelowBase-get_or [] i all = omega arith
+AllBelowBase-get_or (d ∷ ds) zero all = all.0
+AllBelowBase-get_or (d ∷ ds) (suc i) all = AllBelowBase-get_or ds i all.1
+
+-- the bytes of a number whose order was turned, the lowest first, are its own, the highest first
+turned_sum_8 : (a b c d e f g h : ℕ)
+    → from_be_bytes w64 (a ∷ b ∷ c ∷ d ∷ e ∷ f ∷ g ∷ h ∷ []) ≡ from_le_bytes w64 (h ∷ g ∷ f ∷ e ∷ d ∷ c ∷ b ∷ a ∷ [])
+turned_sum_8 a b c d e f g h = omega arith
+
+pub turned_8 : (n : ℕ) → to_le_bytes w64 (swap_bytes w64 n) ≡ to_be_bytes w64 n
+turned_8 n = le_bytes_8 (to_be_bytes w64 n) (swap_bytes w64 n) refl
+    (λ i. AllBelowBase-get_or (to_be_bytes w64 n) i (omega arith))
+    (turned_sum_8 (n % 256) (n / 2 ^ 8 % 256) (n / 2 ^ 16 % 256) (n / 2 ^ 24 % 256) (n / 2 ^ 32 % 256)
+    (n / 2 ^ 40 % 256) (n / 2 ^ 48 % 256) (n / 2 ^ 56 % 256))
+
+pub turned_4 : (n : ℕ) → to_le_bytes w32 (swap_bytes w32 n) ≡ to_be_bytes w32 n
+turned_4 n = le_bytes_4 (to_be_bytes w32 n) (swap_bytes w32 n) refl
+    (λ i. AllBelowBase-get_or (to_be_bytes w32 n) i (omega arith)) (omega arith)
+
+pub turned_2 : (n : ℕ) → to_le_bytes w16 (swap_bytes w16 n) ≡ to_be_bytes w16 n
+turned_2 n = le_bytes_2 (to_be_bytes w16 n) (swap_bytes w16 n) refl
+    (λ i. AllBelowBase-get_or (to_be_bytes w16 n) i (omega arith)) (omega arith)
+
+-- eight bytes, four and two as the digits of a number
+eight_digits : (a b c d e f g h : ℕ)
+    → number_from_digits 256 (a ∷ b ∷ c ∷ d ∷ e ∷ f ∷ g ∷ h ∷ [])
+    ≡ from_be_bytes w64 (a ∷ b ∷ c ∷ d ∷ e ∷ f ∷ g ∷ h ∷ [])
+eight_digits a b c d e f g h = omega arith
+
+digits_of : (n : ℕ) → n < 2 ^ 64 → number_from_digits 256 (to_be_bytes w64 n) ≡ n
+digits_of n small = eight_digits (n / 2 ^ 56 % 256) (n / 2 ^ 48 % 256) (n / 2 ^ 40 % 256) (n / 2 ^ 32 % 256)
+    (n / 2 ^ 24 % 256) (n / 2 ^ 16 % 256) (n / 2 ^ 8 % 256) (n % 256) ∙ from_be_bytes-to_be_bytes_8 n small
+
+four_more : (n a b c d : ℕ)
+    → (((n * 256 + a) * 256 + b) * 256 + c) * 256 + d ≡ n * 2 ^ 32 + from_be_bytes w32 (a ∷ b ∷ c ∷ d ∷ [])
+four_more n a b c d = omega arith
+
+two_more : (n a b : ℕ) → (n * 256 + a) * 256 + b ≡ n * 2 ^ 16 + from_be_bytes w16 (a ∷ b ∷ [])
+two_more n a b = omega arith
+
+pub three_words : (m n p : ℕ) → m < 2 ^ 64 → n < 2 ^ 32 → p < 2 ^ 16
+    → number_from_digits 256 (to_be_bytes w64 m ++ (to_be_bytes w32 n ++ to_be_bytes w16 p))
+    ≡ (m * 2 ^ 32 + n) * 2 ^ 16 + p
+three_words m n p first middle last =
+    two_more _ (p / 2 ^ 8 % 256) (p % 256)
+    ∙ ap₂ (λ h l. h * 2 ^ 16 + l)
+    (four_more _ (n / 2 ^ 24 % 256) (n / 2 ^ 16 % 256) (n / 2 ^ 8 % 256) (n % 256)
+    ∙ ap₂ (λ h l. h * 2 ^ 32 + l) (digits_of m first) (from_be_bytes-to_be_bytes_4 n middle))
+    (from_be_bytes-to_be_bytes_2 p last)

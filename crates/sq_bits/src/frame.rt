@@ -70,16 +70,32 @@ impl Frame {
     }
 
     // The frame of a number of 112 bits.
+    #[inline(always)]
     pub(crate) fn from_number(number: u128) -> Frame
         requires { number < 2 ^ 112 }
         ensures value { frame_number result ≡ number }
         ensures frame { IsFrame result }
     {
-        let mut bytes = [0; 14];
-        for place in 0..14 {
-            bytes[place] = (number >> (104 - 8 * place) & 0xFF) as u8;
-        }
-        Frame(bytes)
+        Frame::from_parts(
+            (number >> 48) as u64,
+            (number >> 16 & 0xFFFF_FFFF) as u32,
+            (number & 0xFFFF) as u16,
+        )
+    }
+
+    // The frame of its first eight bytes, the next four and the last two, each as one number. LLVM stored a number as
+    // one word where its bytes were swapped first, and `to_be_bytes` byte by byte.
+    fn from_parts(first: u64, middle: u32, last: u16) -> Frame
+        ensures value { frame_number result ≡ (first * 2 ^ 32 + middle) * 2 ^ 16 + last }
+        ensures frame { IsFrame result }
+    {
+        let first = first.swap_bytes().to_le_bytes();
+        let middle = middle.swap_bytes().to_le_bytes();
+        let last = last.swap_bytes().to_le_bytes();
+        Frame([
+            first[0], first[1], first[2], first[3], first[4], first[5], first[6], first[7],
+            middle[0], middle[1], middle[2], middle[3], last[0], last[1],
+        ])
     }
 
     /// The bits `first` to `first + count - 1` as a number, the most significant first.
