@@ -48,6 +48,19 @@ fn writes_fields(rt: HostRuntime) {
 }
 
 #[test]
+fn joins_two_words(rt: HostRuntime) {
+    assert!(rt; Frame::of_words(0x8D40621D, 0x58C382D690C8AC) == AIR_EVEN);
+    assert!(rt; Frame::of_words(0, 0) == ZERO);
+    let ones = [
+        255, 255, 255, 255, 255, 255, 255, 255, 255, 255, 255, 0xD1, 0xD9, 0x4C,
+    ];
+    assert!(rt; Frame::of_words(0xFFFF_FFFF, 0xFF_FFFF_FFFF_FFFF) == Frame(ones));
+    assert!(rt;
+        Frame::of_words(0, 1) == Frame([0, 0, 0, 0, 0, 0, 0, 0, 0, 0, 1, 0xFF, 0xF4, 0x09])
+    );
+}
+
+#[test]
 fn takes_remainders_of_single_bits(rt: HostRuntime) {
     assert!(rt; remainder(&ZERO) == 0);
     for (bit, want) in [(112, 1), (88, 0xFFF409), (87, 0x001C1B), (81, 0x0706C0)] {

@@ -3,6 +3,7 @@ ghost use Rattle.std.specs.Prelude.{◌≡◌, ℕ, ◌+◌, ◌*◌, ◌/◌, �
 ghost use Rattle.std.specs.Int.Digits.{AllBelowBase};
 
 use crate::laws::each_frame;
+use crate::parity::remainder_of;
 
 // The numbers of three bytes.
 const WORD: u128 = 1 << 24;
@@ -14,6 +15,7 @@ pub struct Frame(pub [u8; 14]);
 
 impl Frame {
     ghost use Rattle.sq_bits.specs.Frames.{frame_number, field_of, IsApart, IsFrame, word, word_at};
+    ghost use Rattle.sq_bits.specs.Parity.{IsMultiple};
 
     // The frame as one number of 112 bits, from two numbers of eight and six bytes: the quick way for bytes in memory.
     #[inline(always)]
@@ -96,6 +98,21 @@ impl Frame {
             first[0], first[1], first[2], first[3], first[4], first[5], first[6], first[7],
             middle[0], middle[1], middle[2], middle[3], last[0], last[1],
         ])
+    }
+
+    /// Returns the correct frame with `head` (DF, CA and address) in bits 1 to 32 and `me` in bits 33 to 88 (ICAO Annex
+    /// 10 volume IV, section 3.1.2.3). Bits 89 to 112, the parity field, follow from them.
+    ///
+    /// `me` is below 2^56.
+    pub fn of_words(head: u32, me: u64) -> Frame
+        requires { me < 2 ^ 56 }
+        ensures head { field_of result 1 32 ≡ head }
+        ensures me { field_of result 33 56 ≡ me }
+        ensures multiple { IsMultiple (frame_number result) }
+        ensures frame { IsFrame result }
+    {
+        let number = (u128::from(head) << 80) + (u128::from(me) << 24);
+        Frame::from_number(number ^ u128::from(remainder_of(number)))
     }
 
     /// The bits `first` to `first + count - 1` as a number, the most significant first.

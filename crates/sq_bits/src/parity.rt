@@ -20,7 +20,7 @@ pub fn remainder(frame: &Frame) -> u32
 
 // The remainder of the polynomial of a number of 112 bits, three bytes at a time.
 #[inline(always)]
-fn remainder_of(number: u128) -> u32
+pub(crate) fn remainder_of(number: u128) -> u32
     requires { number < 2 ^ 112 }
     ensures { IsRemainder number result }
 {
