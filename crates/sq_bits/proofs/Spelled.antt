@@ -2,7 +2,7 @@
 use Rattle.std.proofs.Common.{◌≡◌, ℕ, zero, suc, ◌+◌, ◌*◌, ◌/◌, ◌<◌, ◌≤◌, ◌^◌, map, refl, sym, ap, ◌∙◌, subst, arith}
 use Rattle.std.proofs.Common.{add-one}
 use Rattle.std.proofs.Math.Nat.{pow-suc}
-use Rattle.std.proofs.lemmas.Nat.{shr_high}
+use Rattle.std.proofs.lemmas.Nat.{shr_high, same_from_place}
 use Rattle.std.proofs.lemmas.Int.Digits.{number_push}
 use Rattle.std.proofs.lemmas.List.FromFn.{map-range_with_len_more}
 use Rattle.std.specs.List.{range_with_len}
@@ -79,3 +79,11 @@ pub same_sealed : (f g : Frame) → IsFrame f → IsFrame g → IsMultiple (fram
 same_sealed f g x y p q e =
     same_sealed_quotient f g x y p q
     (quotient_is f 1 88 x (omega arith) (omega arith) ∙ e ∙ sym (quotient_is g 1 88 y (omega arith) (omega arith)))
+
+-- a field that spells a number of two parts: its leading bits spell the first, and the ones after them the second
+pub split_field : (f : Frame) (first a b x y : ℕ) → y < 2 ^ b → field_of f first (a + b) ≡ x * 2 ^ b + y
+    → (field_of f first a ≡ x) × (field_of f (first + a) b ≡ y)
+split_field f first a b x y small is =
+    let parts = same_from_place (field_of f first a) (field_of f (first + a) b) x y (2 ^ b)
+    (field_small f (first + a) b) small (sym (field_parts f first a b) ∙ is) in
+    (parts.0, parts.1)

@@ -1,14 +1,15 @@
-//! Writing a frame.
-ghost use Rattle.std.specs.Prelude.{◌≡◌};
+//! Writing a frame. The 32 bits before the message and its 56 bits are one number each, and the frame is made of both
+//! at once: set field by field, all 14 bytes would become a number and bytes again each time.
+ghost use Rattle.std.specs.Prelude.{◌≡◌, ◌<◌, ◌^◌};
 ghost use Rattle.sq_bits.specs.declared.frame.Frame.{Frame};
-ghost use Rattle.sq_bits.specs.Frames.{IsFrame, KeepsFieldsBefore};
+ghost use Rattle.sq_bits.specs.Frames.{IsFrame, field_of};
 ghost use Rattle.sq_cpr.specs.Code.{numbers_of};
-ghost use Rattle.sq_message.specs.Parts.{air_parts, ground_parts};
+ghost use Rattle.sq_message.specs.Parts.{air_parts, ground_parts, squitter_parts};
 ghost use Rattle.sq_message.specs.Spelling.{Spells, SpellsAirborne, SpellsAirFields, SpellsGroundFields, SpellsMe};
 ghost use Rattle.sq_message.specs.Spelling.{SpellsPlace, SpellsSurface};
 
 use crate::{AirFields, Airborne, GroundFields, Me, Squitter, Surface};
-use sq_bits::{Frame, sealed};
+use sq_bits::Frame;
 use sq_cpr::{Code, Parity};
 
 /// The one correct frame of a squitter (RTCA DO-260B section 2.2.3.2): no other frame spells it.
@@ -16,72 +17,78 @@ pub fn write_frame(squitter: &Squitter) -> Frame
     ensures written { Spells result squitter.now }
     ensures one { (frame : Frame) → IsFrame frame → Spells frame squitter.now → frame ≡ result }
 {
-    let head = Frame([0; 14])
-        .with_field(1, 5, 17)
-        .with_field(6, 3, u64::from(squitter.ca))
-        .with_field(9, 24, u64::from(squitter.address));
-    sealed(&with_me(&head, &squitter.me))
+    Frame::of_words(head_bits(squitter), me_bits(&squitter.me))
 }
 
-// The frame with a message in bits 33 to 88.
-fn with_me(frame: &Frame, me: &Me) -> Frame
-    ensures written { SpellsMe result me.now }
-    ensures kept { KeepsFieldsBefore 33 frame.now result }
+// Bits 1 to 32: DF 17, the capability and the address.
+fn head_bits(squitter: &Squitter) -> u32
+    ensures format { (frame : Frame) → field_of frame 1 32 ≡ result → field_of frame 1 5 ≡ 17 }
+    ensures ca { (frame : Frame) → field_of frame 1 32 ≡ result
+        → field_of frame 6 3 ≡ (squitter_parts squitter.now).ca }
+    ensures address { (frame : Frame) → field_of frame 1 32 ≡ result
+        → field_of frame 9 24 ≡ (squitter_parts squitter.now).address }
+{
+    (17 << 27) + (u32::from(squitter.ca) << 24) + squitter.address
+}
+
+// Bits 33 to 88: the message.
+fn me_bits(me: &Me) -> u64
+    ensures small { result < 2 ^ 56 }
+    ensures spelled { (frame : Frame) → field_of frame 33 56 ≡ result → SpellsMe frame me.now }
 {
     match me {
-        Me::Airborne(airborne) => with_airborne(frame, airborne),
-        Me::Surface(surface) => with_surface(frame, surface),
-        Me::Other(other) => frame.with_field(33, 56, other.raw),
+        Me::Airborne(airborne) => airborne_bits(airborne),
+        Me::Surface(surface) => surface_bits(surface),
+        Me::Other(other) => other.raw,
     }
 }
 
-fn with_airborne(frame: &Frame, airborne: &Airborne) -> Frame
-    ensures written { SpellsAirborne result airborne.now }
-    ensures kept { KeepsFieldsBefore 33 frame.now result }
+// The message of an airborne position.
+fn airborne_bits(airborne: &Airborne) -> u64
+    ensures small { result < 2 ^ 56 }
+    ensures spelled { (frame : Frame) → field_of frame 33 56 ≡ result → SpellsAirborne frame airborne.now }
 {
-    let described = with_air_fields(frame, &airborne.fields);
-    with_place(&described, airborne.parity, &airborne.code)
+    (air_field_bits(&airborne.fields) << 35) + place_bits(airborne.parity, &airborne.code)
 }
 
-fn with_air_fields(frame: &Frame, fields: &AirFields) -> Frame
-    ensures written { SpellsAirFields result (air_parts fields.now) }
-    ensures kept { KeepsFieldsBefore 33 frame.now result }
+// The message of a surface position.
+fn surface_bits(surface: &Surface) -> u64
+    ensures small { result < 2 ^ 56 }
+    ensures spelled { (frame : Frame) → field_of frame 33 56 ≡ result → SpellsSurface frame surface.now }
 {
-    frame
-        .with_field(33, 5, u64::from(fields.type_code))
-        .with_field(38, 2, u64::from(fields.status))
-        .with_field(40, 1, u64::from(fields.flag))
-        .with_field(41, 12, u64::from(fields.altitude))
-        .with_field(53, 1, u64::from(fields.time))
+    (ground_field_bits(&surface.fields) << 35) + place_bits(surface.parity, &surface.code)
 }
 
-fn with_surface(frame: &Frame, surface: &Surface) -> Frame
-    ensures written { SpellsSurface result surface.now }
-    ensures kept { KeepsFieldsBefore 33 frame.now result }
+// ME bits 1 to 21 of an airborne position.
+fn air_field_bits(fields: &AirFields) -> u64
+    ensures small { result < 2 ^ 21 }
+    ensures spelled { (frame : Frame) → field_of frame 33 21 ≡ result → SpellsAirFields frame (air_parts fields.now) }
 {
-    let described = with_ground_fields(frame, &surface.fields);
-    with_place(&described, surface.parity, &surface.code)
+    (u64::from(fields.type_code) << 16)
+        + (u64::from(fields.status) << 14)
+        + (u64::from(fields.flag) << 13)
+        + (u64::from(fields.altitude) << 1)
+        + u64::from(fields.time)
 }
 
-fn with_ground_fields(frame: &Frame, fields: &GroundFields) -> Frame
-    ensures written { SpellsGroundFields result (ground_parts fields.now) }
-    ensures kept { KeepsFieldsBefore 33 frame.now result }
+// ME bits 1 to 21 of a surface position.
+fn ground_field_bits(fields: &GroundFields) -> u64
+    ensures small { result < 2 ^ 21 }
+    ensures spelled { (frame : Frame) → field_of frame 33 21 ≡ result
+        → SpellsGroundFields frame (ground_parts fields.now) }
 {
-    frame
-        .with_field(33, 5, u64::from(fields.type_code))
-        .with_field(38, 7, u64::from(fields.movement))
-        .with_field(45, 1, u64::from(fields.track_status))
-        .with_field(46, 7, u64::from(fields.track))
-        .with_field(53, 1, u64::from(fields.time))
+    (u64::from(fields.type_code) << 16)
+        + (u64::from(fields.movement) << 9)
+        + (u64::from(fields.track_status) << 8)
+        + (u64::from(fields.track) << 1)
+        + u64::from(fields.time)
 }
 
-// The frame with a parity and a code in ME bits 22 to 56.
-fn with_place(frame: &Frame, parity: Parity, code: &Code) -> Frame
-    ensures written { SpellsPlace result parity (numbers_of code.now) }
-    ensures kept { KeepsFieldsBefore 54 frame.now result }
+// ME bits 22 to 56: the parity and the code.
+fn place_bits(parity: Parity, code: &Code) -> u64
+    ensures small { result < 2 ^ 35 }
+    ensures spelled { (frame : Frame) → field_of frame 54 35 ≡ result
+        → SpellsPlace frame parity (numbers_of code.now) }
 {
-    frame
-        .with_field(54, 1, u64::from(parity.index()))
-        .with_field(55, 17, u64::from(code.lat()))
-        .with_field(72, 17, u64::from(code.lon()))
+    (u64::from(parity.index()) << 34) + (u64::from(code.lat()) << 17) + u64::from(code.lon())
 }

@@ -1,0 +1,12 @@
+use Rattle.std.proofs.Common.{◌∙◌, arith}
+use Rattle.sq_bits.proofs.Spelled.{split_field}
+use Rattle.sq_message.proofs.write.surface_bits.Goals as goal
+
+pub returns-clause-spelled : goal.returns-clause-spelled
+returns-clause-spelled c f is =
+    let parts = split_field f 33 21 35 c.ground_field_bits.result c.place_bits.result c.place_bits.ensures.small
+    (is ∙ omega (arith, c.ground_field_bits.ensures.small)) in
+    record {
+      fields = c.ground_field_bits.ensures.spelled f parts.0;
+      place = c.place_bits.ensures.spelled f parts.1;
+    }
