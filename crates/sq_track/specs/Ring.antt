@@ -1,37 +1,37 @@
--- Links between the entries of a table, which lead round through all of them.
-use Rattle.std.specs.Prelude.{◌≡◌, ℕ, ◌+◌, ◌<◌, List, [], ◌∷◌, ◌++◌, length, map, slice_index, nat_eq, if◌then◌else◌, Some}
-use Rattle.std.specs.Prelude.{is_some, slice_get, take, true, unwrap_or}
+-- Links between the indices of a table, which lead round through all of them.
+use Rattle.std.specs.Prelude.{◌≡◌, ℕ, ◌+◌, ◌^◌, ◌<◌, ◌≤◌, List, [], ◌∷◌, length, map, slice_index, nat_eq, if◌then◌else◌}
+use Rattle.std.specs.Prelude.{Some, is_some, slice_get, take, true, unwrap_or}
 use Rattle.std.specs.List.{IsDistinct}
 use Rattle.std.specs.Map.{keys_of, lookup}
 use Rattle.sq_track.specs.Ordered.{IsTied, blank_contact, has_address, others_than}
 use Rattle.sq_track.specs.declared.contact.Contact.{Contact}
-use Rattle.sq_track.specs.declared.links.Linked.{Linked}
+use Rattle.sq_track.specs.declared.links.Neighbours.{Neighbours}
 
--- the addresses of a table, each with what is kept of it
-abbrev pub contacts_in : List (ℕ × Linked) → List (ℕ × Contact)
-contacts_in es = map (λ e. (e.0, e.1.contact)) es
-
-abbrev pub address_at : List (ℕ × Linked) → ℕ → ℕ
+abbrev pub address_at : List (ℕ × Contact) → ℕ → ℕ
 address_at es i = slice_index (keys_of es) i
 
--- the index that an entry's link leads to, and the index that leads to it
-abbrev pub after_at : List (ℕ × Linked) → ℕ → ℕ
-after_at es i = slice_index (map (λ e. e.1.after) es) i
+-- the index that an index's link leads to, and the index that leads to it
+abbrev pub after_at : List Neighbours → ℕ → ℕ
+after_at ls i = slice_index (map (λ l. l.after) ls) i
 
-abbrev pub before_at : List (ℕ × Linked) → ℕ → ℕ
-before_at es i = slice_index (map (λ e. e.1.before) es) i
+abbrev pub before_at : List Neighbours → ℕ → ℕ
+before_at ls i = slice_index (map (λ l. l.before) ls) i
 
 -- from an index on, as many indices as the list is long, each the one that the link of the last leads to
 abbrev pub chain : {X : Type 0} → (ℕ → ℕ) → List X → ℕ → List ℕ
 chain after [] i = []
 chain after (x ∷ xs) i = i ∷ chain after xs (after i)
 
--- the indices of a table in the order of last hearing, and the addresses there
-abbrev pub round : List (ℕ × Linked) → ℕ → List ℕ
-round es oldest = chain (after_at es) (keys_of es) oldest
+-- the indices that have links, in the order of last hearing, and the addresses of a table there
+abbrev pub round : List Neighbours → ℕ → List ℕ
+round ls oldest = chain (after_at ls) ls oldest
 
-abbrev pub addresses_in : List (ℕ × Linked) → ℕ → List ℕ
-addresses_in es oldest = map (address_at es) (round es oldest)
+abbrev pub addresses_in : List (ℕ × Contact) → List Neighbours → ℕ → List ℕ
+addresses_in es ls oldest = map (address_at es) (round ls oldest)
+
+-- the last index is renamed to the removed one, whose place it takes; all others keep theirs
+abbrev pub renamed : (out last : ℕ) → ℕ → ℕ
+renamed out last k = if nat_eq k last then out else k
 
 -- from one index the links lead through a list to another
 abbrev pub IsPath : (ℕ → ℕ) → ℕ → List ℕ → ℕ → Type 0
@@ -48,48 +48,49 @@ pub record IsPaired (n : ℕ) (one other : ℕ → ℕ) : Type 0 where
   pub within : (k : ℕ) → k < n → one k < n
   pub back : (k : ℕ) → k < n → other (one k) ≡ k
 
--- the links of a table lead from the oldest round through it, and back
-pub record IsRound (es : List (ℕ × Linked)) (oldest : ℕ) : Type 0 where
-  pub within : 0 < length es → oldest < length es
-  pub forward : IsPaired (length es) (after_at es) (before_at es)
-  pub backward : IsPaired (length es) (before_at es) (after_at es)
-  pub ring : IsRing (after_at es) (round es oldest)
+-- the links lead from the oldest round through all indices, and back
+pub record IsRound (ls : List Neighbours) (oldest : ℕ) : Type 0 where
+  pub within : 0 < length ls → oldest < length ls
+  pub forward : IsPaired (length ls) (after_at ls) (before_at ls)
+  pub backward : IsPaired (length ls) (before_at ls) (after_at ls)
+  pub ring : IsRing (after_at ls) (round ls oldest)
 
--- a table and its round have the same addresses, each once
-pub record IsLinkedTable (es : List (ℕ × Linked)) (oldest : ℕ) : Type 0 where
-  pub tied : IsTied (contacts_in es) (addresses_in es oldest)
-  pub is_round : IsRound es oldest
+-- a table and its round have the same addresses, each once, and a link has room for each index
+pub record IsLinkedTable (es : List (ℕ × Contact)) (ls : List Neighbours) (oldest : ℕ) : Type 0 where
+  pub tied : IsTied es (addresses_in es ls oldest)
+  pub is_round : IsRound ls oldest
+  pub few : length es ≤ 2 ^ 32
 
--- an index of a table is on its round, which has each index once
-pub record IsOnRound (es : List (ℕ × Linked)) (oldest at : ℕ) : Type 0 where
-  pub within : at < length es
-  pub is_round : IsRound es oldest
-  pub distinct : IsDistinct nat_eq (round es oldest)
-  pub known : has_address at (round es oldest) ≡ true
+-- an index is on the round, which has each index once
+pub record IsOnRound (ls : List Neighbours) (oldest at : ℕ) : Type 0 where
+  pub within : at < length ls
+  pub is_round : IsRound ls oldest
+  pub distinct : IsDistinct nat_eq (round ls oldest)
+  pub known : has_address at (round ls oldest) ≡ true
 
--- the last entry of a table is linked to itself, and the entries in front of it have a round
-pub record IsEntered (es : List (ℕ × Linked)) (oldest at : ℕ) : Type 0 where
-  pub last : length es ≡ at + 1
-  pub is_round : IsRound (take at es) oldest
-  pub distinct : IsDistinct nat_eq (round (take at es) oldest)
-  pub after : after_at es at ≡ at
-  pub before : before_at es at ≡ at
+-- the last index is linked to itself, and those in front of it have a round
+pub record IsEntered (ls : List Neighbours) (oldest at : ℕ) : Type 0 where
+  pub last : length ls ≡ at + 1
+  pub is_round : IsRound (take at ls) oldest
+  pub distinct : IsDistinct nat_eq (round (take at ls) oldest)
+  pub after : after_at ls at ≡ at
+  pub before : before_at ls at ≡ at
 
--- the second table is the first, with a link from one entry to another
-pub record IsLinking (from to : ℕ) (es fs : List (ℕ × Linked)) : Type 0 where
-  pub after : (k : ℕ) → after_at fs k ≡ (if nat_eq k from then to else after_at es k)
-  pub before : (k : ℕ) → before_at fs k ≡ (if nat_eq k to then from else before_at es k)
-  pub contacts : contacts_in fs ≡ contacts_in es
+-- the second links are the first, with a link from one index to another
+pub record IsLinking (from to : ℕ) (ls ms : List Neighbours) : Type 0 where
+  pub after : (k : ℕ) → after_at ms k ≡ (if nat_eq k from then to else after_at ls k)
+  pub before : (k : ℕ) → before_at ms k ≡ (if nat_eq k to then from else before_at ls k)
+  pub long : length ms ≡ length ls
 
--- an entry was found or made for an address, with what is kept of it, and put at the end of the round
-pub record IsReached (address at : ℕ) (es fs : List (ℕ × Linked)) (from to : ℕ) : Type 0 where
+-- an entry was found or made for an address, with what is kept of it, and the others stand in the same order
+pub record IsReached (address at : ℕ) (es fs : List (ℕ × Contact)) (ls ms : List Neighbours) (from to : ℕ)
+    : Type 0 where
   pub within : at < length fs
-  pub entry : slice_get (contacts_in fs) at
-      ≡ Some (address, unwrap_or (lookup (nat_eq address) (contacts_in es)) blank_contact)
+  pub entry : slice_get fs at ≡ Some (address, unwrap_or (lookup (nat_eq address) es) blank_contact)
   pub distinct : IsDistinct nat_eq (keys_of fs)
-  pub is_round : IsRound fs to
-  pub order : addresses_in fs to ≡ others_than address (addresses_in es from) ++ address ∷ []
-  pub contacts : (k : ℕ) → lookup (nat_eq k) (contacts_in fs)
-      ≡ (if nat_eq address k then Some (unwrap_or (lookup (nat_eq address) (contacts_in es)) blank_contact)
-      else lookup (nat_eq k) (contacts_in es))
-  pub long : length fs ≡ length es + (if is_some (lookup (nat_eq address) (contacts_in es)) then 0 else 1)
+  pub on_round : IsOnRound ms to at
+  pub others : map (address_at fs) (others_than at (round ms to)) ≡ others_than address (addresses_in es ls from)
+  pub contacts : (k : ℕ) → lookup (nat_eq k) fs
+      ≡ (if nat_eq address k then Some (unwrap_or (lookup (nat_eq address) es) blank_contact)
+      else lookup (nat_eq k) es)
+  pub long : length fs ≡ length es + (if is_some (lookup (nat_eq address) es) then 0 else 1)

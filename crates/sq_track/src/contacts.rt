@@ -1,18 +1,20 @@
 //! What is kept of each address, in the order of last hearing.
-ghost use Rattle.std.specs.Prelude.{Option, option_copied, ◌≡◌, ℕ, ◌+◌, ◌<◌, ◌++◌};
-ghost use Rattle.std.specs.Prelude.{nat_eq, Some, None, length, slice_get, IfOk, IfSome, OnErr, [], ◌∷◌};
-ghost use Rattle.std.specs.List.{IsDistinct};
+ghost use Rattle.std.specs.Prelude.{Option, option_copied, ◌≡◌, ℕ, ◌+◌, ◌^◌, ◌<◌, ◌++◌};
+ghost use Rattle.std.specs.Prelude.{is_some, nat_eq, Some, None, length, slice_get, if◌then◌else◌, IfOk, IfSome, OnErr};
+ghost use Rattle.std.specs.Prelude.{[], ◌∷◌};
+ghost use Rattle.std.specs.List.{IsDistinct, swap_remove};
 ghost use Rattle.std.specs.Map.{keys_of, lookup};
+ghost use Rattle.indexmap.specs.IndexMap.{index_map_len, values, with_value_at};
 ghost use Rattle.sq_message.specs.Parts.{squitter_parts};
 ghost use Rattle.sq_track.specs.Held.{contact_of};
 ghost use Rattle.sq_track.specs.Kept.{IsContactHearing};
 ghost use Rattle.sq_track.specs.declared.contact.Contact.{Contact};
-ghost use Rattle.sq_track.specs.Ordered.{blank_contact, others_in};
-ghost use Rattle.sq_track.specs.Ring.{IsLinkedTable, IsReached, IsRound, contacts_in, round};
+ghost use Rattle.sq_track.specs.Ordered.{blank_contact, moments_in, others_in};
+ghost use Rattle.sq_track.specs.Ring.{IsLinkedTable, IsReached, IsRound, address_at, round};
 
 use crate::contact::{Contact, Side};
 use crate::heard::Heard;
-use crate::links::{Linked, hear_at, join, put_last, take_out};
+use crate::links::{Neighbours, join, links_at, put_last, take_out};
 use indexmap::IndexMap;
 use sq_angle::Position;
 use sq_message::Squitter;
@@ -22,60 +24,52 @@ use std::marker::Model;
 /// The contacts of addresses, in the order of last hearing.
 #[derive(Drop)]
 pub struct Contacts {
-    // Its entries are linked in the order of last hearing, and the last heard to the longest unheard.
-    table: IndexMap<u32, Linked>,
+    table: IndexMap<u32, Contact>,
+    // The indices of the table are linked in the order of last hearing, and the last heard to the longest unheard. The
+    // links stand in an array of their own: to hear an address writes those of two others, whose entries stay unread.
+    links: Vec<Neighbours>,
     // The index in the table of the longest unheard address, if there is one.
-    oldest: usize,
+    oldest: u32,
 }
 
 impl Model for Contacts {
     ghost use Rattle.std.specs.Prelude.{ℕ, List};
     ghost use Rattle.sq_track.specs.Ordered.{entries_in};
-    ghost use Rattle.sq_track.specs.Ring.{IsLinkedTable, addresses_in, contacts_in};
+    ghost use Rattle.sq_track.specs.Ring.{IsLinkedTable, addresses_in};
     ghost use Rattle.sq_track.specs.declared.contact.Contact.{Contact};
 
     ghost Value = { List (ℕ × Contact) };
 
-    ghost view = { λ t. entries_in (contacts_in t.table.entries) (addresses_in t.table.entries t.oldest) };
+    ghost view = { λ t. entries_in t.table.entries (addresses_in t.table.entries t.links.items t.oldest) };
 
-    ghost invariant = { λ t. IsLinkedTable t.table.entries t.oldest };
+    ghost invariant = { λ t. IsLinkedTable t.table.entries t.links.items t.oldest };
 }
 
-// The address at an index of the table, and what is kept of it.
+// The address at an index of the table, with the moment of its newest position.
 #[inline(always)]
-fn entry_at(table: &IndexMap<u32, Linked>, at: usize) -> Option<(u32, Contact)>
-    ensures entry { result ≡ slice_get (contacts_in table.now.entries) at }
-    ensures found { IfSome result (λ entry. lookup (nat_eq entry.0) (contacts_in table.now.entries) ≡ Some entry.1) }
+fn moment_at(table: &IndexMap<u32, Contact>, at: u32) -> Option<(u32, u64)>
+    ensures entry { result ≡ slice_get (moments_in table.now.entries) at }
+    ensures found { IfSome (slice_get table.now.entries at)
+        (λ entry. lookup (nat_eq entry.0) table.now.entries ≡ Some entry.1) }
 {
-    match table.get_index(at) {
-        Some((address, linked)) => Some((*address, linked.contact)),
-        None => None,
-    }
-}
-
-// What a table has of an address.
-#[inline(always)]
-fn contact_at(table: &IndexMap<u32, Linked>, address: u32) -> Option<Contact>
-    ensures { result ≡ lookup (nat_eq address) (contacts_in table.now.entries) }
-{
-    match table.get(&address) {
-        Some(linked) => Some(linked.contact),
+    match table.get_index(at as usize) {
+        Some((address, contact)) => Some((*address, contact.moment)),
         None => None,
     }
 }
 
 // The index in the table of the address at an index, the longest unheard first.
-fn nth(table: &IndexMap<u32, Linked>, oldest: usize, index: usize) -> Option<usize>
-    requires { IsRound table.now.entries oldest }
-    ensures index { result ≡ slice_get (round table.now.entries oldest) index }
-    ensures within { IfSome result (λ at. at < length table.now.entries) }
+fn nth(links: &[Neighbours], oldest: u32, index: usize) -> Option<u32>
+    requires { IsRound links.now oldest }
+    ensures index { result ≡ slice_get (round links.now oldest) index }
+    ensures within { IfSome result (λ at. at < length links.now) }
 {
-    if index >= table.len() {
+    if index >= links.len() {
         return None;
     }
     let mut at = oldest;
     for _ in 0..index {
-        at = table[at].after;
+        at = links[at as usize].after;
     }
     Some(at)
 }
@@ -99,52 +93,89 @@ fn blank() -> Contact
     }
 }
 
-// Finds the entry of an address, or makes one, and puts it at the end of the round. One that is there takes no memory.
+// Finds the entry of an address, or makes one. One that is there takes no memory.
 #[inline(always)]
 fn reach(
-    table: &mut IndexMap<u32, Linked>,
-    oldest: &mut usize,
+    table: &mut IndexMap<u32, Contact>,
+    links: &mut Vec<Neighbours>,
+    oldest: &mut u32,
     address: u32,
-) -> Result<usize, AllocError>
-    requires { IsLinkedTable table.old.entries oldest.old }
-    ensures ok { IfOk result (λ at. IsReached address at table.old.entries table.new.entries oldest.old oldest.new) }
-    ensures err { OnErr result ((table.new.entries ≡ table.old.entries) × (oldest.new ≡ oldest.old)) }
-    ensures absent { OnErr result (lookup (nat_eq address) (contacts_in table.old.entries) ≡ None) }
+) -> Result<u32, AllocError>
+    requires linked { IsLinkedTable table.old.entries links.old.items oldest.old }
+    requires room { length table.old.entries < 2 ^ 32 }
+    ensures ok { IfOk result (λ at. IsReached address at table.old.entries table.new.entries links.old.items
+        links.new.items oldest.old oldest.new) }
+    ensures err { OnErr result ((table.new.entries ≡ table.old.entries) × (links.new.items ≡ links.old.items)
+        × (oldest.new ≡ oldest.old)) }
+    ensures absent { OnErr result (lookup (nat_eq address) table.old.entries ≡ None) }
 {
     match table.get_index_of(&address) {
-        Some(at) => {
-            *oldest = put_last(table, *oldest, at);
-            Ok(at)
-        }
-        None => enter(table, oldest, address),
+        Some(at) => Ok(at as u32),
+        None => enter(table, links, oldest, address),
     }
 }
 
-// Makes an entry for an address that is not there, at the end of the round.
+// Makes an entry for an address that is not there, at the end of the round. Where the table takes no entry, the links
+// that were made for it go again.
 #[inline(never)]
 fn enter(
-    table: &mut IndexMap<u32, Linked>,
-    oldest: &mut usize,
+    table: &mut IndexMap<u32, Contact>,
+    links: &mut Vec<Neighbours>,
+    oldest: &mut u32,
     address: u32,
-) -> Result<usize, AllocError>
-    requires linked { IsLinkedTable table.old.entries oldest.old }
-    requires absent { lookup (nat_eq address) (contacts_in table.old.entries) ≡ None }
-    ensures ok { IfOk result (λ at. IsReached address at table.old.entries table.new.entries oldest.old oldest.new) }
-    ensures err { OnErr result ((table.new.entries ≡ table.old.entries) × (oldest.new ≡ oldest.old)) }
+) -> Result<u32, AllocError>
+    requires linked { IsLinkedTable table.old.entries links.old.items oldest.old }
+    requires room { length table.old.entries < 2 ^ 32 }
+    requires absent { lookup (nat_eq address) table.old.entries ≡ None }
+    ensures ok { IfOk result (λ at. IsReached address at table.old.entries table.new.entries links.old.items
+        links.new.items oldest.old oldest.new) }
+    ensures err { OnErr result ((table.new.entries ≡ table.old.entries) × (links.new.items ≡ links.old.items)
+        × (oldest.new ≡ oldest.old)) }
 {
-    let at = table.len();
-    let linked = Linked {
+    let at = table.len() as u32;
+    links.push(Neighbours {
         before: at,
         after: at,
-        contact: blank(),
-    };
-    match table.insert(address, linked) {
+    })?;
+    match table.insert(address, blank()) {
         Ok(_) => {
-            *oldest = join(table, *oldest, at);
+            *oldest = join(links, *oldest, at);
             Ok(at)
         }
-        Err(_) => Err(AllocError),
+        Err(_) => {
+            links.pop();
+            Err(AllocError)
+        }
     }
+}
+
+// Hears a squitter of the address at an index.
+#[inline(always)]
+fn hear_at(
+    table: &mut IndexMap<u32, Contact>,
+    at: u32,
+    window_ms: u64,
+    site: Option<&Position>,
+    moment: u64,
+    squitter: &Squitter,
+) -> Heard
+    requires { at < index_map_len table.old }
+    ensures { (before : Contact) × (after : Contact) × (slice_get (values table.old) at ≡ Some before)
+        × IsContactHearing window_ms (option_copied site.entry) moment squitter.now before result after
+        × (table.new ≡ with_value_at table.old at after) }
+{
+    table[at as usize].hear(window_ms, site, moment, squitter)
+}
+
+// Takes an entry out of the table. The last takes its place.
+fn remove_at(table: &mut IndexMap<u32, Contact>, at: usize)
+    requires { at < index_map_len table.old }
+    ensures entries { (entry : ℕ × Contact) × (table.new.entries ≡ swap_remove table.old.entries at entry) }
+    ensures len { length table.new.entries + 1 ≡ length table.old.entries }
+    ensures contacts { (k : ℕ) → lookup (nat_eq k) table.new.entries
+        ≡ (if nat_eq (address_at table.old.entries at) k then None else lookup (nat_eq k) table.old.entries) }
+{
+    table.swap_remove_index(at);
 }
 
 impl Contacts {
@@ -154,6 +185,7 @@ impl Contacts {
     {
         Contacts {
             table: IndexMap::new(alloc),
+            links: Vec::new(alloc),
             oldest: 0,
         }
     }
@@ -166,33 +198,33 @@ impl Contacts {
         self.table.len()
     }
 
-    /// What is kept of an address.
-    pub fn get(&self, address: u32) -> Option<Contact>
-        ensures value { result ≡ lookup (nat_eq address) self.now }
-        ensures unique { IsDistinct nat_eq (keys_of self.now) }
+    /// Whether an address is among them.
+    pub fn contains(&self, address: u32) -> bool
+        ensures { result ≡ is_some (lookup (nat_eq address) self.now) }
     {
-        contact_at(&self.table, address)
+        self.table.contains_key(&address)
     }
 
-    /// The contact that was not heard for the longest time.
+    /// The longest unheard address, with the moment of its newest position.
     #[inline(always)]
-    pub fn oldest(&self) -> Option<(u32, Contact)>
-        ensures { result ≡ slice_get self.now 0 }
+    pub fn oldest(&self) -> Option<(u32, u64)>
+        ensures { result ≡ slice_get (moments_in self.now) 0 }
     {
-        entry_at(&self.table, self.oldest)
+        moment_at(&self.table, self.oldest)
     }
 
-    /// The contact at an index, the longest unheard first.
-    pub fn get_index(&self, index: usize) -> Option<(u32, Contact)>
-        ensures { result ≡ slice_get self.now index }
+    /// The address at an index, the longest unheard first, with the moment of its newest position.
+    pub fn get_index(&self, index: usize) -> Option<(u32, u64)>
+        ensures { result ≡ slice_get (moments_in self.now) index }
     {
-        match nth(&self.table, self.oldest, index) {
-            Some(at) => entry_at(&self.table, at),
+        match nth(&self.links, self.oldest, index) {
+            Some(at) => moment_at(&self.table, at),
             None => None,
         }
     }
 
-    /// Hears a squitter of an address, and puts the address at the end. An address that is there takes no memory.
+    /// Hears a squitter of an address, and puts the address at the end. An address that is there takes no memory. There
+    /// is room for 2^32 addresses.
     #[inline(always)]
     pub fn hear_last(
         &mut self,
@@ -202,7 +234,8 @@ impl Contacts {
         address: u32,
         squitter: &Squitter,
     ) -> Result<Heard, AllocError>
-        requires { (squitter_parts squitter.now).address ≡ address }
+        requires sender { (squitter_parts squitter.now).address ≡ address }
+        requires room { length self.old < 2 ^ 32 }
         ensures ok { IfOk result (λ heard. (after : Contact)
             × IsContactHearing window_ms (option_copied site.entry) moment squitter.now
             (contact_of self.old address) heard after
@@ -210,8 +243,13 @@ impl Contacts {
         ensures err { OnErr result (self.new ≡ self.old) }
         ensures absent { OnErr result (lookup (nat_eq address) self.old ≡ None) }
     {
-        let at = reach(&mut self.table, &mut self.oldest, address)?;
-        Ok(hear_at(&mut self.table, at, window_ms, site, moment, squitter))
+        let at = reach(&mut self.table, &mut self.links, &mut self.oldest, address)?;
+        // The links are read before the entry, so that both wait for memory at once. They are written after it: a write
+        // whose place is not known yet would hold up the reads behind it.
+        let own = links_at(&self.links, at);
+        let heard = hear_at(&mut self.table, at, window_ms, site, moment, squitter);
+        self.oldest = put_last(&mut self.links, self.oldest, at, own);
+        Ok(heard)
     }
 
     /// Drops an address.
@@ -219,7 +257,8 @@ impl Contacts {
         ensures { self.new ≡ others_in address self.old }
     {
         if let Some(at) = self.table.get_index_of(&address) {
-            self.oldest = take_out(&mut self.table, self.oldest, at);
+            self.oldest = take_out(&mut self.links, self.oldest, at as u32);
+            remove_at(&mut self.table, at);
         }
     }
 }

@@ -1,194 +1,160 @@
-//! Links between the entries of a table, which lead round through all of them in the order of last hearing.
-ghost use Rattle.std.specs.Prelude.{◌≡◌, ◌≢◌, ℕ, List, ◌+◌, ◌<◌, ◌++◌, [], ◌∷◌, length, map, take, slice_get, nat_eq};
-ghost use Rattle.std.specs.Prelude.{Some, None, if◌then◌else◌, option_copied};
-ghost use Rattle.std.specs.List.{swap_remove};
-ghost use Rattle.std.specs.Map.{lookup};
-ghost use Rattle.indexmap.specs.IndexMap.{index_map_len, values, with_value_at};
-ghost use Rattle.sq_track.specs.Kept.{IsContactHearing};
+//! Links between the indices of a table, which lead round through all of them in the order of last hearing.
+ghost use Rattle.std.specs.Prelude.{◌≡◌, ◌≢◌, ℕ, List, ◌+◌, ◌-◌, ◌^◌, ◌<◌, ◌≤◌, ◌++◌, [], ◌∷◌, length, map, take, nat_eq};
+ghost use Rattle.std.specs.Prelude.{if◌then◌else◌};
 ghost use Rattle.sq_track.specs.Ordered.{others_than};
-ghost use Rattle.sq_track.specs.Ring.{IsEntered, IsLinking, IsOnRound, IsRound, address_at, addresses_in, after_at};
-ghost use Rattle.sq_track.specs.Ring.{before_at, contacts_in, round};
-ghost use Rattle.sq_track.specs.declared.contact.Contact.{Contact};
+ghost use Rattle.sq_track.specs.Ring.{IsEntered, IsLinking, IsOnRound, IsRound, after_at, before_at, renamed, round};
+ghost use Rattle.sq_track.specs.declared.links.Neighbours.{Neighbours};
 
-use crate::contact::Contact;
-use crate::heard::Heard;
-use indexmap::IndexMap;
-use sq_angle::Position;
-use sq_message::Squitter;
-
-/// What a table has of an address.
+/// The links of an index. They take 8 bytes, so that to hear an address touches few lines of memory beside its entry.
 #[derive(Clone, Copy)]
-pub struct Linked {
+pub struct Neighbours {
     /// The index of the address that was heard next before it; of the longest unheard, the index of the last heard.
-    pub before: usize,
+    pub before: u32,
     /// The index of the address that was heard next after it; of the last heard, the index of the longest unheard.
-    pub after: usize,
-    /// What is kept of it.
-    pub contact: Contact,
+    pub after: u32,
 }
 
-// The index that an entry's link leads to.
+// The index that an index's link leads to.
 #[inline(always)]
-fn after(table: &IndexMap<u32, Linked>, at: usize) -> usize
-    requires { at < index_map_len table.now }
-    ensures { result ≡ after_at table.now.entries at }
+fn after(links: &[Neighbours], at: u32) -> u32
+    requires { at < length links.now }
+    ensures { result ≡ after_at links.now at }
 {
-    table[at].after
+    links[at as usize].after
 }
 
-// The index whose link leads to an entry.
+// The index whose link leads to an index.
 #[inline(always)]
-fn before(table: &IndexMap<u32, Linked>, at: usize) -> usize
-    requires { at < index_map_len table.now }
-    ensures { result ≡ before_at table.now.entries at }
+fn before(links: &[Neighbours], at: u32) -> u32
+    requires { at < length links.now }
+    ensures { result ≡ before_at links.now at }
 {
-    table[at].before
+    links[at as usize].before
 }
 
-// Links one entry to another.
+// Links one index to another.
 #[inline(always)]
-fn link(table: &mut IndexMap<u32, Linked>, from: usize, to: usize)
-    requires from { from < index_map_len table.old }
-    requires to { to < index_map_len table.old }
-    ensures { IsLinking from to table.old.entries table.new.entries }
+fn link(links: &mut [Neighbours], from: u32, to: u32)
+    requires from { from < length links.old }
+    requires to { to < length links.old }
+    ensures { IsLinking from to links.old links.new }
 {
-    table[from].after = to;
-    table[to].before = from;
+    links[from as usize].after = to;
+    links[to as usize].before = from;
 }
 
-// Links the entries before and after an index to each other.
+// Links the indices before and after an index to each other.
 #[inline(always)]
-fn pass_over(table: &mut IndexMap<u32, Linked>, at: usize)
-    requires within { at < index_map_len table.old }
-    requires before { before_at table.old.entries at < index_map_len table.old }
-    requires after { after_at table.old.entries at < index_map_len table.old }
-    ensures { IsLinking (before_at table.old.entries at) (after_at table.old.entries at) table.old.entries
-        table.new.entries }
+fn pass_over(links: &mut [Neighbours], at: u32)
+    requires within { at < length links.old }
+    requires before { before_at links.old at < length links.old }
+    requires after { after_at links.old at < length links.old }
+    ensures { IsLinking (before_at links.old at) (after_at links.old at) links.old links.new }
 {
-    let before = before(table, at);
-    let after = after(table, at);
-    link(table, before, after);
+    let before = before(links, at);
+    let after = after(links, at);
+    link(links, before, after);
 }
 
-// Puts the last entry at the end of the round, and answers where that begins.
-pub(crate) fn join(table: &mut IndexMap<u32, Linked>, oldest: usize, at: usize) -> usize
-    requires { IsEntered table.old.entries oldest at }
-    ensures round { IsRound table.new.entries result }
-    ensures order { round table.new.entries result ≡ round (take at table.old.entries) oldest ++ at ∷ [] }
-    ensures contacts { contacts_in table.new.entries ≡ contacts_in table.old.entries }
+// Puts the last index at the end of the round, and returns where the round begins.
+pub(crate) fn join(links: &mut [Neighbours], oldest: u32, at: u32) -> u32
+    requires { IsEntered links.old oldest at }
+    ensures round { IsRound links.new result }
+    ensures order { round links.new result ≡ round (take at links.old) oldest ++ at ∷ [] }
+    ensures len { length links.new ≡ length links.old }
 {
     if at == 0 {
         return at;
     }
-    let newest = before(table, oldest);
-    link(table, newest, at);
-    link(table, at, oldest);
+    let newest = before(links, oldest);
+    link(links, newest, at);
+    link(links, at, oldest);
     oldest
 }
 
-// Puts an entry at the end of the round, and answers where that begins.
+// The links of an index.
 #[inline(always)]
-pub(crate) fn put_last(table: &mut IndexMap<u32, Linked>, oldest: usize, at: usize) -> usize
-    requires { IsOnRound table.old.entries oldest at }
-    ensures round { IsRound table.new.entries result }
-    ensures order { round table.new.entries result ≡ others_than at (round table.old.entries oldest) ++ at ∷ [] }
-    ensures contacts { contacts_in table.new.entries ≡ contacts_in table.old.entries }
+pub(crate) fn links_at(links: &[Neighbours], at: u32) -> Neighbours
+    requires { at < length links.now }
+    ensures before { result.before ≡ before_at links.now at }
+    ensures after { result.after ≡ after_at links.now at }
+{
+    links[at as usize]
+}
+
+// Puts an index with these links at the end of the round, and returns where the round begins.
+#[inline(always)]
+pub(crate) fn put_last(links: &mut [Neighbours], oldest: u32, at: u32, own: Neighbours) -> u32
+    requires on_round { IsOnRound links.old oldest at }
+    requires before { own.before ≡ before_at links.old at }
+    requires after { own.after ≡ after_at links.old at }
+    ensures round { IsRound links.new result }
+    ensures order { round links.new result ≡ others_than at (round links.old oldest) ++ at ∷ [] }
+    ensures len { length links.new ≡ length links.old }
 {
     if at == oldest {
-        return after(table, at);
+        return own.after;
     }
-    pass_over(table, at);
-    let newest = before(table, oldest);
-    link(table, newest, at);
-    link(table, at, oldest);
+    link(links, own.before, own.after);
+    let newest = before(links, oldest);
+    link(links, newest, at);
+    link(links, at, oldest);
     oldest
 }
 
-// Takes an entry out of the round and the table, and answers where the round begins.
-pub(crate) fn take_out(table: &mut IndexMap<u32, Linked>, oldest: usize, at: usize) -> usize
-    requires { IsOnRound table.old.entries oldest at }
-    ensures round { IsRound table.new.entries result }
-    ensures order { addresses_in table.new.entries result
-        ≡ map (address_at table.old.entries) (others_than at (round table.old.entries oldest)) }
-    ensures len { length table.new.entries + 1 ≡ length table.old.entries }
-    ensures contacts { (k : ℕ) → lookup (nat_eq k) (contacts_in table.new.entries)
-        ≡ (if nat_eq (address_at table.old.entries at) k then None
-        else lookup (nat_eq k) (contacts_in table.old.entries)) }
+// Takes an index out of the round, and returns where the round begins. The last index takes the removed one's place.
+pub(crate) fn take_out(links: &mut Vec<Neighbours>, oldest: u32, at: u32) -> u32
+    requires on_round { IsOnRound links.old.items oldest at }
+    requires few { length links.old.items ≤ 2 ^ 32 }
+    ensures round { IsRound links.new.items result }
+    ensures order { round links.new.items result
+        ≡ map (renamed at (length links.old.items - 1)) (others_than at (round links.old.items oldest)) }
+    ensures len { length links.new.items + 1 ≡ length links.old.items }
 {
-    let first = first_without(table, oldest, at);
-    pass_over(table, at);
-    let last = table.len() - 1;
-    rename_last(table, at, last);
-    remove_at(table, at);
-    renamed(first, last, at)
+    let first = first_without(links, oldest, at);
+    pass_over(links, at);
+    let last = (links.len() - 1) as u32;
+    rename_last(links, at, last);
+    links.swap_remove(at as usize);
+    new_name(first, last, at)
 }
 
-// Takes an entry out of the table. The last takes its place.
-fn remove_at(table: &mut IndexMap<u32, Linked>, at: usize)
-    requires { at < index_map_len table.old }
-    ensures entries { (entry : ℕ × Linked) × (table.new.entries ≡ swap_remove table.old.entries at entry) }
-    ensures len { length table.new.entries + 1 ≡ length table.old.entries }
-    ensures contacts { (k : ℕ) → lookup (nat_eq k) (contacts_in table.new.entries)
-        ≡ (if nat_eq (address_at table.old.entries at) k then None
-        else lookup (nat_eq k) (contacts_in table.old.entries)) }
-{
-    table.swap_remove_index(at);
-}
-
-// Where the round begins without an entry.
-fn first_without(table: &IndexMap<u32, Linked>, oldest: usize, at: usize) -> usize
-    requires { at < index_map_len table.now }
-    ensures { result ≡ (if nat_eq oldest at then after_at table.now.entries at else oldest) }
+// Where the round begins without an index.
+fn first_without(links: &[Neighbours], oldest: u32, at: u32) -> u32
+    requires { at < length links.now }
+    ensures { result ≡ (if nat_eq oldest at then after_at links.now at else oldest) }
 {
     if oldest == at {
-        after(table, at)
+        after(links, at)
     } else {
         oldest
     }
 }
 
-// The index that an index has once the last has another.
-fn renamed(index: usize, last: usize, at: usize) -> usize
-    ensures { result ≡ (if nat_eq index last then at else index) }
+// Renames the last index to the removed one.
+fn new_name(index: u32, last: u32, at: u32) -> u32
+    ensures { result ≡ renamed at last index }
 {
     if index == last { at } else { index }
 }
 
-// Links the entries before and after the last to another index, which the last is to have.
-fn rename_last(table: &mut IndexMap<u32, Linked>, at: usize, last: usize)
-    requires within { at < index_map_len table.old }
-    requires last { index_map_len table.old ≡ last + 1 }
-    requires before { before_at table.old.entries last < index_map_len table.old }
-    requires after { after_at table.old.entries last < index_map_len table.old }
-    ensures same { at ≡ last → table.new ≡ table.old }
-    ensures links { at ≢ last → (es : List (ℕ × Linked))
-        × IsLinking (before_at table.old.entries last) at table.old.entries es
-        × IsLinking at (after_at table.old.entries last) es table.new.entries }
-    ensures contacts { contacts_in table.new.entries ≡ contacts_in table.old.entries }
+// Links the indices before and after the last to another index, which the last is to have.
+fn rename_last(links: &mut [Neighbours], at: u32, last: u32)
+    requires within { at < length links.old }
+    requires last { length links.old ≡ last + 1 }
+    requires before { before_at links.old last < length links.old }
+    requires after { after_at links.old last < length links.old }
+    ensures same { at ≡ last → links.new ≡ links.old }
+    ensures links { at ≢ last → (ms : List Neighbours)
+        × IsLinking (before_at links.old last) at links.old ms
+        × IsLinking at (after_at links.old last) ms links.new }
+    ensures len { length links.new ≡ length links.old }
 {
     if at == last {
         return;
     }
-    let before = before(table, last);
-    let after = after(table, last);
-    link(table, before, at);
-    link(table, at, after);
-}
-
-// Hears a squitter of the address at an index.
-#[inline(always)]
-pub(crate) fn hear_at(
-    table: &mut IndexMap<u32, Linked>,
-    at: usize,
-    window_ms: u64,
-    site: Option<&Position>,
-    moment: u64,
-    squitter: &Squitter,
-) -> Heard
-    requires { at < index_map_len table.old }
-    ensures { (before : Linked) × (after : Contact) × (slice_get (values table.old) at ≡ Some before)
-        × IsContactHearing window_ms (option_copied site.entry) moment squitter.now before.contact result after
-        × (table.new ≡ with_value_at table.old at (record before { contact = after })) }
-{
-    table[at].contact.hear(window_ms, site, moment, squitter)
+    let before = before(links, last);
+    let after = after(links, last);
+    link(links, before, at);
+    link(links, at, after);
 }

@@ -5,7 +5,7 @@ use Rattle.std.proofs.lemmas.Bool.{true≢false, eqb-true, eqb-false, eq-eqb, ne
 use Rattle.std.proofs.lemmas.Bool.Decides.{nat_tests}
 use Rattle.std.specs.List.{AllByRecursion, IsDistinct}
 use Rattle.sq_track.specs.Ordered.{others_than, has_address}
-use Rattle.sq_track.specs.Ring.{chain, IsPath, IsPaired, IsRing}
+use Rattle.sq_track.specs.Ring.{chain, renamed, IsPath, IsPaired, IsRing}
 use Rattle.sq_track.proofs.Lists.Found.{same_some, each_weaker}
 use Rattle.sq_track.proofs.Lists.Filters.{filter-cons_yes, filter-cons_no}
 
@@ -259,9 +259,6 @@ joined_backward n one other new back it to within inside elsewhere there from ne
     at k lt = by_to k lt (eqb k to) refl
 
 -- ---- the last index takes the name of one that is out
-
-abbrev pub renamed : (out last : ℕ) → ℕ → ℕ
-renamed out last k = cond (eqb k last) out k
 
 pub below_last : (k last : ℕ) → k < last + 1 → eqb k last ≡ false → k < last
 below_last k last lt e = grind (arith, nat_tests, lt, e)

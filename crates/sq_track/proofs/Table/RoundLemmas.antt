@@ -2,17 +2,16 @@
 use Rattle.std.proofs.Common.{◌≡◌, ℕ, zero, suc, ◌+◌, ◌<◌, Bool, true, false, cond, ◌||◌, eqb, List, [], ◌∷◌, ◌++◌}
 use Rattle.std.proofs.Common.{length, map, not, refl, sym, ap, ◌∙◌, arith, subst, get_or, take}
 use Rattle.std.specs.List.{AllByRecursion, IsDistinct}
-use Rattle.std.specs.Map.{keys_of}
 use Rattle.std.proofs.lemmas.Bool.{eqb-true, eqb-false}
 use Rattle.std.proofs.lemmas.List.{length-map, length-append}
 use Rattle.std.proofs.Common.{◌⊎◌, inl, inr}
 use Rattle.sq_track.specs.Ordered.{others_than, has_address}
-use Rattle.sq_track.specs.Ring.{round, after_at, before_at, address_at, addresses_in, contacts_in, IsPath, IsPaired, IsRing}
+use Rattle.sq_track.specs.Ring.{round, after_at, before_at, renamed, IsPath, IsPaired, IsRing}
 use Rattle.sq_track.specs.Ring.{IsRound, IsOnRound, IsEntered, IsLinking}
-use Rattle.sq_track.specs.declared.links.Linked.{Linked}
+use Rattle.sq_track.specs.declared.links.Neighbours.{Neighbours}
 use Rattle.sq_track.proofs.Lists.Rings.{IsPairedBut, unlinked, joined, turned, opened, closed, chain-length, chain-at}
-use Rattle.sq_track.proofs.Lists.Rings.{paired_more, paired_one, path_same, not_last, renamed, renamed_below}
-use Rattle.sq_track.proofs.Lists.Rings.{renames, renames_none, renamed_paired, renamed_keeps, map_renamed, path-renamed}
+use Rattle.sq_track.proofs.Lists.Rings.{paired_more, paired_one, path_same, not_last, renamed_below}
+use Rattle.sq_track.proofs.Lists.Rings.{renames, renames_none, renamed_paired, path-renamed}
 use Rattle.sq_track.proofs.Lists.Rings.{others_than_last, has_last, all_last, all_both, path-append}
 use Rattle.sq_track.proofs.Lists.Found.{each_weaker}
 use Rattle.sq_track.proofs.Table.LinkLemmas.{front_at, moved_at}
@@ -21,62 +20,47 @@ use Rattle.std.proofs.lemmas.List.{length-take-le}
 use Rattle.sq_track.proofs.Lists.Rings.{all_filter, all_apart, distinct_head, others_than_first, others_than_later, flip_test}
 use Rattle.sq_track.proofs.Table.ContactLemmas.{length-others, one_if}
 
-abbrev Entries : Type 0
-Entries = List (ℕ × Linked)
-
-pub keys_contacts : (es : Entries) → keys_of (contacts_in es) ≡ keys_of es
-keys_contacts [] = refl
-keys_contacts (e ∷ es) = ap (λ l. e.0 ∷ l) (keys_contacts es)
-
--- tables with the same contacts have the same addresses, and are as long
-pub same_keys : (es fs : Entries) → contacts_in fs ≡ contacts_in es → keys_of fs ≡ keys_of es
-same_keys es fs same = sym (keys_contacts fs) ∙ ap keys_of same ∙ keys_contacts es
-
-pub same_length : (es fs : Entries) → contacts_in fs ≡ contacts_in es → length fs ≡ length es
-same_length es fs same =
-    sym (length-map fs (λ e. (e.0, e.1.contact))) ∙ ap length same ∙ length-map es (λ e. (e.0, e.1.contact))
-
-keys-length : (es : Entries) → length (keys_of es) ≡ length es
-keys-length es = length-map es (λ e. e.0)
+abbrev Links : Type 0
+Links = List Neighbours
 
 -- a round that is open as a list of indices
-pub record IsOpen (es : Entries) (first : ℕ) (rest : List ℕ) : Type 0 where
-  pub is : round es first ≡ first ∷ rest
-  pub path : IsPath (after_at es) first rest first
-  pub long : length (first ∷ rest) ≡ length es
-  pub below : AllByRecursion (λ k. k < length es) (first ∷ rest)
+pub record IsOpen (ls : Links) (first : ℕ) (rest : List ℕ) : Type 0 where
+  pub is : round ls first ≡ first ∷ rest
+  pub path : IsPath (after_at ls) first rest first
+  pub long : length (first ∷ rest) ≡ length ls
+  pub below : AllByRecursion (λ k. k < length ls) (first ∷ rest)
 
-pub open_round : (es : Entries) (oldest : ℕ) → 0 < length es → IsRound es oldest
-    → (rest : List ℕ) × IsOpen es oldest rest
-open_round es oldest some is_round =
+pub open_round : (ls : Links) (oldest : ℕ) → 0 < length ls → IsRound ls oldest
+    → (rest : List ℕ) × IsOpen ls oldest rest
+open_round ls oldest some is_round =
     let (rest, is, path) =
-    opened (after_at es) (keys_of es) oldest (omega (arith, some, keys-length es)) is_round.ring in (
+    opened (after_at ls) ls oldest some is_round.ring in (
       rest,
       record {
         is = is;
         path = path;
-        long = ap length (sym is) ∙ chain-length (after_at es) (keys_of es) oldest ∙ keys-length es;
-        below = subst (AllByRecursion (λ k. k < length es)) is
-            (chain-at (after_at es) (λ k. k < length es) is_round.forward.within (keys_of es) oldest
+        long = ap length (sym is) ∙ chain-length (after_at ls) ls oldest;
+        below = subst (AllByRecursion (λ k. k < length ls)) is
+            (chain-at (after_at ls) (λ k. k < length ls) is_round.forward.within ls oldest
             (is_round.within some));
       },
     )
 
-pub close_round : (es : Entries) (first : ℕ) (rest : List ℕ) → first < length es → length (first ∷ rest) ≡ length es
-    → IsPaired (length es) (after_at es) (before_at es) → IsPaired (length es) (before_at es) (after_at es)
-    → IsPath (after_at es) first rest first → IsRound es first × (round es first ≡ first ∷ rest)
-close_round es first rest lt long forward backward path = (
+pub close_round : (ls : Links) (first : ℕ) (rest : List ℕ) → first < length ls → length (first ∷ rest) ≡ length ls
+    → IsPaired (length ls) (after_at ls) (before_at ls) → IsPaired (length ls) (before_at ls) (after_at ls)
+    → IsPath (after_at ls) first rest first → IsRound ls first × (round ls first ≡ first ∷ rest)
+close_round ls first rest lt long forward backward path = (
   record {
     within = λ some. lt;
     forward = forward;
     backward = backward;
-    ring = subst (IsRing (after_at es)) (sym is) path;
+    ring = subst (IsRing (after_at ls)) (sym is) path;
   },
   is,
 )
   where
-    is : round es first ≡ first ∷ rest
-    is = closed (after_at es) (keys_of es) first rest (keys-length es ∙ sym long) path
+    is : round ls first ≡ first ∷ rest
+    is = closed (after_at ls) ls first rest (sym long) path
 
 -- what others are left of a round, and that one more makes it whole
 others-length : (at : ℕ) (is : List ℕ) → IsDistinct eqb is → has_address at is ≡ true
@@ -84,47 +68,47 @@ others-length : (at : ℕ) (is : List ℕ) → IsDistinct eqb is → has_address
 others-length at is d known = omega (arith, length-others at is d, ap one_if known)
 
 -- the oldest goes to the end
-oldest_last : (es : Entries) (oldest : ℕ) → 0 < length es → IsRound es oldest → IsDistinct eqb (round es oldest)
-    → IsRound es (after_at es oldest)
-    × (round es (after_at es oldest) ≡ others_than oldest (round es oldest) ++ oldest ∷ [])
-oldest_last es oldest some is_round d =
-    let (rest, is_open) = open_round es oldest some is_round in
-    let (next, others, made, leads, path) = turned (after_at es) oldest rest is_open.path in
-    let long : length (next ∷ others) ≡ length es =
+oldest_last : (ls : Links) (oldest : ℕ) → 0 < length ls → IsRound ls oldest → IsDistinct eqb (round ls oldest)
+    → IsRound ls (after_at ls oldest)
+    × (round ls (after_at ls oldest) ≡ others_than oldest (round ls oldest) ++ oldest ∷ [])
+oldest_last ls oldest some is_round d =
+    let (rest, is_open) = open_round ls oldest some is_round in
+    let (next, others, made, leads, path) = turned (after_at ls) oldest rest is_open.path in
+    let long : length (next ∷ others) ≡ length ls =
     ap length (sym made) ∙ omega (arith, length-append rest (oldest ∷ []), is_open.long) in
-    let done = close_round es next others
-    (subst (λ k. k < length es) leads (is_round.forward.within oldest (is_round.within some))) long
+    let done = close_round ls next others
+    (subst (λ k. k < length ls) leads (is_round.forward.within oldest (is_round.within some))) long
     is_round.forward is_round.backward path in
-    let order : round es next ≡ others_than oldest (round es oldest) ++ oldest ∷ [] = done.1 ∙ sym made
+    let order : round ls next ≡ others_than oldest (round ls oldest) ++ oldest ∷ [] = done.1 ∙ sym made
     ∙ ap (λ l. l ++ oldest ∷ []) (sym (others_than_first oldest rest (subst (IsDistinct eqb) is_open.is d))
     ∙ ap (others_than oldest) (sym is_open.is)) in (
-      subst (IsRound es) (sym leads) done.0,
-      ap (round es) leads ∙ order,
+      subst (IsRound ls) (sym leads) done.0,
+      ap (round ls) leads ∙ order,
     )
 
-pub last_of_oldest : (es : Entries) (oldest at next : ℕ) → IsOnRound es oldest at → at ≡ oldest → next ≡ after_at es at
-    → IsRound es next × (round es next ≡ others_than at (round es oldest) ++ at ∷ [])
-last_of_oldest es oldest at next on same leads =
-    let done = oldest_last es oldest (omega (arith, on.within)) on.is_round on.distinct in
-    let is : next ≡ after_at es oldest = leads ∙ ap (after_at es) same in (
-      subst (IsRound es) (sym is) done.0,
-      ap (round es) is ∙ done.1 ∙ ap (λ i. others_than i (round es oldest) ++ i ∷ []) (sym same),
+pub last_of_oldest : (ls : Links) (oldest at next : ℕ) → IsOnRound ls oldest at → at ≡ oldest → next ≡ after_at ls at
+    → IsRound ls next × (round ls next ≡ others_than at (round ls oldest) ++ at ∷ [])
+last_of_oldest ls oldest at next on same leads =
+    let done = oldest_last ls oldest (omega (arith, on.within)) on.is_round on.distinct in
+    let is : next ≡ after_at ls oldest = leads ∙ ap (after_at ls) same in (
+      subst (IsRound ls) (sym is) done.0,
+      ap (round ls) is ∙ done.1 ∙ ap (λ i. others_than i (round ls oldest) ++ i ∷ []) (sym same),
     )
 
 -- what is known of a round from which an entry other than the first is passed over
-pub record IsPassed (n at first : ℕ) (rest : List ℕ) (fs : Entries) : Type 0 where
-  pub forward : IsPairedBut n at (after_at fs) (before_at fs)
-  pub backward : IsPairedBut n at (before_at fs) (after_at fs)
-  pub path : IsPath (after_at fs) first (others_than at rest) first
+pub record IsPassed (n at first : ℕ) (rest : List ℕ) (ms : Links) : Type 0 where
+  pub forward : IsPairedBut n at (after_at ms) (before_at ms)
+  pub backward : IsPairedBut n at (before_at ms) (after_at ms)
+  pub path : IsPath (after_at ms) first (others_than at rest) first
 
-pub passed : (es fs : Entries) (at first : ℕ) (rest : List ℕ) → at < length es → first < length es
-    → IsPaired (length es) (after_at es) (before_at es) → IsPaired (length es) (before_at es) (after_at es)
-    → eqb first at ≡ false → has_address at rest ≡ true → IsPath (after_at es) first rest first
-    → IsLinking (before_at es at) (after_at es at) es fs
-    → IsPassed (length es) at first rest fs
-passed es fs at first rest within lt forward backward apart known path link =
+pub passed : (ls ms : Links) (at first : ℕ) (rest : List ℕ) → at < length ls → first < length ls
+    → IsPaired (length ls) (after_at ls) (before_at ls) → IsPaired (length ls) (before_at ls) (after_at ls)
+    → eqb first at ≡ false → has_address at rest ≡ true → IsPath (after_at ls) first rest first
+    → IsLinking (before_at ls at) (after_at ls at) ls ms
+    → IsPassed (length ls) at first rest ms
+passed ls ms at first rest within lt forward backward apart known path link =
     let three =
-    unlinked (length es) (after_at es) (before_at es) forward backward at first rest (after_at fs) (before_at fs)
+    unlinked (length ls) (after_at ls) (before_at ls) forward backward at first rest (after_at ms) (before_at ms)
     within lt apart known path link.after link.before in
     record { forward = three.0; backward = three.1; path = three.2 }
 
@@ -133,82 +117,80 @@ either_within n i j true l r = l
 either_within n i j false l r = r
 
 -- what leads to an entry, once another is passed over
-pub before_within : (es fs : Entries) (at k : ℕ) → at < length es → k < length es
-    → IsPaired (length es) (before_at es) (after_at es)
-    → IsLinking (before_at es at) (after_at es at) es fs → before_at fs k < length fs
-before_within es fs at k within lt backward over =
+pub before_within : (ls ms : Links) (at k : ℕ) → at < length ls → k < length ls
+    → IsPaired (length ls) (before_at ls) (after_at ls)
+    → IsLinking (before_at ls at) (after_at ls at) ls ms → before_at ms k < length ms
+before_within ls ms at k within lt backward over =
     omega (
       arith,
-      same_length es fs over.contacts,
-      subst (λ j. j < length es) (sym (over.before k))
-          (either_within (length es) (before_at es at) (before_at es k) (eqb k (after_at es at))
+      over.long,
+      subst (λ j. j < length ls) (sym (over.before k))
+          (either_within (length ls) (before_at ls at) (before_at ls k) (eqb k (after_at ls at))
           (backward.within at within)
           (backward.within k lt)),
     )
 
-pub after_within : (es fs : Entries) (at k : ℕ) → at < length es → k < length es
-    → IsPaired (length es) (after_at es) (before_at es)
-    → IsLinking (before_at es at) (after_at es at) es fs → after_at fs k < length fs
-after_within es fs at k within lt forward over =
+pub after_within : (ls ms : Links) (at k : ℕ) → at < length ls → k < length ls
+    → IsPaired (length ls) (after_at ls) (before_at ls)
+    → IsLinking (before_at ls at) (after_at ls at) ls ms → after_at ms k < length ms
+after_within ls ms at k within lt forward over =
     omega (
       arith,
-      same_length es fs over.contacts,
-      subst (λ j. j < length es) (sym (over.after k))
-          (either_within (length es) (after_at es at) (after_at es k) (eqb k (before_at es at))
+      over.long,
+      subst (λ j. j < length ls) (sym (over.after k))
+          (either_within (length ls) (after_at ls at) (after_at ls k) (eqb k (before_at ls at))
           (forward.within at within)
           (forward.within k lt)),
     )
 
 -- an entry that is in no round goes in before the first
-pub put_in : (es fs gs : Entries) (at first : ℕ) (rest : List ℕ) → at < length es → first < length es
-    → length (first ∷ rest) + 1 ≡ length es
-    → IsPairedBut (length es) at (after_at es) (before_at es) → IsPairedBut (length es) at (before_at es) (after_at es)
-    → eqb first at ≡ false → AllByRecursion (λ k. k < length es) rest
+pub put_in : (ls ms ns : Links) (at first : ℕ) (rest : List ℕ) → at < length ls → first < length ls
+    → length (first ∷ rest) + 1 ≡ length ls
+    → IsPairedBut (length ls) at (after_at ls) (before_at ls) → IsPairedBut (length ls) at (before_at ls) (after_at ls)
+    → eqb first at ≡ false → AllByRecursion (λ k. k < length ls) rest
     → AllByRecursion (λ k. eqb k at ≡ false) rest → AllByRecursion (λ k. eqb k first ≡ false) rest
-    → IsPath (after_at es) first rest first
-    → IsLinking (before_at es first) at es fs → IsLinking at first fs gs
-    → IsRound gs first × (round gs first ≡ first ∷ (rest ++ at ∷ [])) × (contacts_in gs ≡ contacts_in es)
-put_in es fs gs at first rest within lt long forward backward apart below others elsewhere path one two =
-    let contacts : contacts_in gs ≡ contacts_in es = two.contacts ∙ one.contacts in
-    let same : length gs ≡ length es = same_length es gs contacts in
+    → IsPath (after_at ls) first rest first
+    → IsLinking (before_at ls first) at ls ms → IsLinking at first ms ns
+    → IsRound ns first × (round ns first ≡ first ∷ (rest ++ at ∷ []))
+put_in ls ms ns at first rest within lt long forward backward apart below others elsewhere path one two =
+    let same : length ns ≡ length ls = two.long ∙ one.long in
     let three =
-    joined (length es) at (after_at es) (before_at es) forward backward first rest (after_at gs) (before_at gs)
+    joined (length ls) at (after_at ls) (before_at ls) forward backward first rest (after_at ns) (before_at ns)
     within lt apart below others elsewhere path
     (λ k. two.after k ∙ ap (λ j. cond (eqb k at) first j) (one.after k))
     (λ k. two.before k ∙ ap (λ j. cond (eqb k first) at j) (one.before k)) in
-    let done = close_round gs first (rest ++ at ∷ []) (omega (arith, lt, same))
+    close_round ns first (rest ++ at ∷ []) (omega (arith, lt, same))
     (omega (arith, long, same, length-append rest (at ∷ [])))
-    (subst (λ n. IsPaired n (after_at gs) (before_at gs)) (sym same) three.0)
-    (subst (λ n. IsPaired n (before_at gs) (after_at gs)) (sym same) three.1) three.2 in
-    (done.0, done.1, contacts)
+    (subst (λ n. IsPaired n (after_at ns) (before_at ns)) (sym same) three.0)
+    (subst (λ n. IsPaired n (before_at ns) (after_at ns)) (sym same) three.1) three.2
 
 -- an entry that is not the oldest goes to the end
-pub last_of_other : (es fs gs hs : Entries) (oldest at : ℕ) → IsOnRound es oldest at → eqb at oldest ≡ false
-    → IsLinking (before_at es at) (after_at es at) es fs
-    → IsLinking (before_at fs oldest) at fs gs → IsLinking at oldest gs hs
-    → IsRound hs oldest × (round hs oldest ≡ others_than at (round es oldest) ++ at ∷ [])
-last_of_other es fs gs hs oldest at on apart over one two =
-    let some : 0 < length es = omega (arith, on.within) in
-    let (rest, is_open) = open_round es oldest some on.is_round in
-    let lt : oldest < length es = on.is_round.within some in
+pub last_of_other : (ls ms ns os : Links) (oldest at : ℕ) → IsOnRound ls oldest at → eqb at oldest ≡ false
+    → IsLinking (before_at ls at) (after_at ls at) ls ms
+    → IsLinking (before_at ms oldest) at ms ns → IsLinking at oldest ns os
+    → IsRound os oldest × (round os oldest ≡ others_than at (round ls oldest) ++ at ∷ [])
+last_of_other ls ms ns os oldest at on apart over one two =
+    let some : 0 < length ls = omega (arith, on.within) in
+    let (rest, is_open) = open_round ls oldest some on.is_round in
+    let lt : oldest < length ls = on.is_round.within some in
     let differ : eqb oldest at ≡ false = flip_test at oldest apart in
     let there : has_address at rest ≡ true =
     ap (λ b. b || has_address at rest) (sym apart) ∙ ap (has_address at) (sym is_open.is) ∙ on.known in
     let distinct : IsDistinct eqb (oldest ∷ rest) = subst (IsDistinct eqb) is_open.is on.distinct in
     let off =
-    passed es fs at oldest rest on.within lt on.is_round.forward on.is_round.backward differ there is_open.path over in
-    let same : length fs ≡ length es = same_length es fs over.contacts in
-    let left : others_than at (round es oldest) ≡ oldest ∷ others_than at rest =
+    passed ls ms at oldest rest on.within lt on.is_round.forward on.is_round.backward differ there is_open.path over in
+    let same : length ms ≡ length ls = over.long in
+    let left : others_than at (round ls oldest) ≡ oldest ∷ others_than at rest =
     ap (others_than at) is_open.is ∙ others_than_later at oldest rest differ in
-    let count : length (others_than at (round es oldest)) + 1 ≡ length (round es oldest) =
-    others-length at (round es oldest) on.distinct on.known in
-    let done = put_in fs gs hs at oldest (others_than at rest) (omega (arith, on.within, same))
+    let count : length (others_than at (round ls oldest)) + 1 ≡ length (round ls oldest) =
+    others-length at (round ls oldest) on.distinct on.known in
+    let done = put_in ms ns os at oldest (others_than at rest) (omega (arith, on.within, same))
     (omega (arith, lt, same))
     (omega (arith, ap length left, count, ap length is_open.is, is_open.long, same))
-    (subst (λ n. IsPairedBut n at (after_at fs) (before_at fs)) (sym same) off.forward)
-    (subst (λ n. IsPairedBut n at (before_at fs) (after_at fs)) (sym same) off.backward) differ
+    (subst (λ n. IsPairedBut n at (after_at ms) (before_at ms)) (sym same) off.forward)
+    (subst (λ n. IsPairedBut n at (before_at ms) (after_at ms)) (sym same) off.backward) differ
     (subst (λ n. AllByRecursion (λ k. k < n) (others_than at rest)) (sym same)
-    (all_filter (λ k. k < length es) (λ k. not (eqb k at)) rest is_open.below.1))
+    (all_filter (λ k. k < length ls) (λ k. not (eqb k at)) rest is_open.below.1))
     (all_apart at rest)
     (all_filter (λ k. eqb k oldest ≡ false) (λ k. not (eqb k at)) rest (distinct_head oldest rest distinct))
     off.path one two in
@@ -216,101 +198,101 @@ last_of_other es fs gs hs oldest at on apart over one two =
 
 -- ---- a new entry goes to the end
 
-pub last_of_one : (es : Entries) (oldest at : ℕ) → IsEntered es oldest at → at ≡ 0
-    → IsRound es at × (round es at ≡ round (take at es) oldest ++ at ∷ [])
-last_of_one es oldest at new first =
-    let done = close_round es at [] (omega (arith, new.last)) (omega (arith, new.last, first))
-    (paired_one (length es) at (after_at es) (before_at es) new.last first new.after new.before)
-    (paired_one (length es) at (before_at es) (after_at es) new.last first new.before new.after) new.after in
-    (done.0, done.1 ∙ ap (λ n. round (take n es) oldest ++ at ∷ []) (sym first))
+pub last_of_one : (ls : Links) (oldest at : ℕ) → IsEntered ls oldest at → at ≡ 0
+    → IsRound ls at × (round ls at ≡ round (take at ls) oldest ++ at ∷ [])
+last_of_one ls oldest at new first =
+    let done = close_round ls at [] (omega (arith, new.last)) (omega (arith, new.last, first))
+    (paired_one (length ls) at (after_at ls) (before_at ls) new.last first new.after new.before)
+    (paired_one (length ls) at (before_at ls) (after_at ls) new.last first new.before new.after) new.after in
+    (done.0, done.1 ∙ ap (λ n. round (take n ls) oldest ++ at ∷ []) (sym first))
 
-pub newest_of_front : (es : Entries) (oldest at : ℕ) → IsEntered es oldest at → (at ≡ 0 → ⊥)
-    → before_at es oldest < length es
-newest_of_front es oldest at new more =
-    let front : length (take at es) ≡ at = length-take-le at es (omega (arith, new.last)) in
-    let lt : oldest < length (take at es) = new.is_round.within (omega (arith, front, more)) in
-    let bound : before_at (take at es) oldest < length (take at es) = new.is_round.backward.within oldest lt in
-    subst (λ i. i < length es) (sym (front_at (λ e. e.1.before) es at oldest (omega (arith, front, lt))))
+pub newest_of_front : (ls : Links) (oldest at : ℕ) → IsEntered ls oldest at → (at ≡ 0 → ⊥)
+    → before_at ls oldest < length ls
+newest_of_front ls oldest at new more =
+    let front : length (take at ls) ≡ at = length-take-le at ls (omega (arith, new.last)) in
+    let lt : oldest < length (take at ls) = new.is_round.within (omega (arith, front, more)) in
+    let bound : before_at (take at ls) oldest < length (take at ls) = new.is_round.backward.within oldest lt in
+    subst (λ i. i < length ls) (sym (front_at (λ l. l.before) ls at oldest (omega (arith, front, lt))))
     (omega (arith, bound, front, new.last))
 
-pub last_of_new : (es gs hs : Entries) (oldest at : ℕ) → IsEntered es oldest at → (at ≡ 0 → ⊥)
-    → IsLinking (before_at es oldest) at es gs → IsLinking at oldest gs hs
-    → IsRound hs oldest × (round hs oldest ≡ round (take at es) oldest ++ at ∷ []) × (contacts_in hs ≡ contacts_in es)
-last_of_new es gs hs oldest at new more one two =
+pub last_of_new : (ls ns os : Links) (oldest at : ℕ) → IsEntered ls oldest at → (at ≡ 0 → ⊥)
+    → IsLinking (before_at ls oldest) at ls ns → IsLinking at oldest ns os
+    → IsRound os oldest × (round os oldest ≡ round (take at ls) oldest ++ at ∷ [])
+last_of_new ls ns os oldest at new more one two =
     let long = new.last in
-    let front : length (take at es) ≡ at = length-take-le at es (omega (arith, long)) in
-    let some : 0 < length (take at es) = omega (arith, front, more) in
-    let (rest, is_open) = open_round (take at es) oldest some new.is_round in
+    let front : length (take at ls) ≡ at = length-take-le at ls (omega (arith, long)) in
+    let some : 0 < length (take at ls) = omega (arith, front, more) in
+    let (rest, is_open) = open_round (take at ls) oldest some new.is_round in
     let lt : oldest < at = omega (arith, front, new.is_round.within some) in
     let below : AllByRecursion (λ k. k < at) rest =
     subst (λ n. AllByRecursion (λ k. k < n) rest) front is_open.below.1 in
-    let forward : IsPairedBut (at + 1) at (after_at es) (before_at es) =
-    paired_more at (after_at (take at es)) (before_at (take at es)) (after_at es) (before_at es)
-    (subst (λ n. IsPaired n (after_at (take at es)) (before_at (take at es))) front new.is_round.forward)
-    (λ k k_lt. front_at (λ e. e.1.after) es at k k_lt) (λ k k_lt. front_at (λ e. e.1.before) es at k k_lt) in
-    let backward : IsPairedBut (at + 1) at (before_at es) (after_at es) =
-    paired_more at (before_at (take at es)) (after_at (take at es)) (before_at es) (after_at es)
-    (subst (λ n. IsPaired n (before_at (take at es)) (after_at (take at es))) front new.is_round.backward)
-    (λ k k_lt. front_at (λ e. e.1.before) es at k k_lt) (λ k k_lt. front_at (λ e. e.1.after) es at k k_lt) in
-    let done = put_in es gs hs at oldest rest (omega (arith, long)) (omega (arith, long, lt))
+    let forward : IsPairedBut (at + 1) at (after_at ls) (before_at ls) =
+    paired_more at (after_at (take at ls)) (before_at (take at ls)) (after_at ls) (before_at ls)
+    (subst (λ n. IsPaired n (after_at (take at ls)) (before_at (take at ls))) front new.is_round.forward)
+    (λ k k_lt. front_at (λ l. l.after) ls at k k_lt) (λ k k_lt. front_at (λ l. l.before) ls at k k_lt) in
+    let backward : IsPairedBut (at + 1) at (before_at ls) (after_at ls) =
+    paired_more at (before_at (take at ls)) (after_at (take at ls)) (before_at ls) (after_at ls)
+    (subst (λ n. IsPaired n (before_at (take at ls)) (after_at (take at ls))) front new.is_round.backward)
+    (λ k k_lt. front_at (λ l. l.before) ls at k k_lt) (λ k k_lt. front_at (λ l. l.after) ls at k k_lt) in
+    let done = put_in ls ns os at oldest rest (omega (arith, long)) (omega (arith, long, lt))
     (omega (arith, long, front, is_open.long))
-    (subst (λ n. IsPairedBut n at (after_at es) (before_at es)) (sym long) forward)
-    (subst (λ n. IsPairedBut n at (before_at es) (after_at es)) (sym long) backward)
+    (subst (λ n. IsPairedBut n at (after_at ls) (before_at ls)) (sym long) forward)
+    (subst (λ n. IsPairedBut n at (before_at ls) (after_at ls)) (sym long) backward)
     (not_last oldest at lt)
-    (each_weaker (λ k. k < at) (λ k. k < length es) rest (λ k k_lt. omega (arith, k_lt, long)) below)
+    (each_weaker (λ k. k < at) (λ k. k < length ls) rest (λ k k_lt. omega (arith, k_lt, long)) below)
     (each_weaker (λ k. k < at) (λ k. eqb k at ≡ false) rest (λ k k_lt. not_last k at k_lt) below)
     (distinct_head oldest rest (subst (IsDistinct eqb) is_open.is new.distinct))
-    (path_same at (after_at (take at es)) (after_at es) (λ k k_lt. front_at (λ e. e.1.after) es at k k_lt) oldest rest
+    (path_same at (after_at (take at ls)) (after_at ls) (λ k k_lt. front_at (λ l. l.after) ls at k k_lt) oldest rest
     oldest lt
     below is_open.path) one two in
-    (done.0, done.1 ∙ ap (λ l. l ++ at ∷ []) (sym is_open.is), done.2)
+    (done.0, done.1 ∙ ap (λ l. l ++ at ∷ []) (sym is_open.is))
 
 -- ---- an entry goes
 
 -- a round that begins elsewhere than at an entry
-pub record IsStart (es : Entries) (oldest at first : ℕ) (rest : List ℕ) : Type 0 where
-  pub path : IsPath (after_at es) first rest first
+pub record IsStart (ls : Links) (oldest at first : ℕ) (rest : List ℕ) : Type 0 where
+  pub path : IsPath (after_at ls) first rest first
   pub apart : eqb first at ≡ false
   pub known : has_address at rest ≡ true
-  pub below : AllByRecursion (λ k. k < length es) (first ∷ rest)
-  pub left : others_than at (round es oldest) ≡ first ∷ others_than at rest
+  pub below : AllByRecursion (λ k. k < length ls) (first ∷ rest)
+  pub left : others_than at (round ls oldest) ≡ first ∷ others_than at rest
 
-start_at_next : (es : Entries) (oldest : ℕ) (rest : List ℕ) → 1 < length es → IsDistinct eqb (oldest ∷ rest)
-    → IsOpen es oldest rest → (others : List ℕ) × IsStart es oldest oldest (after_at es oldest) others
-start_at_next es oldest [] more d is_open = absurd (omega (arith, more, is_open.long))
-start_at_next es oldest (i ∷ is) more d is_open =
+start_at_next : (ls : Links) (oldest : ℕ) (rest : List ℕ) → 1 < length ls → IsDistinct eqb (oldest ∷ rest)
+    → IsOpen ls oldest rest → (others : List ℕ) × IsStart ls oldest oldest (after_at ls oldest) others
+start_at_next ls oldest [] more d is_open = absurd (omega (arith, more, is_open.long))
+start_at_next ls oldest (i ∷ is) more d is_open =
     let apart = distinct_head oldest (i ∷ is) d in (
       is ++ oldest ∷ [],
-      subst (λ k. IsStart es oldest oldest k (is ++ oldest ∷ [])) (sym is_open.path.0) (record {
-        path = path-append (after_at es) i is oldest i is_open.path.1 is_open.path.0;
+      subst (λ k. IsStart ls oldest oldest k (is ++ oldest ∷ [])) (sym is_open.path.0) (record {
+        path = path-append (after_at ls) i is oldest i is_open.path.1 is_open.path.0;
         apart = apart.0;
         known = has_last oldest is;
-        below = (is_open.below.1.0, all_last (λ k. k < length es) is oldest is_open.below.1.1 is_open.below.0);
+        below = (is_open.below.1.0, all_last (λ k. k < length ls) is oldest is_open.below.1.1 is_open.below.0);
         left = ap (others_than oldest) is_open.is ∙ others_than_first oldest (i ∷ is) d
             ∙ ap (λ l. i ∷ l) (sym (others_than_last oldest is apart.1));
       }),
     )
 
-start : (es : Entries) (oldest at first : ℕ) → 1 < length es → IsOnRound es oldest at
-    → first ≡ cond (eqb oldest at) (after_at es at) oldest
-    → (rest : List ℕ) × IsStart es oldest at first rest
-start es oldest at first more on is = by (eqb oldest at) refl
+start : (ls : Links) (oldest at first : ℕ) → 1 < length ls → IsOnRound ls oldest at
+    → first ≡ cond (eqb oldest at) (after_at ls at) oldest
+    → (rest : List ℕ) × IsStart ls oldest at first rest
+start ls oldest at first more on is = by (eqb oldest at) refl
   where
-    by : (b : Bool) → eqb oldest at ≡ b → (rest : List ℕ) × IsStart es oldest at first rest
+    by : (b : Bool) → eqb oldest at ≡ b → (rest : List ℕ) × IsStart ls oldest at first rest
     by true e =
-        let (rest, is_open) = open_round es oldest (omega (arith, more)) on.is_round in
+        let (rest, is_open) = open_round ls oldest (omega (arith, more)) on.is_round in
         let same : oldest ≡ at = eqb-true oldest at e in
         let (others, begun) =
-        start_at_next es oldest rest more (subst (IsDistinct eqb) is_open.is on.distinct) is_open in (
+        start_at_next ls oldest rest more (subst (IsDistinct eqb) is_open.is on.distinct) is_open in (
           others,
-          subst (λ k. IsStart es oldest k first others) same
-              (subst (λ k. IsStart es oldest oldest k others)
-              (sym (is ∙ ap (λ b. cond b (after_at es at) oldest) e ∙ ap (after_at es) (sym same))) begun),
+          subst (λ k. IsStart ls oldest k first others) same
+              (subst (λ k. IsStart ls oldest oldest k others)
+              (sym (is ∙ ap (λ b. cond b (after_at ls at) oldest) e ∙ ap (after_at ls) (sym same))) begun),
         )
     by false e =
-        let (rest, is_open) = open_round es oldest (omega (arith, more)) on.is_round in (
+        let (rest, is_open) = open_round ls oldest (omega (arith, more)) on.is_round in (
           rest,
-          subst (λ k. IsStart es oldest at k rest) (sym (is ∙ ap (λ b. cond b (after_at es at) oldest) e)) (record {
+          subst (λ k. IsStart ls oldest at k rest) (sym (is ∙ ap (λ b. cond b (after_at ls at) oldest) e)) (record {
             path = is_open.path;
             apart = e;
             known = ap (λ b. b || has_address at rest) (sym (flip_test oldest at e))
@@ -322,79 +304,79 @@ start es oldest at first more on is = by (eqb oldest at) refl
         )
 
 -- the links after the last entry has taken another's place
-pub record IsMoved (at last : ℕ) (es fs : Entries) : Type 0 where
+pub record IsMoved (at last : ℕ) (ls ms : Links) : Type 0 where
   pub after : (k : ℕ) → k < last + 1 → eqb k at ≡ false
-      → after_at fs (renamed at last k) ≡ renamed at last (after_at es k)
+      → after_at ms (renamed at last k) ≡ renamed at last (after_at ls k)
   pub before : (k : ℕ) → k < last + 1 → eqb k at ≡ false
-      → before_at fs (renamed at last k) ≡ renamed at last (before_at es k)
+      → before_at ms (renamed at last k) ≡ renamed at last (before_at ls k)
 
-pub moved_itself : (es fs : Entries) (at last : ℕ) (p : ℕ × Linked) → length es ≡ last + 1 → at < length es
+pub moved_itself : (ls ms : Links) (at last : ℕ) (p : Neighbours) → length ls ≡ last + 1 → at < length ls
     → eqb last at ≡ true
-    → IsPairedBut (last + 1) at (after_at es) (before_at es) → IsPairedBut (last + 1) at (before_at es) (after_at es)
-    → fs ≡ swap_remove es at p → IsMoved at last es fs
-moved_itself es fs at last p long within same forward backward is = record {
-  after = renames_none last (after_at es) (before_at es) (after_at fs) at same forward
-      (λ j lt. ap (λ l. get_or (map (λ (e : ℕ × Linked). e.1.after) l) j 0) is
-      ∙ moved_at (λ e. e.1.after) es at j last p within long lt
-      ∙ ap (λ b. cond b (after_at es last) (after_at es j)) (elsewhere j lt));
-  before = renames_none last (before_at es) (after_at es) (before_at fs) at same backward
-      (λ j lt. ap (λ l. get_or (map (λ (e : ℕ × Linked). e.1.before) l) j 0) is
-      ∙ moved_at (λ e. e.1.before) es at j last p within long lt
-      ∙ ap (λ b. cond b (before_at es last) (before_at es j)) (elsewhere j lt));
+    → IsPairedBut (last + 1) at (after_at ls) (before_at ls) → IsPairedBut (last + 1) at (before_at ls) (after_at ls)
+    → ms ≡ swap_remove ls at p → IsMoved at last ls ms
+moved_itself ls ms at last p long within same forward backward is = record {
+  after = renames_none last (after_at ls) (before_at ls) (after_at ms) at same forward
+      (λ j lt. ap (λ ys. get_or (map (λ (l : Neighbours). l.after) ys) j 0) is
+      ∙ moved_at (λ l. l.after) ls at j last p within long lt
+      ∙ ap (λ b. cond b (after_at ls last) (after_at ls j)) (elsewhere j lt));
+  before = renames_none last (before_at ls) (after_at ls) (before_at ms) at same backward
+      (λ j lt. ap (λ ys. get_or (map (λ (l : Neighbours). l.before) ys) j 0) is
+      ∙ moved_at (λ l. l.before) ls at j last p within long lt
+      ∙ ap (λ b. cond b (before_at ls last) (before_at ls j)) (elsewhere j lt));
 }
   where
     elsewhere : (j : ℕ) → j < last → eqb j at ≡ false
     elsewhere j lt = subst (λ k. eqb j k ≡ false) (eqb-true last at same) (not_last j last lt)
 
-pub moved_other : (es ms gs fs : Entries) (at last : ℕ) (p : ℕ × Linked) → length es ≡ last + 1 → at < length es
+pub moved_other : (ls mid ns ms : Links) (at last : ℕ) (p : Neighbours) → length ls ≡ last + 1 → at < length ls
     → eqb last at ≡ false
-    → IsPairedBut (last + 1) at (after_at es) (before_at es) → IsPairedBut (last + 1) at (before_at es) (after_at es)
-    → IsLinking (before_at es last) at es ms → IsLinking at (after_at es last) ms gs
-    → fs ≡ swap_remove gs at p → IsMoved at last es fs
-moved_other es ms gs fs at last p long within differ forward backward one two is = record {
-  after = renames last (after_at es) (before_at es) (after_at gs) (after_at fs) at (omega (arith, long, within))
+    → IsPairedBut (last + 1) at (after_at ls) (before_at ls) → IsPairedBut (last + 1) at (before_at ls) (after_at ls)
+    → IsLinking (before_at ls last) at ls mid → IsLinking at (after_at ls last) mid ns
+    → ms ≡ swap_remove ns at p → IsMoved at last ls ms
+moved_other ls mid ns ms at last p long within differ forward backward one two is = record {
+  after = renames last (after_at ls) (before_at ls) (after_at ns) (after_at ms) at (omega (arith, long, within))
       differ forward
       backward
-      (λ j e. two.after j ∙ ap (λ b. cond b (after_at es last) (after_at ms j)) e ∙ one.after j)
-      (λ j lt. ap (λ l. get_or (map (λ (e : ℕ × Linked). e.1.after) l) j 0) is
-      ∙ moved_at (λ e. e.1.after) gs at j last p (omega (arith, within, same)) (same ∙ long) lt);
-  before = renames last (before_at es) (after_at es) (before_at gs) (before_at fs) at (omega (arith, long, within))
+      (λ j e. two.after j ∙ ap (λ b. cond b (after_at ls last) (after_at mid j)) e ∙ one.after j)
+      (λ j lt. ap (λ ys. get_or (map (λ (l : Neighbours). l.after) ys) j 0) is
+      ∙ moved_at (λ l. l.after) ns at j last p (omega (arith, within, same)) (same ∙ long) lt);
+  before = renames last (before_at ls) (after_at ls) (before_at ns) (before_at ms) at (omega (arith, long, within))
       differ
       backward forward
       (λ j e. two.before j
-      ∙ ap (λ y. cond (eqb j (after_at es last)) at y)
-      (one.before j ∙ ap (λ b. cond b (before_at es last) (before_at es j)) e))
-      (λ j lt. ap (λ l. get_or (map (λ (e : ℕ × Linked). e.1.before) l) j 0) is
-      ∙ moved_at (λ e. e.1.before) gs at j last p (omega (arith, within, same)) (same ∙ long) lt);
+      ∙ ap (λ y. cond (eqb j (after_at ls last)) at y)
+      (one.before j ∙ ap (λ b. cond b (before_at ls last) (before_at ls j)) e))
+      (λ j lt. ap (λ ys. get_or (map (λ (l : Neighbours). l.before) ys) j 0) is
+      ∙ moved_at (λ l. l.before) ns at j last p (omega (arith, within, same)) (same ∙ long) lt);
 }
   where
-    same : length gs ≡ length es
-    same = same_length es gs (two.contacts ∙ one.contacts)
+    same : length ns ≡ length ls
+    same = two.long ∙ one.long
 
-no_entries : (es : Entries) → length es ≡ 0 → es ≡ []
-no_entries [] none = refl
-no_entries (e ∷ es) none = absurd (omega (arith, none))
+no_links : (ls : Links) → length ls ≡ 0 → ls ≡ []
+no_links [] none = refl
+no_links (l ∷ ls) none = absurd (omega (arith, none))
 
--- without its only entry a table has no round
-left_empty : (es hs : Entries) (oldest at to : ℕ) → length es ≡ 1 → IsOnRound es oldest at → length hs ≡ 0
-    → IsRound hs to × (addresses_in hs to ≡ map (address_at es) (others_than at (round es oldest)))
-left_empty es hs oldest at to one on none = (
-  subst (λ l. IsRound l to) (sym (no_entries hs none)) (record {
+-- without its only index nothing is left of a round
+left_empty : (ls os : Links) (oldest at last to : ℕ) → length ls ≡ 1 → IsOnRound ls oldest at → length os ≡ 0
+    → IsRound os to × (round os to ≡ map (renamed at last) (others_than at (round ls oldest)))
+left_empty ls os oldest at last to one on none = (
+  subst (λ l. IsRound l to) (sym (no_links os none)) (record {
     within = λ lt. absurd (omega (arith, lt));
     forward = record { within = λ k lt. absurd (omega (arith, lt)); back = λ k lt. absurd (omega (arith, lt)) };
     backward = record { within = λ k lt. absurd (omega (arith, lt)); back = λ k lt. absurd (omega (arith, lt)) };
     ring = tt;
   }),
-  ap (λ l. addresses_in l to) (no_entries hs none) ∙ sym (ap (map (address_at es)) left),
+  ap (λ l. round l to) (no_links os none) ∙ sym (ap (map (renamed at last)) left),
 )
   where
-    left : others_than at (round es oldest) ≡ []
+    left : others_than at (round ls oldest) ≡ []
     left =
-        let some : 0 < length es = omega (arith, one) in
-        let (rest, is_open) = open_round es oldest some on.is_round in
-        let lt : oldest < length es = on.is_round.within some in
+        let some : 0 < length ls = omega (arith, one) in
+        let (rest, is_open) = open_round ls oldest some on.is_round in
+        let lt : oldest < length ls = on.is_round.within some in
         let same : at ≡ oldest = omega (arith, on.within, lt, one) in
-        let all : others_than at (round es oldest) ≡ rest = ap (λ i. others_than i (round es oldest)) same
+        let all : others_than at (round ls oldest) ≡ rest = ap (λ i. others_than i (round ls oldest)) same
         ∙ ap (others_than oldest) is_open.is
         ∙ others_than_first oldest rest (subst (IsDistinct eqb) is_open.is on.distinct) in
         all ∙ empty rest (omega (arith, is_open.long, one))
@@ -404,103 +386,81 @@ left_empty es hs oldest at to one on none = (
         empty (i ∷ is) none = absurd (omega (arith, none))
 
 -- without an entry, and with the last in its place
-left_round : (es fs hs : Entries) (oldest at last first : ℕ) (rest : List ℕ) → length es ≡ last + 1
-    → IsOnRound es oldest at → length (round es oldest) ≡ length es
-    → IsStart es oldest at first rest
-    → IsPassed (length es) at first rest fs → IsMoved at last fs hs → length hs ≡ last
-    → ((j : ℕ) → j < last → address_at hs j ≡ cond (eqb j at) (address_at es last) (address_at es j))
-    → IsRound hs (renamed at last first)
-    × (addresses_in hs (renamed at last first) ≡ map (address_at es) (others_than at (round es oldest)))
-left_round es fs hs oldest at last first rest long on whole begun off moved short keys =
+left_round : (ls ms os : Links) (oldest at last first : ℕ) (rest : List ℕ) → length ls ≡ last + 1
+    → IsOnRound ls oldest at → length (round ls oldest) ≡ length ls
+    → IsStart ls oldest at first rest
+    → IsPassed (length ls) at first rest ms → IsMoved at last ms os → length os ≡ last
+    → IsRound os (renamed at last first)
+    × (round os (renamed at last first) ≡ map (renamed at last) (others_than at (round ls oldest)))
+left_round ls ms os oldest at last first rest long on whole begun off moved short =
     let inside : at < last + 1 = omega (arith, on.within, long) in
-    let forward : IsPairedBut (last + 1) at (after_at fs) (before_at fs) =
-    subst (λ n. IsPairedBut n at (after_at fs) (before_at fs)) long off.forward in
-    let backward : IsPairedBut (last + 1) at (before_at fs) (after_at fs) =
-    subst (λ n. IsPairedBut n at (before_at fs) (after_at fs)) long off.backward in
+    let forward : IsPairedBut (last + 1) at (after_at ms) (before_at ms) =
+    subst (λ n. IsPairedBut n at (after_at ms) (before_at ms)) long off.forward in
+    let backward : IsPairedBut (last + 1) at (before_at ms) (after_at ms) =
+    subst (λ n. IsPairedBut n at (before_at ms) (after_at ms)) long off.backward in
     let below : AllByRecursion (λ k. k < last + 1) (first ∷ rest) =
     subst (λ n. AllByRecursion (λ k. k < n) (first ∷ rest)) long begun.below in
     let others = others_than at rest in
     let all : AllByRecursion (λ k. (k < last + 1) × (eqb k at ≡ false)) others =
     all_both (λ k. k < last + 1) (λ k. eqb k at ≡ false) others
     (all_filter (λ k. k < last + 1) (λ k. not (eqb k at)) rest below.1) (all_apart at rest) in
-    let path : IsPath (after_at hs) (renamed at last first) (map (renamed at last) others) (renamed at last first) =
-    path-renamed (after_at fs) (after_at hs) (renamed at last) (λ k. (k < last + 1) × (eqb k at ≡ false))
+    let path : IsPath (after_at os) (renamed at last first) (map (renamed at last) others) (renamed at last first) =
+    path-renamed (after_at ms) (after_at os) (renamed at last) (λ k. (k < last + 1) × (eqb k at ≡ false))
     (λ k h. moved.after k h.0 h.1) first others first (below.0, begun.apart) all off.path in
-    let count : length (first ∷ others) + 1 ≡ length es =
-    ap (λ l. length l + 1) (sym begun.left) ∙ others-length at (round es oldest) on.distinct on.known ∙ whole in
+    let count : length (first ∷ others) + 1 ≡ length ls =
+    ap (λ l. length l + 1) (sym begun.left) ∙ others-length at (round ls oldest) on.distinct on.known ∙ whole in
     let lt : renamed at last first < last = renamed_below at last first inside below.0 begun.apart in
-    let done = close_round hs (renamed at last first) (map (renamed at last) others) (omega (arith, lt, short))
+    let done = close_round os (renamed at last first) (map (renamed at last) others) (omega (arith, lt, short))
     (omega (arith, length-map others (renamed at last), count, long, short))
-    (subst (λ n. IsPaired n (after_at hs) (before_at hs)) (sym short)
-    (renamed_paired last (after_at fs) (before_at fs) (after_at hs) (before_at hs) at inside forward moved.after
+    (subst (λ n. IsPaired n (after_at os) (before_at os)) (sym short)
+    (renamed_paired last (after_at ms) (before_at ms) (after_at os) (before_at os) at inside forward moved.after
     moved.before))
-    (subst (λ n. IsPaired n (before_at hs) (after_at hs)) (sym short)
-    (renamed_paired last (before_at fs) (after_at fs) (before_at hs) (after_at hs) at inside backward moved.before
-    moved.after)) path in (
-      done.0,
-      ap (map (address_at hs)) done.1
-          ∙ map_renamed (address_at es) (address_at hs) (renamed at last) (λ k. (k < last + 1) × (eqb k at ≡ false))
-          (λ k h. renamed_keeps last (address_at es) (address_at hs) at inside keys k h.0 h.1) (first ∷ others)
-          ((below.0, begun.apart), all)
-          ∙ ap (map (address_at es)) (sym begun.left),
-    )
+    (subst (λ n. IsPaired n (before_at os) (after_at os)) (sym short)
+    (renamed_paired last (before_at ms) (after_at ms) (before_at os) (after_at os) at inside backward moved.before
+    moved.after)) path in
+    (done.0, done.1 ∙ ap (map (renamed at last)) (sym begun.left))
 
--- a table without an entry that was passed over, and with the last in its place
-pub taken_out : (es fs gs hs : Entries) (oldest at last first : ℕ) (p : ℕ × Linked) → length es ≡ last + 1
-    → IsOnRound es oldest at
-    → first ≡ cond (eqb oldest at) (after_at es at) oldest
-    → IsLinking (before_at es at) (after_at es at) es fs
-    → (at ≡ last → gs ≡ fs)
+-- the round without an index that was passed over, and with the last in its place
+pub taken_out : (ls ms ns os : Links) (oldest at last first : ℕ) (p : Neighbours) → length ls ≡ last + 1
+    → IsOnRound ls oldest at
+    → first ≡ cond (eqb oldest at) (after_at ls at) oldest
+    → IsLinking (before_at ls at) (after_at ls at) ls ms
+    → (at ≡ last → ns ≡ ms)
     → ((at ≡ last → ⊥)
-    → (ms : Entries) × IsLinking (before_at fs last) at fs ms × IsLinking at (after_at fs last) ms gs)
-    → contacts_in gs ≡ contacts_in fs
-    → hs ≡ swap_remove gs at p → length hs ≡ last
-    → IsRound hs (renamed at last first)
-    × (addresses_in hs (renamed at last first) ≡ map (address_at es) (others_than at (round es oldest)))
-taken_out es fs gs hs oldest at last first p long on is over itself other contacts out short = by (nat_cases last)
+    → (mid : Links) × IsLinking (before_at ms last) at ms mid × IsLinking at (after_at ms last) mid ns)
+    → os ≡ swap_remove ns at p → length os ≡ last
+    → IsRound os (renamed at last first)
+    × (round os (renamed at last first) ≡ map (renamed at last) (others_than at (round ls oldest)))
+taken_out ls ms ns os oldest at last first p long on is over itself other out short = by (nat_cases last)
   where
-    within : at < length es
+    within : at < length ls
     within = on.within
 
-    same : length fs ≡ length es
-    same = same_length es fs over.contacts
-
-    keys : keys_of gs ≡ keys_of es
-    keys = same_keys fs gs contacts ∙ same_keys es fs over.contacts
-
-    long_gs : length gs ≡ last + 1
-    long_gs = same_length fs gs contacts ∙ same ∙ long
-
-    key : (j : ℕ) → j < last → address_at hs j ≡ cond (eqb j at) (address_at es last) (address_at es j)
-    key j lt = ap (λ l. address_at l j) out
-        ∙ moved_at (λ e. e.0) gs at j last p (omega (arith, within, long, long_gs)) long_gs lt
-        ∙ ap (λ l. cond (eqb j at) (get_or l last 0) (get_or l j 0)) keys
+    same : length ms ≡ length ls
+    same = over.long
 
     nat_cases : (n : ℕ) → (n ≡ 0) ⊎ (0 < n)
     nat_cases zero = inl refl
     nat_cases (suc n) = inr (omega arith)
 
-    moved : (b : Bool) → eqb last at ≡ b → IsPairedBut (last + 1) at (after_at fs) (before_at fs)
-        → IsPairedBut (last + 1) at (before_at fs) (after_at fs) → IsMoved at last fs hs
+    moved : (b : Bool) → eqb last at ≡ b → IsPairedBut (last + 1) at (after_at ms) (before_at ms)
+        → IsPairedBut (last + 1) at (before_at ms) (after_at ms) → IsMoved at last ms os
     moved true e forward backward =
-        moved_itself fs hs at last p (same ∙ long) (omega (arith, within, same)) e forward backward
+        moved_itself ms os at last p (same ∙ long) (omega (arith, within, same)) e forward backward
         (out ∙ ap (λ l. swap_remove l at p) (itself (sym (eqb-true last at e))))
     moved false e forward backward =
-        let (ms, one, two) = other (λ s. eqb-false last at e (sym s)) in
-        moved_other fs ms gs hs at last p (same ∙ long) (omega (arith, within, same)) e forward backward one two out
+        let (mid, one, two) = other (λ s. eqb-false last at e (sym s)) in
+        moved_other ms mid ns os at last p (same ∙ long) (omega (arith, within, same)) e forward backward one two out
 
-    whole : length (round es oldest) ≡ length es
-    whole = chain-length (after_at es) (keys_of es) oldest ∙ keys-length es
-
-    by : (last ≡ 0) ⊎ (0 < last) → IsRound hs (renamed at last first)
-        × (addresses_in hs (renamed at last first) ≡ map (address_at es) (others_than at (round es oldest)))
+    by : (last ≡ 0) ⊎ (0 < last) → IsRound os (renamed at last first)
+        × (round os (renamed at last first) ≡ map (renamed at last) (others_than at (round ls oldest)))
     by (inl none) =
-        left_empty es hs oldest at (renamed at last first) (omega (arith, long, none)) on (short ∙ none)
+        left_empty ls os oldest at last (renamed at last first) (omega (arith, long, none)) on (short ∙ none)
     by (inr some) =
-        let (rest, begun) = start es oldest at first (omega (arith, long, some)) on is in
+        let (rest, begun) = start ls oldest at first (omega (arith, long, some)) on is in
         let off =
-        passed es fs at first rest within begun.below.0 on.is_round.forward on.is_round.backward begun.apart begun.known
+        passed ls ms at first rest within begun.below.0 on.is_round.forward on.is_round.backward begun.apart begun.known
         begun.path over in
-        left_round es fs hs oldest at last first rest long on whole begun off
-        (moved (eqb last at) refl (subst (λ n. IsPairedBut n at (after_at fs) (before_at fs)) long off.forward)
-        (subst (λ n. IsPairedBut n at (before_at fs) (after_at fs)) long off.backward)) short key
+        left_round ls ms os oldest at last first rest long on (chain-length (after_at ls) ls oldest) begun off
+        (moved (eqb last at) refl (subst (λ n. IsPairedBut n at (after_at ms) (before_at ms)) long off.forward)
+        (subst (λ n. IsPairedBut n at (before_at ms) (after_at ms)) long off.backward)) short

@@ -8,12 +8,24 @@ use Rattle.std.proofs.lemmas.Bool.{true≢false, false≢true, le-leb, leb-true,
 use Rattle.std.proofs.lemmas.Bool.Decides.{nat_tests}
 use Rattle.sq_track.proofs.Lists.Filters.{filter-cons_yes, filter-cons_no, length-filter_le}
 use Rattle.sq_track.specs.declared.contact.Contact.{Contact}
-use Rattle.sq_track.specs.Ordered.{others_in}
+use Rattle.sq_track.specs.Ordered.{moments_in, others_in}
 use Rattle.sq_track.specs.Entries.{is_fresh, fresh, fresh_entry, IsOrdered}
 use Rattle.sq_track.proofs.Table.EntryLemmas.{count_fresh, one_if}
 
 abbrev Entries : Type 0
 Entries = List (ℕ × Contact)
+
+-- the first entry, by its address and the moment of its newest position
+pub first_entry : (es : Entries) (a t : ℕ) → Some (a, t) ≡ slice_get (moments_in es) 0
+    → (c : Contact) × (Some (a, c) ≡ slice_get es 0) × (c.moment ≡ t)
+first_entry [] a t at = absurd (false≢true (sym (ap is_some at)))
+first_entry (e ∷ es) a t at =
+    let same : (a, t) ≡ (e.0, e.1.moment) = ap (λ o. unwrap_or o (a, t)) at in
+    (e.1, ap (λ (p : ℕ × ℕ). Some (p.0, e.1)) same, ap (λ (p : ℕ × ℕ). p.1) (sym same))
+
+pub no_first : (es : Entries) → None ≡ slice_get (moments_in es) 0 → None ≡ slice_get es 0
+no_first [] at = refl
+no_first (e ∷ es) at = absurd (false≢true (ap is_some at))
 
 -- from a fresh entry on all are fresh
 pub all_fresh : (w m from to : ℕ) (es : Entries) → IsOrdered from to es → m ≤ from + w

@@ -3,22 +3,17 @@ use Rattle.sq_track.proofs.Table.ContactLemmas.{on_err}
 use Rattle.sq_track.proofs.Table.PlaceLemmas.{absent_contact, place, reached_known}
 use Rattle.sq_track.proofs.contacts.reach.Goals as goal
 
-pub put_last-requires : goal.put_last-requires
-put_last-requires c =
-    (place c.args.table.now.entries c.args.oldest.now c.args.address c.in-Some.at c.requires c.in-Some.ensures.unique
-    c.in-Some.ensures.index (sym c.in-Some.ensures.found)).on_round
-
 pub enter-requires-clause-absent : goal.enter-requires-clause-absent
 enter-requires-clause-absent c = absent_contact c.args.table.now.entries c.args.address c.in-None.ensures.found
 
 pub returns-in-Some-clause-ok : goal.returns-in-Some-clause-ok
 returns-in-Some-clause-ok c =
     let es = c.args.table.now.entries in
-    let here = place es c.args.oldest.now c.args.address c.in-Some.at c.requires c.in-Some.ensures.unique
+    let ls = c.args.links.now.items in
+    let here = place es ls c.args.oldest.now c.args.address c.in-Some.at c.requires.linked c.in-Some.ensures.unique
     c.in-Some.ensures.index (sym c.in-Some.ensures.found) in
-    reached_known es c.put_last.new.table.entries c.args.oldest.now c.put_last.result c.args.address c.in-Some.at here
-    c.in-Some.ensures.unique c.in-Some.ensures.value c.put_last.ensures.contacts c.put_last.ensures.round
-    c.put_last.ensures.order
+    reached_known es ls c.args.oldest.now c.args.address c.in-Some.at c.requires.linked here c.in-Some.ensures.unique
+    c.in-Some.ensures.value
 
 pub returns-in-None-clause-absent : goal.returns-in-None-clause-absent
 returns-in-None-clause-absent c =

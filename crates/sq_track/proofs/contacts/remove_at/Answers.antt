@@ -1,5 +1,5 @@
 use Rattle.sq_track.proofs.Table.LinkLemmas.{dropped, shorter}
-use Rattle.sq_track.proofs.links.remove_at.Goals as goal
+use Rattle.sq_track.proofs.contacts.remove_at.Goals as goal
 
 pub returns-clause-entries : goal.returns-clause-entries
 returns-clause-entries c =
