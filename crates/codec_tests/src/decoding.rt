@@ -35,7 +35,7 @@ fn worked_parts(rt: HostRuntime) {
     assert!(rt; indices_near((0, 1), (359, 2)) == Some((0, 59, 3_866_624)));
 }
 
-// References with long fractions. The expected indices are worked in whole numbers, as
+// References with long fractions. The expected indices were computed in whole numbers by
 // base - period * floor((2 * away + width - 1) / (2 * width)).
 //
 // Half a zone from 0 degrees it is the northern or the eastern point, and 1 in the numerator turns that.

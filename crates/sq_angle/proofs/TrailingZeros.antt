@@ -43,11 +43,11 @@ gcd_by_zeros a b t g some small_a small_b is h =
     gcd_of_rest a b t (trailing_zeros w64 b) g (multiple_of_power a t first.0)
     (multiple_of_power b (trailing_zeros w64 b) low.2) (omega (arith, is)) first.1 h
 
--- what is left of a number once its twos are taken out is odd
+-- a number without its factors of two is odd
 pub odd_rest : (n : ℕ) → 0 < n → n < 2 ^ 64 → n / 2 ^ trailing_zeros w64 n % 2 ≡ 1
 odd_rest n some small = (bit_at-trailing_zeros w64 n some small).1
 
--- with an odd number a number has in common what is left of it once its twos are taken out
+-- factors of two do not change the greatest common divisor with an odd number
 pub gcd_by_rest : (x y g : ℕ) → 0 < x → x < 2 ^ 64 → y % 2 ≡ 1 → IsGcd (x / 2 ^ trailing_zeros w64 x) y g → IsGcd x y g
 gcd_by_rest x y g some small odd h =
     let t = trailing_zeros w64 x in
@@ -56,8 +56,8 @@ gcd_by_rest x y g some small odd h =
     let twice : IsGcd y (2 ^ t * rest) g = times_second t y rest g odd (IsGcd-swap rest y g h) in
     IsGcd-swap y x g (subst (λ n. IsGcd y n g) whole twice)
 
--- A step of the binary algorithm: an odd number and what is left of another once its twos are taken out have in common
--- what their difference and the smaller of them have.
+-- A step of the binary algorithm: `x` loses its factors of two, and the difference and the smaller of both keep their
+-- greatest common divisor.
 pub gcd_by_step : (x y d m g : ℕ) → 0 < x → x < 2 ^ 64 → y % 2 ≡ 1 → m ≡ min (x / 2 ^ trailing_zeros w64 x) y
     → d ≡ max (x / 2 ^ trailing_zeros w64 x) y - min (x / 2 ^ trailing_zeros w64 x) y → IsGcd d m g → IsGcd x y g
 gcd_by_step x y d m g some small odd least apart h =
@@ -73,7 +73,7 @@ gcd_by_step x y d m g some small odd least apart h =
           IsGcd-from_sub o y g more (subst₂ (λ a b. IsGcd a b g) is_d is_m h)
     ])
 
--- and the smaller of them is odd
+-- after a step the smaller number is odd
 pub odd_after_step : (x y m : ℕ) → 0 < x → x < 2 ^ 64 → y % 2 ≡ 1 → m ≡ min (x / 2 ^ trailing_zeros w64 x) y → m % 2 ≡ 1
 odd_after_step x y m some small odd least =
     let o : ℕ = x / 2 ^ trailing_zeros w64 x in
@@ -86,7 +86,7 @@ odd_after_step x y m some small odd least =
           subst (λ n. n % 2 ≡ 1) (sym is) odd
     ]
 
--- and both together are smaller
+-- each step makes the sum of both numbers smaller
 pub less_after_step : (x y d m : ℕ) → 0 < x → y % 2 ≡ 1 → m ≡ min (x / 2 ^ trailing_zeros w64 x) y
     → d ≡ max (x / 2 ^ trailing_zeros w64 x) y - min (x / 2 ^ trailing_zeros w64 x) y → d + m < x + y
 less_after_step x y d m some odd least apart =

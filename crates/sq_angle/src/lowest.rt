@@ -43,8 +43,8 @@ fn gcd(a: u64, b: u64) -> u64
     odd_gcd(a >> twos, b >> zeros) << twos
 }
 
-// The greatest common divisor with an odd number: a remainder, and then differences of odd numbers without their twos
-// (the binary algorithm of Stein). A division takes as long as some five of these steps.
+// Returns the greatest common divisor of `a` and the odd `b`: one remainder, then Stein's binary algorithm. A division
+// takes as long as about five of its steps.
 fn odd_gcd(a: u64, b: u64) -> u64
     requires { b % 2 ≡ 1 }
     ensures { IsGcd a b result }
@@ -57,7 +57,7 @@ fn odd_gcd(a: u64, b: u64) -> u64
     y
 }
 
-// The difference of two numbers, and the smaller one.
+// Returns the difference of two numbers, and the smaller one.
 #[inline(always)]
 fn apart(a: u64, b: u64) -> (u64, u64)
     ensures smaller { result.1 ≡ min a b }

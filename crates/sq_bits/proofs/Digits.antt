@@ -62,7 +62,7 @@ AllBelowBase-get_or [] i all = omega arith
 AllBelowBase-get_or (d ∷ ds) zero all = all.0
 AllBelowBase-get_or (d ∷ ds) (suc i) all = AllBelowBase-get_or ds i all.1
 
--- the bytes of a number whose order was turned, the lowest first, are its own, the highest first
+-- swapping the bytes turns little-endian order into big-endian order
 turned_sum_8 : (a b c d e f g h : ℕ)
     → from_be_bytes w64 (a ∷ b ∷ c ∷ d ∷ e ∷ f ∷ g ∷ h ∷ []) ≡ from_le_bytes w64 (h ∷ g ∷ f ∷ e ∷ d ∷ c ∷ b ∷ a ∷ [])
 turned_sum_8 a b c d e f g h = omega arith
@@ -81,7 +81,7 @@ pub turned_2 : (n : ℕ) → to_le_bytes w16 (swap_bytes w16 n) ≡ to_be_bytes 
 turned_2 n = le_bytes_2 (to_be_bytes w16 n) (swap_bytes w16 n) refl
     (λ i. AllBelowBase-get_or (to_be_bytes w16 n) i (omega arith)) (omega arith)
 
--- eight bytes, four and two as the digits of a number
+-- a big-endian word of eight, four or two bytes is the number that has these bytes as digits in base 256
 eight_digits : (a b c d e f g h : ℕ)
     → number_from_digits 256 (a ∷ b ∷ c ∷ d ∷ e ∷ f ∷ g ∷ h ∷ [])
     ≡ from_be_bytes w64 (a ∷ b ∷ c ∷ d ∷ e ∷ f ∷ g ∷ h ∷ [])

@@ -80,7 +80,7 @@ same_sealed f g x y p q e =
     same_sealed_quotient f g x y p q
     (quotient_is f 1 88 x (omega arith) (omega arith) ∙ e ∙ sym (quotient_is g 1 88 y (omega arith) (omega arith)))
 
--- a field that spells a number of two parts: its leading bits spell the first, and the ones after them the second
+-- a field of two parts: its leading bits spell the first part, its trailing bits the second
 pub split_field : (f : Frame) (first a b x y : ℕ) → y < 2 ^ b → field_of f first (a + b) ≡ x * 2 ^ b + y
     → (field_of f first a ≡ x) × (field_of f (first + a) b ≡ y)
 split_field f first a b x y small is =

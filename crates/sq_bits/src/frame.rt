@@ -85,8 +85,8 @@ impl Frame {
         )
     }
 
-    // The frame of its first eight bytes, the next four and the last two, each as one number. LLVM stored a number as
-    // one word where its bytes were swapped first, and `to_be_bytes` byte by byte.
+    // Makes a frame of its first eight bytes, the next four and the last two, each as one number. The bytes are swapped
+    // first since LLVM then stores a number as one word; with `to_be_bytes` it stored single bytes.
     fn from_parts(first: u64, middle: u32, last: u16) -> Frame
         ensures value { frame_number result ≡ (first * 2 ^ 32 + middle) * 2 ^ 16 + last }
         ensures frame { IsFrame result }

@@ -61,8 +61,8 @@ pub(crate) trait TrackFormat {
         ensures { (writers : Writers) → into.new.bytes ≡ telling.text writers number (Err fault) };
 }
 
-/// A form of rows as a type, so that what makes rows is compiled for each form, with its names, commas and braces as
-/// constants.
+/// A form of rows as a type. The functions that write rows are compiled once for each form, so that names, commas and
+/// braces are constants.
 pub(crate) trait RowForm {
     ghost shape: { Form };
 

@@ -46,7 +46,7 @@ decimal_thousands n long fits =
       three_of n,
     ) (simp append_assoc refl)
 
--- a number of seven digits or more, and its last six
+-- a number of seven digits or more is its millions and two groups of three digits
 pub decimal_millions : (n : ℕ) → 1000000 ≤ n → n < 2 ^ 64
     → decimal n ≡ decimal (n / 1000000) ++ (fixed_digits 3 (n / 1000 % 1000) ++ fixed_digits 3 (n % 1000))
 decimal_millions n long fits =
@@ -57,12 +57,12 @@ decimal_millions n long fits =
       first,
     ) (simp append_assoc refl)
 
--- a number with its sign, by its magnitude
+-- a signed number is its sign and the digits of its magnitude
 signed_by_minus : (z : ℤ) → minus_of z ++ decimal (unsigned_abs z) ≡ signed_decimal z
 signed_by_minus (pos n) = refl
 signed_by_minus (negsuc n) = refl
 
--- the sign of a number and then the digits of its magnitude, behind a text
+-- appending the sign and then the digits of the magnitude appends the signed number
 pub signed_pushed : (old signed new : List ℕ) (z n : ℤ) (m : ℕ) → z ≡ n → signed ≡ old ++ minus_of z
     → m ≡ unsigned_abs z → new ≡ signed ++ decimal m → new ≡ old ++ signed_decimal n
 signed_pushed old signed new z n m same front magnitude back =

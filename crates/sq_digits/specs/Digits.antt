@@ -13,7 +13,7 @@ abbrev pub hexadecimal : ℕ → ℕ → List ℕ
 hexadecimal zero n = []
 hexadecimal (suc places) n = hexadecimal places (n / 16) ++ digit_glyph true (n % 16) ∷ []
 
--- what stands before the digits of a number: `-` before a negative one
+-- the sign of a number: `-` for a negative one, else nothing
 abbrev pub minus_of : ℤ → List ℕ
 minus_of (pos n) = []
 minus_of (negsuc n) = 45 ∷ []

@@ -79,8 +79,7 @@ pub fn push_signed_decimal<const N: usize>(text: &mut TextBuffer<N>, number: i64
     push_decimal(text, number.unsigned_abs());
 }
 
-/// Appends a number between -10^6 and 10^6 with its sign in decimal digits, at most seven bytes. There must be room for
-/// eight.
+/// Appends a number between -10^6 and 10^6 with its sign in decimal digits, at most seven bytes. Needs room for eight.
 #[inline(always)]
 pub fn push_signed_short<const N: usize>(text: &mut TextBuffer<N>, number: i64)
     requires small { unsigned_abs number < 1000000 }
@@ -136,7 +135,7 @@ pub fn push_short<const N: usize>(text: &mut TextBuffer<N>, number: u64)
     }
 }
 
-// Appends a number of seven digits or more. Up to fifteen, as moments have, go three at a time.
+// Appends a number of seven digits or more. Up to fifteen digits, as milliseconds have, are written three at a time.
 #[inline(never)]
 fn push_long<const N: usize>(text: &mut TextBuffer<N>, number: u64)
     requires long { 10 ^ 6 ≤ number }
@@ -152,7 +151,7 @@ fn push_long<const N: usize>(text: &mut TextBuffer<N>, number: u64)
     }
 }
 
-// Appends the last six decimal digits of a number, where there is room for one more character.
+// Appends the last six decimal digits of a number. Needs room for seven characters.
 #[inline(always)]
 fn push_last_six<const N: usize>(text: &mut TextBuffer<N>, number: u64)
     requires { text_len text.old + 7 ≤ N }

@@ -1,4 +1,4 @@
--- A field that spells a number of several parts: its bits spell the parts.
+-- Fields of several parts: their bits spell the parts.
 use Rattle.std.proofs.Common.{◌≡◌, ℕ, ◌+◌, ◌*◌, ◌<◌, ◌^◌, Bool, true, false, refl, arith}
 use Rattle.std.specs.Int.{from_bool}
 use Rattle.sq_bits.specs.declared.frame.Frame.{Frame}
@@ -6,7 +6,7 @@ use Rattle.sq_bits.specs.Frames.{field_of}
 use Rattle.sq_bits.proofs.Spelled.{split_field}
 use Rattle.sq_message.specs.Spelling.{bit}
 
--- a Boolean as a number is its bit
+-- `true` spells 1, and `false` spells 0
 pub bit_is : (b : Bool) → (from_bool b ≡ bit b) × (from_bool b < 2)
 bit_is true = (refl, omega arith)
 bit_is false = (refl, omega arith)

@@ -1,5 +1,5 @@
-//! Writing a frame. The 32 bits before the message and its 56 bits are one number each, and the frame is made of both
-//! at once: set field by field, all 14 bytes would become a number and bytes again each time.
+//! Writing a frame. The 32 bits before the message are one number and the 56 bits of the message another. The frame is
+//! made of both at once: setting field by field would convert all 14 bytes to a number and back for each field.
 ghost use Rattle.std.specs.Prelude.{◌≡◌, ◌<◌, ◌^◌};
 ghost use Rattle.sq_bits.specs.declared.frame.Frame.{Frame};
 ghost use Rattle.sq_bits.specs.Frames.{IsFrame, field_of};

@@ -10,7 +10,7 @@ use Rattle.sq_track.specs.declared.links.Neighbours.{Neighbours}
 abbrev pub address_at : List (ℕ × Contact) → ℕ → ℕ
 address_at es i = slice_index (keys_of es) i
 
--- the index that an index's link leads to, and the index that leads to it
+-- the index heard next after an index, and the one heard before it
 abbrev pub after_at : List Neighbours → ℕ → ℕ
 after_at ls i = slice_index (map (λ l. l.after) ls) i
 
@@ -22,14 +22,14 @@ abbrev pub chain : {X : Type 0} → (ℕ → ℕ) → List X → ℕ → List �
 chain after [] i = []
 chain after (x ∷ xs) i = i ∷ chain after xs (after i)
 
--- the indices that have links, in the order of last hearing, and the addresses of a table there
+-- all indices in the order of last hearing, and their addresses in a table
 abbrev pub round : List Neighbours → ℕ → List ℕ
 round ls oldest = chain (after_at ls) ls oldest
 
 abbrev pub addresses_in : List (ℕ × Contact) → List Neighbours → ℕ → List ℕ
 addresses_in es ls oldest = map (address_at es) (round ls oldest)
 
--- the last index is renamed to the removed one, whose place it takes; all others keep theirs
+-- the last index is renamed to the removed one; all others keep their names
 abbrev pub renamed : (out last : ℕ) → ℕ → ℕ
 renamed out last k = if nat_eq k last then out else k
 
@@ -48,14 +48,14 @@ pub record IsPaired (n : ℕ) (one other : ℕ → ℕ) : Type 0 where
   pub within : (k : ℕ) → k < n → one k < n
   pub back : (k : ℕ) → k < n → other (one k) ≡ k
 
--- the links lead from the oldest round through all indices, and back
+-- the links lead from the oldest index through all others and back to it
 pub record IsRound (ls : List Neighbours) (oldest : ℕ) : Type 0 where
   pub within : 0 < length ls → oldest < length ls
   pub forward : IsPaired (length ls) (after_at ls) (before_at ls)
   pub backward : IsPaired (length ls) (before_at ls) (after_at ls)
   pub ring : IsRing (after_at ls) (round ls oldest)
 
--- a table and its round have the same addresses, each once, and a link has room for each index
+-- a table and its round have the same addresses, each once, and each index fits a link of 32 bits
 pub record IsLinkedTable (es : List (ℕ × Contact)) (ls : List Neighbours) (oldest : ℕ) : Type 0 where
   pub tied : IsTied es (addresses_in es ls oldest)
   pub is_round : IsRound ls oldest
@@ -68,7 +68,7 @@ pub record IsOnRound (ls : List Neighbours) (oldest at : ℕ) : Type 0 where
   pub distinct : IsDistinct nat_eq (round ls oldest)
   pub known : has_address at (round ls oldest) ≡ true
 
--- the last index is linked to itself, and those in front of it have a round
+-- the last index is linked to itself, and the indices before it form a round
 pub record IsEntered (ls : List Neighbours) (oldest at : ℕ) : Type 0 where
   pub last : length ls ≡ at + 1
   pub is_round : IsRound (take at ls) oldest
@@ -76,13 +76,13 @@ pub record IsEntered (ls : List Neighbours) (oldest at : ℕ) : Type 0 where
   pub after : after_at ls at ≡ at
   pub before : before_at ls at ≡ at
 
--- the second links are the first, with a link from one index to another
+-- the same links, except that the next index of `from` is `to`, and the previous index of `to` is `from`
 pub record IsLinking (from to : ℕ) (ls ms : List Neighbours) : Type 0 where
   pub after : (k : ℕ) → after_at ms k ≡ (if nat_eq k from then to else after_at ls k)
   pub before : (k : ℕ) → before_at ms k ≡ (if nat_eq k to then from else before_at ls k)
   pub long : length ms ≡ length ls
 
--- an entry was found or made for an address, with what is kept of it, and the others stand in the same order
+-- an address has its old entry or a blank one, and the other addresses keep their order
 pub record IsReached (address at : ℕ) (es fs : List (ℕ × Contact)) (ls ms : List Neighbours) (from to : ℕ)
     : Type 0 where
   pub within : at < length fs

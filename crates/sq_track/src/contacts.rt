@@ -25,8 +25,8 @@ use std::marker::Model;
 #[derive(Drop)]
 pub struct Contacts {
     table: IndexMap<u32, Contact>,
-    // The indices of the table are linked in the order of last hearing, and the last heard to the longest unheard. The
-    // links stand in an array of their own: to hear an address writes those of two others, whose entries stay unread.
+    // Links the indices of the table in the order of last hearing, and the last heard to the longest unheard. An array
+    // apart from the entries: hearing an address writes the links of up to four others and loads none of their entries.
     links: Vec<Neighbours>,
     // The index in the table of the longest unheard address, if there is one.
     oldest: u32,
@@ -45,7 +45,7 @@ impl Model for Contacts {
     ghost invariant = { λ t. IsLinkedTable t.table.entries t.links.items t.oldest };
 }
 
-// The address at an index of the table, with the moment of its newest position.
+// Returns the address at an index of the table, and the moment of its newest position.
 #[inline(always)]
 fn moment_at(table: &IndexMap<u32, Contact>, at: u32) -> Option<(u32, u64)>
     ensures entry { result ≡ slice_get (moments_in table.now.entries) at }
@@ -93,7 +93,7 @@ fn blank() -> Contact
     }
 }
 
-// Finds the entry of an address, or makes one. One that is there takes no memory.
+// Finds the entry of an address, or makes one. A known address takes no memory.
 #[inline(always)]
 fn reach(
     table: &mut IndexMap<u32, Contact>,
@@ -115,8 +115,7 @@ fn reach(
     }
 }
 
-// Makes an entry for an address that is not there, at the end of the round. Where the table takes no entry, the links
-// that were made for it go again.
+// Makes an entry for an absent address, at the end of the round. Takes its links back if the table cannot grow.
 #[inline(never)]
 fn enter(
     table: &mut IndexMap<u32, Contact>,
@@ -223,8 +222,8 @@ impl Contacts {
         }
     }
 
-    /// Hears a squitter of an address, and puts the address at the end. An address that is there takes no memory. There
-    /// is room for 2^32 addresses.
+    /// Hears a squitter of an address, and puts the address at the end. A known address takes no memory. Needs fewer
+    /// than 2^32 addresses.
     #[inline(always)]
     pub fn hear_last(
         &mut self,
@@ -244,8 +243,8 @@ impl Contacts {
         ensures absent { OnErr result (lookup (nat_eq address) self.old ≡ None) }
     {
         let at = reach(&mut self.table, &mut self.links, &mut self.oldest, address)?;
-        // The links are read before the entry, so that both wait for memory at once. They are written after it: a write
-        // whose place is not known yet would hold up the reads behind it.
+        // Reading the links first lets both cache misses overlap. Writing them first would delay the entry's reads: the
+        // processor holds reads back behind writes to addresses that it does not know yet.
         let own = links_at(&self.links, at);
         let heard = hear_at(&mut self.table, at, window_ms, site, moment, squitter);
         self.oldest = put_last(&mut self.links, self.oldest, at, own);

@@ -5,16 +5,16 @@ ghost use Rattle.sq_track.specs.Ordered.{others_than};
 ghost use Rattle.sq_track.specs.Ring.{IsEntered, IsLinking, IsOnRound, IsRound, after_at, before_at, renamed, round};
 ghost use Rattle.sq_track.specs.declared.links.Neighbours.{Neighbours};
 
-/// The links of an index. They take 8 bytes, so that to hear an address touches few lines of memory beside its entry.
+/// The links of an index. At 8 bytes, eight of them share a cache line.
 #[derive(Clone, Copy)]
 pub struct Neighbours {
-    /// The index of the address that was heard next before it; of the longest unheard, the index of the last heard.
+    /// The index of the address heard just before; for the longest unheard, the index of the last heard.
     pub before: u32,
-    /// The index of the address that was heard next after it; of the last heard, the index of the longest unheard.
+    /// The index of the address heard just after; for the last heard, the index of the longest unheard.
     pub after: u32,
 }
 
-// The index that an index's link leads to.
+// Returns the index heard next after `at`.
 #[inline(always)]
 fn after(links: &[Neighbours], at: u32) -> u32
     requires { at < length links.now }
@@ -23,7 +23,7 @@ fn after(links: &[Neighbours], at: u32) -> u32
     links[at as usize].after
 }
 
-// The index whose link leads to an index.
+// Returns the index heard just before `at`.
 #[inline(always)]
 fn before(links: &[Neighbours], at: u32) -> u32
     requires { at < length links.now }
@@ -72,7 +72,7 @@ pub(crate) fn join(links: &mut [Neighbours], oldest: u32, at: u32) -> u32
     oldest
 }
 
-// The links of an index.
+// Returns the links of an index.
 #[inline(always)]
 pub(crate) fn links_at(links: &[Neighbours], at: u32) -> Neighbours
     requires { at < length links.now }
@@ -102,7 +102,7 @@ pub(crate) fn put_last(links: &mut [Neighbours], oldest: u32, at: u32, own: Neig
     oldest
 }
 
-// Takes an index out of the round, and returns where the round begins. The last index takes the removed one's place.
+// Removes an index from the round, and returns where the round begins. The last index takes the removed one's place.
 pub(crate) fn take_out(links: &mut Vec<Neighbours>, oldest: u32, at: u32) -> u32
     requires on_round { IsOnRound links.old.items oldest at }
     requires few { length links.old.items ≤ 2 ^ 32 }
@@ -119,7 +119,7 @@ pub(crate) fn take_out(links: &mut Vec<Neighbours>, oldest: u32, at: u32) -> u32
     new_name(first, last, at)
 }
 
-// Where the round begins without an index.
+// Returns where the round begins without an index.
 fn first_without(links: &[Neighbours], oldest: u32, at: u32) -> u32
     requires { at < length links.now }
     ensures { result ≡ (if nat_eq oldest at then after_at links.now at else oldest) }
@@ -131,14 +131,14 @@ fn first_without(links: &[Neighbours], oldest: u32, at: u32) -> u32
     }
 }
 
-// Renames the last index to the removed one.
+// Returns the name of an index after `at` was removed: the last index takes the name `at`, all others keep theirs.
 fn new_name(index: u32, last: u32, at: u32) -> u32
     ensures { result ≡ renamed at last index }
 {
     if index == last { at } else { index }
 }
 
-// Links the indices before and after the last to another index, which the last is to have.
+// Links the neighbours of the last index to the index that it gets.
 fn rename_last(links: &mut [Neighbours], at: u32, last: u32)
     requires within { at < length links.old }
     requires last { length links.old ≡ last + 1 }

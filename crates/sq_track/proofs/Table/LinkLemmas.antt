@@ -22,14 +22,14 @@ Links = List Neighbours
 
 -- ---- writes
 
--- what an index has
+-- the link that is read at an index
 pub read_at : (f : Neighbours → ℕ) (ls : Links) (i : ℕ) (d : Neighbours) → f d ≡ 0
     → f (get_or ls i d) ≡ get_or (map f ls) i 0
 read_at f [] i d none = none
 read_at f (l ∷ ls) zero d none = refl
 read_at f (l ∷ ls) (suc i) d none = read_at f ls i d none
 
--- links that have the same as those before
+-- writing the link that is there changes nothing
 kept_at : (f : Neighbours → ℕ) (ls : Links) (i : ℕ) (l : Neighbours) → f l ≡ get_or (map f ls) i 0
     → map f (set ls i l) ≡ map f ls
 kept_at f [] i l same = refl
@@ -48,7 +48,7 @@ number_at xs i k y lt = by (eqb k i) refl
     by true e = subst (λ j. get_or (set xs i y) j 0 ≡ y) (sym (eqb-true k i e)) (get_or-set_same xs i y 0 lt)
     by false e = get_or-set_other xs i k y 0 (eqb-false k i e)
 
--- links written at an index
+-- the links after a write at an index
 written_at : (f : Neighbours → ℕ) (ls : Links) (i : ℕ) (l : Neighbours) (k : ℕ) → i < length ls
     → get_or (map f (set ls i l)) k 0 ≡ cond (eqb k i) (f l) (get_or (map f ls) k 0)
 written_at f ls i l k lt = ap (λ ys. get_or ys k 0) (set_at f ls i l)
@@ -80,13 +80,13 @@ linked from to ls d no_before no_after lt within = record {
     second : Neighbours
     second = record { before = from; after = (get_or ms to d).after }
 
--- what a vector holds once all of its elements were lent, and came back
+-- a vector's items after all of them were borrowed and given back
 pub written_back : {X : Type 0} (xs ys : List X) (n : ℕ) → n ≡ length xs → take n (xs ++ ys) ≡ xs
 written_back xs ys n long = ap (λ k. take k (xs ++ ys)) long ∙ take-append_seam xs ys
 
--- ---- what stands at an index
+-- ---- reads at an index
 
--- what is in front
+-- a read at an index below `n` needs the first `n` items only
 pub front_at : {X : Type 0} (f : X → ℕ) (es : List X) (n k : ℕ) → k < n
     → get_or (map f es) k 0 ≡ get_or (map f (take n es)) k 0
 front_at f [] zero k lt = refl
@@ -95,7 +95,7 @@ front_at f (e ∷ es) zero k lt = absurd (omega (arith, lt))
 front_at f (e ∷ es) (suc n) zero lt = refl
 front_at f (e ∷ es) (suc n) (suc k) lt = front_at f es n k (omega (arith, lt))
 
--- the last in the place of another
+-- a read after the last item replaced another
 number_moved : (xs : List ℕ) (i k d last : ℕ) → i < length xs → length xs ≡ last + 1 → k < last
     → get_or (swap_remove xs i d) k 0 ≡ cond (eqb k i) (get_or xs last 0) (get_or xs k 0)
 number_moved xs i k d last lt long below =

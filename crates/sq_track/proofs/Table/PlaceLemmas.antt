@@ -79,7 +79,7 @@ pub view-length : (es : Entries) (ls : Links) (oldest : ℕ) → IsTied es (addr
     → length (entries_in es (addresses_in es ls oldest)) ≡ length es
 view-length es ls oldest tied = length-map (addresses_in es ls oldest) (entry_of es) ∙ sym tied.long
 
--- the indices of a round
+-- each index of a round is within the links
 below_round : (ls : Links) (oldest : ℕ) → IsRound ls oldest → AllByRecursion (λ k. k < length ls) (round ls oldest)
 below_round ls oldest is_round = by ls refl
   where
@@ -151,7 +151,7 @@ seen es ls oldest index at (Some e) at_is lt r_is found =
     address = get_or_from_slice_get (keys_of es) at e.0 0
         (slice_get-map (λ (e : ℕ × Contact). e.0) es at ∙ ap (option_map (λ (e : ℕ × Contact). e.0)) (sym r_is))
 
--- the address there, with the moment of its newest position
+-- an entry's address, with the moment of its newest position
 abbrev shown : ℕ × Contact → ℕ × ℕ
 shown e = (e.0, e.1.moment)
 
@@ -283,7 +283,7 @@ pub still_few : (es gs : Entries) (b : Bool) → length gs ≡ length es + one_u
 still_few es gs true long lt = omega (arith, long, lt)
 still_few es gs false long lt = omega (arith, long, lt)
 
--- ---- an address that is not there
+-- ---- an absent address
 
 pub absent_contact : (es : Entries) (address : ℕ) → false ≡ is_some (lookup (eqb address) es)
     → lookup (eqb address) es ≡ None
@@ -322,7 +322,7 @@ others_than_absent address (k ∷ ks) none = by (eqb address k) refl (others_tha
 
 -- ---- without an address
 
--- the addresses once an index is out of the round, and its entry out of the table
+-- the addresses after an index left the round and its entry left the table
 pub left_addresses : (es hs : Entries) (ls ms : Links) (oldest at last to : ℕ) (p : ℕ × Contact)
     → IsOnRound ls oldest at → length ls ≡ last + 1 → length es ≡ last + 1 → hs ≡ swap_remove es at p
     → round ms to ≡ map (renamed at last) (others_than at (round ls oldest))
@@ -378,7 +378,7 @@ module _ {X : Type 0} (es fs : List X) (e : X) (at : ℕ) (is : at ≡ length es
       ∙ ap (λ n. get_or (map f es ++ f e ∷ []) n 0) (is ∙ sym (length-map es f))
       ∙ get_or-append_seam (map f es) (f e) [] 0
 
--- an index that is linked to itself was entered behind the others
+-- pushing an index that is linked to itself enters it
 pub entered : (es : Entries) (ls ms : Links) (l : Neighbours) (oldest at : ℕ) → at ≡ length ls → ms ≡ ls ++ l ∷ []
     → IsLinkedTable es ls oldest → l.after ≡ at → l.before ≡ at → IsEntered ms oldest at
 entered es ls ms l oldest at is grown table after before = record {
@@ -390,7 +390,7 @@ entered es ls ms l oldest at is grown table after before = record {
   before = last_is ls ms l at is grown (λ x. x.before) ∙ before;
 }
 
--- a new entry stands behind the others
+-- a new entry is the last one
 module _ (es fs : Entries) (ls ms : Links) (e : ℕ × Contact) (oldest to at : ℕ) (is : at ≡ length es)
     (grown : fs ≡ es ++ e ∷ []) (table : IsLinkedTable es ls oldest) (absent : lookup (eqb e.0) es ≡ None)
     (order : round ms to ≡ round ls oldest ++ at ∷ []) where
@@ -399,7 +399,7 @@ module _ (es fs : Entries) (ls ms : Links) (e : ℕ × Contact) (oldest to at : 
       (λ k lt. front_at (λ x. x.0) fs at k (omega (arith, lt, is, links-length es ls oldest table))
       ∙ ap (λ l. address_at l k) (front_is es fs e at is grown)) (below_round ls oldest table.is_round)
 
-  -- the other addresses
+  -- the addresses of the old entries
   old_addresses : map (address_at fs) (round ls oldest) ≡ others_than e.0 (addresses_in es ls oldest)
   old_addresses = map_agree (address_at fs) (address_at es) (round ls oldest) same
       ∙ sym (others_than_absent e.0 (addresses_in es ls oldest) (sym (table.tied.same e.0) ∙ ap is_some absent))

@@ -357,7 +357,7 @@ no_links : (ls : Links) → length ls ≡ 0 → ls ≡ []
 no_links [] none = refl
 no_links (l ∷ ls) none = absurd (omega (arith, none))
 
--- without its only index nothing is left of a round
+-- a round of one index is empty without it
 left_empty : (ls os : Links) (oldest at last to : ℕ) → length ls ≡ 1 → IsOnRound ls oldest at → length os ≡ 0
     → IsRound os to × (round os to ≡ map (renamed at last) (others_than at (round ls oldest)))
 left_empty ls os oldest at last to one on none = (
@@ -420,7 +420,7 @@ left_round ls ms os oldest at last first rest long on whole begun off moved shor
     moved.after)) path in
     (done.0, done.1 ∙ ap (map (renamed at last)) (sym begun.left))
 
--- the round without an index that was passed over, and with the last in its place
+-- the round after an index was passed over and the last index took its place
 pub taken_out : (ls ms ns os : Links) (oldest at last first : ℕ) (p : Neighbours) → length ls ≡ last + 1
     → IsOnRound ls oldest at
     → first ≡ cond (eqb oldest at) (after_at ls at) oldest

@@ -26,7 +26,7 @@ rename_last-requires-clause-after c =
     ))
     c.requires.on_round.is_round.forward over)
 
--- the round after the index is out
+-- the round after the index was removed
 out : (c : goal.After-new_name)
     → IsRound c.swap_remove.new.self.items (renamed c.args.at (c.len.result - 1) c.first_without-first.result)
     × (round c.swap_remove.new.self.items (renamed c.args.at (c.len.result - 1) c.first_without-first.result)

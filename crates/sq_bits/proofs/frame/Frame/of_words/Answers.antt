@@ -6,7 +6,7 @@ use Rattle.sq_bits.proofs.Remainders.{upper_kept, upper_field}
 use Rattle.sq_bits.proofs.Spelled.{quotient_is}
 use Rattle.sq_bits.proofs.frame.Frame.of_words.Goals as goal
 
--- the fields of a number of two words, whatever its last 24 bits are
+-- a frame of two words has both words as fields, for any parity bits
 words_spelled : (f : Frame) (h m r : ℕ) → IsFrame f → h < 2 ^ 32 → m < 2 ^ 56 → r < 2 ^ 24
     → frame_number f ≡ bit_xor (h * 2 ^ 80 + m * 2 ^ 24) r → (field_of f 1 32 ≡ h) × (field_of f 33 56 ≡ m)
 unfolding quotient_of

@@ -20,7 +20,7 @@ take_out-self-inside-requires-clause-few c =
       links-length c.self.inside.table.entries c.self.inside.links.items c.self.inside.oldest c.self.invariant,
     )
 
--- the addresses after the entry is gone
+-- the addresses after the entry was removed
 left : (c : goal.After-remove_at)
     → IsPlace c.self.inside.table.entries c.self.inside.links.items c.self.inside.oldest c.args.address c.in-Some.at
     × (addresses_in c.remove_at.new.table.entries c.take_out-self-inside.new.links.items c.take_out-self-inside.result
