@@ -4,6 +4,33 @@ use sq_text::{LineFault, read_squitter, read_timed};
 
 const FRAME: &[u8] = b"8D40621D58C382D690C8AC2863A7";
 
+// A moment of twenty digits, a space and the frame text.
+const LINE: [u8; 49] = *b"12345678912345678912 8D40621D58C382D690C8AC2863A7";
+
+// The moment of the line's last digits, 1 to 20 of them.
+const MOMENTS: [u64; 20] = [
+    2,
+    12,
+    912,
+    8912,
+    78912,
+    678912,
+    5678912,
+    45678912,
+    345678912,
+    2345678912,
+    12345678912,
+    912345678912,
+    8912345678912,
+    78912345678912,
+    678912345678912,
+    5678912345678912,
+    45678912345678912,
+    345678912345678912,
+    2345678912345678912,
+    12345678912345678912,
+];
+
 #[test]
 fn reads_moments(rt: HostRuntime) {
     let squitter = read_squitter(FRAME);
@@ -19,6 +46,46 @@ fn reads_moments(rt: HostRuntime) {
         let timed = read_timed(text);
         assert!(rt; timed.map(|t| t.moment) == Ok(moment));
         assert!(rt; timed.map(|t| t.squitter) == squitter);
+    }
+}
+
+#[test]
+fn reads_moments_of_each_length(rt: HostRuntime) {
+    for count in 1..21usize {
+        let timed = read_timed(&LINE[20 - count..]);
+        assert!(rt; timed.map(|t| t.moment) == Ok(MOMENTS[count - 1]));
+    }
+}
+
+#[test]
+fn refuses_other_bytes_at_each_place(rt: HostRuntime) {
+    // Neighbours of the digits and of the space, and bytes that differ from a digit in one high bit.
+    for byte in *b"/:!\x1f\x00\x11\x70\xb0\xb9\xff" {
+        for place in 0..20usize {
+            let mut line = LINE;
+            line[place] = byte;
+            assert!(rt; read_timed(&line) == Err(LineFault::Moment));
+        }
+    }
+}
+
+#[test]
+fn ends_a_moment_at_the_first_space(rt: HostRuntime) {
+    for place in 1..20usize {
+        let mut line = LINE;
+        line[place] = b' ';
+        assert!(rt; read_timed(&line) == Err(LineFault::Length(48 - place)));
+    }
+}
+
+#[test]
+fn reads_moments_of_short_texts(rt: HostRuntime) {
+    for count in 0..21usize {
+        assert!(rt; read_timed(&LINE[20 - count..20]) == Err(LineFault::Moment));
+    }
+    for count in 1..21usize {
+        assert!(rt; read_timed(&LINE[20 - count..21]) == Err(LineFault::Length(0)));
+        assert!(rt; read_timed(&LINE[20 - count..22]) == Err(LineFault::Length(1)));
     }
 }
 

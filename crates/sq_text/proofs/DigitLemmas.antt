@@ -94,7 +94,7 @@ clear p (x ∷ xs) e (suc i) within = clear p xs (bits (p x) (mask_l (map p xs))
 abbrev pub masks : List ℕ → List ℕ → List ℕ
 masks front back = zip2 below (replicate 16 15) (zip2 bit_or front back)
 
-low : (b : Bool) → top 7 (cond b 255 0) ≡ false → b ≡ false
+pub low : (b : Bool) → top 7 (cond b 255 0) ≡ false → b ≡ false
 low true e = absurd (cc e)
 low false e = refl
 

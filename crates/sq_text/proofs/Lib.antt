@@ -4,5 +4,8 @@ pub mod OneReading
 pub mod SomeReading
 pub mod DigitLemmas
 pub mod Moments
+pub mod WordDigits
+pub mod LeadingDigits
+pub mod CountedDigits
 pub mod TimedReadings
 pub mod PlaceTexts

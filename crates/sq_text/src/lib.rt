@@ -7,6 +7,7 @@
 mod digit_values;
 mod faults;
 mod frame_text;
+mod front_digits;
 pub mod laws;
 mod place;
 mod place_faults;

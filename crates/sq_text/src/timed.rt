@@ -6,6 +6,7 @@ ghost use Rattle.std.specs.Str.Parse.{digits_value};
 ghost use Rattle.sq_text.specs.Timed.{HasNoMoment, IsMomentLine, IsDecimalText, IsTimedReading};
 
 use crate::faults::LineFault;
+use crate::front_digits::{FRONT, count_digits, front_number};
 use crate::reading::read_squitter;
 use sq_message::Received;
 
@@ -42,7 +43,8 @@ fn split_moment(text: &[u8]) -> Option<(u64, &[u8])>
     split_any(text)
 }
 
-// The number that the digits at the front of a text write, up to 19 of them, and how many they are: the common case.
+// Returns the number that the digits at the front of a text spell, up to 19 of them, and their count: the common case.
+// Lanes count the digits among the first 16 bytes, and words join them; `more_digits` reads all others.
 #[inline(always)]
 fn leading_number(text: &[u8]) -> (u64, usize)
     ensures within { result.1 ≤ length text.now }
@@ -50,9 +52,38 @@ fn leading_number(text: &[u8]) -> (u64, usize)
     ensures digits { AllByRecursion IsAsciiDigit (take result.1 text.now) }
     ensures value { result.0 ≡ digits_value 10 (take result.1 text.now) }
 {
+    if text.len() < FRONT {
+        return more_digits(text, 0, 0);
+    }
+    let count = count_digits(text);
+    if count == 0 {
+        return (0, 0);
+    }
+    let number = front_number(text, count);
+    if count < FRONT {
+        return (number, count);
+    }
+    more_digits(text, number, count)
+}
+
+// Returns the number that the digits at the front of a text spell, up to 19 of them, and their count. The first `start`
+// digits spell `number`, and one turn reads each other byte: for texts below 16 bytes, and moments of 16 digits and
+// more.
+#[cold]
+#[inline(never)]
+fn more_digits(text: &[u8], number: u64, start: usize) -> (u64, usize)
+    requires within { start ≤ length text.now }
+    requires few { start < 20 }
+    requires digits { AllByRecursion IsAsciiDigit (take start text.now) }
+    requires value { number ≡ digits_value 10 (take start text.now) }
+    ensures within { result.1 ≤ length text.now }
+    ensures few { result.1 < 20 }
+    ensures digits { AllByRecursion IsAsciiDigit (take result.1 text.now) }
+    ensures value { result.0 ≡ digits_value 10 (take result.1 text.now) }
+{
     let most = text.len().min(DIGITS - 1);
-    let mut number = 0;
-    for count in 0..most {
+    let mut number = number;
+    for count in start..most {
         let byte = text[count];
         if !byte.is_ascii_digit() {
             return (number, count);

@@ -1,13 +1,27 @@
-use Rattle.std.proofs.Common.{◌≡◌, ◌+◌, ◌<◌, ℕ, List, get_or, length, arith, rules}
+use Rattle.std.proofs.Common.{◌≡◌, ◌+◌, ◌<◌, ◌^◌, ℕ, List, ap, get_or, length, take, arith, rules}
 use Rattle.std.specs.Char.{IsAsciiDigit, digit_value}
 use Rattle.std.proofs.lemmas.Int.Digits.{digits_value_more}
+use Rattle.std.proofs.lemmas.List.{length-take-le}
 use Rattle.std.proofs.lemmas.Str.{digit_value_digit}
+use Rattle.sq_text.proofs.LeadingDigits.{value_small}
 use Rattle.sq_text.proofs.Moments.{digits_more, fits_more, pow_ten}
-use Rattle.sq_text.proofs.timed.leading_number.Goals as goal
+use Rattle.sq_text.proofs.timed.more_digits.Goals as goal
 
 -- the byte that a turn reads is a digit
 is_digit : (c : goal.After-from) → IsAsciiDigit (get_or c.args.text.now c.loop-count.count 0)
 is_digit c = search rules
+
+pub loop-count-init : goal.loop-count-init
+loop-count-init c =
+    let text : List ℕ = c.args.text.now in
+    let start : ℕ = c.args.start in
+    let long = length-take-le start text c.requires.within in
+    let below = value_small (take start text) c.requires.digits in
+    record {
+      digits = c.requires.digits;
+      value = c.requires.value;
+      small = omega (arith, c.requires.value, below, ap (λ n. 10 ^ n) long);
+    }
 
 pub overflow_mul-number : goal.overflow_mul-number
 overflow_mul-number c =
