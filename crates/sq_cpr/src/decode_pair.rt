@@ -132,7 +132,9 @@ fn close_longitude<S: Span>(
     turned_longitude::<S>(base, zones_of(newest, count), reference)
 }
 
-// The newest point of the close pair, each coordinate by its representative at the place.
+// The newest point of the close pair, each coordinate by its representative at the place. It and `pair_air` are
+// inlined: a call returns the point through memory, and copying it from there waits for its stores.
+#[inline(always)]
 fn pair<S: Span>(
     even: Code,
     odd: Code,
@@ -174,6 +176,7 @@ fn origin() -> Position
 /// `OutOfRange` exactly where the close latitudes do not both lie in -90 to 90 degrees, by whole turns of 360; else
 /// `ZoneCounts` exactly where their zone counts differ, the even one's first. RTCA DO-260B, appendix on compact
 /// position reporting, globally unambiguous airborne decoding.
+#[inline(always)]
 pub fn pair_air(even: Code, odd: Code, newest: Parity) -> Result<GridPoint<Air>, PairFault>
     ensures { AirPairAnswer (code_pair (numbers_of even) (numbers_of odd) newest) result }
 {
