@@ -1,6 +1,7 @@
 -- What a tracker holds, call by call, against its history.
 pub mod ContactLemmas
 pub mod EntryLemmas
+pub mod KeepLemmas
 pub mod KeptLemmas
 pub mod PresentLemmas
 pub mod Remembering
