@@ -251,13 +251,15 @@ impl Contacts {
         Ok(heard)
     }
 
-    /// Drops an address.
-    pub fn remove(&mut self, address: u32)
-        ensures { self.new ≡ others_in address self.old }
+    /// Drops the longest unheard address, if there is one.
+    pub fn remove_oldest(&mut self)
+        ensures { (address newest : ℕ) → slice_get (moments_in self.old) 0 ≡ Some (address, newest)
+            → self.new ≡ others_in address self.old }
     {
-        if let Some(at) = self.table.get_index_of(&address) {
-            self.oldest = take_out(&mut self.links, self.oldest, at as u32);
-            remove_at(&mut self.table, at);
+        let at = self.oldest;
+        if (at as usize) < self.table.len() {
+            self.oldest = take_out(&mut self.links, at, at);
+            remove_at(&mut self.table, at as usize);
         }
     }
 }

@@ -82,7 +82,8 @@ pub(crate) fn links_at(links: &[Neighbours], at: u32) -> Neighbours
     links[at as usize]
 }
 
-// Puts an index with these links at the end of the round, and returns where the round begins.
+// Puts an index with these links at the end of the round, and returns where the round begins. Writes nothing if the
+// index is the last already, as that of a new address is.
 #[inline(always)]
 pub(crate) fn put_last(links: &mut [Neighbours], oldest: u32, at: u32, own: Neighbours) -> u32
     requires on_round { IsOnRound links.old oldest at }
@@ -92,6 +93,9 @@ pub(crate) fn put_last(links: &mut [Neighbours], oldest: u32, at: u32, own: Neig
     ensures order { round links.new result ≡ others_than at (round links.old oldest) ++ at ∷ [] }
     ensures len { length links.new ≡ length links.old }
 {
+    if own.after == oldest {
+        return oldest;
+    }
     if at == oldest {
         return own.after;
     }

@@ -583,6 +583,26 @@ others_than_last out (i ∷ is) all =
     filter-cons_yes (λ k. not (eqb k out)) i (is ++ out ∷ []) (ap not all.0)
     ∙ ap (λ l. i ∷ l) (others_than_last out is all.1)
 
+-- where only one index leads to the end of a path, that index is the last of the path
+pub ends_path : (after : ℕ → ℕ) (n from : ℕ) (is : List ℕ) (to last : ℕ) → IsPath after from is to
+    → AllByRecursion (λ k. k < n) (from ∷ is) → ((k : ℕ) → k < n → after k ≡ to → k ≡ last)
+    → (front : List ℕ) × (from ∷ is ≡ front ++ last ∷ [])
+ends_path after n from [] to last path below only = ([], ap (λ i. i ∷ []) (only from below.0 path))
+ends_path after n from (i ∷ is) to last path below only =
+    let (front, e) = ends_path after n i is to last path.1 below.1 only in
+    (from ∷ front, ap (λ l. from ∷ l) e)
+
+-- the indices before the last of a distinct list are others
+pub others_before_last : (front : List ℕ) (last : ℕ) → IsDistinct eqb (front ++ last ∷ [])
+    → AllByRecursion (λ k. eqb k last ≡ false) front
+unfolding IsDistinct
+others_before_last [] last d = tt
+others_before_last (i ∷ is) last d = (differs is d.0, others_before_last is last d.1)
+  where
+    differs : (js : List ℕ) → AllByRecursion (λ k. eqb i k ≡ false) (js ++ last ∷ []) → eqb i last ≡ false
+    differs [] all = all.0
+    differs (j ∷ js) all = differs js all.1
+
 pub has_last : (out : ℕ) (is : List ℕ) → has_address out (is ++ out ∷ []) ≡ true
 has_last out [] = ap (λ b. b || false) (eq-eqb out out refl)
 has_last out (i ∷ is) = ap (λ b. eqb out i || b) (has_last out is) ∙ or_true (eqb out i)

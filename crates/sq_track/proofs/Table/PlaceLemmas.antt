@@ -18,9 +18,8 @@ use Rattle.sq_track.specs.Ring.{IsEntered, IsLinkedTable, IsOnRound, IsReached, 
 use Rattle.sq_track.specs.Ring.{address_at, addresses_in, after_at, renamed, round}
 use Rattle.sq_track.specs.declared.contact.Contact.{Contact}
 use Rattle.sq_track.specs.declared.links.Neighbours.{Neighbours}
-use Rattle.sq_track.proofs.Lists.Filters.{filter-cons_yes}
 use Rattle.sq_track.proofs.Lists.Found.{each_weaker, none_is_some, same_some}
-use Rattle.sq_track.proofs.Table.ContactLemmas.{distinct-push, one_if, one_unless, put_tied, put_view, removed_tied, removed_view, view-lookup}
+use Rattle.sq_track.proofs.Table.ContactLemmas.{distinct-push, one_if, one_unless, put_tied, put_view, removed_tied, removed_view}
 use Rattle.sq_track.proofs.Lists.Rings.{all_apart, all_both, all_filter, chain-at, chain-length, chain-next, flip_test}
 use Rattle.sq_track.proofs.Lists.Rings.{distinct_indices, has_by_index, has_last, map_renamed, others_by_index, others_than_later}
 use Rattle.sq_track.proofs.Lists.Rings.{not_last, others_than_last, renamed_keeps}
@@ -130,6 +129,52 @@ place es ls oldest address at table d is_at found = record {
 
     below : AllByRecursion (λ k. k < length ls) (round ls oldest)
     below = below_round ls oldest table.is_round
+
+-- the oldest index is the place of its address
+pub oldest_place : (es : Entries) (ls : Links) (oldest : ℕ) → IsLinkedTable es ls oldest → IsDistinct eqb (keys_of es)
+    → oldest < length es → IsPlace es ls oldest (address_at es oldest) oldest
+oldest_place es ls oldest table d lt = record {
+  on_round = record {
+    within = inside;
+    is_round = table.is_round;
+    distinct = distinct_indices (address_at es) (round ls oldest) table.tied.distinct;
+    known = known;
+  };
+  is = refl;
+  there = table.tied.same (address_at es oldest)
+      ∙ has_by_index (length ls) (address_at es) oldest same (round ls oldest) below ∙ known;
+  others = others_by_index (length ls) (address_at es) oldest same (round ls oldest) below;
+}
+  where
+    long : length ls ≡ length es
+    long = links-length es ls oldest table
+
+    inside : oldest < length ls
+    inside = omega (arith, lt, long)
+
+    known : has_address oldest (round ls oldest) ≡ true
+    known = let (rest, is_open) = open_round ls oldest (omega (arith, inside)) table.is_round in
+        ap (has_address oldest) is_open.is ∙ ap (λ b. b || has_address oldest rest) (eq-eqb oldest oldest refl)
+
+    same : (k : ℕ) → k < length ls → eqb (address_at es k) (address_at es oldest) ≡ eqb k oldest
+    same k k_lt = by_address es oldest k d lt (omega (arith, k_lt, long))
+
+    below : AllByRecursion (λ k. k < length ls) (round ls oldest)
+    below = below_round ls oldest table.is_round
+
+pub some_entries : (es : Entries) (address newest : ℕ) → slice_get (moments_in es) 0 ≡ Some (address, newest)
+    → 0 < length es
+some_entries [] address newest at = absurd (false≢true (ap is_some at))
+some_entries (e ∷ es) address newest at = omega arith
+
+-- the first address of the order is that of the oldest index
+pub oldest_first : (es : Entries) (ls : Links) (oldest address newest : ℕ) → IsLinkedTable es ls oldest
+    → slice_get (moments_in (entries_in es (addresses_in es ls oldest))) 0 ≡ Some (address, newest)
+    → oldest < length es → address_at es oldest ≡ address
+oldest_first es ls oldest address newest table at lt =
+    let (rest, is_open) = open_round ls oldest (omega (arith, lt, links-length es ls oldest table)) table.is_round in
+    let first = ap (λ is. slice_get (moments_in (entries_in es (map (address_at es) is))) 0) (sym is_open.is) ∙ at in
+    ap (λ (o : Option (ℕ × ℕ)). (unwrap_or o (0, 0)).0) first
 
 -- ---- what the table has at an index
 
@@ -292,23 +337,6 @@ absent_contact es address none = none_of (lookup (eqb address) es) (sym none)
     none_of : (o : Option Contact) → is_some o ≡ false → o ≡ None
     none_of None e = refl
     none_of (Some x) e = absurd (true≢false e)
-
-pub absent_view : (es : Entries) (ls : Links) (oldest address : ℕ) → IsTied es (addresses_in es ls oldest)
-    → false ≡ is_some (lookup (eqb address) es)
-    → lookup (eqb address) (entries_in es (addresses_in es ls oldest)) ≡ None
-absent_view es ls oldest address tied none =
-    view-lookup address es (addresses_in es ls oldest) (tied.same address) ∙ absent_contact es address none
-
-pub others_in_absent : (address : ℕ) (v : List (ℕ × Contact)) → lookup (eqb address) v ≡ None → v ≡ others_in address v
-others_in_absent address [] none = refl
-others_in_absent address (e ∷ v) none = by (eqb address e.0) refl (others_in_absent address v)
-  where
-    by : (b : Bool) → eqb address e.0 ≡ b → (lookup (eqb address) v ≡ None → v ≡ others_in address v)
-        → e ∷ v ≡ others_in address (e ∷ v)
-    by true t rest =
-        absurd (true≢false (ap is_some (sym (ap (λ b. cond b (Some e.1) (lookup (eqb address) v)) t) ∙ none)))
-    by false t rest = ap (λ l. e ∷ l) (rest (sym (ap (λ b. cond b (Some e.1) (lookup (eqb address) v)) t) ∙ none))
-        ∙ sym (filter-cons_yes (λ x. not (eqb x.0 address)) e v (ap not (flip_test address e.0 t)))
 
 others_than_absent : (address : ℕ) (ks : List ℕ) → has_address address ks ≡ false → others_than address ks ≡ ks
 others_than_absent address [] none = refl

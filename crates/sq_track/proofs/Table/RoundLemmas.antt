@@ -13,6 +13,7 @@ use Rattle.sq_track.proofs.Lists.Rings.{IsPairedBut, unlinked, joined, turned, o
 use Rattle.sq_track.proofs.Lists.Rings.{paired_more, paired_one, path_same, not_last, renamed_below}
 use Rattle.sq_track.proofs.Lists.Rings.{renames, renames_none, renamed_paired, path-renamed}
 use Rattle.sq_track.proofs.Lists.Rings.{others_than_last, has_last, all_last, all_both, path-append}
+use Rattle.sq_track.proofs.Lists.Rings.{ends_path, others_before_last}
 use Rattle.sq_track.proofs.Lists.Found.{each_weaker}
 use Rattle.sq_track.proofs.Table.LinkLemmas.{front_at, moved_at}
 use Rattle.std.specs.List.{swap_remove}
@@ -94,6 +95,19 @@ last_of_oldest ls oldest at next on same leads =
       subst (IsRound ls) (sym is) done.0,
       ap (round ls) is ∙ done.1 ∙ ap (λ i. others_than i (round ls oldest) ++ i ∷ []) (sym same),
     )
+
+-- an entry that leads to the oldest is the last already
+pub already_last : (ls : Links) (oldest at next : ℕ) → IsOnRound ls oldest at → next ≡ oldest → next ≡ after_at ls at
+    → round ls oldest ≡ others_than at (round ls oldest) ++ at ∷ []
+already_last ls oldest at next on ends leads =
+    let (rest, is_open) = open_round ls oldest (omega (arith, on.within)) on.is_round in
+    let back : before_at ls oldest ≡ at =
+    ap (before_at ls) (sym ends ∙ leads) ∙ on.is_round.forward.back at on.within in
+    let (front, is) = ends_path (after_at ls) (length ls) oldest rest oldest at is_open.path is_open.below
+    (λ k lt e. sym (on.is_round.forward.back k lt) ∙ ap (before_at ls) e ∙ back) in
+    let whole : round ls oldest ≡ front ++ at ∷ [] = is_open.is ∙ is in
+    whole ∙ ap (λ l. l ++ at ∷ []) (sym (ap (others_than at) whole
+    ∙ others_than_last at front (others_before_last front at (subst (IsDistinct eqb) whole on.distinct))))
 
 -- what is known of a round from which an entry other than the first is passed over
 pub record IsPassed (n at first : ℕ) (rest : List ℕ) (ms : Links) : Type 0 where

@@ -165,3 +165,7 @@ some_of (Some c) e = (c, refl)
 pub none_of : (o : Option Contact) → is_some o ≡ false → o ≡ None
 none_of None e = refl
 none_of (Some c) e = absurd (true≢false e)
+
+pub flipped : (b is : Bool) → not b ≡ is → b ≡ not is
+flipped true is e = ap not e
+flipped false is e = ap not e

@@ -2,8 +2,13 @@ use Rattle.std.proofs.Common.{◌≡◌, ◌<◌, ◌++◌, ◌∷◌, [], arith
 use Rattle.std.proofs.lemmas.Bool.{ne_eqb}
 use Rattle.sq_track.specs.Ordered.{others_than}
 use Rattle.sq_track.specs.Ring.{IsLinking, IsRound, before_at, round}
-use Rattle.sq_track.proofs.Table.RoundLemmas.{before_within, last_of_oldest, last_of_other}
+use Rattle.sq_track.proofs.Table.RoundLemmas.{already_last, before_within, last_of_oldest, last_of_other}
 use Rattle.sq_track.proofs.links.put_last.Goals as goal
+
+pub returns-then-own-oldest-clause-order : goal.returns-then-own-oldest-clause-order
+returns-then-own-oldest-clause-order c =
+    already_last c.args.links.now c.args.oldest c.args.at c.args.own.after c.requires.on_round c.if-own-oldest.true
+    c.requires.after
 
 pub returns-then-at-oldest-clause-round : goal.returns-then-at-oldest-clause-round
 returns-then-at-oldest-clause-round c =

@@ -4,13 +4,14 @@ use Rattle.sq_track.proofs.Table.EntryLemmas.{IsOrdered-filter}
 use Rattle.sq_track.specs.declared.contact.Contact.{Contact}
 use Rattle.sq_track.proofs.tracker.drop_stale.Goals as goal
 
-pub loop-address-preserved : goal.loop-address-preserved
-loop-address-preserved c =
-    let o = c.loop-address.invariant.0 in
-    let ordered : IsOrdered o.0 o.1 c.remove.new.self =
-    subst (IsOrdered o.0 o.1) (sym c.remove.ensures)
-    (IsOrdered-filter o.0 o.1 (λ (e : ℕ × Contact). not (eqb e.0 c.in-Some.address)) c.loop-address.contacts o.2) in (
+pub loop-contacts-preserved : goal.loop-contacts-preserved
+loop-contacts-preserved c =
+    let o = c.loop-contacts.invariant.0 in
+    let (address, newest, first, same, fewer) = c.is_oldest_stale.ensures.stale c.loop-contacts-test.true in
+    let gone = c.remove_oldest.ensures address newest first in
+    let ordered : IsOrdered o.0 o.1 c.remove_oldest.new.self =
+    subst (IsOrdered o.0 o.1) (sym gone)
+    (IsOrdered-filter o.0 o.1 (λ (e : ℕ × Contact). not (eqb e.0 address)) c.loop-contacts.contacts o.2) in (
       (o.0, o.1, ordered),
-      ap (filter (fresh_entry c.args.window c.args.moment)) c.remove.ensures
-          ∙ c.in-Some.ensures.some.0 ∙ c.loop-address.invariant.1,
+      ap (filter (fresh_entry c.args.window c.args.moment)) gone ∙ same ∙ c.loop-contacts.invariant.1,
     )
