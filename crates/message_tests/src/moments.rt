@@ -61,10 +61,10 @@ fn reads_moments_of_each_length(rt: HostRuntime) {
 fn refuses_other_bytes_at_each_place(rt: HostRuntime) {
     // Neighbours of the digits and of the space, and bytes that differ from a digit in one high bit.
     for byte in *b"/:!\x1f\x00\x11\x70\xb0\xb9\xff" {
-        for place in 0..20usize {
+        for place in 0..21usize {
             let mut line = LINE;
             line[place] = byte;
-            // Moments of each length that has this place: 20 digits are read apart from up to 19.
+            // Moments of each length that has this place: the last digit of twenty is read apart.
             for start in 0..place + 1 {
                 assert!(rt; read_timed(&line[start..]) == Err(LineFault::Moment));
             }

@@ -1,6 +1,6 @@
 -- Each text has one reading as a squitter with its moment.
 use Rattle.std.proofs.Common.{◌≡◌, ◌^◌, ◌++◌, ◌∙◌, ◌⊎◌, ℕ, List, [], ◌∷◌, Result, Ok, Err, length, refl, sym, ap, subst}
-use Rattle.std.proofs.Common.{inl, inr, arith}
+use Rattle.std.proofs.Common.{ap₂, inl, inr, arith}
 use Rattle.std.proofs.lemmas.Bool.{cases_eq, cases_lt}
 use Rattle.std.specs.Char.{IsAsciiDigit}
 use Rattle.std.specs.List.{AllByRecursion}
@@ -11,9 +11,36 @@ use Rattle.sq_text.specs.declared.faults.LineFault.TheVariants.{Moment}
 use Rattle.sq_message.specs.declared.received.Received.{Received}
 use Rattle.sq_text.specs.Reading.{IsSquitterReading}
 use Rattle.sq_text.specs.Timed.{HasNoMoment, IsMomentLine, IsDecimalText, IsTimedReading}
-use Rattle.sq_text.proofs.Moments.{HasNoSpace, digits_without_space, no_front, one_front}
 use Rattle.sq_text.proofs.OneReading.{one_squitter_reading}
 use Rattle.sq_text.proofs.SomeReading.{some_squitter_reading}
+
+-- no byte is a space
+abbrev HasNoSpace : List ℕ → Type 0
+HasNoSpace bytes = AllByRecursion (λ byte. ¬ (byte ≡ 32)) bytes
+
+-- digits have no space
+digits_without_space : (ds : List ℕ) → AllByRecursion IsAsciiDigit ds → HasNoSpace ds
+digits_without_space [] all = tt
+digits_without_space (d ∷ ds) all = (λ is. absurd (omega (arith, is, all.0)), digits_without_space ds all.1)
+
+-- a text has one front before its first space, and one rest after it
+one_front : (a b rest more : List ℕ) → HasNoSpace a → HasNoSpace b → a ++ 32 ∷ rest ≡ b ++ 32 ∷ more
+    → (a ≡ b) × (rest ≡ more)
+one_front [] [] rest more p q is = (refl, cc is)
+one_front [] (y ∷ ys) rest more p q is = let same : 32 ≡ y = cc is in absurd (q.0 (sym same))
+one_front (x ∷ xs) [] rest more p q is = let same : x ≡ 32 = cc is in absurd (p.0 same)
+one_front (x ∷ xs) (y ∷ ys) rest more p q is =
+    let first : x ≡ y = cc is in
+    let others : xs ++ 32 ∷ rest ≡ ys ++ 32 ∷ more = cc is in
+    let same = one_front xs ys rest more p.1 q.1 others in
+    (ap₂ (λ c (l : List ℕ). c ∷ l) first same.0, same.1)
+
+-- a text without a space has no front before one
+no_front : (text a rest : List ℕ) → HasNoSpace text → text ≡ a ++ 32 ∷ rest → ⊥
+no_front [] [] rest none is = absurd (cc is)
+no_front [] (y ∷ ys) rest none is = absurd (cc is)
+no_front (x ∷ xs) [] rest none is = let same : x ≡ 32 = cc is in none.0 same
+no_front (x ∷ xs) (y ∷ ys) rest none is = let others : xs ≡ ys ++ 32 ∷ rest = cc is in no_front xs ys rest none.1 others
 
 -- a text has one moment, and one rest after it
 one_line : (text rest more : List ℕ) (m n : ℕ) → IsMomentLine text rest m → IsMomentLine text more n

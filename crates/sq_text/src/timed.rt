@@ -1,5 +1,5 @@
 //! Squitters with their moments.
-ghost use Rattle.std.specs.Prelude.{◌≡◌, ◌≤◌, ◌∷◌, ◌++◌, ◌↔◌, ◌^◌, ◌<◌, ℕ, List, IsTrue, IfSome, IfNone, length, take};
+ghost use Rattle.std.specs.Prelude.{◌≡◌, ◌≤◌, ◌↔◌, ◌^◌, ◌<◌, ℕ, List, IsTrue, IfSome, IfNone, length, slice_index, take};
 ghost use Rattle.std.specs.Char.{IsAsciiDigit};
 ghost use Rattle.std.specs.List.{AllByRecursion};
 ghost use Rattle.std.specs.Str.Parse.{digits_value};
@@ -40,16 +40,20 @@ fn split_moment(text: &[u8]) -> Option<(u64, &[u8])>
     if count > 0 && count < text.len() && text[count] == b' ' {
         return Some((moment, &text[count + 1..]));
     }
-    split_any(text)
+    if count < DIGITS - 1 {
+        return None;
+    }
+    split_longest(text)
 }
 
-// Returns the number that the digits at the front of a text spell, up to 19 of them, and their count: the common case.
-// Lanes count the digits among the first 16 bytes, and words join them; `more_digits` reads all others.
+// Returns the number that the digits at the front of a text spell, up to 19 of them, and their count. Lanes count the
+// digits among the first 16 bytes, and words join them; `more_digits` reads all others.
 #[inline(always)]
 fn leading_number(text: &[u8]) -> (u64, usize)
     ensures within { result.1 ≤ length text.now }
     ensures few { result.1 < 20 }
     ensures digits { AllByRecursion IsAsciiDigit (take result.1 text.now) }
+    ensures last { result.1 < 19 → result.1 < length text.now → ¬ IsAsciiDigit (slice_index text.now result.1) }
     ensures value { result.0 ≡ digits_value 10 (take result.1 text.now) }
 {
     if text.len() < FRONT {
@@ -79,6 +83,7 @@ fn more_digits(text: &[u8], number: u64, start: usize) -> (u64, usize)
     ensures within { result.1 ≤ length text.now }
     ensures few { result.1 < 20 }
     ensures digits { AllByRecursion IsAsciiDigit (take result.1 text.now) }
+    ensures last { result.1 < 19 → result.1 < length text.now → ¬ IsAsciiDigit (slice_index text.now result.1) }
     ensures value { result.0 ≡ digits_value 10 (take result.1 text.now) }
 {
     let most = text.len().min(DIGITS - 1);
@@ -93,33 +98,26 @@ fn more_digits(text: &[u8], number: u64, start: usize) -> (u64, usize)
     (number, most)
 }
 
-// The moment of any text: slower, and apart from the common case.
+// Splits a text that begins with nineteen digits and has no space after these: only a moment of twenty digits is left.
 #[cold]
 #[inline(never)]
-fn split_any(text: &[u8]) -> Option<(u64, &[u8])>
+fn split_longest(text: &[u8]) -> Option<(u64, &[u8])>
+    requires digits { AllByRecursion IsAsciiDigit (take 19 text.now) }
+    requires apart { 19 < length text.now → ¬ (slice_index text.now 19 ≡ 32) }
     ensures some { IfSome result (λ parts. IsMomentLine text.now parts.1.now parts.0) }
     ensures none { IfNone result (HasNoMoment text.now) }
 {
-    match split_at_space(text) {
-        Some((digits, rest)) => match read_decimal(digits) {
-            Some(moment) => Some((moment, rest)),
-            None => None,
-        },
+    if text.len() <= DIGITS || text[DIGITS] != b' ' {
+        return None;
+    }
+    match read_decimal(&text[..DIGITS]) {
+        Some(moment) => Some((moment, &text[DIGITS + 1..])),
         None => None,
     }
 }
 
-// What stands before the first space, and after it.
-fn split_at_space(text: &[u8]) -> Option<(&[u8], &[u8])>
-    ensures some { IfSome result (λ parts. text.now ≡ parts.0.now ++ 32 ∷ parts.1.now) }
-    ensures first { IfSome result (λ parts. AllByRecursion (λ byte. ¬ (byte ≡ 32)) parts.0.now) }
-    ensures none { IfNone result (AllByRecursion (λ byte. ¬ (byte ≡ 32)) text.now) }
-{
-    let at = text.iter().position(|&byte| byte == b' ')?;
-    Some((&text[..at], &text[at + 1..]))
-}
-
-/// The number of 1 to 20 decimal digits, below 2^64: a moment, or an option of the program. `None` for all else.
+/// Returns the number that 1 to 20 decimal digits spell: a moment, or an option of the program. `None` for any other text
+/// and for numbers from 2^64 on.
 pub fn read_decimal(digits: &[u8]) -> Option<u64>
     ensures some { IfSome result (IsDecimalText digits.now) }
     ensures none { IfNone result ((number : ℕ) → ¬ IsDecimalText digits.now number) }
