@@ -6,6 +6,7 @@ mod arrays;
 mod changes;
 mod dice;
 mod digest;
+mod fields;
 mod log;
 mod positions;
 mod streams;
@@ -24,6 +25,7 @@ fn digest_of(alloc: Global, job: &str, seed: u64, size: u64) -> Result<Option<u6
         "crowd" => streams::crowd(alloc, seed, size)?,
         "check" => streams::check(alloc, seed, size)?,
         "decode" => arrays::decode(alloc, seed, size)?,
+        "read" => fields::read(alloc, seed, size)?,
         "encode" => positions::encode_all(seed, size),
         "all" => all(alloc, seed, size)?,
         _ => return Ok(None),
@@ -39,6 +41,7 @@ fn all(alloc: Global, seed: u64, size: u64) -> Result<u64, AllocError> {
     mix.add(streams::crowd(alloc, seed, size)?);
     mix.add(streams::check(alloc, seed, size)?);
     mix.add(arrays::decode(alloc, seed, size)?);
+    mix.add(fields::read(alloc, seed, size)?);
     mix.add(positions::encode_all(seed, size));
     Ok(mix.value())
 }
