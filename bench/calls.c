@@ -8,8 +8,11 @@
 #include <string.h>
 #include <time.h>
 
-enum { PLACES = 1024, CALLS = 200000, RUNS = 5 };
-static uint8_t frames[2 * PLACES][14];
+enum { PLACES = 1024, CALLS = 200000, RUNS = 5, BLOCK = 100, BLOCKS = 2 * PLACES / BLOCK, WINDOW = 10000, LEFT = 100 };
+static uint8_t frames[2 * PLACES][14], ground[2 * PLACES][14];
+static uint8_t elsewhere[PLACES][14]; /* the odd frame of the next place, by the address of this one */
+static uint8_t strangers[CALLS][14]; /* each of an address of its own */
+static squitter_tracker tracker;
 static char texts[2 * PLACES][28];
 static squitter_position places[PLACES];
 static squitter_entry entries[PLACES];
@@ -40,8 +43,29 @@ static void make(void) {
       head.odd = odd;
       if (squitter_encode_air(&head, &places[i], frames[2 * i + odd]).code) exit(2);
       squitter_text_of_frame(frames[2 * i + odd], texts[2 * i + odd]);
+      squitter_ground_head slow = {head.address, 5, 7, 20, 1, 33, 0, (uint8_t)odd};
+      if (squitter_encode_ground(&slow, &places[i], ground[2 * i + odd]).code) exit(2);
     }
   }
+}
+
+static void make_elsewhere(void) {
+  for (int i = 0; i < PLACES; i++) {
+    squitter_air_head head = {0x400000 + (uint32_t)i, 0xC38, 5, 11, 0, 0, 0, 1};
+    if (squitter_encode_air(&head, &places[(i + 1) % PLACES], elsewhere[i]).code) exit(2);
+  }
+}
+
+static void make_strangers(void) {
+  for (int n = 0; n < CALLS; n++) {
+    squitter_air_head head = {(uint32_t)n, 0xC38, 5, 11, 0, 0, 0, 0};
+    if (squitter_encode_air(&head, &places[n % PLACES], strangers[n]).code) exit(2);
+  }
+}
+
+/* An empty tracker in the place of the one that was there. */
+static void begin(uint32_t limit) {
+  if (squitter_tracker_new(&tracker, limit, WINDOW).code) exit(2);
 }
 
 #define CALLS_OF(count, ...) for (long n = 0; n < (count); n++) { int i = n % PLACES; (void)i; __VA_ARGS__; }
@@ -66,19 +90,43 @@ int main(int argc, char **argv) {
   uint8_t frame[14], count;
   char text[28];
   uint64_t moment = 0;
+  static const uint64_t moments[BLOCK];
+  static squitter_heard answers[BLOCK];
+  static squitter_fault faults[BLOCK];
   if (argc == 3) {
     wanted = argv[1];
     count_wanted = atol(argv[2]);
   }
   make();
+  make_elsewhere();
+  if (!wanted || strstr(wanted, "_address")) make_strangers();
   RATE("frame_of_text", sink += squitter_frame_of_text(texts[i], 28, frame).code + frame[9]);
   RATE("text_of_frame", (squitter_text_of_frame(frames[i], text), sink += text[9]));
   RATE("read_text", sink += squitter_read_text(texts[i], 28, &fields).code + fields.lat);
   RATE("read_frame", sink += squitter_read_frame(frames[i], &fields).code + fields.lat);
   RATE("local", sink += squitter_local(frames[2 * i], &places[i], &place).code + place.lat.den);
   RATE("pair", sink += squitter_pair(frames[2 * i], frames[2 * i + 1], &place).code + place.lat.den);
+  RATE("pair_elsewhere", sink += squitter_pair(frames[2 * i], elsewhere[i], &place).code + place.lat.den);
+  RATE("pair_ground",
+    sink += squitter_pair_at(ground[2 * i], ground[2 * i + 1], &places[i], &place).code + place.lat.den);
   RATE("hear",
     sink += squitter_hear(&entries[i], 10000, moment++, frames[2 * i + (n / PLACES) % 2], &heard).code + heard.what);
+  RATE("new_address",
+    if (!n) begin(CALLS);
+    sink += squitter_tracker_hear(&tracker, 0, strangers[n], &heard).code + heard.what;
+  );
+  begin(CALLS);
+  moment = 0;
+  RATE("leaving_address", /* the one of LEFT calls before leaves */
+    sink += squitter_tracker_hear(&tracker, moment += WINDOW / LEFT, strangers[n], &heard).code + heard.what;
+  );
+  begin(CALLS);
+  RATE("hear_many", /* a frame of a block */
+    if (n % BLOCK == 0)
+      sink += squitter_tracker_hear_many(&tracker, moments, BLOCK, &((const uint8_t (*)[14])frames)[n / BLOCK % BLOCKS * BLOCK],
+                                         BLOCK, answers, BLOCK, faults, BLOCK) + answers[0].what;
+  );
+  squitter_tracker_free(&tracker);
   RATE("encode_air",
     squitter_air_head head = {(uint32_t)i, 0xC38, 5, 11, 0, 0, 0, (uint8_t)(i % 2)};
     sink += squitter_encode_air(&head, &places[i], frame).code + frame[9];
