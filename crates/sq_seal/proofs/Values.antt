@@ -18,16 +18,15 @@ use Rattle.std.proofs.BoxSteps.Form.{Bx}
 use Rattle.std.specs.contracts.alloc.Global as Heap
 use Rattle.std.specs.contracts.impls.GlobalAllocator.TheImpl.{ghosts, dict}
 use Rattle.std.proofs.alloc.Global.TheLaws as heap
-use Rattle.sq_track.specs.contracts.tracker.Tracker as Tracker
 use Rattle.sq_track.proofs.tracker.Tracker.TheLaws as tracker
 use Rattle.sq_seal.specs.contracts.parts.Parts as Parts
 use Rattle.sq_seal.specs.contracts.seal.Seal as Seal
-use Rattle.sq_seal.specs.Seal.{seal_owns}
+use Rattle.sq_seal.specs.Seal.{seal_owns, the_tracker}
 
 abbrev pub E : Bx
 E = record {
-  row = Tracker.the_row;
-  laws = tracker.the_row_laws;
+  row = the_tracker;
+  laws = tracker.the_row_laws Heap.the_row ghosts heap.the_row_laws;
   al = record {
     row = Heap.the_row;
     laws =
@@ -39,7 +38,7 @@ E = record {
 }
 
 abbrev pub FromParts : Slot 0
-FromParts = plain (λ _. Parts.the_row Tracker.the_row Heap.the_row ghosts)
+FromParts = plain (λ _. Parts.the_row the_tracker Heap.the_row ghosts)
 
 abbrev pub FromSeal : Slot 0
 FromSeal = plain (λ _. Seal.the_row)
@@ -47,7 +46,7 @@ FromSeal = plain (λ _. Seal.the_row)
 abbrev pub FromGlobal : Slot 0
 FromGlobal = plain (λ _. Heap.the_row)
 
-abbrev pub IsHeld : Option Tracker.the_row.Denot → Option Tracker.the_row.Denot → Type 0
+abbrev pub IsHeld : Option the_tracker.Denot → Option the_tracker.Denot → Type 0
 IsHeld held wanted = held ≡ wanted
 
 abbrev pub one : Ptr → Val
@@ -61,7 +60,7 @@ module _ {M : Type 1} {𝓤 : Ura M} {𝓛 : Logic 𝓤} {K : Type 0} {Γ : List
       fsplit t $ fpick t (λ vss. fsplit t $ feq_l t (λ ev. fsplit t $ feq_l t (λ ep. drop t $
       k (ev ∙ ap (λ (ps : List Val). vstruct (of_list (ps ++ [])) ∷ []) ep))))
 
-  pub seal_in : K → (p : Ptr) (h : Option Tracker.the_row.Denot)
+  pub seal_in : K → (p : Ptr) (h : Option the_tracker.Denot)
       → Step K 𝓛 (‵ (Seal.the_row.own_val (record { at = p; held = h }) (one p ∷ [])) ∷ Γ) G (‵ (seal_owns p h) ∷ Γ) G
   seal_in t p h = step (λ s.
       nothing t $ feq_i t (List Val) (ptr_val p ∷ []) (ptr_val p ∷ []) refl $ fjoin t $
@@ -70,7 +69,7 @@ module _ {M : Type 1} {𝓤 : Ura M} {𝓛 : Logic 𝓤} {K : Type 0} {Γ : List
       fjoin t $ s)
 
 -- the tracker, or any
-abbrev pub held_in : Option Tracker.the_row.Denot → Tracker.the_row.Denot
+abbrev pub held_in : Option the_tracker.Denot → the_tracker.Denot
 held_in None = record { limit = 0; window = 0; site = None; last = None; contacts = [] }
 held_in (Some x) = x
 

@@ -18,21 +18,25 @@ use crate::links::{Neighbours, join, links_at, put_last, take_out};
 use indexmap::IndexMap;
 use sq_angle::Position;
 use sq_message::Squitter;
-use std::alloc::{AllocError, Global};
+use std::alloc::{AllocError, Allocator, Global};
+use std::hash::{BuildHasherDefault, FoldHasher};
 use std::marker::Model;
+
+// The contact of each address.
+type Table<A> = IndexMap<u32, Contact, BuildHasherDefault<FoldHasher>, A>;
 
 /// The contacts of addresses, in the order of last hearing.
 #[derive(Drop)]
-pub struct Contacts {
-    table: IndexMap<u32, Contact>,
+pub struct Contacts<A: Allocator = Global> {
+    table: Table<A>,
     // Links the indices of the table in the order of last hearing, and the last heard to the longest unheard. An array
     // apart from the entries: hearing an address writes the links of up to four others and loads none of their entries.
-    links: Vec<Neighbours>,
+    links: Vec<Neighbours, A>,
     // The index in the table of the longest unheard address, if there is one.
     oldest: u32,
 }
 
-impl Model for Contacts {
+impl<A: Allocator> Model for Contacts<A> {
     ghost use Rattle.std.specs.Prelude.{ℕ, List};
     ghost use Rattle.sq_track.specs.Ordered.{entries_in};
     ghost use Rattle.sq_track.specs.Ring.{IsLinkedTable, addresses_in};
@@ -47,7 +51,7 @@ impl Model for Contacts {
 
 // Returns the address at an index of the table, and the moment of its newest position.
 #[inline(always)]
-fn moment_at(table: &IndexMap<u32, Contact>, at: u32) -> Option<(u32, u64)>
+fn moment_at<A: Allocator>(table: &Table<A>, at: u32) -> Option<(u32, u64)>
     ensures entry { result ≡ slice_get (moments_in table.now.entries) at }
     ensures found { IfSome (slice_get table.now.entries at)
         (λ entry. lookup (nat_eq entry.0) table.now.entries ≡ Some entry.1) }
@@ -95,9 +99,9 @@ fn blank() -> Contact
 
 // Finds the entry of an address, or makes one. A known address takes no memory.
 #[inline(always)]
-fn reach(
-    table: &mut IndexMap<u32, Contact>,
-    links: &mut Vec<Neighbours>,
+fn reach<A: Allocator>(
+    table: &mut Table<A>,
+    links: &mut Vec<Neighbours, A>,
     oldest: &mut u32,
     address: u32,
 ) -> Result<u32, AllocError>
@@ -117,9 +121,9 @@ fn reach(
 
 // Makes an entry for an absent address, at the end of the round. Takes its links back if the table cannot grow.
 #[inline(never)]
-fn enter(
-    table: &mut IndexMap<u32, Contact>,
-    links: &mut Vec<Neighbours>,
+fn enter<A: Allocator>(
+    table: &mut Table<A>,
+    links: &mut Vec<Neighbours, A>,
     oldest: &mut u32,
     address: u32,
 ) -> Result<u32, AllocError>
@@ -150,8 +154,8 @@ fn enter(
 
 // Hears a squitter of the address at an index.
 #[inline(always)]
-fn hear_at(
-    table: &mut IndexMap<u32, Contact>,
+fn hear_at<A: Allocator>(
+    table: &mut Table<A>,
     at: u32,
     window_ms: u64,
     site: Option<&Position>,
@@ -167,7 +171,7 @@ fn hear_at(
 }
 
 // Takes an entry out of the table. The last takes its place.
-fn remove_at(table: &mut IndexMap<u32, Contact>, at: usize)
+fn remove_at<A: Allocator>(table: &mut Table<A>, at: usize)
     requires { at < index_map_len table.old }
     ensures entries { (entry : ℕ × Contact) × (table.new.entries ≡ swap_remove table.old.entries at entry) }
     ensures len { length table.new.entries + 1 ≡ length table.old.entries }
@@ -177,9 +181,9 @@ fn remove_at(table: &mut IndexMap<u32, Contact>, at: usize)
     table.swap_remove_index(at);
 }
 
-impl Contacts {
+impl<A: Allocator + Copy> Contacts<A> {
     /// No contacts.
-    pub fn new(alloc: Global) -> Contacts
+    pub fn new(alloc: A) -> Contacts<A>
         ensures { result ≡ [] }
     {
         Contacts {
@@ -188,7 +192,9 @@ impl Contacts {
             oldest: 0,
         }
     }
+}
 
+impl<A: Allocator> Contacts<A> {
     /// How many there are.
     pub fn len(&self) -> usize
         ensures len { result ≡ length self.now }

@@ -5,6 +5,8 @@ ghost use Rattle.sq_track.specs.Ordered.{others_than};
 ghost use Rattle.sq_track.specs.Ring.{IsEntered, IsLinking, IsOnRound, IsRound, after_at, before_at, renamed, round};
 ghost use Rattle.sq_track.specs.declared.links.Neighbours.{Neighbours};
 
+use std::alloc::Allocator;
+
 /// The links of an index. At 8 bytes, eight of them share a cache line.
 #[derive(Clone, Copy)]
 pub struct Neighbours {
@@ -107,7 +109,7 @@ pub(crate) fn put_last(links: &mut [Neighbours], oldest: u32, at: u32, own: Neig
 }
 
 // Removes an index from the round, and returns where the round begins. The last index takes the removed one's place.
-pub(crate) fn take_out(links: &mut Vec<Neighbours>, oldest: u32, at: u32) -> u32
+pub(crate) fn take_out<A: Allocator>(links: &mut Vec<Neighbours, A>, oldest: u32, at: u32) -> u32
     requires on_round { IsOnRound links.old.items oldest at }
     requires few { length links.old.items ≤ 2 ^ 32 }
     ensures round { IsRound links.new.items result }

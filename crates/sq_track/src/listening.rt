@@ -8,12 +8,13 @@ ghost use Rattle.sq_track.specs.Replies.{AreReplies, IsReply, history_after, his
 use crate::heard::{Heard, TrackFault};
 use crate::tracker::Tracker;
 use sq_message::Received;
+use std::alloc::Allocator;
 
 /// Hears squitters one after another, each at its moment, and gives back in `heard` what was heard of each, or why it
 /// was refused. `heard` has one slot for each of them. A squitter that is refused changes nothing, and the next one is
 /// heard.
-pub fn hear_each(
-    tracker: &mut Tracker,
+pub fn hear_each<A: Allocator>(
+    tracker: &mut Tracker<A>,
     received: &[Received],
     heard: &mut [Result<Heard, TrackFault>],
 )
@@ -38,7 +39,11 @@ pub fn hear_each(
 }
 
 // Hears a squitter into its slot.
-fn hear_into(tracker: &mut Tracker, one: &Received, slot: &mut Result<Heard, TrackFault>)
+fn hear_into<A: Allocator>(
+    tracker: &mut Tracker<A>,
+    one: &Received,
+    slot: &mut Result<Heard, TrackFault>,
+)
     ensures reply { (h : History) → StandsFor tracker.old h
         → IsReply (settings tracker.old) h one.now.moment one.now.squitter slot.new }
     ensures after { (h : History) → StandsFor tracker.old h

@@ -7,7 +7,7 @@ use Rattle.sq_track.proofs.Table.PlaceLemmas.{entered, front_is, links-length, o
 use Rattle.sq_track.proofs.contacts.enter.Goals as goal
 
 pub join-requires : goal.join-requires
-join-requires c =
+join-requires g c =
     let es = c.args.table.now.entries in
     let ls = c.args.links.now.items in
     let at = c.len-at.result in
@@ -18,7 +18,7 @@ join-requires c =
     c.requires.linked refl refl)
 
 pub returns-in-Ok-clause-ok : goal.returns-in-Ok-clause-ok
-returns-in-Ok-clause-ok c =
+returns-in-Ok-clause-ok g c =
     let es = c.args.table.now.entries in
     let fs = c.insert.new.self.entries in
     let ls = c.args.links.now.items in

@@ -4,10 +4,10 @@ use Rattle.sq_track.proofs.Table.PlaceLemmas.{absent_contact, place, reached_kno
 use Rattle.sq_track.proofs.contacts.reach.Goals as goal
 
 pub enter-requires-clause-absent : goal.enter-requires-clause-absent
-enter-requires-clause-absent c = absent_contact c.args.table.now.entries c.args.address c.in-None.ensures.found
+enter-requires-clause-absent g c = absent_contact c.args.table.now.entries c.args.address c.in-None.ensures.found
 
 pub returns-in-Some-clause-ok : goal.returns-in-Some-clause-ok
-returns-in-Some-clause-ok c =
+returns-in-Some-clause-ok g c =
     let es = c.args.table.now.entries in
     let ls = c.args.links.now.items in
     let here = place es ls c.args.oldest.now c.args.address c.in-Some.at c.requires.linked c.in-Some.ensures.unique
@@ -16,5 +16,5 @@ returns-in-Some-clause-ok c =
     c.in-Some.ensures.value
 
 pub returns-in-None-clause-absent : goal.returns-in-None-clause-absent
-returns-in-None-clause-absent c =
+returns-in-None-clause-absent g c =
     on_err c.enter.result (absent_contact c.args.table.now.entries c.args.address c.in-None.ensures.found)

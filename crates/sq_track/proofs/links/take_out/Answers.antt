@@ -5,10 +5,11 @@ use Rattle.sq_track.specs.Ring.{IsLinking, IsRound, after_at, before_at, renamed
 use Rattle.sq_track.specs.declared.links.Neighbours.{Neighbours}
 use Rattle.sq_track.proofs.Table.LinkLemmas.{written_back}
 use Rattle.sq_track.proofs.Table.RoundLemmas.{after_within, taken_out}
+use Rattle.sq_track.proofs.links.take_out.Given.{Over}
 use Rattle.sq_track.proofs.links.take_out.Goals as goal
 
 pub rename_last-requires-clause-after : goal.rename_last-requires-clause-after
-rename_last-requires-clause-after c =
+rename_last-requires-clause-after g c =
     let ls = c.args.links.now.items in
     let ms = c.pass_over.new.links in
     let two : c.deref_mut-2.result.now ≡ ms = c.deref_mut-2.ensures.value
@@ -27,11 +28,11 @@ rename_last-requires-clause-after c =
     c.requires.on_round.is_round.forward over)
 
 -- the round after the index was removed
-out : (c : goal.After-new_name)
+out : (g : Over) (c : goal.After-new_name g)
     → IsRound c.swap_remove.new.self.items (renamed c.args.at (c.len.result - 1) c.first_without-first.result)
     × (round c.swap_remove.new.self.items (renamed c.args.at (c.len.result - 1) c.first_without-first.result)
     ≡ map (renamed c.args.at (c.len.result - 1)) (others_than c.args.at (round c.args.links.now.items c.args.oldest)))
-out c =
+out g c =
     let ls = c.args.links.now.items in
     let ms = c.pass_over.new.links in
     let ns = c.rename_last.new.links in
@@ -64,10 +65,10 @@ out c =
     (omega (arith, c.swap_remove.ensures.len, c.swap_remove.new.self.ok.0, c.len.ensures))
 
 pub returns-clause-round : goal.returns-clause-round
-returns-clause-round c = subst (IsRound c.swap_remove.new.self.items) (sym c.new_name.ensures) (out c).0
+returns-clause-round g c = subst (IsRound c.swap_remove.new.self.items) (sym c.new_name.ensures) (out g c).0
 
 pub returns-clause-order : goal.returns-clause-order
-returns-clause-order c =
-    ap (round c.swap_remove.new.self.items) c.new_name.ensures ∙ (out c).1
+returns-clause-order g c =
+    ap (round c.swap_remove.new.self.items) c.new_name.ensures ∙ (out g c).1
     ∙ ap (λ n. map (renamed c.args.at (n - 1)) (others_than c.args.at (round c.args.links.now.items c.args.oldest)))
     (c.len.ensures ∙ sym c.deref_mut.ensures.len ∙ ap length c.deref_mut.ensures.value)

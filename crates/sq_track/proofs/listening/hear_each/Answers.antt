@@ -6,7 +6,7 @@ use Rattle.sq_track.proofs.Table.Sequences.{replies_next, stands_next, true_in_s
 use Rattle.sq_track.proofs.listening.hear_each.Goals as goal
 
 pub loop-at-preserved : goal.loop-at-preserved
-loop-at-preserved c =
+loop-at-preserved g c =
     let s = settings c.args.tracker.now in
     let xs = c.args.received.now in
     let rs = c.loop-at.heard in
@@ -33,7 +33,7 @@ loop-at-preserved c =
     )
 
 pub returns-clause-placed : goal.returns-clause-placed
-returns-clause-placed c =
+returns-clause-placed g c =
     let s = settings c.args.tracker.now in
     let i = c.loop-at.invariant in
     let ended : length c.args.received.now ≤ c.loop-at.at = search rules in

@@ -6,7 +6,7 @@ use Rattle.sq_track.proofs.listening.hear_each.Given as goal
 
 -- the first squitters have their replies, and the tracker stands for the history after them
 abbrev pub invariant-loop-at : goal.invariant-loop-at
-invariant-loop-at l =
+invariant-loop-at g l =
     (l.at ≤ length l.received) × (length l.heard ≡ length l.received)
     × (settings l.tracker ≡ settings l.initial.tracker)
     × ((h : History) → StandsFor l.initial.tracker h
@@ -14,4 +14,4 @@ invariant-loop-at l =
     × StandsFor l.tracker (history_after_all h (take l.at l.received) (take l.at l.heard)))
 
 abbrev pub decreases-loop-at : goal.decreases-loop-at
-decreases-loop-at l = length l.received - l.at
+decreases-loop-at g l = length l.received - l.at

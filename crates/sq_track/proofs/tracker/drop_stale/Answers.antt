@@ -5,7 +5,7 @@ use Rattle.sq_track.specs.declared.contact.Contact.{Contact}
 use Rattle.sq_track.proofs.tracker.drop_stale.Goals as goal
 
 pub loop-contacts-preserved : goal.loop-contacts-preserved
-loop-contacts-preserved c =
+loop-contacts-preserved g c =
     let o = c.loop-contacts.invariant.0 in
     let (address, newest, first, same, fewer) = c.is_oldest_stale.ensures.stale c.loop-contacts-test.true in
     let gone = c.remove_oldest.ensures address newest first in

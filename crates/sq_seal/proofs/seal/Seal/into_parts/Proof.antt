@@ -29,8 +29,7 @@ use Rattle.std.specs.Box.Ownership.{box_owns}
 use Rattle.std.proofs.alloc.Calls.{handle_tells}
 use Rattle.std.proofs.BoxSteps.Form.{D, τ, word, box_typed}
 use Rattle.std.proofs.BoxSteps.Steps.{box_in}
-use Rattle.sq_track.specs.contracts.tracker.Tracker as Tracker
-use Rattle.sq_seal.specs.Seal.{may_free, seal_owns}
+use Rattle.sq_seal.specs.Seal.{may_free, seal_owns, the_tracker}
 use Rattle.sq_seal.specs.contracts.seal.Seal.into_parts.{ended, clauses}
 use Rattle.sq_seal.specs.contracts.seal.Seal.into_parts.Key.{name as #self}
 use Rattle.sq_seal.proofs.seal.Seal.into_parts.Statement.{statement}
@@ -51,7 +50,7 @@ into_parts_spec 𝓤 𝓛 𝓜 𝓡 wired =
     ∷ raw (fact 𝓤 (IsHeld z.0.3.0.held (Some z.1))) ∷ []) ∵
     move ! (1 ∷ []) $ heard ! (IsHeld z.0.3.0.held (Some z.1)) (λ is. split ! $ move ! (1 ∷ []) $ fsplit ! $
     seal_out ! z.0.3.0 z.0.4.0 (λ ws. rewrite ! 0 (λ h. ‵ (seal_owns z.0.3.0.at h)) is refl $
-    in_a_block ! z.0.3.0.at (λ p. box_owns may_free Tracker.the_row p z.1) (fst∗ 𝓤 (never 𝓤)
+    in_a_block ! z.0.3.0.at (λ p. box_owns may_free the_tracker p z.1) (fst∗ 𝓤 (never 𝓤)
     (sem 𝓛 (may_free (bare (τ E)) null_ptr))) (λ b o e.
     move ! (1 ∷ []) $ fsplit ! $ handle_tells E.al ! z.0.3.1.0 z.0.4.1.0 (λ hv eh fa.
     let told : z.0.4.0 ≡ one (block_ptr b o) ∷ [] = ws ∙ ap (λ p. one p ∷ []) e in

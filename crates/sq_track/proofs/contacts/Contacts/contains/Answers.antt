@@ -6,7 +6,7 @@ use Rattle.sq_track.proofs.Table.ContactLemmas.{view-lookup}
 use Rattle.sq_track.proofs.contacts.Contacts.contains.Goals as goal
 
 pub returns : goal.returns
-returns c =
+returns g c =
     let es = c.self.inside.table.entries in
     c.contains_key.ensures
     ∙ ap is_some (sym (view-lookup c.args.address es (addresses_in es c.self.inside.links.items c.self.inside.oldest)

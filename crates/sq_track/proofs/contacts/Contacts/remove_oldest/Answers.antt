@@ -4,15 +4,16 @@ use Rattle.sq_track.specs.Ring.{address_at, addresses_in, round}
 use Rattle.sq_track.specs.declared.contact.Contact.{Contact}
 use Rattle.sq_track.proofs.Table.PlaceLemmas.{IsPlace, left_addresses, left_tied, left_view, links-length, oldest_first}
 use Rattle.sq_track.proofs.Table.PlaceLemmas.{oldest_place, some_entries, view-length}
+use Rattle.sq_track.proofs.contacts.Contacts.remove_oldest.Given.{Over}
 use Rattle.sq_track.proofs.contacts.Contacts.remove_oldest.Goals as goal
 
 pub take_out-self-inside-requires-clause-on_round : goal.take_out-self-inside-requires-clause-on_round
-take_out-self-inside-requires-clause-on_round c =
+take_out-self-inside-requires-clause-on_round g c =
     (oldest_place c.self.inside.table.entries c.self.inside.links.items c.self.inside.oldest c.self.invariant
     c.len.ensures.unique (omega (arith, c.if-at-len.true, c.len.ensures.len))).on_round
 
 pub take_out-self-inside-requires-clause-few : goal.take_out-self-inside-requires-clause-few
-take_out-self-inside-requires-clause-few c =
+take_out-self-inside-requires-clause-few g c =
     omega (
       arith,
       c.self.invariant.few,
@@ -20,13 +21,13 @@ take_out-self-inside-requires-clause-few c =
     )
 
 -- the addresses after the entry was removed
-left : (c : goal.After-remove_at)
+left : (g : Over) (c : goal.After-remove_at g)
     → IsPlace c.self.inside.table.entries c.self.inside.links.items c.self.inside.oldest
     (address_at c.self.inside.table.entries c.self.inside.oldest) c.self.inside.oldest
     × (addresses_in c.remove_at.new.table.entries c.take_out-self-inside.new.links.items c.take_out-self-inside.result
     ≡ map (address_at c.self.inside.table.entries)
     (others_than c.self.inside.oldest (round c.self.inside.links.items c.self.inside.oldest)))
-left c =
+left g c =
     let es = c.self.inside.table.entries in
     let ls = c.self.inside.links.items in
     let oldest = c.self.inside.oldest in
@@ -41,10 +42,10 @@ left c =
     )
 
 pub invariant_of-self : goal.invariant_of-self
-invariant_of-self c =
+invariant_of-self g c =
     let es = c.self.inside.table.entries in
     let oldest = c.self.inside.oldest in
-    let (at, order) = left c in
+    let (at, order) = left g c in
     record {
       tied = left_tied es c.remove_at.new.table.entries c.self.inside.links.items
           c.take_out-self-inside.new.links.items oldest c.take_out-self-inside.result (address_at es oldest) oldest
@@ -54,11 +55,11 @@ invariant_of-self c =
     }
 
 pub returns-then-at-len : goal.returns-then-at-len
-returns-then-at-len c address newest first =
+returns-then-at-len g c address newest first =
     let es = c.self.inside.table.entries in
     let ls = c.self.inside.links.items in
     let oldest = c.self.inside.oldest in
-    let (at, order) = left c in
+    let (at, order) = left g c in
     let is : address_at es oldest ≡ address = oldest_first es ls oldest address newest c.self.invariant
     (ap (λ (v : List (ℕ × Contact)). slice_get (moments_in v) 0) c.self.view_is ∙ first)
     (omega (arith, c.if-at-len.true, c.len.ensures.len)) in
@@ -69,7 +70,7 @@ returns-then-at-len c address newest first =
     ∙ ap (λ a. others_in a c.args.self.now) is
 
 pub returns-else-at-len : goal.returns-else-at-len
-returns-else-at-len c address newest first =
+returns-else-at-len g c address newest first =
     let es = c.self.inside.table.entries in
     let ls = c.self.inside.links.items in
     let oldest = c.self.inside.oldest in

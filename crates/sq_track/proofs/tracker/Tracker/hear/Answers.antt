@@ -22,13 +22,13 @@ use Rattle.sq_track.proofs.Table.StandsForLemmas.{position_of, silent_of, moment
 use Rattle.sq_track.proofs.tracker.Tracker.hear.Goals as goal
 
 pub keep_recent-self-inside-requires : goal.keep_recent-self-inside-requires
-keep_recent-self-inside-requires c =
-    let t : Held = the_view c.self.inside in
+keep_recent-self-inside-requires g c =
+    let t : Held = the_view g.row.A g.A.Allocator c.self.inside in
     bound_from c.self.inside.since t.last c.args.moment t.contacts c.in_ok-check_moment.ensures.ok c.self.invariant.1
 
 pub invariant_of-self : goal.invariant_of-self
-invariant_of-self c =
-    let t : Held = the_view c.self.inside in (
+invariant_of-self g c =
+    let t : Held = the_view g.row.A g.A.Allocator c.self.inside in (
       subst (IsSound t.limit (Some c.args.moment)) (sym c.keep_recent-self-inside.ensures.kept)
           (sound_silent t c.args.moment c.args.squitter.now NotPosition c.in_ok-check_moment.ensures.ok
           c.self.invariant.0),
@@ -36,8 +36,8 @@ invariant_of-self c =
     )
 
 pub returns-then-not-is_position-clause-reply : goal.returns-then-not-is_position-clause-reply
-returns-then-not-is_position-clause-reply c =
-    let t : Held = the_view c.self.inside in
+returns-then-not-is_position-clause-reply g c =
+    let t : Held = the_view g.row.A g.A.Allocator c.self.inside in
     let m = c.args.moment in
     let q = c.args.squitter.now in
     let silent = silent_of (squitter_parts q).me
@@ -47,8 +47,8 @@ returns-then-not-is_position-clause-reply c =
     (silent_is t h m q in_time silent, heard_silent t h m q st in_time silent))
 
 pub returns-then-not-is_position-clause-ok : goal.returns-then-not-is_position-clause-ok
-returns-then-not-is_position-clause-ok c =
-    let t : Held = the_view c.self.inside in
+returns-then-not-is_position-clause-ok g c =
+    let t : Held = the_view g.row.A g.A.Allocator c.self.inside in
     let m = c.args.moment in
     let q = c.args.squitter.now in
     let le = c.in_ok-check_moment.ensures.ok in
@@ -72,8 +72,8 @@ returns-then-not-is_position-clause-ok c =
     (silent_is t h m q in_time silent, heard_silent t h m q st in_time silent)))
 
 pub returns-then-is_full-clause-reply : goal.returns-then-is_full-clause-reply
-returns-then-is_full-clause-reply c =
-    let t : Held = the_view c.self.inside in
+returns-then-is_full-clause-reply g c =
+    let t : Held = the_view g.row.A g.A.Allocator c.self.inside in
     let m = c.args.moment in
     let q = c.args.squitter.now in
     let here = position_of (squitter_parts q).me (c.is_position.ensures.0 c.if-not-is_position.false) in
@@ -85,8 +85,8 @@ returns-then-is_full-clause-reply c =
     (in_time, full_is t h m q st in_time here (sym full ∙ c.if-is_full.true)))
 
 pub keep_recent-self-inside-requires-in-Ok : goal.keep_recent-self-inside-requires-in-Ok
-keep_recent-self-inside-requires-in-Ok c =
-    let t : Held = the_view c.self.inside in
+keep_recent-self-inside-requires-in-Ok g c =
+    let t : Held = the_view g.row.A g.A.Allocator c.self.inside in
     let m = c.args.moment in
     let q = c.args.squitter.now in
     let a = (squitter_parts q).address in
@@ -102,8 +102,8 @@ keep_recent-self-inside-requires-in-Ok c =
     c.self.invariant.1)
 
 pub invariant_of-self-in-Ok : goal.invariant_of-self-in-Ok
-invariant_of-self-in-Ok c =
-    let t : Held = the_view c.self.inside in
+invariant_of-self-in-Ok g c =
+    let t : Held = the_view g.row.A g.A.Allocator c.self.inside in
     let m = c.args.moment in
     let q = c.args.squitter.now in
     let heard = c.in-Ok.heard in
@@ -128,8 +128,8 @@ invariant_of-self-in-Ok c =
     )
 
 pub returns-in-Ok-clause-reply : goal.returns-in-Ok-clause-reply
-returns-in-Ok-clause-reply c =
-    let t : Held = the_view c.self.inside in
+returns-in-Ok-clause-reply g c =
+    let t : Held = the_view g.row.A g.A.Allocator c.self.inside in
     let m = c.args.moment in
     let q = c.args.squitter.now in
     let heard = c.in-Ok.heard in
@@ -149,8 +149,8 @@ returns-in-Ok-clause-reply c =
     ))
 
 pub returns-in-Ok-clause-ok : goal.returns-in-Ok-clause-ok
-returns-in-Ok-clause-ok c =
-    let t : Held = the_view c.self.inside in
+returns-in-Ok-clause-ok g c =
+    let t : Held = the_view g.row.A g.A.Allocator c.self.inside in
     let m = c.args.moment in
     let q = c.args.squitter.now in
     let heard = c.in-Ok.heard in
@@ -192,8 +192,8 @@ returns-in-Ok-clause-ok c =
     (step.remembers h remembered in_time)))
 
 pub returns-in-Err-clause-reply : goal.returns-in-Err-clause-reply
-returns-in-Err-clause-reply c =
-    let t : Held = the_view c.self.inside in
+returns-in-Err-clause-reply g c =
+    let t : Held = the_view g.row.A g.A.Allocator c.self.inside in
     let m = c.args.moment in
     let q = c.args.squitter.now in
     let full = subst (λ a. c.is_full.result
@@ -204,8 +204,8 @@ returns-in-Err-clause-reply c =
     (sym full ∙ c.if-is_full.false))
 
 pub returns-in-Err-clause-known : goal.returns-in-Err-clause-known
-returns-in-Err-clause-known c = λ _.
-    let t : Held = the_view c.self.inside in
+returns-in-Err-clause-known g c = λ _.
+    let t : Held = the_view g.row.A g.A.Allocator c.self.inside in
     let a = (squitter_parts c.args.squitter.now).address in
     let absent = subst (λ x. lookup (eqb x) c.self.inside.contacts
     ≡ None) c.address-address.ensures.value c.in-Err.ensures.absent in
