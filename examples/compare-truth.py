@@ -1,9 +1,9 @@
 #!/usr/bin/env python3
-"""compare-truth.py TRUTH < ANSWERS: compares each fix and each followed place that `track` answered with the truth.
+"""compare-truth.py TRUTH < ANSWERS: compares each position that `track` printed with the truth.
 
-A place has to be the point of its grid that is nearest to the true position, to seven decimals: of the grids of an even
-and an odd position, in the air and on the ground, one point lies there. This is computed here with exact fractions, and
-by the standard's words alone."""
+A position has to be the grid point nearest to the true position, to seven decimals. The grid is the even or the odd
+one, in the air or on the ground. The script computes the points with exact fractions, from the standard alone."""
+import argparse
 import os
 import sys
 from fractions import Fraction
@@ -27,8 +27,12 @@ def points(lat, lon):
 
 
 def main():
+    parser = argparse.ArgumentParser(description="Compares the answers of 'squitter track' with the true positions.",
+                                     usage="%(prog)s [-h] TRUTH < ANSWERS")
+    parser.add_argument("truth", metavar="TRUTH", type=argparse.FileType(encoding="ascii"),
+                        help="the true positions, as examples/flights.truth has them")
     truth = {}
-    for line in open(sys.argv[1]):
+    for line in parser.parse_args().truth:
         number, address, lat, lon, _ = line.split()
         truth[number] = (address, set(points(Fraction(lat), Fraction(lon))))
     compared = waiting = refused = wrong = 0
@@ -45,7 +49,7 @@ def main():
         else:
             refused += 1
     print(f"{compared} places compared, {wrong} not true; {waiting} lines without a place, {refused} refused")
-    sys.exit(1 if wrong else 0)
+    sys.exit(0 if compared and not wrong else 1)
 
 
 if __name__ == "__main__":

@@ -1,12 +1,13 @@
 #!/usr/bin/env python3
-"""make-flights.py PROGRAM: writes flights.log and flights.truth, a log of five flights and where they truly were.
+"""make-flights.py PROGRAM: writes flights.log and flights.truth, a log of five flights and their true positions.
 
-Each line of the log is a moment in milliseconds and a frame; the frame of each position is made by PROGRAM's `encode`.
-Each line of the truth is the number of a line of the log, its address, the position that was encoded, and the altitude
-in feet, or - on the ground. Lines of the log that are damaged, or that come after later ones, are not in the truth."""
+Each line of the log has a timestamp (ms) and a frame. PROGRAM's `encode` makes the frames. Each line of the truth has
+the number of its line in the log, the address, the encoded position, and the altitude in feet, or - on the ground. Some
+lines of the log are damaged or out of order; the truth leaves these out. Both files are written once all is encoded."""
+import argparse
 import os
 import subprocess
-import sys
+from typing import List, Tuple
 
 STEP = 500  # milliseconds between the frames of one aircraft
 
@@ -41,26 +42,37 @@ def degrees(ten_millionths):
     return f"{'-' if ten_millionths < 0 else ''}{whole}.{part:07}"
 
 
-def main():
-    program = sys.argv[1]
+def written(program: str) -> Tuple[List[str], List[str]]:
+    """Returns the lines of the log and those of the truth."""
+    log: List[str] = []
+    truth: List[str] = []
+    for count, (moment, address, kind, parity, (lat, lon), feet) in enumerate(sorted(flights())):
+        words = [f"--kind={kind}", f"--parity={parity}", f"--address={address}"]
+        words += [] if feet is None else [f"--feet={feet}"]
+        words += [f"--lat={degrees(lat)}", f"--lon={degrees(lon)}"]
+        encoded = subprocess.run([program, "encode", *words], capture_output=True, text=True, check=True)
+        frame = encoded.stdout.strip()
+        log.append(f"{moment} *{frame};\n")
+        truth.append(f"{len(log)} {address} {degrees(lat)} {degrees(lon)} {'-' if feet is None else feet}\n")
+        if count % 97 == 50:  # the same frame with a damaged digit
+            log.append(f"{moment} *{frame[:20]}{'0' if frame[20] != '0' else '1'}{frame[21:]};\n")
+        if count % 151 == 100:  # the same frame with an earlier timestamp
+            log.append(f"{moment - 3 * STEP} *{frame};\n")
+    return log, truth
+
+
+def main() -> None:
+    parser = argparse.ArgumentParser(description="Writes flights.log and flights.truth beside this script.")
+    parser.add_argument("program", metavar="PROGRAM", help="the program squitter, which encodes the positions")
+    program = parser.parse_args().program
+    try:
+        made = written(program)
+    except (OSError, subprocess.CalledProcessError) as why:
+        parser.exit(1, f"{parser.prog}: nothing is written: {why}\n")
     here = os.path.dirname(os.path.abspath(__file__))
-    with open(f"{here}/flights.log", "w") as log, open(f"{here}/flights.truth", "w") as truth:
-        number = 0
-        for count, (moment, address, kind, parity, (lat, lon), feet) in enumerate(sorted(flights())):
-            words = [f"--kind={kind}", f"--parity={parity}", f"--address={address}"]
-            words += [] if feet is None else [f"--feet={feet}"]
-            words += [f"--lat={degrees(lat)}", f"--lon={degrees(lon)}"]
-            encoded = subprocess.run([program, "encode", *words], capture_output=True, text=True, check=True)
-            frame = encoded.stdout.strip()
-            number += 1
-            log.write(f"{moment} *{frame};\n")
-            truth.write(f"{number} {address} {degrees(lat)} {degrees(lon)} {'-' if feet is None else feet}\n")
-            if count % 97 == 50:  # the same frame with a damaged digit
-                number += 1
-                log.write(f"{moment} *{frame[:20]}{'0' if frame[20] != '0' else '1'}{frame[21:]};\n")
-            if count % 151 == 100:  # and once more with a moment that has passed
-                number += 1
-                log.write(f"{moment - 3 * STEP} *{frame};\n")
+    for name, lines in zip(("flights.log", "flights.truth"), made):
+        with open(f"{here}/{name}", "w", encoding="ascii") as file:
+            file.writelines(lines)
 
 
 if __name__ == "__main__":

@@ -1,8 +1,7 @@
 #!/usr/bin/env python3
-"""decode_log.py LOG: what is heard of each line of a log, a moment in milliseconds and a frame, as `squitter track`
-says it."""
+"""decode_log.py LOG: prints what `squitter track` prints of a log; each line has a timestamp (ms) and a frame."""
+import argparse
 import re
-import sys
 from typing import BinaryIO, Dict, Iterator, Tuple
 
 import squitter
@@ -80,7 +79,10 @@ def answers(log: BinaryIO) -> Iterator[Tuple[int, str]]:
 
 
 def main() -> None:
-    with open(sys.argv[1], "rb") as log:
+    parser = argparse.ArgumentParser(description="Prints what 'squitter track' prints of a log.")
+    parser.add_argument("log", metavar="LOG", type=argparse.FileType("rb"),
+                        help="a file whose lines have a timestamp in milliseconds and a frame")
+    with parser.parse_args().log as log:
         for number, answer in answers(log):
             print(number, answer)
 

@@ -1,0 +1,14 @@
+#!/bin/sh
+# usage.sh PYTHON: examples/decode_log.py says how it is called, if asked (status 0), with no log, one that is not there,
+# and two logs (status 2).
+set -u
+python=$1
+cd "$(dirname "$0")/.." || exit 1
+[ "$("$python" examples/decode_log.py --help | head -n 1)" = "usage: decode_log.py [-h] LOG" ] || exit 1
+for words in '' /nonexistent '/dev/null /dev/null'; do
+  # (the words are split: some are two)
+  # shellcheck disable=SC2086
+  reported=$("$python" examples/decode_log.py $words 2>&1 > /dev/null)
+  status=$?
+  case $status-$reported in "2-usage: decode_log.py [-h] LOG"*) ;; *) echo "'$words': $status $reported"; exit 1 ;; esac
+done
