@@ -5,7 +5,7 @@ program.
 
 The frames are nearly good: made of random positions, some damaged. The program reads them as one input of `check` and
 of `track`; `encode`, `local` and `pair`, with a site and without, are called so many times each. PROGRAM is the program
-(the launcher at the top of the repository where it is not set). Says what differs, and ends with status 1."""
+(by default what dist/program says). Says what differs, and ends with status 1."""
 import os
 import random
 import subprocess
@@ -18,7 +18,8 @@ sys.path.insert(0, os.path.join(HERE, ".."))
 import squitter  # noqa: E402
 from squitter import AirHead, Code, Contact, Fault, GroundHead, Kind, Position, What  # noqa: E402
 
-PROGRAM = os.environ.get("PROGRAM") or os.path.join(HERE, "..", "..", "squitter")
+PROGRAM = os.environ.get("PROGRAM") or subprocess.run(
+    [os.path.join(HERE, "..", "..", "dist", "program")], check=True, stdout=subprocess.PIPE, text=True).stdout.strip()
 WORDS = {What.FIX: "fix", What.FOLLOWED: "followed", What.WAITING: "waiting", What.SPLIT: "split", What.FAR: "far",
          What.WITHOUT_SITE: "no site", What.NO_PLACE: "no position"}
 PARITIES = ("even", "odd")

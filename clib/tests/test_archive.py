@@ -26,7 +26,8 @@ sys.path.insert(0, os.path.join(HERE, ".."))
 import squitter  # noqa: E402
 from squitter import AirHead, GroundHead, Position, batch  # noqa: E402
 
-PROGRAM = os.environ.get("PROGRAM") or os.path.join(TOP, "squitter")
+PROGRAM = os.environ.get("PROGRAM") or subprocess.run(
+    [os.path.join(TOP, "dist", "program")], check=True, stdout=subprocess.PIPE, text=True).stdout.strip()
 ARCHIVE = os.path.join(TOP, "examples", "archive.py")
 HOURS, LINES = 12, 6000
 HEADER = ",".join(batch.COLUMNS).encode()

@@ -37,7 +37,8 @@ except ImportError:
     pandas = None
 NA = [] if pandas is None else [pandas.NA, pandas.NaT]  # what pandas has in the place of a missing value
 
-PROGRAM = os.environ.get("PROGRAM") or os.path.join(TOP, "squitter")
+PROGRAM = os.environ.get("PROGRAM") or subprocess.run(
+    [os.path.join(TOP, "dist", "program")], check=True, stdout=subprocess.PIPE, text=True).stdout.strip()
 COUNT = 50_000
 EVEN, ODD = "8D40621D58C382D690C8AC2863A7", "8D40621D58C386435CC412692AD6"
 PLACE = (428091, 8192, 64215, 16384)
