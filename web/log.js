@@ -92,6 +92,8 @@ class LogPanel {
     this.tracks = new Tracks(0);
     /** @type {Worker | null} */
     this.worker = null;
+    /** @type {(() => void) | null} */
+    this.again = null;
     this.at = 0;
     this.started = 0;
     this.seconds = 0;
@@ -119,6 +121,7 @@ class LogPanel {
    * @param {Blob} file @param {string} name @param {string[]} [where] */
   hear(file, name, where) {
     this.stop();
+    this.again = () => this.hear(file, name, where);
     let settings;
     try {
       settings = this.settings(where);
@@ -142,6 +145,12 @@ class LogPanel {
     this.worker.postMessage({ wasm: moduleBytes(), file, settings });
     this.say(`Hearing ${name}.`);
     this.able();
+  }
+
+  /** Hears the last log again, as the settings have changed. A site with one half still to be typed is no site yet. */
+  hearAgain() {
+    const isWhole = Boolean(byId("log-lat").value.trim()) === Boolean(byId("log-lon").value.trim());
+    if (isWhole) this.again?.();
   }
 
   /** Takes what the worker tells. */
@@ -234,11 +243,16 @@ class LogPanel {
     byId("log-form").addEventListener("submit", (event) => event.preventDefault());
     byId("filter-form").addEventListener("submit", (event) => event.preventDefault());
     byId("filter-form").addEventListener("input", () => this.setFilter());
+    for (const name of ["lat", "lon", "window", "limit"]) {
+      byId(`log-${name}`).addEventListener("change", () => this.hearAgain());
+    }
+    // A browser reports no change if the same file is chosen again, unless the field was emptied.
+    byId("log-file").addEventListener("click", () => { byId("log-file").value = ""; });
     byId("log-file").addEventListener("change", () => {
       const [file] = byId("log-file").files;
       if (file) this.hear(file, file.name);
     });
-    byId("log-example").addEventListener("click", () => 
+    byId("log-example").addEventListener("click", () =>
       this.hear(exampleLog(), `examples/flights.log, near ${EXAMPLE_SITE.join(", ")}`, EXAMPLE_SITE));
     byId("log-cancel").addEventListener("click", () => this.end("cancelled"));
     byId("log-text").addEventListener("click", () =>

@@ -266,8 +266,9 @@ export declare class Contact {
   get newest(): bigint;
 }
 
-/** Loads the library from its module, dist/squitter.wasm: its bytes, what fetch answers, a compiled module, or a promise
- * of one of these. An engine without 64-bit memory rejects it with a WebAssembly.CompileError. */
+/** Loads the library from dist/squitter.wasm: its bytes, the Response of fetch, a compiled module, or a promise of one
+ * of these. Rejects with a WebAssembly.CompileError if the engine has no 64-bit memory; Node 20 has it if it is started
+ * as `node --experimental-wasm-memory64`. */
 export declare function load(
   source: BufferSource | Response | WebAssembly.Module | PromiseLike<BufferSource | Response | WebAssembly.Module>
 ): Promise<Squitter>;

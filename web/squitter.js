@@ -1,7 +1,8 @@
 /* squitter.js: libsquitter for JavaScript: ADS-B position squitters (DF17), read, decoded and written exactly.
  *
  *     import { load } from "./squitter.js";
- *     const squitter = await load(fetch("squitter.wasm"));           // in Node: load(readFileSync("squitter.wasm"))
+ *     const squitter = await load(fetch("squitter.wasm"));           // in a browser; in Node:
+ *     const squitter = await load(readFileSync("squitter.wasm"));    // Node 20: node --experimental-wasm-memory64
  *     const place = squitter.pair("8D40621D58C382D690C8AC2863A7", "8D40621D58C386435CC412692AD6");
  *     console.log(`${place.lat} ${place.lon}`);                      // 52.2657802 3.9389125
  *     console.log(place.lat.num, place.lat.den);                     // 25261515n 483328n
@@ -519,14 +520,27 @@ export class Contact {
   }
 }
 
-/** Loads the library from its module, dist/squitter.wasm: its bytes, what fetch answers, a compiled module, or a
- * promise of one of these. An engine without 64-bit memory rejects it with a WebAssembly.CompileError. */
+/** Makes an instance of the module. Engines without 64-bit memory say 'invalid memory limits flags', which names neither
+ * the cause nor what to do. */
+async function instantiated(given) {
+  try {
+    return await WebAssembly.instantiate(given, {});
+  } catch (error) {
+    if (!(error instanceof WebAssembly.CompileError) || !error.message.includes("invalid memory limits")) throw error;
+    const advice = "squitter.wasm needs WebAssembly with 64-bit memory; start Node 20 as: node --experimental-wasm-memory64";
+    throw new WebAssembly.CompileError(`${advice} (${error.message})`, { cause: error });
+  }
+}
+
+/** Loads the library from dist/squitter.wasm: its bytes, the Response of fetch, a compiled module, or a promise of one
+ * of these. Rejects with a WebAssembly.CompileError if the engine has no 64-bit memory; Node 20 has it if it is started
+ * as `node --experimental-wasm-memory64`. */
 export async function load(source) {
   let given = await source;
   if (typeof Response !== "undefined" && given instanceof Response) {
     if (!given.ok) throw new Error(`the module is not there: ${given.status}`);
     given = await given.arrayBuffer();
   }
-  const made = await WebAssembly.instantiate(given, {});
+  const made = await instantiated(given);
   return new Squitter(made instanceof WebAssembly.Instance ? made : made.instance);
 }

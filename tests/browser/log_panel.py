@@ -5,9 +5,9 @@ import re
 import subprocess
 import time
 
-from chromium import Chromium
+from chromium import Chromium, installed
 from logs import USUAL, damaged, flights, hostile_logs, of_address, tracked
-from trying import AIR_EVEN, SITE, Tries, bytes_of, expect, first_difference
+from trying import AIR_EVEN, HERE, SITE, Missing, Tries, bytes_of, expect, first_difference
 from using import clicked, given_log, heard, pressed, shown, silent, typed
 
 
@@ -129,6 +129,81 @@ def own_site(tries: Tries) -> str:
     expect(heard(browser) == tracked(tries.program, flights(), (10_000, 1000, SITE)), "the example, with another site")
     silent(browser)
     return "two lines from Sydney, with and without a site"
+
+
+def changed(browser: Chromium, **fields: str) -> None:
+    """Types into fields and leaves each, so that the browser reports a change."""
+    for name, text in fields.items():
+        typed(browser, **{name: text})
+        browser.evaluate(f"document.getElementById('{name.replace('_', '-')}').dispatchEvent(new Event('change'))")
+
+
+def chosen_again(browser: Chromium, path: str) -> bytes:
+    """Opens the dialog of the file field by the mouse, and chooses a file; answers what is heard of it."""
+    browser.call("Page.setInterceptFileChooserDialog", enabled=True)
+    middle = browser.evaluate(
+        "(() => { squitterLog.name = ''; const field = document.getElementById('log-file'); field.scrollIntoView();"
+        "const { x, y, width, height } = field.getBoundingClientRect(); return [x + width / 4, y + height / 2] })()"
+    )
+    for kind in ("mousePressed", "mouseReleased"):
+        browser.call("Input.dispatchMouseEvent", type=kind, x=middle[0], y=middle[1], button="left", clickCount=1)
+    browser.evaluate("new Promise((done) => setTimeout(done, 50))")
+    browser.give("#log-file", path)
+    browser.wait("squitterLog.name === 'again.log'")
+    browser.call("Page.setInterceptFileChooserDialog", enabled=False)
+    return heard(browser)
+
+
+def heard_again(tries: Tries) -> str:
+    """A log is heard again when the site, the window or the limit changes, and when the same file is chosen once more;
+    with half a site typed it waits for the other half, and a refused site leaves it to the next change."""
+    browser = tries.page("log")
+    path, log = f"{tries.work}/again.log", flights()
+    with open(path, "wb") as file:
+        file.write(log)
+    changed(browser, log_lat="1", log_lon="2")
+    expect(shown(browser, "#log-state") == "No log yet.", "a site without a log:", shown(browser, "#log-state"))
+    changed(browser, log_lat="", log_lon="")
+    got = chosen_again(browser, path)
+    expect(got == tracked(tries.program, log, USUAL), "the first time")
+    expect("Type where your receiver is" in shown(browser, "#log-state"), shown(browser, "#log-state"))
+    changed(browser, log_lat=SITE[0])
+    expect(browser.evaluate("squitterLog.worker === null"), "half a site")
+    expect(shown(browser, "#log-state").startswith("again.log: heard"), shown(browser, "#log-state"))
+    changed(browser, log_lon=SITE[1])
+    got, near = heard(browser), tracked(tries.program, log, (10_000, 1000, SITE))
+    expect(got == near, "another site:", first_difference(got, near))
+    for fields, settings in (
+        ({"log_window": "400"}, (400, 1000, SITE)),
+        ({"log_limit": "2"}, (400, 2, SITE)),
+        ({"log_limit": "1000", "log_window": "10000"}, (10_000, 1000, SITE)),
+        ({"log_lat": "-33.9"}, (10_000, 1000, ("-33.9", SITE[1]))),
+        ({"log_lat": "", "log_lon": ""}, USUAL),
+    ):
+        changed(browser, **fields)
+        got, wanted = heard(browser), tracked(tries.program, log, settings)
+        expect(got == wanted, fields, first_difference(got, wanted))
+    changed(browser, log_lat="91", log_lon="4")
+    expect(shown(browser, "#log-state").startswith("Refused: "), shown(browser, "#log-state"))
+    changed(browser, log_lat=SITE[0], log_lon=SITE[1])
+    expect(heard(browser) == near, "after a site that was refused")
+    with open(path, "ab") as file:
+        file.write(b"999999 " + AIR_EVEN.encode() + b"\n")
+    got, wanted = chosen_again(browser, path), tracked(tries.program, bytes_of(path), (10_000, 1000, SITE))
+    expect(got == wanted and got != near, "the same file, which has grown:", first_difference(got, wanted))
+    silent(browser)
+    return "nine times"
+
+
+def rate(tries: Tries) -> str:
+    """The script that measures the page beside the program: both answer alike, and it prints its line."""
+    if not installed():
+        raise Missing("chromium")
+    words = [f"{HERE}/rate", "3000"]
+    done = subprocess.run(words, env={**os.environ, "PROGRAM": tries.program}, capture_output=True, text=True)
+    pattern = r"3000 lines: \d+ a second by the page, \d+ by the program, \d+\.\d times as long\n"
+    expect(done.returncode == 0 and re.fullmatch(pattern, done.stdout), done.stdout, done.stderr)
+    return done.stdout.strip()
 
 
 def huge_line(tries: Tries) -> str:

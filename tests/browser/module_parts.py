@@ -32,6 +32,43 @@ def imported(tries: Tries) -> str:
     return f"3 times 10000 lines, {of_module(tries, 'refusals').decode().strip()}"
 
 
+WITHOUT_FLAG = """
+import { load } from "TOP/web/squitter.js";
+import { readFileSync } from "node:fs";
+const whole = readFileSync("TOP/dist/squitter.wasm");
+const { CompileError } = WebAssembly, real = WebAssembly.instantiate, told = [];
+const tried = (given) => load(given).then(() => told.push("loaded"), ({ name, message }) => told.push([name, message]));
+await tried(whole);
+WebAssembly.instantiate = () => Promise.reject(new CompileError("invalid memory limits flags 0x4 (enable via --x)"));
+await tried(whole);
+WebAssembly.instantiate = () => Promise.reject(new RangeError("invalid memory limits"));
+await tried(whole);
+WebAssembly.instantiate = real;
+await tried(new Uint8Array(3));
+await tried(Promise.resolve(new Response("", { status: 404 })));
+console.log(JSON.stringify(told));
+"""
+
+
+def without_flag(tries: Tries) -> str:
+    """An engine without 64-bit memory, as Node 20 is without its flag, gets the flag to type. No other error does."""
+    script = WITHOUT_FLAG.replace("TOP", TOP)
+    count = 0
+    for words in (["node"], tries.node):
+        done = subprocess.run([*words, "--input-type=module", "-e", script], capture_output=True, text=True)
+        expect(done.returncode == 0, words, done.stderr)
+        first, stubbed, *others = json.loads(done.stdout)
+        expect(first == "loaded" or words != tries.node, words, first)
+        for name, message in [stubbed] if first == "loaded" else [stubbed, first]:
+            expect(name == "CompileError" and "invalid memory limits flags 0x4" in message, words, name, message)
+            expect("64-bit memory" in message and "node --experimental-wasm-memory64" in message, words, message)
+        expect([name for name, _ in others] == ["RangeError", "CompileError", "Error"], words, others)
+        expect(not any("experimental" in message for _, message in others), words, others)
+        expect("404" in others[-1][1], words, others)
+        count += 5
+    return f"{count} modules"
+
+
 # What Python has and JavaScript has not: calls of arrays, where a call of Python costs more than what it asks for.
 # (the module of the page takes no memory, as a tracker does)
 OF_PYTHON_ALONE = {"local_many", "pair_many", "read_many", "Present", "Tracker"}
