@@ -52,7 +52,7 @@ pub(crate) fn request_of<'a>(name: &'a str, values: &ArgMatches<'a>) -> Option<R
 
 const SQUITTER: CommandHelp = CommandHelp {
     about: "Reads and writes the position squitters of ADS-B (DF17, 112 bits), exactly, to fractions of a degree",
-    usage: "squitter <COMMAND>",
+    usage: "squitter <show|encode|local|pair|check|track> ..",
     after: "A frame is 28 hexadecimal digits, bare or between '*' and ';' as receivers print it.
 An angle is in degrees, with up to 12 decimals; south and west need the equals sign, as --lat=-33.9.
 'check' and 'track' read standard input, and take no name of a file.
@@ -225,7 +225,7 @@ fn pair_request<'a>(values: &ArgMatches<'a>) -> Option<Request<'a>>
 }
 
 const CHECK: CommandHelp = CommandHelp {
-    about: "Reads frames from standard input, one a line, and answers each with a line",
+    about: "Reads standard input, a frame on each line, and prints each frame's fields or why it is refused",
     usage: "squitter check [--format=<lines|csv|json>] < FRAMES
        it waits for standard input; lines with a timestamp are for 'squitter track'",
     after: "An answer is the number of the line, and then 'ok' with the address, the kind, the parity and the
@@ -255,7 +255,7 @@ fn check_request<'a>(values: &ArgMatches<'a>) -> Request<'a>
 }
 
 const TRACK: CommandHelp = CommandHelp {
-    about: "Reads a log of frames from standard input, and answers each line with the place that it gives",
+    about: "Reads standard input, 'MILLISECONDS FRAME' on each line, and prints the position of each frame",
     usage: "squitter track [--format=<lines|csv|json>] [--limit=<N>] [--window=<MS>]
                       [--lat=<DEGREES> --lon=<DEGREES>] < LOG
        it waits for standard input; 'squitter-feed' adds timestamps to lines that lack them

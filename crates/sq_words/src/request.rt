@@ -16,7 +16,7 @@ pub enum Refusal {
     /// An allocation failed.
     #[error("out of memory")]
     Memory,
-    /// clap found a fault in the words, or they ask for help: clap's text, in whole lines.
+    /// clap found a fault in the words, or they ask for help: clap's text without its tips, in whole lines.
     #[error("{0}")]
     Words(String),
 }
@@ -54,15 +54,33 @@ pub fn read_request<'a>(alloc: Global, words: &'a [&'a str]) -> Result<Request<'
     }
 }
 
-// Memory, or clap's text.
+// The start of clap's tips, and of the usage that follows them.
+const TIPS: &str = "\n\n  tip:";
+
+const USAGE: &str = "\n\nUsage:";
+
+// Returns clap's error as a refusal: its text without tips, or a lack of memory.
 fn refusal_of(alloc: Global, error: &clap::Error) -> Refusal
     ensures { (text : _) → result ≡ Refusal.Words text → kind_of error.now ≢ ErrorKind.OutOfMemory }
 {
     if error.kind() == ErrorKind::OutOfMemory {
         return Refusal::Memory;
     }
-    match error.to_string(alloc) {
+    match text_without_tips(alloc, error) {
         Ok(text) => Refusal::Words(text),
         Err(_) => Refusal::Memory,
     }
+}
+
+// Returns clap's text without its tips. clap guesses: it offers `encode` for `decode`, and `-- -4` for a longitude,
+// which no option takes. The usage below the tips says what to type.
+fn text_without_tips(alloc: Global, error: &clap::Error) -> Result<String, AllocError> {
+    let text = error.to_string(alloc)?;
+    let Some((reason, tips)) = text.split_once(TIPS) else {
+        return Ok(text);
+    };
+    let Some((_, usage)) = tips.rsplit_once(USAGE) else {
+        return Ok(text);
+    };
+    format!(in alloc; "{reason}{USAGE}{usage}")
 }
