@@ -1,8 +1,8 @@
 #!/bin/sh
-# pip.sh PYTHON: installs the package squitter by pip, from a copy of this tree and without the network, into a virtual
-# environment, and tries it there without what lies here: the library that came with it, the doctests, a log beside the
-# program, and the types by mypy where that is installed; and takes it away again. PROGRAM is the program. PYTHON needs
-# pip, setuptools and wheel.
+# pip.sh PYTHON: installs the package squitter by pip, from a copy of this tree and without the network, into a fresh
+# virtual environment, which has neither setuptools nor wheel, and into one with the system's modules. There it tries
+# the package without what lies here: the library that came with it, the doctests, a log beside the program, and the
+# types by mypy if that is installed; and takes it away again. PROGRAM is the program. PYTHON needs pip.
 set -eu
 python=$1
 clib=$(cd "$(dirname "$0")/.." && pwd)
@@ -13,9 +13,27 @@ trap 'rm -rf "$work"' EXIT
 unset PYTHONPATH LIBSQUITTER MAKEFLAGS MFLAGS MAKELEVEL DESTDIR PYTHONHOME PIP_TARGET PIP_PREFIX
 mkdir "$work/tree"
 (cd "$clib/.." && tar -cf - \
-  --exclude=out --exclude=build --exclude='libsquitter.*' --exclude=__pycache__ --exclude='*.egg-info' \
-  pyproject.toml setup.py clib dist crates.txt crates/*/src crates/*/specs crates/*/proofs) | tar -C "$work/tree" -xf -
+  --exclude=out --exclude=build --exclude='libsquitter.*' --exclude=__pycache__ \
+  pyproject.toml clib dist crates.txt crates/*/src crates/*/specs crates/*/proofs) | tar -C "$work/tree" -xf -
 cp "$clib/libsquitter.map" "$work/tree/clib/"
+"$python" -m venv --without-pip "$work/fresh"
+fresh=$work/fresh/bin/python
+"$fresh" -c 'from importlib.util import find_spec; assert not find_spec("setuptools") and not find_spec("wheel")'
+"$python" -m pip -q --python "$fresh" install --no-index --disable-pip-version-check "$work/tree" \
+  > "$work/said" 2>&1 || { cat "$work/said"; exit 1; }
+version=$(sed -n 's/^VERSION = //p' "$clib/Makefile")
+test "$(cd / && "$fresh" -c 'import squitter; print(squitter.version())')" = "$version"
+# If the library cannot be built there is no package; and a source package is refused.
+if CC=false "$python" -m pip -q --python "$fresh" install --no-index --force-reinstall "$work/tree" > "$work/said" 2>&1
+then echo "a package without a compiler"; exit 1; fi
+(cd "$work/tree/clib" && "$fresh" -c 'import backend
+try:
+    backend.build_sdist("/tmp")
+except backend.UnsupportedOperation:
+    pass
+else:
+    raise SystemExit("a source package")')
+
 "$python" -m venv --system-site-packages --without-pip "$work/venv"
 own=$work/venv/bin/python
 "$own" -m pip -q install --no-index --no-build-isolation --no-deps --disable-pip-version-check "$work/tree" \

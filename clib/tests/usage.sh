@@ -1,6 +1,6 @@
 #!/bin/sh
-# usage.sh PYTHON: examples/decode_log.py says how it is called, if asked (status 0), with no log, one that is not there,
-# and two logs (status 2).
+# usage.sh PYTHON: examples/decode_log.py says how it is called if asked (status 0), and with no log, a log that is not
+# there, and two logs (status 2).
 set -u
 python=$1
 cd "$(dirname "$0")/.." || exit 1
