@@ -78,7 +78,7 @@ fn nth(links: &[Neighbours], oldest: u32, index: usize) -> Option<u32>
     Some(at)
 }
 
-// What is kept of an address before its first position.
+// Decoder state for one aircraft before its first position.
 fn blank() -> Contact
     ensures { result ≡ blank_contact }
 {
