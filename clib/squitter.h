@@ -122,7 +122,7 @@ typedef struct squitter_position {
   squitter_angle lat, lon;
 } squitter_position;
 
-/* A latitude and a longitude in whole numbers of 10^-7 degree. */
+/* A latitude and a longitude in units of 10^-7 degree. */
 typedef struct squitter_degrees_e7 {
   int32_t lat, lon;
 } squitter_degrees_e7;
@@ -325,7 +325,7 @@ squitter_fault squitter_tracker_new(squitter_tracker *tracker, uint32_t limit, u
 squitter_fault squitter_tracker_new_at(squitter_tracker *SQUITTER_RESTRICT tracker, uint32_t limit, uint64_t window,
                                        const squitter_position *site) SQUITTER_CALL;
 
-/* Frees a tracker, with all memory that it took: there is none afterwards. It does nothing where there is none. */
+/* Frees the tracker. Safe to call twice, and on a tracker that was never created: {0, 0}. */
 void squitter_tracker_free(squitter_tracker *tracker) SQUITTER_WRITE;
 
 /* Hears a frame: what is heard of it, by the frames that the tracker accepted before. Memory is taken for an address
@@ -421,7 +421,7 @@ squitter_fault squitter_zone_count(const squitter_angle *lat, uint8_t *SQUITTER_
  * Fault: BAD_ANGLE. */
 squitter_fault squitter_text_of_angle(const squitter_angle *angle, char SQUITTER_BYTES(out, 16)) SQUITTER_CALL;
 
-/* An angle in whole numbers of 10^-7 degree, rounded, ties away from zero, as the seven decimals of its text are.
+/* The angle in units of 10^-7 degree, rounded half away from zero, as its text with seven decimals is.
  * Fault: BAD_ANGLE. */
 squitter_fault squitter_angle_e7(const squitter_angle *angle, int64_t *SQUITTER_RESTRICT out) SQUITTER_CALL;
 

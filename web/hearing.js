@@ -69,7 +69,7 @@ function squitterHearing(library, settings) {
 
   const isFault = () => view().getUint32(FAULT, true) !== 0;
 
-  /** Forgets the addresses without a recent position: an entry of such a one answers as an empty one does. */
+  /** Drops entries whose latest position has left the window: such an entry gives what an empty one gives. */
   function forgetOld(moment) {
     for (const [address, kept] of recent) {
       if (moment - kept.moment <= settings.window) return;

@@ -233,9 +233,9 @@ export declare class Squitter {
   angle(text: string): Angle;
   /** An angle with seven decimals, rounded, ties away from zero. Fault: BAD_ANGLE. */
   angleText(degrees: Degrees): string;
-  /** An angle in whole numbers of 10^-7 degree, rounded as the seven decimals are. Fault: BAD_ANGLE. */
+  /** The angle in units of 10^-7 degree, rounded half away from zero. Fault: BAD_ANGLE. */
   angleE7(degrees: Degrees): bigint;
-  /** A position in whole numbers of 10^-7 degree, each rounded as the seven decimals are. Fault: BAD_POSITION. */
+  /** The position in units of 10^-7 degree, rounded half away from zero. Fault: BAD_POSITION. */
   positionE7(position: Position): { lat: number; lon: number };
   /** What an altitude field of 12 bits means in an airborne position of this type code. Fault: BAD_FIELDS. */
   feetOfField(typeCode: Whole, field: Whole): Altitude;

@@ -412,7 +412,7 @@ export class Squitter {
     return this.memory.getText(outAt, 16);
   }
 
-  /** An angle in whole numbers of 10^-7 degree, rounded as the seven decimals are. Fault: BAD_ANGLE. */
+  /** The angle in units of 10^-7 degree, rounded half away from zero. Fault: BAD_ANGLE. */
   angleE7(degrees) {
     const { placeAt, outAt } = this.memory;
     this.memory.putAngle(placeAt, degrees);
@@ -420,7 +420,7 @@ export class Squitter {
     return this.memory.view().getBigInt64(outAt, true);
   }
 
-  /** A position in whole numbers of 10^-7 degree, each rounded as the seven decimals are. Fault: BAD_POSITION. */
+  /** The position in units of 10^-7 degree, rounded half away from zero. Fault: BAD_POSITION. */
   positionE7(position) {
     const { placeAt, outAt } = this.memory;
     this.memory.putPosition(placeAt, position);

@@ -640,14 +640,14 @@ def angle_text(degrees: Degrees) -> str:
 
 
 def angle_e7(degrees: Degrees) -> int:
-    """An angle in whole numbers of 10^-7 degree, rounded, ties away from zero."""
+    """Returns the angle in units of 10^-7 degree, rounded half away from zero."""
     plain, out = _angle(degrees, Code.BAD_ANGLE), ctypes.c_int64()
     _done(_lib.squitter_angle_e7(ctypes.byref(plain), ctypes.byref(out)))
     return out.value
 
 
 def position_e7(position: Position) -> Tuple[int, int]:
-    """A latitude and a longitude in whole numbers of 10^-7 degree, rounded, ties away from zero."""
+    """Returns latitude and longitude in units of 10^-7 degree, rounded half away from zero."""
     here, out = _position(position), _DegreesE7()
     _done(_lib.squitter_position_e7(ctypes.byref(here), ctypes.byref(out)))
     return out.lat, out.lon

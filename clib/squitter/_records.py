@@ -30,8 +30,8 @@ POSITION = np.dtype([("lat_num", "i8"), ("lat_den", "u8"), ("lon_num", "i8"), ("
 exactly. What is answered is in lowest terms; a denominator of 0 is no position."""
 
 DEGREES = np.dtype([("lat_e7", "i8"), ("lon_e7", "i8")], align=True)
-"""A latitude and a longitude in whole numbers of 10^-7 degree, rounded, ties away from zero. They would fit 32 bits;
-the difference of two longitudes would not."""
+"""A latitude and a longitude in units of 10^-7 degree, rounded half away from zero. They would fit 32 bits; the
+difference of two longitudes would not."""
 
 TRACKED = np.dtype([
     *POSITION.descr, ("what", "u1"), ("even", "u1"), ("odd", "u1"), ("kind", "u1"), ("address", "u4"), *DEGREES.descr,

@@ -233,7 +233,7 @@ def positions(lat_e7: npt.ArrayLike, lon_e7: npt.ArrayLike) -> Records:
 def position_e7(
     places: npt.ArrayLike, out: Optional[Records] = None, faults: Optional[Records] = None
 ) -> Tuple[Records, Records]:
-    """Each position in whole numbers of 10^-7 degree (DEGREES). Fault: BAD_POSITION. The places are an array of
+    """Each position in units of 10^-7 degree (DEGREES). Fault: BAD_POSITION. The places are an array of
     POSITION, or of another type that has its fields."""
     source = _positions("places", places)
     out, faults = _rooms(len(source), DEGREES, out, faults, source)

@@ -1,4 +1,4 @@
-//! Why texts give no place.
+//! Reasons why frame texts cannot be decoded.
 ghost use Rattle.std.specs.Prelude.{◌≡◌};
 ghost use Rattle.example_place.specs.declared.fault.Fault.TheVariants.{OfPlace, OfText};
 
@@ -6,13 +6,13 @@ use sq_message::PlaceFault;
 use sq_text::LineFault;
 use thiserror::Error;
 
-/// The reason why texts give no place. Its `Display` is what the program prints.
+/// The reason why frame texts cannot be decoded. Its `Display` is what the program prints.
 #[derive(Clone, Copy, Debug, PartialEq, Eq, Error)]
 #[error("{0}")]
 pub enum Fault {
-    /// A text spells no squitter.
+    /// A text is not a valid frame.
     OfText(LineFault),
-    /// The squitters have no place.
+    /// The frame or the pair cannot be decoded.
     OfPlace(PlaceFault),
 }
 

@@ -1,16 +1,16 @@
-//! Laws of what texts are decoded to.
+//! Laws of decoding frame texts.
 ghost use Rattle.std.specs.Prelude.{◌≡◌, ◌↔◌, IsTrue};
 ghost use Rattle.example_place.specs.Laws.{OneAnswerNear, OneAnswerOfPair, OneTrueAnswerInAir, OneTrueAnswerOnGround};
 
 use crate::fault::Fault;
 
-/// A text has one answer near a reference, and two texts have one with a site and without: a place or a fault.
+/// Decoding has exactly one result: of one text near a reference, and of two texts with a site or without.
 pub fn one_answer()
     ensures near { OneAnswerNear }
     ensures pair { OneAnswerOfPair }
 {}
 
-/// What is true of the text of a frame that was sent of a position near the reference is one answer.
+/// Local decoding of a frame sent from near the reference has exactly one result.
 pub fn one_true_answer()
     ensures in_air { OneTrueAnswerInAir }
     ensures on_ground { OneTrueAnswerOnGround }

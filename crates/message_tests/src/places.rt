@@ -67,7 +67,7 @@ fn needs_no_site_in_the_air(rt: HostRuntime) {
     assert!(rt; place_pair(&even, &odd, Some(&far)) == Ok(place));
 }
 
-// Why two squitters have no place, without a site and with one. None where they have one, or are none.
+// Returns why a pair cannot be decoded, without a site and with one, or `None` if it can.
 fn faults_of(older: Option<Squitter>, newer: Option<Squitter>) -> Option<[PlaceFault; 2]> {
     let (older, newer) = (older?, newer?);
     let equator = Position::new(Angle::new(0, 1)?, Angle::new(0, 1)?)?;

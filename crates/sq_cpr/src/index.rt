@@ -1,5 +1,5 @@
-//! Indices of a grid: the nearest to an angle, and which of those of a code is meant, the one within half a window of a
-//! reference or the one of a close pair.
+//! Grid indices: rounds an angle to the nearest index, and picks the candidate index of a code nearest the reference, or
+//! of a close pair.
 //!
 //! All numbers are whole. Near a reference, whose fraction may be long, one function multiplies, divides or subtracts
 //! once, so that each fits 128 bits visibly; near 0 degrees 64 bits do.

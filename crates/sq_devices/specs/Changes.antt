@@ -89,7 +89,7 @@ taken_from s old new = record {
 abbrev pub TookNothing : Taken → Type 0
 TookNothing t = (t.after ≡ t.before) × (t.failed ≡ t.failed_before) × (t.gets ≡ t.gets_before)
 
--- at most so many gets were answered
+-- at most `n` reads returned data
 abbrev pub GotAtMost : Taken → ℕ → Type 0
 GotAtMost t n = t.gets_before ≤ t.gets + n
 

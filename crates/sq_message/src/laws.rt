@@ -317,7 +317,7 @@ pub fn read_exactly()
     ensures pair { ReadAsPairExactly }
 {}
 
-/// Frames have no place exactly where none is an answer, near a reference and as a pair.
+/// Frames cannot be decoded exactly if no position is a result, near a reference and as a pair.
 pub fn no_place_exactly()
     ensures near { NoPlaceNearExactly }
     ensures pair { NoPlaceExactly }

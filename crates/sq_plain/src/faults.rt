@@ -15,14 +15,14 @@ pub struct Fault {
     pub first: u64,
 }
 
-/// Why a call has no answer.
+/// The reason why a call fails.
 #[derive(Clone, Copy)]
 pub enum Refusal {
-    /// A text or a frame spells no squitter, or a moment lies back.
+    /// A text or a frame is invalid, or a timestamp goes back.
     Line(LineFault),
-    /// Squitters have no place.
+    /// A frame or a pair cannot be decoded.
     Place(PlaceFault),
-    /// A text spells no angle.
+    /// A text is not a valid angle.
     Angle(AngleFault),
     /// The fractions of a reference, a site or a position are no position.
     NoPosition,

@@ -70,12 +70,12 @@ static ZONE_LIMITS: [u64; 58] = [
     8_700_000_000,
 ];
 
-// The latitudes up to 90 degrees lie in bands of 2^25 units, about a third of a degree: none has more than one limit
-// within.
+// The latitudes up to 90 degrees lie in bands of 2^25 units, about a third of a degree. Each band has at most one
+// transition latitude within.
 const BAND_BITS: u32 = 25;
 
-// The place of the limit that the latitudes of each band are held against: those before it lie below the band, those
-// behind it above.
+// For each band, the index of the transition latitude to compare with. Earlier ones lie below the band, later ones
+// above.
 static LIMIT_OF_BAND: [u8; 269] = [
     0, 0, 0, 0, 0, 0, 0, 0, 0, 0, 0, 0, 0, 0, 0, 0, 0, 0, 0, 0, 0, 0, 0, 0, 0, 0, 0, 0, 0, 0, 0, 0,
     0, 0, 0, 0, 0, 0, 0, 0, 0, 0, 0, 0, 1, 1, 1, 1, 1, 1, 1, 1, 1, 1, 2, 2, 2, 2, 2, 2, 2, 2, 3, 3,

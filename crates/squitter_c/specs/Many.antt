@@ -34,7 +34,7 @@ abbrev pub IsPairNear : (older newer : List (List ℕ)) → PlainPosition → (k
 IsPairNear older newer site k old new fault = (frame : List ℕ)
     → IsPairAt (frame_of (slice_index_or older k frame)) (frame_of (slice_index_or newer k frame)) site old new fault
 
--- the position at place k in whole numbers of 10^-7 degree
+-- the position at index k in units of 10^-7 degree
 abbrev pub IsE7At : (positions : List PlainPosition) → (k : ℕ) → (old new : DegreesE7) → Fault → Type 0
 IsE7At positions k old new fault =
     (position : PlainPosition) → IsPositionE7 (slice_index_or positions k position) old new fault

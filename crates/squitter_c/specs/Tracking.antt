@@ -1,4 +1,4 @@
--- What is kept of an address in plain numbers, and what hearing one more frame of it makes of that.
+-- Decoder state for one aircraft in plain numbers, and how one more frame changes it.
 use Rattle.std.specs.Prelude.{◌≡◌, ◌≤◌, ◌<◌, ◌⊎◌, ◌∷◌, [], ℕ, pos, List, Option, Some, None, Ok}
 use Rattle.sq_angle.specs.declared.position.Position.{Position}
 use Rattle.sq_bits.specs.declared.frame.Frame.{Frame}
@@ -31,17 +31,17 @@ use Rattle.sq_plain.specs.Heard.{IsPlainHeard}
 use Rattle.sq_plain.specs.Plain.{IsOfDegrees, PlainIsPosition}
 use Rattle.sq_plain.specs.Frames.{frame_of}
 
--- the squitter of a kept frame with its moment; a frame that spells none counts as none
+-- the squitter of a saved frame with its timestamp, or none if the frame is invalid
 abbrev pub IsReceivedOf : PlainReceived → Option Received → Type 0
 IsReceivedOf plain (Some received) = Spells (frame_of plain.frame) received.squitter × (received.moment ≡ plain.moment)
 IsReceivedOf plain None = (q : Squitter) → ¬ (Spells (frame_of plain.frame) q)
 
--- the position of a kept fix with its moment; fractions that are no position count as none
+-- the position of a saved fix with its timestamp, or none if the position is invalid
 abbrev pub IsFixOf : PlainFix → Option LastFix → Type 0
 IsFixOf plain (Some fix) = IsOfDegrees plain.position fix.position × (fix.moment ≡ plain.moment)
 IsFixOf plain None = ¬ (PlainIsPosition plain.position)
 
--- what is kept in the air, or on the ground
+-- decoder state for one aircraft in the air, or on the ground
 pub record IsSideOf (plain : PlainSide) (side : Side) : Type 0 where
   pub even : IsReceivedOf plain.even side.even
   pub odd : IsReceivedOf plain.odd side.odd
@@ -58,8 +58,7 @@ abbrev pub last_of : History → ℕ
 last_of [] = 0
 last_of (entry ∷ earlier) = entry.moment
 
--- What is kept of an address is the history's: it is that of a contact which remembers the history, and of its last
--- moment.
+-- An entry agrees with the history: it stands for a contact that remembers the history, and has its last moment.
 pub record Keeps (window address : ℕ) (history : History) (plain : PlainEntry) : Type 0 where
   pub contact : Contact
   pub stands : IsContactOf plain contact

@@ -1,4 +1,4 @@
-//! Degrees as whole numbers of 10^-7 degree.
+//! Angles and positions in units of 10^-7 degree.
 ghost use Rattle.std.specs.Prelude.{◌≡◌, ◌≤◌, ◌*◌, ◌^◌, ◌<◌, unsigned_abs};
 ghost use Rattle.sq_angle.specs.Angle.{degrees};
 ghost use Rattle.sq_angle.specs.Fraction.{IsWithin};
@@ -8,7 +8,7 @@ ghost use Rattle.squitter_c.specs.E7.{AreE7Of, IsAngleE7, IsE7, IsPositionE7};
 use sq_angle::{Angle, Position};
 use sq_plain::{Fault, NONE, PlainAngle, PlainPosition, Refusal, angle_of, position_of};
 
-/// A latitude and a longitude in whole numbers of 10^-7 degree.
+/// A latitude and a longitude in units of 10^-7 degree.
 #[repr(C)]
 #[derive(Clone, Copy)]
 pub struct DegreesE7 {
@@ -16,8 +16,8 @@ pub struct DegreesE7 {
     pub lon: i32,
 }
 
-/// An angle in whole numbers of 10^-7 degree, rounded, ties away from zero: the digits of its text with seven decimals.
-/// Where the fraction is no angle, the fault is `BAD_ANGLE` and `out` is as it was.
+/// The angle in units of 10^-7 degree, rounded half away from zero. Returns `BAD_ANGLE` and leaves `out` unchanged if
+/// the fraction is not a valid angle.
 #[unsafe(no_mangle)]
 pub extern "C" fn squitter_angle_e7(angle: &PlainAngle, out: &mut i64) -> Fault
     ensures { IsAngleE7 angle.now out.old out.new result }
@@ -31,8 +31,8 @@ pub extern "C" fn squitter_angle_e7(angle: &PlainAngle, out: &mut i64) -> Fault
     }
 }
 
-/// A position in whole numbers of 10^-7 degree, each rounded, ties away from zero. Where the fractions are no position,
-/// the fault is `BAD_POSITION` and `out` is as it was.
+/// The position in units of 10^-7 degree, rounded half away from zero. Returns `BAD_POSITION` and leaves `out` unchanged
+/// if the fractions are not a valid position.
 #[unsafe(no_mangle)]
 pub extern "C" fn squitter_position_e7(position: &PlainPosition, out: &mut DegreesE7) -> Fault
     ensures { IsPositionE7 position.now out.old out.new result }

@@ -1,4 +1,4 @@
-//! What is kept of an address, in plain numbers, and the contact that it stands for.
+//! Decoder state for one aircraft in plain numbers, and the contact that it stands for.
 ghost use Rattle.std.specs.Prelude.{◌≡◌};
 ghost use Rattle.sq_angle.specs.Angle.{degrees};
 ghost use Rattle.sq_plain.specs.Plain.{IsOfDegrees, fraction_of};
@@ -10,7 +10,7 @@ use sq_message::{Received, read_frame, write_frame};
 use sq_plain::{PlainAngle, PlainPosition, position_of};
 use sq_track::{Contact, LastFix, Side};
 
-/// A frame and the moment at which it was heard. One that spells no squitter counts as none.
+/// A frame and its timestamp in milliseconds. Invalid frames are skipped.
 #[repr(C)]
 #[derive(Clone, Copy)]
 pub struct PlainReceived {
@@ -18,7 +18,7 @@ pub struct PlainReceived {
     pub frame: [u8; 14],
 }
 
-/// The position of a fix, and the moment. One that is no position counts as none.
+/// The position of a fix and its timestamp in milliseconds. Invalid positions are skipped.
 #[repr(C)]
 #[derive(Clone, Copy)]
 pub struct PlainFix {
@@ -26,7 +26,7 @@ pub struct PlainFix {
     pub position: PlainPosition,
 }
 
-/// What is kept of an address in the air, or on the ground.
+/// Decoder state for one aircraft in the air, or on the ground.
 #[repr(C)]
 #[derive(Clone, Copy)]
 pub struct PlainSide {
@@ -35,13 +35,13 @@ pub struct PlainSide {
     pub fix: PlainFix,
 }
 
-/// What is kept of an address. All zero is that of an address of which nothing was heard.
+/// Decoder state for one aircraft. Zero-initialise it before the first frame.
 #[repr(C)]
 #[derive(Clone, Copy)]
 pub struct PlainEntry {
-    /// The moment of its newest frame.
+    /// The timestamp of the latest frame.
     pub last: u64,
-    /// The moment of its newest position.
+    /// The timestamp of the latest position.
     pub newest: u64,
     pub airborne: PlainSide,
     pub surface: PlainSide,

@@ -96,9 +96,8 @@ pub extern "C" fn squitter_pair_at_many(
     count
 }
 
-/// Writes each position in whole numbers of 10^-7 degree, as [`squitter_position_e7`] does, and answers how many
-/// places that are. The fault of each, or none, stands at its place of `faults`; at a fault that place of `out` is
-/// as it was.
+/// Writes each position in units of 10^-7 degree, as [`squitter_position_e7`] does, and returns how many it wrote or
+/// refused. `faults` has the error of each, or none; after an error that element of `out` is unchanged.
 #[unsafe(no_mangle)]
 pub extern "C" fn squitter_position_e7_many(
     positions: &[PlainPosition],

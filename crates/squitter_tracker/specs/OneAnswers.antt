@@ -55,8 +55,8 @@ abbrev pub OneGot : Type 0
 OneGot = (held : Option Held) (index : ℕ) (old new other : PlainPresent) (fault why : Fault)
     → IsGot held index old new fault → IsGot held index old other why → (new ≡ other) × (fault ≡ why)
 
--- What hearing keeps of a tracker: its settings, and after a fault all of it. Memory runs out only at a position of an
--- address that is none of the present ones.
+-- What `hear` preserves: the settings, and after an error all of the tracker. Memory runs out only at a position of an
+-- address that is not present.
 abbrev pub HearingKeeps : Type 0
 HearingKeeps = (moment : ℕ) (q : Squitter) (old new : Held) (reply : Result Heard TrackFault)
     → IsReplied moment q old new reply

@@ -26,14 +26,14 @@ use Rattle.sq_track.specs.History.{History}
 use Rattle.sq_track.specs.Replies.{IsReply, history_after}
 use Rattle.squitter_tracker.specs.declared.present.PlainPresent.{PlainPresent}
 
--- an empty tracker of these settings; or none, and why: the limit is 0, and else there is no memory
+-- a new tracker with these settings, or the reason there is none: `limit` is 0, or memory ran out
 abbrev pub IsMade : (limit window : ℕ) → Option Position → (made : Option Held) → Fault → Type 0
 IsMade limit window site (Some t) fault =
     (limit ≢ 0) × StandsFor t [] × (settings t ≡ made_with limit window site) × (fault ≡ none)
 IsMade limit window site None fault = ((limit ≡ 0) × (fault ≡ fault_of refusals.NoLimit))
     ⊎ ((limit ≢ 0) × (fault ≡ fault_of refusals.Memory))
 
--- an empty tracker with a site, whose fault comes first
+-- a new tracker with a site, or the reason there is none: first, an invalid site
 abbrev pub IsMadeAt : (limit window : ℕ) → PlainPosition → (made : Option Held) → Fault → Type 0
 IsMadeAt limit window plain made fault =
     ((¬ (PlainIsPosition plain)) × (made ≡ None) × (fault ≡ fault_of refusals.NoPosition))

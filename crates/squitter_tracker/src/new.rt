@@ -61,7 +61,7 @@ fn make(alloc: Global, slot: &mut Slot, limit: u32, window: u64, site: Option<Po
     }
 }
 
-/// Frees a tracker, with all memory that it took. There is none afterwards, and no harm where there was none.
+/// Frees the tracker. Safe to call twice, and on a tracker that was never created.
 #[unsafe(no_mangle)]
 pub extern "C" fn squitter_tracker_free(alloc: Global, tracker: &mut Slot)
     ensures { tracker.new.seal.held ≡ None }
