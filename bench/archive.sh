@@ -32,6 +32,6 @@ for workers; do
     "${PYTHON:-python3}" "$here/../examples/archive.py" --workers "$workers" --lat=52.1 --lon=4.7 \
         "$work/answers" "$work"/hours/* 2> "$work/said" || { cat "$work/said"; exit 1; }
     took=$(($(now) - start))
-    tail -q -n +2 "$work"/answers/* | cut -d, -f1,3- | sed 's/,,*/ /g; s/ $//' | cmp - "$work/wanted"
+    tail -q -n +2 "$work"/answers/* | cut -d, -f1,3,4,6,7 | sed 's/,,*/ /g; s/ $//' | cmp - "$work/wanted"
     say "archive.py, $workers processes" $took
 done

@@ -28,7 +28,7 @@ from squitter import AirHead, GroundHead, Position, batch  # noqa: E402
 
 PROGRAM = os.environ.get("PROGRAM") or subprocess.run(
     [os.path.join(TOP, "dist", "program")], check=True, stdout=subprocess.PIPE, text=True).stdout.strip()
-ARCHIVE = os.path.join(TOP, "examples", "archive.py")
+ARCHIVE = os.path.join(TOP, "examples/archive.py")
 HOURS, LINES = 12, 6000
 HEADER = ",".join(batch.COLUMNS).encode()
 ENVIRONMENT = dict(os.environ, PYTHONPATH=os.path.abspath(os.path.join(HERE, "..")))
