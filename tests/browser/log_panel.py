@@ -191,8 +191,12 @@ def heard_again(tries: Tries) -> str:
         file.write(b"999999 " + AIR_EVEN.encode() + b"\n")
     got, wanted = chosen_again(browser, path), tracked(tries.program, bytes_of(path), (10_000, 1000, SITE))
     expect(got == wanted and got != near, "the same file, which has grown:", first_difference(got, wanted))
+    given_log(browser, tries, of_address(log, "484004"))
+    changed(browser, log_window="400")
+    got, wanted = heard(browser), tracked(tries.program, of_address(log, "484004"), (400, 1000, SITE))
+    expect(got == wanted, "another file since:", first_difference(got, wanted))
     silent(browser)
-    return "nine times"
+    return "ten times"
 
 
 def rate(tries: Tries) -> str:
