@@ -26,13 +26,48 @@ test "$(cd / && "$fresh" -c 'import squitter; print(squitter.version())')" = "$v
 # If the library cannot be built there is no package; and a source package is refused.
 if CC=false "$python" -m pip -q --python "$fresh" install --no-index --force-reinstall "$work/tree" > "$work/said" 2>&1
 then echo "a package without a compiler"; exit 1; fi
-(cd "$work/tree/clib" && "$fresh" -c 'import backend
+# The wheel: its name and tag, the sums of its files, and the same bytes each time.
+cat > "$work/wheel.py" <<'PYTHON'
+import base64
+import csv
+import hashlib
+import os
+import sys
+import zipfile
+
+sys.path.insert(0, ".")
+import backend
+
+work, version = sys.argv[1:]
+tag = f"py3-none-linux_{os.uname().machine}"
+made = []
+for folder in ("one", "two"):
+    os.mkdir(f"{work}/{folder}")
+    name = backend.build_wheel(f"{work}/{folder}")
+    assert name == f"squitter-{version}-{tag}.whl", name
+    with open(f"{work}/{folder}/{name}", "rb") as file:
+        made.append(file.read())
+assert made[0] == made[1]
+with zipfile.ZipFile(f"{work}/one/{name}") as wheel:
+    info = f"squitter-{version}.dist-info"
+    files = {path: wheel.read(path) for path in wheel.namelist()}
+rows = list(csv.reader(files[f"{info}/RECORD"].decode().splitlines()))
+assert [path for path, _, _ in rows] == list(files) and rows[-1] == [f"{info}/RECORD", "", ""], rows
+for path, digest, size in rows[:-1]:
+    wanted = base64.urlsafe_b64encode(hashlib.sha256(files[path]).digest()).decode().rstrip("=")
+    assert (digest, size) == (f"sha256={wanted}", str(len(files[path]))), (path, digest, size)
+assert f"Tag: {tag}\n" in files[f"{info}/WHEEL"].decode()
+modules = {f"squitter/{path}" for path in os.listdir("squitter") if path.endswith(".py")}
+assert files.keys() == modules | {"squitter/py.typed", "squitter/libsquitter.so.0"} | {
+    f"{info}/{path}" for path in ("METADATA", "WHEEL", "RECORD")}, files.keys()
 try:
-    backend.build_sdist("/tmp")
+    backend.build_sdist(work)
 except backend.UnsupportedOperation:
     pass
 else:
-    raise SystemExit("a source package")')
+    raise SystemExit("a source package")
+PYTHON
+(cd "$work/tree/clib" && "$fresh" "$work/wheel.py" "$work" "$version")
 
 "$python" -m venv --system-site-packages --without-pip "$work/venv"
 own=$work/venv/bin/python
