@@ -16,8 +16,6 @@ use Rattle.sq_text.proofs.OneReading.{one_squitter_reading}
 use Rattle.sq_lines.specs.Lines.{ended_lines, lines_of}
 use Rattle.sq_lines.specs.Content.{Answer, Content, Long, Empty, Text, answer_by, content}
 use Rattle.sq_lines.specs.Answers.{Manner, after_content, answers_to, texts_of, tally_of}
-use Rattle.sq_lines.specs.Outcomes.{HasHeardText, outcome_of}
-use Rattle.sq_lines.specs.declared.faults.Outcome.{Outcome}
 use Rattle.sq_lines.specs.Runs.{HasRun, HasTold, OfLines, StoppedIn}
 use Rattle.sq_lines.specs.declared.faults.Unanswered.TheVariants.{Write}
 use Rattle.sq_lines.specs.declared.faults.Unanswered.TheVariants as unanswereds
@@ -29,7 +27,7 @@ use Rattle.sq_devices.proofs.Ends.{took_reported}
 use Rattle.sq_lines.proofs.Running.{prefix_trans}
 use Rattle.sq_lines.proofs.Tallying.{output_prefix}
 use Rattle.sq_commands.specs.Check.{Checks, HasChecked, IsChecked, check_manner, check_tally, check_way}
-use Rattle.sq_commands.specs.Formats.{Telling, Writers}
+use Rattle.sq_commands.specs.Formats.{Telling}
 use Rattle.sq_commands.proofs.SomeWriters.{some_writers}
 use Rattle.sq_commands.proofs.Headers.{IsAfter, front_after, front_of_header}
 
@@ -49,18 +47,11 @@ module _ (telling : Telling Squitter) where
       (after-check by (content line))
       ∙ ap (λ answers. answer_by by.reader.read line ∷ answers) (answers-check by lines)
 
-  -- a text that was answered by itself
-  pub text_checked : {State : Type 0} (old new : State) (number : ℕ) (text bytes : List ℕ)
-      (found : Result Squitter LineFault) (outcome : Outcome) → IsSquitterReading text found
-      → outcome ≡ outcome_of found → ((writers : Writers) → bytes ≡ telling.text writers number found)
-      → HasHeardText (check_manner telling) outcome number text old new bytes
-  text_checked old new number text bytes found outcome is became told past first st =
-      let one : found ≡ past.reader.read text =
-      one_squitter_reading text found (past.reader.read text) is (past.reader.reads text) in (
-        became ∙ ap (λ (r : Result Squitter LineFault). outcome_of r) one,
-        tt,
-        told first.writers ∙ ap (λ r. telling.text first.writers number r) one,
-      )
+  -- a text that was read by itself
+  pub text_read : (text : List ℕ) (found : Result Squitter LineFault) → IsSquitterReading text found
+      → (past : Checks) → Unit {0} → (past.reader.read text ≡ found) × Unit {0}
+  text_read text found is past st =
+      (one_squitter_reading text (past.reader.read text) found (past.reader.reads text) is, tt)
 
   -- `check` keeps no state
   abbrev how : Manner (Unit {0}) Checks Squitter

@@ -8,4 +8,5 @@ pub mod HeardLemmas
 pub mod OneRuns
 pub mod SomeWriters
 pub mod TrackLemmas
+pub mod SlowAnswers
 pub mod OnePast

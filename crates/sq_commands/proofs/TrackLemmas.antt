@@ -1,9 +1,8 @@
 -- What is answered to the lines of a log.
-use Rattle.std.proofs.Common.{◌≡◌, ◌≢◌, ◌++◌, ◌∙◌, ◌-◌, Bool, Bor, MutBor, false, ◌∷◌, [], ℕ, zero, suc, List, None}
+use Rattle.std.proofs.Common.{◌≡◌, ◌≢◌, ◌++◌, ◌∙◌, ◌-◌, Bor, MutBor, ◌∷◌, [], ℕ, zero, suc, List, None}
 use Rattle.std.proofs.Common.{Some, Result, Ok, Err, IfErr, IfOk, OnErr, OnOk, length, take, ap, sym, subst, subst₂}
 use Rattle.std.proofs.Common.{refl, inl, inr, arith, true}
 use Rattle.std.proofs.KnownBytes.{Consumes-nil}
-use Rattle.std.proofs.lemmas.Bool.{false≢true}
 use Rattle.std.specs.Io.KnownBytes.{Appends}
 use Rattle.std.specs.List.{concat}
 use Rattle.sq_devices.specs.Changes.{FinishedOnce, Sent, Taken, TookAll, TookPart, TookReported, TookSome, Unfinished}
@@ -17,9 +16,11 @@ use Rattle.sq_text.specs.Timed.{IsTimedReading, TimedReader}
 use Rattle.sq_text.proofs.TimedReadings.{one_timed_reading}
 use Rattle.sq_lines.specs.Answers.{Answerer, Manner, after_content, after_line, answer_line, answers_to, past_after}
 use Rattle.sq_lines.specs.Answers.{tally_of, texts_of}
-use Rattle.sq_lines.specs.Outcomes.{HasHeardText, IsTextAnswered, outcome_of}
+use Rattle.sq_lines.specs.Outcomes.{outcome_of}
+use Rattle.sq_lines.specs.Hearings.{IsHeard}
+use Rattle.sq_lines.specs.declared.log.Verdict.{Verdict}
+use Rattle.sq_lines.specs.declared.log.Verdict.TheVariants as verdicts
 use Rattle.sq_lines.specs.declared.faults.Outcome.{Outcome}
-use Rattle.sq_lines.specs.declared.faults.Outcome.TheVariants.{Good, Refused, NoMemory}
 use Rattle.sq_lines.specs.Content.{Answer, Content, Long, Empty, Text, answer_by, answer_content, content}
 use Rattle.sq_lines.specs.Lines.{ended_lines, lines_of}
 use Rattle.sq_lines.specs.Runs.{HasRun, HasTold, HasToldPart, OfLines, StoppedIn, but_last}
@@ -41,8 +42,8 @@ use Rattle.sq_commands.specs.Heard.{HeardSquitter}
 use Rattle.sq_commands.proofs.Headers.{IsAfter, front_of_header, prefix_after}
 use Rattle.sq_commands.specs.declared.track.Hearing.{Hearing}
 use Rattle.sq_commands.specs.Track.{HasTracked, IsTracked, hearing_manner}
-use Rattle.sq_commands.specs.Tracking.{AreHeardLines, HasHeard, IsHeardAs, IsHeardLine, IsNewPosition, IsTracking}
-use Rattle.sq_commands.specs.Tracking.{IsWelcome, Replier, Tracking, WroteIntoLast, answer_read, found_of, past_read}
+use Rattle.sq_commands.specs.Tracking.{AreHeardLines, HasHeard, IsFoundOf, IsHeardLine, IsTimedHeard, IsTracking}
+use Rattle.sq_commands.specs.Tracking.{Replier, Tracking, WroteIntoLast, answer_read, found_of, past_read}
 use Rattle.sq_commands.specs.Tracking.{past_with, reply_by, track_manner, track_way}
 
 history_with : (past : Tracking) (timed : Received) (reply : Result Heard TrackFault)
@@ -81,63 +82,46 @@ timed_heard past timed outcome new reply is remembers became stands same =
 
 -- ---- texts
 
-is_heard : Outcome → Bool
-is_heard Good = true
-is_heard Refused = true
-is_heard NoMemory = false
-
-good_heard : Good ≢ NoMemory
-unfolding is_heard
-good_heard e = false≢true (sym (ap is_heard e))
-
-refused_heard : Refused ≢ NoMemory
-unfolding is_heard
-refused_heard e = false≢true (sym (ap is_heard e))
-
 -- the same borrow of another tracker
 abbrev with_tracker : {F : Type 0} → MutBor Held → Bor F → Held → Hearing F
 with_tracker lent format tracker = record { tracker = record lent { now = tracker }; format = format }
 
-module _ (telling : Telling HeardSquitter) {F : Type 0} (format : Bor F) (number : ℕ) (text : List ℕ)
-    (timed : Received) (lent : MutBor Held) (new : Held) (bytes : List ℕ)
-    (spells : IsTimedReading text (Ok timed)) (same : settings new ≡ settings lent.now) where
-  timed_text : (outcome : Outcome) → IsHeardAs telling number timed outcome lent.now new bytes
-      → HasHeardText (hearing_manner telling) outcome number text (record { tracker = lent; format = format })
-      (with_tracker lent format new) bytes
-  timed_text outcome heard past first st =
-      let h = heard past.history st.0 in
-      let one : Ok timed ≡ past.reader.read text =
-      one_timed_reading text (Ok timed) (past.reader.read text) spells (past.reader.reads text) in
-      let is = subst (λ (s : Settings). IsReply s past.history timed.moment timed.squitter h.0) st.1 h.1 in
-      let t = timed_heard past timed outcome new h.0 is h.2 h.3 h.4 (same ∙ st.1) in
-      subst (λ (read : Result Received LineFault). (outcome ≡ outcome_of (answer_read past read))
-      × IsTracking new (past_read past read)
-      × (bytes ≡ telling.text first.writers number (answer_read past read))) one
-      (t.0, t.1, h.5 first.writers ∙ ap (telling.text first.writers number) t.2)
+-- a text that spells a squitter is heard as `hear` says
+pub text_found : (text : List ℕ) (timed : Received) (found : Result HeardSquitter LineFault) (old new : Held)
+    → IsTimedReading text (Ok timed) → settings new ≡ settings old → IsFoundOf found timed old new
+    → (past : Tracking) → IsTracking old past
+    → (answer_read past (past.reader.read text) ≡ found) × IsTracking new (past_read past (past.reader.read text))
+text_found text timed found old new spells same heard past st =
+    let h = heard past.history st.0 in
+    let one : Ok timed ≡ past.reader.read text =
+    one_timed_reading text (Ok timed) (past.reader.read text) spells (past.reader.reads text) in
+    let is = subst (λ (s : Settings). IsReply s past.history timed.moment timed.squitter h.0) st.1 h.1 in
+    let t = timed_heard past timed (outcome_of (found_of timed h.0)) new h.0 is h.2 refl h.4 (same ∙ st.1) in
+    subst (λ (read : Result Received LineFault). (answer_read past read ≡ found) × IsTracking new (past_read past read))
+    one (sym t.2 ∙ sym h.3, t.1)
 
-  -- a text that spells a squitter is heard as `hear` says
-  pub text_heard : (outcome : Outcome)
-      → (outcome ≢ NoMemory → IsHeardAs telling number timed outcome lent.now new bytes)
-      → (outcome ≡ NoMemory → (new ≡ lent.now) × IsNewPosition lent.now timed.squitter × IsWelcome lent.now timed)
-      → IsTextAnswered (hearing_manner telling) outcome number text (record { tracker = lent; format = format })
-      (with_tracker lent format new) bytes
-  text_heard Good heard unheard = timed_text Good (heard good_heard)
-  text_heard Refused heard unheard = timed_text Refused (heard refused_heard)
-  text_heard NoMemory heard unheard =
-      let none = unheard refl in (ap (with_tracker lent format) none.0, (timed, spells, none.1, none.2))
+pub text_heard : (text : List ℕ) (timed : Received) (verdict : Verdict HeardSquitter) {F : Type 0}
+    (telling : Telling HeardSquitter) (format : Bor F) (lent : MutBor Held) (new : Held)
+    → IsTimedReading text (Ok timed) → settings new ≡ settings lent.now → IsTimedHeard verdict timed lent.now new
+    → IsHeard (hearing_manner telling) verdict text (record { tracker = lent; format = format })
+    (with_tracker lent format new)
+text_heard text timed (verdicts.Good found) telling format lent new spells same heard =
+    text_found text timed (Ok found) lent.now new spells same heard
+text_heard text timed (verdicts.Refused fault) telling format lent new spells same heard =
+    text_found text timed (Err fault) lent.now new spells same heard
+text_heard text timed verdicts.NoMemory telling format lent new spells same heard =
+    (ap (with_tracker lent format) heard.0, (timed, spells, heard.1, heard.2))
 
 -- a text at fault is refused, and the tracker stays
-pub text_refused : (telling : Telling HeardSquitter) {F : Type 0} (number : ℕ) (text : List ℕ) (fault : LineFault)
-    (client : Hearing F) (bytes : List ℕ) → IsTimedReading text (Err fault)
-    → ((writers : Writers) → bytes ≡ telling.text writers number (Err fault))
-    → HasHeardText (hearing_manner telling) Refused number text client client bytes
-text_refused telling number text fault client bytes is told past first st =
+pub text_refused : (text : List ℕ) (fault : LineFault) (now : Held) → IsTimedReading text (Err fault)
+    → (past : Tracking) → IsTracking now past
+    → (answer_read past (past.reader.read text) ≡ Err fault)
+    × IsTracking now (past_read past (past.reader.read text))
+text_refused text fault now is past st =
     let one : Err fault ≡ past.reader.read text =
     one_timed_reading text (Err fault) (past.reader.read text) is (past.reader.reads text) in
-    let refused : Outcome = Refused in
-    subst (λ (read : Result Received LineFault). (refused ≡ outcome_of (answer_read past read))
-    × IsTracking client.tracker.now (past_read past read)
-    × (bytes ≡ telling.text first.writers number (answer_read past read))) one (refl, st, told first.writers)
+    subst (λ (read : Result Received LineFault). (answer_read past read ≡ Err fault)
+    × IsTracking now (past_read past read)) one (refl, st)
 
 -- ---- many lines
 
@@ -235,7 +219,7 @@ lines_heard telling past (line ∷ lines) =
 -- ---- runs
 
 -- what came before the first line
-abbrev start : TimedReader → Writers → (s : Settings) (h : History) → IsHistory s h → Tracking
+abbrev pub start : TimedReader → Writers → (s : Settings) (h : History) → IsHistory s h → Tracking
 start reader writers s h accepted =
     record { reader = reader; replier = replier; writers = writers; settings = s; history = h; accepted = accepted }
 

@@ -6,7 +6,6 @@ use Rattle.sq_message.specs.declared.place.Place.{Place}
 use Rattle.sq_message.specs.Parts.{squitter_parts}
 use Rattle.sq_message.specs.Places.{place_latitude, place_longitude}
 use Rattle.sq_text.specs.declared.faults.LineFault.{LineFault}
-use Rattle.sq_message.specs.declared.received.Received.{Received}
 use Rattle.sq_digits.specs.Digits.{hexadecimal}
 use Rattle.sq_text.specs.Faults.{fault_text}
 use Rattle.sq_track.specs.declared.heard.Heard.{Heard}
@@ -15,14 +14,10 @@ use Rattle.sq_rows.specs.declared.rows.Form.{Form}
 use Rattle.sq_rows.specs.declared.rows.Form.TheVariants as forms
 use Rattle.sq_rows.specs.Rows.{Cell, Blank, Number, Word, cell, header_text, line_number, row_end}
 use Rattle.sq_rows.specs.Squitters.{address_cell, feet_of, kind_name}
+pub use Rattle.sq_commands.specs.declared.found.HeardSquitter.{HeardSquitter}
 use Rattle.sq_commands.specs.declared.formats.Format.{Format}
 use Rattle.sq_commands.specs.declared.formats.Format.TheVariants.{Lines, Csv, Json}
 use Rattle.sq_commands.specs.Formats.{Telling, Writers, in_lines}
-
--- a squitter with its moment, and what was heard of its address
-pub record HeardSquitter : Type 0 where
-  pub timed : Received
-  pub heard : Heard
 
 -- ---- as a line
 

@@ -12,6 +12,7 @@ pub mod Squitters
 pub mod Check
 pub mod Heard
 pub mod Tracking
+pub mod SlowAnswers
 pub mod Track
 pub mod Runs
 pub mod OneRun

@@ -12,8 +12,8 @@ use Rattle.sq_message.specs.declared.received.Received.{Received}
 use Rattle.sq_text.specs.Timed.{IsTimedText, TimedReader}
 use Rattle.sq_lines.specs.Content.{Answer, answer_by}
 use Rattle.sq_lines.specs.Answers.{Answerer, Manner}
-use Rattle.sq_lines.specs.Outcomes.{outcome_of}
-use Rattle.sq_lines.specs.declared.faults.Outcome.{Outcome}
+use Rattle.sq_lines.specs.declared.log.Verdict.{Verdict}
+use Rattle.sq_lines.specs.declared.log.Verdict.TheVariants as verdicts
 use Rattle.sq_track.specs.declared.heard.Heard.{Heard}
 use Rattle.sq_track.specs.declared.heard.TrackFault.{TrackFault}
 use Rattle.sq_track.specs.declared.heard.TrackFault.TheVariants.{Memory, MomentBack}
@@ -138,16 +138,20 @@ WantsMemory t text =
 abbrev pub track_manner : Telling HeardSquitter → Manner Held Tracking HeardSquitter
 track_manner telling = record { stands_for = IsTracking; way = track_way telling; wants = WantsMemory }
 
--- a squitter was heard on the line with this number: by each history that the tracker stood for there is a reply, and
--- it is what was told; the tracker stands for the history after it
-abbrev pub IsHeardAs : Telling HeardSquitter → ℕ → Received → Outcome → (old new : Held) → (bytes : List ℕ)
-    → Type 0
-IsHeardAs telling number timed outcome old new bytes =
+-- a squitter was heard: by each history that the tracker stood for there is a reply, and this is what was found; the
+-- tracker stands for the history after it
+abbrev pub IsFoundOf : Result HeardSquitter LineFault → Received → (old new : Held) → Type 0
+IsFoundOf found timed old new =
     (h : History) → StandsFor old h → (reply : Result Heard TrackFault)
     × IsReply (settings old) h timed.moment timed.squitter reply × (reply ≢ Err Memory)
-    × (outcome ≡ outcome_of (found_of timed reply))
+    × (found ≡ found_of timed reply)
     × StandsFor new (history_after h timed.moment timed.squitter reply)
-    × ((writers : Writers) → bytes ≡ telling.text writers number (found_of timed reply))
+
+-- what hearing a squitter did: without memory the tracker is as it was, and may want some
+abbrev pub IsTimedHeard : Verdict HeardSquitter → Received → (old new : Held) → Type 0
+IsTimedHeard (verdicts.Good found) timed old new = IsFoundOf (Ok found) timed old new
+IsTimedHeard (verdicts.Refused fault) timed old new = IsFoundOf (Err fault) timed old new
+IsTimedHeard verdicts.NoMemory timed old new = (new ≡ old) × IsNewPosition old timed.squitter × IsWelcome old timed
 
 -- what is replied to a squitter follows from the settings and the history alone, whatever else came before
 abbrev pub OnePast : Type 0

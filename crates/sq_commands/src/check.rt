@@ -1,7 +1,6 @@
 //! The command `check`: an answer to each line that is not empty.
 ghost use Rattle.std.specs.Prelude.{◌≡◌, IfOk, option_copied};
 ghost use Rattle.sq_devices.specs.Changes.{TookReported, taken_from, written_on};
-ghost use Rattle.sq_message.specs.declared.squitter.Squitter.{Squitter};
 ghost use Rattle.sq_commands.specs.Check.{Checks, HasChecked, IsCheckRun, IsCheckRunIn, IsChecked, check_manner};
 ghost use Rattle.sq_commands.specs.Check.{status_of};
 ghost use Rattle.sq_commands.specs.Outputs.{effects, outputs};
@@ -14,7 +13,8 @@ use crate::reports::{break_off, report_argument};
 use crate::rows::{CsvRows, JsonRows};
 use crate::status::Status;
 use sq_devices::{Failed, Sink, Source, put_all};
-use sq_lines::{Answering, LineText, Outcome, RunFault, Tally, run_lines};
+use sq_lines::{Job, LineText, Log, RunFault, Tally, Telling, Verdict, run_log};
+use sq_message::Squitter;
 use sq_text::{LineFault, read_squitter};
 
 // Answers each text by itself.
@@ -23,10 +23,10 @@ struct Checking<'a, F: CheckFormat> {
     format: &'a F,
 }
 
-impl<F: CheckFormat> Answering for Checking<'_, F> {
-    ghost Past = { Checks };
+impl<F: CheckFormat> Job for Checking<'_, F> {
+    type Found = Squitter;
 
-    ghost Found = { Squitter };
+    ghost Past = { Checks };
 
     ghost Lasting = { Unit {0} };
 
@@ -34,17 +34,19 @@ impl<F: CheckFormat> Answering for Checking<'_, F> {
 
     ghost lasting = { λ client. tt };
 
-    fn answer(&mut self, number: u64, text: &[u8], into: &mut LineText) -> Outcome {
+    #[inline(always)]
+    fn hear(&mut self, text: &[u8]) -> Verdict<Squitter> {
         match read_squitter(text) {
-            Ok(squitter) => {
-                self.format.tell(number, &squitter, into);
-                Outcome::Good
-            }
-            Err(fault) => {
-                self.format.refuse(number, fault, into);
-                Outcome::Refused
-            }
+            Ok(squitter) => Verdict::Good(squitter),
+            Err(fault) => Verdict::Refused(fault),
         }
+    }
+}
+
+impl<F: CheckFormat> Telling for Checking<'_, F> {
+    #[inline(always)]
+    fn tell(&self, number: u64, found: &Squitter, into: &mut LineText) {
+        self.format.tell(number, found, into);
     }
 
     fn refuse(&self, number: u64, fault: LineFault, into: &mut LineText) {
@@ -81,7 +83,7 @@ fn run_check_as<S: Source, K: Sink, F: CheckFormat>(
         (HasChecked F.telling tally (written_on K.Sink sink.old sink.new))) }
 {
     match put_all(sink, format.header().as_bytes()) {
-        Ok(()) => run_lines(source, sink, &mut Checking { format }),
+        Ok(()) => run_log(source, sink, &mut Log::new(Checking { format })),
         Err(Failed) => Err(RunFault::Write),
     }
 }

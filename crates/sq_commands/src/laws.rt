@@ -8,13 +8,18 @@ ghost use Rattle.sq_commands.specs.declared.formats.Format.{Format};
 ghost use Rattle.sq_commands.specs.declared.status.Status.TheVariants.{Good, Misused};
 ghost use Rattle.sq_commands.specs.BrokenOff.{BrokenAnswers, BrokenAside, BrokenChecks, BrokenLogs};
 ghost use Rattle.sq_commands.specs.Check.{IsCheckRunIn, IsChecked, IsNoFormat};
-ghost use Rattle.sq_commands.specs.Formats.{IsFormatWord, Writers};
+ghost use Rattle.sq_commands.specs.Formats.{IsFormatWord, Telling, Writers};
 ghost use Rattle.sq_commands.specs.Heard.{heard_telling};
 ghost use Rattle.sq_commands.specs.Laws.{OneEncodeFault, OnePositionFault, OneSiteFault, OneTrackFault};
 ghost use Rattle.sq_commands.specs.OneRun.{AlikeOutputsEndAlike, AnyDevices, OneRun, OneRunAside};
 ghost use Rattle.sq_commands.specs.Outputs.{effects, outputs};
 ghost use Rattle.sq_commands.specs.Squitters.{squitter_telling};
+ghost use Rattle.sq_commands.specs.SlowAnswers.{AreTrueAnswers};
 ghost use Rattle.sq_commands.specs.Track.{IsLogRun, IsTracked};
+ghost use Rattle.sq_lines.specs.Machines.{HasTold};
+ghost use Rattle.sq_lines.specs.declared.log.Answer.{Answer};
+ghost use Rattle.sq_commands.specs.Heard.{HeardSquitter};
+ghost use Rattle.sq_commands.specs.Tracking.{track_manner};
 ghost use Rattle.sq_commands.specs.Tracking.{OnePast};
 
 use crate::status::Status;
@@ -100,4 +105,12 @@ pub fn any_devices<S: Source, K: Sink, F: Sink>()
 /// Outputs that began with the same bytes, and on which the same was written, end with the same bytes.
 pub fn alike_outputs_end_alike<K: Sink, L: Sink>()
     ensures { AlikeOutputsEndAlike K.Sink L.Sink }
+{}
+
+/// Whatever lines a log machine of `track` was given, in pieces of any size: wherever the world is slow, the answers
+/// that it has told are true.
+pub fn true_answers()
+    ensures { (telling : Telling HeardSquitter) (start now : Held) (tally : Tally) (lines : List (List ℕ))
+        (answers : List (Answer HeardSquitter)) → HasTold (track_manner telling) start now tally lines answers
+        → AreTrueAnswers start answers }
 {}

@@ -9,6 +9,7 @@ mod check;
 mod check_rows;
 mod encode;
 mod formats;
+mod found;
 mod heard;
 pub mod laws;
 mod local;

@@ -23,6 +23,7 @@ impl CheckFormat for Numbered {
         ""
     }
 
+    #[inline(always)]
     fn tell(&self, number: u64, squitter: &Squitter, into: &mut LineText) {
         push_number(into, number);
         push_summary(into, squitter);
@@ -41,6 +42,7 @@ impl TrackFormat for Numbered {
         ""
     }
 
+    #[inline(always)]
     fn tell(&self, number: u64, timed: &Received, heard: &Heard, into: &mut LineText) {
         push_number(into, number);
         push_heard(into, timed.squitter.address(), heard);

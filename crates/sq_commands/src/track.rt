@@ -1,23 +1,24 @@
 //! The command `track`: each line of a log is heard by a tracker.
 ghost use base.Fml.{GName};
-ghost use Rattle.std.specs.Prelude.{◌≡◌, ◌≢◌, ◌≤◌, [], IfOk};
+ghost use Rattle.std.specs.Prelude.{◌≡◌, ◌≤◌, IfOk};
 ghost use Rattle.sq_devices.specs.Changes.{TookReported, taken_from, written_on};
 ghost use Rattle.sq_requests.specs.Requests.{asked_track};
-ghost use Rattle.sq_commands.specs.Heard.{HeardSquitter, heard_lines, heard_telling};
+ghost use Rattle.sq_commands.specs.Heard.{heard_lines, heard_telling};
 ghost use Rattle.sq_commands.specs.Outputs.{effects, outputs};
 ghost use Rattle.sq_commands.specs.Track.{HasTracked, IsLogRun, IsTrackRun, IsTracked, hearing_manner};
-ghost use Rattle.sq_commands.specs.Tracking.{IsHeardAs, IsNewPosition, IsWelcome, Tracking};
+ghost use Rattle.sq_commands.specs.Tracking.{IsTimedHeard, Tracking};
 ghost use Rattle.sq_track.specs.Held.{settings};
 
 use crate::arguments::{TrackOptions, read_options};
 use crate::check::end_of;
 use crate::formats::{Format, TrackFormat};
+use crate::found::HeardSquitter;
 use crate::numbered::Numbered;
 use crate::reports::{break_off, report_argument};
 use crate::rows::{CsvRows, JsonRows};
 use crate::status::Status;
 use sq_devices::{Failed, Sink, Source, put_all};
-use sq_lines::{Answering, LineText, Outcome, RunFault, Tally, run_lines};
+use sq_lines::{Job, LineText, Log, RunFault, Tally, Telling, Verdict, run_log};
 use sq_message::Received;
 use sq_requests::TrackWords;
 use sq_text::{LineFault, read_timed};
@@ -31,10 +32,10 @@ struct Hearing<'a, F: TrackFormat> {
     format: &'a F,
 }
 
-impl<F: TrackFormat> Answering for Hearing<'_, F> {
-    ghost Past = { Tracking };
+impl<F: TrackFormat> Job for Hearing<'_, F> {
+    type Found = HeardSquitter;
 
-    ghost Found = { HeardSquitter };
+    ghost Past = { Tracking };
 
     ghost Lasting = { GName };
 
@@ -42,14 +43,19 @@ impl<F: TrackFormat> Answering for Hearing<'_, F> {
 
     ghost lasting = { λ client. client.tracker.ghost_name };
 
-    fn answer(&mut self, number: u64, text: &[u8], into: &mut LineText) -> Outcome {
+    #[inline(always)]
+    fn hear(&mut self, text: &[u8]) -> Verdict<HeardSquitter> {
         match read_timed(text) {
-            Ok(timed) => hear(self.tracker, self.format, number, &timed, into),
-            Err(fault) => {
-                self.format.refuse(number, fault, into);
-                Outcome::Refused
-            }
+            Ok(timed) => hear(self.tracker, timed),
+            Err(fault) => Verdict::Refused(fault),
         }
+    }
+}
+
+impl<F: TrackFormat> Telling for Hearing<'_, F> {
+    #[inline(always)]
+    fn tell(&self, number: u64, found: &HeardSquitter, into: &mut LineText) {
+        self.format.tell(number, &found.timed, &found.heard, into);
     }
 
     fn refuse(&self, number: u64, fault: LineFault, into: &mut LineText) {
@@ -57,33 +63,19 @@ impl<F: TrackFormat> Answering for Hearing<'_, F> {
     }
 }
 
-// Hears a squitter, and tells what was heard of it or why it is refused.
-fn hear<F: TrackFormat>(
-    tracker: &mut Tracker,
-    format: &F,
-    number: u64,
-    timed: &Received,
-    into: &mut LineText,
-) -> Outcome
-    requires { into.old.bytes ≡ [] }
-    ensures heard { result ≢ Outcome.NoMemory
-        → IsHeardAs F.telling number timed.now result tracker.old tracker.new into.new.bytes }
+// Hears a squitter.
+#[inline(always)]
+fn hear(tracker: &mut Tracker, timed: Received) -> Verdict<HeardSquitter>
+    ensures heard { IsTimedHeard result timed tracker.old tracker.new }
     ensures settings { settings tracker.new ≡ settings tracker.old }
-    ensures unheard { result ≡ Outcome.NoMemory → (tracker.new ≡ tracker.old)
-        × IsNewPosition tracker.old timed.now.squitter × IsWelcome tracker.old timed.now }
 {
-    let fault = match tracker.hear(timed.moment, &timed.squitter) {
-        Ok(heard) => {
-            format.tell(number, timed, &heard, into);
-            return Outcome::Good;
-        }
-        Err(TrackFault::MomentBack(last)) => LineFault::MomentBack(last),
-        Err(TrackFault::Full) => LineFault::Full,
-        Err(TrackFault::Memory) => return Outcome::NoMemory,
+    match tracker.hear(timed.moment, &timed.squitter) {
+        Ok(heard) => Verdict::Good(HeardSquitter { timed, heard }),
+        Err(TrackFault::MomentBack(last)) => Verdict::Refused(LineFault::MomentBack(last)),
+        Err(TrackFault::Full) => Verdict::Refused(LineFault::Full),
+        Err(TrackFault::Memory) => Verdict::NoMemory,
         Err(TrackFault::NoLimit) => unreachable!(),
-    };
-    format.refuse(number, fault, into);
-    Outcome::Refused
+    }
 }
 
 /// Hears each line of the source that is not empty, and answers it on the sink, as soon as its line feed was got; the
@@ -120,7 +112,7 @@ fn run_track_as<S: Source, K: Sink, F: TrackFormat>(
         (HasTracked F.telling tally (written_on K.Sink sink.old sink.new) tracker.old tracker.new)) }
 {
     match put_all(sink, format.header().as_bytes()) {
-        Ok(()) => run_lines(source, sink, &mut Hearing { tracker, format }),
+        Ok(()) => run_log(source, sink, &mut Log::new(Hearing { tracker, format })),
         Err(Failed) => Err(RunFault::Write),
     }
 }

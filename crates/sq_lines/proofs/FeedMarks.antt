@@ -1,6 +1,6 @@
 -- Masks whose bits mark the line feeds of a piece.
-use Rattle.std.proofs.Common.{◌≡◌, ◌+◌, ◌/◌, ◌%◌, ◌^◌, ◌<◌, ◌≤◌, ◌∙◌, inl, inr, ℕ, Bool, true, false, cond, eqb, List}
-use Rattle.std.proofs.Common.{length, take, drop, get_or, map, min, refl, sym, ap, subst, arith, w64, eq-zero-or-pos}
+use Rattle.std.proofs.Common.{◌≡◌, ◌+◌, ◌-◌, ◌*◌, ◌/◌, ◌%◌, ◌^◌, ◌<◌, ◌≤◌, ◌∙◌, inl, inr, ℕ, Bool, true, false, cond, eqb, List}
+use Rattle.std.proofs.Common.{length, take, drop, get_or, map, min, refl, sym, ap, subst, arith, w64, eq-zero-or-pos, rules}
 use Rattle.std.proofs.Common.{shr-shr}
 use Rattle.std.specs.Int.{bit_at, trailing_zeros}
 use Rattle.std.specs.Int.Count.{count_trailing_zeros}
@@ -8,7 +8,11 @@ use Rattle.std.specs.List.{position_or_len}
 use Rattle.std.proofs.Math.ListN.{get_or-map}
 use Rattle.std.proofs.lemmas.List.{get_or-drop, get_or-take, length-drop, length-take}
 use Rattle.std.proofs.lemmas.List.Sums.{position_or_len_is}
-use Rattle.std.proofs.lemmas.Nat.Bits.{bit_at-trailing_zeros, bit_at-zero}
+use Rattle.std.proofs.lemmas.Bool.{cases_lt}
+use Rattle.std.proofs.Math.Pow.{shr_lt}
+use Rattle.std.specs.Int.Bits.{bit_and}
+use Rattle.std.proofs.lemmas.Nat.Bits.{bit_at-lt, bit_at-trailing_zeros, bit_at-zero, bit_at_above, bit_at_and}
+use Rattle.std.proofs.lemmas.Nat.Bits.{bit_at_ones}
 use Rattle.std.proofs.lemmas.Simd.{bit_mask_l}
 use Rattle.std.specs.Simd.Lanes.{mask_l}
 use Rattle.sq_lines.specs.Lines.{is_feed, MarksFeeds}
@@ -67,3 +71,47 @@ first_marked piece feeds place small short marked is =
     (λ there.
     let lowest : place ≡ trailing_zeros w64 feeds = omega arith in
     set _ (sym (marked place there) ∙ ap (bit_at feeds) lowest ∙ at_lowest feeds small (omega arith))))
+
+-- where the bits above the piece are not set: the lowest bit is its first line feed
+pub first_place : (piece : List ℕ) (feeds : ℕ) → 0 < feeds → feeds < 2 ^ 64 → feeds < 2 ^ length piece
+    → length piece ≤ 64 → MarksFeeds feeds piece
+    → (trailing_zeros w64 feeds < length piece) × (trailing_zeros w64 feeds ≡ position_or_len is_feed piece)
+first_place piece feeds some small within short marked =
+    let lowest : ℕ = trailing_zeros w64 feeds in
+    let set_there : bit_at feeds lowest ≡ 1 = (bit_at-trailing_zeros w64 feeds some small).1 in
+    let below : lowest < length piece = elim (cases_lt lowest (length piece)) [
+      | inl below ↦ below
+      | inr past ↦ absurd (omega (arith, set_there, bit_at_above feeds (length piece) lowest within past))
+    ] in
+    let least : lowest ≡ min (length piece) lowest = omega (arith, below) in
+    (below, first_marked piece feeds lowest small short marked least)
+
+-- no bit is set, and there is no line feed
+pub none_marked : (piece : List ℕ) → length piece ≤ 64 → MarksFeeds 0 piece
+    → length piece ≤ position_or_len is_feed piece
+unfolding count_trailing_zeros
+none_marked piece short marked =
+    let least : length piece ≡ min (length piece) (trailing_zeros w64 0) = omega (arith, short) in
+    let is = first_marked piece 0 (length piece) (omega arith) short marked least in
+    omega (arith, is)
+
+-- fewer marks
+pub marks_same : (piece : List ℕ) (few feeds : ℕ) → ((k : ℕ) → k < length piece → bit_at few k ≡ bit_at feeds k)
+    → MarksFeeds feeds piece → MarksFeeds few piece
+marks_same piece few feeds same marked k within = same k within ∙ marked k within
+
+pub front_bit : (feeds count k : ℕ) → k < count → bit_at (bit_and feeds (2 ^ count - 1)) k ≡ bit_at feeds k
+front_bit feeds count k within =
+    bit_at_and feeds (2 ^ count - 1) k
+    ∙ ap (λ b. min (bit_at feeds k) b) (bit_at_ones count k within)
+    ∙ (let small = bit_at-lt feeds k in let least : min (bit_at feeds k) 1 ≡ bit_at feeds k = omega (arith, small) in least)
+
+pub shifted_small : (feeds n here : ℕ) → here + 1 ≤ n → feeds < 2 ^ n → feeds / 2 ^ here / 2 < 2 ^ (n - (here + 1))
+shifted_small feeds n here within small =
+    let whole : n ≡ (n - (here + 1)) + 1 + here = omega (arith, within) in
+    let first : feeds / 2 ^ here < 2 ^ ((n - (here + 1)) + 1) =
+    shr_lt ((n - (here + 1)) + 1) here (subst (λ m. feeds < 2 ^ m) whole small) in
+    shr_lt (n - (here + 1)) 1 first
+
+pub shifted_one : (count : ℕ) → count < 64 → (1 * 2 ^ count) % 18446744073709551616 ≡ 2 ^ count
+shifted_one count few = search (rules, arith)

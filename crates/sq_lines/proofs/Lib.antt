@@ -9,3 +9,6 @@ pub mod Checking
 pub mod Contents
 pub mod Fronts
 pub mod Told
+pub mod Panes
+pub mod Machines
+pub mod Pumping

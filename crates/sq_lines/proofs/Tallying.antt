@@ -13,7 +13,7 @@ use Rattle.sq_lines.specs.Content.{Answer}
 use Rattle.sq_lines.specs.Runs.{but_last}
 use Rattle.sq_lines.specs.declared.tallies.Tally.{Tally}
 
-answers_append : {Past Found : Type 0} (way : Answerer Past Found) (past : Past) (xs ys : List (List ℕ))
+pub answers_append : {Past Found : Type 0} (way : Answerer Past Found) (past : Past) (xs ys : List (List ℕ))
     → answers_to way past (xs ++ ys) ≡ answers_to way past xs ++ answers_to way (past_after way past xs) ys
 answers_append way past [] ys = refl
 answers_append way past (x ∷ xs) ys =
@@ -24,7 +24,7 @@ pub past_push : {Past Found : Type 0} (way : Answerer Past Found) (past : Past) 
 past_push way past [] line = refl
 past_push way past (x ∷ xs) line = past_push way (after_line way past x) xs line
 
-length_answers : {Past Found : Type 0} (way : Answerer Past Found) (past : Past) (lines : List (List ℕ))
+pub length_answers : {Past Found : Type 0} (way : Answerer Past Found) (past : Past) (lines : List (List ℕ))
     → length (answers_to way past lines) ≡ length lines
 length_answers way past [] = refl
 length_answers way past (x ∷ xs) = omega (arith, length_answers way (after_line way past x) xs)

@@ -5,3 +5,7 @@ pub mod Answers
 pub mod Outcomes
 pub mod Pieces
 pub mod Runs
+pub mod Panes
+pub mod Hearings
+pub mod Machines
+pub mod Pumps

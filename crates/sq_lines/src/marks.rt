@@ -1,5 +1,6 @@
 //! The line feeds of a piece as the bits of a mask.
-ghost use Rattle.std.specs.Prelude.{◌≡◌, ◌≤◌, length};
+ghost use Rattle.std.specs.Prelude.{◌≡◌, ◌^◌, ◌<◌, ◌≤◌, ℕ, length};
+ghost use Rattle.std.specs.Int.{bit_at};
 ghost use Rattle.std.specs.List.{position_or_len};
 ghost use Rattle.sq_lines.specs.Lines.{MarksFeeds, is_feed};
 
@@ -23,4 +24,16 @@ pub(crate) fn marked_place(piece: &[u8], feeds: u64) -> usize
     ensures fits { result ≤ length piece.now }
 {
     piece.len().min(feeds.trailing_zeros() as usize)
+}
+
+// The first marks, as many as this.
+pub(crate) fn front_marks(feeds: u64, count: usize) -> u64
+    requires { count ≤ 64 }
+    ensures small { result < 2 ^ count }
+    ensures same { (k : ℕ) → k < count → bit_at result k ≡ bit_at feeds k }
+{
+    if count == 64 {
+        return feeds;
+    }
+    feeds & ((1 << count) - 1)
 }

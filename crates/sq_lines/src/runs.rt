@@ -13,7 +13,7 @@ use crate::window::{FRONT, Window};
 use sq_devices::{Failed, Sink, Source, put_all};
 
 // Puts the text of an answer.
-fn put_text<K: Sink>(sink: &mut K, text: &LineText) -> Result<(), Unanswered>
+pub(crate) fn put_text<K: Sink>(sink: &mut K, text: &LineText) -> Result<(), Unanswered>
     ensures put { OnOk result (HasPut K.Sink sink.old sink.new text.now.bytes) }
     ensures part { OnErr result (WroteFront (K.written sink.old) (K.written sink.new) text.now.bytes) }
     ensures write { IfErr result (λ fault. fault ≡ Unanswered.Write) }

@@ -8,20 +8,20 @@ use Rattle.sq_commands.proofs.check.run_check_as.Goals as goal
 
 pub returns-in-Ok-clause-ran : goal.returns-in-Ok-clause-ran
 returns-in-Ok-clause-ran g c =
-    let input = taken_from g.S.Source c.args.source.now c.run_lines.new.source in
-    let rest = written_on g.K.Sink c.put_all.new.sink c.run_lines.new.sink in
-    let output = written_on g.K.Sink c.args.sink.now c.run_lines.new.sink in
+    let input = taken_from g.S.Source c.args.source.now c.run_log.new.source in
+    let rest = written_on g.K.Sink c.put_all.new.sink c.run_log.new.sink in
+    let output = written_on g.K.Sink c.args.sink.now c.run_log.new.sink in
     let put = subst (HasPut g.K.Sink c.args.sink.now c.put_all.new.sink) (c.as_bytes.ensures.value ∙ c.header.ensures)
     c.in-Ok.ensures.put in
-    let ran = c.run_lines.ensures in
+    let ran = c.run_log.ensures in
     checked g.F.CheckFormat.telling input rest output
-    (after_header g.K.Sink c.args.sink.now c.put_all.new.sink c.run_lines.new.sink g.F.CheckFormat.telling.header put
-    c.in-Ok.ensures.uncounted) c.run_lines.result ran.whole ran.finished ran.unfinished ran.unread ran.unwritten
+    (after_header g.K.Sink c.args.sink.now c.put_all.new.sink c.run_log.new.sink g.F.CheckFormat.telling.header put
+    c.in-Ok.ensures.uncounted) c.run_log.result ran.whole ran.finished ran.unfinished ran.unread ran.unwritten
     ran.unanswered
 
 pub returns-in-Ok-clause-reported : goal.returns-in-Ok-clause-reported
 returns-in-Ok-clause-reported g c =
-    checked_reported g.F.CheckFormat.telling c.run_lines.result _ _ (returns-in-Ok-clause-ran g c)
+    checked_reported g.F.CheckFormat.telling c.run_log.result _ _ (returns-in-Ok-clause-ran g c)
 
 pub returns-in-Err-clause-ran : goal.returns-in-Err-clause-ran
 returns-in-Err-clause-ran g c =

@@ -1,4 +1,4 @@
-use Rattle.std.proofs.Common.{◌∙◌, rules, subst}
+use Rattle.std.proofs.Common.{◌∙◌, ap, rules, subst, subst₂}
 use Rattle.sq_devices.specs.Calls.{HasPut}
 use Rattle.sq_devices.specs.Changes.{taken_from, written_on}
 use Rattle.sq_devices.specs.Device.{WroteFront}
@@ -11,22 +11,22 @@ use Rattle.sq_commands.proofs.track.run_track_as.Goals as goal
 pub returns-in-Ok-clause-ran : goal.returns-in-Ok-clause-ran
 returns-in-Ok-clause-ran g c =
     let telling = g.F.TrackFormat.telling in
-    let input = taken_from g.S.Source c.args.source.now c.run_lines.new.source in
-    let rest = written_on g.K.Sink c.put_all.new.sink c.run_lines.new.sink in
-    let output = written_on g.K.Sink c.args.sink.now c.run_lines.new.sink in
+    let input = taken_from g.S.Source c.args.source.now c.run_log.new.source in
+    let rest = written_on g.K.Sink c.put_all.new.sink c.run_log.new.sink in
+    let output = written_on g.K.Sink c.args.sink.now c.run_log.new.sink in
     let put = subst (HasPut g.K.Sink c.args.sink.now c.put_all.new.sink) (c.as_bytes.ensures.value ∙ c.header.ensures)
     c.in-Ok.ensures.put in
-    let after = after_header g.K.Sink c.args.sink.now c.put_all.new.sink c.run_lines.new.sink telling.header put
+    let after = after_header g.K.Sink c.args.sink.now c.put_all.new.sink c.run_log.new.sink telling.header put
     c.in-Ok.ensures.uncounted in
-    let ran = c.run_lines.ensures in
-    subst (λ (tracker : Held). IsTracked telling c.run_lines.result input output c.args.tracker.now tracker)
-    (search rules)
-    (tracked telling input rest output after c.args.tracker.now c.run_lines.new.client.tracker.now c.run_lines.result
-    ran.whole ran.finished ran.unfinished ran.unread ran.unanswered ran.unwritten)
+    let ran = c.run_log.ensures in
+    subst₂ (λ (before tracker : Held). IsTracked telling c.run_log.result input output before tracker)
+    (ap (λ job. job.tracker.now) c.new.ensures.job) (search rules)
+    (tracked telling input rest output after c.new.result.job.tracker.now c.run_log.new.log.job.tracker.now
+    c.run_log.result ran.whole ran.finished ran.unfinished ran.unread ran.unanswered ran.unwritten)
 
 pub returns-in-Ok-clause-reported : goal.returns-in-Ok-clause-reported
 returns-in-Ok-clause-reported g c =
-    tracked_reported g.F.TrackFormat.telling c.run_lines.result _ _ _ _ (returns-in-Ok-clause-ran g c)
+    tracked_reported g.F.TrackFormat.telling c.run_log.result _ _ _ _ (returns-in-Ok-clause-ran g c)
 
 pub returns-in-Err-clause-ran : goal.returns-in-Err-clause-ran
 returns-in-Err-clause-ran g c =

@@ -1,0 +1,5 @@
+use Rattle.sq_commands.proofs.SlowAnswers.{true_answers}
+use Rattle.sq_commands.proofs.laws.true_answers.Goals as goal
+
+pub returns : goal.returns
+returns c telling start now tally lines answers told = true_answers telling start now tally lines answers told

@@ -1,0 +1,39 @@
+-- What the answers of a log machine promise of true places.
+use Rattle.std.specs.Prelude.{List, [], ◌∷◌, Result, Ok, Err, map}
+use Rattle.sq_message.specs.declared.received.Received.{Received}
+use Rattle.sq_text.specs.declared.faults.LineFault.{LineFault}
+use Rattle.sq_text.specs.Timed.{TimedReader}
+use Rattle.sq_lines.specs.declared.log.Answer.{Answer as Told}
+use Rattle.sq_track.specs.declared.heard.Heard.{Heard}
+use Rattle.sq_track.specs.declared.heard.TrackFault.{TrackFault}
+use Rattle.sq_track.specs.Held.{Held}
+use Rattle.sq_track.specs.Laws.{AreTrueInSlowWorlds}
+use Rattle.sq_commands.specs.Formats.{Writers}
+use Rattle.sq_commands.specs.Heard.{HeardSquitter}
+
+-- before these, what was found, if it is good
+abbrev pub with_good : Result HeardSquitter LineFault → List HeardSquitter → List HeardSquitter
+with_good (Ok found) later = found ∷ later
+with_good (Err fault) later = later
+
+-- what was found on the good lines, in order
+abbrev pub good_in : List (Told HeardSquitter) → List HeardSquitter
+good_in [] = []
+good_in (answer ∷ answers) = with_good answer.verdict (good_in answers)
+
+-- the squitters that good lines spell
+abbrev pub received_in : List (Told HeardSquitter) → List Received
+received_in answers = map (λ found. found.timed) (good_in answers)
+
+abbrev pub as_reply : HeardSquitter → Result Heard TrackFault
+as_reply found = Ok found.heard
+
+-- and what was heard of each
+abbrev pub heard_in : List (Told HeardSquitter) → List (Result Heard TrackFault)
+heard_in answers = map as_reply (good_in answers)
+
+-- In a world that is slow for the tracker, and for following: where what it heard before, and the good lines, came from
+-- the world, each answer `fix` or `followed` is the true place, and `far` is not answered.
+abbrev pub AreTrueAnswers : Held → List (Told HeardSquitter) → Type 0
+AreTrueAnswers tracker answers =
+    TimedReader → Writers → AreTrueInSlowWorlds tracker (received_in answers) (heard_in answers)
