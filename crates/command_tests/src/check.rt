@@ -1,5 +1,5 @@
 //! The command `check` over inputs in pieces, and over devices that fail: the clauses `whole`, `unread` and `unwritten`
-//! of `run_lines`, and `IsCheckRun` at status 3. What it answers to odd lines stands in `tests/worked/check.txt`.
+//! of `run_log`, and `IsCheckRun` at status 3. What it answers to odd lines stands in `tests/worked/check.txt`.
 use crate::faulty_devices::{
     End, Pieces, Room, lines_in, pieces_of, room_of, sink_of, source_of, taken,
 };

@@ -20,6 +20,8 @@ mod lines;
 #[cfg(test)]
 mod local;
 #[cfg(test)]
+mod logs;
+#[cfg(test)]
 mod outcomes;
 #[cfg(test)]
 mod pair;

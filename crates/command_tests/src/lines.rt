@@ -1,6 +1,6 @@
 //! Lines cut out of pieces, and runs over memory and over devices that fail.
-use sq_lines::laws::{equal_outcomes, equal_run_faults, equal_tallies, one_take, takes_in_turn};
-use sq_lines::{Cutter, Line, Outcome, RunFault, Tally, content_of};
+use sq_lines::laws::{equal_run_faults, equal_tallies, one_take, takes_in_turn};
+use sq_lines::{Cutter, Line, RunFault, Tally, content_of};
 use std::process::Abort;
 
 // A piece taken, without the clauses.
@@ -90,8 +90,6 @@ fn compares_what_a_run_has_come_to(rt: HostRuntime) {
         refused: 2,
     };
     assert!(rt; equal_tallies(&tally, &tally) && !equal_tallies(&tally, &other));
-    assert!(rt; equal_outcomes(&Outcome::Good, &Outcome::Good));
-    assert!(rt; !equal_outcomes(&Outcome::Good, &Outcome::NoMemory));
     assert!(rt; equal_run_faults(&RunFault::Read, &RunFault::Read));
     assert!(rt; !equal_run_faults(&RunFault::Read, &RunFault::Write));
 }

@@ -1,5 +1,5 @@
 //! The command `track`: `IsTrackRun`, and with devices that fail the clauses `whole`, `unread` and `unwritten` of
-//! `run_lines`. What it answers to other logs and words stands in `tests/worked/track.txt`.
+//! `run_log`. What it answers to other logs and words stands in `tests/worked/track.txt`.
 use crate::faulty_devices::{End, Pieces, lines_in, pieces_of, room_of, sink_of, source_of, taken};
 use crate::outcomes::{assert_outcome, assert_reported, outcome_on};
 use sq_commands::{Status, run_track};

@@ -3,7 +3,6 @@ pub mod BrokenRuns
 pub mod CheckLemmas
 pub mod FaultLemmas
 pub mod FormatLemmas
-pub mod Headers
 pub mod HeardLemmas
 pub mod OneRuns
 pub mod SomeWriters

@@ -4,7 +4,7 @@ use Rattle.sq_message.specs.declared.received.Received.{Received}
 use Rattle.sq_text.specs.Timed.{TimedReader}
 use Rattle.sq_lines.specs.Answers.{answers_to}
 use Rattle.sq_lines.specs.Content.{Answer, answer_by}
-use Rattle.sq_lines.specs.Machines.{HasTold, told_from}
+use Rattle.sq_lines.specs.Logs.{AreAnswers, told_from}
 use Rattle.sq_lines.specs.declared.log.Answer.{Answer as Told}
 use Rattle.sq_lines.specs.declared.tallies.Tally.{Tally}
 use Rattle.sq_track.specs.declared.heard.TrackFault.TheVariants.{NoLimit, Memory, MomentBack, Full}
@@ -58,7 +58,7 @@ replies_in reader s h (line ∷ lines) answers next n (first, then_on, rest, one
     (replies_in reader s then_on lines rest next (n + 1) more))
 
 pub true_answers : (telling : Telling HeardSquitter) (old now : Held) (tally : Tally) (lines : List (List ℕ))
-    (answers : List (Told HeardSquitter)) → HasTold (track_manner telling) old now tally lines answers
+    (answers : List (Told HeardSquitter)) → AreAnswers (track_manner telling) old now tally lines answers
     → AreTrueAnswers old answers
 true_answers telling old now tally lines answers told reader writers =
     true_in_slow_worlds old (received_in answers) (heard_in answers)

@@ -2,32 +2,25 @@
 use Rattle.std.proofs.Common.{◌≡◌, ◌≢◌, ◌++◌, ◌∙◌, ◌-◌, Bor, MutBor, ◌∷◌, [], ℕ, zero, suc, List, None}
 use Rattle.std.proofs.Common.{Some, Result, Ok, Err, IfErr, IfOk, OnErr, OnOk, length, take, ap, sym, subst, subst₂}
 use Rattle.std.proofs.Common.{refl, inl, inr, arith, true}
-use Rattle.std.proofs.KnownBytes.{Consumes-nil}
-use Rattle.std.specs.Io.KnownBytes.{Appends}
 use Rattle.std.specs.List.{concat}
 use Rattle.sq_devices.specs.Changes.{FinishedOnce, Sent, Taken, TookAll, TookPart, TookReported, TookSome, Unfinished}
-use Rattle.sq_devices.specs.Changes.{Written, Wrote, taken_from}
-use Rattle.sq_devices.specs.declared.device.Source.{Ghosts as SourceGhosts}
-use Rattle.sq_devices.specs.Device.{IsPrefixOf, WroteFront}
+use Rattle.sq_devices.specs.Changes.{Written, Wrote}
+use Rattle.sq_devices.specs.Device.{IsPrefixOf}
 use Rattle.sq_devices.proofs.Ends.{took_reported}
 use Rattle.sq_text.specs.declared.faults.LineFault.{LineFault}
 use Rattle.sq_message.specs.declared.received.Received.{Received}
 use Rattle.sq_text.specs.Timed.{IsTimedReading, TimedReader}
 use Rattle.sq_text.proofs.TimedReadings.{one_timed_reading}
 use Rattle.sq_lines.specs.Answers.{Answerer, Manner, after_content, after_line, answer_line, answers_to, past_after}
-use Rattle.sq_lines.specs.Answers.{tally_of, texts_of}
-use Rattle.sq_lines.specs.Outcomes.{outcome_of}
+use Rattle.sq_lines.specs.Answers.{tally_of}
 use Rattle.sq_lines.specs.Hearings.{IsHeard}
-use Rattle.sq_lines.specs.declared.log.Verdict.{Verdict}
-use Rattle.sq_lines.specs.declared.log.Verdict.TheVariants as verdicts
-use Rattle.sq_lines.specs.declared.faults.Outcome.{Outcome}
+use Rattle.sq_lines.specs.declared.job.Verdict.{Verdict}
+use Rattle.sq_lines.specs.declared.job.Verdict.TheVariants as verdicts
 use Rattle.sq_lines.specs.Content.{Answer, Content, Long, Empty, Text, answer_by, answer_content, content}
-use Rattle.sq_lines.specs.Lines.{ended_lines, lines_of}
-use Rattle.sq_lines.specs.Runs.{HasRun, HasTold, HasToldPart, OfLines, StoppedIn, but_last}
+use Rattle.sq_lines.specs.Lines.{but_last, ended_lines, lines_of}
+use Rattle.sq_lines.specs.Runs.{HasRun, HasTold, HasToldPart, OfLines, StoppedAtMemory, StoppedAtWrite}
 use Rattle.sq_lines.specs.declared.faults.RunFault.{RunFault}
-use Rattle.sq_lines.specs.declared.faults.RunFault.TheVariants.{Read}
-use Rattle.sq_lines.specs.declared.faults.RunFault.TheVariants as run_faults
-use Rattle.sq_lines.specs.declared.faults.Unanswered.TheVariants.{Write, Memory}
+use Rattle.sq_lines.specs.declared.faults.RunFault.TheVariants.{Read, Write, Memory}
 use Rattle.sq_lines.specs.declared.tallies.Tally.{Tally}
 use Rattle.sq_track.specs.declared.heard.Heard.{Heard}
 use Rattle.sq_track.specs.declared.heard.TrackFault.{TrackFault}
@@ -39,7 +32,6 @@ use Rattle.sq_track.proofs.Histories.OneReply.{one_reply}
 use Rattle.sq_track.proofs.Histories.SomeAnswer.{some_reply}
 use Rattle.sq_commands.specs.Formats.{Telling, Writers, told_by}
 use Rattle.sq_commands.specs.Heard.{HeardSquitter}
-use Rattle.sq_commands.proofs.Headers.{IsAfter, front_of_header, prefix_after}
 use Rattle.sq_commands.specs.declared.track.Hearing.{Hearing}
 use Rattle.sq_commands.specs.Track.{HasTracked, IsTracked, hearing_manner}
 use Rattle.sq_commands.specs.Tracking.{AreHeardLines, HasHeard, IsFoundOf, IsHeardLine, IsTimedHeard, IsTracking}
@@ -59,14 +51,11 @@ settings_with past timed (Ok heard) is = refl
 settings_with past timed (Err fault) is = refl
 
 -- the tracker's reply is the one by what came before
-pub timed_heard : (past : Tracking) (timed : Received) (outcome : Outcome) (new : Held)
-    (reply : Result Heard TrackFault)
+timed_heard : (past : Tracking) (timed : Received) (new : Held) (reply : Result Heard TrackFault)
     → IsReply past.settings past.history timed.moment timed.squitter reply → reply ≢ Err track_faults.Memory
-    → outcome ≡ outcome_of (found_of timed reply)
     → StandsFor new (history_after past.history timed.moment timed.squitter reply) → settings new ≡ past.settings
-    → (outcome ≡ outcome_of (answer_read past (Ok timed))) × IsTracking new (past_read past (Ok timed))
-    × (found_of timed reply ≡ answer_read past (Ok timed))
-timed_heard past timed outcome new reply is remembers became stands same =
+    → (found_of timed reply ≡ answer_read past (Ok timed)) × IsTracking new (past_read past (Ok timed))
+timed_heard past timed new reply is remembers stands same =
     let by = past.replier.replies past.settings past.history past.accepted timed.moment timed.squitter in
     let one : reply ≡ reply_by past timed =
     one_reply past.settings past.history timed.moment timed.squitter reply (reply_by past timed) remembers
@@ -75,9 +64,8 @@ timed_heard past timed outcome new reply is remembers became stands same =
     ≡ (past_with past timed (reply_by past timed) by).history =
     ap (history_after past.history timed.moment timed.squitter) one
     ∙ sym (history_with past timed (reply_by past timed) by) in (
-      became ∙ ap (λ r. outcome_of (found_of timed r)) one,
-      (subst (StandsFor new) after stands, same ∙ sym (settings_with past timed (reply_by past timed) by)),
       ap (found_of timed) one,
+      (subst (StandsFor new) after stands, same ∙ sym (settings_with past timed (reply_by past timed) by)),
     )
 
 -- ---- texts
@@ -96,9 +84,9 @@ text_found text timed found old new spells same heard past st =
     let one : Ok timed ≡ past.reader.read text =
     one_timed_reading text (Ok timed) (past.reader.read text) spells (past.reader.reads text) in
     let is = subst (λ (s : Settings). IsReply s past.history timed.moment timed.squitter h.0) st.1 h.1 in
-    let t = timed_heard past timed (outcome_of (found_of timed h.0)) new h.0 is h.2 refl h.4 (same ∙ st.1) in
+    let t = timed_heard past timed new h.0 is h.2 h.4 (same ∙ st.1) in
     subst (λ (read : Result Received LineFault). (answer_read past read ≡ found) × IsTracking new (past_read past read))
-    one (sym t.2 ∙ sym h.3, t.1)
+    one (sym t.0 ∙ sym h.3, t.1)
 
 pub text_heard : (text : List ℕ) (timed : Received) (verdict : Verdict HeardSquitter) {F : Type 0}
     (telling : Telling HeardSquitter) (format : Bor F) (lent : MutBor Held) (new : Held)
@@ -230,10 +218,6 @@ module _ (telling : Telling HeardSquitter) where
   abbrev how : Manner Held Tracking HeardSquitter
   how = track_manner telling
 
-  -- the texts of answers, without the header
-  abbrev texts : Writers → List (Answer HeardSquitter) → List ℕ
-  texts writers = texts_of (telling.text writers)
-
   heard_from : (old new : Held) (lines : List (List ℕ))
       (Holding : (List (Answer HeardSquitter) → List ℕ) → List (Answer HeardSquitter) → Type 0)
       → ((past : Tracking) → IsTracking old past → IsTracking new (past_after way past lines)
@@ -260,18 +244,19 @@ module _ (telling : Telling HeardSquitter) where
   answers-length past [] = refl
   answers-length past (line ∷ lines) = omega (arith, answers-length (after_line way past line) lines)
 
-  -- a run of any lines after the header, as one of `track`
-  module _ (input : Taken) (rest output : Written) (after : IsAfter telling.header rest output) (old new : Held) where
-    told-track : (lines : List (List ℕ)) → HasTold how old new (Appends rest.before rest.after) lines
+  -- a run of any lines, as one of `track`
+  module _ (input : Taken) (output : Written) (old new : Held) where
+    told-track : (lines : List (List ℕ)) → HasTold how old new (λ text. Wrote output (telling.header ++ text)) lines
         → HasHeard telling old new lines (λ text answers. Wrote output (text answers))
-    told-track lines told = heard_from old new lines (λ text answers. Wrote output (text answers))
-        (λ past st. let one = told past st in (one.0, after.wrote _ one.1))
+    told-track lines told = heard_from old new lines (λ text answers. Wrote output (text answers)) told
 
-    told_part-track : (lines : List (List ℕ)) → HasToldPart how old new rest.before rest.after lines
+    told_part-track : (lines : List (List ℕ))
+        → HasToldPart telling.header how old new output.before output.after lines
         → HasHeard telling old new lines (λ text answers. WroteIntoLast output text answers)
     told_part-track lines told = heard_from old new lines
         (λ text answers. WroteIntoLast output text answers) (λ past st.
         let one = told past st in
+        let text = told_by telling past.writers in
         let answers = answers_to way past lines in
         let n : length answers - 1 ≡ length lines - 1 = ap (λ k. k - 1) (answers-length past lines) in
         let front : answers_to way past (but_last lines) ≡ take (length answers - 1) answers =
@@ -279,16 +264,16 @@ module _ (telling : Telling HeardSquitter) where
         let part : List ℕ = one.1.0 in (
           one.0,
           (
-            telling.header ++ part,
-            λ some. prefix_after telling.header _ part
-                (subst (λ (front : List (Answer HeardSquitter)). IsPrefixOf (texts past.writers front) part) front
-                one.1.1),
-            prefix_after telling.header part _ one.1.2,
-            after.hides part one.1.3,
+            part,
+            λ some. subst (λ (front : List (Answer HeardSquitter)). IsPrefixOf (text front) part) front
+                (one.1.1 (omega (arith, some, answers-length past lines))),
+            one.1.2,
+            one.1.3,
           ),
         ))
 
-    whole-track : (tally : Tally) → TookAll input (HasRun how old new (Sent rest) tally)
+    whole-track : (tally : Tally)
+        → TookAll input (HasRun how old new (λ text. Sent output (telling.header ++ text)) tally)
         → TookAll input (HasTracked telling tally output old new)
     whole-track tally (pieces, got, consumed, end, run) = (
       pieces,
@@ -297,29 +282,30 @@ module _ (telling : Telling HeardSquitter) where
       end,
       heard_from old new (lines_of (concat pieces))
           (λ text answers. Sent output (text answers) × (tally ≡ tally_of answers)) (λ past st.
-          let one = run.0 past st in (one.0, (after.sent _ one.1, run.1 past st))),
+          let one = run.0 past st in (one.0, (one.1, run.1 past st))),
     )
 
     pub tracked : (result : Result Tally RunFault)
-        → IfOk result (λ tally. TookAll input (HasRun how old new (Sent rest) tally))
-        → OnOk result (FinishedOnce rest) → OnErr result (Unfinished rest)
+        → IfOk result (λ tally. TookAll input (HasRun how old new (λ text. Sent output (telling.header ++ text)) tally))
+        → OnOk result (FinishedOnce output) → OnErr result (Unfinished output)
         → IfErr result (λ fault. fault ≡ Read
-        → TookPart input (λ bytes. HasTold how old new (Appends rest.before rest.after) (ended_lines bytes)))
-        → IfErr result (λ fault. fault ≡ run_faults.Memory
-        → TookSome input (OfLines input (StoppedIn Memory how old new rest.before rest.after)))
-        → IfErr result (λ fault. fault ≡ run_faults.Write → (rest.failed ≡ true)
-        × TookSome input (OfLines input (StoppedIn Write how old new rest.before rest.after)))
+        → TookPart input (λ bytes. HasTold how old new (λ text. Wrote output (telling.header ++ text))
+        (ended_lines bytes)))
+        → IfErr result (λ fault. fault ≡ Memory
+        → TookSome input (OfLines input (StoppedAtMemory how old new (λ text. Wrote output (telling.header ++ text)))))
+        → IfErr result (λ fault. fault ≡ Write → (output.failed ≡ true)
+        × TookSome input (OfLines input (StoppedAtWrite telling.header how old new output.before output.after)))
         → IsTracked telling result input output old new
     tracked (Ok tally) whole finished unfinished unread unanswered unwritten =
-        (after.finished finished, whole-track tally whole)
+        (finished, whole-track tally whole)
     tracked (Err Read) whole finished unfinished unread unanswered unwritten =
         let u = unread refl in (
-          after.unfinished unfinished,
+          unfinished,
           (u.0, (u.1.0, u.1.1, u.1.2, told-track (ended_lines u.1.0) u.1.3)),
         )
-    tracked (Err run_faults.Memory) whole finished unfinished unread unanswered unwritten =
+    tracked (Err Memory) whole finished unfinished unread unanswered unwritten =
         let u = unanswered refl in (
-          after.unfinished unfinished,
+          unfinished,
           (
             u.0,
             u.1,
@@ -333,10 +319,10 @@ module _ (telling : Telling HeardSquitter) where
             ],
           ),
         )
-    tracked (Err run_faults.Write) whole finished unfinished unread unanswered unwritten =
+    tracked (Err Write) whole finished unfinished unread unanswered unwritten =
         let u = unwritten refl in (
-          after.failed u.0,
-          after.unfinished unfinished,
+          u.0,
+          unfinished,
           (
             u.1.0,
             u.1.1,
@@ -347,32 +333,6 @@ module _ (telling : Telling HeardSquitter) where
             ],
           ),
         )
-
-  -- the sink failed within the header, before anything was read
-  pub header_failed : {S : Type 0} (s : SourceGhosts S) (source : S) (output : Written) (tracker : Held)
-      → output.failed ≡ true → WroteFront output.before output.after telling.header → Unfinished output
-      → IsTracked telling (Err run_faults.Write) (taken_from s source source) output tracker tracker
-  header_failed s source output tracker failed front unfinished = (
-    failed,
-    unfinished,
-    (
-      [],
-      Consumes-nil (s.to_come source),
-      omega arith,
-      inl (
-        [],
-        (ended_lines [], refl),
-        λ reader writers h stands.
-            let whole = front_of_header telling.header (texts writers []) output.before output.after front in (
-              [],
-              h,
-              (refl, refl),
-              stands,
-              (whole.0, λ some. absurd (omega (arith, some)), whole.1, whole.2),
-            ),
-      ),
-    ),
-  )
 
   -- where the source reports its bytes, the answers are those to all of them
   pub tracked_reported : (result : Result Tally RunFault) (input : Taken) (output : Written) (old new : Held)

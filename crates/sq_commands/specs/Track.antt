@@ -6,8 +6,8 @@ use Rattle.sq_devices.specs.Changes.{Written, Wrote, WroteNothing}
 use Rattle.sq_devices.specs.Device.{IsPrefixOf}
 use Rattle.sq_text.specs.Timed.{IsDecimalText}
 use Rattle.sq_lines.specs.Answers.{Manner, WantsAt, tally_of}
-use Rattle.sq_lines.specs.Lines.{ended_lines, lines_of}
-use Rattle.sq_lines.specs.Runs.{OfLines, with_next}
+use Rattle.sq_lines.specs.Lines.{ended_lines, lines_of, with_next}
+use Rattle.sq_lines.specs.Runs.{OfLines}
 use Rattle.sq_lines.specs.declared.faults.RunFault.{RunFault}
 use Rattle.sq_lines.specs.declared.faults.RunFault.TheVariants.{Read, Write, Memory}
 use Rattle.sq_lines.specs.declared.tallies.Tally.{Tally}

@@ -12,8 +12,8 @@ use Rattle.sq_message.specs.declared.received.Received.{Received}
 use Rattle.sq_text.specs.Timed.{IsTimedText, TimedReader}
 use Rattle.sq_lines.specs.Content.{Answer, answer_by}
 use Rattle.sq_lines.specs.Answers.{Answerer, Manner}
-use Rattle.sq_lines.specs.declared.log.Verdict.{Verdict}
-use Rattle.sq_lines.specs.declared.log.Verdict.TheVariants as verdicts
+use Rattle.sq_lines.specs.declared.job.Verdict.{Verdict}
+use Rattle.sq_lines.specs.declared.job.Verdict.TheVariants as verdicts
 use Rattle.sq_track.specs.declared.heard.Heard.{Heard}
 use Rattle.sq_track.specs.declared.heard.TrackFault.{TrackFault}
 use Rattle.sq_track.specs.declared.heard.TrackFault.TheVariants.{Memory, MomentBack}

@@ -12,7 +12,7 @@ use crate::numbered::Numbered;
 use crate::reports::{break_off, report_argument};
 use crate::rows::{CsvRows, JsonRows};
 use crate::status::Status;
-use sq_devices::{Failed, Sink, Source, put_all};
+use sq_devices::{Sink, Source};
 use sq_lines::{Job, LineText, Log, RunFault, Tally, Telling, Verdict, run_log};
 use sq_message::Squitter;
 use sq_text::{LineFault, read_squitter};
@@ -44,6 +44,12 @@ impl<F: CheckFormat> Job for Checking<'_, F> {
 }
 
 impl<F: CheckFormat> Telling for Checking<'_, F> {
+    ghost front = { F.telling.header };
+
+    fn header(&self) -> &'static str {
+        self.format.header()
+    }
+
     #[inline(always)]
     fn tell(&self, number: u64, found: &Squitter, into: &mut LineText) {
         self.format.tell(number, found, into);
@@ -71,7 +77,7 @@ pub fn run_check<S: Source, K: Sink>(source: &mut S, sink: &mut K) -> Result<Tal
     run_check_as(&Numbered, source, sink)
 }
 
-// Puts the header of the format, and then answers each line in it.
+// Answers each line in the format.
 fn run_check_as<S: Source, K: Sink, F: CheckFormat>(
     format: &F,
     source: &mut S,
@@ -82,10 +88,7 @@ fn run_check_as<S: Source, K: Sink, F: CheckFormat>(
     ensures reported { IfOk result (λ tally. TookReported (taken_from S.Source source.old source.new)
         (HasChecked F.telling tally (written_on K.Sink sink.old sink.new))) }
 {
-    match put_all(sink, format.header().as_bytes()) {
-        Ok(()) => run_log(source, sink, &mut Log::new(Checking { format })),
-        Err(Failed) => Err(RunFault::Write),
-    }
+    run_log(source, sink, &mut Log::new(Checking { format }))
 }
 
 fn run_check_in<S: Source, K: Sink>(

@@ -16,7 +16,7 @@ ghost use Rattle.sq_commands.specs.Outputs.{effects, outputs};
 ghost use Rattle.sq_commands.specs.Squitters.{squitter_telling};
 ghost use Rattle.sq_commands.specs.SlowAnswers.{AreTrueAnswers};
 ghost use Rattle.sq_commands.specs.Track.{IsLogRun, IsTracked};
-ghost use Rattle.sq_lines.specs.Machines.{HasTold};
+ghost use Rattle.sq_lines.specs.Logs.{AreAnswers};
 ghost use Rattle.sq_lines.specs.declared.log.Answer.{Answer};
 ghost use Rattle.sq_commands.specs.Heard.{HeardSquitter};
 ghost use Rattle.sq_commands.specs.Tracking.{track_manner};
@@ -111,6 +111,6 @@ pub fn alike_outputs_end_alike<K: Sink, L: Sink>()
 /// that it has told are true.
 pub fn true_answers()
     ensures { (telling : Telling HeardSquitter) (start now : Held) (tally : Tally) (lines : List (List ℕ))
-        (answers : List (Answer HeardSquitter)) → HasTold (track_manner telling) start now tally lines answers
+        (answers : List (Answer HeardSquitter)) → AreAnswers (track_manner telling) start now tally lines answers
         → AreTrueAnswers start answers }
 {}

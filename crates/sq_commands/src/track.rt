@@ -17,7 +17,7 @@ use crate::numbered::Numbered;
 use crate::reports::{break_off, report_argument};
 use crate::rows::{CsvRows, JsonRows};
 use crate::status::Status;
-use sq_devices::{Failed, Sink, Source, put_all};
+use sq_devices::{Sink, Source};
 use sq_lines::{Job, LineText, Log, RunFault, Tally, Telling, Verdict, run_log};
 use sq_message::Received;
 use sq_requests::TrackWords;
@@ -53,6 +53,12 @@ impl<F: TrackFormat> Job for Hearing<'_, F> {
 }
 
 impl<F: TrackFormat> Telling for Hearing<'_, F> {
+    ghost front = { F.telling.header };
+
+    fn header(&self) -> &'static str {
+        self.format.header()
+    }
+
     #[inline(always)]
     fn tell(&self, number: u64, found: &HeardSquitter, into: &mut LineText) {
         self.format.tell(number, &found.timed, &found.heard, into);
@@ -99,7 +105,7 @@ pub fn run_track<S: Source, K: Sink>(
     run_track_as(&Numbered, source, sink, tracker)
 }
 
-// Puts the header of the format, and then hears each line and answers it in the format.
+// Hears each line, and answers it in the format.
 fn run_track_as<S: Source, K: Sink, F: TrackFormat>(
     format: &F,
     source: &mut S,
@@ -111,10 +117,7 @@ fn run_track_as<S: Source, K: Sink, F: TrackFormat>(
     ensures reported { IfOk result (λ tally. TookReported (taken_from S.Source source.old source.new)
         (HasTracked F.telling tally (written_on K.Sink sink.old sink.new) tracker.old tracker.new)) }
 {
-    match put_all(sink, format.header().as_bytes()) {
-        Ok(()) => run_log(source, sink, &mut Log::new(Hearing { tracker, format })),
-        Err(Failed) => Err(RunFault::Write),
-    }
+    run_log(source, sink, &mut Log::new(Hearing { tracker, format }))
 }
 
 fn run_track_in<S: Source, K: Sink>(

@@ -61,35 +61,6 @@ part_is xs begin end first =
 pub part_none : (xs : List ℕ) (at : ℕ) → [] ≡ take (at - at) (drop at xs)
 part_none xs at = let none : 0 ≡ at - at = omega arith in ap (λ n. take n (drop at xs)) none
 
--- a part, and what stands behind it
-pub part_rest : (xs : List ℕ) (begin at : ℕ) → begin ≤ at
-    → take (at - begin) (drop begin xs) ++ drop at xs ≡ drop begin xs
-part_rest xs begin at first =
-    let there : at ≡ begin + (at - begin) = omega (arith, first) in
-    ap (λ n. take (at - begin) (drop begin xs) ++ drop n xs) there
-    ∙ ap (λ l. take (at - begin) (drop begin xs) ++ l) (sym (drop-drop (at - begin) begin xs))
-    ∙ take-append-drop (at - begin) (drop begin xs)
-
--- ---- a window that a get fills
-
--- the front stays
-pub front_kept : (xs ys : List ℕ) (count : ℕ) → length xs ≡ 129
-    → take 65 xs ≡ take 65 (take (65 + count) (put_mid 65 64 xs ys))
-front_kept xs ys count all =
-    sym (take-take 65 (65 + count) (put_mid 65 64 xs ys) (omega arith)
-    ∙ take-put_mid_below 65 64 xs ys 65 (omega arith) (omega (arith, all)))
-
--- behind it stand the bytes
-pub piece_behind : (xs ys : List ℕ) → length xs ≡ 129 → drop 65 (put_mid 65 64 xs ys) ≡ ys
-piece_behind xs ys all =
-    let front : length (take 65 xs) ≡ 65 = omega (arith, all, length-take 65 xs) in
-    drop_at (take 65 xs) (ys ++ drop 64 (drop 65 xs)) 65 front
-    ∙ ap (λ l. ys ++ l) (drop_all 64 (drop 65 xs) (omega (arith, all, length-drop 65 xs))) ∙ append-nil ys
-
-pub piece_got : (xs ys : List ℕ) (count : ℕ) → length xs ≡ 129
-    → drop 65 (take (65 + count) (put_mid 65 64 xs ys)) ≡ take count ys
-piece_got xs ys count all = drop-take 65 count (put_mid 65 64 xs ys) ∙ ap (take count) (piece_behind xs ys all)
-
 -- ---- a window that slides
 
 -- what is moved to the front

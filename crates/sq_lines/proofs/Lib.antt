@@ -3,12 +3,10 @@ pub mod Feeds
 pub mod FeedMarks
 pub mod Cutting
 pub mod Pieces
-pub mod Tallying
-pub mod Running
-pub mod Checking
 pub mod Contents
 pub mod Fronts
-pub mod Told
-pub mod Panes
-pub mod Machines
-pub mod Pumping
+pub mod Tallying
+pub mod Windows
+pub mod Logs
+pub mod Gets
+pub mod Running

@@ -1,6 +1,6 @@
 -- One more line in the output and in the tally.
 use Rattle.std.proofs.Common.{◌≡◌, ◌+◌, ◌-◌, ◌++◌, ◌∙◌, ℕ, Bool, List, [], ◌∷◌, None, Some, Ok, Err, length, take, drop}
-use Rattle.std.proofs.Common.{ap, ap₂, sym, arith, refl, cond, append-nil, take-append-drop}
+use Rattle.std.proofs.Common.{ap, ap₂, sym, arith, refl, cond, take-append-drop}
 use Rattle.std.specs.Prelude.{count_by}
 use Rattle.std.specs.List.{flat_map, enumerate_from}
 use Rattle.std.proofs.lemmas.List.{take_at, length_push}
@@ -10,7 +10,7 @@ use Rattle.sq_devices.specs.Device.{IsPrefixOf}
 use Rattle.sq_lines.specs.Answers.{Answerer, after_line, answer_line, past_after, answers_to, answer_text, output_of}
 use Rattle.sq_lines.specs.Answers.{texts_of, tally_of, is_good, is_refused, noted}
 use Rattle.sq_lines.specs.Content.{Answer}
-use Rattle.sq_lines.specs.Runs.{but_last}
+use Rattle.sq_lines.specs.Lines.{but_last}
 use Rattle.sq_lines.specs.declared.tallies.Tally.{Tally}
 
 pub answers_append : {Past Found : Type 0} (way : Answerer Past Found) (past : Past) (xs ys : List (List ℕ))
@@ -55,15 +55,6 @@ output_append {Found = Found} way past xs ys =
     ∙ ap (flat_map text) (enumerate_from_append 1 first more)
     ∙ flat_map-append text (enumerate_from 1 first) (enumerate_from (1 + length first) more)
     ∙ ap (λ (n : ℕ). flat_map text (enumerate_from 1 first) ++ flat_map text (enumerate_from n more)) e
-
-pub output_push : {Past Found : Type 0} (way : Answerer Past Found) (past : Past) (lines : List (List ℕ))
-    (line : List ℕ)
-    → output_of way past (lines ++ line ∷ []) ≡ output_of way past lines
-    ++ answer_text (way.text past) (length lines + 1) (answer_line way (past_after way past lines) line)
-output_push way past lines line =
-    output_append way past lines (line ∷ [])
-    ∙ ap (λ l. output_of way past lines ++ l)
-    (append-nil (answer_text (way.text past) (length lines + 1) (answer_line way (past_after way past lines) line)))
 
 -- more lines leave the output for the first ones as it is
 pub output_prefix : {Past Found : Type 0} (way : Answerer Past Found) (past : Past) (lines more : List (List ℕ))

@@ -3,8 +3,8 @@ use Rattle.std.specs.Prelude.{◌≡◌, ℕ, List, None, Some, Ok, Err}
 use Rattle.sq_lines.specs.Answers.{Manner, WantsAt, after_line, answer_line}
 use Rattle.sq_lines.specs.declared.log.LineHeard.{LineHeard}
 use Rattle.sq_lines.specs.declared.log.LineHeard.TheVariants as lines
-use Rattle.sq_lines.specs.declared.log.Verdict.{Verdict}
-use Rattle.sq_lines.specs.declared.log.Verdict.TheVariants as verdicts
+use Rattle.sq_lines.specs.declared.job.Verdict.{Verdict}
+use Rattle.sq_lines.specs.declared.job.Verdict.TheVariants as verdicts
 
 -- what hearing a text did, from each past that the state stood for; without memory it was not heard
 abbrev pub IsHeard : {State Past Found : Type 0} → Manner State Past Found → Verdict Found → (text : List ℕ)

@@ -2,10 +2,8 @@ pub mod Lines
 pub mod Content
 pub mod Held
 pub mod Answers
-pub mod Outcomes
 pub mod Pieces
-pub mod Runs
-pub mod Panes
+pub mod Windows
 pub mod Hearings
-pub mod Machines
-pub mod Pumps
+pub mod Logs
+pub mod Runs

@@ -14,23 +14,3 @@ pub enum RunFault {
     #[error("out of memory")]
     Memory,
 }
-
-/// Why a line has no whole answer.
-#[derive(Clone, Copy, Debug, PartialEq, Eq)]
-pub enum Unanswered {
-    /// The sink failed.
-    Write,
-    /// There was no memory to hear the line.
-    Memory,
-}
-
-/// What became of a text.
-#[derive(Clone, Copy, Debug, PartialEq, Eq)]
-pub enum Outcome {
-    /// It was heard, and is good.
-    Good,
-    /// It was heard, and refused.
-    Refused,
-    /// There was no memory to hear it.
-    NoMemory,
-}

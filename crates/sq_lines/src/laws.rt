@@ -2,26 +2,27 @@
 //!
 //! A function with an empty body does nothing: its contract is the law. The others make the call or the test that they
 //! speak of.
-ghost use Rattle.std.specs.Prelude.{◌≡◌, ◌↔◌, ◌⊎◌, ◌++◌, ◌-◌, ◌<◌, ◌∷◌, [], List, ℕ, IsTrue, Ok, Err, Option, Result};
-ghost use Rattle.std.specs.Prelude.{length, take};
-ghost use Rattle.std.specs.Io.KnownBytes.{Appends, IsAtEnd};
+ghost use Rattle.std.specs.Prelude.{◌≡◌, ◌↔◌, ◌⊎◌, ◌++◌, ◌-◌, ◌<◌, ◌≤◌, ◌∷◌, [], List, ℕ, IsTrue, Ok, Err, None, Some};
+ghost use Rattle.std.specs.Prelude.{Option, Result, length, take};
+ghost use Rattle.std.specs.Io.KnownBytes.{IsAtEnd};
 ghost use Rattle.sq_devices.specs.Changes.{taken_from};
 ghost use Rattle.sq_devices.specs.Device.{AppendsOrHides, IsPrefixOf};
 ghost use Rattle.sq_text.specs.declared.faults.LineFault.{LineFault as Fault};
-ghost use Rattle.sq_lines.specs.declared.faults.Outcome.TheVariants.{Good, NoMemory, Refused};
-ghost use Rattle.sq_lines.specs.declared.faults.Unanswered.TheVariants.{Memory, Write};
+ghost use Rattle.sq_lines.specs.declared.job.Verdict.TheVariants.{Good, NoMemory, Refused};
+ghost use Rattle.sq_lines.specs.declared.log.Answer.{Answer};
 ghost use Rattle.sq_lines.specs.declared.tallies.Tally.{Tally as Counts};
 ghost use Rattle.sq_lines.specs.Answers.{WantsAt, answers_to, output_of, past_after, tally_of};
 ghost use Rattle.sq_lines.specs.Content.{Empty, Long, Text, content};
+ghost use Rattle.sq_lines.specs.Hearings.{IsHeard};
 ghost use Rattle.sq_lines.specs.Held.{Held, count_through, has_feed};
-ghost use Rattle.sq_lines.specs.Lines.{ended_lines, lines_of};
-ghost use Rattle.sq_lines.specs.Outcomes.{IsTextAnswered};
+ghost use Rattle.sq_lines.specs.Lines.{closed, ended_lines, lines_of};
+ghost use Rattle.sq_lines.specs.Logs.{AreAnswers, told_from};
 ghost use Rattle.sq_lines.specs.Pieces.{AreTakes, GivesTheLines, IsTake, Step};
-ghost use Rattle.sq_lines.specs.Runs.{HasRun, HasTold, HasToldPart, OfLines, StoppedIn};
+ghost use Rattle.sq_lines.specs.Runs.{HasRun, HasTold, HasToldPart, OfLines, StoppedAtMemory, StoppedAtWrite};
 
-use crate::answering::Answering;
 use crate::cutter::Cutter;
-use crate::faults::{Outcome, RunFault, Unanswered};
+use crate::faults::RunFault;
+use crate::job::Job;
 use crate::tallies::Tally;
 use sq_devices::Source;
 
@@ -47,58 +48,79 @@ pub fn takes_in_turn()
         ↔ (IsTake before step.piece step.after × AreTakes step.after steps) }
 {}
 
-/// A client may want memory at a line exactly where a text stands on it for which it may want memory.
-pub fn wants_exactly<A: Answering>()
-    ensures text { (client : A) (line text : List ℕ) → content line ≡ Text text
-        → WantsAt A.how client line ↔ A.how.wants client text }
-    ensures long { (client : A) (line : List ℕ) → content line ≡ Long → ¬ WantsAt A.how client line }
-    ensures empty { (client : A) (line : List ℕ) → content line ≡ Empty → ¬ WantsAt A.how client line }
+/// A job may want memory at a line exactly where a text stands on it for which it may want memory.
+pub fn wants_exactly<J: Job>()
+    ensures text { (job : J) (line text : List ℕ) → content line ≡ Text text
+        → WantsAt J.how job line ↔ J.how.wants job text }
+    ensures long { (job : J) (line : List ℕ) → content line ≡ Long → ¬ WantsAt J.how job line }
+    ensures empty { (job : J) (line : List ℕ) → content line ≡ Empty → ¬ WantsAt J.how job line }
 {}
 
-/// What an answer to a text did: from a past that the client stood for, it told what is found by that past, or the
-/// fault, and it was good or refused; without memory the client is as it was.
-pub fn answered_exactly<A: Answering>()
-    ensures good { (number : ℕ) (text bytes : List ℕ) (old new : A) (past first : A.Past)
-        → A.how.stands_for old past → IsTextAnswered A.how Good number text old new bytes
-        → ((found : A.Found) × (A.how.way.answer past text ≡ Ok found)
-        × (bytes ≡ A.how.way.text first number (Ok found))) × A.how.stands_for new (A.how.way.after past text) }
-    ensures refused { (number : ℕ) (text bytes : List ℕ) (old new : A) (past first : A.Past)
-        → A.how.stands_for old past → IsTextAnswered A.how Refused number text old new bytes
-        → ((fault : Fault) × (A.how.way.answer past text ≡ Err fault)
-        × (bytes ≡ A.how.way.text first number (Err fault))) × A.how.stands_for new (A.how.way.after past text) }
-    ensures without_memory { (number : ℕ) (text bytes : List ℕ) (old new : A)
-        → IsTextAnswered A.how NoMemory number text old new bytes ↔ ((new ≡ old) × A.how.wants old text) }
+/// What hearing a text did: from each past that the job stood for, the verdict is what is found by that past, or the
+/// fault, and the job stands for the past after the text; without memory the job is as it was.
+pub fn heard_exactly<J: Job>()
+    ensures good { (found : J.Found) (text : List ℕ) (old new : J) → IsHeard J.how (Good found) text old new
+        ↔ ((past : J.Past) → J.how.stands_for old past
+        → (J.how.way.answer past text ≡ Ok found) × J.how.stands_for new (J.how.way.after past text)) }
+    ensures refused { (fault : Fault) (text : List ℕ) (old new : J) → IsHeard J.how (Refused fault) text old new
+        ↔ ((past : J.Past) → J.how.stands_for old past
+        → (J.how.way.answer past text ≡ Err fault) × J.how.stands_for new (J.how.way.after past text)) }
+    ensures without_memory { (text : List ℕ) (old new : J)
+        → IsHeard J.how NoMemory text old new ↔ ((new ≡ old) × J.how.wants old text) }
 {}
 
-/// What a run has come to: from each past that the client stood for, it stands for the past after the lines, and this
-/// output was written; the tally counts their answers. In part, it was written up to some place in the last one's text.
-pub fn told_exactly<A: Answering>()
-    ensures told { (start now : A) (written : List ℕ) (lines : List (List ℕ))
-        → HasTold A.how start now (λ text. text ≡ written) lines
-        ↔ ((past : A.Past) → A.how.stands_for start past
-        → A.how.stands_for now (past_after A.how.way past lines) × (output_of A.how.way past lines ≡ written)) }
-    ensures run { (start now : A) (written input : List ℕ) (tally : Counts)
-        → HasRun A.how start now (λ text. text ≡ written) tally input
-        ↔ (HasTold A.how start now (λ text. text ≡ written) (lines_of input)
-        × ((past : A.Past) → A.how.stands_for start past
-        → tally ≡ tally_of (answers_to A.how.way past (lines_of input)))) }
-    ensures part { (start now : A) (before after : Option (List ℕ)) (lines : List (List ℕ))
-        → HasToldPart A.how start now before after lines
-        ↔ ((past : A.Past) → A.how.stands_for start past → A.how.stands_for now (past_after A.how.way past lines)
-        × ((part : List ℕ) × IsPrefixOf (output_of A.how.way past (take (length lines - 1) lines)) part
-        × IsPrefixOf part (output_of A.how.way past lines) × AppendsOrHides before after part)) }
+/// What a machine has told: from each past that the job stood for, these are the answers to the lines and their tally,
+/// and the job stands for the past after them. The line's number goes with its answer, from 1, and an empty line has a
+/// number, but no answer.
+pub fn answers_exactly<J: Job>()
+    ensures told { (start now : J) (tally : Counts) (lines : List (List ℕ)) (answers : List (Answer J.Found))
+        → AreAnswers J.how start now tally lines answers
+        ↔ ((past : J.Past) → J.how.stands_for start past → J.how.stands_for now (past_after J.how.way past lines)
+        × (answers ≡ told_from 1 (answers_to J.how.way past lines))
+        × (tally ≡ tally_of (answers_to J.how.way past lines))) }
+    ensures numbered { (first last : Result J.Found Fault) → told_from 1 (Some first ∷ None ∷ Some last ∷ [])
+        ≡ record { number = 1; verdict = first } ∷ record { number = 3; verdict = last } ∷ [] }
+{}
+
+/// A line feed ends the last line of an input, unless that is empty: `A` is 65, a line feed 10.
+pub fn closed_in_numbers()
+    ensures nothing { closed [] ≡ [] }
+    ensures ended { closed (65 ∷ 10 ∷ []) ≡ 65 ∷ 10 ∷ [] }
+    ensures unended { closed (10 ∷ 65 ∷ []) ≡ 10 ∷ 65 ∷ 10 ∷ [] }
+{}
+
+/// What a run has come to: from each past that the job stood for, it stands for the past after the lines, and this
+/// output was written; the tally counts their answers. In part, it was written up to some place in the last one's text,
+/// or in the header.
+pub fn told_exactly<J: Job>()
+    ensures told { (start now : J) (written : List ℕ) (lines : List (List ℕ))
+        → HasTold J.how start now (λ text. text ≡ written) lines
+        ↔ ((past : J.Past) → J.how.stands_for start past
+        → J.how.stands_for now (past_after J.how.way past lines) × (output_of J.how.way past lines ≡ written)) }
+    ensures run { (start now : J) (written input : List ℕ) (tally : Counts)
+        → HasRun J.how start now (λ text. text ≡ written) tally input
+        ↔ (HasTold J.how start now (λ text. text ≡ written) (lines_of input)
+        × ((past : J.Past) → J.how.stands_for start past
+        → tally ≡ tally_of (answers_to J.how.way past (lines_of input)))) }
+    ensures part { (header : List ℕ) (start now : J) (before after : Option (List ℕ)) (lines : List (List ℕ))
+        → HasToldPart header J.how start now before after lines
+        ↔ ((past : J.Past) → J.how.stands_for start past → J.how.stands_for now (past_after J.how.way past lines)
+        × ((part : List ℕ)
+        × (1 ≤ length lines → IsPrefixOf (header ++ output_of J.how.way past (take (length lines - 1) lines)) part)
+        × IsPrefixOf part (header ++ output_of J.how.way past lines) × AppendsOrHides before after part)) }
 {}
 
 /// Where a run was stopped: after some of the lines, of which the last was written in part, or before the line for
-/// which the client may want memory.
-pub fn stopped_exactly<A: Answering>()
-    ensures write { (start now : A) (before after : Option (List ℕ)) (complete : List (List ℕ))
-        → StoppedIn Write A.how start now before after complete
-        ↔ ((lines : List (List ℕ)) × IsPrefixOf lines complete × HasToldPart A.how start now before after lines) }
-    ensures memory { (start now : A) (before after : Option (List ℕ)) (complete : List (List ℕ))
-        → StoppedIn Memory A.how start now before after complete
+/// which the job may want memory.
+pub fn stopped_exactly<J: Job>()
+    ensures write { (header : List ℕ) (start now : J) (before after : Option (List ℕ)) (complete : List (List ℕ))
+        → StoppedAtWrite header J.how start now before after complete
+        ↔ ((lines : List (List ℕ)) × IsPrefixOf lines complete
+        × HasToldPart header J.how start now before after lines) }
+    ensures memory { (start now : J) (written : List ℕ) (complete : List (List ℕ))
+        → StoppedAtMemory J.how start now (λ text. text ≡ written) complete
         ↔ ((lines : List (List ℕ)) × (next : List ℕ) × IsPrefixOf (lines ++ next ∷ []) complete
-        × WantsAt A.how now next × HasTold A.how start now (Appends before after) lines) }
+        × WantsAt J.how now next × HasTold J.how start now (λ text. text ≡ written) lines) }
 {}
 
 /// The lines of what was read are those that a line feed ends, or, at the end of the input, the last part as well.
@@ -125,20 +147,6 @@ pub fn equal_tallies(tally: &Tally, other: &Tally) -> bool
     ensures { IsTrue result ↔ (tally.now ≡ other.now) }
 {
     tally == other
-}
-
-/// Whether two outcomes are equal by `==`: exactly if they are one.
-pub fn equal_outcomes(outcome: &Outcome, other: &Outcome) -> bool
-    ensures { IsTrue result ↔ (outcome.now ≡ other.now) }
-{
-    outcome == other
-}
-
-/// Whether two causes that a line has no whole answer are equal by `==`: exactly if they are one.
-pub fn equal_causes(cause: &Unanswered, other: &Unanswered) -> bool
-    ensures { IsTrue result ↔ (cause.now ≡ other.now) }
-{
-    cause == other
 }
 
 /// Whether two faults of runs are equal by `==`: exactly if they are one.

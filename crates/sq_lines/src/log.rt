@@ -1,46 +1,13 @@
 //! A machine that is pushed pieces of an input, and returns the answers to its lines as values.
 ghost use Rattle.std.specs.Prelude.{◌≡◌, ◌+◌, ◌-◌, ◌^◌, ◌<◌, ◌≤◌, [], List, ℕ, drop, length, take};
-ghost use Rattle.sq_lines.specs.Answers.{Manner};
-ghost use Rattle.sq_lines.specs.Hearings.{IsHeard, IsLineHeard};
+ghost use Rattle.sq_lines.specs.Hearings.{IsLineHeard};
+ghost use Rattle.sq_lines.specs.Lines.{closed};
 
+use crate::job::{Job, Verdict};
 use crate::lines::{Line, content_in};
-use crate::pane::{Advance, Pane};
 use crate::tallies::Tally;
+use crate::window::{Advance, Window};
 use sq_text::LineFault;
-
-/// What hearing a text came to.
-#[derive(Drop)]
-pub enum Verdict<T> {
-    /// It is good, and this was found.
-    Good(T),
-    /// It is refused.
-    Refused(LineFault),
-    /// There was no memory to hear it.
-    NoMemory,
-}
-
-/// Hears texts: each by itself and by what came before it.
-pub trait Job {
-    /// What is found of a good text.
-    type Found: Copy;
-
-    /// What came before.
-    ghost Past: { Type 0 };
-
-    /// What no text changes.
-    ghost Lasting: { Type 0 };
-
-    /// What pasts this stands for; the answer to a text by the past, and the past after it; and the texts that this may
-    /// want memory for.
-    ghost how: { Manner Self Past Self.Found };
-
-    ghost lasting: { Self → Lasting };
-
-    /// Hears a text of at most 64 bytes, none of them a line feed. At `NoMemory` it was not heard.
-    fn hear(&mut self, text: &[u8]) -> Verdict<Self::Found>
-        ensures heard { IsHeard how result text.now self.old self.new }
-        ensures lasting { lasting self.new ≡ lasting self.old };
-}
 
 /// The answer to a line.
 #[derive(Drop)]
@@ -79,19 +46,19 @@ pub struct Log<J> {
     pub(crate) job: J,
     number: u64,
     tally: Tally,
-    pane: Pane,
+    window: Window,
     ghost counted: { tally.good + tally.refused ≤ number },
 }
 
-// Hears the line that stands between two places of the pane.
+// Hears the line that stands between two places of the window.
 #[inline(always)]
-fn hear_line<J: Job>(job: &mut J, pane: &Pane, begin: usize, end: usize) -> LineHeard<J::Found>
+fn hear_line<J: Job>(job: &mut J, window: &Window, begin: usize, end: usize) -> LineHeard<J::Found>
     requires ordered { begin ≤ end }
     requires within { end ≤ 129 }
-    ensures heard { IsLineHeard J.how result (take (end - begin) (drop begin pane.now.bytes)) job.old job.new }
+    ensures heard { IsLineHeard J.how result (take (end - begin) (drop begin window.now.bytes)) job.old job.new }
     ensures lasting { J.lasting job.new ≡ J.lasting job.old }
 {
-    match content_in(&pane.bytes[begin..end]) {
+    match content_in(&window.bytes[begin..end]) {
         Line::Empty => LineHeard::Nothing,
         Line::Long => LineHeard::Refused(LineFault::LongLine),
         Line::Text(text) => match job.hear(text) {
@@ -103,8 +70,7 @@ fn hear_line<J: Job>(job: &mut J, pane: &Pane, begin: usize, end: usize) -> Line
 }
 
 impl<J: Job> Log<J> {
-    ghost use Rattle.sq_lines.specs.Machines.{HasHeard, IsProgress, IsStep, IsUpToDate, IsWithin};
-    ghost use Rattle.sq_lines.specs.Panes.{closed};
+    ghost use Rattle.sq_lines.specs.Logs.{HasHeard, IsProgress, IsStep, IsUpToDate, IsWithin};
 
     /// A machine that was given nothing.
     pub fn new(job: J) -> Self
@@ -118,7 +84,7 @@ impl<J: Job> Log<J> {
                 good: 0,
                 refused: 0,
             },
-            pane: Pane::new(),
+            window: Window::new(),
         }
     }
 
@@ -134,12 +100,12 @@ impl<J: Job> Log<J> {
         ensures progress { IsProgress result self.old self.new }
         ensures lasting { J.lasting self.new.job ≡ J.lasting self.old.job }
     {
-        match self.pane.advance(piece) {
+        match self.window.advance(piece) {
             Advance::Fed => Step::Fed,
             Advance::Passed(taken) => Step::Passed(taken),
             Advance::Line(taken, begin, end) => {
                 self.number += 1;
-                match hear_line(&mut self.job, &self.pane, begin, end) {
+                match hear_line(&mut self.job, &self.window, begin, end) {
                     LineHeard::Nothing => Step::Passed(taken),
                     LineHeard::Good(found) => {
                         self.tally.good += 1;
@@ -175,7 +141,7 @@ impl<J: Job> Log<J> {
         ensures number { self.new.number ≡ self.old.number }
         ensures lasting { J.lasting self.new.job ≡ J.lasting self.old.job }
     {
-        self.pane.close();
+        self.window.close();
     }
 
     /// Answers what stands behind the last line feed, unless it is empty. All else was answered.

@@ -1,8 +1,7 @@
 //! The line feeds of a piece as the bits of a mask.
 ghost use Rattle.std.specs.Prelude.{◌≡◌, ◌^◌, ◌<◌, ◌≤◌, ℕ, length};
 ghost use Rattle.std.specs.Int.{bit_at};
-ghost use Rattle.std.specs.List.{position_or_len};
-ghost use Rattle.sq_lines.specs.Lines.{MarksFeeds, is_feed};
+ghost use Rattle.sq_lines.specs.Lines.{MarksFeeds};
 
 use std::simd::prelude::*;
 
@@ -14,16 +13,6 @@ pub(crate) fn feeds_of(bytes: &[u8]) -> u64
     u8x64::from_slice(bytes)
         .simd_eq(u8x64::splat(b'\n'))
         .to_bitmask()
-}
-
-// Where the first line feed stands, or the length where there is none.
-pub(crate) fn marked_place(piece: &[u8], feeds: u64) -> usize
-    requires short { length piece.now ≤ 64 }
-    requires marked { MarksFeeds feeds piece.now }
-    ensures place { result ≡ position_or_len is_feed piece.now }
-    ensures fits { result ≤ length piece.now }
-{
-    piece.len().min(feeds.trailing_zeros() as usize)
 }
 
 // The first marks, as many as this.

@@ -1,4 +1,4 @@
-use Rattle.sq_lines.specs.Panes.{closed}
+use Rattle.sq_lines.specs.Lines.{closed}
 use Rattle.sq_lines.proofs.log.Log.finish.Goals as goal
 
 pub returns-clause-finished : goal.returns-clause-finished

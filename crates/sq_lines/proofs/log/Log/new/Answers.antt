@@ -1,5 +1,5 @@
 use Rattle.std.proofs.Common.{refl}
-use Rattle.sq_lines.proofs.Machines.{open_nothing, told_none}
+use Rattle.sq_lines.proofs.Logs.{open_nothing, told_none}
 use Rattle.sq_lines.proofs.log.Log.new.Goals as goal
 
 pub returns-clause-heard : goal.returns-clause-heard

@@ -1,10 +1,10 @@
 use Rattle.std.proofs.Common.{◌≡◌, ◌+◌, ◌++◌, ◌∙◌, ◌∷◌, [], Some, Ok, Err, List, ℕ, ap, append-nil, refl, subst, sym}
 use Rattle.std.proofs.lemmas.List.{length_push}
 use Rattle.std.proofs.Common.{length, take}
-use Rattle.sq_lines.specs.Machines.{HasTold}
-use Rattle.sq_lines.specs.Panes.{IsOpen}
-use Rattle.sq_lines.proofs.Machines.{told_before, told_more, told_nothing}
-use Rattle.sq_lines.proofs.Panes.{passed_all}
+use Rattle.sq_lines.specs.Logs.{AreAnswers}
+use Rattle.sq_lines.specs.Windows.{IsOpen}
+use Rattle.sq_lines.proofs.Logs.{told_before, told_more, told_nothing}
+use Rattle.sq_lines.proofs.Windows.{passed_all}
 use Rattle.sq_lines.proofs.log.Log.step.Goals as goal
 
 pub returns-in-Fed-clause-stepped : goal.returns-in-Fed-clause-stepped
@@ -24,7 +24,7 @@ returns-in-Passed-clause-stepped g c start given lines answers h = (
     passed = subst (λ (ls : List (List ℕ)). IsOpen c.advance.new.self (given ++ take c.in-Passed.taken c.args.piece.now) ls) (sym (append-nil lines))
         (c.in-Passed.ensures.advanced given lines h.passed);
     number = subst (λ (ls : List (List ℕ)). c.args.self.now.number ≡ length ls) (sym (append-nil lines)) h.number;
-    told = subst (λ (ls : List (List ℕ)). HasTold g.J.Job.how start c.args.self.now.job c.args.self.now.tally ls answers)
+    told = subst (λ (ls : List (List ℕ)). AreAnswers g.J.Job.how start c.args.self.now.job c.args.self.now.tally ls answers)
         (sym (append-nil lines)) h.told;
   },
 )

@@ -1,0 +1,99 @@
+//! The log machine, by a job of its own: pieces in, answers out, in whatever pieces the log comes.
+ghost use Rattle.std.specs.Prelude.{◌≡◌, [], Err, List, ℕ, ⊤};
+ghost use Rattle.sq_lines.specs.Answers.{Manner};
+ghost use Rattle.sq_text.specs.declared.faults.LineFault.TheVariants.{Full};
+
+use sq_lines::{Answer, Job, LineFault, Log, Step, Tally, Verdict};
+use std::process::Abort;
+
+// Finds the first byte of a text; refuses one that begins with `?`, and has no memory for one that begins with `!`
+// until it is told that it has.
+#[derive(Drop)]
+struct FirstBytes {
+    has_memory: bool,
+}
+
+impl Job for FirstBytes {
+    type Found = u8;
+
+    ghost Past = { Unit {0} };
+
+    ghost Lasting = { Unit {0} };
+
+    // A test looks at the answers alone: the job stands for no past, so that nothing is stated of them.
+    ghost how = { record {
+        stands_for = λ state past. ⊥;
+        way = record { answer = λ past text. Err Full; after = λ past text. past; text = λ past number verdict. [] };
+        wants = λ state text. ⊤;
+    } };
+
+    ghost lasting = { λ state. tt };
+
+    fn hear(&mut self, text: &[u8]) -> Verdict<u8> {
+        match text.first() {
+            Some(b'?') => Verdict::Refused(LineFault::Full),
+            Some(b'!') if !self.has_memory => Verdict::NoMemory,
+            Some(byte) => Verdict::Good(*byte),
+            None => Verdict::Refused(LineFault::Full),
+        }
+    }
+}
+
+fn machine() -> Log<FirstBytes>
+    ensures { result.number ≡ 0 }
+{
+    Log::new(FirstBytes { has_memory: false })
+}
+
+// Asserts that a step took so many bytes and answered the line with this number.
+fn assert_answered(
+    rt: &impl Abort,
+    step: Step<u8>,
+    taken: usize,
+    number: u64,
+    verdict: Result<u8, LineFault>,
+) {
+    let Step::Answered(count, answer) = step else {
+        panic!(rt; "an answer");
+    };
+    assert!(rt; count == taken);
+    assert!(rt; answer.number == number);
+    assert!(rt; answer.verdict == verdict);
+}
+
+#[test]
+fn answers_lines_in_turn(rt: HostRuntime) {
+    let mut log = machine();
+    assert_answered(&rt, log.step(b"ab\n\n?c\nd"), 8, 1, Ok(b'a'));
+    assert!(rt; matches!(log.step(b""), Step::Passed(0)));
+    assert_answered(&rt, log.step(b""), 0, 3, Err(LineFault::Full));
+    assert!(rt; matches!(log.step(b""), Step::Fed));
+    assert!(rt; matches!(log.step(b"e"), Step::Passed(1)));
+    assert!(rt; matches!(log.step(b""), Step::Fed));
+    assert_answered(&rt, log.finish(), 0, 4, Ok(b'd'));
+    assert!(rt; matches!(log.finish(), Step::Fed));
+    let tally = Tally {
+        good: 2,
+        refused: 1,
+    };
+    assert!(rt; log.tally() == tally);
+}
+
+#[test]
+fn takes_64_bytes_at_once(rt: HostRuntime) {
+    let mut log = machine();
+    assert!(rt; matches!(log.step(&[b'x'; 65]), Step::Passed(64)));
+    assert_answered(&rt, log.step(b"\ny\n"), 3, 1, Ok(b'x'));
+    assert_answered(&rt, log.step(b""), 0, 2, Ok(b'y'));
+    assert!(rt; matches!(log.step(&[b'x'; 64]), Step::Passed(64)));
+    assert!(rt; matches!(log.step(b"x"), Step::Passed(1)));
+    assert_answered(&rt, log.step(b"\nz\n"), 3, 3, Err(LineFault::LongLine));
+    assert_answered(&rt, log.step(b""), 0, 4, Ok(b'z'));
+}
+
+#[test]
+fn tells_that_there_is_no_memory(rt: HostRuntime) {
+    let mut log = machine();
+    assert_answered(&rt, log.step(b"a\n!\n"), 4, 1, Ok(b'a'));
+    assert!(rt; matches!(log.step(b""), Step::NoMemory(0)));
+}

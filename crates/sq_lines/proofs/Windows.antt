@@ -1,0 +1,235 @@
+-- Places in a window, and lines that are passed over.
+use Rattle.std.proofs.Common.{◌≡◌, ◌+◌, ◌-◌, ◌/◌, ◌^◌, ◌<◌, ◌≤◌, ◌++◌, ◌∙◌, inl, inr, ℕ, List, [], ◌∷◌, length}
+use Rattle.std.proofs.Common.{take, drop, ap, sym, subst, arith, append_assoc, append-nil, take-append-drop, Bool, cond, nat_eq, false}
+use Rattle.std.proofs.Common.{length-append}
+use Rattle.std.specs.List.{before_first, position_or_len}
+use Rattle.std.proofs.lemmas.Bool.{cases_Bool, eq-eqb, ne_eqb}
+use Rattle.std.proofs.lemmas.List.{drop-drop, drop-take, length-drop, length-take, take-take}
+use Rattle.std.proofs.lemmas.Simd.{length-put_chunk, put_chunk_whole}
+use Rattle.std.proofs.lemmas.List.Elements.{All-nil}
+use Rattle.std.proofs.lemmas.Slice.{between-put_mid, take-put_mid_below}
+use lib.Lanes.{chunk, put_chunk}
+use borrow.Rule.Slice.PartMut.{mid_of, put_mid}
+use Rattle.sq_devices.specs.Device.{IsPrefixOf}
+use Rattle.sq_lines.specs.Held.{IsHeldAs}
+use Rattle.sq_lines.specs.Lines.{Cuts, HasNoFeed, MarksFeeds, closed, ended_lines, is_feed, last_part, lines_of, with_feed}
+use Rattle.sq_lines.specs.Windows.{IsLineAt, IsOpen, between, front_of, waiting_of}
+use Rattle.sq_lines.specs.declared.window.Window.{Window}
+use Rattle.sq_lines.proofs.Cutting.{cuts_ended, cuts_itself, cuts_more, ended_lines-append, ended_lines-cut, last_part-cut}
+use Rattle.sq_lines.proofs.FeedMarks.{marks_after, marks_front}
+use Rattle.sq_lines.proofs.Feeds.{before_has_none, through_first}
+use Rattle.sq_lines.proofs.Fronts.{held_by, held_on, none_held, part_is, part_on, slid, some_held}
+
+abbrev place : List ℕ → ℕ
+place piece = position_or_len is_feed piece
+
+-- the marks from behind a line feed on
+pub marks_on : (bytes : List ℕ) (at last here feeds : ℕ) → at + here + 1 ≤ last
+    → MarksFeeds feeds (between at last bytes)
+    → MarksFeeds (feeds / 2 ^ here / 2) (between (at + here + 1) last bytes)
+marks_on bytes at last here feeds within marked =
+    subst (MarksFeeds (feeds / 2 ^ here / 2)) (part_is bytes (at + here + 1) last within)
+    (marks_after (take last bytes) at here feeds
+    (subst (MarksFeeds feeds) (sym (part_is bytes at last (omega (arith, within)))) marked))
+
+pub length-between : (begin end : ℕ) (bytes : List ℕ) → begin ≤ end → end ≤ length bytes
+    → length (between begin end bytes) ≡ end - begin
+length-between begin end bytes first within =
+    omega (arith, length-take (end - begin) (drop begin bytes), length-drop begin bytes)
+
+-- what waits behind a place among what waits
+pub waits_on : (bytes : List ℕ) (at last here : ℕ) → at + here ≤ last
+    → between (at + here) last bytes ≡ drop here (between at last bytes)
+waits_on bytes at last here within =
+    let far : last - at ≡ here + (last - (at + here)) = omega (arith, within) in
+    sym (ap (λ n. drop here (take n (drop at bytes))) far
+    ∙ drop-take here (last - (at + here)) (drop at bytes)
+    ∙ ap (take (last - (at + here))) (drop-drop here at bytes))
+
+-- the line up to the first line feed that waits
+pub line_to : (bytes : List ℕ) (begin at last here : ℕ) → begin ≤ at → at + here ≤ last
+    → here ≡ place (between at last bytes)
+    → between begin (at + here) bytes ≡ between begin at bytes ++ before_first is_feed (between at last bytes)
+line_to bytes begin at last here first within is =
+    part_on bytes begin at here first
+    ∙ ap (λ l. between begin at bytes ++ l)
+    (sym (take-take here (last - at) (drop at bytes) (omega (arith, within)))
+    ∙ ap (λ n. take n (between at last bytes)) is)
+
+-- ---- what is put behind the front
+
+pub behind_put : (k count : ℕ) (xs ys : List ℕ) → 65 ≤ length xs → length ys ≡ count
+    → between 65 (65 + count) (put_mid 65 k xs ys) ≡ ys
+behind_put k count xs ys there long =
+    between-put_mid 65 k xs ys (65 + count) there (omega (arith, long))
+
+pub front_put : (k begin : ℕ) (xs ys : List ℕ) → 65 ≤ length xs → begin ≤ 65
+    → between begin 65 (put_mid 65 k xs ys) ≡ between begin 65 xs
+front_put k begin xs ys there first =
+    sym (part_is (put_mid 65 k xs ys) begin 65 first)
+    ∙ ap (drop begin) (take-put_mid_below 65 k xs ys 65 (omega arith) there)
+    ∙ part_is xs begin 65 first
+
+-- a whole piece
+pub whole_put : (xs piece : List ℕ) → length xs ≡ 129 → 64 ≤ length piece
+    → put_chunk 0 (mid_of 65 64 xs) (chunk 0 64 piece) ≡ take 64 piece
+whole_put xs piece all long =
+    put_chunk_whole (take 64 (drop 65 xs)) (take 64 piece)
+    (omega (arith, all, long, length-take 64 (drop 65 xs), length-drop 65 xs, length-take 64 piece))
+
+-- the marks of the first bytes
+pub marks_part : (bytes : List ℕ) (count feeds : ℕ) → count ≤ 64 → MarksFeeds feeds (take 64 (drop 65 bytes))
+    → MarksFeeds feeds (between 65 (65 + count) bytes)
+marks_part bytes count feeds few marked =
+    let same : count ≡ 65 + count - 65 = omega arith in
+    subst (MarksFeeds feeds) (take-take count 64 (drop 65 bytes) few ∙ ap (λ n. take n (drop 65 bytes)) same)
+    (marks_front (take 64 (drop 65 bytes)) count feeds marked)
+
+-- ---- a window that slides
+
+pub window_slid : (xs ys : List ℕ) (count begin at next : ℕ) → length xs ≡ 129 → count ≤ 64 → begin ≤ at
+    → at ≤ 65 + count
+    → ys ≡ put_chunk 0 (mid_of 1 64 xs) (chunk 0 64 (mid_of (count + 1) (count + 65 - (count + 1)) xs))
+    → next ≡ begin - count
+    → IsHeldAs (between next 65 (put_mid 1 64 xs ys)) (between begin at xs ++ between at (65 + count) xs)
+window_slid xs ys count begin at next all few first within is from =
+    let far : at + (65 + count - at) ≡ 65 + count = omega (arith, within) in
+    let whole : drop begin (take (65 + count) xs) ≡ between begin at xs ++ between at (65 + count) xs =
+    part_is xs begin (65 + count) (omega (arith, first, within))
+    ∙ ap (λ n. take (n - begin) (drop begin xs)) (sym far) ∙ part_on xs begin at (65 + count - at) first in
+    subst (λ l. IsHeldAs l (between begin at xs ++ between at (65 + count) xs))
+    (part_is (put_mid 1 64 xs ys) next 65 (omega (arith, from, first, within)))
+    (subst (IsHeldAs (drop next (take 65 (put_mid 1 64 xs ys)))) whole
+    (slid xs ys count begin next all few (omega (arith, first, within)) is from))
+
+-- ---- lines that are passed over
+
+-- nothing more was given
+pub given_none : (window : Window) (given : List ℕ) (lines : List (List ℕ)) → IsOpen window given lines
+    → IsOpen window (given ++ []) lines
+given_none window given lines open_ = subst (λ (l : List ℕ). IsOpen window l lines) (sym (append-nil given)) open_
+
+pub line_passed : (old new : Window) (begin end : ℕ) (given : List ℕ) (lines : List (List ℕ))
+    → IsOpen old given lines → IsLineAt old begin end new
+    → (line : List ℕ) × IsOpen new given (lines ++ line ∷ []) × IsHeldAs (between begin end new.bytes) line
+line_passed old new begin end given lines from at =
+    let waiting : List ℕ = waiting_of old in
+    let front : List ℕ = before_first is_feed waiting in
+    let line : List ℕ = from.rest ++ front in
+    let through = take (place waiting + 1) waiting in (
+      line,
+      record {
+        read = from.read ++ through;
+        rest = [];
+        whole = from.whole
+            ∙ ap (λ l. from.read ++ l) (sym (take-append-drop (place waiting + 1) waiting))
+            ∙ sym (append_assoc from.read through (drop (place waiting + 1) waiting))
+            ∙ ap (λ l. (from.read ++ through) ++ l) (sym at.waiting);
+        cut = subst (λ (l : List ℕ). Cuts (from.read ++ l) (lines ++ line ∷ []) []) (sym (through_first waiting at.there))
+            (cuts_ended from.read lines from.rest front from.cut (before_has_none waiting));
+        held = inl at.front;
+      },
+      subst (λ (l : List ℕ). IsHeldAs l line) (sym at.line) (held_on (front_of old) from.rest front from.held),
+    )
+
+-- what waits has no line feed, and more is taken
+pub more_taken : (old new : Window) (given more : List ℕ) (lines : List (List ℕ)) → IsOpen old given lines
+    → HasNoFeed (waiting_of old) → IsHeldAs (front_of new) (front_of old ++ waiting_of old) → waiting_of new ≡ more
+    → IsOpen new (given ++ more) lines
+more_taken old new given more lines from none held is = record {
+  read = given;
+  rest = from.rest ++ waiting_of old;
+  whole = ap (λ l. given ++ l) (sym is);
+  cut = subst (λ (l : List ℕ). Cuts l lines (from.rest ++ waiting_of old)) (sym from.whole)
+      (cuts_more from.read lines from.rest (waiting_of old) from.cut none);
+  held = held_by (front_of new) (front_of old ++ waiting_of old) (from.rest ++ waiting_of old) held
+      (held_on (front_of old) from.rest (waiting_of old) from.held);
+}
+
+-- ---- the end
+
+-- the rest is what stands behind the last line feed
+last_is : (window : Window) (given : List ℕ) (lines : List (List ℕ)) (from : IsOpen window given lines)
+    → waiting_of window ≡ [] → last_part given ≡ from.rest
+last_is window given lines from none =
+    ap last_part (from.whole ∙ ap (λ l. from.read ++ l) none ∙ append-nil from.read)
+    ∙ last_part-cut from.read lines from.rest from.cut
+
+pub closed_line : (old new : Window) (given : List ℕ) (lines : List (List ℕ)) → IsOpen old given lines
+    → waiting_of old ≡ [] → 0 < length (front_of old) → waiting_of new ≡ 10 ∷ [] → front_of new ≡ front_of old
+    → IsOpen new (closed given) lines
+closed_line old new given lines from none some feed same =
+    let long : 0 < length from.rest = some_held (front_of old) from.rest from.held some in
+    let is : closed given ≡ with_feed given =
+    ap (λ (n : List ℕ). cond (nat_eq (length n) 0) given (with_feed given)) (last_is old given lines from none)
+    ∙ ap (λ (t : Bool). cond t given (with_feed given))
+    (ne_eqb (length from.rest) 0 (λ e. absurd (omega (arith, e, long)))) in
+    subst (λ (l : List ℕ). IsOpen new l lines) (sym is) (record {
+      read = from.read;
+      rest = from.rest;
+      whole = ap (λ l. l ++ 10 ∷ []) (from.whole ∙ ap (λ l. from.read ++ l) none ∙ append-nil from.read)
+          ∙ ap (λ l. from.read ++ l) (sym feed);
+      cut = from.cut;
+      held = subst (λ (l : List ℕ). IsHeldAs l from.rest) (sym same) from.held;
+    })
+
+pub closed_none : (old : Window) (given : List ℕ) (lines : List (List ℕ)) → IsOpen old given lines
+    → waiting_of old ≡ [] → length (front_of old) ≡ 0 → IsOpen old (closed given) lines
+closed_none old given lines from none empty =
+    let short : length from.rest ≡ 0 = none_held (front_of old) from.rest from.held empty in
+    let is : closed given ≡ given =
+    ap (λ (n : List ℕ). cond (nat_eq (length n) 0) given (with_feed given)) (last_is old given lines from none)
+    ∙ ap (λ (t : Bool). cond t given (with_feed given)) (eq-eqb (length from.rest) 0 short) in
+    subst (λ (l : List ℕ). IsOpen old l lines) (sym is) from
+
+-- as long as it was
+pub length-slid : (xs part : List ℕ) → length xs ≡ 129
+    → length (put_mid 1 64 xs (put_chunk 0 (mid_of 1 64 xs) part)) ≡ 129
+length-slid xs part all =
+    let put : List ℕ = put_chunk 0 (mid_of 1 64 xs) part in
+    omega (
+      arith,
+      all,
+      length-append (take 1 xs) (put ++ drop 64 (drop 1 xs)),
+      length-append put (drop 64 (drop 1 xs)),
+      length-put_chunk 0 (mid_of 1 64 xs) part,
+      length-take 1 xs,
+      length-take 64 (drop 1 xs),
+      length-drop 1 xs,
+      length-drop 64 (drop 1 xs),
+    )
+
+-- the lines that were passed over are the first that line feeds end
+pub passed_first : (window : Window) (given : List ℕ) (lines : List (List ℕ)) → IsOpen window given lines
+    → IsPrefixOf lines (ended_lines given)
+passed_first window given lines from =
+    let longer = ended_lines-append from.read (waiting_of window) in (
+      longer.0,
+      ap ended_lines from.whole ∙ longer.1
+          ∙ ap (λ (ls : List (List ℕ)). ls ++ longer.0) (ended_lines-cut from.read lines from.rest from.cut),
+    )
+
+-- where no line feed waits, they are all of them
+pub passed_all : (window : Window) (given : List ℕ) (lines : List (List ℕ)) → IsOpen window given lines
+    → HasNoFeed (waiting_of window) → lines ≡ ended_lines given
+passed_all window given lines from none =
+    sym (ap ended_lines from.whole
+    ∙ ended_lines-cut (from.read ++ waiting_of window) lines (from.rest ++ waiting_of window)
+    (cuts_more from.read lines from.rest (waiting_of window) from.cut none))
+
+-- the lines of an input with a line feed at its end
+pub ended_lines-closed : (given : List ℕ) → ended_lines (closed given) ≡ lines_of given
+ended_lines-closed given =
+    elim (cases_Bool (nat_eq (length (last_part given)) 0)) [
+      | inl empty ↦
+          ap (λ (t : Bool). ended_lines (cond t given (with_feed given))) empty
+          ∙ sym (append-nil (ended_lines given))
+          ∙ ap (λ (t : Bool). ended_lines given ++ cond t [] (last_part given ∷ [])) (sym empty)
+      | inr some ↦
+          ap (λ (t : Bool). ended_lines (cond t given (with_feed given))) some
+          ∙ ended_lines-cut (given ++ 10 ∷ []) (ended_lines given ++ (last_part given ++ []) ∷ []) []
+          (cuts_ended given (ended_lines given) (last_part given) [] (cuts_itself given)
+          (All-nil (λ byte. is_feed byte ≡ false)))
+          ∙ ap (λ (l : List ℕ). ended_lines given ++ l ∷ []) (append-nil (last_part given))
+          ∙ ap (λ (t : Bool). ended_lines given ++ cond t [] (last_part given ∷ [])) (sym some)
+    ]

@@ -1,0 +1,107 @@
+//! A run over devices: the loop around a log machine.
+ghost use Rattle.std.specs.Prelude.{◌≡◌, ◌++◌, [], List, ℕ, IfErr, IfOk, OnErr, OnOk, true};
+ghost use Rattle.sq_devices.specs.Changes.{FinishedOnce, Sent, TookAll, TookPart, TookReported, TookSome, Unfinished};
+ghost use Rattle.sq_devices.specs.Changes.{Wrote, taken_from, written_on};
+ghost use Rattle.sq_lines.specs.Lines.{ended_lines};
+ghost use Rattle.sq_lines.specs.Logs.{HasHeard, IsUpToDate};
+ghost use Rattle.sq_lines.specs.Runs.{HasRun, HasTold, OfLines, StoppedAtMemory, StoppedAtWrite, fed};
+
+use crate::faults::RunFault;
+use crate::log::{Answer, Log, Step};
+use crate::tallies::Tally;
+use crate::telling::{LineText, Telling, put_answer, put_header};
+use sq_devices::{Failed, Sink, Source};
+
+// Ends the last line at the end of the input.
+#[inline(always)]
+fn end_if<J: Telling>(log: &mut Log<J>, ended: bool)
+    ensures heard { (start : J) (given : List ℕ) (lines : List (List ℕ)) (answers : List (Answer J.Found))
+        → HasHeard J.how start log.old given lines answers → IsUpToDate log.old
+        → HasHeard J.how start log.new (fed ended given) lines answers }
+    ensures number { log.new.number ≡ log.old.number }
+    ensures lasting { J.lasting log.new.job ≡ J.lasting log.old.job }
+{
+    if ended {
+        log.end();
+    }
+}
+
+/// Answers the lines of the source until its end, behind the header.
+pub fn run_log<S: Source, K: Sink, J: Telling>(
+    source: &mut S,
+    sink: &mut K,
+    log: &mut Log<J>,
+) -> Result<Tally, RunFault>
+    // The machine was given nothing yet.
+    requires { HasHeard J.how log.old.job log.old [] [] [] }
+
+    // The bytes up to the end of the input were taken, and their lines have been answered and counted.
+    ensures whole { IfOk result (λ tally. TookAll (taken_from S.Source source.old source.new)
+        (HasRun J.how log.old.job log.new.job
+        (λ text. Sent (written_on K.Sink sink.old sink.new) (J.front ++ text)) tally)) }
+
+    // Where the source reports its bytes, these are all of them.
+    ensures reported { IfOk result (λ tally. TookReported (taken_from S.Source source.old source.new)
+        (HasRun J.how log.old.job log.new.job
+        (λ text. Sent (written_on K.Sink sink.old sink.new) (J.front ++ text)) tally)) }
+
+    // Then the sink was finished, once.
+    ensures finished { OnOk result (FinishedOnce (written_on K.Sink sink.old sink.new)) }
+    ensures unfinished { OnErr result (Unfinished (written_on K.Sink sink.old sink.new)) }
+    ensures lasting { J.lasting log.new.job ≡ J.lasting log.old.job }
+
+    // Where the source failed, the lines that were read whole have been answered.
+    ensures unread { IfErr result (λ fault. fault ≡ RunFault.Read
+        → TookPart (taken_from S.Source source.old source.new) (λ read. HasTold J.how log.old.job log.new.job
+        (λ text. Wrote (written_on K.Sink sink.old sink.new) (J.front ++ text)) (ended_lines read))) }
+
+    // Where there was no memory for a line, the job may want some for it, and those before it have been answered.
+    ensures unanswered { IfErr result (λ fault. fault ≡ RunFault.Memory
+        → TookSome (taken_from S.Source source.old source.new) (OfLines (taken_from S.Source source.old source.new)
+        (StoppedAtMemory J.how log.old.job log.new.job
+        (λ text. Wrote (written_on K.Sink sink.old sink.new) (J.front ++ text))))) }
+
+    // Where the sink failed at a line's answer, that line was heard and those before it have been answered.
+    ensures unwritten { IfErr result (λ fault. fault ≡ RunFault.Write → (K.has_failed sink.new ≡ true)
+        × TookSome (taken_from S.Source source.old source.new) (OfLines (taken_from S.Source source.old source.new)
+        (StoppedAtWrite J.front J.how log.old.job log.new.job (K.written sink.old) (K.written sink.new)))) }
+{
+    match put_header(&log.job, sink) {
+        Ok(()) => {}
+        Err(Failed) => return Err(RunFault::Write),
+    }
+    let mut text = LineText::new();
+    let mut bytes = [0; 64];
+    let mut at = 0;
+    let mut count = 0;
+    let mut ended = false;
+    'steps: loop {
+        match log.step(&bytes[at..count]) {
+            Step::Passed(taken) => at += taken,
+            Step::Answered(taken, answer) => {
+                at += taken;
+                match put_answer(&log.job, &answer, sink, &mut text) {
+                    Ok(()) => {}
+                    Err(Failed) => return Err(RunFault::Write),
+                }
+            }
+            Step::NoMemory(_) => return Err(RunFault::Memory),
+            Step::Fed => {
+                if ended {
+                    break;
+                }
+                let Ok(more) = source.get(&mut bytes) else {
+                    return Err(RunFault::Read);
+                };
+                at = 0;
+                count = more;
+                ended = more == 0;
+                end_if(log, ended);
+            }
+        }
+    }
+    match sink.finish() {
+        Ok(()) => Ok(log.tally()),
+        Err(Failed) => Err(RunFault::Write),
+    }
+}
