@@ -6,12 +6,9 @@ ghost use Rattle.sq_text.specs.declared.faults.LineFault.TheVariants.{Full};
 use sq_lines::{Answer, Job, LineFault, Log, Step, Tally, Verdict};
 use std::process::Abort;
 
-// Finds the first byte of a text; refuses one that begins with `?`, and has no memory for one that begins with `!`
-// until it is told that it has.
+// Finds the first byte of a text; refuses one that begins with `?`, and has no memory for one that begins with `!`.
 #[derive(Drop)]
-struct FirstBytes {
-    has_memory: bool,
-}
+struct FirstBytes;
 
 impl Job for FirstBytes {
     type Found = u8;
@@ -32,7 +29,7 @@ impl Job for FirstBytes {
     fn hear(&mut self, text: &[u8]) -> Verdict<u8> {
         match text.first() {
             Some(b'?') => Verdict::Refused(LineFault::Full),
-            Some(b'!') if !self.has_memory => Verdict::NoMemory,
+            Some(b'!') => Verdict::NoMemory,
             Some(byte) => Verdict::Good(*byte),
             None => Verdict::Refused(LineFault::Full),
         }
@@ -42,7 +39,7 @@ impl Job for FirstBytes {
 fn machine() -> Log<FirstBytes>
     ensures { result.number ≡ 0 }
 {
-    Log::new(FirstBytes { has_memory: false })
+    Log::new(FirstBytes)
 }
 
 // Asserts that a step took so many bytes and answered the line with this number.
@@ -92,8 +89,9 @@ fn takes_64_bytes_at_once(rt: HostRuntime) {
 }
 
 #[test]
-fn tells_that_there_is_no_memory(rt: HostRuntime) {
+fn waits_with_a_line_without_memory(rt: HostRuntime) {
     let mut log = machine();
     assert_answered(&rt, log.step(b"a\n!\n"), 4, 1, Ok(b'a'));
     assert!(rt; matches!(log.step(b""), Step::NoMemory(0)));
+    assert!(rt; matches!(log.step(b"b\n"), Step::NoMemory(0)));
 }

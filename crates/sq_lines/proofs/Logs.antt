@@ -1,20 +1,21 @@
 -- What a machine has told after one more line.
 use Rattle.std.proofs.Common.{◌≡◌, ◌+◌, ◌++◌, ◌∙◌, ℕ, List, [], ◌∷◌, None, Some, length, ap, sym, subst, arith, refl}
-use Rattle.std.proofs.Common.{append-nil, inl}
+use Rattle.std.proofs.Common.{◌<◌, append-nil, Err, Ok, OnOk, Result, drop, inl, subst₂, take}
+use Rattle.std.specs.List.{before_first}
+use Rattle.std.proofs.lemmas.List.{length_push}
 use Rattle.sq_devices.specs.Device.{IsPrefixOf}
 use Rattle.sq_lines.specs.Answers.{Answerer, Manner, WantsAt, after_content, after_line, answer_line, answers_to, noted}
 use Rattle.sq_lines.specs.Answers.{past_after, tally_of}
 use Rattle.sq_lines.specs.Content.{Answer, Content, answer_content}
-use Rattle.sq_lines.specs.Held.{IsHeldAs}
-use Rattle.sq_lines.specs.Lines.{ended_lines, with_next}
-use Rattle.sq_lines.specs.Logs.{AreAnswers, told_from}
-use Rattle.sq_lines.specs.Windows.{IsOpen, front_of, waiting_of}
+use Rattle.sq_lines.specs.Held.{IsHeldAs, KeepsRest}
+use Rattle.sq_lines.specs.Lines.{HasNoFeed, ended_lines, is_feed, with_next}
+use Rattle.sq_lines.specs.Logs.{AreAnswers, HasHeard, IsUpToDate, Machine, told_from}
+use Rattle.sq_lines.specs.Windows.{feed_place}
 use Rattle.sq_lines.specs.declared.log.Answer.{Answer as Told}
-use Rattle.sq_lines.specs.declared.window.Window.{Window}
 use Rattle.sq_lines.specs.declared.tallies.Tally.{Tally}
 use Rattle.sq_lines.proofs.Cutting.{cuts_nothing}
 use Rattle.sq_lines.proofs.Fronts.{same_content}
-use Rattle.sq_lines.proofs.Windows.{passed_first}
+use Rattle.sq_lines.proofs.Windows.{line_passed, passed_all, passed_first}
 use Rattle.sq_lines.proofs.Tallying.{answers_append, length_answers, past_push, tally_nothing, tally_push}
 
 -- ---- one more answer
@@ -85,21 +86,6 @@ module _ {State Past Found : Type 0} (how : Manner State Past Found) (start : St
       subst (AreAnswers how start new tally (lines ++ line ∷ [])) (append-nil answers)
       (told_more None bytes line old new tally tally lines answers [] held heard refl refl told)
 
-  -- for the line there was no memory
-  pub told_before : (window : Window) (bytes line given : List ℕ) (old new : State) (tally : Tally)
-      (lines : List (List ℕ)) (answers : List (Told Found)) → IsOpen window given (lines ++ line ∷ [])
-      → IsHeldAs bytes line → (new ≡ old) × WantsAt how old bytes → AreAnswers how start old tally lines answers
-      → (next : List ℕ) × IsPrefixOf (with_next lines next) (ended_lines given)
-      × WantsAt how new next × AreAnswers how start new tally lines answers
-  told_before window bytes line given old new tally lines answers open_ held wants told =
-      let same : new ≡ old = wants.0 in (
-        line,
-        passed_first window given (lines ++ line ∷ []) open_,
-        subst (λ (s : State). WantsAt how s line) (sym same)
-            (wants.1.0, sym (same_content bytes line held) ∙ wants.1.1, wants.1.2),
-        subst (λ (s : State). AreAnswers how start s tally lines answers) (sym same) told,
-      )
-
   pub told_none : (job : State) (tally : Tally) → start ≡ job
       → (let none : Tally = record { good = 0; refused = 0 } in tally ≡ none)
       → AreAnswers how start job tally [] []
@@ -109,11 +95,94 @@ module _ {State Past Found : Type 0} (how : Manner State Past Found) (start : St
     none ∙ sym (tally_nothing how.way past),
   )
 
-pub open_nothing : (window : Window) → front_of window ≡ [] → waiting_of window ≡ [] → IsOpen window [] []
-open_nothing window front waiting = record {
+pub keeps_nothing : (line waiting : List ℕ) → line ≡ [] → waiting ≡ [] → KeepsRest line waiting [] []
+keeps_nothing line waiting front none = record {
   read = [];
   rest = [];
-  whole = sym waiting;
+  whole = sym none;
   cut = cuts_nothing;
   held = inl front;
 }
+
+pub on_ok : {X E : Type 0} {P Q : Type 0} (result : Result X E) → (P → Q) → OnOk result P → OnOk result Q
+on_ok (Ok x) turn of = turn of
+on_ok (Err e) turn of = tt
+
+-- ---- steps
+
+module _ {State Past Found : Type 0} (how : Manner State Past Found) (start : State) (old : Machine State)
+    (given : List ℕ) (lines : List (List ℕ)) (answers : List (Told Found))
+    (h : HasHeard how start old given lines answers) where
+  -- the machine with this line begun and these bytes waiting
+  abbrev pub holding : List ℕ → List ℕ → Machine State
+  holding line waiting = record old { line = line; waiting = waiting }
+
+  -- more was given, and no line was heard
+  pub heard_more : (line waiting more : List ℕ) → KeepsRest line waiting (given ++ more) lines
+      → HasHeard how start (holding line waiting) (given ++ more) lines answers
+  heard_more line waiting more kept = record { kept = kept; number = h.number; told = h.told }
+
+  pub heard_none : (line waiting more : List ℕ) → KeepsRest line waiting (given ++ more) lines
+      → HasHeard how start (holding line waiting) (given ++ more) (lines ++ []) answers
+  heard_none line waiting more kept =
+      subst (λ (ls : List (List ℕ)). HasHeard how start (holding line waiting) (given ++ more) ls answers)
+      (sym (append-nil lines)) (heard_more line waiting more kept)
+
+  -- all that was given is heard, as far as line feeds end it
+  pub heard_all : (line waiting piece : List ℕ) (taken : ℕ) → KeepsRest line waiting (given ++ take taken piece) lines
+      → taken ≡ 0 → HasNoFeed waiting → piece ≡ []
+      → (piece ≡ []) × HasHeard how start (holding line waiting) given lines answers
+      × IsUpToDate (holding line waiting) × (lines ≡ ended_lines given)
+  heard_all line waiting piece taken kept none feeds nothing =
+      let same : given ++ take taken piece ≡ given = ap (λ n. given ++ take n piece) none ∙ append-nil given in
+      let keeps = subst (λ (l : List ℕ). KeepsRest line waiting l lines) same kept in (
+        nothing,
+        record { kept = keeps; number = h.number; told = h.told },
+        feeds,
+        passed_all line waiting given lines keeps feeds,
+      )
+
+  module _ (line waiting next now : List ℕ) (keeps : KeepsRest line waiting now lines)
+      (there : feed_place waiting < length waiting) (is : next ≡ drop (feed_place waiting + 1) waiting)
+      (bytes : List ℕ) (bytes_are : bytes ≡ line ++ before_first is_feed waiting) where
+    passed : (whole : List ℕ) × KeepsRest [] next now (lines ++ whole ∷ []) × IsHeldAs bytes whole
+    passed =
+        let one = line_passed line waiting next now lines keeps there is in
+        (one.0, one.1, subst (λ (l : List ℕ). IsHeldAs l one.0) (sym bytes_are) one.2)
+
+    -- the next line was heard
+    pub heard_line : (new : Machine State) (answer : Answer Found) (more : List (Told Found)) → new.line ≡ []
+        → new.waiting ≡ next → new.number ≡ old.number + 1 → new.tally ≡ noted old.tally answer
+        → IsAnsweredSo how answer bytes old.job new.job
+        → ((number : ℕ) → number ≡ old.number + 1 → more ≡ told_from number (answer ∷ []))
+        → (whole : List ℕ) × HasHeard how start new now (lines ++ whole ∷ []) (answers ++ more)
+    heard_line new answer more begun behind number counted heard told = (
+      passed.0,
+      record {
+        kept = subst₂ (λ (l w : List ℕ). KeepsRest l w now (lines ++ passed.0 ∷ [])) (sym begun) (sym behind) passed.1;
+        number = number ∙ ap (λ n. n + 1) h.number ∙ sym (length_push lines passed.0);
+        told = told_more how start answer bytes passed.0 old.job new.job old.tally new.tally lines answers more passed.2
+            heard counted (told (length lines + 1) (ap (λ n. n + 1) (sym h.number))) h.told;
+      },
+    )
+
+    -- for the next line there was no memory
+    pub heard_before : (new : Machine State) → new.line ≡ line → new.waiting ≡ waiting → new.number ≡ old.number
+        → new.tally ≡ old.tally → (new.job ≡ old.job) × WantsAt how old.job bytes
+        → HasHeard how start new now lines answers
+        × ((next : List ℕ) × IsPrefixOf (with_next lines next) (ended_lines now) × WantsAt how new.job next)
+    heard_before new begun behind number counted wants =
+        let same : new.job ≡ old.job = wants.0 in (
+          record {
+            kept = subst₂ (λ (l w : List ℕ). KeepsRest l w now lines) (sym begun) (sym behind) keeps;
+            number = number ∙ h.number;
+            told = subst₂ (λ (s : State) (t : Tally). AreAnswers how start s t lines answers) (sym same) (sym counted)
+                h.told;
+          },
+          (
+            passed.0,
+            passed_first [] next now (lines ++ passed.0 ∷ []) passed.1,
+            subst (λ (s : State). WantsAt how s passed.0) (sym same)
+                (wants.1.0, sym (same_content bytes passed.0 passed.2) ∙ wants.1.1, wants.1.2),
+          ),
+        )

@@ -14,13 +14,10 @@ use Rattle.sq_devices.proofs.Puts.{Appends-hidden, HasPut-trans}
 use Rattle.sq_text.specs.declared.faults.LineFault.{LineFault}
 use Rattle.sq_lines.specs.Answers.{Answerer, Manner, WantsAt, answer_text, answers_to, output_of, tally_of, texts_of}
 use Rattle.sq_lines.specs.Content.{Answer}
-use Rattle.sq_lines.specs.Lines.{but_last, closed, ended_lines, lines_of, with_next}
-use Rattle.sq_lines.specs.Logs.{AreAnswers, HasHeard, IsUpToDate, told_from}
+use Rattle.sq_lines.specs.Lines.{HasNoFeed, but_last, closed, ended_lines, lines_of, with_next}
+use Rattle.sq_lines.specs.Logs.{AreAnswers, HasHeard, IsUpToDate, Machine, told_from}
 use Rattle.sq_lines.specs.Runs.{HasTold, IsPumped, OfLines, StoppedAtMemory, StoppedAtWrite, fed, told_text}
-use Rattle.sq_lines.specs.Windows.{between, waiting_of}
 use Rattle.sq_lines.specs.declared.log.Answer.{Answer as Told}
-use Rattle.sq_lines.specs.declared.log.Log.{Log}
-use Rattle.sq_lines.specs.declared.window.Window.{Window}
 use Rattle.sq_lines.specs.declared.tallies.Tally.{Tally}
 use Rattle.sq_lines.proofs.Cutting.{ended_lines-append}
 use Rattle.sq_lines.proofs.Tallying.{but_last-push, output_but_last, output_none}
@@ -41,11 +38,6 @@ prefix_trans xs ys zs p q = (p.0 ++ q.0, q.1 ∙ ap (λ l. l ++ q.0) p.1 ∙ app
 -- a longer text begins as the shorter one, behind a header too
 pub prefix_behind : (header xs ys : List ℕ) → IsPrefixOf xs ys → IsPrefixOf (header ++ xs) (header ++ ys)
 prefix_behind header xs ys first = (first.0, ap (λ l. header ++ l) first.1 ∙ sym (append_assoc header xs first.0))
-
--- at most 64 bytes wait
-pub waiting_short : (window : Window) → length (waiting_of window) ≤ 64
-waiting_short window =
-    omega (arith, window.few, window.behind, length-take (65 + window.count - window.at) (drop window.at window.bytes))
 
 -- ---- texts
 
@@ -71,46 +63,21 @@ text_push text answers answer =
 
 -- ---- what was given
 
--- more input ends more lines
-pub prefix_on : (given piece : List ℕ) (n : ℕ) (lines : List (List ℕ))
-    → IsPrefixOf lines (ended_lines (given ++ take n piece)) → IsPrefixOf lines (ended_lines (given ++ piece))
-prefix_on given piece n lines first =
-    let longer = ended_lines-append (given ++ take n piece) (drop n piece) in
-    let whole : (given ++ take n piece) ++ drop n piece ≡ given ++ piece =
-    append_assoc given (take n piece) (drop n piece) ∙ ap (λ l. given ++ l) (take-append-drop n piece) in
-    prefix_trans lines (ended_lines (given ++ take n piece)) (ended_lines (given ++ piece)) first
-    (longer.0, ap ended_lines (sym whole) ∙ longer.1)
-
--- the lines of the input with its last line ended
-pub ended_last : (read : List ℕ) → ended_lines (closed read ++ []) ≡ lines_of read
-ended_last read = ap ended_lines (append-nil (closed read)) ∙ ended_lines-closed read
-
--- some of what is left of the piece was taken
-pub left_on : (given bytes : List ℕ) (at count taken : ℕ) → at + taken ≤ count
-    → given ++ between at count bytes ≡ (given ++ take taken (between at count bytes)) ++ between (at + taken) count bytes
-left_on given bytes at count taken within =
-    ap (λ l. given ++ l) (sym (take-append-drop taken (between at count bytes)))
-    ∙ sym (append_assoc given (take taken (between at count bytes)) (drop taken (between at count bytes)))
-    ∙ ap (λ l. (given ++ take taken (between at count bytes)) ++ l) (sym (waits_on bytes at count taken within))
-
--- the lines of what was given are among those of all that was fed
-pub prefix_fed : (ended : Bool) (read given left : List ℕ) (taken : ℕ) (lines : List (List ℕ)) → fed ended read ≡ given ++ left
-    → IsPrefixOf lines (ended_lines (given ++ take taken left)) → IsPrefixOf lines (ended_lines (fed ended read))
-prefix_fed ended read given left taken lines whole first =
-    subst (λ l. IsPrefixOf lines (ended_lines l)) (sym whole) (prefix_on given left taken lines first)
-
 -- what holds of the lines of what was fed
 pub of_fed : (input : Taken) (ended : Bool) (read : List ℕ) (Of : List (List ℕ) → Type 0)
     → (ended ≡ true → IsAtEnd input.after) → Of (ended_lines (fed ended read)) → OfLines input Of read
 of_fed input true read Of at_end of = inr (at_end refl, subst Of (ended_lines-closed read) of)
 of_fed input false read Of at_end of = inl of
 
--- a piece more is fed, the last of which is empty
-pub fed_on : (ended : Bool) (read piece : List ℕ) → (ended ≡ true → length piece ≡ 0)
-    → fed ended (read ++ piece) ≡ fed ended read ++ piece
-fed_on false read piece none = refl
-fed_on true read [] none = ap closed (append-nil read) ∙ sym (append-nil (closed read))
-fed_on true read (b ∷ bs) none = absurd (omega (arith, none refl))
+-- no line feed stands in no bytes
+pub no_feeds : (bytes : List ℕ) → length bytes ≡ 0 → HasNoFeed bytes
+no_feeds bytes none k d within = absurd (omega (arith, none, within))
+
+-- of no bytes none are taken
+pub nothing_given : (given : List ℕ) (taken : ℕ) → taken ≤ 0 → given ++ take taken [] ≡ given
+nothing_given given taken none =
+    let is : taken ≡ 0 = omega (arith, none) in
+    ap (λ (n : ℕ). given ++ take n []) is ∙ append-nil given
 
 pub fed_not : (ended : Bool) (read : List ℕ) → ended ≡ false → fed ended read ≡ read
 fed_not ended read not_yet = ap (λ e. fed e read) not_yet
@@ -123,7 +90,7 @@ no_more read (b ∷ bs) all same none = absurd (omega (arith, none))
 
 module _ {State Past Found : Type 0} (how : Manner State Past Found) (start : State) {K : Type 0} (k : SinkGhosts K)
     (first : K) where
-  pub pumped_passed : (sink : K) (old new : Log State) (given next : List ℕ)
+  pub pumped_passed : (sink : K) (old new : Machine State) (given next : List ℕ)
       (h : IsPumped how start k first sink old given)
       → (more : List (List ℕ)) × HasHeard how start new next (h.lines ++ more) h.answers
       → IsPumped how start k first sink new next
@@ -134,7 +101,7 @@ module _ {State Past Found : Type 0} (how : Manner State Past Found) (start : St
     put = h.put;
   }
 
-  pub pumped_answered : (a b : K) (old new : Log State) (given next : List ℕ) (answer : Told Found)
+  pub pumped_answered : (a b : K) (old new : Machine State) (given next : List ℕ) (answer : Told Found)
       (h : IsPumped how start k first a old given)
       → (line : List ℕ) × HasHeard how start new next (h.lines ++ line ∷ []) (h.answers ++ answer ∷ [])
       → ((past : Past) → HasPut k a b (how.way.text past answer.number answer.verdict))
@@ -168,7 +135,7 @@ module _ {State Past Found : Type 0} (how : Manner State Past Found) (start : St
     behind sink text put = HasPut-trans k before first sink header text headed put
 
     -- there was no memory for the next line
-    pub pumped_memory : (sink : K) (old : Log State) (now : State) (tally : Tally) (given : List ℕ)
+    pub pumped_memory : (sink : K) (old : Machine State) (now : State) (tally : Tally) (given : List ℕ)
         (complete : List (List ℕ)) (h : IsPumped how start k first sink old given)
         → (next : List ℕ) × IsPrefixOf (with_next h.lines next) complete × WantsAt how now next
         × AreAnswers how start now tally h.lines h.answers
@@ -184,7 +151,7 @@ module _ {State Past Found : Type 0} (how : Manner State Past Found) (start : St
     )
 
     -- the answer was not put, or in part
-    pub pumped_write : (a b : K) (old new : Log State) (given next : List ℕ) (answer : Told Found)
+    pub pumped_write : (a b : K) (old new : Machine State) (given next : List ℕ) (answer : Told Found)
         (complete : List (List ℕ)) (h : IsPumped how start k first a old given)
         (on : (line : List ℕ) × HasHeard how start new next (h.lines ++ line ∷ []) (h.answers ++ answer ∷ []))
         → IsPrefixOf (h.lines ++ on.0 ∷ []) complete
@@ -226,19 +193,19 @@ module _ {State Past Found : Type 0} (how : Manner State Past Found) (start : St
     )
 
     -- all lines were told that line feeds end
-    pub pumped_ended : (sink : K) (log : Log State) (read : List ℕ) → IsPumped how start k first sink log read
+    pub pumped_ended : (sink : K) (log : Machine State) (read : List ℕ) → IsPumped how start k first sink log read
         → IsUpToDate log → HasTold how start log.job (Behind sink) (ended_lines read)
     pumped_ended sink log read h up =
-        subst (HasTold how start log.job (Behind sink)) (passed_all log.window read h.lines h.heard.passed up)
+        subst (HasTold how start log.job (Behind sink)) (passed_all log.line log.waiting read h.lines h.heard.kept up)
         (told_put log.job log.tally h.lines h.answers (Behind sink) (λ past. behind sink _ (h.put past)) h.heard.told)
 
     -- and the last part too
-    pub pumped_all : (sink : K) (log : Log State) (read : List ℕ)
-        → IsPumped how start k first sink log (closed read ++ []) → IsUpToDate log
+    pub pumped_all : (sink : K) (log : Machine State) (read : List ℕ)
+        → IsPumped how start k first sink log (closed read) → IsUpToDate log
         → HasTold how start log.job (Behind sink) (lines_of read)
         × ((past : Past) → how.stands_for start past → log.tally ≡ tally_of (answers_to how.way past (lines_of read)))
     pumped_all sink log read h up =
-        let same = passed_all log.window (closed read ++ []) h.lines h.heard.passed up ∙ ended_last read in (
+        let same = passed_all log.line log.waiting (closed read) h.lines h.heard.kept up ∙ ended_lines-closed read in (
           subst (HasTold how start log.job (Behind sink)) same
               (told_put log.job log.tally h.lines h.answers (Behind sink) (λ past. behind sink _ (h.put past))
               h.heard.told),

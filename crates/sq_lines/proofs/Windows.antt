@@ -1,20 +1,20 @@
 -- Places in a window, and lines that are passed over.
 use Rattle.std.proofs.Common.{◌≡◌, ◌+◌, ◌-◌, ◌/◌, ◌^◌, ◌<◌, ◌≤◌, ◌++◌, ◌∙◌, inl, inr, ℕ, List, [], ◌∷◌, length}
-use Rattle.std.proofs.Common.{take, drop, ap, sym, subst, arith, append_assoc, append-nil, take-append-drop, Bool, cond, nat_eq, false}
+use Rattle.std.proofs.Common.{take, drop, ap, sym, subst, arith, append_assoc, append-nil, take-append-drop, Bool, cond, get_or, nat_eq, false, refl, true}
 use Rattle.std.proofs.Common.{length-append}
 use Rattle.std.specs.List.{before_first, position_or_len}
 use Rattle.std.proofs.lemmas.Bool.{cases_Bool, eq-eqb, ne_eqb}
-use Rattle.std.proofs.lemmas.List.{drop-drop, drop-take, length-drop, length-take, take-take}
+use Rattle.std.proofs.lemmas.List.{drop-drop, drop-take, drop_all, drop_at, length-drop, length-take, take-take}
 use Rattle.std.proofs.lemmas.Simd.{length-put_chunk, put_chunk_whole}
 use Rattle.std.proofs.lemmas.List.Elements.{All-nil}
+use Rattle.std.proofs.lemmas.List.Sums.{passes_at_first}
 use Rattle.std.proofs.lemmas.Slice.{between-put_mid, take-put_mid_below}
 use lib.Lanes.{chunk, put_chunk}
 use borrow.Rule.Slice.PartMut.{mid_of, put_mid}
 use Rattle.sq_devices.specs.Device.{IsPrefixOf}
-use Rattle.sq_lines.specs.Held.{IsHeldAs}
+use Rattle.sq_lines.specs.Held.{IsHeldAs, KeepsRest}
 use Rattle.sq_lines.specs.Lines.{Cuts, HasNoFeed, MarksFeeds, closed, ended_lines, is_feed, last_part, lines_of, with_feed}
-use Rattle.sq_lines.specs.Windows.{IsLineAt, IsOpen, between, front_of, waiting_of}
-use Rattle.sq_lines.specs.declared.window.Window.{Window}
+use Rattle.sq_lines.specs.Windows.{between}
 use Rattle.sq_lines.proofs.Cutting.{cuts_ended, cuts_itself, cuts_more, ended_lines-append, ended_lines-cut, last_part-cut}
 use Rattle.sq_lines.proofs.FeedMarks.{marks_after, marks_front}
 use Rattle.sq_lines.proofs.Feeds.{before_has_none, through_first}
@@ -63,6 +63,13 @@ pub behind_put : (k count : ℕ) (xs ys : List ℕ) → 65 ≤ length xs → len
 behind_put k count xs ys there long =
     between-put_mid 65 k xs ys (65 + count) there (omega (arith, long))
 
+-- of what was got, so many bytes
+pub got_behind : (xs ys : List ℕ) → length xs ≡ 129 → drop 65 (put_mid 65 64 xs ys) ≡ ys
+got_behind xs ys all =
+    let front : length (take 65 xs) ≡ 65 = omega (arith, all, length-take 65 xs) in
+    drop_at (take 65 xs) (ys ++ drop 64 (drop 65 xs)) 65 front
+    ∙ ap (λ l. ys ++ l) (drop_all 64 (drop 65 xs) (omega (arith, all, length-drop 65 xs))) ∙ append-nil ys
+
 pub front_put : (k begin : ℕ) (xs ys : List ℕ) → 65 ≤ length xs → begin ≤ 65
     → between begin 65 (put_mid 65 k xs ys) ≡ between begin 65 xs
 front_put k begin xs ys there first =
@@ -85,6 +92,12 @@ marks_part bytes count feeds few marked =
     subst (MarksFeeds feeds) (take-take count 64 (drop 65 bytes) few ∙ ap (λ n. take n (drop 65 bytes)) same)
     (marks_front (take 64 (drop 65 bytes)) count feeds marked)
 
+-- where nothing waits, no line feed is marked
+pub no_marks : (feeds at count : ℕ) (bytes : List ℕ) → at ≡ 65 → count ≡ 0
+    → MarksFeeds feeds (between at (65 + count) bytes)
+no_marks feeds at count bytes at_is none k within =
+    absurd (omega (arith, at_is, none, within, length-take (65 + count - at) (drop at bytes)))
+
 -- ---- a window that slides
 
 pub window_slid : (xs ys : List ℕ) (count begin at next : ℕ) → length xs ≡ 129 → count ≤ 64 → begin ≤ at
@@ -104,83 +117,81 @@ window_slid xs ys count begin at next all few first within is from =
 
 -- ---- lines that are passed over
 
--- nothing more was given
-pub given_none : (window : Window) (given : List ℕ) (lines : List (List ℕ)) → IsOpen window given lines
-    → IsOpen window (given ++ []) lines
-given_none window given lines open_ = subst (λ (l : List ℕ). IsOpen window l lines) (sym (append-nil given)) open_
-
-pub line_passed : (old new : Window) (begin end : ℕ) (given : List ℕ) (lines : List (List ℕ))
-    → IsOpen old given lines → IsLineAt old begin end new
-    → (line : List ℕ) × IsOpen new given (lines ++ line ∷ []) × IsHeldAs (between begin end new.bytes) line
-line_passed old new begin end given lines from at =
-    let waiting : List ℕ = waiting_of old in
+pub line_passed : (line waiting next given : List ℕ) (lines : List (List ℕ)) → KeepsRest line waiting given lines
+    → place waiting < length waiting → next ≡ drop (place waiting + 1) waiting
+    → (whole : List ℕ) × KeepsRest [] next given (lines ++ whole ∷ [])
+    × IsHeldAs (line ++ before_first is_feed waiting) whole
+line_passed line waiting next given lines from there is =
     let front : List ℕ = before_first is_feed waiting in
-    let line : List ℕ = from.rest ++ front in
-    let through = take (place waiting + 1) waiting in (
-      line,
+    let through : List ℕ = take (place waiting + 1) waiting in (
+      from.rest ++ front,
       record {
         read = from.read ++ through;
         rest = [];
         whole = from.whole
             ∙ ap (λ l. from.read ++ l) (sym (take-append-drop (place waiting + 1) waiting))
             ∙ sym (append_assoc from.read through (drop (place waiting + 1) waiting))
-            ∙ ap (λ l. (from.read ++ through) ++ l) (sym at.waiting);
-        cut = subst (λ (l : List ℕ). Cuts (from.read ++ l) (lines ++ line ∷ []) []) (sym (through_first waiting at.there))
+            ∙ ap (λ l. (from.read ++ through) ++ l) (sym is);
+        cut = subst (λ (l : List ℕ). Cuts (from.read ++ l) (lines ++ (from.rest ++ front) ∷ []) [])
+            (sym (through_first waiting there))
             (cuts_ended from.read lines from.rest front from.cut (before_has_none waiting));
-        held = inl at.front;
+        held = inl refl;
       },
-      subst (λ (l : List ℕ). IsHeldAs l line) (sym at.line) (held_on (front_of old) from.rest front from.held),
+      held_on line from.rest front from.held,
     )
 
 -- what waits has no line feed, and more is taken
-pub more_taken : (old new : Window) (given more : List ℕ) (lines : List (List ℕ)) → IsOpen old given lines
-    → HasNoFeed (waiting_of old) → IsHeldAs (front_of new) (front_of old ++ waiting_of old) → waiting_of new ≡ more
-    → IsOpen new (given ++ more) lines
-more_taken old new given more lines from none held is = record {
+pub more_taken : (line waiting next more given : List ℕ) (lines : List (List ℕ)) → KeepsRest line waiting given lines
+    → HasNoFeed waiting → IsHeldAs next (line ++ waiting) → KeepsRest next more (given ++ more) lines
+more_taken line waiting next more given lines from none held = record {
   read = given;
-  rest = from.rest ++ waiting_of old;
-  whole = ap (λ l. given ++ l) (sym is);
-  cut = subst (λ (l : List ℕ). Cuts l lines (from.rest ++ waiting_of old)) (sym from.whole)
-      (cuts_more from.read lines from.rest (waiting_of old) from.cut none);
-  held = held_by (front_of new) (front_of old ++ waiting_of old) (from.rest ++ waiting_of old) held
-      (held_on (front_of old) from.rest (waiting_of old) from.held);
+  rest = from.rest ++ waiting;
+  whole = refl;
+  cut = subst (λ (l : List ℕ). Cuts l lines (from.rest ++ waiting)) (sym from.whole)
+      (cuts_more from.read lines from.rest waiting from.cut none);
+  held = held_by next (line ++ waiting) (from.rest ++ waiting) held (held_on line from.rest waiting from.held);
 }
+
+-- a line feed waits that stands in what waits
+pub some_feed : (waiting : List ℕ) → place waiting < length waiting → HasNoFeed waiting → ⊥
+some_feed waiting there none =
+    let is : is_feed (get_or waiting (place waiting) 0) ≡ true = passes_at_first is_feed waiting 0 there in
+    let isnt : is_feed (get_or waiting (place waiting) 0) ≡ false = none (place waiting) 0 there in
+    cc
 
 -- ---- the end
 
 -- the rest is what stands behind the last line feed
-last_is : (window : Window) (given : List ℕ) (lines : List (List ℕ)) (from : IsOpen window given lines)
-    → waiting_of window ≡ [] → last_part given ≡ from.rest
-last_is window given lines from none =
+last_is : (line waiting given : List ℕ) (lines : List (List ℕ)) (from : KeepsRest line waiting given lines)
+    → waiting ≡ [] → last_part given ≡ from.rest
+last_is line waiting given lines from none =
     ap last_part (from.whole ∙ ap (λ l. from.read ++ l) none ∙ append-nil from.read)
     ∙ last_part-cut from.read lines from.rest from.cut
 
-pub closed_line : (old new : Window) (given : List ℕ) (lines : List (List ℕ)) → IsOpen old given lines
-    → waiting_of old ≡ [] → 0 < length (front_of old) → waiting_of new ≡ 10 ∷ [] → front_of new ≡ front_of old
-    → IsOpen new (closed given) lines
-closed_line old new given lines from none some feed same =
-    let long : 0 < length from.rest = some_held (front_of old) from.rest from.held some in
+pub closed_line : (line waiting given : List ℕ) (lines : List (List ℕ)) → KeepsRest line waiting given lines
+    → waiting ≡ [] → 0 < length line → KeepsRest line (10 ∷ []) (closed given) lines
+closed_line line waiting given lines from none some =
+    let long : 0 < length from.rest = some_held line from.rest from.held some in
     let is : closed given ≡ with_feed given =
-    ap (λ (n : List ℕ). cond (nat_eq (length n) 0) given (with_feed given)) (last_is old given lines from none)
+    ap (λ (n : List ℕ). cond (nat_eq (length n) 0) given (with_feed given)) (last_is line waiting given lines from none)
     ∙ ap (λ (t : Bool). cond t given (with_feed given))
     (ne_eqb (length from.rest) 0 (λ e. absurd (omega (arith, e, long)))) in
-    subst (λ (l : List ℕ). IsOpen new l lines) (sym is) (record {
+    subst (λ (l : List ℕ). KeepsRest line (10 ∷ []) l lines) (sym is) (record {
       read = from.read;
       rest = from.rest;
-      whole = ap (λ l. l ++ 10 ∷ []) (from.whole ∙ ap (λ l. from.read ++ l) none ∙ append-nil from.read)
-          ∙ ap (λ l. from.read ++ l) (sym feed);
+      whole = ap (λ l. l ++ 10 ∷ []) (from.whole ∙ ap (λ l. from.read ++ l) none ∙ append-nil from.read);
       cut = from.cut;
-      held = subst (λ (l : List ℕ). IsHeldAs l from.rest) (sym same) from.held;
+      held = from.held;
     })
 
-pub closed_none : (old : Window) (given : List ℕ) (lines : List (List ℕ)) → IsOpen old given lines
-    → waiting_of old ≡ [] → length (front_of old) ≡ 0 → IsOpen old (closed given) lines
-closed_none old given lines from none empty =
-    let short : length from.rest ≡ 0 = none_held (front_of old) from.rest from.held empty in
+pub closed_none : (line waiting given : List ℕ) (lines : List (List ℕ)) → KeepsRest line waiting given lines
+    → waiting ≡ [] → length line ≡ 0 → KeepsRest line waiting (closed given) lines
+closed_none line waiting given lines from none empty =
+    let short : length from.rest ≡ 0 = none_held line from.rest from.held empty in
     let is : closed given ≡ given =
-    ap (λ (n : List ℕ). cond (nat_eq (length n) 0) given (with_feed given)) (last_is old given lines from none)
+    ap (λ (n : List ℕ). cond (nat_eq (length n) 0) given (with_feed given)) (last_is line waiting given lines from none)
     ∙ ap (λ (t : Bool). cond t given (with_feed given)) (eq-eqb (length from.rest) 0 short) in
-    subst (λ (l : List ℕ). IsOpen old l lines) (sym is) from
+    subst (λ (l : List ℕ). KeepsRest line waiting l lines) (sym is) from
 
 -- as long as it was
 pub length-slid : (xs part : List ℕ) → length xs ≡ 129
@@ -200,22 +211,22 @@ length-slid xs part all =
     )
 
 -- the lines that were passed over are the first that line feeds end
-pub passed_first : (window : Window) (given : List ℕ) (lines : List (List ℕ)) → IsOpen window given lines
+pub passed_first : (line waiting given : List ℕ) (lines : List (List ℕ)) → KeepsRest line waiting given lines
     → IsPrefixOf lines (ended_lines given)
-passed_first window given lines from =
-    let longer = ended_lines-append from.read (waiting_of window) in (
+passed_first line waiting given lines from =
+    let longer = ended_lines-append from.read waiting in (
       longer.0,
       ap ended_lines from.whole ∙ longer.1
           ∙ ap (λ (ls : List (List ℕ)). ls ++ longer.0) (ended_lines-cut from.read lines from.rest from.cut),
     )
 
 -- where no line feed waits, they are all of them
-pub passed_all : (window : Window) (given : List ℕ) (lines : List (List ℕ)) → IsOpen window given lines
-    → HasNoFeed (waiting_of window) → lines ≡ ended_lines given
-passed_all window given lines from none =
+pub passed_all : (line waiting given : List ℕ) (lines : List (List ℕ)) → KeepsRest line waiting given lines
+    → HasNoFeed waiting → lines ≡ ended_lines given
+passed_all line waiting given lines from none =
     sym (ap ended_lines from.whole
-    ∙ ended_lines-cut (from.read ++ waiting_of window) lines (from.rest ++ waiting_of window)
-    (cuts_more from.read lines from.rest (waiting_of window) from.cut none))
+    ∙ ended_lines-cut (from.read ++ waiting) lines (from.rest ++ waiting)
+    (cuts_more from.read lines from.rest waiting from.cut none))
 
 -- the lines of an input with a line feed at its end
 pub ended_lines-closed : (given : List ℕ) → ended_lines (closed given) ≡ lines_of given

@@ -1,8 +1,8 @@
 -- What is held of a line.
-use Rattle.std.specs.Prelude.{◌≡◌, ◌+◌, ◌<◌, ◌⊎◌, ℕ, Bool, List, [], length, take, nat_lt, false, MatchBool}
+use Rattle.std.specs.Prelude.{◌≡◌, ◌+◌, ◌<◌, ◌⊎◌, ◌++◌, ℕ, Bool, List, [], length, take, nat_lt, false, MatchBool}
 use Rattle.std.specs.Prelude.{if◌then◌else◌}
 use Rattle.std.specs.List.{position_or_len}
-use Rattle.sq_lines.specs.Lines.{is_feed}
+use Rattle.sq_lines.specs.Lines.{Cuts, is_feed}
 
 -- the first 64 bytes of a line, whether there are more, and whether its line feed was taken
 pub record Held : Type 0 where
@@ -33,3 +33,12 @@ count_through piece = if has_feed piece then position_or_len is_feed piece + 1 e
 -- these bytes stand for the line: they are the line, or both are too long
 abbrev pub IsHeldAs : List ℕ → List ℕ → Type 0
 IsHeldAs bytes line = (bytes ≡ line) ⊎ ((64 < length bytes) × (64 < length line))
+
+-- of the bytes that were given, these lines were passed over: of the line behind them, which is begun, these bytes are
+-- held, and the last bytes wait, not yet looked at
+pub record KeepsRest (line waiting given : List ℕ) (lines : List (List ℕ)) : Type 0 where
+  pub read : List ℕ
+  pub rest : List ℕ
+  pub whole : given ≡ read ++ waiting
+  pub cut : Cuts read lines rest
+  pub held : IsHeldAs line rest

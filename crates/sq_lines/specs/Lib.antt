@@ -6,4 +6,5 @@ pub mod Pieces
 pub mod Windows
 pub mod Hearings
 pub mod Logs
+pub mod Machines
 pub mod Runs

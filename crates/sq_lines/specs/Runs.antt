@@ -10,9 +10,8 @@ use Rattle.sq_devices.specs.declared.device.Sink.{Ghosts as SinkGhosts}
 use Rattle.sq_text.specs.declared.faults.LineFault.{LineFault}
 use Rattle.sq_lines.specs.Lines.{but_last, closed, ended_lines, lines_of, with_next}
 use Rattle.sq_lines.specs.Answers.{answers_to, Answerer, Manner, WantsAt, past_after, output_of, tally_of}
-use Rattle.sq_lines.specs.Logs.{HasHeard}
+use Rattle.sq_lines.specs.Logs.{HasHeard, Machine}
 use Rattle.sq_lines.specs.declared.log.Answer.{Answer as Told}
-use Rattle.sq_lines.specs.declared.log.Log.{Log}
 use Rattle.sq_lines.specs.declared.tallies.Tally.{Tally}
 
 -- ---- in the words of the devices
@@ -70,7 +69,7 @@ told_text text answers = flat_map (λ answer. text answer.number answer.verdict)
 
 -- the machine was given these bytes, and the texts of its answers were put
 pub record IsPumped {State Past Found : Type 0} (how : Manner State Past Found) (start : State)
-    {K : Type 0} (k : SinkGhosts K) (first sink : K) (log : Log State) (given : List ℕ) : Type 0 where
+    {K : Type 0} (k : SinkGhosts K) (first sink : K) (log : Machine State) (given : List ℕ) : Type 0 where
   pub lines : List (List ℕ)
   pub answers : List (Told Found)
   pub heard : HasHeard how start log given lines answers

@@ -2,7 +2,7 @@
 //!
 //! A function with an empty body does nothing: its contract is the law. The others make the call or the test that they
 //! speak of.
-ghost use Rattle.std.specs.Prelude.{◌≡◌, ◌↔◌, ◌⊎◌, ◌++◌, ◌-◌, ◌<◌, ◌≤◌, ◌∷◌, [], List, ℕ, IsTrue, Ok, Err, None, Some};
+ghost use Rattle.std.specs.Prelude.{◌≡◌, ◌↔◌, ◌⊎◌, ◌++◌, ◌+◌, ◌-◌, ◌*◌, ◌<◌, ◌≤◌, ◌∷◌, [], List, ℕ, IsTrue, Ok, Err, None, Some};
 ghost use Rattle.std.specs.Prelude.{Option, Result, length, take};
 ghost use Rattle.std.specs.Io.KnownBytes.{IsAtEnd};
 ghost use Rattle.sq_devices.specs.Changes.{taken_from};
@@ -10,13 +10,15 @@ ghost use Rattle.sq_devices.specs.Device.{AppendsOrHides, IsPrefixOf};
 ghost use Rattle.sq_text.specs.declared.faults.LineFault.{LineFault as Fault};
 ghost use Rattle.sq_lines.specs.declared.job.Verdict.TheVariants.{Good, NoMemory, Refused};
 ghost use Rattle.sq_lines.specs.declared.log.Answer.{Answer};
+ghost use Rattle.sq_lines.specs.declared.log.Step.TheVariants.{Answered, Fed, Passed};
+ghost use Rattle.sq_lines.specs.declared.log.Step.TheVariants as steps;
 ghost use Rattle.sq_lines.specs.declared.tallies.Tally.{Tally as Counts};
 ghost use Rattle.sq_lines.specs.Answers.{WantsAt, answers_to, output_of, past_after, tally_of};
 ghost use Rattle.sq_lines.specs.Content.{Empty, Long, Text, content};
 ghost use Rattle.sq_lines.specs.Hearings.{IsHeard};
-ghost use Rattle.sq_lines.specs.Held.{Held, count_through, has_feed};
-ghost use Rattle.sq_lines.specs.Lines.{closed, ended_lines, lines_of};
-ghost use Rattle.sq_lines.specs.Logs.{AreAnswers, told_from};
+ghost use Rattle.sq_lines.specs.Held.{Held, IsHeldAs, KeepsRest, count_through, has_feed};
+ghost use Rattle.sq_lines.specs.Lines.{Cuts, HasNoFeed, closed, ended_lines, lines_of};
+ghost use Rattle.sq_lines.specs.Logs.{AreAnswers, HasHeard, IsProgress, IsStep, IsWithin, Machine, told_from};
 ghost use Rattle.sq_lines.specs.Pieces.{AreTakes, GivesTheLines, IsTake, Step};
 ghost use Rattle.sq_lines.specs.Runs.{HasRun, HasTold, HasToldPart, OfLines, StoppedAtMemory, StoppedAtWrite};
 
@@ -80,6 +82,53 @@ pub fn answers_exactly<J: Job>()
         × (tally ≡ tally_of (answers_to J.how.way past lines))) }
     ensures numbered { (first last : Result J.Found Fault) → told_from 1 (Some first ∷ None ∷ Some last ∷ [])
         ≡ record { number = 1; verdict = first } ∷ record { number = 3; verdict = last } ∷ [] }
+{}
+
+/// What a machine has heard: of what it was given, these lines, the first ones, whose answers it told; it numbers lines
+/// from 1, and holds what is behind them.
+pub fn machine_exactly<J: Job>()
+    ensures heard { (start : J) (log : Machine J) (given : List ℕ) (lines : List (List ℕ))
+        (answers : List (Answer J.Found)) → HasHeard J.how start log given lines answers
+        ↔ (KeepsRest log.line log.waiting given lines × (log.number ≡ length lines)
+        × AreAnswers J.how start log.job log.tally lines answers) }
+    ensures kept { (line waiting given : List ℕ) (lines : List (List ℕ)) → KeepsRest line waiting given lines
+        ↔ ((read : List ℕ) × (rest : List ℕ) × (given ≡ read ++ waiting) × Cuts read lines rest
+        × IsHeldAs line rest) }
+{}
+
+/// What a step did: fed, it had heard all lines that line feeds end; else it took some bytes, and told the next answer, or
+/// none; without memory for the next line it did not hear it.
+pub fn steps_exactly<J: Job>()
+    ensures fed { (start : J) (piece given : List ℕ) (new : Machine J) (lines : List (List ℕ))
+        (answers : List (Answer J.Found)) → IsStep J.how start Fed piece new given lines answers
+        ↔ ((piece ≡ []) × HasHeard J.how start new given lines answers × HasNoFeed new.waiting
+        × (lines ≡ ended_lines given)) }
+    ensures passed { (taken : ℕ) (start : J) (piece given : List ℕ) (new : Machine J) (lines : List (List ℕ))
+        (answers : List (Answer J.Found)) → IsStep J.how start (Passed taken) piece new given lines answers
+        ↔ ((more : List (List ℕ)) × HasHeard J.how start new (given ++ take taken piece) (lines ++ more) answers) }
+    ensures answered { (taken : ℕ) (answer : Answer J.Found) (start : J) (piece given : List ℕ) (new : Machine J)
+        (lines : List (List ℕ)) (answers : List (Answer J.Found))
+        → IsStep J.how start (Answered taken answer) piece new given lines answers
+        ↔ ((line : List ℕ) × HasHeard J.how start new (given ++ take taken piece) (lines ++ line ∷ [])
+        (answers ++ answer ∷ [])) }
+    ensures without_memory { (taken : ℕ) (start : J) (piece given : List ℕ) (new : Machine J) (lines : List (List ℕ))
+        (answers : List (Answer J.Found)) → IsStep J.how start (steps.NoMemory taken) piece new given lines answers
+        ↔ (HasHeard J.how start new (given ++ take taken piece) lines answers
+        × ((next : List ℕ) × IsPrefixOf (lines ++ next ∷ []) (ended_lines (given ++ take taken piece))
+        × WantsAt J.how new.job next)) }
+{}
+
+/// How far a step got: it took no more than there was, and what waits, with twice what was taken, grew less.
+pub fn progress_exactly<J: Job>()
+    ensures passed { (taken there : ℕ) (old new : Machine J)
+        → (IsWithin {Found = J.Found} (Passed taken) there ↔ (taken ≤ there))
+        × (IsProgress {Found = J.Found} (Passed taken) old new
+        ↔ (length new.waiting < length old.waiting + 2 * taken)) }
+    ensures answered { (taken there : ℕ) (answer : Answer J.Found) (old new : Machine J)
+        → (IsWithin (Answered taken answer) there ↔ (taken ≤ there))
+        × (IsProgress (Answered taken answer) old new ↔ (length new.waiting < length old.waiting + 2 * taken)) }
+    ensures without_memory { (taken there : ℕ)
+        → IsWithin {Found = J.Found} (steps.NoMemory taken) there ↔ (taken ≤ there) }
 {}
 
 /// A line feed ends the last line of an input, unless that is empty: `A` is 65, a line feed 10.

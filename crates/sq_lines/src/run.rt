@@ -1,9 +1,10 @@
 //! A run over devices: the loop around a log machine.
-ghost use Rattle.std.specs.Prelude.{◌≡◌, ◌++◌, [], List, ℕ, IfErr, IfOk, OnErr, OnOk, true};
+ghost use Rattle.std.specs.Prelude.{◌≡◌, ◌++◌, ◌≤◌, [], List, ℕ, IfErr, IfOk, OnErr, OnOk, length, true};
 ghost use Rattle.sq_devices.specs.Changes.{FinishedOnce, Sent, TookAll, TookPart, TookReported, TookSome, Unfinished};
 ghost use Rattle.sq_devices.specs.Changes.{Wrote, taken_from, written_on};
 ghost use Rattle.sq_lines.specs.Lines.{ended_lines};
 ghost use Rattle.sq_lines.specs.Logs.{HasHeard, IsUpToDate};
+ghost use Rattle.sq_lines.specs.Machines.{machine_of};
 ghost use Rattle.sq_lines.specs.Runs.{HasRun, HasTold, OfLines, StoppedAtMemory, StoppedAtWrite, fed};
 
 use crate::faults::RunFault;
@@ -16,8 +17,9 @@ use sq_devices::{Failed, Sink, Source};
 #[inline(always)]
 fn end_if<J: Telling>(log: &mut Log<J>, ended: bool)
     ensures heard { (start : J) (given : List ℕ) (lines : List (List ℕ)) (answers : List (Answer J.Found))
-        → HasHeard J.how start log.old given lines answers → IsUpToDate log.old
-        → HasHeard J.how start log.new (fed ended given) lines answers }
+        → HasHeard J.how start (machine_of log.old) given lines answers → (ended ≡ true → IsUpToDate (machine_of log.old))
+        → HasHeard J.how start (machine_of log.new) (fed ended given) lines answers }
+    ensures short { length (machine_of log.old).waiting ≤ 64 → length (machine_of log.new).waiting ≤ 64 }
     ensures number { log.new.number ≡ log.old.number }
     ensures lasting { J.lasting log.new.job ≡ J.lasting log.old.job }
 {
@@ -33,7 +35,7 @@ pub fn run_log<S: Source, K: Sink, J: Telling>(
     log: &mut Log<J>,
 ) -> Result<Tally, RunFault>
     // The machine was given nothing yet.
-    requires { HasHeard J.how log.old.job log.old [] [] [] }
+    requires { HasHeard J.how log.old.job (machine_of log.old) [] [] [] }
 
     // The bytes up to the end of the input were taken, and their lines have been answered and counted.
     ensures whole { IfOk result (λ tally. TookAll (taken_from S.Source source.old source.new)
@@ -66,36 +68,28 @@ pub fn run_log<S: Source, K: Sink, J: Telling>(
         × TookSome (taken_from S.Source source.old source.new) (OfLines (taken_from S.Source source.old source.new)
         (StoppedAtWrite J.front J.how log.old.job log.new.job (K.written sink.old) (K.written sink.new)))) }
 {
-    match put_header(&log.job, sink) {
+    match put_header(log.job(), sink) {
         Ok(()) => {}
         Err(Failed) => return Err(RunFault::Write),
     }
     let mut text = LineText::new();
-    let mut bytes = [0; 64];
-    let mut at = 0;
-    let mut count = 0;
     let mut ended = false;
     'steps: loop {
-        match log.step(&bytes[at..count]) {
-            Step::Passed(taken) => at += taken,
-            Step::Answered(taken, answer) => {
-                at += taken;
-                match put_answer(&log.job, &answer, sink, &mut text) {
-                    Ok(()) => {}
-                    Err(Failed) => return Err(RunFault::Write),
-                }
-            }
+        match log.step(b"") {
+            Step::Passed(_) => {}
+            Step::Answered(_, answer) => match put_answer(log.job(), &answer, sink, &mut text) {
+                Ok(()) => {}
+                Err(Failed) => return Err(RunFault::Write),
+            },
             Step::NoMemory(_) => return Err(RunFault::Memory),
             Step::Fed => {
                 if ended {
                     break;
                 }
-                let Ok(more) = source.get(&mut bytes) else {
+                let Ok(count) = log.get_from(source) else {
                     return Err(RunFault::Read);
                 };
-                at = 0;
-                count = more;
-                ended = more == 0;
+                ended = count == 0;
                 end_if(log, ended);
             }
         }

@@ -1,10 +1,13 @@
 //! What a log machine holds of its input: the end of what it was given, up to 64 bytes of it not yet looked at.
-ghost use Rattle.std.specs.Prelude.{◌≡◌, ◌+◌, ◌-◌, ◌<◌, ◌≤◌, ◌++◌, ◌^◌, [], List, ℕ, IfSome, IfNone, drop, length, min, take};
-ghost use Rattle.std.specs.List.{before_first, position_or_len};
-ghost use Rattle.sq_lines.specs.Held.{IsHeldAs};
+ghost use Rattle.std.specs.Prelude.{◌≡◌, ◌+◌, ◌-◌, ◌<◌, ◌≤◌, ◌++◌, ◌^◌, [], List, ℕ, IfOk, IfSome, IfNone, OnErr, OnOk};
+ghost use Rattle.std.specs.Prelude.{drop, length, min, take, true};
+ghost use Rattle.std.specs.Io.KnownBytes.{Consumes, IsAtEnd};
+ghost use Rattle.sq_devices.specs.Device.{KeepsOrHides};
+ghost use Rattle.sq_lines.specs.Held.{IsHeldAs, KeepsRest};
 ghost use Rattle.sq_lines.specs.Lines.{HasNoFeed, MarksFeeds, closed, is_feed};
 
 use crate::marks::{feeds_of, front_marks};
+use sq_devices::{Failed, Source};
 use std::simd::prelude::*;
 
 // Where the bytes stand that were given last: behind 64 bytes that came before them, and one byte more. A line that
@@ -18,11 +21,11 @@ const PIECE: usize = 64;
 /// from there on.
 #[derive(Drop)]
 pub(crate) struct Window {
-    pub(crate) bytes: [u8; 129],
-    pub(crate) begin: usize,
-    pub(crate) at: usize,
-    pub(crate) count: usize,
-    pub(crate) feeds: u64,
+    bytes: [u8; 129],
+    begin: usize,
+    at: usize,
+    count: usize,
+    feeds: u64,
     ghost few: { count ≤ 64 },
     ghost begun: { begin ≤ at },
     ghost behind: { 65 ≤ at },
@@ -31,19 +34,8 @@ pub(crate) struct Window {
     ghost small: { feeds < 2 ^ (65 + count - at) },
 }
 
-/// What looking for a line came to.
-pub(crate) enum Advance {
-    // Nothing came, and no line feed waits.
-    Fed,
-    // So many bytes were taken, which end no line.
-    Passed(usize),
-    // So many bytes were taken, and a line stands between these places.
-    Line(usize, usize, usize),
-}
-
 impl Window {
-    ghost use Rattle.sq_lines.specs.Windows.{IsAdvance, IsLineAt, IsOpen, IsProgress, IsWithin};
-    ghost use Rattle.sq_lines.specs.Windows.{front_of, waiting_of};
+    ghost use Rattle.sq_lines.specs.Windows.{EndsAt, between, feed_place, front_of, waiting_of};
 
     pub(crate) fn new() -> Self
         ensures front { front_of result ≡ [] }
@@ -58,22 +50,38 @@ impl Window {
         }
     }
 
-    // Passes over the next line that a line feed ends, and says where it stands.
+    /// The place where the line ends that is begun, if a line feed waits.
     #[inline(always)]
-    fn next_line(&mut self) -> Option<(usize, usize)>
-        ensures none { IfNone result ((self.new ≡ self.old) × HasNoFeed (waiting_of self.old)) }
-        ensures some { IfSome result (λ places. IsLineAt self.old places.0 places.1 self.new) }
+    pub(crate) fn line_end(&self) -> Option<usize>
+        ensures none { IfNone result (HasNoFeed (waiting_of self.now)) }
+        ensures some { IfSome result (EndsAt self.now) }
     {
         if self.feeds == 0 {
             return None;
         }
-        let place = self.feeds.trailing_zeros() as usize;
-        let begin = self.begin;
-        let end = self.at + place;
+        Some(self.at + self.feeds.trailing_zeros() as usize)
+    }
+
+    /// The line that is begun, up to its end.
+    #[inline(always)]
+    pub(crate) fn line(&self, end: usize) -> &[u8]
+        requires { EndsAt self.now end }
+        ensures { result.now ≡ between self.now.begin end self.now.bytes }
+    {
+        &self.bytes[self.begin..end]
+    }
+
+    /// Passes over the line that is begun, and its line feed.
+    #[inline(always)]
+    pub(crate) fn pass(&mut self, end: usize)
+        requires { EndsAt self.old end }
+        ensures front { front_of self.new ≡ [] }
+        ensures waiting { waiting_of self.new ≡ drop (feed_place (waiting_of self.old) + 1) (waiting_of self.old) }
+    {
+        let place = end - self.at;
         self.at = end + 1;
         self.begin = end + 1;
         self.feeds = self.feeds >> place >> 1;
-        Some((begin, end))
     }
 
     // Moves the last 64 bytes to the front, where none of those that wait is a line feed.
@@ -94,6 +102,19 @@ impl Window {
         self.feeds = 0;
     }
 
+    // Marks the line feeds of so many bytes that were put behind the front.
+    #[inline(always)]
+    fn mark(&mut self, count: usize)
+        requires at { self.old.at ≡ 65 }
+        requires none { self.old.count ≡ 0 }
+        requires few { count ≤ 64 }
+        ensures waiting { waiting_of self.new ≡ take count (drop 65 self.old.bytes) }
+        ensures front { front_of self.new ≡ front_of self.old }
+    {
+        self.feeds = front_marks(feeds_of(&self.bytes[FRONT..]), count);
+        self.count = count;
+    }
+
     // Takes a whole piece.
     #[inline(always)]
     fn fill(&mut self, piece: &[u8])
@@ -105,8 +126,7 @@ impl Window {
     {
         let front = u8x64::from_slice(piece);
         front.copy_to_slice(&mut self.bytes[FRONT..]);
-        self.feeds = feeds_of(&self.bytes[FRONT..]);
-        self.count = PIECE;
+        self.mark(PIECE);
     }
 
     // Takes a piece that is shorter.
@@ -121,17 +141,25 @@ impl Window {
     {
         let count = piece.len();
         self.bytes[FRONT..FRONT + count].copy_from_slice(piece);
-        self.feeds = front_marks(feeds_of(&self.bytes[FRONT..]), count);
-        self.count = count;
+        self.mark(count);
     }
 
-    // Takes the front of the piece, where no line feed waits, and says how many bytes.
+    /// Takes the front of the piece, up to 64 bytes, where no line feed waits, and says how many.
     #[inline(always)]
-    fn take(&mut self, piece: &[u8]) -> usize
-        ensures count { result ≡ min 64 (length piece.now) }
-        ensures waiting { waiting_of self.new ≡ take result piece.now }
-        ensures front { IsHeldAs (front_of self.new) (front_of self.old ++ waiting_of self.old) }
+    pub(crate) fn take(&mut self, piece: &[u8]) -> usize
+        ensures taken { (given : List ℕ) (lines : List (List ℕ))
+            → KeepsRest (front_of self.old) (waiting_of self.old) given lines
+            → KeepsRest (front_of self.new) (waiting_of self.new) (given ++ take result piece.now) lines }
+        ensures within { result ≤ length piece.now }
+        ensures waiting { length (waiting_of self.new) ≤ length (waiting_of self.old) + result }
+        ensures none { result ≡ 0 → HasNoFeed (waiting_of self.new) → piece.now ≡ [] }
     {
+        if let Some(_) = self.line_end() {
+            return 0;
+        }
+        if piece.is_empty() {
+            return 0;
+        }
         self.slide();
         if piece.len() < PIECE {
             self.fill_part(piece);
@@ -141,33 +169,38 @@ impl Window {
         PIECE
     }
 
-    /// Looks for the next line, and takes the front of the piece where none waits.
+    /// Gets the next bytes from the source, at most 64, where no line feed waits, and says how many.
     #[inline(always)]
-    pub(crate) fn advance(&mut self, piece: &[u8]) -> Advance
-        ensures advanced { (given : List ℕ) (lines : List (List ℕ)) → IsOpen self.old given lines
-            → IsAdvance result piece.now self.old self.new given lines }
-        ensures within { IsWithin result (length piece.now) }
-        ensures progress { IsProgress result (length (waiting_of self.old)) (length (waiting_of self.new)) }
+    pub(crate) fn get_from<S: Source>(&mut self, source: &mut S) -> Result<usize, Failed>
+        ensures got { (given : List ℕ) (lines : List (List ℕ))
+            → KeepsRest (front_of self.old) (waiting_of self.old) given lines → HasNoFeed (waiting_of self.old)
+            → OnOk result (KeepsRest (front_of self.new) (waiting_of self.new) (given ++ waiting_of self.new) lines) }
+        ensures count { IfOk result (λ count. length (waiting_of self.new) ≡ count) }
+        ensures short { length (waiting_of self.new) ≤ 64 }
+        ensures gave { OnOk result (S.Gave source.old (waiting_of self.new) source.new) }
+        ensures moved { OnOk result (Consumes (S.to_come source.old) (S.to_come source.new) (waiting_of self.new)) }
+        ensures end { IfOk result (λ count. count ≡ 0 → IsAtEnd (S.to_come source.new)) }
+        ensures used { OnOk result (S.gets_left source.new + 1 ≡ S.gets_left source.old) }
+        ensures failed { OnErr result (S.has_failed source.new ≡ true) }
+        ensures kept { OnErr result (KeepsOrHides (S.to_come source.old) (S.to_come source.new)) }
+        ensures unused { OnErr result (S.gets_left source.new ≡ S.gets_left source.old) }
     {
-        if let Some((begin, end)) = self.next_line() {
-            return Advance::Line(0, begin, end);
-        }
-        if piece.is_empty() {
-            return Advance::Fed;
-        }
-        let taken = self.take(piece);
-        match self.next_line() {
-            Some((begin, end)) => Advance::Line(taken, begin, end),
-            None => Advance::Passed(taken),
-        }
+        self.slide();
+        let Ok(count) = source.get(&mut self.bytes[FRONT..]) else {
+            return Err(Failed);
+        };
+        self.mark(count);
+        Ok(count)
     }
 
     /// Has what stands behind the last line feed end in one, where it is not empty. No line feed waits.
     #[cold]
     #[inline(never)]
     pub(crate) fn close(&mut self)
-        ensures { (given : List ℕ) (lines : List (List ℕ)) → IsOpen self.old given lines
-            → HasNoFeed (waiting_of self.old) → IsOpen self.new (closed given) lines }
+        ensures closed { (given : List ℕ) (lines : List (List ℕ))
+            → KeepsRest (front_of self.old) (waiting_of self.old) given lines → HasNoFeed (waiting_of self.old)
+            → KeepsRest (front_of self.new) (waiting_of self.new) (closed given) lines }
+        ensures short { length (waiting_of self.new) ≤ 64 }
     {
         self.slide();
         if self.begin < FRONT {

@@ -1,74 +1,83 @@
-use Rattle.std.proofs.Common.{◌≡◌, ◌+◌, ◌++◌, ◌∙◌, ◌∷◌, [], Some, Ok, Err, List, ℕ, ap, append-nil, refl, subst, sym}
-use Rattle.std.proofs.lemmas.List.{length_push}
-use Rattle.std.proofs.Common.{length, take}
-use Rattle.sq_lines.specs.Logs.{AreAnswers}
-use Rattle.sq_lines.specs.Windows.{IsOpen}
-use Rattle.sq_lines.proofs.Logs.{told_before, told_more, told_nothing}
-use Rattle.sq_lines.proofs.Windows.{passed_all}
+use Rattle.std.proofs.Common.{◌++◌, ◌∷◌, [], Err, List, None, Ok, Some, ap, append-nil, refl, subst, sym, take, ℕ}
+use Rattle.sq_lines.specs.Logs.{HasHeard}
+use Rattle.sq_lines.specs.Windows.{between, front_of, waiting_of}
+use Rattle.sq_lines.proofs.Logs.{heard_all, heard_before, heard_line, heard_none}
 use Rattle.sq_lines.proofs.log.Log.step.Goals as goal
 
-pub returns-in-Fed-clause-stepped : goal.returns-in-Fed-clause-stepped
-returns-in-Fed-clause-stepped g c start given lines answers h =
-    let fed = c.in-Fed.ensures.advanced given lines h.passed in
-    let passed = subst (λ p. IsOpen p given lines) (sym fed.0) h.passed in (
-      fed.1,
-      record { passed = passed; number = h.number; told = h.told },
-      fed.2,
-      passed_all c.advance.new.self given lines passed fed.2,
-    )
+pub returns-then-taken-eq0-clause-stepped : goal.returns-then-taken-eq0-clause-stepped
+returns-then-taken-eq0-clause-stepped g c start given lines answers h =
+    let how = g.J.Job.how in
+    let kept = c.take-taken.ensures.taken given lines h.kept in
+    let window = c.take-taken.new.self in
+    let line : List ℕ = front_of window in
+    let waiting : List ℕ = waiting_of window in
+    let none = c.in-None.ensures.none in
+    heard_all how start _ given lines answers h line waiting c.args.piece.now c.take-taken.result kept
+    c.if-taken-eq0.true none (c.take-taken.ensures.none c.if-taken-eq0.true none)
 
-pub returns-in-Passed-clause-stepped : goal.returns-in-Passed-clause-stepped
-returns-in-Passed-clause-stepped g c start given lines answers h = (
-  [],
-  record {
-    passed = subst (λ (ls : List (List ℕ)). IsOpen c.advance.new.self (given ++ take c.in-Passed.taken c.args.piece.now) ls) (sym (append-nil lines))
-        (c.in-Passed.ensures.advanced given lines h.passed);
-    number = subst (λ (ls : List (List ℕ)). c.args.self.now.number ≡ length ls) (sym (append-nil lines)) h.number;
-    told = subst (λ (ls : List (List ℕ)). AreAnswers g.J.Job.how start c.args.self.now.job c.args.self.now.tally ls answers)
-        (sym (append-nil lines)) h.told;
-  },
-)
+pub returns-else-taken-eq0-clause-stepped : goal.returns-else-taken-eq0-clause-stepped
+returns-else-taken-eq0-clause-stepped g c start given lines answers h =
+    let how = g.J.Job.how in
+    let kept = c.take-taken.ensures.taken given lines h.kept in
+    let window = c.take-taken.new.self in
+    let line : List ℕ = front_of window in
+    let waiting : List ℕ = waiting_of window in
+    let more : List ℕ = take c.take-taken.result c.args.piece.now in
+    ([], heard_none how start _ given lines answers h line waiting more kept)
 
 pub returns-in-Nothing-clause-stepped : goal.returns-in-Nothing-clause-stepped
 returns-in-Nothing-clause-stepped g c start given lines answers h =
-    let found = c.in-Line.ensures.advanced given lines h.passed in (
-      found.0 ∷ [],
-      record {
-        passed = found.1;
-        number = ap (λ n. n + 1) h.number ∙ sym (length_push lines found.0);
-        told = told_nothing g.J.Job.how start _ found.0 c.args.self.now.job c.hear_line.new.job c.args.self.now.tally
-            lines answers found.2 c.in-Nothing.ensures.heard h.told;
-      },
+    let how = g.J.Job.how in
+    let kept = c.take-taken.ensures.taken given lines h.kept in
+    let window = c.take-taken.new.self in
+    let line : List ℕ = front_of window in
+    let waiting : List ℕ = waiting_of window in
+    let now : List ℕ = given ++ take c.take-taken.result c.args.piece.now in
+    let e = c.in-Some.ensures.some in
+    let bytes : List ℕ = between window.begin c.in-Some.end window.bytes in
+    let heard = heard_line how start _ given lines answers h line waiting _ now kept e.there c.pass.ensures.waiting
+    bytes e.line _ None [] c.pass.ensures.front refl refl refl c.in-Nothing.ensures.heard (λ n is. refl) in (
+      heard.0 ∷ [],
+      subst (HasHeard how start _ now (lines ++ heard.0 ∷ [])) (append-nil answers) heard.1,
     )
 
 pub returns-in-Good-clause-stepped : goal.returns-in-Good-clause-stepped
 returns-in-Good-clause-stepped g c start given lines answers h =
-    let found = c.in-Line.ensures.advanced given lines h.passed in (
-      found.0,
-      record {
-        passed = found.1;
-        number = ap (λ n. n + 1) h.number ∙ sym (length_push lines found.0);
-        told = told_more g.J.Job.how start (Some (Ok c.in-Good.found)) _ found.0 c.args.self.now.job
-            c.hear_line.new.job c.args.self.now.tally _ lines answers _ found.2 c.in-Good.ensures.heard refl
-            (ap (λ n. (record { number = n + 1; verdict = Ok c.in-Good.found }) ∷ []) h.number) h.told;
-      },
-    )
+    let how = g.J.Job.how in
+    let kept = c.take-taken.ensures.taken given lines h.kept in
+    let window = c.take-taken.new.self in
+    let line : List ℕ = front_of window in
+    let waiting : List ℕ = waiting_of window in
+    let now : List ℕ = given ++ take c.take-taken.result c.args.piece.now in
+    let e = c.in-Some.ensures.some in
+    let bytes : List ℕ = between window.begin c.in-Some.end window.bytes in
+    heard_line how start _ given lines answers h line waiting _ now kept e.there c.pass-in-Good.ensures.waiting
+    bytes e.line _ (Some (Ok c.in-Good.found)) _ c.pass-in-Good.ensures.front refl refl refl c.in-Good.ensures.heard
+    (λ n is. ap (λ k. (record { number = k; verdict = Ok c.in-Good.found }) ∷ []) (sym is))
 
 pub returns-in-Refused-clause-stepped : goal.returns-in-Refused-clause-stepped
 returns-in-Refused-clause-stepped g c start given lines answers h =
-    let found = c.in-Line.ensures.advanced given lines h.passed in (
-      found.0,
-      record {
-        passed = found.1;
-        number = ap (λ n. n + 1) h.number ∙ sym (length_push lines found.0);
-        told = told_more g.J.Job.how start (Some (Err c.in-Refused.fault)) _ found.0 c.args.self.now.job
-            c.hear_line.new.job c.args.self.now.tally _ lines answers _ found.2 c.in-Refused.ensures.heard refl
-            (ap (λ n. (record { number = n + 1; verdict = Err c.in-Refused.fault }) ∷ []) h.number) h.told;
-      },
-    )
+    let how = g.J.Job.how in
+    let kept = c.take-taken.ensures.taken given lines h.kept in
+    let window = c.take-taken.new.self in
+    let line : List ℕ = front_of window in
+    let waiting : List ℕ = waiting_of window in
+    let now : List ℕ = given ++ take c.take-taken.result c.args.piece.now in
+    let e = c.in-Some.ensures.some in
+    let bytes : List ℕ = between window.begin c.in-Some.end window.bytes in
+    heard_line how start _ given lines answers h line waiting _ now kept e.there c.pass-in-Refused.ensures.waiting
+    bytes e.line _ (Some (Err c.in-Refused.fault)) _ c.pass-in-Refused.ensures.front refl refl refl c.in-Refused.ensures.heard
+    (λ n is. ap (λ k. (record { number = k; verdict = Err c.in-Refused.fault }) ∷ []) (sym is))
 
 pub returns-in-NoMemory-clause-stepped : goal.returns-in-NoMemory-clause-stepped
 returns-in-NoMemory-clause-stepped g c start given lines answers h =
-    let found = c.in-Line.ensures.advanced given lines h.passed in
-    told_before g.J.Job.how start c.advance.new.self _ found.0 _ c.args.self.now.job c.hear_line.new.job
-    c.args.self.now.tally lines answers found.1 found.2 c.in-NoMemory.ensures.heard h.told
+    let how = g.J.Job.how in
+    let kept = c.take-taken.ensures.taken given lines h.kept in
+    let window = c.take-taken.new.self in
+    let line : List ℕ = front_of window in
+    let waiting : List ℕ = waiting_of window in
+    let now : List ℕ = given ++ take c.take-taken.result c.args.piece.now in
+    let e = c.in-Some.ensures.some in
+    let bytes : List ℕ = between window.begin c.in-Some.end window.bytes in
+    heard_before how start _ given lines answers h line waiting _ now kept e.there refl bytes e.line _ refl refl
+    refl refl c.in-NoMemory.ensures.heard
