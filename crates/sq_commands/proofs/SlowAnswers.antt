@@ -1,22 +1,17 @@
--- The answers of a log machine are true in slow worlds.
-use Rattle.std.proofs.Common.{◌+◌, ℕ, List, [], ◌∷◌, None, Some, Ok, Err, refl, sym, subst}
+-- The answers to a log are true in slow worlds.
+use Rattle.std.proofs.Common.{◌+◌, ℕ, List, [], ◌∷◌, None, Some, Ok, Err, sym, subst}
 use Rattle.sq_message.specs.declared.received.Received.{Received}
 use Rattle.sq_text.specs.Timed.{TimedReader}
-use Rattle.sq_lines.specs.Answers.{answers_to}
 use Rattle.sq_lines.specs.Content.{Answer, answer_by}
-use Rattle.sq_lines.specs.Logs.{AreAnswers, told_from}
-use Rattle.sq_lines.specs.declared.log.Answer.{Answer as Told}
-use Rattle.sq_lines.specs.declared.tallies.Tally.{Tally}
+use Rattle.sq_lines.specs.Logs.{told_from}
 use Rattle.sq_track.specs.declared.heard.TrackFault.TheVariants.{NoLimit, Memory, MomentBack, Full}
-use Rattle.sq_track.specs.Held.{Held, settings}
+use Rattle.sq_track.specs.Held.{Held, StandsFor, settings}
 use Rattle.sq_track.specs.History.{History}
 use Rattle.sq_track.specs.Replies.{AreReplies, Settings}
-use Rattle.sq_track.proofs.Table.Sequences.{true_in_slow_worlds}
-use Rattle.sq_commands.specs.Formats.{Telling}
+use Rattle.sq_track.proofs.Worlds.TrueWorlds.{slow_replies_are_true}
 use Rattle.sq_commands.specs.Heard.{HeardSquitter}
-use Rattle.sq_commands.specs.SlowAnswers.{AreTrueAnswers, heard_in, received_in}
-use Rattle.sq_commands.specs.Tracking.{AreHeardLines, IsHeardLine, Tracking, track_manner, track_way}
-use Rattle.sq_commands.proofs.TrackLemmas.{lines_heard, start}
+use Rattle.sq_commands.specs.SlowAnswers.{AreTrueAfter, heard_in, received_in}
+use Rattle.sq_commands.specs.Tracking.{AreHeardLines, IsHeardLine}
 
 -- these answers to good lines are the tracker's replies from a history on
 abbrev Replies : Settings → History → ℕ → List (Answer HeardSquitter) → Type 0
@@ -57,13 +52,12 @@ replies_in reader s h (line ∷ lines) answers next n (first, then_on, rest, one
     (one_more s h (answer_by reader.read line) first then_on rest n one
     (replies_in reader s then_on lines rest next (n + 1) more))
 
-pub true_answers : (telling : Telling HeardSquitter) (old now : Held) (tally : Tally) (lines : List (List ℕ))
-    (answers : List (Told HeardSquitter)) → AreAnswers (track_manner telling) old now tally lines answers
-    → AreTrueAnswers old answers
-true_answers telling old now tally lines answers told reader writers =
-    true_in_slow_worlds old (received_in answers) (heard_in answers)
-    (λ h st.
-    let past : Tracking = start reader writers (settings old) h st.accepted in
-    subst (λ those. AreReplies (settings old) h (received_in those) (heard_in those)) (sym (told past (st, refl)).1)
-    (replies_in reader (settings old) h lines (answers_to (track_way telling) past lines) _ 1
-    (lines_heard telling past lines)))
+-- after the history that they were heard from
+pub true_after : (reader : TimedReader) (tracker : Held) (h : History) (lines : List (List ℕ))
+    (answers : List (Answer HeardSquitter)) (next : History) → StandsFor tracker h
+    → AreHeardLines reader (settings tracker) h lines answers next → AreTrueAfter tracker h (told_from 1 answers)
+true_after reader tracker h lines answers next stands heard world arrivals arises slow follows among is =
+    let told = told_from 1 answers in
+    slow_replies_are_true (settings tracker) world arrivals h (heard_in told) stands.accepted arises slow follows among
+    (subst (λ received. AreReplies (settings tracker) h received (heard_in told)) (sym is)
+    (replies_in reader (settings tracker) h lines answers next 1 heard))

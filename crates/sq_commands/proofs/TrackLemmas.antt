@@ -14,6 +14,8 @@ use Rattle.sq_text.proofs.TimedReadings.{one_timed_reading}
 use Rattle.sq_lines.specs.Answers.{Answerer, Manner, after_content, after_line, answer_line, answers_to, past_after}
 use Rattle.sq_lines.specs.Answers.{tally_of}
 use Rattle.sq_lines.specs.Hearings.{IsHeard}
+use Rattle.sq_lines.specs.Logs.{AreAnswers}
+use Rattle.sq_lines.specs.declared.log.Answer.{Answer as Told}
 use Rattle.sq_lines.specs.declared.job.Verdict.{Verdict}
 use Rattle.sq_lines.specs.declared.job.Verdict.TheVariants as verdicts
 use Rattle.sq_lines.specs.Content.{Answer, Content, Long, Empty, Text, answer_by, answer_content, content}
@@ -32,6 +34,8 @@ use Rattle.sq_track.proofs.Histories.OneReply.{one_reply}
 use Rattle.sq_track.proofs.Histories.SomeAnswer.{some_reply}
 use Rattle.sq_commands.specs.Formats.{Telling, Writers, told_by}
 use Rattle.sq_commands.specs.Heard.{HeardSquitter}
+use Rattle.sq_commands.proofs.SlowAnswers.{true_after}
+use Rattle.sq_commands.specs.SlowAnswers.{AreTrueAfter, AreTrueAnswers}
 use Rattle.sq_commands.specs.declared.track.Hearing.{Hearing}
 use Rattle.sq_commands.specs.Track.{HasTracked, IsTracked, hearing_manner}
 use Rattle.sq_commands.specs.Tracking.{AreHeardLines, HasHeard, IsFoundOf, IsHeardLine, IsTimedHeard, IsTracking}
@@ -211,6 +215,17 @@ abbrev pub start : TimedReader → Writers → (s : Settings) (h : History) → 
 start reader writers s h accepted =
     record { reader = reader; replier = replier; writers = writers; settings = s; history = h; accepted = accepted }
 
+-- the answers of a log machine are true in slow worlds
+pub true_answers : (telling : Telling HeardSquitter) (old now : Held) (tally : Tally) (lines : List (List ℕ))
+    (answers : List (Told HeardSquitter)) → AreAnswers (track_manner telling) old now tally lines answers
+    → AreTrueAnswers old answers
+true_answers telling old now tally lines answers told reader writers h st =
+    let past : Tracking = start reader writers (settings old) h st.accepted in
+    let way = track_way telling in
+    subst (AreTrueAfter old h) (sym (told past (st, refl)).1)
+    (true_after reader old h lines (answers_to way past lines) (past_after way past lines).history st
+    (lines_heard telling past lines))
+
 module _ (telling : Telling HeardSquitter) where
   abbrev way : Answerer Tracking HeardSquitter
   way = track_way telling
@@ -230,6 +245,8 @@ module _ (telling : Telling HeardSquitter) where
         (past_after way past lines).history,
         lines_heard telling past lines,
         one.0.0,
+        true_after reader old h lines (answers_to way past lines) (past_after way past lines).history stands
+            (lines_heard telling past lines),
         one.1,
       )
 

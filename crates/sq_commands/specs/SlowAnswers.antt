@@ -1,13 +1,16 @@
 -- What the answers of a log machine promise of true places.
-use Rattle.std.specs.Prelude.{List, [], ◌∷◌, Result, Ok, Err, map}
+use Rattle.std.specs.Prelude.{◌≡◌, List, [], ◌∷◌, Contains, Result, Ok, Err, map}
+use Rattle.std.specs.List.{AllZip}
 use Rattle.sq_message.specs.declared.received.Received.{Received}
 use Rattle.sq_text.specs.declared.faults.LineFault.{LineFault}
 use Rattle.sq_text.specs.Timed.{TimedReader}
 use Rattle.sq_lines.specs.declared.log.Answer.{Answer as Told}
 use Rattle.sq_track.specs.declared.heard.Heard.{Heard}
 use Rattle.sq_track.specs.declared.heard.TrackFault.{TrackFault}
-use Rattle.sq_track.specs.Held.{Held}
-use Rattle.sq_track.specs.Laws.{AreTrueInSlowWorlds}
+use Rattle.sq_track.specs.Held.{Held, StandsFor}
+use Rattle.sq_track.specs.History.{History}
+use Rattle.sq_track.specs.Tame.{IsSlow, IsSlowForFollowing}
+use Rattle.sq_track.specs.Worlds.{Arrival, ArisesFrom, IfHeard, IsTruePlaceHeard, World, received_of}
 use Rattle.sq_commands.specs.Formats.{Writers}
 use Rattle.sq_commands.specs.Heard.{HeardSquitter}
 
@@ -32,8 +35,15 @@ as_reply found = Ok found.heard
 abbrev pub heard_in : List (Told HeardSquitter) → List (Result Heard TrackFault)
 heard_in answers = map as_reply (good_in answers)
 
--- In a world that is slow for the tracker, and for following: where what it heard before, and the good lines, came from
--- the world, each answer `fix` or `followed` is the true place, and `far` is not answered.
+-- After this history, in a world that is slow for the tracker, and for following: where the history and the good lines
+-- came from the world, each answer `fix` or `followed` is the true place, and `far` is not answered.
+abbrev pub AreTrueAfter : Held → History → List (Told HeardSquitter) → Type 0
+AreTrueAfter tracker history answers = (world arrivals : World) → ArisesFrom world history
+    → IsSlow tracker.window tracker.site world → IsSlowForFollowing tracker.window world
+    → ((arrival : Arrival) → Contains arrivals arrival → Contains world arrival)
+    → map received_of arrivals ≡ received_in answers → AllZip (IfHeard IsTruePlaceHeard) arrivals (heard_in answers)
+
+-- the same after each history that the tracker stands for
 abbrev pub AreTrueAnswers : Held → List (Told HeardSquitter) → Type 0
-AreTrueAnswers tracker answers =
-    TimedReader → Writers → AreTrueInSlowWorlds tracker (received_in answers) (heard_in answers)
+AreTrueAnswers tracker answers = TimedReader → Writers
+    → (history : History) → StandsFor tracker history → AreTrueAfter tracker history answers

@@ -12,6 +12,7 @@ use Rattle.sq_message.specs.declared.received.Received.{Received}
 use Rattle.sq_text.specs.Timed.{IsTimedText, TimedReader}
 use Rattle.sq_lines.specs.Content.{Answer, answer_by}
 use Rattle.sq_lines.specs.Answers.{Answerer, Manner}
+use Rattle.sq_lines.specs.Logs.{told_from}
 use Rattle.sq_lines.specs.declared.job.Verdict.{Verdict}
 use Rattle.sq_lines.specs.declared.job.Verdict.TheVariants as verdicts
 use Rattle.sq_track.specs.declared.heard.Heard.{Heard}
@@ -22,6 +23,7 @@ use Rattle.sq_track.specs.History.{History}
 use Rattle.sq_track.specs.Replies.{Settings, IsAcceptable, IsHistory, IsReply, history_after}
 use Rattle.sq_commands.specs.Formats.{Telling, Writers, told_by}
 use Rattle.sq_commands.specs.Heard.{HeardSquitter}
+use Rattle.sq_commands.specs.SlowAnswers.{AreTrueAfter}
 
 -- ---- by the history
 
@@ -49,14 +51,14 @@ AreHeardLines reader s h (line ∷ lines) answers next =
     × IsHeardLine s h (answer_by reader.read line) first then_on
     × AreHeardLines reader s then_on lines rest next × (answers ≡ first ∷ rest)
 
--- what a tracker has heard of these lines: from each history that it stood for it stands for the one after them, and of
--- the answers, told in this way, this holds
+-- What a tracker has heard of these lines: from each history that it stood for it stands for the one after them. Of the
+-- answers, told in this way, this holds; and in slow worlds they are true.
 abbrev pub HasHeard : Telling HeardSquitter → (old new : Held) → List (List ℕ)
     → ((List (Answer HeardSquitter) → List ℕ) → List (Answer HeardSquitter) → Type 0) → Type 0
 HasHeard telling old new lines Holding = (reader : TimedReader) (writers : Writers) (h : History) → StandsFor old h
     → (answers : List (Answer HeardSquitter)) × (next : History)
     × AreHeardLines reader (settings old) h lines answers next
-    × StandsFor new next × Holding (told_by telling writers) answers
+    × StandsFor new next × AreTrueAfter old h (told_from 1 answers) × Holding (told_by telling writers) answers
 
 -- the text was written up to some place in the last answer's, or, where there is no answer, in the header; or the sink
 -- no longer reports its bytes

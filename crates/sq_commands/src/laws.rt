@@ -1,26 +1,32 @@
 //! Laws over the definitions that the contracts name.
-ghost use Rattle.std.specs.Prelude.{◌≡◌, ◌≢◌, ◌↔◌, [], List, ℕ, IsTrue, None, Ok, Option, Some, codes};
+ghost use Rattle.std.specs.Prelude.{◌≡◌, ◌≢◌, ◌↔◌, ◌∷◌, [], List, ℕ, Contains, Err, IsTrue, None, Ok, Option, Some, codes};
+ghost use Rattle.std.specs.Prelude.{map};
+ghost use Rattle.std.specs.List.{AllZip};
 ghost use Rattle.sq_devices.specs.Changes.{WroteNothing, taken_from, written_on};
 ghost use Rattle.sq_lines.specs.declared.tallies.Tally.{Tally};
+ghost use Rattle.sq_text.specs.declared.faults.LineFault.{LineFault};
+ghost use Rattle.sq_text.specs.Timed.{TimedReader};
 ghost use Rattle.sq_track.specs.Held.{Held, StandsFor, made_with, settings};
+ghost use Rattle.sq_track.specs.History.{History};
+ghost use Rattle.sq_track.specs.Tame.{IsSlow, IsSlowForFollowing};
+ghost use Rattle.sq_track.specs.Worlds.{Arrival, ArisesFrom, IfHeard, IsTruePlaceHeard, World, received_of};
 ghost use Rattle.sq_commands.specs.declared.arguments.TrackOptions.{TrackOptions as Options};
 ghost use Rattle.sq_commands.specs.declared.formats.Format.{Format};
 ghost use Rattle.sq_commands.specs.declared.status.Status.TheVariants.{Good, Misused};
 ghost use Rattle.sq_commands.specs.BrokenOff.{BrokenAnswers, BrokenAside, BrokenChecks, BrokenLogs};
 ghost use Rattle.sq_commands.specs.Check.{IsCheckRunIn, IsChecked, IsNoFormat};
 ghost use Rattle.sq_commands.specs.Formats.{IsFormatWord, Telling, Writers};
-ghost use Rattle.sq_commands.specs.Heard.{heard_telling};
+ghost use Rattle.sq_commands.specs.Heard.{HeardSquitter, heard_telling};
 ghost use Rattle.sq_commands.specs.Laws.{OneEncodeFault, OnePositionFault, OneSiteFault, OneTrackFault};
 ghost use Rattle.sq_commands.specs.OneRun.{AlikeOutputsEndAlike, AnyDevices, OneRun, OneRunAside};
 ghost use Rattle.sq_commands.specs.Outputs.{effects, outputs};
 ghost use Rattle.sq_commands.specs.Squitters.{squitter_telling};
-ghost use Rattle.sq_commands.specs.SlowAnswers.{AreTrueAnswers};
+ghost use Rattle.sq_commands.specs.SlowAnswers.{AreTrueAfter, AreTrueAnswers, heard_in, received_in};
 ghost use Rattle.sq_commands.specs.Track.{IsLogRun, IsTracked};
-ghost use Rattle.sq_lines.specs.Logs.{AreAnswers};
+ghost use Rattle.sq_lines.specs.Content.{Answer as LineAnswer};
+ghost use Rattle.sq_lines.specs.Logs.{AreAnswers, told_from};
 ghost use Rattle.sq_lines.specs.declared.log.Answer.{Answer};
-ghost use Rattle.sq_commands.specs.Heard.{HeardSquitter};
-ghost use Rattle.sq_commands.specs.Tracking.{track_manner};
-ghost use Rattle.sq_commands.specs.Tracking.{OnePast};
+ghost use Rattle.sq_commands.specs.Tracking.{AreHeardLines, HasHeard, OnePast, track_manner};
 
 use crate::status::Status;
 use sq_devices::{Sink, Source};
@@ -113,4 +119,33 @@ pub fn true_answers()
     ensures { (telling : Telling HeardSquitter) (start now : Held) (tally : Tally) (lines : List (List ℕ))
         (answers : List (Answer HeardSquitter)) → AreAnswers (track_manner telling) start now tally lines answers
         → AreTrueAnswers start answers }
+{}
+
+/// The answers that a tracker gave to lines, from a history on, are true wherever the world is slow.
+pub fn heard_lines_are_true()
+    ensures { (telling : Telling HeardSquitter) (old new : Held) (lines : List (List ℕ)) (reader : TimedReader)
+        (writers : Writers) (history : History) → HasHeard telling old new lines (λ text answers. Unit {0})
+        → StandsFor old history → (answers : List (LineAnswer HeardSquitter)) × (next : History)
+        × AreHeardLines reader (settings old) history lines answers next
+        × AreTrueAfter old history (told_from 1 answers) }
+{}
+
+/// What true answers are, in the words of worlds: those to good lines, where these and the history came from a world that
+/// is slow for the tracker, and for following.
+pub fn true_exactly()
+    ensures after { (tracker : Held) (history : History) (answers : List (Answer HeardSquitter))
+        → AreTrueAfter tracker history answers ↔ ((world arrivals : World) → ArisesFrom world history
+        → IsSlow tracker.window tracker.site world → IsSlowForFollowing tracker.window world
+        → ((arrival : Arrival) → Contains arrivals arrival → Contains world arrival)
+        → map received_of arrivals ≡ received_in answers
+        → AllZip (IfHeard IsTruePlaceHeard) arrivals (heard_in answers)) }
+    ensures answers { (tracker : Held) (answers : List (Answer HeardSquitter)) → AreTrueAnswers tracker answers
+        ↔ (TimedReader → Writers → (history : History) → StandsFor tracker history
+        → AreTrueAfter tracker history answers) }
+    ensures good { (first last : HeardSquitter) (fault : LineFault)
+        → (let one : Answer HeardSquitter = record { number = 1; verdict = Ok first } in
+        let two : Answer HeardSquitter = record { number = 2; verdict = Err fault } in
+        let three : Answer HeardSquitter = record { number = 3; verdict = Ok last } in
+        (received_in (one ∷ two ∷ three ∷ []) ≡ first.timed ∷ last.timed ∷ [])
+        × (heard_in (one ∷ two ∷ three ∷ []) ≡ Ok first.heard ∷ Ok last.heard ∷ [])) }
 {}

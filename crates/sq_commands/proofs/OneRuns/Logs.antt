@@ -103,8 +103,8 @@ one_log : (how : Telling HeardSquitter) (s : Settings) (v w : Written) (x y : Ta
     → FinishedOnce v → FinishedOnce w → HasTracked how x v old new bytes → HasTracked how y w other last bytes
     → (x ≡ y) × ((text : List ℕ) × WroteLast v text × WroteLast w text)
 one_log how s v w x y bytes old new other last made made' stands stands' once once' h k =
-    let (xs, next, heard, _, (sent, counted)) = h some_reader some_writers [] stands in
-    let (ys, later, heard', _, (sent', counted')) = k some_reader some_writers [] stands' in
+    let (xs, next, heard, _, _, (sent, counted)) = h some_reader some_writers [] stands in
+    let (ys, later, heard', _, _, (sent', counted')) = k some_reader some_writers [] stands' in
     let here = subst (λ t. AreHeardLines some_reader t [] (lines_of bytes) xs next) made heard in
     let there = subst (λ t. AreHeardLines some_reader t [] (lines_of bytes) ys later) made' heard' in
     let one : xs ≡ ys = one_heard_lines some_reader s [] (lines_of bytes) xs ys next later here there in (

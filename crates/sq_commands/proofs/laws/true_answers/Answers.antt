@@ -1,4 +1,4 @@
-use Rattle.sq_commands.proofs.SlowAnswers.{true_answers}
+use Rattle.sq_commands.proofs.TrackLemmas.{true_answers}
 use Rattle.sq_commands.proofs.laws.true_answers.Goals as goal
 
 pub returns : goal.returns
