@@ -341,10 +341,10 @@ class Sniffer:
     sign of what is refused."""
 
     def __init__(self) -> None:
-        self.pieces: List[Tuple[bytes, int]] = []  # with their arrivals: what is heard again, once the format is known
-        self.data = b""  # the first of these bytes, in which a format has to show itself
-        self.line = 0  # where the line begins that is not complete
-        self.beast = 0  # where a run of messages may begin that is not complete
+        self.pieces: List[Tuple[bytes, int]] = []  # with their arrivals: heard again once the format is known
+        self.data = b""  # the first bytes of these, which have to show a format
+        self.line = 0  # the start of the unfinished line
+        self.beast = 0  # the start of a run of messages that may be unfinished
 
     def hear(self, data: bytes, arrival: int) -> Optional[Type[Format]]:
         """Returns the format, once the bytes say it. Raises `Refused` where it is none that is read."""
