@@ -19,9 +19,9 @@ impl Job for FirstBytes {
 
     // A test looks at the answers alone: the job stands for no past, so that nothing is stated of them.
     ghost how = { record {
-        stands_for = λ state past. ⊥;
-        way = record { answer = λ past text. Err Full; after = λ past text. past; text = λ past number verdict. [] };
-        wants = λ state text. ⊤;
+      stands_for = λ state past. ⊥;
+      way = record { answer = λ past text. Err Full; after = λ past text. past; text = λ past number verdict. [] };
+      wants = λ state text. ⊤;
     } };
 
     ghost lasting = { λ state. tt };

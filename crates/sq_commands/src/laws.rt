@@ -1,6 +1,6 @@
 //! Laws over the definitions that the contracts name.
-ghost use Rattle.std.specs.Prelude.{◌≡◌, ◌≢◌, ◌↔◌, ◌∷◌, [], List, ℕ, Contains, Err, IsTrue, None, Ok, Option, Some, codes};
-ghost use Rattle.std.specs.Prelude.{map};
+ghost use Rattle.std.specs.Prelude.{◌≡◌, ◌≢◌, ◌↔◌, ◌∷◌, [], List, ℕ, Contains, Err, IsTrue, None, Ok, Option, Some};
+ghost use Rattle.std.specs.Prelude.{codes, map};
 ghost use Rattle.std.specs.List.{AllZip};
 ghost use Rattle.sq_devices.specs.Changes.{WroteNothing, taken_from, written_on};
 ghost use Rattle.sq_lines.specs.declared.tallies.Tally.{Tally};
@@ -130,8 +130,8 @@ pub fn heard_lines_are_true()
         × AreTrueAfter old history (told_from 1 answers) }
 {}
 
-/// What true answers are, in the words of worlds: those to good lines, where these and the history came from a world that
-/// is slow for the tracker, and for following.
+/// What true answers are, in the words of worlds: those to good lines, where these and the history came from a world
+/// that is slow for the tracker, and for following.
 pub fn true_exactly()
     ensures after { (tracker : Held) (history : History) (answers : List (Answer HeardSquitter))
         → AreTrueAfter tracker history answers ↔ ((world arrivals : World) → ArisesFrom world history

@@ -79,13 +79,6 @@ module _ {State Past Found : Type 0} (how : Manner State Past Found) (start : St
             ∙ sym (tally_push how.way past lines line),
       )
 
-  pub told_nothing : (bytes line : List ℕ) (old new : State) (tally : Tally) (lines : List (List ℕ))
-      (answers : List (Told Found)) → IsHeldAs bytes line → IsAnsweredSo how None bytes old new
-      → AreAnswers how start old tally lines answers → AreAnswers how start new tally (lines ++ line ∷ []) answers
-  told_nothing bytes line old new tally lines answers held heard told =
-      subst (AreAnswers how start new tally (lines ++ line ∷ [])) (append-nil answers)
-      (told_more None bytes line old new tally tally lines answers [] held heard refl refl told)
-
   pub told_none : (job : State) (tally : Tally) → start ≡ job
       → (let none : Tally = record { good = 0; refused = 0 } in tally ≡ none)
       → AreAnswers how start job tally [] []

@@ -92,12 +92,6 @@ marks_part bytes count feeds few marked =
     subst (MarksFeeds feeds) (take-take count 64 (drop 65 bytes) few ∙ ap (λ n. take n (drop 65 bytes)) same)
     (marks_front (take 64 (drop 65 bytes)) count feeds marked)
 
--- where nothing waits, no line feed is marked
-pub no_marks : (feeds at count : ℕ) (bytes : List ℕ) → at ≡ 65 → count ≡ 0
-    → MarksFeeds feeds (between at (65 + count) bytes)
-no_marks feeds at count bytes at_is none k within =
-    absurd (omega (arith, at_is, none, within, length-take (65 + count - at) (drop at bytes)))
-
 -- ---- a window that slides
 
 pub window_slid : (xs ys : List ℕ) (count begin at next : ℕ) → length xs ≡ 129 → count ≤ 64 → begin ≤ at

@@ -2,8 +2,8 @@
 //!
 //! A function with an empty body does nothing: its contract is the law. The others make the call or the test that they
 //! speak of.
-ghost use Rattle.std.specs.Prelude.{◌≡◌, ◌↔◌, ◌⊎◌, ◌++◌, ◌+◌, ◌-◌, ◌*◌, ◌<◌, ◌≤◌, ◌∷◌, [], List, ℕ, IsTrue, Ok, Err, None, Some};
-ghost use Rattle.std.specs.Prelude.{Option, Result, length, take};
+ghost use Rattle.std.specs.Prelude.{◌≡◌, ◌↔◌, ◌⊎◌, ◌++◌, ◌+◌, ◌-◌, ◌*◌, ◌<◌, ◌≤◌, ◌∷◌, [], List, ℕ, IsTrue, Ok, Err};
+ghost use Rattle.std.specs.Prelude.{None, Option, Result, Some, length, take};
 ghost use Rattle.std.specs.Io.KnownBytes.{IsAtEnd};
 ghost use Rattle.sq_devices.specs.Changes.{taken_from};
 ghost use Rattle.sq_devices.specs.Device.{AppendsOrHides, IsPrefixOf};
@@ -96,8 +96,8 @@ pub fn machine_exactly<J: Job>()
         × IsHeldAs line rest) }
 {}
 
-/// What a step did: fed, it had heard all lines that line feeds end; else it took some bytes, and told the next answer, or
-/// none; without memory for the next line it did not hear it.
+/// What a step did: fed, it had heard all lines that line feeds end; else it took some bytes, and told the next answer,
+/// or none; without memory for the next line it did not hear it.
 pub fn steps_exactly<J: Job>()
     ensures fed { (start : J) (piece given : List ℕ) (new : Machine J) (lines : List (List ℕ))
         (answers : List (Answer J.Found)) → IsStep J.how start Fed piece new given lines answers

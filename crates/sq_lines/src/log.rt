@@ -152,11 +152,13 @@ impl<J: Job> Log<J> {
     pub(crate) fn get_from<S: Source>(&mut self, source: &mut S) -> Result<usize, Failed>
         ensures got { (start : J) (given : List ℕ) (lines : List (List ℕ)) (answers : List (Answer J.Found))
             → HasHeard J.how start (machine_of self.old) given lines answers → IsUpToDate (machine_of self.old)
-            → OnOk result (HasHeard J.how start (machine_of self.new) (given ++ (machine_of self.new).waiting) lines answers) }
+            → OnOk result (HasHeard J.how start (machine_of self.new) (given ++ (machine_of self.new).waiting)
+            lines answers) }
         ensures count { IfOk result (λ count. length (machine_of self.new).waiting ≡ count) }
         ensures short { length (machine_of self.new).waiting ≤ 64 }
         ensures gave { OnOk result (S.Gave source.old (machine_of self.new).waiting source.new) }
-        ensures moved { OnOk result (Consumes (S.to_come source.old) (S.to_come source.new) (machine_of self.new).waiting) }
+        ensures moved { OnOk result
+            (Consumes (S.to_come source.old) (S.to_come source.new) (machine_of self.new).waiting) }
         ensures end { IfOk result (λ count. count ≡ 0 → IsAtEnd (S.to_come source.new)) }
         ensures used { OnOk result (S.gets_left source.new + 1 ≡ S.gets_left source.old) }
         ensures failed { OnErr result (S.has_failed source.new ≡ true) }

@@ -17,7 +17,8 @@ use sq_devices::{Failed, Sink, Source};
 #[inline(always)]
 fn end_if<J: Telling>(log: &mut Log<J>, ended: bool)
     ensures heard { (start : J) (given : List ℕ) (lines : List (List ℕ)) (answers : List (Answer J.Found))
-        → HasHeard J.how start (machine_of log.old) given lines answers → (ended ≡ true → IsUpToDate (machine_of log.old))
+        → HasHeard J.how start (machine_of log.old) given lines answers
+        → (ended ≡ true → IsUpToDate (machine_of log.old))
         → HasHeard J.how start (machine_of log.new) (fed ended given) lines answers }
     ensures short { length (machine_of log.old).waiting ≤ 64 → length (machine_of log.new).waiting ≤ 64 }
     ensures number { log.new.number ≡ log.old.number }

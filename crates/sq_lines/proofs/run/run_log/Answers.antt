@@ -16,7 +16,8 @@ use Rattle.sq_lines.specs.Machines.{machine_of}
 use Rattle.sq_lines.specs.Runs.{HasGot, HasRun, HasTold, IsPumped, StoppedAtMemory, StoppedAtWrite, fed}
 use Rattle.sq_lines.proofs.Gets.{consumes_hidden, got_on, got_up_to_end, made_of_more, made_of_nothing}
 use Rattle.sq_lines.proofs.Windows.{passed_first}
-use Rattle.sq_lines.proofs.Running.{fed_not, no_feeds, no_more, nothing_given, of_fed, pumped_all, pumped_answered, pumped_ended}
+use Rattle.sq_lines.proofs.Running.{fed_not, no_feeds, no_more, nothing_given, of_fed, pumped_all, pumped_answered}
+use Rattle.sq_lines.proofs.Running.{pumped_ended}
 use Rattle.sq_lines.proofs.Running.{pumped_memory, pumped_passed, pumped_write, stopped_in_header, told_as}
 use Rattle.sq_lines.proofs.Running.{told_unfinished}
 use Rattle.sq_lines.proofs.run.run_log.Goals as goal
@@ -57,17 +58,24 @@ steps-preserved-in-Passed g c =
     let before = c.args.sink.now in
     let first = c.put_header.new.sink in
     let header = g.J.Telling.front in
+    let new = machine_of c.step.new.self in
     let given : List ℕ = fed c.steps.ended i.read in
     let taken : ℕ = c.in-Passed.field-0 in
     let on = c.in-Passed.ensures.stepped start given i.pumped.lines i.pumped.answers i.pumped.heard in
     let same = nothing_given given taken c.in-Passed.ensures.within in
     record {
-      room = omega (arith, c.in-Passed.ensures.within, c.in-Passed.ensures.number, c.in-Passed.ensures.progress, i.room);
+      room = omega (
+        arith,
+        c.in-Passed.ensures.within,
+        c.in-Passed.ensures.number,
+        c.in-Passed.ensures.progress,
+        i.room,
+      );
       unfinished = i.unfinished;
       lasting = c.in-Passed.ensures.lasting ∙ i.lasting;
       read = i.read;
-      pumped = pumped_passed how start k first c.steps.sink (machine_of c.steps.log) (machine_of c.step.new.self) given given i.pumped
-          (on.0, subst (λ l. HasHeard how start (machine_of c.step.new.self) l (i.pumped.lines ++ on.0) i.pumped.answers) same on.1);
+      pumped = pumped_passed how start k first c.steps.sink (machine_of c.steps.log) new given given i.pumped
+          (on.0, subst (λ l. HasHeard how start new l (i.pumped.lines ++ on.0) i.pumped.answers) same on.1);
       got = i.got;
       running = i.running;
       made = i.made;
@@ -84,6 +92,7 @@ steps-preserved-in-Ok-put_answer g c =
     let before = c.args.sink.now in
     let first = c.put_header.new.sink in
     let header = g.J.Telling.front in
+    let new = machine_of c.step.new.self in
     let given : List ℕ = fed c.steps.ended i.read in
     let taken : ℕ = c.in-Answered.field-0 in
     let answer = c.in-Answered.answer in
@@ -101,9 +110,11 @@ steps-preserved-in-Ok-put_answer g c =
       lasting = c.in-Answered.ensures.lasting ∙ i.lasting;
       read = i.read;
       pumped = pumped_answered how start k first c.steps.sink c.put_answer.new.sink (machine_of c.steps.log)
-          (machine_of c.step.new.self) given given answer i.pumped
-          (on.0, subst (λ l. HasHeard how start (machine_of c.step.new.self) l (i.pumped.lines ++ on.0 ∷ [])
-          (i.pumped.answers ++ answer ∷ [])) same on.1)
+          new given given answer i.pumped (
+            on.0,
+            subst (λ l. HasHeard how start new l (i.pumped.lines ++ on.0 ∷ [])
+                (i.pumped.answers ++ answer ∷ [])) same on.1,
+          )
           c.in-Ok-put_answer.ensures.put;
       got = i.got;
       running = i.running;
@@ -121,13 +132,14 @@ returns-in-Err-put_answer-clause-unwritten g c = λ is.
     let before = c.args.sink.now in
     let first = c.put_header.new.sink in
     let header = g.J.Telling.front in
+    let new = machine_of c.step.new.self in
     let given : List ℕ = fed c.steps.ended i.read in
     let answer = c.in-Answered.answer in
     let on = c.in-Answered.ensures.stepped start given i.pumped.lines i.pumped.answers i.pumped.heard in
     let same = nothing_given given c.in-Answered.field-0 c.in-Answered.ensures.within in
-    let heard = subst (λ l. HasHeard how start (machine_of c.step.new.self) l (i.pumped.lines ++ on.0 ∷ [])
+    let heard = subst (λ l. HasHeard how start new l (i.pumped.lines ++ on.0 ∷ [])
     (i.pumped.answers ++ answer ∷ [])) same on.1 in
-    let prefix = passed_first (machine_of c.step.new.self).line (machine_of c.step.new.self).waiting given (i.pumped.lines ++ on.0 ∷ [])
+    let prefix = passed_first new.line new.waiting given (i.pumped.lines ++ on.0 ∷ [])
     heard.kept in (
       c.in-Err-put_answer.ensures.failed,
       (
@@ -138,7 +150,7 @@ returns-in-Err-put_answer-clause-unwritten g c = λ is.
             (StoppedAtWrite header how start c.step.new.self.job (k.written before)
             (k.written c.put_answer.new.sink)) i.at_end
             (pumped_write how start k first header before c.in-Ok.ensures.put c.steps.sink c.put_answer.new.sink
-            (machine_of c.steps.log) (machine_of c.step.new.self) given given answer _ i.pumped (on.0, heard) prefix
+            (machine_of c.steps.log) new given given answer _ i.pumped (on.0, heard) prefix
             c.in-Err-put_answer.ensures.part),
       ),
     )
@@ -175,12 +187,13 @@ returns-in_default-clause-unread g c = λ is.
     let before = c.args.sink.now in
     let first = c.put_header.new.sink in
     let header = g.J.Telling.front in
+    let new = machine_of c.step.new.self in
     let given : List ℕ = fed c.steps.ended i.read in
     let fed_all = c.in-Fed.ensures.stepped start given i.pumped.lines i.pumped.answers i.pumped.heard in
     let given_is : given ≡ i.read = fed_not c.steps.ended i.read c.if-ended.false in
-    let pumped : IsPumped how start k first c.steps.sink (machine_of c.step.new.self) given =
+    let pumped : IsPumped how start k first c.steps.sink new given =
     record { lines = i.pumped.lines; answers = i.pumped.answers; heard = fed_all.1; put = i.pumped.put } in
-    let told = pumped_ended how start k first header before c.in-Ok.ensures.put c.steps.sink (machine_of c.step.new.self) given
+    let told = pumped_ended how start k first header before c.in-Ok.ensures.put c.steps.sink new given
     pumped fed_all.2 in
     let Wrote : List ℕ → Type 0 =
     λ text. Appends (k.written before) (k.written c.steps.sink) (header ++ text) in (
@@ -206,6 +219,7 @@ steps-preserved g c =
     let before = c.args.sink.now in
     let first = c.put_header.new.sink in
     let header = g.J.Telling.front in
+    let new = machine_of c.step.new.self in
     let more : ℕ = c.in-Ok-get_from.count in
     let got = c.in-Ok-get_from.ensures in
     let piece : List ℕ = (machine_of c.get_from.new.self).waiting in
@@ -214,7 +228,7 @@ steps-preserved g c =
     let given : List ℕ = fed c.steps.ended i.read in
     let fed_all = c.in-Fed.ensures.stepped start given i.pumped.lines i.pumped.answers i.pumped.heard in
     let given_is : given ≡ i.read = fed_not c.steps.ended i.read c.if-ended.false in
-    let heard = subst (λ l. HasHeard how start (machine_of c.step.new.self) l i.pumped.lines i.pumped.answers) given_is fed_all.1 in
+    let heard = subst (λ l. HasHeard how start new l i.pumped.lines i.pumped.answers) given_is fed_all.1 in
     let none : ended ≡ true → length piece ≡ 0 = λ e. omega (arith, eqb-true more 0 e, long) in
     let some : ended ≡ false → 0 < length piece = λ e. omega (arith, eqb-false more 0 e, long) in
     let old_input = taken_from g.S.Source c.args.source.now c.steps.source in
@@ -266,13 +280,14 @@ whole g c =
     let before = c.args.sink.now in
     let first = c.put_header.new.sink in
     let header = g.J.Telling.front in
+    let new = machine_of c.step.new.self in
     let given : List ℕ = fed c.steps.ended i.read in
     let fed_all = c.in-Fed.ensures.stepped start given i.pumped.lines i.pumped.answers i.pumped.heard in
     let given_is : given ≡ closed i.read = ap (λ e. fed e i.read) c.if-ended.true in
-    let pumped : IsPumped how start k first c.steps.sink (machine_of c.step.new.self) given =
+    let pumped : IsPumped how start k first c.steps.sink new given =
     record { lines = i.pumped.lines; answers = i.pumped.answers; heard = fed_all.1; put = i.pumped.put } in
-    let done = pumped_all how start k first header before c.in-Ok.ensures.put c.steps.sink (machine_of c.step.new.self) i.read
-    (subst (IsPumped how start k first c.steps.sink (machine_of c.step.new.self)) given_is pumped) fed_all.2 in
+    let done = pumped_all how start k first header before c.in-Ok.ensures.put c.steps.sink new i.read
+    (subst (IsPumped how start k first c.steps.sink new) given_is pumped) fed_all.2 in
     let all = i.made_all c.if-ended.true in
     let sent = written_on k before c.finish.new.self in
     let Run = HasRun how start c.step.new.self.job (λ text. Sent sent (header ++ text)) c.tally.result in
@@ -308,13 +323,14 @@ returns-in-Err-finish-clause-unwritten g c = λ is.
     let before = c.args.sink.now in
     let first = c.put_header.new.sink in
     let header = g.J.Telling.front in
+    let new = machine_of c.step.new.self in
     let given : List ℕ = fed c.steps.ended i.read in
     let fed_all = c.in-Fed.ensures.stepped start given i.pumped.lines i.pumped.answers i.pumped.heard in
     let given_is : given ≡ closed i.read = ap (λ e. fed e i.read) c.if-ended.true in
-    let pumped : IsPumped how start k first c.steps.sink (machine_of c.step.new.self) given =
+    let pumped : IsPumped how start k first c.steps.sink new given =
     record { lines = i.pumped.lines; answers = i.pumped.answers; heard = fed_all.1; put = i.pumped.put } in
-    let done = pumped_all how start k first header before c.in-Ok.ensures.put c.steps.sink (machine_of c.step.new.self) i.read
-    (subst (IsPumped how start k first c.steps.sink (machine_of c.step.new.self)) given_is pumped) fed_all.2 in (
+    let done = pumped_all how start k first header before c.in-Ok.ensures.put c.steps.sink new i.read
+    (subst (IsPumped how start k first c.steps.sink new) given_is pumped) fed_all.2 in (
       c.in-Err-finish.ensures.failed,
       (
         i.read,
