@@ -1,12 +1,12 @@
 -- The bytes that stand for a line, in a window that slides.
 use Rattle.std.proofs.Common.{◌≡◌, ◌+◌, ◌-◌, ◌<◌, ◌≤◌, ◌++◌, ◌∙◌, inl, inr, ℕ, List, [], length, take, drop, ap, sym}
-use Rattle.std.proofs.Common.{subst, arith, rules, append-nil, length-append, take-append-drop}
+use Rattle.std.proofs.Common.{subst, arith, rules, append-nil, length-append}
 use Rattle.std.proofs.Math.Seq.{take-add}
 use Rattle.std.proofs.lemmas.Bool.{cases_lt}
 use Rattle.std.proofs.lemmas.List.{drop_all, drop-drop, drop-take, length-drop, length-take, places}
 use Rattle.std.proofs.lemmas.List.{same_lists, take-take}
 use Rattle.std.proofs.lemmas.Simd.{put_chunk_is}
-use Rattle.std.proofs.lemmas.Slice.{take-put_mid, take-put_mid_below}
+use Rattle.std.proofs.lemmas.Slice.{take-put_mid}
 use lib.Lanes.{chunk, put_chunk}
 use borrow.Rule.Slice.PartMut.{mid_of, put_mid}
 use Rattle.sq_lines.specs.Content.{content}

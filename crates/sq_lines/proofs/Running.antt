@@ -1,10 +1,9 @@
 -- What a run has come to after one more step.
-use Rattle.std.proofs.Common.{◌≡◌, ◌+◌, ◌-◌, ◌≤◌, ◌++◌, ◌∙◌, ℕ, List, [], ◌∷◌, None, Some, Option, Result, length}
+use Rattle.std.proofs.Common.{◌≡◌, ◌+◌, ◌≤◌, ◌++◌, ◌∙◌, ℕ, List, [], ◌∷◌, None, Some, Option, Result, length}
 use Rattle.std.proofs.Common.{Bool, true, false, inl, inr}
-use Rattle.std.proofs.Common.{take, drop, ap, sym, subst, arith, refl, append_assoc, append-nil, take-append-drop}
+use Rattle.std.proofs.Common.{take, ap, sym, subst, arith, refl, append_assoc, append-nil}
 use Rattle.std.specs.List.{enumerate_from, flat_map}
 use Rattle.std.specs.Io.KnownBytes.{Appends, IsAtEnd}
-use Rattle.std.proofs.lemmas.List.{length-take}
 use Rattle.std.proofs.lemmas.List.Concat.{flat_map-append}
 use Rattle.sq_devices.specs.Calls.{HasPut}
 use Rattle.sq_devices.specs.Changes.{Taken}
@@ -19,9 +18,8 @@ use Rattle.sq_lines.specs.Logs.{AreAnswers, HasHeard, IsUpToDate, Machine, told_
 use Rattle.sq_lines.specs.Runs.{HasTold, IsPumped, OfLines, StoppedAtMemory, StoppedAtWrite, fed, told_text}
 use Rattle.sq_lines.specs.declared.log.Answer.{Answer as Told}
 use Rattle.sq_lines.specs.declared.tallies.Tally.{Tally}
-use Rattle.sq_lines.proofs.Cutting.{ended_lines-append}
 use Rattle.sq_lines.proofs.Tallying.{but_last-push, output_but_last, output_none}
-use Rattle.sq_lines.proofs.Windows.{ended_lines-closed, passed_all, waits_on}
+use Rattle.sq_lines.proofs.Windows.{ended_lines-closed, passed_all}
 
 -- ---- fronts
 

@@ -1,6 +1,3 @@
-use Rattle.std.proofs.Common.{subst, sym}
-use Rattle.sq_lines.specs.Lines.{HasNoFeed}
-use Rattle.sq_lines.specs.Logs.{HasHeard}
 use Rattle.sq_lines.proofs.log.Log.end.Goals as goal
 
 pub returns-clause-ended : goal.returns-clause-ended

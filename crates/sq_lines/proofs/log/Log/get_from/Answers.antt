@@ -1,6 +1,3 @@
-use Rattle.std.proofs.Common.{subst, sym}
-use Rattle.sq_lines.specs.Lines.{HasNoFeed}
-use Rattle.sq_lines.specs.Logs.{HasHeard}
 use Rattle.sq_lines.specs.Windows.{front_of, waiting_of}
 use Rattle.sq_lines.proofs.Logs.{heard_more, on_ok}
 use Rattle.sq_lines.proofs.log.Log.get_from.Goals as goal
