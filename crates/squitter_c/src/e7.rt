@@ -31,8 +31,8 @@ pub extern "C" fn squitter_angle_e7(angle: &PlainAngle, out: &mut i64) -> Fault
     }
 }
 
-/// The position in units of 10^-7 degree, rounded half away from zero. Returns `BAD_POSITION` and leaves `out` as it was
-/// if the fractions are not a valid position.
+/// The position in units of 10^-7 degree, rounded half away from zero. Returns `BAD_POSITION`, with `out` unchanged, if
+/// the fractions are not a valid position.
 #[unsafe(no_mangle)]
 pub extern "C" fn squitter_position_e7(position: &PlainPosition, out: &mut DegreesE7) -> Fault
     ensures { IsPositionE7 position.now out.old out.new result }
