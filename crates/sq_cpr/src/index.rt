@@ -1,5 +1,5 @@
-//! Grid indices: rounds an angle to the nearest index, and picks the candidate index of a code nearest the reference, or
-//! of a close pair.
+//! Grid indices: rounds an angle to the nearest index, and picks the candidate index of a code nearest the reference,
+//! or of a close pair.
 //!
 //! All numbers are whole. Near a reference, whose fraction may be long, one function multiplies, divides or subtracts
 //! once, so that each fits 128 bits visibly; near 0 degrees 64 bits do.

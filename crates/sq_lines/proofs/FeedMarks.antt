@@ -104,7 +104,8 @@ pub front_bit : (feeds count k : ℕ) → k < count → bit_at (bit_and feeds (2
 front_bit feeds count k within =
     bit_at_and feeds (2 ^ count - 1) k
     ∙ ap (λ b. min (bit_at feeds k) b) (bit_at_ones count k within)
-    ∙ (let small = bit_at-lt feeds k in let least : min (bit_at feeds k) 1 ≡ bit_at feeds k = omega (arith, small) in least)
+    ∙ (let small = bit_at-lt feeds k in
+    let least : min (bit_at feeds k) 1 ≡ bit_at feeds k = omega (arith, small) in least)
 
 pub shifted_small : (feeds n here : ℕ) → here + 1 ≤ n → feeds < 2 ^ n → feeds / 2 ^ here / 2 < 2 ^ (n - (here + 1))
 shifted_small feeds n here within small =

@@ -26,8 +26,8 @@ const PAIR_BITS: u64 = 0x00FF_00FF_00FF_00FF;
 // The low two bytes of each four.
 const FOUR_BITS: u64 = 0x0000_FFFF_0000_FFFF;
 
-// Adds 10 times each byte to the next byte. This and the two factors below are those of `parse_eight_digits_unrolled` in
-// fast_float and simdjson.
+// Adds 10 times each byte to the next byte. This and the two factors below are those of `parse_eight_digits_unrolled`
+// in fast_float and simdjson.
 const PAIR_FACTOR: u64 = 1 + (10 << 8);
 
 // Adds 100 times each two bytes to the next two.

@@ -116,8 +116,8 @@ fn split_longest(text: &[u8]) -> Option<(u64, &[u8])>
     }
 }
 
-/// Returns the number that 1 to 20 decimal digits spell: a moment, or an option of the program. `None` for any other text
-/// and for numbers from 2^64 on.
+/// Returns the number that 1 to 20 decimal digits spell: a moment, or an option of the program. `None` for any other
+/// text and for numbers from 2^64 on.
 pub fn read_decimal(digits: &[u8]) -> Option<u64>
     ensures some { IfSome result (IsDecimalText digits.now) }
     ensures none { IfNone result ((number : ℕ) → ¬ IsDecimalText digits.now number) }

@@ -66,7 +66,8 @@ returns-in-Refused-clause-stepped g c start given lines answers h =
     let e = c.in-Some.ensures.some in
     let bytes : List ℕ = between window.begin c.in-Some.end window.bytes in
     heard_line how start _ given lines answers h line waiting _ now kept e.there c.pass-in-Refused.ensures.waiting
-    bytes e.line _ (Some (Err c.in-Refused.fault)) _ c.pass-in-Refused.ensures.front refl refl refl c.in-Refused.ensures.heard
+    bytes e.line _ (Some (Err c.in-Refused.fault)) _ c.pass-in-Refused.ensures.front refl refl refl
+    c.in-Refused.ensures.heard
     (λ n is. ap (λ k. (record { number = k; verdict = Err c.in-Refused.fault }) ∷ []) (sym is))
 
 pub returns-in-NoMemory-clause-stepped : goal.returns-in-NoMemory-clause-stepped

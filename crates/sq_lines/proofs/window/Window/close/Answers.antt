@@ -17,8 +17,8 @@ returns-then-self-lt-FRONT-clause-closed c given lines from none =
     (omega (arith, c.slide.ensures.all, c.slide.ensures.at)) in
     let kept = closed_line (front_of window) [] given lines slid refl
     (omega (arith, long, c.slide.ensures.at, c.if-self-lt-FRONT.true)) in
-    subst₂ (λ (l w : List ℕ). KeepsRest l w (closed given) lines) (sym c.fill_part.ensures.front) (sym c.fill_part.ensures.waiting)
-    kept
+    subst₂ (λ (l w : List ℕ). KeepsRest l w (closed given) lines) (sym c.fill_part.ensures.front)
+    (sym c.fill_part.ensures.waiting) kept
 
 pub returns-else-self-lt-FRONT-clause-closed : goal.returns-else-self-lt-FRONT-clause-closed
 returns-else-self-lt-FRONT-clause-closed c given lines from none =

@@ -30,7 +30,8 @@ invariant_of-self-clause-marked c =
     let is : here ≡ feed_place waiting = omega (arith, e.place) in
     let next : window.at + (here + 1) ≤ 65 + window.count = omega (arith, e.there, is, long, window.within) in
     let end_is : c.args.end ≡ window.at + here = omega (arith, e.place, is) in
-    subst (λ n. MarksFeeds (window.feeds / 2 ^ here / 2) (between (n + 1) (65 + window.count) window.bytes)) (sym end_is)
+    subst (λ n. MarksFeeds (window.feeds / 2 ^ here / 2) (between (n + 1) (65 + window.count) window.bytes))
+    (sym end_is)
     (marks_on window.bytes window.at (65 + window.count) here window.feeds (omega (arith, next)) window.marked)
 
 pub invariant_of-self-clause-small : goal.invariant_of-self-clause-small
