@@ -28,9 +28,9 @@ pub fn push_six_places<const N: usize>(text: &mut TextBuffer<N>, number: u32)
     push_byte(text, (number & 0xFF) as u8);
 }
 
-// Appends a byte in two hexadecimal digits.
+/// Appends a byte in two upper-case hexadecimal digits.
 #[inline(always)]
-fn push_byte<const N: usize>(text: &mut TextBuffer<N>, byte: u8)
+pub fn push_byte<const N: usize>(text: &mut TextBuffer<N>, byte: u8)
     requires { text_len text.old + 2 ≤ N }
     ensures bytes { text.new.bytes ≡ text.old.bytes ++ hexadecimal 2 byte }
     ensures len { text_len text.new ≡ text_len text.old + 2 }

@@ -10,4 +10,4 @@ pub use decimal::{
     push_decimal, push_digit, push_leading, push_short, push_signed_decimal, push_signed_short,
     push_three,
 };
-pub use hexadecimal::{push_hexadecimal, push_six_places};
+pub use hexadecimal::{push_byte, push_hexadecimal, push_six_places};

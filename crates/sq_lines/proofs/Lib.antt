@@ -10,3 +10,4 @@ pub mod Windows
 pub mod Logs
 pub mod Gets
 pub mod Running
+pub mod Puts

@@ -1,17 +1,17 @@
 -- What a machine has told after one more line.
 use Rattle.std.proofs.Common.{◌≡◌, ◌+◌, ◌++◌, ◌∙◌, ℕ, List, [], ◌∷◌, None, Some, length, ap, sym, subst, arith, refl}
 use Rattle.std.proofs.Common.{◌<◌, append-nil, Err, Ok, OnOk, Result, drop, inl, subst₂, take}
-use Rattle.std.specs.List.{before_first}
 use Rattle.std.proofs.lemmas.List.{length_push}
 use Rattle.sq_devices.specs.Device.{IsPrefixOf}
 use Rattle.sq_lines.specs.Answers.{Answerer, Manner, WantsAt, after_content, after_line, answer_line, answers_to, noted}
 use Rattle.sq_lines.specs.Answers.{past_after, tally_of}
 use Rattle.sq_lines.specs.Content.{Answer, Content, answer_content}
 use Rattle.sq_lines.specs.Held.{IsHeldAs, KeepsRest}
-use Rattle.sq_lines.specs.Lines.{HasNoFeed, ended_lines, is_feed, with_next}
-use Rattle.sq_lines.specs.Logs.{AreAnswers, HasHeard, IsUpToDate, Machine, told_from}
-use Rattle.sq_lines.specs.Windows.{feed_place}
+use Rattle.sq_lines.specs.Lines.{HasNoFeed, ended_lines, with_next}
+use Rattle.sq_lines.specs.Logs.{AreAnswers, HasHeard, IsUpToDate, told_from}
+use Rattle.sq_lines.specs.Windows.{IsFeedPlace, Rest, next_line}
 use Rattle.sq_lines.specs.declared.log.Answer.{Answer as Told}
+use Rattle.sq_lines.specs.declared.log.Log.{Log}
 use Rattle.sq_lines.specs.declared.tallies.Tally.{Tally}
 use Rattle.sq_lines.proofs.Cutting.{cuts_nothing}
 use Rattle.sq_lines.proofs.Fronts.{same_content}
@@ -103,79 +103,79 @@ on_ok (Err e) turn of = tt
 
 -- ---- steps
 
-module _ {State Past Found : Type 0} (how : Manner State Past Found) (start : State) (old : Machine State)
+module _ {State Past Found : Type 0} (how : Manner State Past Found) (start : State) (old : Log State)
     (given : List ℕ) (lines : List (List ℕ)) (answers : List (Told Found))
     (h : HasHeard how start old given lines answers) where
-  -- the machine with this line begun and these bytes waiting
-  abbrev pub holding : List ℕ → List ℕ → Machine State
-  holding line waiting = record old { line = line; waiting = waiting }
-
   -- more was given, and no line was heard
-  pub heard_more : (line waiting more : List ℕ) → KeepsRest line waiting (given ++ more) lines
-      → HasHeard how start (holding line waiting) (given ++ more) lines answers
-  heard_more line waiting more kept = record { kept = kept; number = h.number; told = h.told }
+  pub heard_more : (new : Log State) (now : List ℕ) → new.job ≡ old.job → new.number ≡ old.number
+      → new.tally ≡ old.tally → KeepsRest new.window.line new.window.waiting now lines
+      → HasHeard how start new now lines answers
+  heard_more new now same number counted kept = record {
+    kept = kept;
+    number = number ∙ h.number;
+    told = subst₂ (λ (s : State) (t : Tally). AreAnswers how start s t lines answers) (sym same) (sym counted) h.told;
+  }
 
-  pub heard_none : (line waiting more : List ℕ) → KeepsRest line waiting (given ++ more) lines
-      → HasHeard how start (holding line waiting) (given ++ more) (lines ++ []) answers
-  heard_none line waiting more kept =
-      subst (λ (ls : List (List ℕ)). HasHeard how start (holding line waiting) (given ++ more) ls answers)
-      (sym (append-nil lines)) (heard_more line waiting more kept)
+  pub heard_none : (new : Log State) (now : List ℕ) → new.job ≡ old.job → new.number ≡ old.number
+      → new.tally ≡ old.tally → KeepsRest new.window.line new.window.waiting now lines
+      → HasHeard how start new now (lines ++ []) answers
+  heard_none new now same number counted kept =
+      subst (λ (ls : List (List ℕ)). HasHeard how start new now ls answers) (sym (append-nil lines))
+      (heard_more new now same number counted kept)
 
   -- all that was given is heard, as far as line feeds end it
-  pub heard_all : (line waiting piece : List ℕ) (taken : ℕ) → KeepsRest line waiting (given ++ take taken piece) lines
-      → taken ≡ 0 → HasNoFeed waiting → piece ≡ []
-      → (piece ≡ []) × HasHeard how start (holding line waiting) given lines answers
-      × IsUpToDate (holding line waiting) × (lines ≡ ended_lines given)
-  heard_all line waiting piece taken kept none feeds nothing =
-      let same : given ++ take taken piece ≡ given = ap (λ n. given ++ take n piece) none ∙ append-nil given in
-      let keeps = subst (λ (l : List ℕ). KeepsRest line waiting l lines) same kept in (
+  pub heard_all : (new : Log State) (piece : List ℕ) (taken : ℕ) → new.job ≡ old.job → new.number ≡ old.number
+      → new.tally ≡ old.tally → KeepsRest new.window.line new.window.waiting (given ++ take taken piece) lines
+      → taken ≡ 0 → HasNoFeed new.window.waiting → piece ≡ []
+      → (piece ≡ []) × HasHeard how start new given lines answers × IsUpToDate new × (lines ≡ ended_lines given)
+  heard_all new piece taken same number counted kept none feeds nothing =
+      let all : given ++ take taken piece ≡ given = ap (λ n. given ++ take n piece) none ∙ append-nil given in
+      let keeps = subst (λ (l : List ℕ). KeepsRest new.window.line new.window.waiting l lines) all kept in (
         nothing,
-        record { kept = keeps; number = h.number; told = h.told },
+        heard_more new given same number counted keeps,
         feeds,
-        passed_all line waiting given lines keeps feeds,
+        passed_all new.window.line new.window.waiting given lines keeps feeds,
       )
 
-  module _ (line waiting next now : List ℕ) (keeps : KeepsRest line waiting now lines)
-      (there : feed_place waiting < length waiting) (is : next ≡ drop (feed_place waiting + 1) waiting)
-      (bytes : List ℕ) (bytes_are : bytes ≡ line ++ before_first is_feed waiting) where
-    passed : (whole : List ℕ) × KeepsRest [] next now (lines ++ whole ∷ []) × IsHeldAs bytes whole
-    passed =
-        let one = line_passed line waiting next now lines keeps there is in
-        (one.0, one.1, subst (λ (l : List ℕ). IsHeldAs l one.0) (sym bytes_are) one.2)
+  module _ (rest : Rest) (now : List ℕ) (keeps : KeepsRest rest.line rest.waiting now lines) (place : ℕ)
+      (feed : IsFeedPlace rest.waiting place) where
+    passed : (next : List ℕ) → next ≡ drop (place + 1) rest.waiting
+        → (whole : List ℕ) × KeepsRest [] next now (lines ++ whole ∷ []) × IsHeldAs (next_line rest) whole
+    passed next is =
+        line_passed rest.line rest.waiting next now lines keeps
+        (subst (λ n. n < length rest.waiting) feed.first feed.there)
+        (is ∙ ap (λ n. drop (n + 1) rest.waiting) feed.first)
 
     -- the next line was heard
-    pub heard_line : (new : Machine State) (answer : Answer Found) (more : List (Told Found)) → new.line ≡ []
-        → new.waiting ≡ next → new.number ≡ old.number + 1 → new.tally ≡ noted old.tally answer
-        → IsAnsweredSo how answer bytes old.job new.job
+    pub heard_line : (new : Log State) (answer : Answer Found) (more : List (Told Found)) → new.window.line ≡ []
+        → new.window.waiting ≡ drop (place + 1) rest.waiting → new.number ≡ old.number + 1
+        → new.tally ≡ noted old.tally answer → IsAnsweredSo how answer (next_line rest) old.job new.job
         → ((number : ℕ) → number ≡ old.number + 1 → more ≡ told_from number (answer ∷ []))
         → (whole : List ℕ) × HasHeard how start new now (lines ++ whole ∷ []) (answers ++ more)
-    heard_line new answer more begun behind number counted heard told = (
-      passed.0,
-      record {
-        kept = subst₂ (λ (l w : List ℕ). KeepsRest l w now (lines ++ passed.0 ∷ [])) (sym begun) (sym behind) passed.1;
-        number = number ∙ ap (λ n. n + 1) h.number ∙ sym (length_push lines passed.0);
-        told = told_more how start answer bytes passed.0 old.job new.job old.tally new.tally lines answers more passed.2
-            heard counted (told (length lines + 1) (ap (λ n. n + 1) (sym h.number))) h.told;
-      },
-    )
+    heard_line new answer more begun behind number counted heard told =
+        let one = passed new.window.waiting behind in (
+          one.0,
+          record {
+            kept = subst (λ (l : List ℕ). KeepsRest l new.window.waiting now (lines ++ one.0 ∷ [])) (sym begun) one.1;
+            number = number ∙ ap (λ n. n + 1) h.number ∙ sym (length_push lines one.0);
+            told = told_more how start answer (next_line rest) one.0 old.job new.job old.tally new.tally lines answers
+                more one.2 heard counted (told (length lines + 1) (ap (λ n. n + 1) (sym h.number))) h.told;
+          },
+        )
 
     -- for the next line there was no memory
-    pub heard_before : (new : Machine State) → new.line ≡ line → new.waiting ≡ waiting → new.number ≡ old.number
-        → new.tally ≡ old.tally → (new.job ≡ old.job) × WantsAt how old.job bytes
+    pub heard_before : (new : Log State) → new.window ≡ rest → new.number ≡ old.number → new.tally ≡ old.tally
+        → (new.job ≡ old.job) × WantsAt how old.job (next_line rest)
         → HasHeard how start new now lines answers
         × ((next : List ℕ) × IsPrefixOf (with_next lines next) (ended_lines now) × WantsAt how new.job next)
-    heard_before new begun behind number counted wants =
-        let same : new.job ≡ old.job = wants.0 in (
-          record {
-            kept = subst₂ (λ (l w : List ℕ). KeepsRest l w now lines) (sym begun) (sym behind) keeps;
-            number = number ∙ h.number;
-            told = subst₂ (λ (s : State) (t : Tally). AreAnswers how start s t lines answers) (sym same) (sym counted)
-                h.told;
-          },
+    heard_before new held number counted wants =
+        let one = passed (drop (place + 1) rest.waiting) refl in (
+          heard_more new now wants.0 number counted
+              (subst (λ (r : Rest). KeepsRest r.line r.waiting now lines) (sym held) keeps),
           (
-            passed.0,
-            passed_first [] next now (lines ++ passed.0 ∷ []) passed.1,
-            subst (λ (s : State). WantsAt how s passed.0) (sym same)
-                (wants.1.0, sym (same_content bytes passed.0 passed.2) ∙ wants.1.1, wants.1.2),
+            one.0,
+            passed_first [] (drop (place + 1) rest.waiting) now (lines ++ one.0 ∷ []) one.1,
+            subst (λ (s : State). WantsAt how s one.0) (sym wants.0)
+                (wants.1.0, sym (same_content (next_line rest) one.0 one.2) ∙ wants.1.1, wants.1.2),
           ),
         )

@@ -14,9 +14,10 @@ use Rattle.sq_text.specs.declared.faults.LineFault.{LineFault}
 use Rattle.sq_lines.specs.Answers.{Answerer, Manner, WantsAt, answer_text, answers_to, output_of, tally_of, texts_of}
 use Rattle.sq_lines.specs.Content.{Answer}
 use Rattle.sq_lines.specs.Lines.{HasNoFeed, but_last, closed, ended_lines, lines_of, with_next}
-use Rattle.sq_lines.specs.Logs.{AreAnswers, HasHeard, IsUpToDate, Machine, told_from}
-use Rattle.sq_lines.specs.Runs.{HasTold, IsPumped, OfLines, StoppedAtMemory, StoppedAtWrite, fed, told_text}
+use Rattle.sq_lines.specs.Logs.{AreAnswers, HasHeard, IsUpToDate, told_from}
+use Rattle.sq_lines.specs.Runs.{HasTold, IsPumped, OfLines, StoppedAtMemory, StoppedAtWrite, Texts, fed, told_text}
 use Rattle.sq_lines.specs.declared.log.Answer.{Answer as Told}
+use Rattle.sq_lines.specs.declared.log.Log.{Log}
 use Rattle.sq_lines.specs.declared.tallies.Tally.{Tally}
 use Rattle.sq_lines.proofs.Tallying.{but_last-push, output_but_last, output_none}
 use Rattle.sq_lines.proofs.Windows.{ended_lines-closed, passed_all}
@@ -47,10 +48,11 @@ texts_from text n (None ∷ answers) = texts_from text (n + 1) answers
 texts_from text n (Some verdict ∷ answers) = ap (λ l. text n verdict ++ l) (texts_from text (n + 1) answers)
 
 -- the texts of the answers to these lines are the output for them
-told_output : {Past Found : Type 0} (way : Answerer Past Found) (past : Past) (lines : List (List ℕ))
-    → told_text (way.text past) (told_from 1 (answers_to way past lines)) ≡ output_of way past lines
+told_output : {Past Found : Type 0} (text : ℕ → Result Found LineFault → List ℕ) (way : Answerer Past Found)
+    (past : Past) (lines : List (List ℕ))
+    → told_text text (told_from 1 (answers_to way past lines)) ≡ output_of text way past lines
 unfolding texts_of
-told_output way past lines = texts_from (way.text past) 1 (answers_to way past lines)
+told_output text way past lines = texts_from text 1 (answers_to way past lines)
 
 text_push : {Found : Type 0} (text : ℕ → Result Found LineFault → List ℕ) (answers : List (Told Found))
     (answer : Told Found)
@@ -86,12 +88,12 @@ no_more read (b ∷ bs) all same none = absurd (omega (arith, none))
 
 -- ---- steps
 
-module _ {State Past Found : Type 0} (how : Manner State Past Found) (start : State) {K : Type 0} (k : SinkGhosts K)
-    (first : K) where
-  pub pumped_passed : (sink : K) (old new : Machine State) (given next : List ℕ)
-      (h : IsPumped how start k first sink old given)
+module _ {State Past Found Writing : Type 0} (how : Manner State Past Found) (text : Texts Writing Found)
+    (start : State) {K : Type 0} (k : SinkGhosts K) (first : K) where
+  pub pumped_passed : (sink : K) (old new : Log State) (given next : List ℕ)
+      (h : IsPumped how text start k first sink old given)
       → (more : List (List ℕ)) × HasHeard how start new next (h.lines ++ more) h.answers
-      → IsPumped how start k first sink new next
+      → IsPumped how text start k first sink new next
   pumped_passed sink old new given next h on = record {
     lines = h.lines ++ on.0;
     answers = h.answers;
@@ -99,27 +101,27 @@ module _ {State Past Found : Type 0} (how : Manner State Past Found) (start : St
     put = h.put;
   }
 
-  pub pumped_answered : (a b : K) (old new : Machine State) (given next : List ℕ) (answer : Told Found)
-      (h : IsPumped how start k first a old given)
+  pub pumped_answered : (a b : K) (old new : Log State) (given next : List ℕ) (answer : Told Found)
+      (h : IsPumped how text start k first a old given)
       → (line : List ℕ) × HasHeard how start new next (h.lines ++ line ∷ []) (h.answers ++ answer ∷ [])
-      → ((past : Past) → HasPut k a b (how.way.text past answer.number answer.verdict))
-      → IsPumped how start k first b new next
+      → ((writing : Writing) → HasPut k a b (text writing answer.number answer.verdict))
+      → IsPumped how text start k first b new next
   pumped_answered a b old new given next answer h on put = record {
     lines = h.lines ++ on.0 ∷ [];
     answers = h.answers ++ answer ∷ [];
     heard = on.1;
-    put = λ past. subst (HasPut k first b) (sym (text_push (how.way.text past) h.answers answer))
-        (HasPut-trans k first a b _ _ (h.put past) (put past));
+    put = λ writing. subst (HasPut k first b) (sym (text_push (text writing) h.answers answer))
+        (HasPut-trans k first a b _ _ (h.put writing) (put writing));
   }
 
   -- the answers were told, and their texts put
   told_put : (now : State) (tally : Tally) (lines : List (List ℕ)) (answers : List (Told Found))
-      (Wrote : List ℕ → Type 0) → ((past : Past) → Wrote (told_text (how.way.text past) answers))
-      → AreAnswers how start now tally lines answers → HasTold how start now Wrote lines
-  told_put now tally lines answers Wrote put told past st =
+      (Wrote : List ℕ → Type 0) → ((writing : Writing) → Wrote (told_text (text writing) answers))
+      → AreAnswers how start now tally lines answers → HasTold how text start now Wrote lines
+  told_put now tally lines answers Wrote put told past writing st =
       let one = told past st in (
         one.0,
-        subst Wrote (ap (told_text (how.way.text past)) one.1 ∙ told_output how.way past lines) (put past),
+        subst Wrote (ap (told_text (text writing)) one.1 ∙ told_output (text writing) how.way past lines) (put writing),
       )
 
   -- ---- behind a header
@@ -133,11 +135,12 @@ module _ {State Past Found : Type 0} (how : Manner State Past Found) (start : St
     behind sink text put = HasPut-trans k before first sink header text headed put
 
     -- there was no memory for the next line
-    pub pumped_memory : (sink : K) (old : Machine State) (now : State) (tally : Tally) (given : List ℕ)
-        (complete : List (List ℕ)) (h : IsPumped how start k first sink old given)
+    pub pumped_memory : (sink : K) (old : Log State) (now : State) (tally : Tally) (given : List ℕ)
+        (complete : List (List ℕ)) (h : IsPumped how text start k first sink old given)
         → (next : List ℕ) × IsPrefixOf (with_next h.lines next) complete × WantsAt how now next
         × AreAnswers how start now tally h.lines h.answers
-        → StoppedAtMemory how start now (λ text. Appends (k.written before) (k.written sink) (header ++ text)) complete
+        → StoppedAtMemory how text start now
+        (λ output. Appends (k.written before) (k.written sink) (header ++ output)) complete
     pumped_memory sink old now tally given complete h stop = (
       h.lines,
       stop.0,
@@ -145,38 +148,38 @@ module _ {State Past Found : Type 0} (how : Manner State Past Found) (start : St
       stop.2,
       told_put now tally h.lines h.answers
           (λ text. Appends (k.written before) (k.written sink) (header ++ text))
-          (λ past. (behind sink _ (h.put past)).0) stop.3,
+          (λ writing. (behind sink _ (h.put writing)).0) stop.3,
     )
 
     -- the answer was not put, or in part
-    pub pumped_write : (a b : K) (old new : Machine State) (given next : List ℕ) (answer : Told Found)
-        (complete : List (List ℕ)) (h : IsPumped how start k first a old given)
+    pub pumped_write : (a b : K) (old new : Log State) (given next : List ℕ) (answer : Told Found)
+        (complete : List (List ℕ)) (h : IsPumped how text start k first a old given)
         (on : (line : List ℕ) × HasHeard how start new next (h.lines ++ line ∷ []) (h.answers ++ answer ∷ []))
         → IsPrefixOf (h.lines ++ on.0 ∷ []) complete
-        → ((past : Past) → WroteFront (k.written a) (k.written b) (how.way.text past answer.number answer.verdict))
-        → StoppedAtWrite header how start new.job (k.written before) (k.written b) complete
+        → ((writing : Writing) → WroteFront (k.written a) (k.written b) (text writing answer.number answer.verdict))
+        → StoppedAtWrite header how text start new.job (k.written before) (k.written b) complete
     pumped_write a b old new given next answer complete h on prefix part = (
       h.lines ++ on.0 ∷ [],
       prefix,
-      λ past st.
-          let text = how.way.text past in
-          let one : List ℕ = text answer.number answer.verdict in
+      λ past writing st.
+          let words = text writing in
+          let one : List ℕ = words answer.number answer.verdict in
           let told = h.heard.told past st in
           let after = on.1.told past st in
-          let front = part past in
-          let done : List ℕ = told_text text h.answers in
-          let done_is : done ≡ output_of how.way past h.lines =
-          ap (told_text text) told.1 ∙ told_output how.way past h.lines in
-          let all_is : output_of how.way past (h.lines ++ on.0 ∷ []) ≡ done ++ one =
-          sym (told_output how.way past (h.lines ++ on.0 ∷ [])) ∙ sym (ap (told_text text) after.1)
-          ∙ text_push text h.answers answer in (
+          let front = part writing in
+          let done : List ℕ = told_text words h.answers in
+          let done_is : done ≡ output_of words how.way past h.lines =
+          ap (told_text words) told.1 ∙ told_output words how.way past h.lines in
+          let all_is : output_of words how.way past (h.lines ++ on.0 ∷ []) ≡ done ++ one =
+          sym (told_output words how.way past (h.lines ++ on.0 ∷ [])) ∙ sym (ap (told_text words) after.1)
+          ∙ text_push words h.answers answer in (
             after.0,
             (
               (header ++ done) ++ front.0,
               λ some. (
                 front.0,
                 ap (λ l. (header ++ l) ++ front.0) (done_is
-                    ∙ ap (output_of how.way past) (sym (but_last-push h.lines on.0))),
+                    ∙ ap (output_of words how.way past) (sym (but_last-push h.lines on.0))),
               ),
               (
                 front.1.0,
@@ -185,47 +188,51 @@ module _ {State Past Found : Type 0} (how : Manner State Past Found) (start : St
                     ∙ sym (append_assoc (header ++ done) front.0 front.1.0),
               ),
               AppendsOrHides-after (k.written before) (k.written a) (k.written b) (header ++ done) front.0
-                  (behind a done (h.put past)).0 front.2,
+                  (behind a done (h.put writing)).0 front.2,
             ),
           ),
     )
 
     -- all lines were told that line feeds end
-    pub pumped_ended : (sink : K) (log : Machine State) (read : List ℕ) → IsPumped how start k first sink log read
-        → IsUpToDate log → HasTold how start log.job (Behind sink) (ended_lines read)
+    pub pumped_ended : (sink : K) (log : Log State) (read : List ℕ) → IsPumped how text start k first sink log read
+        → IsUpToDate log → HasTold how text start log.job (Behind sink) (ended_lines read)
     pumped_ended sink log read h up =
-        subst (HasTold how start log.job (Behind sink)) (passed_all log.line log.waiting read h.lines h.heard.kept up)
-        (told_put log.job log.tally h.lines h.answers (Behind sink) (λ past. behind sink _ (h.put past)) h.heard.told)
+        subst (HasTold how text start log.job (Behind sink))
+        (passed_all log.window.line log.window.waiting read h.lines h.heard.kept up)
+        (told_put log.job log.tally h.lines h.answers (Behind sink) (λ writing. behind sink _ (h.put writing))
+        h.heard.told)
 
     -- and the last part too
-    pub pumped_all : (sink : K) (log : Machine State) (read : List ℕ)
-        → IsPumped how start k first sink log (closed read) → IsUpToDate log
-        → HasTold how start log.job (Behind sink) (lines_of read)
+    pub pumped_all : (sink : K) (log : Log State) (read : List ℕ)
+        → IsPumped how text start k first sink log (closed read) → IsUpToDate log
+        → HasTold how text start log.job (Behind sink) (lines_of read)
         × ((past : Past) → how.stands_for start past → log.tally ≡ tally_of (answers_to how.way past (lines_of read)))
     pumped_all sink log read h up =
-        let same = passed_all log.line log.waiting (closed read) h.lines h.heard.kept up ∙ ended_lines-closed read in (
-          subst (HasTold how start log.job (Behind sink)) same
-              (told_put log.job log.tally h.lines h.answers (Behind sink) (λ past. behind sink _ (h.put past))
+        let same = passed_all log.window.line log.window.waiting (closed read) h.lines h.heard.kept up
+        ∙ ended_lines-closed read in (
+          subst (HasTold how text start log.job (Behind sink)) same
+              (told_put log.job log.tally h.lines h.answers (Behind sink) (λ writing. behind sink _ (h.put writing))
               h.heard.told),
           λ past st. (h.heard.told past st).2
               ∙ ap (λ (ls : List (List ℕ)). tally_of (answers_to how.way past ls)) same,
         )
 
     -- all was written, and then the sink failed
-    pub told_unfinished : (now : State) (a b : K) (lines : List (List ℕ)) → HasTold how start now (Behind a) lines
+    pub told_unfinished : (now : State) (a b : K) (lines : List (List ℕ)) → HasTold how text start now (Behind a) lines
         → KeepsOrHides (k.written a) (k.written b)
-        → StoppedAtWrite header how start now (k.written before) (k.written b) lines
+        → StoppedAtWrite header how text start now (k.written before) (k.written b) lines
     told_unfinished now a b lines told kept = (
       lines,
       ([], sym (append-nil lines)),
-      λ past st.
-          let one = told past st in
-          let output : List ℕ = output_of how.way past lines in (
+      λ past writing st.
+          let one = told past writing st in
+          let words = text writing in
+          let output : List ℕ = output_of words how.way past lines in (
             one.0,
             (
               header ++ output,
-              λ some. prefix_behind header (output_of how.way past (but_last lines)) output
-                  (output_but_last how.way past lines),
+              λ some. prefix_behind header (output_of words how.way past (but_last lines)) output
+                  (output_but_last words how.way past lines),
               ([], sym (append-nil (header ++ output))),
               Appends-hidden (k.written before) (k.written a) (k.written b) (header ++ output) one.1.0 kept,
             ),
@@ -233,20 +240,21 @@ module _ {State Past Found : Type 0} (how : Manner State Past Found) (start : St
     )
 
 -- the header was not put, or in part
-pub stopped_in_header : {State Past Found : Type 0} (how : Manner State Past Found) (start : State) (header : List ℕ)
-    (before after : Option (List ℕ)) (complete : List (List ℕ)) → WroteFront before after header
-    → StoppedAtWrite header how start start before after complete
-stopped_in_header how start header before after complete front = (
+pub stopped_in_header : {State Past Found Writing : Type 0} (how : Manner State Past Found)
+    (text : Texts Writing Found) (start : State) (header : List ℕ) (before after : Option (List ℕ))
+    (complete : List (List ℕ)) → WroteFront before after header
+    → StoppedAtWrite header how text start start before after complete
+stopped_in_header how text start header before after complete front = (
   [],
   (complete, refl),
-  λ past st. (
+  λ past writing st. (
     st,
     (
       front.0,
       λ some. absurd (omega (arith, some)),
       (
         front.1.0,
-        ap (λ l. header ++ l) (output_none how.way past) ∙ append-nil header ∙ front.1.1,
+        ap (λ l. header ++ l) (output_none (text writing) how.way past) ∙ append-nil header ∙ front.1.1,
       ),
       front.2,
     ),
@@ -254,7 +262,9 @@ stopped_in_header how start header before after complete front = (
 )
 
 -- what was done with the output, said in other words
-pub told_as : {State Past Found : Type 0} (how : Manner State Past Found) (start now : State)
-    (Wrote Writes : List ℕ → Type 0) (lines : List (List ℕ)) → ((text : List ℕ) → Wrote text → Writes text)
-    → HasTold how start now Wrote lines → HasTold how start now Writes lines
-told_as how start now Wrote Writes lines turn told = λ past st. let one = told past st in (one.0, turn _ one.1)
+pub told_as : {State Past Found Writing : Type 0} (how : Manner State Past Found) (text : Texts Writing Found)
+    (start now : State) (Wrote Writes : List ℕ → Type 0) (lines : List (List ℕ))
+    → ((output : List ℕ) → Wrote output → Writes output)
+    → HasTold how text start now Wrote lines → HasTold how text start now Writes lines
+told_as how text start now Wrote Writes lines turn told =
+    λ past writing st. let one = told past writing st in (one.0, turn _ one.1)

@@ -1,6 +1,7 @@
 -- One more line in the output and in the tally.
-use Rattle.std.proofs.Common.{◌≡◌, ◌+◌, ◌-◌, ◌++◌, ◌∙◌, ℕ, Bool, List, [], ◌∷◌, None, Some, Ok, Err, length, take, drop}
-use Rattle.std.proofs.Common.{ap, ap₂, sym, arith, refl, cond, take-append-drop}
+use Rattle.std.proofs.Common.{◌≡◌, ◌+◌, ◌-◌, ◌++◌, ◌∙◌, ℕ, Bool, List, [], ◌∷◌, None, Some, Ok, Err, Result, length}
+use Rattle.std.proofs.Common.{ap, ap₂, sym, arith, refl, cond, drop, take, take-append-drop}
+use Rattle.sq_text.specs.declared.faults.LineFault.{LineFault}
 use Rattle.std.specs.Prelude.{count_by}
 use Rattle.std.specs.List.{flat_map, enumerate_from}
 use Rattle.std.proofs.lemmas.List.{take_at, length_push}
@@ -38,42 +39,41 @@ enumerate_from_append n (x ∷ xs) ys =
     ∙ ap (λ (k : ℕ). enumerate_from (n + 1) xs ++ enumerate_from k ys) e)
 
 -- the texts of answers that are numbered from here
-abbrev texts_from : {Past Found : Type 0} → Answerer Past Found → Past → ℕ → List (Answer Found) → List ℕ
-texts_from way first n answers =
-    flat_map (λ entry. answer_text (way.text first) entry.0 entry.1) (enumerate_from n answers)
+abbrev texts_from : {Found : Type 0} → (ℕ → Result Found LineFault → List ℕ) → ℕ → List (Answer Found) → List ℕ
+texts_from text n answers = flat_map (λ entry. answer_text text entry.0 entry.1) (enumerate_from n answers)
 
-output_append : {Past Found : Type 0} (way : Answerer Past Found) (past : Past) (xs ys : List (List ℕ))
-    → output_of way past (xs ++ ys) ≡ output_of way past xs
-    ++ texts_from way past (length xs + 1) (answers_to way (past_after way past xs) ys)
-unfolding texts_of
-output_append {Found = Found} way past xs ys =
-    let text : ℕ × Answer Found → List ℕ = λ entry. answer_text (way.text past) entry.0 entry.1 in
-    let first = answers_to way past xs in
-    let more = answers_to way (past_after way past xs) ys in
-    let e : 1 + length first ≡ length xs + 1 = omega (arith, length_answers way past xs) in
-    ap (λ answers. flat_map text (enumerate_from 1 answers)) (answers_append way past xs ys)
-    ∙ ap (flat_map text) (enumerate_from_append 1 first more)
-    ∙ flat_map-append text (enumerate_from 1 first) (enumerate_from (1 + length first) more)
-    ∙ ap (λ (n : ℕ). flat_map text (enumerate_from 1 first) ++ flat_map text (enumerate_from n more)) e
+module _ {Past Found : Type 0} (text : ℕ → Result Found LineFault → List ℕ) (way : Answerer Past Found) (past : Past)
+  where
+    output_append : (xs ys : List (List ℕ)) → output_of text way past (xs ++ ys) ≡ output_of text way past xs
+        ++ texts_from text (length xs + 1) (answers_to way (past_after way past xs) ys)
+    unfolding texts_of
+    output_append xs ys =
+        let told : ℕ × Answer Found → List ℕ = λ entry. answer_text text entry.0 entry.1 in
+        let first = answers_to way past xs in
+        let more = answers_to way (past_after way past xs) ys in
+        let e : 1 + length first ≡ length xs + 1 = omega (arith, length_answers way past xs) in
+        ap (λ answers. flat_map told (enumerate_from 1 answers)) (answers_append way past xs ys)
+        ∙ ap (flat_map told) (enumerate_from_append 1 first more)
+        ∙ flat_map-append told (enumerate_from 1 first) (enumerate_from (1 + length first) more)
+        ∙ ap (λ (n : ℕ). flat_map told (enumerate_from 1 first) ++ flat_map told (enumerate_from n more)) e
 
--- more lines leave the output for the first ones as it is
-pub output_prefix : {Past Found : Type 0} (way : Answerer Past Found) (past : Past) (lines more : List (List ℕ))
-    → IsPrefixOf lines more
-    → IsPrefixOf (output_of way past lines) (output_of way past more)
-output_prefix way past lines more first = (
-  texts_from way past (length lines + 1) (answers_to way (past_after way past lines) first.0),
-  ap (output_of way past) first.1 ∙ output_append way past lines first.0,
-)
+    -- more lines leave the output for the first ones as it is
+    pub output_prefix : (lines more : List (List ℕ)) → IsPrefixOf lines more
+        → IsPrefixOf (output_of text way past lines) (output_of text way past more)
+    output_prefix lines more first = (
+      texts_from text (length lines + 1) (answers_to way (past_after way past lines) first.0),
+      ap (output_of text way past) first.1 ∙ output_append lines first.0,
+    )
 
-pub output_none : {Past Found : Type 0} (way : Answerer Past Found) (past : Past) → output_of way past [] ≡ []
-unfolding texts_of
-output_none way past = refl
+    pub output_none : output_of text way past [] ≡ []
+    unfolding texts_of
+    output_none = refl
 
-pub output_but_last : {Past Found : Type 0} (way : Answerer Past Found) (past : Past) (lines : List (List ℕ))
-    → IsPrefixOf (output_of way past (but_last lines)) (output_of way past lines)
-output_but_last way past lines =
-    let n = length lines - 1 in output_prefix way past (take n lines) lines
-    (drop n lines, sym (take-append-drop n lines))
+    pub output_but_last : (lines : List (List ℕ))
+        → IsPrefixOf (output_of text way past (but_last lines)) (output_of text way past lines)
+    output_but_last lines =
+        let n = length lines - 1 in output_prefix (take n lines) lines
+        (drop n lines, sym (take-append-drop n lines))
 
 pub but_last-push : (lines : List (List ℕ)) (line : List ℕ) → but_last (lines ++ line ∷ []) ≡ lines
 but_last-push lines line = take_at lines (line ∷ []) (length (lines ++ line ∷ []) - 1)

@@ -1,25 +1,23 @@
--- What is answered to lines, each by what came before it.
+-- The answers to lines, each by the lines before it.
 use Rattle.std.specs.Prelude.{◌≡◌, ◌+◌, ℕ, Bool, List, [], ◌∷◌, None, Some, Result, Ok, Err, true, false, count_by}
 use Rattle.std.specs.List.{flat_map, enumerate_from}
 use Rattle.sq_text.specs.declared.faults.LineFault.{LineFault}
 use Rattle.sq_lines.specs.Content.{Answer, Content, Long, Empty, Text, answer_by, content}
 use Rattle.sq_lines.specs.declared.tallies.Tally.{Tally}
 
--- how texts are answered: the answer to a text by the past, the past after it, and how a verdict on the line with a
--- number is told; any past may say how that is spelled
+-- how texts are answered: the answer to a text by the past, and the past after the text
 pub record Answerer (Past Found : Type 0) : Type 0 where
   pub answer : Past → List ℕ → Result Found LineFault
   pub after : Past → List ℕ → Past
-  pub text : Past → ℕ → Result Found LineFault → List ℕ
 
--- how a state answers texts: what pasts it stands for, how texts are answered by these, and at which texts it may want
+-- how a state answers texts: the pasts that it represents, the answers after each past, and the texts that may need
 -- memory
 pub record Manner (State Past Found : Type 0) : Type 1 where
   pub stands_for : State → Past → Type 0
   pub way : Answerer Past Found
   pub wants : State → List ℕ → Type 0
 
--- the answer to a line by the past: a long one is at fault, an empty one is not answered
+-- the answer to a line by the past: a long line is at fault, an empty line has no answer
 abbrev pub answer_line : {Past Found : Type 0} → Answerer Past Found → Past → List ℕ → Answer Found
 answer_line way past line = answer_by (way.answer past) line
 
@@ -47,18 +45,19 @@ abbrev pub answers_to : {Past Found : Type 0} → Answerer Past Found → Past �
 answers_to way past [] = []
 answers_to way past (line ∷ lines) = answer_line way past line ∷ answers_to way (after_line way past line) lines
 
--- the text of the answer to the line with this number, where verdicts are told in this way
+-- the text of the answer to the line with this number, if verdicts are written in this way
 abbrev pub answer_text : {Found : Type 0} → (ℕ → Result Found LineFault → List ℕ) → ℕ → Answer Found → List ℕ
 answer_text text number None = []
 answer_text text number (Some verdict) = text number verdict
 
--- the texts of these answers, which are numbered from 1
+-- the texts of these answers, numbered from 1
 unfoldable pub texts_of : {Found : Type 0} → (ℕ → Result Found LineFault → List ℕ) → List (Answer Found) → List ℕ
 texts_of text answers = flat_map (λ entry. answer_text text entry.0 entry.1) (enumerate_from 1 answers)
 
--- the output for these lines
-abbrev pub output_of : {Past Found : Type 0} → Answerer Past Found → Past → List (List ℕ) → List ℕ
-output_of way past lines = texts_of (way.text past) (answers_to way past lines)
+-- the output for these lines, if verdicts are written in this way
+abbrev pub output_of : {Past Found : Type 0} → (ℕ → Result Found LineFault → List ℕ) → Answerer Past Found → Past
+    → List (List ℕ) → List ℕ
+output_of text way past lines = texts_of text (answers_to way past lines)
 
 abbrev pub is_good : {Found : Type 0} → Answer Found → Bool
 is_good (Some (Ok found)) = true
@@ -70,11 +69,11 @@ is_refused (Some (Ok found)) = false
 is_refused (Some (Err fault)) = true
 is_refused None = false
 
--- how many of the answers are good and how many are refused
+-- the numbers of good and of refused answers
 unfoldable pub tally_of : {Found : Type 0} → List (Answer Found) → Tally
 tally_of answers = record { good = count_by is_good answers; refused = count_by is_refused answers }
 
--- the tally with one more line, of which this was found
+-- the tally with the answer to one more line
 abbrev pub noted : {Found : Type 0} → Tally → Answer Found → Tally
 noted tally None = tally
 noted tally (Some (Ok found)) = record tally { good = tally.good + 1 }

@@ -1,4 +1,4 @@
--- What hearing a text, and by that a line, does.
+-- Hearing a text, and hearing a line.
 use Rattle.std.specs.Prelude.{◌≡◌, ℕ, List, None, Some, Ok, Err}
 use Rattle.sq_lines.specs.Answers.{Manner, WantsAt, after_line, answer_line}
 use Rattle.sq_lines.specs.declared.log.LineHeard.{LineHeard}
@@ -6,7 +6,7 @@ use Rattle.sq_lines.specs.declared.log.LineHeard.TheVariants as lines
 use Rattle.sq_lines.specs.declared.job.Verdict.{Verdict}
 use Rattle.sq_lines.specs.declared.job.Verdict.TheVariants as verdicts
 
--- what hearing a text did, from each past that the state stood for; without memory it was not heard
+-- a text was heard, for each past that the state stood for; without memory it was not heard
 abbrev pub IsHeard : {State Past Found : Type 0} → Manner State Past Found → Verdict Found → (text : List ℕ)
     → (old new : State) → Type 0
 IsHeard {Past = Past} how (verdicts.Good found) text old new = (past : Past) → how.stands_for old past
@@ -15,7 +15,7 @@ IsHeard {Past = Past} how (verdicts.Refused fault) text old new = (past : Past) 
     → (how.way.answer past text ≡ Err fault) × how.stands_for new (how.way.after past text)
 IsHeard how verdicts.NoMemory text old new = (new ≡ old) × how.wants old text
 
--- what hearing a line did
+-- a line was heard
 abbrev pub IsLineHeard : {State Past Found : Type 0} → Manner State Past Found → LineHeard Found → (line : List ℕ)
     → (old new : State) → Type 0
 IsLineHeard {Past = Past} how lines.Nothing line old new = (past : Past) → how.stands_for old past

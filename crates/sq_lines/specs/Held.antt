@@ -1,10 +1,10 @@
--- What is held of a line.
+-- The part of a line that is held.
 use Rattle.std.specs.Prelude.{◌≡◌, ◌+◌, ◌<◌, ◌⊎◌, ◌++◌, ℕ, Bool, List, [], length, take, nat_lt, false, MatchBool}
 use Rattle.std.specs.Prelude.{if◌then◌else◌}
 use Rattle.std.specs.List.{position_or_len}
 use Rattle.sq_lines.specs.Lines.{Cuts, is_feed}
 
--- the first 64 bytes of a line, whether there are more, and whether its line feed was taken
+-- the first 64 bytes of a line, whether it has more, and whether its line feed was taken
 pub record Held : Type 0 where
   pub line : List ℕ
   pub is_long : Bool
@@ -22,20 +22,20 @@ pub record Holds (held : Held) (line : List ℕ) : Type 0 where
 abbrev pub GoesOn : Held → List ℕ → Type 0
 GoesOn held line = MatchBool held.is_complete (line ≡ []) (Holds held line)
 
--- whether a line feed stands in the piece
+-- whether the piece has a line feed
 abbrev pub has_feed : List ℕ → Bool
 has_feed piece = nat_lt (position_or_len is_feed piece) (length piece)
 
--- the bytes up to and including the first line feed, or all of them, counted
+-- the number of bytes up to and including the first line feed, or of all bytes
 abbrev pub count_through : List ℕ → ℕ
 count_through piece = if has_feed piece then position_or_len is_feed piece + 1 else length piece
 
--- these bytes stand for the line: they are the line, or both are too long
+-- these bytes stand for the line: they equal it, or both are too long
 abbrev pub IsHeldAs : List ℕ → List ℕ → Type 0
 IsHeldAs bytes line = (bytes ≡ line) ⊎ ((64 < length bytes) × (64 < length line))
 
--- of the bytes that were given, these lines were passed over: of the line behind them, which is begun, these bytes are
--- held, and the last bytes wait, not yet looked at
+-- the given bytes are these lines, then an unfinished line, and last the bytes not yet looked at; `line` represents the
+-- unfinished line
 pub record KeepsRest (line waiting given : List ℕ) (lines : List (List ℕ)) : Type 0 where
   pub read : List ℕ
   pub rest : List ℕ

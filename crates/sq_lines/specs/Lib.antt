@@ -4,7 +4,8 @@ pub mod Held
 pub mod Answers
 pub mod Pieces
 pub mod Windows
+pub mod Marked
 pub mod Hearings
 pub mod Logs
-pub mod Machines
 pub mod Runs
+pub mod States

@@ -1,4 +1,4 @@
-//! One line at a time, out of pieces of any length.
+//! Splits an input that comes in pieces of any length into lines.
 ghost use Rattle.std.specs.Prelude.{◌≡◌, ◌++◌, ◌||◌, List, ℕ, [], length, take, nat_lt, ◌≤◌, position};
 ghost use Rattle.std.specs.List.{before_first, position_or_len};
 ghost use Rattle.sq_lines.specs.Lines.{is_feed};
@@ -8,7 +8,7 @@ use crate::lines::LINE_LIMIT;
 use arrayvec::ArrayVec;
 use std::marker::Model;
 
-/// Holds one line of at most 64 bytes, or the first part of a longer one.
+/// A line of at most 64 bytes, or the first 64 bytes of a longer one.
 #[derive(Drop)]
 pub struct Cutter {
     held: ArrayVec<u8, 64>,
@@ -25,7 +25,7 @@ impl Model for Cutter {
 }
 
 impl Cutter {
-    /// Holds an empty line.
+    /// Creates a cutter that holds an empty line.
     pub fn new() -> Self
         ensures { result ≡ empty_line }
     {
@@ -36,8 +36,8 @@ impl Cutter {
         }
     }
 
-    /// Takes the bytes up to and including the first line feed, or all of them, and says how many
-    /// and whether a line is complete. A line that the last call completed is dropped first.
+    /// Takes the bytes up to and including the first line feed, or all of them. Returns how many, and whether the line
+    /// is complete. If the last call completed a line, drops it first.
     pub fn take(&mut self, piece: &[u8]) -> (usize, bool)
         ensures count { result.0 ≡ count_through piece.now }
         ensures complete { result.1 ≡ has_feed piece.now }
@@ -74,14 +74,14 @@ impl Cutter {
         }
     }
 
-    /// Whether more than 64 bytes before the line feed were taken for the held line.
+    /// Returns whether the held line has more than 64 bytes, its line feed not counted.
     pub fn long(&self) -> bool
         ensures { result ≡ self.now.is_long }
     {
         self.is_long
     }
 
-    /// The held line, a long one by its first 64 bytes.
+    /// Returns the held line, or the first 64 bytes of a longer one.
     pub fn line(&self) -> &[u8]
         ensures { result.now ≡ self.now.line }
     {
@@ -89,7 +89,7 @@ impl Cutter {
     }
 }
 
-// Where the first line feed stands, or the length where there is none.
+// Returns the index of the first line feed, or the length if there is none.
 fn feed_place(piece: &[u8]) -> usize
     ensures place { result ≡ position_or_len is_feed piece.now }
     ensures fits { result ≤ length piece.now }

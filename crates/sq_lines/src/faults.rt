@@ -1,7 +1,7 @@
-//! What ends a run before the end of its input.
+//! The reasons why a run stops before the end of its input.
 use thiserror::Error;
 
-/// What ends a run before the end of its input.
+/// The reason why a run stopped before the end of its input.
 #[derive(Clone, Copy, Debug, PartialEq, Eq, Error)]
 pub enum RunFault {
     /// A get of this run failed.

@@ -1,10 +1,10 @@
 //! The lines of a log, one at a time, and an answer to each.
 //!
-//! [`Log`] is a machine: it is pushed pieces of a log, and returns the answers to its lines as values. It owns no
-//! device, makes no text and takes no memory. Long lines, empty ones, carriage returns and numbers are the machine's;
-//! a [`Job`] hears texts, by what came before them. [`run_log`] is the loop around it: it gets from a source, and puts
-//! the text of each answer ([`Telling`]) on a sink before the next line is heard. A [`Cutter`] cuts an input that comes
-//! in pieces into lines of at most 64 bytes.
+//! [`Log`] is a state machine: it takes pieces of a log, and returns the answers to its lines as values. It owns no
+//! device, makes no text and allocates nothing. It handles long lines, empty lines, carriage returns and line numbers;
+//! a [`Job`] answers the text of a line, by the texts before it. [`run_log`] is the loop around the machine: it reads
+//! from a source, and puts the text of each answer ([`Telling`]) on a sink before the next line is heard. A [`Cutter`]
+//! splits an input that comes in pieces into lines of at most 64 bytes.
 #![tactic(auto)]
 
 mod cutter;
@@ -13,8 +13,10 @@ mod job;
 pub mod laws;
 mod lines;
 mod log;
+mod marked_bytes;
 mod marks;
 mod run;
+mod state;
 mod tallies;
 mod telling;
 mod window;
@@ -27,5 +29,6 @@ pub use log::{Answer, Log, Step};
 pub use run::run_log;
 pub use sq_devices::{Sink, Source};
 pub use sq_text::LineFault;
+pub use state::LogState;
 pub use tallies::Tally;
 pub use telling::{LineText, Telling};

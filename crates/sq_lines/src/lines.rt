@@ -1,25 +1,25 @@
-//! What stands on a line.
+//! The content of a line.
 ghost use Rattle.std.specs.Prelude.{◌≡◌, List, ℕ};
 ghost use Rattle.sq_lines.specs.Held.{Holds};
 ghost use Rattle.sq_lines.specs.Content.{content_by, content, text_or_empty};
 
 use crate::cutter::Cutter;
 
-/// A line has at most so many bytes.
+/// The maximum length of a line, in bytes.
 pub(crate) const LINE_LIMIT: usize = 64;
 
-/// What stands on a line, but for one carriage return at its end.
+/// The content of a line, without one carriage return at its end.
 #[derive(Clone, Copy, Debug)]
 pub enum Line<'a> {
-    /// More than 64 bytes, a carriage return counted.
+    /// More than 64 bytes, the carriage return included.
     Long,
-    /// Nothing.
+    /// No text.
     Empty,
-    /// This text.
+    /// A text of at most 64 bytes.
     Text(&'a [u8]),
 }
 
-/// What stands on the held line.
+/// Returns the content of the line that the cutter holds.
 pub fn content_of(cutter: &Cutter) -> Line<'_>
     ensures { (line : List ℕ) → Holds cutter.now line → content_by result ≡ content line }
 {
@@ -29,7 +29,7 @@ pub fn content_of(cutter: &Cutter) -> Line<'_>
     content_in(cutter.line())
 }
 
-// What stands on a line of these bytes.
+// Returns the content of a line.
 pub(crate) fn content_in(line: &[u8]) -> Line<'_>
     ensures { content_by result ≡ content line.now }
 {
@@ -43,7 +43,7 @@ pub(crate) fn content_in(line: &[u8]) -> Line<'_>
     }
 }
 
-// The text of a line whose carriage return was taken off.
+// Returns the content of a line, given the bytes before its carriage return.
 fn text_of(front: &[u8]) -> Line<'_>
     ensures { content_by result ≡ text_or_empty front.now }
 {

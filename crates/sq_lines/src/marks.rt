@@ -1,11 +1,11 @@
-//! The line feeds of a piece as the bits of a mask.
+//! The line feeds of a piece, as the bits of a mask.
 ghost use Rattle.std.specs.Prelude.{◌≡◌, ◌^◌, ◌<◌, ◌≤◌, ℕ, length};
 ghost use Rattle.std.specs.Int.{bit_at};
 ghost use Rattle.sq_lines.specs.Lines.{MarksFeeds};
 
 use std::simd::prelude::*;
 
-// The mask of these 64 bytes.
+// Returns the mask of 64 bytes: bit k is set exactly if byte k is a line feed.
 pub(crate) fn feeds_of(bytes: &[u8]) -> u64
     requires { length bytes.now ≡ 64 }
     ensures { MarksFeeds result bytes.now }
@@ -15,7 +15,7 @@ pub(crate) fn feeds_of(bytes: &[u8]) -> u64
         .to_bitmask()
 }
 
-// The first marks, as many as this.
+// Returns the lowest `count` bits of a mask.
 pub(crate) fn front_marks(feeds: u64, count: usize) -> u64
     requires { count ≤ 64 }
     ensures small { result < 2 ^ count }

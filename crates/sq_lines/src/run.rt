@@ -1,10 +1,9 @@
-//! A run over devices: the loop around a log machine.
+//! The loop that runs a log machine over devices.
 ghost use Rattle.std.specs.Prelude.{◌≡◌, ◌++◌, ◌≤◌, [], List, ℕ, IfErr, IfOk, OnErr, OnOk, length, true};
 ghost use Rattle.sq_devices.specs.Changes.{FinishedOnce, Sent, TookAll, TookPart, TookReported, TookSome, Unfinished};
 ghost use Rattle.sq_devices.specs.Changes.{Wrote, taken_from, written_on};
 ghost use Rattle.sq_lines.specs.Lines.{ended_lines};
 ghost use Rattle.sq_lines.specs.Logs.{HasHeard, IsUpToDate};
-ghost use Rattle.sq_lines.specs.Machines.{machine_of};
 ghost use Rattle.sq_lines.specs.Runs.{HasRun, HasTold, OfLines, StoppedAtMemory, StoppedAtWrite, fed};
 
 use crate::faults::RunFault;
@@ -13,14 +12,14 @@ use crate::tallies::Tally;
 use crate::telling::{LineText, Telling, put_answer, put_header};
 use sq_devices::{Failed, Sink, Source};
 
-// Ends the last line at the end of the input.
+// Ends the last line if the input has ended.
 #[inline(always)]
 fn end_if<J: Telling>(log: &mut Log<J>, ended: bool)
     ensures heard { (start : J) (given : List ℕ) (lines : List (List ℕ)) (answers : List (Answer J.Found))
-        → HasHeard J.how start (machine_of log.old) given lines answers
-        → (ended ≡ true → IsUpToDate (machine_of log.old))
-        → HasHeard J.how start (machine_of log.new) (fed ended given) lines answers }
-    ensures short { length (machine_of log.old).waiting ≤ 64 → length (machine_of log.new).waiting ≤ 64 }
+        → HasHeard J.how start log.old given lines answers
+        → (ended ≡ true → IsUpToDate log.old)
+        → HasHeard J.how start log.new (fed ended given) lines answers }
+    ensures short { length log.old.window.waiting ≤ 64 → length log.new.window.waiting ≤ 64 }
     ensures number { log.new.number ≡ log.old.number }
     ensures lasting { J.lasting log.new.job ≡ J.lasting log.old.job }
 {
@@ -29,45 +28,48 @@ fn end_if<J: Telling>(log: &mut Log<J>, ended: bool)
     }
 }
 
-/// Answers the lines of the source until its end, behind the header.
+/// Writes the header, and the answer to each line of the source before the next line is heard. Returns the numbers of
+/// good and of refused lines once the input has ended and the sink is finished.
+///
+/// `Read`: a get failed. `Write`: a put or the finish failed. `Memory`: the job had no memory for a line.
 pub fn run_log<S: Source, K: Sink, J: Telling>(
     source: &mut S,
     sink: &mut K,
     log: &mut Log<J>,
 ) -> Result<Tally, RunFault>
-    // The machine was given nothing yet.
-    requires { HasHeard J.how log.old.job (machine_of log.old) [] [] [] }
+    // The machine was given nothing.
+    requires { HasHeard J.how log.old.job log.old [] [] [] }
 
-    // The bytes up to the end of the input were taken, and their lines have been answered and counted.
+    // All bytes up to the end of the input were read, and their lines were answered and counted.
     ensures whole { IfOk result (λ tally. TookAll (taken_from S.Source source.old source.new)
-        (HasRun J.how log.old.job log.new.job
+        (HasRun J.how J.text log.old.job log.new.job
         (λ text. Sent (written_on K.Sink sink.old sink.new) (J.front ++ text)) tally)) }
 
-    // Where the source reports its bytes, these are all of them.
+    // If the source reports its bytes, these are all of them.
     ensures reported { IfOk result (λ tally. TookReported (taken_from S.Source source.old source.new)
-        (HasRun J.how log.old.job log.new.job
+        (HasRun J.how J.text log.old.job log.new.job
         (λ text. Sent (written_on K.Sink sink.old sink.new) (J.front ++ text)) tally)) }
 
-    // Then the sink was finished, once.
+    // The sink is finished once if the run succeeds, and else never.
     ensures finished { OnOk result (FinishedOnce (written_on K.Sink sink.old sink.new)) }
     ensures unfinished { OnErr result (Unfinished (written_on K.Sink sink.old sink.new)) }
     ensures lasting { J.lasting log.new.job ≡ J.lasting log.old.job }
 
-    // Where the source failed, the lines that were read whole have been answered.
+    // After a failed get, each line that was read whole is answered.
     ensures unread { IfErr result (λ fault. fault ≡ RunFault.Read
-        → TookPart (taken_from S.Source source.old source.new) (λ read. HasTold J.how log.old.job log.new.job
+        → TookPart (taken_from S.Source source.old source.new) (λ read. HasTold J.how J.text log.old.job log.new.job
         (λ text. Wrote (written_on K.Sink sink.old sink.new) (J.front ++ text)) (ended_lines read))) }
 
-    // Where there was no memory for a line, the job may want some for it, and those before it have been answered.
+    // If memory ran out at a line, the job may want some for it, and all lines before it are answered.
     ensures unanswered { IfErr result (λ fault. fault ≡ RunFault.Memory
         → TookSome (taken_from S.Source source.old source.new) (OfLines (taken_from S.Source source.old source.new)
-        (StoppedAtMemory J.how log.old.job log.new.job
+        (StoppedAtMemory J.how J.text log.old.job log.new.job
         (λ text. Wrote (written_on K.Sink sink.old sink.new) (J.front ++ text))))) }
 
-    // Where the sink failed at a line's answer, that line was heard and those before it have been answered.
+    // If the sink failed at the answer to a line, that line was heard, and all lines before it are answered.
     ensures unwritten { IfErr result (λ fault. fault ≡ RunFault.Write → (K.has_failed sink.new ≡ true)
         × TookSome (taken_from S.Source source.old source.new) (OfLines (taken_from S.Source source.old source.new)
-        (StoppedAtWrite J.front J.how log.old.job log.new.job (K.written sink.old) (K.written sink.new)))) }
+        (StoppedAtWrite J.front J.how J.text log.old.job log.new.job (K.written sink.old) (K.written sink.new)))) }
 {
     match put_header(log.job(), sink) {
         Ok(()) => {}

@@ -1,6 +1,6 @@
-//! How many lines are good, and how many are refused.
+//! The numbers of good and of refused lines.
 
-/// The lines that are not empty, by what was found of them.
+/// The numbers of good and of refused lines. An empty line is neither.
 #[derive(Clone, Copy, Debug, PartialEq, Eq)]
 pub struct Tally {
     pub good: u64,

@@ -12,7 +12,6 @@ use Rattle.sq_devices.proofs.Puts.{HasPut-nil}
 use Rattle.sq_devices.specs.Device.{IsPrefixOf}
 use Rattle.sq_lines.specs.Lines.{closed, ended_lines, with_next}
 use Rattle.sq_lines.specs.Logs.{HasHeard}
-use Rattle.sq_lines.specs.Machines.{machine_of}
 use Rattle.sq_lines.specs.Runs.{HasGot, HasRun, HasTold, IsPumped, StoppedAtMemory, StoppedAtWrite, fed}
 use Rattle.sq_lines.proofs.Gets.{consumes_hidden, got_on, got_up_to_end, made_of_more, made_of_nothing}
 use Rattle.sq_lines.proofs.Windows.{passed_first}
@@ -24,9 +23,9 @@ use Rattle.sq_lines.proofs.run.run_log.Goals as goal
 
 pub steps-init : goal.steps-init
 steps-init g c =
-    let log = machine_of c.args.log.now in
-    let none : length log.waiting ≡ 0 =
-    omega (arith, ap length c.requires.kept.whole, length-append c.requires.kept.read log.waiting) in
+    let log = c.args.log.now in
+    let none : length log.window.waiting ≡ 0 =
+    omega (arith, ap length c.requires.kept.whole, length-append c.requires.kept.read log.window.waiting) in
     record {
       room = omega (arith, none, c.requires.number, g.met.S.Source.few_gets c.args.source.now);
       unfinished = refl;
@@ -53,12 +52,13 @@ pub steps-preserved-in-Passed : goal.steps-preserved-in-Passed
 steps-preserved-in-Passed g c =
     let i = c.steps.invariant in
     let how = g.J.Job.how in
+    let text = g.J.Telling.text in
     let k = g.K.Sink in
     let start = c.args.log.now.job in
     let before = c.args.sink.now in
     let first = c.put_header.new.sink in
     let header = g.J.Telling.front in
-    let new = machine_of c.step.new.self in
+    let new = c.step.new.self in
     let given : List ℕ = fed c.steps.ended i.read in
     let taken : ℕ = c.in-Passed.field-0 in
     let on = c.in-Passed.ensures.stepped start given i.pumped.lines i.pumped.answers i.pumped.heard in
@@ -74,7 +74,7 @@ steps-preserved-in-Passed g c =
       unfinished = i.unfinished;
       lasting = c.in-Passed.ensures.lasting ∙ i.lasting;
       read = i.read;
-      pumped = pumped_passed how start k first c.steps.sink (machine_of c.steps.log) new given given i.pumped
+      pumped = pumped_passed how text start k first c.steps.sink c.steps.log new given given i.pumped
           (on.0, subst (λ l. HasHeard how start new l (i.pumped.lines ++ on.0) i.pumped.answers) same on.1);
       got = i.got;
       running = i.running;
@@ -87,12 +87,13 @@ pub steps-preserved-in-Ok-put_answer : goal.steps-preserved-in-Ok-put_answer
 steps-preserved-in-Ok-put_answer g c =
     let i = c.steps.invariant in
     let how = g.J.Job.how in
+    let text = g.J.Telling.text in
     let k = g.K.Sink in
     let start = c.args.log.now.job in
     let before = c.args.sink.now in
     let first = c.put_header.new.sink in
     let header = g.J.Telling.front in
-    let new = machine_of c.step.new.self in
+    let new = c.step.new.self in
     let given : List ℕ = fed c.steps.ended i.read in
     let taken : ℕ = c.in-Answered.field-0 in
     let answer = c.in-Answered.answer in
@@ -109,7 +110,7 @@ steps-preserved-in-Ok-put_answer g c =
       unfinished = c.put_answer.ensures.unfinished ∙ i.unfinished;
       lasting = c.in-Answered.ensures.lasting ∙ i.lasting;
       read = i.read;
-      pumped = pumped_answered how start k first c.steps.sink c.put_answer.new.sink (machine_of c.steps.log)
+      pumped = pumped_answered how text start k first c.steps.sink c.put_answer.new.sink c.steps.log
           new given given answer i.pumped (
             on.0,
             subst (λ l. HasHeard how start new l (i.pumped.lines ++ on.0 ∷ [])
@@ -127,19 +128,20 @@ pub returns-in-Err-put_answer-clause-unwritten : goal.returns-in-Err-put_answer-
 returns-in-Err-put_answer-clause-unwritten g c = λ is.
     let i = c.steps.invariant in
     let how = g.J.Job.how in
+    let text = g.J.Telling.text in
     let k = g.K.Sink in
     let start = c.args.log.now.job in
     let before = c.args.sink.now in
     let first = c.put_header.new.sink in
     let header = g.J.Telling.front in
-    let new = machine_of c.step.new.self in
+    let new = c.step.new.self in
     let given : List ℕ = fed c.steps.ended i.read in
     let answer = c.in-Answered.answer in
     let on = c.in-Answered.ensures.stepped start given i.pumped.lines i.pumped.answers i.pumped.heard in
     let same = nothing_given given c.in-Answered.field-0 c.in-Answered.ensures.within in
     let heard = subst (λ l. HasHeard how start new l (i.pumped.lines ++ on.0 ∷ [])
     (i.pumped.answers ++ answer ∷ [])) same on.1 in
-    let prefix = passed_first new.line new.waiting given (i.pumped.lines ++ on.0 ∷ [])
+    let prefix = passed_first new.window.line new.window.waiting given (i.pumped.lines ++ on.0 ∷ [])
     heard.kept in (
       c.in-Err-put_answer.ensures.failed,
       (
@@ -147,10 +149,10 @@ returns-in-Err-put_answer-clause-unwritten g c = λ is.
         i.got.consumed,
         i.got.few,
         of_fed (taken_from g.S.Source c.args.source.now c.steps.source) c.steps.ended i.read
-            (StoppedAtWrite header how start c.step.new.self.job (k.written before)
+            (StoppedAtWrite header how text start c.step.new.self.job (k.written before)
             (k.written c.put_answer.new.sink)) i.at_end
-            (pumped_write how start k first header before c.in-Ok.ensures.put c.steps.sink c.put_answer.new.sink
-            (machine_of c.steps.log) new given given answer _ i.pumped (on.0, heard) prefix
+            (pumped_write how text start k first header before c.in-Ok.ensures.put c.steps.sink c.put_answer.new.sink
+            c.steps.log new given given answer _ i.pumped (on.0, heard) prefix
             c.in-Err-put_answer.ensures.part),
       ),
     )
@@ -159,6 +161,7 @@ pub returns-in-NoMemory-clause-unanswered : goal.returns-in-NoMemory-clause-unan
 returns-in-NoMemory-clause-unanswered g c = λ is.
     let i = c.steps.invariant in
     let how = g.J.Job.how in
+    let text = g.J.Telling.text in
     let k = g.K.Sink in
     let start = c.args.log.now.job in
     let before = c.args.sink.now in
@@ -172,9 +175,9 @@ returns-in-NoMemory-clause-unanswered g c = λ is.
       i.got.consumed,
       i.got.few,
       of_fed (taken_from g.S.Source c.args.source.now c.steps.source) c.steps.ended i.read
-          (StoppedAtMemory how start c.step.new.self.job
-          (λ text. Appends (k.written before) (k.written c.steps.sink) (header ++ text))) i.at_end
-          (pumped_memory how start k first header before c.in-Ok.ensures.put c.steps.sink (machine_of c.steps.log)
+          (StoppedAtMemory how text start c.step.new.self.job
+          (λ output. Appends (k.written before) (k.written c.steps.sink) (header ++ output))) i.at_end
+          (pumped_memory how text start k first header before c.in-Ok.ensures.put c.steps.sink c.steps.log
           c.step.new.self.job c.step.new.self.tally given _ i.pumped (stop.1.0, prefix, stop.1.2, stop.0.told)),
     )
 
@@ -182,31 +185,32 @@ pub returns-in_default-clause-unread : goal.returns-in_default-clause-unread
 returns-in_default-clause-unread g c = λ is.
     let i = c.steps.invariant in
     let how = g.J.Job.how in
+    let text = g.J.Telling.text in
     let k = g.K.Sink in
     let start = c.args.log.now.job in
     let before = c.args.sink.now in
     let first = c.put_header.new.sink in
     let header = g.J.Telling.front in
-    let new = machine_of c.step.new.self in
+    let new = c.step.new.self in
     let given : List ℕ = fed c.steps.ended i.read in
     let fed_all = c.in-Fed.ensures.stepped start given i.pumped.lines i.pumped.answers i.pumped.heard in
     let given_is : given ≡ i.read = fed_not c.steps.ended i.read c.if-ended.false in
-    let pumped : IsPumped how start k first c.steps.sink new given =
+    let pumped : IsPumped how text start k first c.steps.sink new given =
     record { lines = i.pumped.lines; answers = i.pumped.answers; heard = fed_all.1; put = i.pumped.put } in
-    let told = pumped_ended how start k first header before c.in-Ok.ensures.put c.steps.sink new given
+    let told = pumped_ended how text start k first header before c.in-Ok.ensures.put c.steps.sink new given
     pumped fed_all.2 in
     let Wrote : List ℕ → Type 0 =
-    λ text. Appends (k.written before) (k.written c.steps.sink) (header ++ text) in (
+    λ output. Appends (k.written before) (k.written c.steps.sink) (header ++ output) in (
       c.in_default.ensures.failed,
       (
         i.read,
         consumes_hidden _ _ _ i.read i.got.consumed c.in_default.ensures.kept,
         omega (arith, i.running c.if-ended.false, c.in_default.ensures.unused),
-        subst (λ job. HasTold how start job Wrote (ended_lines i.read)) (sym c.get_from.ensures.job)
-            (told_as how start c.step.new.self.job (λ text. HasPut k before c.steps.sink (header ++ text)) Wrote
-            (ended_lines i.read) (λ text put. put.0)
-            (subst (λ l. HasTold how start c.step.new.self.job
-            (λ text. HasPut k before c.steps.sink (header ++ text)) (ended_lines l)) given_is told)),
+        subst (λ job. HasTold how text start job Wrote (ended_lines i.read)) (sym c.get_from.ensures.job)
+            (told_as how text start c.step.new.self.job
+            (λ output. HasPut k before c.steps.sink (header ++ output)) Wrote (ended_lines i.read) (λ output put. put.0)
+            (subst (λ l. HasTold how text start c.step.new.self.job
+            (λ output. HasPut k before c.steps.sink (header ++ output)) (ended_lines l)) given_is told)),
       ),
     )
 
@@ -214,15 +218,16 @@ pub steps-preserved : goal.steps-preserved
 steps-preserved g c =
     let i = c.steps.invariant in
     let how = g.J.Job.how in
+    let text = g.J.Telling.text in
     let k = g.K.Sink in
     let start = c.args.log.now.job in
     let before = c.args.sink.now in
     let first = c.put_header.new.sink in
     let header = g.J.Telling.front in
-    let new = machine_of c.step.new.self in
+    let new = c.step.new.self in
     let more : ℕ = c.in-Ok-get_from.count in
     let got = c.in-Ok-get_from.ensures in
-    let piece : List ℕ = (machine_of c.get_from.new.self).waiting in
+    let piece : List ℕ = c.get_from.new.self.window.waiting in
     let ended : Bool = nat_eq more 0 in
     let long : length piece ≡ more = got.count in
     let given : List ℕ = fed c.steps.ended i.read in
@@ -275,31 +280,32 @@ whole : goal.returns-in-Ok-finish-clause-whole
 whole g c =
     let i = c.steps.invariant in
     let how = g.J.Job.how in
+    let text = g.J.Telling.text in
     let k = g.K.Sink in
     let start = c.args.log.now.job in
     let before = c.args.sink.now in
     let first = c.put_header.new.sink in
     let header = g.J.Telling.front in
-    let new = machine_of c.step.new.self in
+    let new = c.step.new.self in
     let given : List ℕ = fed c.steps.ended i.read in
     let fed_all = c.in-Fed.ensures.stepped start given i.pumped.lines i.pumped.answers i.pumped.heard in
     let given_is : given ≡ closed i.read = ap (λ e. fed e i.read) c.if-ended.true in
-    let pumped : IsPumped how start k first c.steps.sink new given =
+    let pumped : IsPumped how text start k first c.steps.sink new given =
     record { lines = i.pumped.lines; answers = i.pumped.answers; heard = fed_all.1; put = i.pumped.put } in
-    let done = pumped_all how start k first header before c.in-Ok.ensures.put c.steps.sink new i.read
-    (subst (IsPumped how start k first c.steps.sink new) given_is pumped) fed_all.2 in
+    let done = pumped_all how text start k first header before c.in-Ok.ensures.put c.steps.sink new i.read
+    (subst (IsPumped how text start k first c.steps.sink new) given_is pumped) fed_all.2 in
     let all = i.made_all c.if-ended.true in
     let sent = written_on k before c.finish.new.self in
-    let Run = HasRun how start c.step.new.self.job (λ text. Sent sent (header ++ text)) c.tally.result in
+    let Run = HasRun how text start c.step.new.self.job (λ output. Sent sent (header ++ output)) c.tally.result in
     let input = taken_from g.S.Source c.args.source.now c.steps.source in (
       all.0,
       all.1,
       subst (Consumes input.before input.after) all.2 i.got.consumed,
       i.at_end c.if-ended.true,
       subst Run all.2 (
-        told_as how _ _ (λ text. HasPut k before c.steps.sink (header ++ text)) (λ text. Sent sent (header ++ text)) _
-            (λ text put. (
-              Appends-kept _ _ _ (header ++ text) put.0 c.in-Ok-finish.ensures.bytes,
+        told_as how text _ _ (λ output. HasPut k before c.steps.sink (header ++ output))
+            (λ output. Sent sent (header ++ output)) _ (λ output put. (
+              Appends-kept _ _ _ (header ++ output) put.0 c.in-Ok-finish.ensures.bytes,
               (c.steps.sink, put, c.in-Ok-finish.ensures.sent),
             ))
             done.0,
@@ -318,19 +324,20 @@ pub returns-in-Err-finish-clause-unwritten : goal.returns-in-Err-finish-clause-u
 returns-in-Err-finish-clause-unwritten g c = λ is.
     let i = c.steps.invariant in
     let how = g.J.Job.how in
+    let text = g.J.Telling.text in
     let k = g.K.Sink in
     let start = c.args.log.now.job in
     let before = c.args.sink.now in
     let first = c.put_header.new.sink in
     let header = g.J.Telling.front in
-    let new = machine_of c.step.new.self in
+    let new = c.step.new.self in
     let given : List ℕ = fed c.steps.ended i.read in
     let fed_all = c.in-Fed.ensures.stepped start given i.pumped.lines i.pumped.answers i.pumped.heard in
     let given_is : given ≡ closed i.read = ap (λ e. fed e i.read) c.if-ended.true in
-    let pumped : IsPumped how start k first c.steps.sink new given =
+    let pumped : IsPumped how text start k first c.steps.sink new given =
     record { lines = i.pumped.lines; answers = i.pumped.answers; heard = fed_all.1; put = i.pumped.put } in
-    let done = pumped_all how start k first header before c.in-Ok.ensures.put c.steps.sink new i.read
-    (subst (IsPumped how start k first c.steps.sink new) given_is pumped) fed_all.2 in (
+    let done = pumped_all how text start k first header before c.in-Ok.ensures.put c.steps.sink new i.read
+    (subst (IsPumped how text start k first c.steps.sink new) given_is pumped) fed_all.2 in (
       c.in-Err-finish.ensures.failed,
       (
         i.read,
@@ -338,7 +345,7 @@ returns-in-Err-finish-clause-unwritten g c = λ is.
         i.got.few,
         inr (
           i.at_end c.if-ended.true,
-          told_unfinished how start k first header before c.in-Ok.ensures.put _ _ _ _ done.0
+          told_unfinished how text start k first header before c.in-Ok.ensures.put _ _ _ _ done.0
               c.in-Err-finish.ensures.kept,
         ),
       ),
@@ -351,7 +358,8 @@ returns-in-Err-clause-unwritten g c = λ is. (
     [],
     Consumes-nil (g.S.Source.to_come c.args.source.now),
     omega arith,
-    inl (stopped_in_header g.J.Job.how c.args.log.now.job g.J.Telling.front (g.K.Sink.written c.args.sink.now)
+    inl (stopped_in_header g.J.Job.how g.J.Telling.text c.args.log.now.job g.J.Telling.front
+        (g.K.Sink.written c.args.sink.now)
         (g.K.Sink.written c.put_header.new.sink) (ended_lines []) c.in-Err.ensures.part),
   ),
 )

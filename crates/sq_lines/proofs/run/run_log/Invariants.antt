@@ -1,17 +1,17 @@
 use Rattle.std.proofs.Common.{◌≡◌, ◌+◌, ◌*◌, ◌≤◌, List, ℕ, false, length, true}
 use Rattle.std.specs.Io.KnownBytes.{IsAtEnd}
 use Rattle.sq_devices.specs.Changes.{GotAtMost, taken_from}
-use Rattle.sq_lines.specs.Machines.{machine_of}
 use Rattle.sq_lines.specs.Runs.{HasGot, HasGotAll, IsMadeOf, IsPumped, fed}
 use Rattle.sq_lines.proofs.run.run_log.Given as goal
 
 abbrev pub invariant-steps : goal.invariant-steps
 invariant-steps g l = record {
-  room : l.log.number + length (machine_of l.log).waiting + 200 * g.S.Source.gets_left l.source ≤ 200000000000064;
+  room : l.log.number + length l.log.window.waiting + 200 * g.S.Source.gets_left l.source ≤ 200000000000064;
   unfinished : g.K.Sink.finishes l.sink ≡ g.K.Sink.finishes l.initial.sink;
   lasting : g.J.Job.lasting l.log.job ≡ g.J.Job.lasting l.initial.log.job;
   read : List ℕ;
-  pumped : IsPumped g.J.Job.how l.initial.log.job g.K.Sink l.initial.sink l.sink (machine_of l.log) (fed l.ended read);
+  pumped : IsPumped g.J.Job.how g.J.Telling.text l.initial.log.job g.K.Sink l.initial.sink l.sink
+      l.log (fed l.ended read);
   got : HasGot (taken_from g.S.Source l.initial.source l.source) 1 read;
   running : l.ended ≡ false → GotAtMost (taken_from g.S.Source l.initial.source l.source) (length read + 0);
   made : l.ended ≡ false → IsMadeOf (taken_from g.S.Source l.initial.source l.source) read;
@@ -20,4 +20,4 @@ invariant-steps g l = record {
 }
 
 abbrev pub decreases-steps : goal.decreases-steps
-decreases-steps g l = length (machine_of l.log).waiting + 200 * g.S.Source.gets_left l.source
+decreases-steps g l = length l.log.window.waiting + 200 * g.S.Source.gets_left l.source

@@ -4,7 +4,7 @@ use Rattle.sq_lines.proofs.log.Log.new.Goals as goal
 
 pub returns-clause-heard : goal.returns-clause-heard
 returns-clause-heard g c = record {
-  kept = keeps_nothing _ _ c.new.ensures.front c.new.ensures.waiting;
+  kept = keeps_nothing _ _ c.new.ensures.line c.new.ensures.waiting;
   number = refl;
   told = told_none g.J.Job.how c.args.job c.args.job _ refl refl;
 }

@@ -1,6 +1,6 @@
 use Rattle.std.proofs.Common.{refl, rules}
 use Rattle.sq_lines.proofs.Windows.{length-slid, window_slid}
-use Rattle.sq_lines.proofs.window.Window.slide.Goals as goal
+use Rattle.sq_lines.proofs.marked_bytes.MarkedBytes.slide.Goals as goal
 
 pub returns-clause-front : goal.returns-clause-front
 returns-clause-front c =

@@ -2,7 +2,7 @@ use Rattle.std.proofs.Common.{◌≡◌, ◌+◌, ◌-◌, ◌∙◌, ℕ, List,
 use borrow.Rule.Slice.PartMut.{put_mid}
 use Rattle.sq_lines.specs.Windows.{between}
 use Rattle.sq_lines.proofs.Windows.{behind_put, front_put}
-use Rattle.sq_lines.proofs.window.Window.fill_part.Goals as goal
+use Rattle.sq_lines.proofs.marked_bytes.MarkedBytes.fill_part.Goals as goal
 
 pub returns-clause-waiting : goal.returns-clause-waiting
 returns-clause-waiting c =

@@ -4,7 +4,7 @@ use Rattle.sq_lines.specs.Lines.{MarksFeeds}
 use Rattle.sq_lines.specs.Windows.{between}
 use Rattle.sq_lines.proofs.FeedMarks.{marks_same}
 use Rattle.sq_lines.proofs.Windows.{marks_part}
-use Rattle.sq_lines.proofs.window.Window.mark.Goals as goal
+use Rattle.sq_lines.proofs.marked_bytes.MarkedBytes.mark.Goals as goal
 
 pub invariant_of-self-clause-marked : goal.invariant_of-self-clause-marked
 invariant_of-self-clause-marked c =

@@ -4,7 +4,7 @@ use lib.Lanes.{chunk, put_chunk}
 use borrow.Rule.Slice.PartMut.{mid_of, put_mid}
 use Rattle.sq_lines.specs.Windows.{between}
 use Rattle.sq_lines.proofs.Windows.{behind_put, front_put, whole_put}
-use Rattle.sq_lines.proofs.window.Window.fill.Goals as goal
+use Rattle.sq_lines.proofs.marked_bytes.MarkedBytes.fill.Goals as goal
 
 pub returns-clause-waiting : goal.returns-clause-waiting
 returns-clause-waiting c =

@@ -2,13 +2,13 @@ use Rattle.std.proofs.Common.{◌++◌, List, length, subst, subst₂, sym, take
 use Rattle.std.proofs.lemmas.List.{take_all}
 use Rattle.std.proofs.Common.{arith}
 use Rattle.sq_lines.specs.Held.{KeepsRest}
-use Rattle.sq_lines.specs.Windows.{front_of, waiting_of}
+use Rattle.sq_lines.specs.Marked.{front_of, waiting_of}
 use Rattle.sq_lines.proofs.Windows.{more_taken, some_feed}
-use Rattle.sq_lines.proofs.window.Window.take.Goals as goal
+use Rattle.sq_lines.proofs.marked_bytes.MarkedBytes.take.Goals as goal
 
-pub returns-in-Some-clause-none : goal.returns-in-Some-clause-none
-returns-in-Some-clause-none c = λ zero none.
-    absurd (some_feed (waiting_of c.args.self.now) c.in-Some.ensures.some.there none)
+pub returns-then-has_feed-clause-none : goal.returns-then-has_feed-clause-none
+returns-then-has_feed-clause-none c =
+    λ zero none. absurd (some_feed (waiting_of c.args.self.now) (c.has_feed.ensures.some c.if-has_feed.true) none)
 
 pub returns-then-piece-lt-PIECE-clause-taken : goal.returns-then-piece-lt-PIECE-clause-taken
 returns-then-piece-lt-PIECE-clause-taken c given lines from =
@@ -16,7 +16,7 @@ returns-then-piece-lt-PIECE-clause-taken c given lines from =
     let new = c.fill_part.new.self in
     let piece : List ℕ = c.args.piece.now in
     let kept = more_taken (front_of old) (waiting_of old) (front_of c.slide.new.self) piece given lines from
-    c.in_default.ensures.none c.slide.ensures.front in
+    (c.has_feed.ensures.none c.if-has_feed.false) c.slide.ensures.front in
     subst (λ (l : List ℕ). KeepsRest (front_of new) (waiting_of new) (given ++ l) lines)
     (sym (take_all (length piece) piece (omega arith)))
     (subst₂ (λ (l w : List ℕ). KeepsRest l w (given ++ piece) lines) (sym c.fill_part.ensures.front)
@@ -27,6 +27,6 @@ returns-clause-taken c given lines from =
     let old = c.args.self.now in
     let more : List ℕ = take 64 c.args.piece.now in
     let kept = more_taken (front_of old) (waiting_of old) (front_of c.slide.new.self) more given lines from
-    c.in_default.ensures.none c.slide.ensures.front in
+    (c.has_feed.ensures.none c.if-has_feed.false) c.slide.ensures.front in
     subst₂ (λ (l w : List ℕ). KeepsRest l w (given ++ more) lines) (sym c.fill.ensures.front)
     (sym c.fill.ensures.waiting) kept

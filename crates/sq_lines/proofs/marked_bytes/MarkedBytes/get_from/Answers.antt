@@ -3,9 +3,10 @@ use Rattle.std.specs.Io.KnownBytes.{Consumes}
 use Rattle.std.proofs.lemmas.List.{length-take-le}
 use borrow.Rule.Slice.PartMut.{put_mid}
 use Rattle.sq_lines.specs.Held.{KeepsRest}
-use Rattle.sq_lines.specs.Windows.{between, front_of, waiting_of}
+use Rattle.sq_lines.specs.Marked.{front_of, waiting_of}
+use Rattle.sq_lines.specs.Windows.{between}
 use Rattle.sq_lines.proofs.Windows.{front_put, got_behind, more_taken}
-use Rattle.sq_lines.proofs.window.Window.get_from.Goals as goal
+use Rattle.sq_lines.proofs.marked_bytes.MarkedBytes.get_from.Goals as goal
 
 pub returns-clause-got : goal.returns-clause-got
 returns-clause-got g c given lines from none =

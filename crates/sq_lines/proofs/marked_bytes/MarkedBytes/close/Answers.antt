@@ -1,9 +1,9 @@
 use Rattle.std.proofs.Common.{◌≡◌, ◌-◌, [], List, append-nil, arith, length, refl, rules, subst, subst₂, sym, ℕ}
 use Rattle.sq_lines.specs.Held.{KeepsRest}
 use Rattle.sq_lines.specs.Lines.{closed}
-use Rattle.sq_lines.specs.Windows.{front_of, waiting_of}
+use Rattle.sq_lines.specs.Marked.{front_of, waiting_of}
 use Rattle.sq_lines.proofs.Windows.{closed_line, closed_none, length-between, more_taken}
-use Rattle.sq_lines.proofs.window.Window.close.Goals as goal
+use Rattle.sq_lines.proofs.marked_bytes.MarkedBytes.close.Goals as goal
 
 pub returns-then-self-lt-FRONT-clause-closed : goal.returns-then-self-lt-FRONT-clause-closed
 returns-then-self-lt-FRONT-clause-closed c given lines from none =
