@@ -1,5 +1,5 @@
 //! The log machine, by a job of its own: pieces in, answers out, in whatever pieces the log comes.
-ghost use Rattle.std.specs.Prelude.{◌≡◌, [], Err, List, ℕ, ⊤};
+ghost use Rattle.std.specs.Prelude.{◌≡◌, Err, List, ℕ, ⊤};
 ghost use Rattle.sq_lines.specs.Answers.{Manner};
 ghost use Rattle.sq_text.specs.declared.faults.LineFault.TheVariants.{Full};
 
@@ -20,11 +20,15 @@ impl Job for FirstBytes {
     // A test looks at the answers alone: the job stands for no past, so that nothing is stated of them.
     ghost how = { record {
       stands_for = λ state past. ⊥;
-      way = record { answer = λ past text. Err Full; after = λ past text. past; text = λ past number verdict. [] };
+      way = record { answer = λ past text. Err Full; after = λ past text. past };
       wants = λ state text. ⊤;
     } };
 
     ghost lasting = { λ state. tt };
+
+    ghost Promised = { λ start answers. Unit {0} };
+
+    ghost promises = { λ start now tally lines answers told. tt };
 
     fn hear(&mut self, text: &[u8]) -> Verdict<u8> {
         match text.first() {

@@ -7,5 +7,4 @@ pub mod HeardLemmas
 pub mod OneRuns
 pub mod SomeWriters
 pub mod TrackLemmas
-pub mod SlowAnswers
 pub mod OnePast

@@ -11,11 +11,9 @@ use Rattle.sq_text.specs.declared.faults.LineFault.{LineFault}
 use Rattle.sq_message.specs.declared.received.Received.{Received}
 use Rattle.sq_text.specs.Timed.{IsTimedReading, TimedReader}
 use Rattle.sq_text.proofs.TimedReadings.{one_timed_reading}
-use Rattle.sq_lines.specs.Answers.{Answerer, Manner, after_content, after_line, answer_line, answers_to, past_after}
+use Rattle.sq_lines.specs.Answers.{after_content, after_line, answer_line, answers_to, past_after}
 use Rattle.sq_lines.specs.Answers.{tally_of}
 use Rattle.sq_lines.specs.Hearings.{IsHeard}
-use Rattle.sq_lines.specs.Logs.{AreAnswers}
-use Rattle.sq_lines.specs.declared.log.Answer.{Answer as Told}
 use Rattle.sq_lines.specs.declared.job.Verdict.{Verdict}
 use Rattle.sq_lines.specs.declared.job.Verdict.TheVariants as verdicts
 use Rattle.sq_lines.specs.Content.{Answer, Content, Long, Empty, Text, answer_by, answer_content, content}
@@ -29,17 +27,15 @@ use Rattle.sq_track.specs.declared.heard.TrackFault.{TrackFault}
 use Rattle.sq_track.specs.declared.heard.TrackFault.TheVariants as track_faults
 use Rattle.sq_track.specs.Held.{Held, StandsFor, settings}
 use Rattle.sq_track.specs.History.{History}
-use Rattle.sq_track.specs.Replies.{Settings, IsHistory, IsReply, history_after}
+use Rattle.sq_track.specs.Replies.{Settings, IsReply, history_after}
 use Rattle.sq_track.proofs.Histories.OneReply.{one_reply}
-use Rattle.sq_track.proofs.Histories.SomeAnswer.{some_reply}
 use Rattle.sq_commands.specs.Formats.{Telling, Writers, told_by}
 use Rattle.sq_commands.specs.Heard.{HeardSquitter}
-use Rattle.sq_commands.proofs.SlowAnswers.{true_after}
-use Rattle.sq_commands.specs.SlowAnswers.{AreTrueAfter, AreTrueAnswers}
+use Rattle.sq_commands.specs.TrueAnswers.{start, true_after}
 use Rattle.sq_commands.specs.declared.track.Hearing.{Hearing}
 use Rattle.sq_commands.specs.Track.{HasTracked, IsTracked, hearing_manner}
 use Rattle.sq_commands.specs.Tracking.{AreHeardLines, HasHeard, IsFoundOf, IsHeardLine, IsTimedHeard, IsTracking}
-use Rattle.sq_commands.specs.Tracking.{Replier, Tracking, WroteIntoLast, answer_read, found_of, past_read}
+use Rattle.sq_commands.specs.Tracking.{Tracking, WroteIntoLast, answer_read, found_of, past_read}
 use Rattle.sq_commands.specs.Tracking.{past_with, reply_by, track_manner, track_way}
 
 history_with : (past : Tracking) (timed : Received) (reply : Result Heard TrackFault)
@@ -75,7 +71,7 @@ timed_heard past timed new reply is remembers stands same =
 -- ---- texts
 
 -- the same borrow of another tracker
-abbrev with_tracker : {F : Type 0} → MutBor Held → Bor F → Held → Hearing F
+abbrev with_tracker : {F A : Type 0} → MutBor Held → Bor F → Held → Hearing F A
 with_tracker lent format tracker = record { tracker = record lent { now = tracker }; format = format }
 
 -- a text that spells a squitter is heard as `hear` says
@@ -92,16 +88,16 @@ text_found text timed found old new spells same heard past st =
     subst (λ (read : Result Received LineFault). (answer_read past read ≡ found) × IsTracking new (past_read past read))
     one (sym t.0 ∙ sym h.3, t.1)
 
-pub text_heard : (text : List ℕ) (timed : Received) (verdict : Verdict HeardSquitter) {F : Type 0}
-    (telling : Telling HeardSquitter) (format : Bor F) (lent : MutBor Held) (new : Held)
+pub text_heard : (A : Type 0) (text : List ℕ) (timed : Received) (verdict : Verdict HeardSquitter) {F : Type 0}
+    (format : Bor F) (lent : MutBor Held) (new : Held)
     → IsTimedReading text (Ok timed) → settings new ≡ settings lent.now → IsTimedHeard verdict timed lent.now new
-    → IsHeard (hearing_manner telling) verdict text (record { tracker = lent; format = format })
+    → IsHeard (hearing_manner {F = F} {A = A}) verdict text (record { tracker = lent; format = format })
     (with_tracker lent format new)
-text_heard text timed (verdicts.Good found) telling format lent new spells same heard =
+text_heard A text timed (verdicts.Good found) format lent new spells same heard =
     text_found text timed (Ok found) lent.now new spells same heard
-text_heard text timed (verdicts.Refused fault) telling format lent new spells same heard =
+text_heard A text timed (verdicts.Refused fault) format lent new spells same heard =
     text_found text timed (Err fault) lent.now new spells same heard
-text_heard text timed verdicts.NoMemory telling format lent new spells same heard =
+text_heard A text timed verdicts.NoMemory format lent new spells same heard =
     (ap (with_tracker lent format) heard.0, (timed, spells, heard.1, heard.2))
 
 -- a text at fault is refused, and the tracker stays
@@ -116,14 +112,6 @@ text_refused text fault now is past st =
     × IsTracking now (past_read past read)) one (refl, st)
 
 -- ---- many lines
-
--- what replies to calls: there is a reply, and one alone
-pub replier : Replier
-replier = record {
-  reply = λ s h accepted m q. (some_reply s h m q accepted).0;
-  replies = λ s h accepted m q. (some_reply s h m q accepted).1;
-  remembers = λ s h accepted m q. (some_reply s h m q accepted).2;
-}
 
 -- what came before, after what was read of a line
 abbrev past_heard : Tracking → Answer Received → Tracking
@@ -185,19 +173,18 @@ reader_heard past (Some (Ok timed)) =
     reader_with past timed (reply_by past timed)
     (past.replier.replies past.settings past.history past.accepted timed.moment timed.squitter)
 
-pub lines_heard : (telling : Telling HeardSquitter) (past : Tracking) (lines : List (List ℕ))
-    → AreHeardLines past.reader past.settings past.history lines (answers_to (track_way telling) past lines)
-    (past_after (track_way telling) past lines).history
-lines_heard telling past [] = (refl, refl)
-lines_heard telling past (line ∷ lines) =
-    let way = track_way telling in
+pub lines_heard : (past : Tracking) (lines : List (List ℕ))
+    → AreHeardLines past.reader past.settings past.history lines (answers_to track_way past lines)
+    (past_after track_way past lines).history
+lines_heard past [] = (refl, refl)
+lines_heard past (line ∷ lines) =
     let read = answer_by past.reader.read line in
-    let next = after_line way past line in
+    let next = after_line track_way past line in
     let same : next ≡ past_heard past read = after-heard past (content line) in
-    let rest = lines_heard telling next lines in
-    let answers = answers_to way next lines in
-    let end = (past_after way next lines).history in (
-      answer_line way past line,
+    let rest = lines_heard next lines in
+    let answers = answers_to track_way next lines in
+    let end = (past_after track_way next lines).history in (
+      answer_line track_way past line,
       next.history,
       answers,
       subst₂ (λ (a : Answer HeardSquitter) (h : History). IsHeardLine past.settings past.history read a h)
@@ -210,73 +197,51 @@ lines_heard telling past (line ∷ lines) =
 
 -- ---- runs
 
--- what came before the first line
-abbrev pub start : TimedReader → Writers → (s : Settings) (h : History) → IsHistory s h → Tracking
-start reader writers s h accepted =
-    record { reader = reader; replier = replier; writers = writers; settings = s; history = h; accepted = accepted }
-
--- the answers of a log machine are true in slow worlds
-pub true_answers : (telling : Telling HeardSquitter) (old now : Held) (tally : Tally) (lines : List (List ℕ))
-    (answers : List (Told HeardSquitter)) → AreAnswers (track_manner telling) old now tally lines answers
-    → AreTrueAnswers old answers
-true_answers telling old now tally lines answers told reader writers h st =
-    let past : Tracking = start reader writers (settings old) h st.accepted in
-    let way = track_way telling in
-    subst (AreTrueAfter old h) (sym (told past (st, refl)).1)
-    (true_after reader old h lines (answers_to way past lines) (past_after way past lines).history st
-    (lines_heard telling past lines))
-
 module _ (telling : Telling HeardSquitter) where
-  abbrev way : Answerer Tracking HeardSquitter
-  way = track_way telling
-
-  abbrev how : Manner Held Tracking HeardSquitter
-  how = track_manner telling
-
   heard_from : (old new : Held) (lines : List (List ℕ))
       (Holding : (List (Answer HeardSquitter) → List ℕ) → List (Answer HeardSquitter) → Type 0)
-      → ((past : Tracking) → IsTracking old past → IsTracking new (past_after way past lines)
-      × Holding (told_by telling past.writers) (answers_to way past lines))
+      → ((past : Tracking) (writers : Writers) → IsTracking old past → IsTracking new (past_after track_way past lines)
+      × Holding (told_by telling writers) (answers_to track_way past lines))
       → HasHeard telling old new lines Holding
   heard_from old new lines Holding told reader writers h stands =
-      let past = start reader writers (settings old) h stands.accepted in
-      let one = told past (stands, refl) in (
-        answers_to way past lines,
-        (past_after way past lines).history,
-        lines_heard telling past lines,
+      let past = start reader (settings old) h stands.accepted in
+      let one = told past writers (stands, refl) in (
+        answers_to track_way past lines,
+        (past_after track_way past lines).history,
+        lines_heard past lines,
         one.0.0,
-        true_after reader old h lines (answers_to way past lines) (past_after way past lines).history stands
-            (lines_heard telling past lines),
+        true_after old past lines (stands, refl),
         one.1,
       )
 
   answers-take : (past : Tracking) (n : ℕ) (lines : List (List ℕ))
-      → answers_to way past (take n lines) ≡ take n (answers_to way past lines)
+      → answers_to track_way past (take n lines) ≡ take n (answers_to track_way past lines)
   answers-take past zero lines = refl
   answers-take past (suc n) [] = refl
   answers-take past (suc n) (line ∷ lines) =
-      ap (λ answers. answer_line way past line ∷ answers) (answers-take (after_line way past line) n lines)
+      ap (λ answers. answer_line track_way past line ∷ answers) (answers-take (after_line track_way past line) n lines)
 
-  answers-length : (past : Tracking) (lines : List (List ℕ)) → length (answers_to way past lines) ≡ length lines
+  answers-length : (past : Tracking) (lines : List (List ℕ)) → length (answers_to track_way past lines) ≡ length lines
   answers-length past [] = refl
-  answers-length past (line ∷ lines) = omega (arith, answers-length (after_line way past line) lines)
+  answers-length past (line ∷ lines) = omega (arith, answers-length (after_line track_way past line) lines)
 
   -- a run of any lines, as one of `track`
   module _ (input : Taken) (output : Written) (old new : Held) where
-    told-track : (lines : List (List ℕ)) → HasTold how old new (λ text. Wrote output (telling.header ++ text)) lines
+    told-track : (lines : List (List ℕ))
+        → HasTold track_manner telling.text old new (λ text. Wrote output (telling.header ++ text)) lines
         → HasHeard telling old new lines (λ text answers. Wrote output (text answers))
     told-track lines told = heard_from old new lines (λ text answers. Wrote output (text answers)) told
 
     told_part-track : (lines : List (List ℕ))
-        → HasToldPart telling.header how old new output.before output.after lines
+        → HasToldPart telling.header track_manner telling.text old new output.before output.after lines
         → HasHeard telling old new lines (λ text answers. WroteIntoLast output text answers)
     told_part-track lines told = heard_from old new lines
-        (λ text answers. WroteIntoLast output text answers) (λ past st.
-        let one = told past st in
-        let text = told_by telling past.writers in
-        let answers = answers_to way past lines in
+        (λ text answers. WroteIntoLast output text answers) (λ past writers st.
+        let one = told past writers st in
+        let text = told_by telling writers in
+        let answers = answers_to track_way past lines in
         let n : length answers - 1 ≡ length lines - 1 = ap (λ k. k - 1) (answers-length past lines) in
-        let front : answers_to way past (but_last lines) ≡ take (length answers - 1) answers =
+        let front : answers_to track_way past (but_last lines) ≡ take (length answers - 1) answers =
         answers-take past (length lines - 1) lines ∙ ap (λ k. take k answers) (sym n) in
         let part : List ℕ = one.1.0 in (
           one.0,
@@ -290,7 +255,7 @@ module _ (telling : Telling HeardSquitter) where
         ))
 
     whole-track : (tally : Tally)
-        → TookAll input (HasRun how old new (λ text. Sent output (telling.header ++ text)) tally)
+        → TookAll input (HasRun track_manner telling.text old new (λ text. Sent output (telling.header ++ text)) tally)
         → TookAll input (HasTracked telling tally output old new)
     whole-track tally (pieces, got, consumed, end, run) = (
       pieces,
@@ -298,20 +263,23 @@ module _ (telling : Telling HeardSquitter) where
       consumed,
       end,
       heard_from old new (lines_of (concat pieces))
-          (λ text answers. Sent output (text answers) × (tally ≡ tally_of answers)) (λ past st.
-          let one = run.0 past st in (one.0, (one.1, run.1 past st))),
+          (λ text answers. Sent output (text answers) × (tally ≡ tally_of answers)) (λ past writers st.
+          let one = run.0 past writers st in (one.0, (one.1, run.1 past st))),
     )
 
     pub tracked : (result : Result Tally RunFault)
-        → IfOk result (λ tally. TookAll input (HasRun how old new (λ text. Sent output (telling.header ++ text)) tally))
+        → IfOk result (λ tally. TookAll input
+        (HasRun track_manner telling.text old new (λ text. Sent output (telling.header ++ text)) tally))
         → OnOk result (FinishedOnce output) → OnErr result (Unfinished output)
         → IfErr result (λ fault. fault ≡ Read
-        → TookPart input (λ bytes. HasTold how old new (λ text. Wrote output (telling.header ++ text))
-        (ended_lines bytes)))
+        → TookPart input (λ bytes. HasTold track_manner telling.text old new
+        (λ text. Wrote output (telling.header ++ text)) (ended_lines bytes)))
         → IfErr result (λ fault. fault ≡ Memory
-        → TookSome input (OfLines input (StoppedAtMemory how old new (λ text. Wrote output (telling.header ++ text)))))
+        → TookSome input (OfLines input (StoppedAtMemory track_manner telling.text old new
+        (λ text. Wrote output (telling.header ++ text)))))
         → IfErr result (λ fault. fault ≡ Write → (output.failed ≡ true)
-        × TookSome input (OfLines input (StoppedAtWrite telling.header how old new output.before output.after)))
+        × TookSome input (OfLines input
+        (StoppedAtWrite telling.header track_manner telling.text old new output.before output.after)))
         → IsTracked telling result input output old new
     tracked (Ok tally) whole finished unfinished unread unanswered unwritten =
         (finished, whole-track tally whole)

@@ -46,7 +46,7 @@ pub record IsFeetText (word : List ℕ) (feet : ℤ) : Type 0 where
   pub of_digits : IsFiveDigits digits number
   pub value : feet ≡ signed negative number
 
--- the field of so many feet
+-- the altitude field of this many feet
 abbrev pub IsFeet : List ℕ → ℕ → Type 0
 IsFeet word field = (feet : ℤ) × IsFeetText word feet × IsFieldOfFeet field feet
 
@@ -65,33 +65,33 @@ IsSiteWords (Some lat) (Some lon) (Some position) = IsPositionWords lat lon posi
 
 -- ---- the first fault
 
--- an angle of at most so many degrees
+-- an angle of at most `limit` degrees
 abbrev pub IsAngleWord : ℕ → List ℕ → Type 0
 IsAngleWord limit word = (angle : Angle) × IsReading word (Ok angle) × IsWithin limit (degrees angle)
 
--- what is wrong with such an angle: the fault of its reading, or that it is larger
+-- the error of an angle: its text is invalid, or it exceeds the limit
 abbrev pub IsAngleFault : ℕ → List ℕ → AngleFault → Type 0
 IsAngleFault limit word fault = IsReading word (Err fault)
     ⊎ ((fault ≡ OutOfRange) × ((angle : Angle) × IsReading word (Ok angle) × ¬ IsWithin limit (degrees angle)))
 
--- what is wrong with a position: the latitude is looked at first
+-- the first fault of a position: the latitude is read first
 abbrev pub IsPositionFault : (lat lon : List ℕ) → ArgumentFault → Type 0
 IsPositionFault lat lon fault =
     ((why : AngleFault) × (fault ≡ Lat why) × IsAngleFault 90 lat why)
     ⊎ ((why : AngleFault) × (fault ≡ Lon why) × IsAngleWord 90 lat × IsAngleFault 180 lon why)
 
--- what is wrong with a site: one word alone, else the position
+-- the first fault of a receiver position: one word alone, or the position's fault
 abbrev pub IsSiteFault : (lat lon : Option (List ℕ)) → ArgumentFault → Type 0
 IsSiteFault None None fault = ⊥
 IsSiteFault None (Some lon) fault = fault ≡ Site
 IsSiteFault (Some lat) None fault = fault ≡ Site
 IsSiteFault (Some lat) (Some lon) fault = IsPositionFault lat lon fault
 
--- an argument that is not good has this fault; after a good one the next are looked at
+-- an invalid argument has this fault; after a valid one the next are read
 abbrev pub IsFaultUnless : (Good : Type 0) → (fault own : ArgumentFault) → (Next : Type 0) → Type 0
 IsFaultUnless Good fault own Next = ((fault ≡ own) × (¬ Good)) ⊎ (Good × Next)
 
--- ---- what is read
+-- ---- readings
 
 -- a position, or the first fault of its words
 abbrev pub IsPositionReading : (lat lon : List ℕ) → Result Position ArgumentFault → Type 0

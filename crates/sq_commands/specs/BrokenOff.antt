@@ -1,4 +1,4 @@
--- What a run that broke off did, in the words of its devices.
+-- The effects of a run that stopped early.
 use Rattle.std.specs.Prelude.{◌≡◌, ◌≢◌, ◌==◌, ◌⊎◌, ◌-◌, ◌≤◌, ◌++◌, ◌∷◌, [], ℕ, List, Option, None, codes, find, length}
 use Rattle.std.specs.Prelude.{take, true}
 use Rattle.std.specs.Io.KnownBytes.{Appends, IsAtEnd}
@@ -29,7 +29,7 @@ use Rattle.sq_commands.specs.Track.{IsLogRun}
 use Rattle.sq_commands.specs.Tracking.{HasHeard}
 
 module _ {S K F : Type 0} (s : SourceGhosts S) (k : SinkGhosts K) (f : SinkGhosts F) where
-  -- the output has failed within this text, and was not finished
+  -- the output failed within this text, and was not finished
   abbrev pub FailedInside : (old new : K) → List ℕ → Type 0
   FailedInside old new text =
       (k.has_failed new ≡ true) × WroteFront (k.written old) (k.written new) text × (k.finishes new ≡ k.finishes old)
@@ -38,8 +38,8 @@ module _ {S K F : Type 0} (s : SourceGhosts S) (k : SinkGhosts K) (f : SinkGhost
   abbrev pub OfItsLines : (to : S) → (List (List ℕ) → Type 0) → List ℕ → Type 0
   OfItsLines to Of bytes = Of (ended_lines bytes) ⊎ (IsAtEnd (s.to_come to) × Of (lines_of bytes))
 
-  -- A run of `check` that broke off finished no output. Either a get failed after the answers to the lines that were
-  -- read whole, or the output failed within them.
+  -- A run of `check` that stopped early finished no output. Either a get failed after the answers to all lines that
+  -- were read whole, or the output failed within these answers.
   abbrev pub BrokenChecks : Type 0
   BrokenChecks = (format : Format) (from to : S) (old new : K) (before after : F)
       → IsCheckRunIn format Broken (effects s from to (outputs k f old new before after))
@@ -51,15 +51,15 @@ module _ {S K F : Type 0} (s : SourceGhosts S) (k : SinkGhosts K) (f : SinkGhost
       → WroteFront (k.written old) (k.written new) (check_output (squitter_telling format) by lines)))
       × WroteOrFailed (written_on f before after) (codes "write failed\n")))
 
-  -- the tracker may want memory for this line: a position on it, of an address that is not present, would be accepted
+  -- the tracker may want memory for this line: it has a position of a new address that would be accepted
   abbrev pub WantsSome : Held → List ℕ → Type 0
   WantsSome t line = (text : List ℕ) × (content line ≡ Stands text) × ((timed : Received) × IsTimedText text timed
       × (IsPosition (squitter_parts timed.squitter).me
       × (find (λ entry. entry.0 == (squitter_parts timed.squitter).address) (present_of t) ≡ None))
       × ((h : History) → StandsFor t h → IsAcceptable (settings t) h timed.moment timed.squitter))
 
-  -- a run of `track`, by a tracker that had heard nothing: a get failed; or the output did within the answers to some
-  -- lines, all but the last one's written whole; or there was no memory at a line that may want some
+  -- a run of `track` by a new tracker: a get failed; or the output failed within the answers to some lines, all written
+  -- whole but the last one; or there was no memory for a line that may want some
   abbrev pub BrokenLogs : Type 0
   BrokenLogs = (options : TrackOptions) (from to : S) (old new : K) (before after : F)
       → IsLogRun options Broken (effects s from to (outputs k f old new before after))
@@ -80,14 +80,14 @@ module _ {S K F : Type 0} (s : SourceGhosts S) (k : SinkGhosts K) (f : SinkGhost
       (λ text answers. Appends (k.written old) (k.written new) (text answers))))
       × WroteOrFailed (written_on f before after) (codes "out of memory\n")))
 
-  -- an answer: the output has failed within its text
+  -- an answer: the output failed within its text
   abbrev pub BrokenAnswers : Type 0
   BrokenAnswers = (text : List ℕ) (old new : K) (before after : F)
       → IsAnswer text Broken (outputs k f old new before after)
       → FailedInside old new text × WroteOrFailed (written_on f before after) (codes "write failed\n")
 
-  -- a command that reads no lines left the input alone, and the output has failed within some text; or `encode` is out
-  -- of memory, and nothing was written
+  -- a command that reads no lines left the input alone, and the output failed within some text; or `encode` is out of
+  -- memory, and nothing was written
   abbrev pub BrokenAside : Type 0
   BrokenAside = (words : Asked) (from to : S) (old new : K) (before after : F)
       → ((format : Option Text) → words ≢ Check format) → ((log : AskedTrack) → words ≢ Track log)

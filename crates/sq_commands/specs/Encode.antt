@@ -1,4 +1,4 @@
--- What `encode` does.
+-- The command `encode`.
 use Rattle.std.specs.Prelude.{◌≡◌, ◌⊎◌, ◌++◌, ℕ, List, Option, None, Some, Result, MatchResult, codes, false}
 use Rattle.hex.specs.Hex.{encode_upper}
 use Rattle.sq_bits.specs.declared.frame.Frame.{Frame}
@@ -20,7 +20,7 @@ use Rattle.sq_commands.specs.Arguments.{IsAddress, IsFaultUnless, IsFeet, IsPosi
 use Rattle.sq_commands.specs.Faults.{IsArgumentsRun}
 use Rattle.sq_commands.specs.Outputs.{Outputs, IsAnswer, IsOutOfMemory}
 
--- what the arguments of `encode` say
+-- the values of the arguments of `encode`
 pub record EncodeValues : Type 0 where
   pub kind : Kind
   pub parity : Parity
@@ -28,7 +28,7 @@ pub record EncodeValues : Type 0 where
   pub altitude : ℕ
   pub position : Position
 
--- the altitude field: of these feet, in the air alone; 0 where none are given
+-- the altitude field of these feet, in the air alone; 0 if none are given
 abbrev pub IsAltitudeOf : Kind → Option (List ℕ) → ℕ → Type 0
 IsAltitudeOf kind None altitude = altitude ≡ 0
 IsAltitudeOf Air (Some feet) altitude = IsFeet feet altitude
@@ -46,7 +46,7 @@ pub record IsEncodeValues (words : AskedEncode) (v : EncodeValues) : Type 0 wher
 abbrev pub HasAltitude : List ℕ → Option (List ℕ) → Type 0
 HasAltitude word feet = (kind : Kind) × (word ≡ kind_name kind) × ((altitude : ℕ) × IsAltitudeOf kind feet altitude)
 
--- what is wrong with the arguments of `encode`, in the order in which they are looked at
+-- the first error of the arguments of `encode`, in reading order
 abbrev pub IsEncodeFault : AskedEncode → ArgumentFault → Type 0
 IsEncodeFault words fault =
     IsFaultUnless ((kind : Kind) × (words.kind ≡ kind_name kind)) fault faults.Kind
@@ -95,7 +95,7 @@ IsFrameOf Ground v frame = IsGroundFrame v.address v.parity v.position frame
 abbrev pub frame_line : Frame → List ℕ
 frame_line frame = encode_upper frame.0 ++ codes "\n"
 
--- what the arguments of `encode` ask for: a frame of the values that they spell, or their first fault
+-- the result of the arguments of `encode`: a frame of the values that they spell, or their first fault
 abbrev pub IsEncodeReading : AskedEncode → Result Frame ArgumentFault → Type 0
 IsEncodeReading words reading = MatchResult reading
     (λ frame. (values : EncodeValues) × IsEncodeValues words values × IsFrameOf values.kind values frame)

@@ -1,4 +1,4 @@
--- What is reported of arguments at fault.
+-- The reports on invalid arguments.
 use Rattle.std.specs.Prelude.{◌++◌, ℕ, List, Result, MatchResult, codes}
 use Rattle.sq_angle.specs.Faults.{angle_fault_text}
 use Rattle.sq_track.specs.Faults.{track_fault_text}
@@ -10,7 +10,7 @@ use Rattle.sq_commands.specs.declared.status.Status.{Status}
 use Rattle.sq_commands.specs.declared.status.Status.TheVariants.{Misused}
 use Rattle.sq_commands.specs.Outputs.{Outputs, IsReport}
 
--- what is reported of an argument
+-- the report on an argument
 abbrev pub argument_text : ArgumentFault → List ℕ
 argument_text Format = codes "bad format"
 argument_text Kind = codes "bad kind"
@@ -28,7 +28,7 @@ argument_text (Lon fault) = codes "lon " ++ angle_fault_text fault
 abbrev pub IsMisuse : ArgumentFault → Status → Outputs → Type 0
 IsMisuse fault status o = IsReport Misused (argument_text fault) status o
 
--- the arguments are read: of what they say the rest holds, or the first fault is reported
+-- the arguments are read: this holds of their values, or the first fault is reported
 abbrev pub IsArgumentsRun : {Values : Type 0} → (Result Values ArgumentFault → Type 0) → (Values → Type 0) → Status
     → Outputs → Type 0
 IsArgumentsRun {Values = Values} Reads Rest status o = (reading : Result Values ArgumentFault) × Reads reading

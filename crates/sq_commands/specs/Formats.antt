@@ -1,4 +1,4 @@
--- The formats in which `check` and `track` tell their answers.
+-- The formats of the answers of `check` and `track`.
 use Rattle.std.specs.Prelude.{◌≡◌, ◌++◌, ℕ, List, [], Option, None, Some, Result, Ok, Err, codes, decimal}
 use Rattle.sq_angle.specs.Decimal.{DecimalWriter}
 use Rattle.sq_text.specs.declared.faults.LineFault.{LineFault}
@@ -15,32 +15,32 @@ format_name Lines = codes "lines"
 format_name Csv = codes "csv"
 format_name Json = codes "json"
 
--- a format by its name; lines where none is given
+-- a format by its name; lines if none is given
 abbrev pub IsFormatWord : Option (List ℕ) → Format → Type 0
 IsFormatWord None format = format ≡ Lines
 IsFormatWord (Some word) format = word ≡ format_name format
 
--- how places and altitudes are written: there is one way, since there is one of each
+-- how places and altitudes are written; there is one way for each
 pub record Writers : Type 0 where
   pub decimals : DecimalWriter
   pub altitudes : AltitudeReader
 
--- how the answers of a command are told: what stands before the first one, and how a verdict on the line with a number
--- is told
+-- how the answers of a command are written: the text before the first one, and the text of a verdict on the line with a
+-- number
 pub record Telling (Found : Type 0) : Type 0 where
   pub header : List ℕ
   pub text : Writers → ℕ → Result Found LineFault → List ℕ
 
--- the text of these answers, which are numbered from 1, after the header
+-- the header and the text of these answers, numbered from 1
 abbrev pub told_by : {Found : Type 0} → Telling Found → Writers → List (Answer Found) → List ℕ
 told_by telling writers answers = telling.header ++ texts_of (telling.text writers) answers
 
--- what was found in words, or the fault
+-- the result in words, or the fault
 abbrev pub verdict_text : {Found : Type 0} → (Found → List ℕ) → Result Found LineFault → List ℕ
 verdict_text words (Ok found) = words found
 verdict_text words (Err fault) = fault_text fault
 
--- an answer a line: its number, and what was found in words, or the fault
+-- a line for each answer: the line's number, and the result in words or the fault
 abbrev pub in_lines : {Found : Type 0} → (Writers → Found → List ℕ) → Telling Found
 in_lines words = record {
   header = [];

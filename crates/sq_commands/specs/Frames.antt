@@ -8,12 +8,12 @@ use Rattle.sq_commands.specs.declared.status.Status.{Status}
 use Rattle.sq_commands.specs.declared.status.Status.TheVariants.{Refused}
 use Rattle.sq_commands.specs.Outputs.{Outputs, IsReport}
 
--- a frame text is read: of its squitter the rest holds, or its fault is reported
+-- a frame text is read: this holds of its squitter, or its fault is reported
 abbrev pub IsFrameRun : List ℕ → (Squitter → Type 0) → Status → Outputs → Type 0
 IsFrameRun frame Rest status o = (reading : Result Squitter LineFault) × IsSquitterReading frame reading
     × MatchResult reading Rest (λ fault. IsReport Refused (fault_text fault) status o)
 
--- what two frame texts are read as: both squitters, or the first fault, the older's and then the newer's
+-- two frame texts are read as both squitters, or as the first fault, the older's before the newer's
 abbrev pub AreReadingsOf : (older newer : List ℕ) → Result (Squitter × Squitter) LineFault → Type 0
 AreReadingsOf older newer (Ok (first, second)) =
     IsSquitterReading older (Ok first) × IsSquitterReading newer (Ok second)
@@ -21,7 +21,7 @@ AreReadingsOf older newer (Err fault) =
     IsSquitterReading older (Err fault)
     ⊎ ((first : Squitter) × IsSquitterReading older (Ok first) × IsSquitterReading newer (Err fault))
 
--- two frame texts are read: of their squitters the rest holds, or the first fault is reported
+-- two frame texts are read: this holds of their squitters, or the first fault is reported
 abbrev pub IsFramesRun : (older newer : List ℕ) → (Squitter → Squitter → Type 0) → Status → Outputs → Type 0
 IsFramesRun older newer Rest status o =
     (readings : Result (Squitter × Squitter) LineFault) × AreReadingsOf older newer readings

@@ -1,4 +1,4 @@
--- How `track` tells what was heard.
+-- The texts of the answers of `track`.
 use Rattle.std.specs.Prelude.{ℕ, ◌++◌, List, Result, Ok, Err, codes, decimal}
 use Rattle.sq_angle.specs.Decimal.{DecimalWriter}
 use Rattle.sq_angle.specs.Fraction.{Fraction}
@@ -26,7 +26,7 @@ abbrev pub place_words : DecimalWriter → Place → List ℕ
 place_words decimals place = decimals.write (place_latitude place) ++ codes " "
     ++ decimals.write (place_longitude place)
 
--- what was heard, of an address in six digits
+-- the reply for an address, in six digits
 abbrev pub heard_words : DecimalWriter → List ℕ → Heard → List ℕ
 heard_words decimals address (Fix place) = codes "fix " ++ address ++ codes " " ++ place_words decimals place
 heard_words decimals address (Followed place) = codes "followed " ++ address ++ codes " " ++ place_words decimals place
@@ -37,7 +37,7 @@ heard_words decimals address Far = codes "far " ++ address
 heard_words decimals address NoSite = codes "no site " ++ address
 heard_words decimals address NotPosition = codes "no position " ++ address
 
--- what was heard of a squitter, in words
+-- the reply to a squitter, in words
 abbrev pub heard_text : DecimalWriter → HeardSquitter → List ℕ
 heard_text decimals from =
     heard_words decimals (hexadecimal 6 (squitter_parts from.timed.squitter).address) from.heard
@@ -64,7 +64,7 @@ answer_word Far = codes "far"
 answer_word NoSite = codes "no site"
 answer_word NotPosition = codes "no position"
 
--- a coordinate of the place that was heard, where there is one
+-- a coordinate of the place that was heard, if there is one
 abbrev pub coordinate : DecimalWriter → (Place → Fraction) → Heard → Cell
 coordinate decimals of (Fix place) = Number (decimals.write (of place))
 coordinate decimals of (Followed place) = Number (decimals.write (of place))
@@ -103,11 +103,11 @@ track_row_text form number row =
     ++ (cell form (codes "lat") row.lat ++ cell form (codes "lon") row.lon) ++ cell form (codes "feet") row.feet
     ++ row_end form
 
--- the names of the columns, as CSV has them
+-- the names of the columns, in CSV
 abbrev pub track_columns : List ℕ
 track_columns = codes "line,moment,answer,address,kind,lat,lon,feet\n"
 
--- a row an answer
+-- a row for each answer
 abbrev pub heard_rows : Form → Telling HeardSquitter
 heard_rows form = record {
   header = header_text form track_columns;
@@ -116,7 +116,7 @@ heard_rows form = record {
 
 -- ---- in each format
 
--- an answer a line
+-- a line for each answer
 abbrev pub heard_lines : Telling HeardSquitter
 heard_lines = in_lines (λ writers. heard_text writers.decimals)
 

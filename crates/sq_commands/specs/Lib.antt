@@ -13,6 +13,7 @@ pub mod Check
 pub mod Heard
 pub mod Tracking
 pub mod SlowAnswers
+pub mod TrueAnswers
 pub mod Track
 pub mod Runs
 pub mod OneRun

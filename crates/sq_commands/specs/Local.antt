@@ -1,4 +1,4 @@
--- What `local` does, and what is written of a place.
+-- The command `local`, and the text of a place.
 use Rattle.std.specs.Prelude.{ℕ, List, Result, MatchResult}
 use Rattle.sq_angle.specs.declared.position.Position.{Position}
 use Rattle.sq_message.specs.declared.place.Place.{Place}
@@ -19,7 +19,7 @@ use Rattle.sq_commands.specs.Outputs.{Outputs, IsAnswer, IsReport}
 abbrev pub IsTextOf : Place → List ℕ → Type 0
 IsTextOf place text = (position : Position) × IsPositionOf place position × IsPlaceText position text
 
--- a place is written, its fault is reported
+-- a place is written, or its fault is reported
 abbrev pub IsPlaceRun : Result Place PlaceFault → Status → Outputs → Type 0
 IsPlaceRun answer status o =
     MatchResult answer (λ place. (text : List ℕ) × IsTextOf place text × IsAnswer text status o)
@@ -31,8 +31,7 @@ IsNearRun reference squitter status o =
     (answer : Result Place PlaceFault) × IsLocalPlace (squitter_parts squitter).me reference answer
     × IsPlaceRun answer status o
 
--- the squitter of the frame is decoded near the reference that the words spell; the arguments are looked at before the
--- frame
+-- the squitter of the frame is decoded near the reference that the words spell; the arguments are read before the frame
 abbrev pub IsLocalRun : (frame lat lon : List ℕ) → Status → Outputs → Type 0
 IsLocalRun frame lat lon status o =
     IsArgumentsRun (IsPositionReading lat lon)

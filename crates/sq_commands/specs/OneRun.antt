@@ -1,4 +1,4 @@
--- What two runs of one request have in common.
+-- Two runs of one request.
 use Rattle.std.specs.Prelude.{◌≡◌, ◌≢◌, ◌⊎◌, ℕ, List, Option, Some, false}
 use Rattle.sq_devices.specs.Changes.{WroteLast, WroteNothing, Written, written_on}
 use Rattle.sq_devices.specs.declared.device.Sink.{Ghosts as SinkGhosts}
@@ -20,24 +20,24 @@ abbrev pub AnyDevices : (S K F : Type 0) → Type 0
 AnyDevices S K F = (input : S) (output : K) (faults : F)
     → (d : Devices S K F) × (d.input ≡ input) × (d.output ≡ output) × (d.faults ≡ faults)
 
--- what was done to devices that were these, and are those
+-- the effects on devices that were these before, and are those after
 abbrev pub between : {S K F : Type 0} → SourceGhosts S → SinkGhosts K → SinkGhosts F → (old new : Devices S K F)
     → Effects
 between s k f old new =
     effects s old.input new.input (outputs k f old.output new.output old.faults new.faults)
 
--- both outputs were left alone, or the one text was written on both, each of which was then finished once
+-- both outputs were left alone, or the same text was written to both, and each was then finished once
 abbrev pub WroteAlike : Written → Written → Type 0
 WroteAlike v w = (WroteNothing v × WroteNothing w) ⊎ ((text : List ℕ) × WroteLast v text × WroteLast w text)
 
--- outputs that begin with the same bytes, and on which the same was written, end with the same bytes
+-- the same writing to two outputs with the same bytes leaves them with the same bytes
 abbrev pub AlikeOutputsEndAlike : {K L : Type 0} → SinkGhosts K → SinkGhosts L → Type 0
 AlikeOutputsEndAlike {K} {L} k l = (old new : K) (other last : L) (bytes : List ℕ)
     → WroteAlike (written_on k old new) (written_on l other last)
     → k.written old ≡ Some bytes → l.written other ≡ Some bytes → k.written new ≡ l.written last
 
--- Two runs of one request have one status, and do the same: where the same bytes are to come, no device failed and
--- memory was granted, so that neither run was broken off and each could report. The devices may be of other kinds.
+-- Two runs of one request on the same input have one status and the same effects, if no device failed and memory was
+-- granted. The devices may be of different kinds.
 abbrev pub OneRun : {S K F T L G : Type 0} → SourceGhosts S → SinkGhosts K → SinkGhosts F → SourceGhosts T
     → SinkGhosts L → SinkGhosts G → Type 0
 OneRun {S} {K} {F} {T} {L} {G} s k f t l g =
@@ -49,7 +49,7 @@ OneRun {S} {K} {F} {T} {L} {G} s k f t l g =
     × WroteAlike (written_on f old.faults new.faults) (written_on g other.faults last.faults)
     × (s.to_come new.input ≡ t.to_come last.input)
 
--- two runs of a command that reads no lines have one status, and write the same, whatever is to come
+-- two runs of a command that reads no lines have one status, and write the same, whatever the inputs are
 abbrev pub OneRunAside : {S K F T L G : Type 0} → SourceGhosts S → SinkGhosts K → SinkGhosts F → SourceGhosts T
     → SinkGhosts L → SinkGhosts G → Type 0
 OneRunAside {S} {K} {F} {T} {L} {G} s k f t l g =

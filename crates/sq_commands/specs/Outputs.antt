@@ -1,4 +1,4 @@
--- What a command does to its devices.
+-- The effects of a command on its devices.
 use Rattle.std.specs.Prelude.{◌≡◌, ◌++◌, ℕ, List, codes}
 use Rattle.sq_devices.specs.declared.device.Sink.{Ghosts as SinkGhosts}
 use Rattle.sq_devices.specs.declared.device.Source.{Ghosts as SourceGhosts}
@@ -9,7 +9,7 @@ use Rattle.sq_lines.specs.declared.faults.RunFault.TheVariants as faults
 use Rattle.sq_commands.specs.declared.status.Status.{Status}
 use Rattle.sq_commands.specs.declared.status.Status.TheVariants.{Good, Refused, Misused, Broken}
 
--- what was written on the output, and what was reported on the sink for faults
+-- the bytes written to the output, and to the sink for faults
 pub record Outputs : Type 1 where
   pub output : Written
   pub reports : Written
@@ -19,7 +19,7 @@ abbrev pub outputs : {K F : Type 0} → SinkGhosts K → SinkGhosts F → (outpu
 outputs k f output output' faults faults' =
     record { output = written_on k output output'; reports = written_on f faults faults' }
 
--- what was read of the input, and written on both outputs
+-- the bytes read from the input, and written to both outputs
 pub record Effects : Type 1 where
   pub input : Taken
   pub outputs : Outputs
@@ -27,22 +27,22 @@ pub record Effects : Type 1 where
 abbrev pub effects : {S : Type 0} → SourceGhosts S → (input input' : S) → Outputs → Effects
 effects s input input' o = record { input = taken_from s input input'; outputs = o }
 
--- the line was reported, or the sink for faults has failed within it
+-- the line was reported, or the sink for faults failed within it
 abbrev pub Reported : Outputs → List ℕ → Type 0
 Reported o line = WroteOrFailed o.reports (line ++ codes "\n")
 
--- the command ends so, nothing was written, and the line was reported
+-- the command ends with this status, nothing was written, and the line was reported
 abbrev pub IsReport : Status → List ℕ → Status → Outputs → Type 0
 IsReport ending line status o = (status ≡ ending) × WroteNothing o.output × Reported o line
 
--- what is reported of a run that broke off
+-- the report on a run that stopped early
 abbrev pub broken_text : RunFault → List ℕ
 broken_text faults.Read = codes "read failed"
 broken_text faults.Write = codes "write failed"
 broken_text faults.Memory = codes "out of memory"
 
--- all is good: the text was written and the output finished, and nothing reported; or the output has failed within it,
--- which is reported
+-- success: the text was written, the output finished and nothing reported; or the output failed within the text, and
+-- the failure was reported
 abbrev pub IsAnswer : List ℕ → Status → Outputs → Type 0
 IsAnswer text Good o = WroteLast o.output text × WroteNothing o.reports
 IsAnswer text Refused o = ⊥

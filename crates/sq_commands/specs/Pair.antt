@@ -1,4 +1,4 @@
--- What `pair` does.
+-- The command `pair`.
 use Rattle.std.specs.Prelude.{ℕ, List, Option, Result}
 use Rattle.sq_angle.specs.declared.position.Position.{Position}
 use Rattle.sq_message.specs.declared.place.Place.{Place}

@@ -1,4 +1,4 @@
--- What the program does for each command.
+-- A run of each command.
 use Rattle.sq_devices.specs.Changes.{TookNothing}
 use Rattle.sq_requests.specs.Requests.{Asked, Show, Encode, Local, Pair, Check, Track}
 use Rattle.sq_commands.specs.declared.status.Status.{Status}
@@ -10,11 +10,11 @@ use Rattle.sq_commands.specs.Pair.{IsPairRun}
 use Rattle.sq_commands.specs.Show.{IsShowRun}
 use Rattle.sq_commands.specs.Track.{IsTrackRun}
 
--- the input is left as it was, and on the outputs this was done
+-- the input is unread, and the outputs have this property
 abbrev pub WithNoInput : Effects → (Outputs → Type 0) → Type 0
 WithNoInput e Run = TookNothing e.input × Run e.outputs
 
--- what each command does, and how it ends
+-- the effects and the status of each command
 abbrev pub IsRun : Asked → Status → Effects → Type 0
 IsRun (Show frame) status e = WithNoInput e (IsShowRun frame status)
 IsRun (Encode words) status e = WithNoInput e (IsEncodeRun words status)

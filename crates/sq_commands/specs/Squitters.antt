@@ -1,4 +1,4 @@
--- How `check` tells squitters.
+-- The texts of the answers of `check`.
 use Rattle.std.specs.Prelude.{ℕ, ◌++◌, ◌/◌, ◌^◌, List, Result, Ok, Err, codes, decimal}
 use Rattle.sq_cpr.specs.Code.{numbers_of}
 use Rattle.sq_message.specs.declared.air.Airborne.{Airborne}
@@ -41,7 +41,7 @@ pub record MessageRow : Type 0 where
   pub track : Cell
   pub me : Cell
 
--- nothing of a message
+-- empty columns
 abbrev pub no_message : MessageRow
 no_message = record {
   type_code = Blank;
@@ -128,17 +128,17 @@ squitter_row_text form writers number (Ok squitter) =
 squitter_row_text form writers number (Err fault) =
     check_row_text form number (Word (fault_text fault)) Blank Blank no_message
 
--- the names of the columns, as CSV has them
+-- the names of the columns, in CSV
 abbrev pub check_columns : List ℕ
 check_columns = codes "line,answer,address,ca,type,kind,parity,lat_code,lon_code,time,feet,altitude,status,flag,movement,track_status,track,me\n"
 
--- a row an answer
+-- a row for each answer
 abbrev pub squitter_rows : Form → Telling Squitter
 squitter_rows form = record { header = header_text form check_columns; text = squitter_row_text form }
 
 -- ---- in each format
 
--- an answer a line
+-- a line for each answer
 abbrev pub squitter_lines : Telling Squitter
 squitter_lines = in_lines (λ writers. summary)
 

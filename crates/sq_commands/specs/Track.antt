@@ -1,4 +1,4 @@
--- What `track` does.
+-- The command `track`.
 use Rattle.std.specs.Prelude.{◌≡◌, ◌≤◌, ◌<◌, ◌^◌, ◌⊎◌, ℕ, List, [], Option, None, Some, Result, Ok, Err, MatchResult}
 use Rattle.std.specs.Prelude.{length, true}
 use Rattle.sq_devices.specs.Changes.{FinishedOnce, Sent, Taken, TookAll, TookNothing, TookPart, TookSome, Unfinished}
@@ -30,58 +30,58 @@ use Rattle.sq_commands.specs.Tracking.{HasHeard, Tracking, WroteIntoLast, track_
 
 -- ---- a run over a log
 
--- the output is that of the lines, whole
+-- the lines were heard, and their answers written
 abbrev pub HasAnswered : Telling HeardSquitter → Written → (old new : Held) → List (List ℕ) → Type 0
 HasAnswered telling output old new lines = HasHeard telling old new lines (λ text answers. Wrote output (text answers))
 
--- these lines have been heard, and they are the first of the lines that were read
+-- this holds of the first of these lines
 abbrev pub SomeOf : (List (List ℕ) → Type 0) → List (List ℕ) → Type 0
 SomeOf Heard complete = (lines : List (List ℕ)) × IsPrefixOf lines complete × Heard lines
 
--- these lines have been heard, and this holds of the next of the lines that were read
+-- this holds of the first of these lines, and that of the next line
 abbrev pub BeforeOneOf : (List ℕ → Type 0) → (List (List ℕ) → Type 0) → List (List ℕ) → Type 0
 BeforeOneOf OfNext Heard complete =
     (lines : List (List ℕ)) × (next : List ℕ) × IsPrefixOf (with_next lines next) complete × OfNext next × Heard lines
 
--- the lines of these bytes were heard, answered and counted, and the output finished after that
+-- the lines of these bytes were heard, answered and counted, and then the output was finished
 abbrev pub HasTracked : Telling HeardSquitter → Tally → Written → (old new : Held) → List ℕ → Type 0
 HasTracked telling tally output old new bytes =
     HasHeard telling old new (lines_of bytes) (λ text answers. Sent output (text answers) × (tally ≡ tally_of answers))
 
--- what a run over an input came to, whose answers are told in this way, for a tracker as it was and as it is
+-- the result of a run over an input, with the tracker before and after it; answers are written in this way
 abbrev pub IsTracked : Telling HeardSquitter → Result Tally RunFault → Taken → Written → (old new : Held) → Type 0
--- the bytes up to the end of the input were taken, their lines were heard, answered and counted, and the output was
+-- all bytes up to the end of the input were read, their lines were heard, answered and counted, and the output was
 -- finished
 IsTracked telling (Ok tally) input output old new =
     FinishedOnce output × TookAll input (HasTracked telling tally output old new)
--- where the source failed, the lines that were read whole were heard and answered
+-- the source failed: all lines that were read whole were heard and answered
 IsTracked telling (Err Read) input output old new =
     Unfinished output × TookPart input (λ bytes. HasAnswered telling output old new (ended_lines bytes))
--- where there was no memory for a line, the tracker may want some for it, and those before it were heard and answered
+-- memory ran out at a line: the tracker may want some for it, and all lines before it were heard and answered
 IsTracked telling (Err Memory) input output old new = Unfinished output
-    × TookSome input (OfLines input (BeforeOneOf (WantsAt (track_manner telling) new)
+    × TookSome input (OfLines input (BeforeOneOf (WantsAt track_manner new)
     (HasAnswered telling output old new)))
--- where the sink failed, some lines were heard, and all their answers written but for the end of the last one's
+-- the sink failed: some lines were heard, and their answers were written up to some point in the last one
 IsTracked telling (Err Write) input output old new =
     (output.failed ≡ true) × Unfinished output × TookSome input (OfLines input
     (SomeOf (λ lines. HasHeard telling old new lines (λ text answers. WroteIntoLast output text answers))))
 
 -- how `track` answers texts, by the tracker that it borrows
-abbrev pub hearing_manner : {F : Type 0} → Telling HeardSquitter → Manner (Hearing F) Tracking HeardSquitter
-hearing_manner telling = let how = track_manner telling in record {
-  stands_for = λ client. how.stands_for client.tracker.now;
-  way = how.way;
-  wants = λ client. how.wants client.tracker.now;
+abbrev pub hearing_manner : {F A : Type 0} → Manner (Hearing F A) Tracking HeardSquitter
+hearing_manner = record {
+  stands_for = λ client. track_manner.stands_for client.tracker.now;
+  way = track_manner.way;
+  wants = λ client. track_manner.wants client.tracker.now;
 }
 
 -- ---- the arguments
 
--- a limit as a number: 1 to 10 digits, below 2^32; 1000 where none is given
+-- a limit as a number: 1 to 10 digits, below 2^32; 1000 if none is given
 abbrev pub IsLimit : Option (List ℕ) → ℕ → Type 0
 IsLimit None limit = limit ≡ 1000
 IsLimit (Some word) limit = IsDecimalText word limit × (length word ≤ 10) × (limit < 2 ^ 32)
 
--- a window in milliseconds: 1 to 20 digits, below 2^64; 10000 where none is given
+-- a window in milliseconds: 1 to 20 digits, below 2^64; 10000 if none is given
 abbrev pub IsWindow : Option (List ℕ) → ℕ → Type 0
 IsWindow None window = window ≡ 10000
 IsWindow (Some word) window = IsDecimalText word window
@@ -94,7 +94,7 @@ pub record IsTrackOptions (words : AskedTrack) (options : TrackOptions) : Type 0
   pub window_is : IsWindow words.window options.window
   pub site_is : IsSiteWords words.lat words.lon options.site
 
--- what is wrong with the arguments, in the order in which they are looked at
+-- the first error of the arguments, in reading order
 abbrev pub IsTrackFault : AskedTrack → ArgumentFault → Type 0
 IsTrackFault words fault =
     IsFaultUnless ((format : Format) × IsFormatWord words.format format) fault faults.Format
@@ -108,7 +108,7 @@ IsTrackReading words reading = MatchResult reading (IsTrackOptions words) (IsTra
 
 -- ---- the command
 
--- a run over the input, by a tracker with these options that has heard nothing; what broke it off is reported, and else
+-- a run over the input, by a new tracker with these options; if it stopped early, the reason is reported, and otherwise
 -- nothing
 abbrev pub IsLogRun : TrackOptions → Status → Effects → Type 0
 IsLogRun options status e = (old : Held) × (new : Held) × StandsFor old []
@@ -118,7 +118,7 @@ IsLogRun options status e = (old : Held) × (new : Held) × StandsFor old []
     × MatchResult answer (λ tally. (status ≡ status_of tally) × WroteNothing e.outputs.reports)
     (λ fault. (status ≡ Broken) × Reported e.outputs (broken_text fault)))
 
--- the log is heard with the options that the words spell; where they are at fault the input is left as it was
+-- the log is heard with the options that the words spell; if they are invalid, the input is unread
 abbrev pub IsTrackRun : AskedTrack → Status → Effects → Type 0
 IsTrackRun words status e =
     ((options : TrackOptions) × IsTrackOptions words options × IsLogRun options status e)

@@ -1,4 +1,4 @@
--- What is answered to the lines of a log, each by the squitters that were heard before it.
+-- The answers of `track` to the lines of a log, each by the squitters before it.
 use Rattle.std.specs.Prelude.{◌≡◌, ◌≢◌, ◌≤◌, ◌==◌, ℕ, List, [], ◌∷◌, find, length, take, ◌-◌, None, Some, Result, Ok}
 use Rattle.std.specs.Prelude.{Err}
 use Rattle.sq_devices.specs.Changes.{Written}
@@ -27,14 +27,14 @@ use Rattle.sq_commands.specs.SlowAnswers.{AreTrueAfter}
 
 -- ---- by the history
 
--- What is found of a squitter by the tracker's reply: what was heard of its address, or why it is refused. Besides a
--- moment back, a full table is the one fault that a reply has where memory holds.
+-- The result for a squitter, by the tracker's reply. If memory holds, a timestamp before the last one and a full table
+-- are the only faults.
 abbrev pub found_of : Received → Result Heard TrackFault → Result HeardSquitter LineFault
 found_of timed (Ok heard) = Ok (record { timed = timed; heard = heard })
 found_of timed (Err (MomentBack last)) = Err (line_faults.MomentBack last)
 found_of timed (Err fault) = Err line_faults.Full
 
--- the answer to what was read of a line, and the history after it: a line that is empty or at fault changes nothing
+-- the answer to the reading of a line, and the history after it; an empty or invalid line changes nothing
 abbrev pub IsHeardLine : Settings → History → Answer Received → Answer HeardSquitter → History → Type 0
 IsHeardLine s h None answer next = (answer ≡ None) × (next ≡ h)
 IsHeardLine s h (Some (Err fault)) answer next = (answer ≡ Some (Err fault)) × (next ≡ h)
@@ -51,8 +51,8 @@ AreHeardLines reader s h (line ∷ lines) answers next =
     × IsHeardLine s h (answer_by reader.read line) first then_on
     × AreHeardLines reader s then_on lines rest next × (answers ≡ first ∷ rest)
 
--- What a tracker has heard of these lines: from each history that it stood for it stands for the one after them. Of the
--- answers, told in this way, this holds; and in slow worlds they are true.
+-- A tracker has heard these lines: for each history that it represented, it now represents the history after them. The
+-- answers are true in slow worlds, and have this property, written in this way.
 abbrev pub HasHeard : Telling HeardSquitter → (old new : Held) → List (List ℕ)
     → ((List (Answer HeardSquitter) → List ℕ) → List (Answer HeardSquitter) → Type 0) → Type 0
 HasHeard telling old new lines Holding = (reader : TimedReader) (writers : Writers) (h : History) → StandsFor old h
@@ -60,16 +60,16 @@ HasHeard telling old new lines Holding = (reader : TimedReader) (writers : Write
     × AreHeardLines reader (settings old) h lines answers next
     × StandsFor new next × AreTrueAfter old h (told_from 1 answers) × Holding (told_by telling writers) answers
 
--- the text was written up to some place in the last answer's, or, where there is no answer, in the header; or the sink
--- no longer reports its bytes
+-- a prefix of the text was written, which ends within the last answer's text, or within the header if there is no
+-- answer; or the sink no longer reports its bytes
 abbrev pub WroteIntoLast : Written → (List (Answer HeardSquitter) → List ℕ) → List (Answer HeardSquitter) → Type 0
 WroteIntoLast output text answers =
     (part : List ℕ) × (1 ≤ length answers → IsPrefixOf (text (take (length answers - 1) answers)) part)
     × IsPrefixOf part (text answers) × AppendsOrHides output.before output.after part
 
--- ---- as a function of what came before
+-- ---- as a function of the past
 
--- what replies to calls, unless memory runs out
+-- the replies to calls, if memory does not run out
 pub record Replier : Type 0 where
   pub reply : (s : Settings) (h : History) → IsHistory s h → ℕ → Squitter → Result Heard TrackFault
   pub replies : (s : Settings) (h : History) (accepted : IsHistory s h) (m : ℕ) (q : Squitter)
@@ -77,11 +77,10 @@ pub record Replier : Type 0 where
   pub remembers : (s : Settings) (h : History) (accepted : IsHistory s h) (m : ℕ) (q : Squitter)
       → reply s h accepted m q ≢ Err Memory
 
--- what came before a line: a history, and how lines are read, calls replied to and numbers written
+-- the past of a line: a history, the reader of lines, and the replies to calls
 pub record Tracking : Type 0 where
   pub reader : TimedReader
   pub replier : Replier
-  pub writers : Writers
   pub settings : Settings
   pub history : History
   pub accepted : IsHistory settings history
@@ -93,7 +92,7 @@ abbrev pub answer_read : Tracking → Result Received LineFault → Result Heard
 answer_read past (Err fault) = Err fault
 answer_read past (Ok timed) = found_of timed (reply_by past timed)
 
--- an accepted call goes in front
+-- the past after a reply: an accepted call becomes the newest entry
 abbrev pub past_with : (past : Tracking) (timed : Received) (reply : Result Heard TrackFault)
     → IsReply past.settings past.history timed.moment timed.squitter reply → Tracking
 past_with past timed (Ok heard) is =
@@ -109,39 +108,37 @@ past_read past (Ok timed) =
     past_with past timed (reply_by past timed)
     (past.replier.replies past.settings past.history past.accepted timed.moment timed.squitter)
 
--- how `track` answers texts, and tells its answers in this way
-abbrev pub track_way : Telling HeardSquitter → Answerer Tracking HeardSquitter
-track_way telling = record {
+-- how `track` answers texts
+abbrev pub track_way : Answerer Tracking HeardSquitter
+track_way = record {
   answer = λ past text. answer_read past (past.reader.read text);
   after = λ past text. past_read past (past.reader.read text);
-  text = λ past. telling.text past.writers;
 }
 
 -- the tracker stands for the history, under the settings
 abbrev pub IsTracking : Held → Tracking → Type 0
 IsTracking t past = StandsFor t past.history × (settings t ≡ past.settings)
 
--- the squitter is a position, of an address that is not present
+-- the squitter is a position of an address that is not present
 abbrev pub IsNewPosition : Held → Squitter → Type 0
 IsNewPosition t squitter = IsPosition (squitter_parts squitter).me
     × (find (λ entry. entry.0 == (squitter_parts squitter).address) (present_of t) ≡ None)
 
--- it would be accepted, by each history that the tracker stands for
+-- the squitter would be accepted, after each history that the tracker represents
 abbrev pub IsWelcome : Held → Received → Type 0
 IsWelcome t timed = (h : History) → StandsFor t h → IsAcceptable (settings t) h timed.moment timed.squitter
 
--- the tracker may want memory for the text: it spells a position of an address that is not present, and that would be
--- accepted
+-- the tracker may want memory for the text: it spells a position of a new address that would be accepted
 abbrev pub WantsMemory : Held → List ℕ → Type 0
 WantsMemory t text =
     (timed : Received) × IsTimedText text timed × IsNewPosition t timed.squitter × IsWelcome t timed
 
 -- how `track` answers texts, by its tracker
-abbrev pub track_manner : Telling HeardSquitter → Manner Held Tracking HeardSquitter
-track_manner telling = record { stands_for = IsTracking; way = track_way telling; wants = WantsMemory }
+abbrev pub track_manner : Manner Held Tracking HeardSquitter
+track_manner = record { stands_for = IsTracking; way = track_way; wants = WantsMemory }
 
--- a squitter was heard: by each history that the tracker stood for there is a reply, and this is what was found; the
--- tracker stands for the history after it
+-- a squitter was heard: for each history that the tracker represented there is a reply with this result, and the
+-- tracker now represents the history after it
 abbrev pub IsFoundOf : Result HeardSquitter LineFault → Received → (old new : Held) → Type 0
 IsFoundOf found timed old new =
     (h : History) → StandsFor old h → (reply : Result Heard TrackFault)
@@ -149,13 +146,13 @@ IsFoundOf found timed old new =
     × (found ≡ found_of timed reply)
     × StandsFor new (history_after h timed.moment timed.squitter reply)
 
--- what hearing a squitter did: without memory the tracker is as it was, and may want some
+-- a squitter was heard; without memory the tracker is unchanged, and may want some
 abbrev pub IsTimedHeard : Verdict HeardSquitter → Received → (old new : Held) → Type 0
 IsTimedHeard (verdicts.Good found) timed old new = IsFoundOf (Ok found) timed old new
 IsTimedHeard (verdicts.Refused fault) timed old new = IsFoundOf (Err fault) timed old new
 IsTimedHeard verdicts.NoMemory timed old new = (new ≡ old) × IsNewPosition old timed.squitter × IsWelcome old timed
 
--- what is replied to a squitter follows from the settings and the history alone, whatever else came before
+-- the reply to a squitter follows from the settings and the history alone
 abbrev pub OnePast : Type 0
 OnePast = (a b : Tracking) (timed : Received) → a.settings ≡ b.settings → a.history ≡ b.history
     → reply_by a timed ≡ reply_by b timed

@@ -41,7 +41,7 @@ pub(crate) enum Kind {
     Ground,
 }
 
-/// What the arguments of `track` say.
+/// The options of `track`.
 #[derive(Clone, Copy)]
 pub(crate) struct TrackOptions {
     pub(crate) format: Format,
@@ -50,7 +50,7 @@ pub(crate) struct TrackOptions {
     pub(crate) site: Option<Position>,
 }
 
-/// What is wrong with the arguments of a command: the first of these that applies.
+/// An invalid argument of a command, in reading order.
 #[derive(Clone, Copy)]
 pub(crate) enum ArgumentFault {
     Format,
@@ -67,7 +67,7 @@ pub(crate) enum ArgumentFault {
 }
 
 impl ArgumentFault {
-    /// Appends what is reported of it, at most 22 bytes.
+    /// Appends the report on the fault, at most 22 bytes.
     pub(crate) fn push<const N: usize>(self, text: &mut TextBuffer<N>)
         requires { text_len text.old + 22 ≤ N }
         ensures bytes { text.new.bytes ≡ text.old.bytes ++ argument_text self }
@@ -89,7 +89,7 @@ impl ArgumentFault {
     }
 }
 
-// Appends a coordinate's name of four bytes and the fault of its angle.
+// Appends a coordinate's name of four bytes, and the fault of its angle.
 fn push_coordinate<const N: usize>(text: &mut TextBuffer<N>, name: &str, fault: AngleFault)
     requires room { text_len text.old + 22 ≤ N }
     requires short { length name.now ≤ 4 }
@@ -100,7 +100,7 @@ fn push_coordinate<const N: usize>(text: &mut TextBuffer<N>, name: &str, fault: 
     text.push_str(fault.words());
 }
 
-/// `lines`, `csv` or `json`; lines where none is given.
+/// Reads a format: `lines`, `csv` or `json`; lines if no word is given.
 pub(crate) fn read_format(word: Option<&str>) -> Result<Format, ArgumentFault>
     ensures ok { IfOk result (IsFormatWord (option_copied word.entry)) }
     ensures err { OnErr result (IsNoFormat (option_copied word.entry)) }
@@ -125,7 +125,7 @@ fn format_named(name: &str) -> Result<Format, ArgumentFault>
     }
 }
 
-/// `air` or `ground`.
+/// Reads a kind: `air` or `ground`.
 pub(crate) fn read_kind(word: &str) -> Result<Kind, ArgumentFault>
     ensures ok { IfOk result (λ kind. word.now ≡ kind_name kind) }
     ensures err { OnErr result ((kind : Kind) → word.now ≢ kind_name kind) }
@@ -138,7 +138,7 @@ pub(crate) fn read_kind(word: &str) -> Result<Kind, ArgumentFault>
     }
 }
 
-/// `even` or `odd`.
+/// Reads a parity: `even` or `odd`.
 pub(crate) fn read_parity(word: &str) -> Result<Parity, ArgumentFault>
     ensures ok { IfOk result (λ parity. word.now ≡ parity_name parity) }
     ensures err { OnErr result ((parity : Parity) → word.now ≢ parity_name parity) }
@@ -151,7 +151,7 @@ pub(crate) fn read_parity(word: &str) -> Result<Parity, ArgumentFault>
     }
 }
 
-/// Six hexadecimal digits of either case.
+/// Reads an ICAO address: six hexadecimal digits of either case.
 pub(crate) fn read_address(word: &str) -> Result<u32, ArgumentFault>
     ensures ok { IfOk result (IsAddress word.now) }
     ensures small { IfOk result (λ address. address < 2 ^ 24) }
@@ -165,7 +165,7 @@ pub(crate) fn read_address(word: &str) -> Result<u32, ArgumentFault>
     }
 }
 
-// The number of three bytes, the most significant first.
+// Returns the number that three bytes encode, the most significant first.
 fn address_of(bytes: &[u8]) -> u32
     requires { length bytes.now ≡ 3 }
     ensures value { result ≡ number_from_digits 256 bytes.now }
@@ -178,7 +178,7 @@ fn address_of(bytes: &[u8]) -> u32
     address
 }
 
-// An optional `-` and one to five digits, with a field: the field.
+// Reads feet, an optional `-` and one to five digits, and returns their altitude field.
 fn read_feet(word: &str) -> Result<u16, ArgumentFault>
     ensures ok { IfOk result (IsFeet word.now) }
     ensures small { IfOk result (λ field. field < 4096) }
@@ -194,7 +194,7 @@ fn read_feet(word: &str) -> Result<u16, ArgumentFault>
     }
 }
 
-/// The altitude field of these feet, in the air alone; 0 where none are given.
+/// Reads an altitude field from feet, for airborne frames alone; 0 if no feet are given.
 pub(crate) fn read_altitude(kind: Kind, feet: Option<&str>) -> Result<u16, ArgumentFault>
     ensures ok { IfOk result (IsAltitudeOf kind (option_copied feet.entry)) }
     ensures small { IfOk result (λ altitude. altitude < 4096) }
@@ -208,7 +208,7 @@ pub(crate) fn read_altitude(kind: Kind, feet: Option<&str>) -> Result<u16, Argum
     }
 }
 
-// The number of feet that the word spells.
+// Reads a number of feet.
 fn feet_of(word: &str) -> Option<i32>
     ensures { MatchOption result ((feet : ℤ) → ¬ IsFeetText word.now feet) (IsFeetText word.now) }
 {
@@ -219,7 +219,7 @@ fn feet_of(word: &str) -> Option<i32>
     }
 }
 
-// Whether the word begins with `-`, and what is left of it.
+// Splits off a leading `-`. Returns whether there was one, and the rest.
 fn without_minus(word: &str) -> (bool, &str)
     ensures parts { word.now ≡ minus result.0 ++ result.1.now }
     ensures other { OnFalse result.0 ((rest : List ℕ) → ¬ (word.now ≡ 45 ∷ rest)) }
@@ -230,7 +230,7 @@ fn without_minus(word: &str) -> (bool, &str)
     }
 }
 
-// The number of one to five digits.
+// Reads one to five digits.
 fn number_of(digits: &str) -> Option<u64>
     ensures number { MatchOption result ((n : ℕ) → ¬ IsFiveDigits digits.now n) (IsFiveDigits digits.now) }
     ensures small { IfSome result (λ n. n < 10 ^ 5) }
@@ -241,7 +241,7 @@ fn number_of(digits: &str) -> Option<u64>
     }
 }
 
-// The number with its sign.
+// Returns the number with its sign.
 fn signed(negative: bool, magnitude: u64) -> i32
     requires { magnitude < 10 ^ 5 }
     ensures { result ≡ signed_number negative magnitude }
@@ -250,7 +250,7 @@ fn signed(negative: bool, magnitude: u64) -> i32
     if negative { -number } else { number }
 }
 
-/// A latitude and a longitude in degrees.
+/// Reads a latitude and a longitude in degrees.
 pub(crate) fn read_position(lat: &str, lon: &str) -> Result<Position, ArgumentFault>
     ensures { IsPositionReading lat.now lon.now result }
 {
@@ -265,7 +265,7 @@ pub(crate) fn read_position(lat: &str, lon: &str) -> Result<Position, ArgumentFa
     Ok(Position::new(latitude, longitude).unwrap())
 }
 
-// An angle of at most so many degrees.
+// Reads an angle of at most `limit` degrees.
 fn read_angle(word: &str, limit: u16) -> Result<Angle, AngleFault>
     ensures ok { IfOk result (λ angle. IsReading word.now (Ok angle)) }
     ensures within { IfOk result (λ angle. IsWithin limit (degrees angle)) }
@@ -278,7 +278,7 @@ fn read_angle(word: &str, limit: u16) -> Result<Angle, AngleFault>
     Ok(angle)
 }
 
-/// A site: both words or neither.
+/// Reads a receiver position: both words or neither.
 pub(crate) fn read_site(
     lat: Option<&str>,
     lon: Option<&str>,
@@ -295,7 +295,7 @@ pub(crate) fn read_site(
     }
 }
 
-/// The options of `track`: of those that are left out, the limit is 1000 addresses and the window 10000 milliseconds.
+/// Reads the options of `track`. Defaults: a limit of 1000 addresses, a window of 10000 milliseconds.
 pub(crate) fn read_options(words: &TrackWords<'_>) -> Result<TrackOptions, ArgumentFault>
     ensures { IsTrackReading (asked_track words.now) result }
 {
@@ -314,7 +314,7 @@ pub(crate) fn read_options(words: &TrackWords<'_>) -> Result<TrackOptions, Argum
     })
 }
 
-// One to ten digits of a number below 2^32.
+// Reads one to ten digits of a number below 2^32.
 fn read_limit(word: Option<&str>) -> Result<u32, ArgumentFault>
     ensures ok { IfOk result (IsLimit (option_copied word.entry)) }
     ensures err { OnErr result ((n : ℕ) → ¬ IsLimit (option_copied word.entry) n) }
@@ -338,7 +338,7 @@ fn limit_of(word: &str) -> Option<u32>
     }
 }
 
-// One to twenty digits of a number below 2^64.
+// Reads one to twenty digits of a number below 2^64.
 fn read_window(word: Option<&str>) -> Result<u64, ArgumentFault>
     ensures ok { IfOk result (IsWindow (option_copied word.entry)) }
     ensures err { OnErr result ((n : ℕ) → ¬ IsWindow (option_copied word.entry) n) }

@@ -1,10 +1,11 @@
 //! The command `check`: an answer to each line that is not empty.
 ghost use Rattle.std.specs.Prelude.{◌≡◌, IfOk, option_copied};
 ghost use Rattle.sq_devices.specs.Changes.{TookReported, taken_from, written_on};
-ghost use Rattle.sq_commands.specs.Check.{Checks, HasChecked, IsCheckRun, IsCheckRunIn, IsChecked, check_manner};
-ghost use Rattle.sq_commands.specs.Check.{status_of};
+ghost use Rattle.sq_commands.specs.Check.{HasChecked, IsCheckRun, IsCheckRunIn, IsChecked, check_manner, status_of};
+ghost use Rattle.sq_commands.specs.Formats.{Writers};
 ghost use Rattle.sq_commands.specs.Outputs.{effects, outputs};
 ghost use Rattle.sq_commands.specs.Squitters.{squitter_lines, squitter_telling};
+ghost use Rattle.sq_text.specs.Reading.{SquitterReader};
 
 use crate::arguments::read_format;
 use crate::formats::{CheckFormat, Format};
@@ -17,7 +18,7 @@ use sq_lines::{Job, LineText, Log, RunFault, Tally, Telling, Verdict, run_log};
 use sq_message::Squitter;
 use sq_text::{LineFault, read_squitter};
 
-// Answers each text by itself.
+// The job of `check`: answers each text by itself.
 #[derive(Drop)]
 struct Checking<'a, F: CheckFormat> {
     format: &'a F,
@@ -26,13 +27,18 @@ struct Checking<'a, F: CheckFormat> {
 impl<F: CheckFormat> Job for Checking<'_, F> {
     type Found = Squitter;
 
-    ghost Past = { Checks };
+    ghost Past = { SquitterReader };
 
     ghost Lasting = { Unit {0} };
 
-    ghost how = { check_manner F.telling };
+    ghost how = { check_manner };
 
     ghost lasting = { λ client. tt };
+
+    // Each answer follows from its own line, so `how` says it all.
+    ghost Promised = { λ start answers. Unit {0} };
+
+    ghost promises = { λ start now tally lines answers told. tt };
 
     #[inline(always)]
     fn hear(&mut self, text: &[u8]) -> Verdict<Squitter> {
@@ -44,7 +50,11 @@ impl<F: CheckFormat> Job for Checking<'_, F> {
 }
 
 impl<F: CheckFormat> Telling for Checking<'_, F> {
+    ghost Writing = { Writers };
+
     ghost front = { F.telling.header };
+
+    ghost text = { F.telling.text };
 
     fn header(&self) -> &'static str {
         self.format.header()
@@ -60,24 +70,24 @@ impl<F: CheckFormat> Telling for Checking<'_, F> {
     }
 }
 
-/// Answers each line of the source that is not empty on the sink, as soon as its line feed was got; the last one at the
-/// end of the input. It keeps one line and takes no memory.
+/// Writes the answer to each line of the source that is not empty, as soon as its line feed was read; to the last line
+/// at the end of the input. Keeps one line and allocates nothing.
 ///
-/// `Ok` comes only at the end of the input, with the numbers of good and of refused lines. `Read` comes where a get
-/// failed, after the answers to the lines that were read whole; `Write` where a put or the finish at the end did,
-/// within these answers; `Memory` never comes.
+/// Returns the numbers of good and of refused lines at the end of the input. Errors: `Read` if a get failed, after the
+/// answers to all lines that were read whole; `Write` if a put or the finish failed, within these answers; never
+/// `Memory`.
 pub fn run_check<S: Source, K: Sink>(source: &mut S, sink: &mut K) -> Result<Tally, RunFault>
     ensures ran { IsChecked squitter_lines result (taken_from S.Source source.old source.new)
         (written_on K.Sink sink.old sink.new) }
 
-    // Where the source reports its bytes, the answers are those to all of them.
+    // If the source reports its bytes, the answers are those to all of them.
     ensures reported { IfOk result (λ tally. TookReported (taken_from S.Source source.old source.new)
         (HasChecked squitter_lines tally (written_on K.Sink sink.old sink.new))) }
 {
     run_check_as(&Numbered, source, sink)
 }
 
-// Answers each line in the format.
+// Writes the answers in the format.
 fn run_check_as<S: Source, K: Sink, F: CheckFormat>(
     format: &F,
     source: &mut S,
@@ -106,7 +116,7 @@ fn run_check_in<S: Source, K: Sink>(
     }
 }
 
-// Answers each line of the input, in the format that the word names.
+// Runs `check` over the input, in the format that the word names.
 pub(crate) fn check<S: Source, K: Sink, F: Sink>(
     format: Option<&str>,
     input: &mut S,
@@ -137,7 +147,7 @@ fn check_in<S: Source, K: Sink, F: Sink>(
     }
 }
 
-// Whether no line was refused.
+// Returns `Good` if no line was refused, else `Refused`.
 pub(crate) fn end_of(tally: Tally) -> Status
     ensures { result ≡ status_of tally }
 {

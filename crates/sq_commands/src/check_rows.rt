@@ -1,4 +1,4 @@
-//! The rows of `check`: what stands in a frame, in named columns.
+//! The rows of `check`: the fields of a frame, in named columns.
 ghost use Rattle.std.specs.Prelude.{◌≡◌, ◌+◌, ◌≤◌, ◌++◌, [], Ok, Err, codes, decimal, length};
 ghost use Rattle.sq_digits.specs.Buffer.{text_len};
 ghost use Rattle.sq_cpr.specs.Code.{numbers_of};
@@ -21,12 +21,12 @@ use sq_rows::{
 };
 use sq_text::LineFault;
 
-/// The names of the columns, as CSV has them.
+/// The names of the columns, in CSV.
 pub(crate) const CHECK_COLUMNS: &str =
     "line,answer,address,ca,type,kind,parity,lat_code,lon_code,time,\
 feet,altitude,status,flag,movement,track_status,track,me\n";
 
-/// Makes the row of a good frame, in an empty text.
+/// Writes the row of a good frame into an empty text.
 pub(crate) fn push_squitter<R: RowForm>(text: &mut LineText, number: u64, squitter: &Squitter)
     requires { text.old.bytes ≡ [] }
     ensures { (writers : Writers) → text.new.bytes ≡ squitter_row_text R.shape writers number (Ok squitter.now) }
@@ -40,7 +40,7 @@ pub(crate) fn push_squitter<R: RowForm>(text: &mut LineText, number: u64, squitt
     push_end(text, form);
 }
 
-/// Makes the row of a line that is refused, in an empty text.
+/// Writes the row of a refused line into an empty text.
 pub(crate) fn push_refused_frame<R: RowForm>(text: &mut LineText, number: u64, fault: LineFault)
     requires { text.old.bytes ≡ [] }
     ensures { (writers : Writers) → text.new.bytes ≡ squitter_row_text R.shape writers number (Err fault) }
@@ -127,7 +127,7 @@ fn push_other<R: RowForm>(text: &mut LineText, other: &Other)
     push_hexadecimal_word(text, form, "me", other.raw(), 14);
 }
 
-// Appends that there is no message.
+// Appends empty columns for a message.
 #[inline(always)]
 fn push_no_message(text: &mut LineText, form: Form)
     requires { text_len text.old ≤ 100 }
@@ -142,7 +142,7 @@ fn push_no_message(text: &mut LineText, form: Form)
     push_blank(text, form, "me");
 }
 
-// Appends what a position of either kind has: the parity, the code and T.
+// Appends the columns that both kinds of position have: the parity, the code and T.
 #[inline(always)]
 fn push_code(text: &mut LineText, form: Form, parity: Parity, code: &Code, time: bool)
     requires { text_len text.old ≤ 200 }
@@ -169,7 +169,7 @@ fn parity_name(parity: Parity) -> &'static str
     }
 }
 
-// Appends that there is no position.
+// Appends empty columns for both kinds of position.
 #[inline(always)]
 fn push_no_code(text: &mut LineText, form: Form)
     requires { text_len text.old ≤ 200 }
@@ -184,7 +184,7 @@ fn push_no_code(text: &mut LineText, form: Form)
     push_blank(text, form, "time");
 }
 
-// Appends what an airborne position alone has.
+// Appends the columns that only an airborne position has.
 #[inline(always)]
 fn push_air_fields(text: &mut LineText, form: Form, airborne: &Airborne)
     requires { text_len text.old ≤ 300 }
@@ -202,7 +202,7 @@ fn push_air_fields(text: &mut LineText, form: Form, airborne: &Airborne)
     push_bit(text, form, "flag", fields.flag());
 }
 
-// Appends that there is no airborne position.
+// Appends empty columns for an airborne position.
 #[inline(always)]
 fn push_no_air_fields(text: &mut LineText, form: Form)
     requires { text_len text.old ≤ 300 }
@@ -216,7 +216,7 @@ fn push_no_air_fields(text: &mut LineText, form: Form)
     push_blank(text, form, "flag");
 }
 
-// Appends what a surface position alone has.
+// Appends the columns that only a surface position has.
 #[inline(always)]
 fn push_ground_fields(text: &mut LineText, form: Form, surface: &Surface)
     requires { text_len text.old ≤ 350 }
@@ -232,7 +232,7 @@ fn push_ground_fields(text: &mut LineText, form: Form, surface: &Surface)
     push_number(text, form, "track", u64::from(fields.track()));
 }
 
-// Appends that there is no surface position.
+// Appends empty columns for a surface position.
 #[inline(always)]
 fn push_no_ground_fields(text: &mut LineText, form: Form)
     requires { text_len text.old ≤ 400 }

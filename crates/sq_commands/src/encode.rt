@@ -23,18 +23,19 @@ use sq_message::{
 use sq_requests::EncodeWords;
 use std::alloc::Global;
 
-// What `encode` sends beside the place, and 0 in all other fields. In the air: barometric altitude (type code 11), an
-// aircraft in the air that answers (capability 5).
+// The fields besides the position; all others are 0. In the air: barometric altitude (type code 11), an airborne
+// aircraft with a transponder that replies (capability 5).
 const AIR_TYPE_CODE: u8 = 11;
 
 const AIR_CAPABILITY: u8 = 5;
 
-// On the ground: a surface position (type code 7), an aircraft on the ground that answers (capability 4).
+// On the ground: a surface position (type code 7), an aircraft on the ground with a transponder that replies
+// (capability 4).
 const GROUND_TYPE_CODE: u8 = 7;
 
 const GROUND_CAPABILITY: u8 = 4;
 
-// Writes the frame that is sent of a position.
+// Writes the frame that encodes a position.
 pub(crate) fn encode<K: Sink, F: Sink>(
     alloc: Global,
     words: &EncodeWords<'_>,
@@ -66,7 +67,7 @@ fn write_frame_line<K: Sink, F: Sink>(
     }
 }
 
-// The frame of the values that the words spell, else the first fault of the words.
+// Returns the frame of the values that the words spell, or the first invalid word.
 fn frame_of(words: &EncodeWords<'_>) -> Result<Frame, ArgumentFault>
     ensures { IsEncodeReading (asked_encode words.now) result }
 {
@@ -81,7 +82,7 @@ fn frame_of(words: &EncodeWords<'_>) -> Result<Frame, ArgumentFault>
     })
 }
 
-// The frame of an airborne position.
+// Returns the frame of an airborne position.
 fn air_frame(address: u32, altitude: u16, parity: Parity, position: &Position) -> Frame
     requires address { address < 2 ^ 24 }
     requires altitude { altitude < 4096 }
@@ -101,7 +102,7 @@ fn air_head(address: u32, altitude: u16) -> AirHead
     AirHead::new(AIR_CAPABILITY, address, fields).unwrap()
 }
 
-// The frame of a surface position.
+// Returns the frame of a surface position.
 fn ground_frame(address: u32, parity: Parity, position: &Position) -> Frame
     requires address { address < 2 ^ 24 }
     ensures { IsGroundFrame address parity position.now result }
@@ -119,7 +120,7 @@ fn ground_head(address: u32) -> GroundHead
     GroundHead::new(GROUND_CAPABILITY, address, fields).unwrap()
 }
 
-// The frame's digits and a line feed; `None` where allocation fails.
+// Returns the frame's digits and a line feed, or `None` if an allocation fails.
 fn frame_line(alloc: Global, frame: &Frame) -> Option<TextBuffer<29>>
     ensures { IfSome result (λ line. line.bytes ≡ line_of frame.now) }
 {

@@ -1,8 +1,8 @@
-//! What is heard of a squitter, with its moment.
+//! A squitter with the tracker's reply.
 use sq_message::Received;
 use sq_track::Heard;
 
-/// A squitter with its moment, and what was heard of its address.
+/// A squitter with its timestamp, and the tracker's reply.
 #[derive(Clone, Copy)]
 pub struct HeardSquitter {
     pub timed: Received,

@@ -1,4 +1,4 @@
-//! The text of what was heard of an address.
+//! The text of a tracker's reply.
 ghost use Rattle.std.specs.Prelude.{◌≡◌, ◌+◌, ◌≤◌, ◌++◌, codes, decimal, length};
 ghost use Rattle.sq_digits.specs.Buffer.{text_len};
 ghost use Rattle.sq_angle.specs.Decimal.{DecimalWriter};
@@ -9,7 +9,7 @@ use sq_lines::LineText;
 use sq_text::{push_decimal, push_decimals, push_six_places};
 use sq_track::{Heard, Place};
 
-/// Appends what `track` says of an address, at most 72 bytes.
+/// Appends the reply for an address, at most 72 bytes.
 pub(crate) fn push_heard(text: &mut LineText, address: u32, heard: &Heard)
     requires { text_len text.old ≤ 21 }
     ensures bytes { (decimals : DecimalWriter) → text.new.bytes

@@ -1,5 +1,5 @@
 //! Laws over the definitions that the contracts name.
-ghost use Rattle.std.specs.Prelude.{◌≡◌, ◌≢◌, ◌↔◌, ◌∷◌, [], List, ℕ, Contains, Err, IsTrue, None, Ok, Option, Some};
+ghost use Rattle.std.specs.Prelude.{◌≡◌, ◌≢◌, ◌↔◌, ◌∷◌, [], List, ℕ, Contains, Err, IfSome, IsTrue, None, Ok, Option, Some};
 ghost use Rattle.std.specs.Prelude.{codes, map};
 ghost use Rattle.std.specs.List.{AllZip};
 ghost use Rattle.sq_devices.specs.Changes.{WroteNothing, taken_from, written_on};
@@ -16,7 +16,7 @@ ghost use Rattle.sq_commands.specs.declared.status.Status.TheVariants.{Good, Mis
 ghost use Rattle.sq_commands.specs.BrokenOff.{BrokenAnswers, BrokenAside, BrokenChecks, BrokenLogs};
 ghost use Rattle.sq_commands.specs.Check.{IsCheckRunIn, IsChecked, IsNoFormat};
 ghost use Rattle.sq_commands.specs.Formats.{IsFormatWord, Telling, Writers};
-ghost use Rattle.sq_commands.specs.Heard.{HeardSquitter, heard_telling};
+ghost use Rattle.sq_commands.specs.Heard.{heard_telling};
 ghost use Rattle.sq_commands.specs.Laws.{OneEncodeFault, OnePositionFault, OneSiteFault, OneTrackFault};
 ghost use Rattle.sq_commands.specs.OneRun.{AlikeOutputsEndAlike, AnyDevices, OneRun, OneRunAside};
 ghost use Rattle.sq_commands.specs.Outputs.{effects, outputs};
@@ -28,15 +28,20 @@ ghost use Rattle.sq_lines.specs.Logs.{AreAnswers, told_from};
 ghost use Rattle.sq_lines.specs.declared.log.Answer.{Answer};
 ghost use Rattle.sq_commands.specs.Tracking.{AreHeardLines, HasHeard, OnePast, track_manner};
 
+use crate::found::HeardSquitter;
+use crate::numbered::Numbered;
 use crate::status::Status;
+use crate::track::Hearing;
 use sq_devices::{Sink, Source};
+use sq_lines::{Log, Step};
+use sq_track::Tracker;
 
 /// There is a way to write places and altitudes.
 pub fn some_writers()
     ensures { Writers }
 {}
 
-/// Arguments have one first fault: of a position, of a site, of `encode` and of `track`, whatever is wrong besides.
+/// The arguments of a position, of a site, of `encode` and of `track` have one first fault, whatever else is wrong.
 pub fn one_argument_fault()
     ensures position { OnePositionFault }
     ensures site { OneSiteFault }
@@ -44,28 +49,27 @@ pub fn one_argument_fault()
     ensures track { OneTrackFault }
 {}
 
-/// A word names one format at most, and one that names none is no format's.
+/// A word names at most one format: `lines`, `csv` or `json`.
 pub fn one_format()
     ensures one { (word : Option (List ℕ)) (a b : Format) → IsFormatWord word a → IsFormatWord word b → a ≡ b }
     ensures none { (word : Option (List ℕ)) → IsNoFormat word
         ↔ (word ≢ None) × (word ≢ Some (codes "lines")) × (word ≢ Some (codes "csv")) × (word ≢ Some (codes "json")) }
 {}
 
-/// Whether two ways to end are equal by `==`: exactly if they are one.
+/// Returns whether two statuses are equal by `==`: exactly if they are the same.
 pub fn equal_statuses(status: &Status, other: &Status) -> bool
     ensures { IsTrue result ↔ (status.now ≡ other.now) }
 {
     status == other
 }
 
-/// What `track` replies to a squitter follows from the tracker's settings and the history alone, whatever reads lines,
-/// replies and writes.
+/// The reply of `track` to a squitter follows from the tracker's settings and its history alone.
 pub fn one_past()
     ensures { OnePast }
 {}
 
-/// How a run of `check` or of `track` ended says what it did: good where no line was refused, and the answers to all
-/// were written; never as a misuse.
+/// The status of a run of `check` or of `track`: good only if no line was refused and all answers were written; never a
+/// misuse.
 pub fn ended_exactly<S: Source, K: Sink, F: Sink>()
     ensures good { (format : Format) (from to : S) (old new : K) (before after : F)
         → IsCheckRunIn format Good (effects S.Source from to (outputs K.Sink F.Sink old new before after))
@@ -84,9 +88,9 @@ pub fn ended_exactly<S: Source, K: Sink, F: Sink>()
         → ¬ IsLogRun options Misused (effects S.Source from to (outputs K.Sink F.Sink old new before after)) }
 {}
 
-/// What a run that broke off did, in the words of its devices: `check` and `track` answered what was read until a get
-/// failed, or the output failed within the answers, or, of `track` alone, a line may want memory; a command that reads
-/// no lines left the input alone. What broke it off was reported in a line.
+/// A run that stopped early: `check` and `track` answered all lines that were read until a get failed, or the output
+/// failed within the answers, or `track` had no memory for a line. A command that reads no lines left the input alone.
+/// The reason was reported in one line.
 pub fn broken_exactly<S: Source, K: Sink, F: Sink>()
     ensures check { BrokenChecks S.Source K.Sink F.Sink }
     ensures track { BrokenLogs S.Source K.Sink F.Sink }
@@ -94,34 +98,49 @@ pub fn broken_exactly<S: Source, K: Sink, F: Sink>()
     ensures aside { BrokenAside S.Source K.Sink F.Sink }
 {}
 
-/// A request has one run, whatever the devices are. Where no device failed and memory was granted, two runs of it have
-/// one status, write one text or nothing on the output, report one line or nothing, and leave the same of the input.
-/// The same bytes are to come, or, of commands that read no lines, any.
+/// A request has one run, whatever the devices are. If no device failed and memory was granted, two runs on the same
+/// input have one status, write the same, report the same, and leave the same of the input. Commands that read no lines
+/// may have any input.
 pub fn one_run<S: Source, K: Sink, F: Sink, T: Source, L: Sink, G: Sink>()
     ensures alike { OneRun S.Source K.Sink F.Sink T.Source L.Sink G.Sink }
     ensures aside { OneRunAside S.Source K.Sink F.Sink T.Source L.Sink G.Sink }
 {}
 
-/// An input, an output and a sink for faults can be taken together, whichever they are, so that the law of one run
-/// leaves none out.
+/// Any input, output and sink for faults can be used together, so the law of one run covers all devices.
 pub fn any_devices<S: Source, K: Sink, F: Sink>()
     ensures { AnyDevices S K F }
 {}
 
-/// Outputs that began with the same bytes, and on which the same was written, end with the same bytes.
+/// The same writing to two outputs with the same bytes leaves them with the same bytes.
 pub fn alike_outputs_end_alike<K: Sink, L: Sink>()
     ensures { AlikeOutputsEndAlike K.Sink L.Sink }
 {}
 
-/// Whatever lines a log machine of `track` was given, in pieces of any size: wherever the world is slow, the answers
-/// that it has told are true.
+/// In a slow world, all answers of a log machine of `track` are true, whatever lines it was given, in pieces of any
+/// size.
 pub fn true_answers()
-    ensures { (telling : Telling HeardSquitter) (start now : Held) (tally : Tally) (lines : List (List ℕ))
-        (answers : List (Answer HeardSquitter)) → AreAnswers (track_manner telling) start now tally lines answers
-        → AreTrueAnswers start answers }
+    ensures { (start now : Held) (tally : Tally) (lines : List (List ℕ)) (answers : List (Answer HeardSquitter))
+        → AreAnswers track_manner start now tally lines answers → AreTrueAnswers start answers }
 {}
 
-/// The answers that a tracker gave to lines, from a history on, are true wherever the world is slow.
+/// Takes the first step of a log machine of `track`. Its answer is true in a slow world, by the promise of the step.
+pub fn first_answer_is_true(
+    tracker: &mut Tracker,
+    piece: &[u8],
+) -> Option<sq_lines::Answer<HeardSquitter>>
+    ensures { IfSome result (λ answer. AreTrueAnswers tracker.old (answer ∷ [])) }
+{
+    let job = Hearing {
+        tracker,
+        format: &Numbered,
+    };
+    match Log::new(job).step(piece) {
+        Step::Answered(_, answer) => Some(answer),
+        _ => None,
+    }
+}
+
+/// In a slow world, the answers of a tracker to lines after a history are true.
 pub fn heard_lines_are_true()
     ensures { (telling : Telling HeardSquitter) (old new : Held) (lines : List (List ℕ)) (reader : TimedReader)
         (writers : Writers) (history : History) → HasHeard telling old new lines (λ text answers. Unit {0})
@@ -130,8 +149,8 @@ pub fn heard_lines_are_true()
         × AreTrueAfter old history (told_from 1 answers) }
 {}
 
-/// What true answers are, in the words of worlds: those to good lines, where these and the history came from a world
-/// that is slow for the tracker, and for following.
+/// Answers are true if each `fix` or `followed` is the true place and `far` does not occur, in each world that is slow
+/// for the tracker and for following. The history and the good lines come from that world.
 pub fn true_exactly()
     ensures after { (tracker : Held) (history : History) (answers : List (Answer HeardSquitter))
         → AreTrueAfter tracker history answers ↔ ((world arrivals : World) → ArisesFrom world history
@@ -140,8 +159,7 @@ pub fn true_exactly()
         → map received_of arrivals ≡ received_in answers
         → AllZip (IfHeard IsTruePlaceHeard) arrivals (heard_in answers)) }
     ensures answers { (tracker : Held) (answers : List (Answer HeardSquitter)) → AreTrueAnswers tracker answers
-        ↔ (TimedReader → Writers → (history : History) → StandsFor tracker history
-        → AreTrueAfter tracker history answers) }
+        ↔ ((history : History) → StandsFor tracker history → AreTrueAfter tracker history answers) }
     ensures good { (first last : HeardSquitter) (fault : LineFault)
         → (let one : Answer HeardSquitter = record { number = 1; verdict = Ok first } in
         let two : Answer HeardSquitter = record { number = 2; verdict = Err fault } in

@@ -1,7 +1,6 @@
-//! The commands of `squitter` over its devices: what is written is a stated function of what is asked and read.
+//! The commands of `squitter` over its devices: the output is a stated function of the request and the input.
 //!
-//! [`answer`] does what is asked for, and answers how it ended. It knows no command line: what the words of one ask for
-//! is found in crates above.
+//! [`answer`] runs a request and returns how it ended. It knows no command line: crates above read requests from words.
 #![tactic(auto)]
 
 mod arguments;
@@ -20,15 +19,19 @@ mod reports;
 mod rows;
 mod show;
 mod status;
+mod told;
 mod track;
 mod track_rows;
 
 pub use check::run_check;
+pub use formats::Format;
+pub use found::HeardSquitter;
 pub use program::answer;
 pub use reports::{break_off, report};
 pub use sq_devices::{Sink, Source};
-pub use sq_lines::{RunFault, Tally};
+pub use sq_lines::{Answer, LineText, RunFault, Tally};
 pub use sq_requests::Request;
 pub use sq_track::Tracker;
 pub use status::Status;
-pub use track::run_track;
+pub use told::{heard_header, tell_heard};
+pub use track::{TextHearing, ValueHearing, hear_texts, hear_values, run_track};

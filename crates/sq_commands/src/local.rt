@@ -11,7 +11,7 @@ use sq_devices::Sink;
 use sq_message::place_local;
 use sq_text::read_squitter;
 
-// Writes the place, near the reference, of the squitter that the frame text spells.
+// Decodes a frame text near the reference, and writes the place.
 pub(crate) fn local<K: Sink, F: Sink>(
     frame: &str,
     lat: &str,

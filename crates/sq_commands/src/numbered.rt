@@ -1,4 +1,4 @@
-//! Answers that are told in lines: the number of a line, and what was found on it.
+//! Answers as lines of text: the line's number, and the result.
 ghost use Rattle.std.specs.Prelude.{◌≡◌, ◌+◌, ◌≤◌, ◌++◌, [], codes, decimal};
 ghost use Rattle.sq_digits.specs.Buffer.{text_len};
 ghost use Rattle.sq_text.specs.Faults.{fault_text};
@@ -12,9 +12,9 @@ use sq_message::{Received, Squitter};
 use sq_text::{LineFault, push_decimal, push_fault, push_summary};
 use sq_track::Heard;
 
-/// An answer a line.
+/// A line of text for each answer.
 #[derive(Clone, Copy)]
-pub(crate) struct Numbered;
+pub struct Numbered;
 
 impl CheckFormat for Numbered {
     ghost telling = { squitter_lines };
@@ -54,7 +54,7 @@ impl TrackFormat for Numbered {
     }
 }
 
-// Tells a fault.
+// Writes a fault into an empty text.
 #[cold]
 #[inline(never)]
 fn push_refused(text: &mut LineText, number: u64, fault: LineFault)
@@ -66,7 +66,7 @@ fn push_refused(text: &mut LineText, number: u64, fault: LineFault)
     push_end(text);
 }
 
-// Makes the front of the text for the line with this number, in an empty one.
+// Writes the line's number into an empty text.
 #[inline(always)]
 fn push_number(text: &mut LineText, number: u64)
     requires { text.old.bytes ≡ [] }
@@ -77,7 +77,7 @@ fn push_number(text: &mut LineText, number: u64)
     text.push(b' ');
 }
 
-// Ends the text.
+// Appends the line feed.
 fn push_end(text: &mut LineText)
     requires { text_len text.old ≤ 93 }
     ensures { text.new.bytes ≡ text.old.bytes ++ codes "\n" }

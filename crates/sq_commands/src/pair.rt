@@ -12,7 +12,7 @@ use sq_devices::Sink;
 use sq_message::{Squitter, place_pair};
 use sq_text::{LineFault, read_squitter};
 
-// Writes the place of the newer of the two squitters that the frame texts spell.
+// Decodes two frame texts as a pair, and writes the place of the newer squitter.
 pub(crate) fn pair<K: Sink, F: Sink>(
     older: &str,
     newer: &str,
@@ -48,7 +48,7 @@ fn pair_at<K: Sink, F: Sink>(
     }
 }
 
-// The squitters of both frame texts, or the first fault.
+// Returns the squitters of both frame texts, or the first fault.
 fn read_both(older: &str, newer: &str) -> Result<(Squitter, Squitter), LineFault>
     ensures { AreReadingsOf older.now newer.now result }
 {

@@ -14,10 +14,10 @@ use sq_devices::{Sink, Source};
 use sq_requests::Request;
 use std::alloc::Global;
 
-/// Does what is asked for, and answers how it ended.
+/// Runs a request and returns how it ended.
 ///
-/// An answer goes to the output, a fault in one line to the sink for faults; what could not be written there changes no
-/// status. `show`, `encode`, `local` and `pair` leave the input alone.
+/// Writes an answer to the output, and a fault in one line to the sink for faults. A failure there changes no status.
+/// `show`, `encode`, `local` and `pair` leave the input alone.
 pub fn answer<S: Source, K: Sink, F: Sink>(
     alloc: Global,
     request: Request<'_>,

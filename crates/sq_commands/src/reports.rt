@@ -1,4 +1,4 @@
-//! Answers that are written whole, and faults that are reported in a line.
+//! Answers that are written whole, and faults that are reported in one line.
 ghost use Rattle.std.specs.Prelude.{◌≡◌, ◌++◌, codes};
 ghost use Rattle.sq_devices.specs.Changes.{WroteOrFailed, written_on};
 ghost use Rattle.sq_text.specs.Faults.{fault_text};
@@ -15,7 +15,7 @@ use sq_lines::RunFault;
 use sq_message::{Place, PlaceFault};
 use sq_text::{LineFault, place_text, push_fault, push_place_fault};
 
-/// Reports a text on the sink for faults, which is then finished. What could not be written there changes nothing.
+/// Writes a text to the sink for faults, and finishes that sink. A failure there changes nothing.
 pub fn report<F: Sink>(text: &str, faults: &mut F)
     ensures { WroteOrFailed (written_on F.Sink faults.old faults.new) text.now }
 {
@@ -24,7 +24,7 @@ pub fn report<F: Sink>(text: &str, faults: &mut F)
     }
 }
 
-/// Reports in a line what broke a run off.
+/// Reports in one line why a run stopped early.
 pub fn break_off<F: Sink>(fault: RunFault, faults: &mut F) -> Status
     ensures status { result ≡ Status.Broken }
     ensures reported { WroteOrFailed (written_on F.Sink faults.old faults.new) (broken_text fault ++ codes "\n") }
@@ -43,7 +43,7 @@ fn broken_line(fault: RunFault) -> &'static str
     }
 }
 
-// Reports the first argument at fault.
+// Reports the first invalid argument.
 pub(crate) fn report_argument<F: Sink>(fault: ArgumentFault, faults: &mut F) -> Status
     ensures status { result ≡ Status.Misused }
     ensures reported { WroteOrFailed (written_on F.Sink faults.old faults.new) (argument_text fault ++ codes "\n") }
@@ -67,7 +67,7 @@ pub(crate) fn report_frame<F: Sink>(fault: LineFault, faults: &mut F) -> Status
     Status::Refused
 }
 
-// Reports why there is no place.
+// Reports why a frame cannot be decoded to a place.
 fn report_place<F: Sink>(fault: PlaceFault, faults: &mut F) -> Status
     ensures status { result ≡ Status.Refused }
     ensures reported { WroteOrFailed (written_on F.Sink faults.old faults.new) (place_fault_text fault ++ codes "\n") }
@@ -89,7 +89,7 @@ pub(crate) fn write_text<K: Sink, F: Sink>(text: &str, output: &mut K, faults: &
     }
 }
 
-// Writes the two lines of a place, or reports why there is none.
+// Writes the two lines of a place, or reports why the frame cannot be decoded.
 pub(crate) fn write_place<K: Sink, F: Sink>(
     answer: Result<Place, PlaceFault>,
     output: &mut K,

@@ -1,4 +1,4 @@
-//! Answers that are told in rows, of CSV or JSON.
+//! Answers as rows, in CSV or JSON.
 ghost use Rattle.std.specs.Prelude.{◌≡◌, [], Ok, Err};
 ghost use Rattle.sq_rows.specs.declared.rows.Form.TheVariants as forms;
 ghost use Rattle.sq_commands.specs.Heard.{heard_rows};
@@ -13,13 +13,13 @@ use sq_rows::Form;
 use sq_text::LineFault;
 use sq_track::Heard;
 
-/// A record of CSV an answer, below a header with the names of the columns.
+/// A CSV record for each answer, below a header with the names of the columns.
 #[derive(Clone, Copy)]
-pub(crate) struct CsvRows;
+pub struct CsvRows;
 
-/// An object of JSON an answer.
+/// A JSON object for each answer.
 #[derive(Clone, Copy)]
-pub(crate) struct JsonRows;
+pub struct JsonRows;
 
 impl RowForm for CsvRows {
     ghost shape = { forms.Csv };

@@ -7,7 +7,7 @@ use crate::status::Status;
 use sq_devices::Sink;
 use sq_text::{read_squitter, show_text};
 
-// Shows the fields of the squitter that the frame text spells.
+// Writes the fields of a frame text's squitter.
 pub(crate) fn show<K: Sink, F: Sink>(frame: &str, output: &mut K, faults: &mut F) -> Status
     ensures { IsShowRun frame.now result (outputs K.Sink F.Sink output.old output.new faults.old faults.new) }
 {

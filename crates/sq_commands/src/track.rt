@@ -1,12 +1,15 @@
-//! The command `track`: each line of a log is heard by a tracker.
+//! The command `track`: a tracker hears each line of a log.
 ghost use base.Fml.{GName};
 ghost use Rattle.std.specs.Prelude.{◌≡◌, ◌≤◌, IfOk};
 ghost use Rattle.sq_devices.specs.Changes.{TookReported, taken_from, written_on};
 ghost use Rattle.sq_requests.specs.Requests.{asked_track};
+ghost use Rattle.sq_commands.specs.Formats.{Writers};
 ghost use Rattle.sq_commands.specs.Heard.{heard_lines, heard_telling};
 ghost use Rattle.sq_commands.specs.Outputs.{effects, outputs};
+ghost use Rattle.sq_commands.specs.SlowAnswers.{AreTrueAnswers};
 ghost use Rattle.sq_commands.specs.Track.{HasTracked, IsLogRun, IsTrackRun, IsTracked, hearing_manner};
 ghost use Rattle.sq_commands.specs.Tracking.{IsTimedHeard, Tracking};
+ghost use Rattle.sq_commands.specs.TrueAnswers.{true_answers};
 ghost use Rattle.sq_track.specs.Held.{settings};
 
 use crate::arguments::{TrackOptions, read_options};
@@ -23,25 +26,29 @@ use sq_message::Received;
 use sq_requests::TrackWords;
 use sq_text::{LineFault, read_timed};
 use sq_track::{TrackFault, Tracker};
-use std::alloc::Global;
+use std::alloc::{Allocator, Global};
 
-// Hears each text.
+/// The job of `track`: has a tracker hear each text.
 #[derive(Drop)]
-struct Hearing<'a, F: TrackFormat> {
-    tracker: &'a mut Tracker,
-    format: &'a F,
+pub struct Hearing<'a, F: TrackFormat, A: Allocator = Global> {
+    pub(crate) tracker: &'a mut Tracker<A>,
+    pub(crate) format: &'a F,
 }
 
-impl<F: TrackFormat> Job for Hearing<'_, F> {
+impl<F: TrackFormat, A: Allocator> Job for Hearing<'_, F, A> {
     type Found = HeardSquitter;
 
     ghost Past = { Tracking };
 
     ghost Lasting = { GName };
 
-    ghost how = { hearing_manner F.telling };
+    ghost how = { hearing_manner };
 
     ghost lasting = { λ client. client.tracker.ghost_name };
+
+    ghost Promised = { λ start. AreTrueAnswers start.tracker.now };
+
+    ghost promises = { λ start now. true_answers start.tracker.now now.tracker.now };
 
     #[inline(always)]
     fn hear(&mut self, text: &[u8]) -> Verdict<HeardSquitter> {
@@ -52,8 +59,12 @@ impl<F: TrackFormat> Job for Hearing<'_, F> {
     }
 }
 
-impl<F: TrackFormat> Telling for Hearing<'_, F> {
+impl<F: TrackFormat, A: Allocator> Telling for Hearing<'_, F, A> {
+    ghost Writing = { Writers };
+
     ghost front = { F.telling.header };
+
+    ghost text = { F.telling.text };
 
     fn header(&self) -> &'static str {
         self.format.header()
@@ -69,9 +80,36 @@ impl<F: TrackFormat> Telling for Hearing<'_, F> {
     }
 }
 
-// Hears a squitter.
+/// The job of `track` for answers as values.
+pub type ValueHearing<'a, A> = Hearing<'a, Numbered, A>;
+
+/// Returns the job of `track` by a tracker.
+pub fn hear_values<A: Allocator>(tracker: &mut Tracker<A>) -> ValueHearing<'_, A>
+    ensures { result.tracker ≡ tracker.entry }
+{
+    Hearing {
+        tracker,
+        format: &Numbered,
+    }
+}
+
+/// The job of `track` for answers as texts: the same as [`ValueHearing`], compiled once more, so that each of two loops
+/// has the step inlined.
+pub type TextHearing<'a, A> = Hearing<'a, CsvRows, A>;
+
+/// Returns the job of `track` by a tracker, for texts.
+pub fn hear_texts<A: Allocator>(hearer: &mut Tracker<A>) -> TextHearing<'_, A>
+    ensures { result.tracker ≡ hearer.entry }
+{
+    Hearing {
+        tracker: hearer,
+        format: &CsvRows,
+    }
+}
+
+// Has the tracker hear a squitter.
 #[inline(always)]
-fn hear(tracker: &mut Tracker, timed: Received) -> Verdict<HeardSquitter>
+fn hear<A: Allocator>(tracker: &mut Tracker<A>, timed: Received) -> Verdict<HeardSquitter>
     ensures heard { IsTimedHeard result timed tracker.old tracker.new }
     ensures settings { settings tracker.new ≡ settings tracker.old }
 {
@@ -84,12 +122,12 @@ fn hear(tracker: &mut Tracker, timed: Received) -> Verdict<HeardSquitter>
     }
 }
 
-/// Hears each line of the source that is not empty, and answers it on the sink, as soon as its line feed was got; the
-/// last one at the end of the input. It keeps one line, and takes no memory but the tracker's for a new address.
+/// Hears each line of the source that is not empty, and writes the answer, as soon as its line feed was read; the last
+/// line at the end of the input. Keeps one line. Only the tracker allocates, for a new address.
 ///
-/// `Ok` comes only at the end of the input, with the numbers of good and of refused lines. `Read` comes where a get
-/// failed, after the answers to the lines that were read whole; `Write` where a put or the finish at the end did,
-/// within the answer to the last line that was heard; `Memory` where an allocation failed, before the line was heard.
+/// Returns the numbers of good and of refused lines at the end of the input. Errors: `Read` if a get failed, after the
+/// answers to all complete lines; `Write` if a put or the finish failed, within the answer to the last heard line;
+/// `Memory` if an allocation failed, before the line was heard.
 pub fn run_track<S: Source, K: Sink>(
     source: &mut S,
     sink: &mut K,
@@ -98,14 +136,14 @@ pub fn run_track<S: Source, K: Sink>(
     ensures ran { IsTracked heard_lines result (taken_from S.Source source.old source.new)
         (written_on K.Sink sink.old sink.new) tracker.old tracker.new }
 
-    // Where the source reports its bytes, the answers are those to all of them.
+    // If the source reports its bytes, the answers are those to all of them.
     ensures reported { IfOk result (λ tally. TookReported (taken_from S.Source source.old source.new)
         (HasTracked heard_lines tally (written_on K.Sink sink.old sink.new) tracker.old tracker.new)) }
 {
     run_track_as(&Numbered, source, sink, tracker)
 }
 
-// Hears each line, and answers it in the format.
+// Writes the answers in the format.
 fn run_track_as<S: Source, K: Sink, F: TrackFormat>(
     format: &F,
     source: &mut S,
@@ -136,7 +174,7 @@ fn run_track_in<S: Source, K: Sink>(
     }
 }
 
-// Hears the log that is the input.
+// Runs `track` over the input.
 pub(crate) fn track<S: Source, K: Sink, F: Sink>(
     alloc: Global,
     words: &TrackWords<'_>,
@@ -153,7 +191,7 @@ pub(crate) fn track<S: Source, K: Sink, F: Sink>(
     }
 }
 
-// Tracks with options that were read.
+// Runs `track` with options that were read.
 fn track_with<S: Source, K: Sink, F: Sink>(
     alloc: Global,
     options: &TrackOptions,

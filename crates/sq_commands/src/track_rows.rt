@@ -1,4 +1,4 @@
-//! The rows of `track`: what was heard on a line, in named columns.
+//! The rows of `track`, in named columns.
 ghost use Rattle.std.specs.Prelude.{◌≡◌, ◌+◌, ◌≤◌, ◌++◌, [], Ok, Err, codes, length};
 ghost use Rattle.sq_digits.specs.Buffer.{text_len};
 ghost use Rattle.sq_angle.specs.Decimal.{DecimalWriter};
@@ -17,10 +17,10 @@ use sq_rows::{
 use sq_text::LineFault;
 use sq_track::Heard;
 
-/// The names of the columns, as CSV has them.
+/// The names of the columns, in CSV.
 pub(crate) const TRACK_COLUMNS: &str = "line,moment,answer,address,kind,lat,lon,feet\n";
 
-/// Makes the row of a squitter that was heard, in an empty text.
+/// Writes the row of a squitter that was heard into an empty text.
 pub(crate) fn push_heard_row<R: RowForm>(
     text: &mut LineText,
     number: u64,
@@ -43,7 +43,7 @@ pub(crate) fn push_heard_row<R: RowForm>(
     push_end(text, form);
 }
 
-/// Makes the row of a line that is refused, in an empty text.
+/// Writes the row of a refused line into an empty text.
 pub(crate) fn push_refused_row<R: RowForm>(text: &mut LineText, number: u64, fault: LineFault)
     requires { text.old.bytes ≡ [] }
     ensures { (writers : Writers) → text.new.bytes ≡ track_row_text R.shape number (heard_row writers (Err fault)) }
@@ -59,7 +59,7 @@ pub(crate) fn push_refused_row<R: RowForm>(text: &mut LineText, number: u64, fau
     push_end(text, form);
 }
 
-// The answer in a word or two.
+// Returns the answer in a word or two.
 #[inline(always)]
 fn answer_word(heard: &Heard) -> &'static str
     ensures text { result.now ≡ answer_word heard.now }
@@ -76,7 +76,7 @@ fn answer_word(heard: &Heard) -> &'static str
     }
 }
 
-// Appends the coordinates of the place that was heard, where there is one.
+// Appends the coordinates of the place that was heard, or empty columns.
 #[inline(always)]
 fn push_coordinates(text: &mut LineText, form: Form, heard: &Heard)
     requires { text_len text.old ≤ 200 }
@@ -107,7 +107,7 @@ fn push_place(text: &mut LineText, form: Form, place: &Place)
     push_degrees(text, form, "lon", &position.lon());
 }
 
-// Appends that there is no place.
+// Appends empty columns for a place.
 #[inline(always)]
 fn push_no_coordinates(text: &mut LineText, form: Form)
     requires { text_len text.old ≤ 200 }

@@ -3,7 +3,6 @@ use Rattle.std.proofs.Common.{◌≡◌, ◌∙◌, ◌∷◌, ℕ, [], List, Op
 use Rattle.std.proofs.Common.{inr}
 use Rattle.sq_message.specs.declared.received.Received.{Received}
 use Rattle.sq_text.specs.Timed.{TimedReader}
-use Rattle.sq_text.proofs.TimedReadings.{some_timed_reading}
 use Rattle.sq_lines.specs.Answers.{tally_of}
 use Rattle.sq_lines.specs.Content.{Answer, answer_by}
 use Rattle.sq_lines.specs.Lines.{lines_of}
@@ -29,6 +28,7 @@ use Rattle.sq_commands.specs.Track.{HasTracked, IsLimit, IsLogRun, IsTrackFault,
 use Rattle.sq_commands.specs.Tracking.{AreHeardLines, IsHeardLine, found_of}
 use Rattle.sq_commands.proofs.FaultLemmas.{one_track_fault}
 use Rattle.sq_commands.proofs.FormatLemmas.{one_format}
+use Rattle.sq_commands.specs.TrueAnswers.{some_reader}
 use Rattle.sq_commands.proofs.SomeWriters.{some_writers}
 use Rattle.sq_commands.proofs.OneRuns.Alike.{IsWhole, one_report}
 use Rattle.sq_commands.proofs.OneRuns.Lines.{RunAlike, left_alike, took_bytes}
@@ -92,10 +92,6 @@ good_track words x fault p (inr (_, inr (_, inr (_, inr (_, bad))))) =
     good_site words.lat words.lon x.site fault p.site_is bad
 
 -- ---- runs
-
--- there is a way to read lines of a log
-some_reader : TimedReader
-some_reader = record { read = λ text. (some_timed_reading text).0; reads = λ text. (some_timed_reading text).1 }
 
 -- trackers that were made alike, and have heard nothing, answer the same to one log
 one_log : (how : Telling HeardSquitter) (s : Settings) (v w : Written) (x y : Tally) (bytes : List ℕ)
