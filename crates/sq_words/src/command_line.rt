@@ -51,14 +51,14 @@ pub(crate) fn request_of<'a>(name: &'a str, values: &ArgMatches<'a>) -> Option<R
 }
 
 const SQUITTER: CommandHelp = CommandHelp {
-    about: "Reads and writes the position squitters of ADS-B (DF17, 112 bits), exactly, to fractions of a degree",
+    about: "Decodes and encodes ADS-B position messages (DF17, 112 bits) in exact fractions of a degree",
     usage: "squitter <show|encode|local|pair|check|track> ..",
-    after: "A frame is 28 hexadecimal digits, bare or between '*' and ';' as receivers print it.
-An angle is in degrees, with up to 12 decimals; south and west need the equals sign, as --lat=-33.9.
-'check' and 'track' read standard input, and take no name of a file.
+    after: "A frame is 28 hexadecimal digits, bare or between '*' and ';'.
+Angles are in degrees, with up to 12 decimals; south and west need the equals sign: --lat=-33.9.
+'check' and 'track' read standard input; they take no file name.
 
-Exit status: 0 all is good; 1 a line, a frame or a place was refused; 2 a bad command line, and this
-help; 3 a read, write or memory fault. Faults and help go to standard error.
+Exit status: 0 success; 1 a line, a frame or a position was refused; 2 a bad command line, or help;
+3 a read, a write or an allocation failed. Errors and help go to standard error.
 
 Examples:
   squitter show 8D40621D58C382D690C8AC2863A7
@@ -81,10 +81,10 @@ fn program<'a>(alloc: Global) -> Command<'a>
 }
 
 const SHOW: CommandHelp = CommandHelp {
-    about: "Shows the fields of one frame, each on a line",
+    about: "Shows the fields of one frame, one on each line",
     usage: "squitter show <FRAME>",
-    after: "'lat' and 'lon' are the code of the position, two numbers from 0 to 131071, and not degrees: 'local'
-and 'pair' decode it. A field with no unit is as the frame has it.
+    after: "'lat' and 'lon' are the encoded position: two numbers from 0 to 131071, not degrees. 'local' and
+'pair' decode them. A field without a unit is shown as the frame has it.
 
 Example:
   squitter show 8D40621D58C382D690C8AC2863A7",
@@ -107,12 +107,12 @@ fn show_request<'a>(values: &ArgMatches<'a>) -> Option<Request<'a>>
 }
 
 const ENCODE: CommandHelp = CommandHelp {
-    about: "Writes the frame of a position, rounded as the standard's encoder rounds it",
+    about: "Encodes a position as a frame, rounded as the standard's encoder rounds it",
     usage: "squitter encode --kind=<air|ground> --parity=<even|odd> --address=<HEX6> [--feet=<N>]
                        --lat=<DEGREES> --lon=<DEGREES>
        south and west need the equals sign: --lat=-33.9 --lon=-0.45",
-    after: "The other fields are 0, with type code 11 and capability 5 in the air, 7 and 4 on the ground.
-'bad feet' says that --feet is no multiple of 25 from -1000 to 50175, or that the kind is ground.
+    after: "All other fields are 0, with type code 11 and capability 5 in the air, 7 and 4 on the ground.
+'bad feet' means that --feet is not a multiple of 25 from -1000 to 50175, or that the kind is ground.
 
 Examples:
   squitter encode --kind=air --parity=even --address=40621D --feet=38000 --lat=52.2572021 --lon=3.9193726
@@ -156,12 +156,12 @@ fn encode_request<'a>(values: &ArgMatches<'a>) -> Option<Request<'a>>
 }
 
 const LOCAL: CommandHelp = CommandHelp {
-    about: "Decodes the place of one frame near a reference",
+    about: "Decodes the position of one frame near a reference position",
     usage: "squitter local <FRAME> --lat=<DEGREES> --lon=<DEGREES>
        south and west need the equals sign: --lat=-33.9 --lon=-0.45",
     after: "Prints latitude and longitude with seven decimals, and again as exact fractions of a degree. The
-reference has to lie less than half a zone from the aircraft, in latitude and in longitude. Half a
-zone is 3 degrees of latitude in the air, and 0.75 on the ground.
+reference must be less than half a zone from the aircraft, in latitude and in longitude. Half a zone
+is 3 degrees of latitude in the air, and 0.75 on the ground.
 
 Example:
   squitter local 8D40621D58C382D690C8AC2863A7 --lat=52.258 --lon=3.918",
@@ -190,7 +190,7 @@ fn local_request<'a>(values: &ArgMatches<'a>) -> Option<Request<'a>>
 }
 
 const PAIR: CommandHelp = CommandHelp {
-    about: "Decodes the place of the newer of two frames, one even and one odd",
+    about: "Decodes the position of the newer of two frames, one even and one odd",
     usage: "squitter pair <OLDER> <NEWER> [--lat=<DEGREES> --lon=<DEGREES>]
        south and west need the equals sign: --lat=-33.9 --lon=-0.45",
     after: "Prints latitude and longitude with seven decimals, and again as exact fractions of a degree.
@@ -225,13 +225,17 @@ fn pair_request<'a>(values: &ArgMatches<'a>) -> Option<Request<'a>>
 }
 
 const CHECK: CommandHelp = CommandHelp {
-    about: "Reads standard input, a frame on each line, and prints each frame's fields or why it is refused",
+    about: "Reads frames from standard input, one on each line, and prints each frame's fields or its error",
     usage: "squitter check [--format=<lines|csv|json>] < FRAMES
-       it waits for standard input; lines with a timestamp are for 'squitter track'",
-    after: "An answer is the number of the line, and then 'ok' with the address, the kind, the parity and the
-code of a good frame, or why the line is refused. Each line is answered before more input is awaited.
-As csv and json an answer has every field of the frame; 'squitter show' tells what each is.
-If its output is closed, as by 'head', it ends with 'write failed' and status 3.
+       it waits for standard input; lines with a time are for 'squitter track'",
+    after: "Prints the number of each line, and then 'ok' with the address, the kind, the parity and the encoded
+position, or the error:
+  bad length N    the frame has N characters, not 28; lines with a time are for 'squitter track'
+  bad digit N     character N is no hexadecimal digit
+  not DF17 N      a message of downlink format N; only format 17 carries these positions
+  parity HEX6     the checksum is wrong: the frame was damaged on its way
+CSV and JSON have every field; 'squitter show' explains them. Each line is answered before the next
+is read. If the output is closed, as 'head' does, 'write failed' is reported and the status is 3.
 
 Examples:
   squitter check < frames.txt
@@ -255,16 +259,24 @@ fn check_request<'a>(values: &ArgMatches<'a>) -> Request<'a>
 }
 
 const TRACK: CommandHelp = CommandHelp {
-    about: "Reads standard input, 'MILLISECONDS FRAME' on each line, and prints the position of each frame",
+    about: "Reads a log from standard input, 'MILLISECONDS FRAME' on each line, and prints each position",
     usage: "squitter track [--format=<lines|csv|json>] [--limit=<N>] [--window=<MS>]
                       [--lat=<DEGREES> --lon=<DEGREES>] < LOG
-       it waits for standard input; 'squitter-feed' adds timestamps to lines that lack them
+       it waits for standard input; 'squitter-feed' adds times to frames without them
        south and west need the equals sign: --lat=-33.9 --lon=-0.45",
-    after: "A line of the log is a moment in milliseconds, one space, and a frame. An answer is the number of the
-line, and then what was heard: 'fix' of a pair or 'followed' from the last fix, with the address and
-the degrees; 'waiting' for a frame of the other parity; or why there is no place. As csv and json it
-has the line, moment, answer, address, kind, lat, lon and feet. If its output is closed, as by
-'head', it ends with 'write failed' and status 3.
+    after: "Prints the number of each line, and then the position in degrees, or why there is none:
+  fix             decoded from an even and an odd frame
+  followed        decoded near the last fix, as there was no such pair
+  waiting         no frame of the other parity within the window, and no fix to follow
+  split, far      the even and the odd frame give no position
+  no site         an aircraft on the ground; give your receiver's position by --lat and --lon
+  no position     a message of another kind
+  bad moment      the line has no time; 'squitter-feed' adds one
+  moment back N   the time is before N, that of an earlier line
+  table full      more aircraft than --limit within the window; raise --limit
+and the errors of frames that 'squitter check --help' explains. CSV and JSON have line, moment (ms),
+answer, address, kind, lat, lon and feet. If the output is closed, as 'head' does, 'write failed' is
+reported and the status is 3.
 
 Examples:
   squitter track --lat=52.31 --lon=4.76 < flights.log
@@ -299,18 +311,18 @@ fn track_request<'a>(values: &ArgMatches<'a>) -> Request<'a>
 // What help says of arguments and options, some of which commands share.
 const FRAME: &str = "28 hexadecimal digits, bare or between '*' and ';'";
 
-const OLDER: &str = "The frame that came first: 28 hexadecimal digits, bare or between '*' and ';'";
+const OLDER: &str = "The frame received first: 28 hexadecimal digits, bare or between '*' and ';'";
 
-const NEWER: &str = "The frame that came last, of the same aircraft and the other parity";
+const NEWER: &str = "The frame received last, of the same aircraft and the other parity";
 
 const KIND: &str = "In the air or on the ground";
 
-const PARITY: &str = "Which of the two grids: an aircraft sends even and odd frames in turn";
+const PARITY: &str = "The format (F bit): an aircraft sends even and odd frames in turn";
 
-const ADDRESS: &str = "The address, six hexadecimal digits, as 40621D";
+const ADDRESS: &str = "The ICAO address, six hexadecimal digits, as 40621D";
 
-const FEET: &str = "The altitude in feet, in the air alone: a multiple of 25 from -1000
-to 50175, as --feet=-25. Left out, the frame has no altitude";
+const FEET: &str = "The altitude in feet, in the air only: a multiple of 25 from -1000
+to 50175, as --feet=-25. Without it the frame has no altitude";
 
 const LAT: &str = "The latitude in degrees, from -90 to 90; south as --lat=-33.9";
 
@@ -321,18 +333,18 @@ const NEAR_LAT: &str = "The reference's latitude in degrees, from -90 to 90; sou
 const NEAR_LON: &str =
     "The reference's longitude in degrees, from -180 to 180; west as --lon=-0.45";
 
-const SITE_LAT: &str = "The site's latitude in degrees, from -90 to 90; south as --lat=-33.9.
-Needed for aircraft on the ground alone, within 45 degrees of them";
+const SITE_LAT: &str = "The receiver's latitude in degrees, from -90 to 90; south as --lat=-33.9.
+Needed only for aircraft on the ground, within 45 degrees of it";
 
-const SITE_LON: &str = "The site's longitude in degrees, from -180 to 180; west as --lon=-0.45.
+const SITE_LON: &str = "The receiver's longitude in degrees, from -180 to 180; west as --lon=-0.45.
 Give both or neither";
 
-const FORMAT: &str = "How answers are told: lines, csv or json, an object a line [default: lines]";
+const FORMAT: &str = "The output format: lines, csv, or json (an object a line) [default: lines]";
 
-const LIMIT: &str = "How many addresses are kept at most, from 1 to 4294967295 [default: 1000]";
+const LIMIT: &str = "The most aircraft at once, from 1 to 4294967295 [default: 1000]";
 
-const WINDOW: &str = "How old a frame or a fix may be, in milliseconds, to be paired or
-followed, from 0 to 18446744073709551615 [default: 10000]";
+const WINDOW: &str = "The greatest age in milliseconds of a frame to pair or a fix to
+follow, from 0 to 18446744073709551615 [default: 10000]";
 
 // The texts of a command: its sentence, its usage, and what follows the list of its options.
 #[derive(Clone, Copy)]
