@@ -1,0 +1,192 @@
+//! Feeds of each format, by their lines and counts.
+use sq_digits::TextBuffer;
+use sq_feed::{Counts, Feed, Format, LINE_LIMIT, push_log_line};
+
+// Ten minutes.
+const LEAP: u64 = 600_000;
+
+// The lines of a recorded source that comes in one piece.
+fn lines(format: Format, source: &[u8]) -> TextBuffer<1024> {
+    let mut text = TextBuffer::new();
+    let mut feed = Feed::new(format, LEAP, false);
+    feed.take(source, 0, &mut text);
+    text
+}
+
+// The line at the end of a source.
+fn last_line(format: Format, source: &[u8]) -> TextBuffer<64> {
+    let mut text = TextBuffer::<1024>::new();
+    let mut feed = Feed::new(format, LEAP, false);
+    feed.take(source, 0, &mut text);
+    let mut last = TextBuffer::new();
+    feed.finish(0, &mut last);
+    last
+}
+
+// A squitter of type 3 with the clock 12,000,000, and one of type 2 of format 11.
+const BEAST: &[u8] =
+    b"\x1a3\0\0\0\xb7\x1b\0\x80\x8d\x48\x40\xd6\x20\x2c\xc3\x71\xc3\x2c\xe0\x57\x60\x98\x1a2\0\0\0\xb7\x1b\0\x80\x5d\x48\x40\xd6\xf8\x3d\x31";
+
+#[test]
+fn beast(rt: HostRuntime) {
+    assert!(rt; lines(Format::Beast, BEAST).as_str() == "1000 8D4840D6202CC371C32CE0576098\n");
+}
+
+#[test]
+fn avr(rt: HostRuntime) {
+    let clocked =
+        b"*0000;\n@000000B71B008D4840D6202CC371C32CE0576098;\r\n%000001C9C3808d4840d6202cc371c32ce0576098;\n";
+    assert!(rt;
+        lines(Format::Avr, clocked).as_str()
+            == "1000 8D4840D6202CC371C32CE0576098\n2500 8D4840D6202CC371C32CE0576098\n"
+    );
+    let signalled =
+        b"<000000B71B00808D4840D6202CC371C32CE0576098;\n:8D4840D6202CC371C32CE0576098;\n";
+    assert!(rt;
+        lines(Format::Avr, signalled).as_str()
+            == "1000 8D4840D6202CC371C32CE0576098\n1000 8D4840D6202CC371C32CE0576098\n"
+    );
+    let bare = b"8D4840D6202CC371C32CE0576098";
+    assert!(rt; last_line(Format::Avr, bare).as_str() == "0 8D4840D6202CC371C32CE0576098\n");
+}
+
+#[test]
+fn csv(rt: HostRuntime) {
+    let table =
+        b"time,icao24,rawmsg\n1700000000.5,4840d6,8d4840d6202cc371c32ce0576098\r\n1700000001,4840d6,8D4840D6202CC371C32CE0576098\n";
+    assert!(rt;
+        lines(Format::Csv, table).as_str()
+            == "1700000000500 8D4840D6202CC371C32CE0576098\n1700000001000 8D4840D6202CC371C32CE0576098\n"
+    );
+    let other = b"\"RawMsg\",mintime\n8D4840D6202CC371C32CE0576098,\"17.2509\"\n";
+    assert!(rt; lines(Format::Csv, other).as_str() == "17250 8D4840D6202CC371C32CE0576098\n");
+}
+
+// The lines of a recorded table that comes byte by byte.
+fn lines_by_bytes(source: &[u8]) -> TextBuffer<1024> {
+    let mut text = TextBuffer::new();
+    let mut feed = Feed::new(Format::Csv, LEAP, false);
+    for at in 0..source.len() {
+        feed.take(&source[at..at + 1], 0, &mut text);
+    }
+    text
+}
+
+// Rows in their usual form, and rows that differ from it in one byte or in a length.
+const ROWS: &[u8] =
+    b"1700000000.,4840d6,8d4840d6202cc371c32ce0576098\n1700000001.25,,8d4840d6202cc371c32ce0576098\r\n\
+1700000002.123456789012345,123456789012345,8D4840D6202CC371C32CE0576098\n\
+1700000003.1234567890123456,1,8D4840D6202CC371C32CE0576098\n\
+1700000004.9999,1234567890123456,8D4840D6202CC371C32CE0576098\n\
+1700000005.5,4840d6,8D4840D6202CC371C32CE057609G\n1700000006.5,4840\n6,8D4840D6202CC371C32CE0576098\n\
+1700000007.5,4840d6,8D4840D6202CC371C32CE0576098\r\r\n1700000008,5,4840d6,8D4840D6202CC371C32CE0576098\n\
+170000000:.5,4840d6,8D4840D6202CC371C32CE0576098\n1700000009.7:1,4840d6,8D4840D6202CC371C32CE0576098\n\
+1700000010.001,\"4840d6\",8D4840D6202CC371C32CE0576098\n1700000011.002,4840d6,8D4840D6202CC371C32CE0576098,1\n\
+1700000012.003,4840d6,8D4840D6202CC371C32CE0576098\n";
+
+#[test]
+fn rows_in_pieces(rt: HostRuntime) {
+    let whole = lines(Format::Csv, ROWS);
+    assert!(rt; whole.as_str() == lines_by_bytes(ROWS).as_str());
+    assert!(rt;
+        whole.as_str()
+            == "1700000000000 8D4840D6202CC371C32CE0576098\n1700000001250 8D4840D6202CC371C32CE0576098\n\
+1700000002123 8D4840D6202CC371C32CE0576098\n1700000003123 8D4840D6202CC371C32CE0576098\n\
+1700000004999 8D4840D6202CC371C32CE0576098\n1700000010001 8D4840D6202CC371C32CE0576098\n\
+1700000011002 8D4840D6202CC371C32CE0576098\n1700000012003 8D4840D6202CC371C32CE0576098\n"
+    );
+}
+
+#[test]
+fn log(rt: HostRuntime) {
+    let log = b"1000 *8d4840d6202cc371c32ce0576098;\n2000 8D4840D6202CC371C32CE0576098\nno line\n";
+    assert!(rt;
+        lines(Format::Log, log).as_str()
+            == "1000 8D4840D6202CC371C32CE0576098\n2000 8D4840D6202CC371C32CE0576098\n"
+    );
+}
+
+// The counts of a source, in the order of their methods.
+fn counts_of(counts: &Counts) -> [u64; 7] {
+    [
+        counts.found(),
+        counts.written(),
+        counts.of_format(11),
+        counts.mode_ac(),
+        counts.multilaterated(),
+        counts.damaged(),
+        counts.aside(),
+    ]
+}
+
+#[test]
+fn each_item_is_counted_once(rt: HostRuntime) {
+    let mut text = TextBuffer::<1024>::new();
+    let mut feed = Feed::new(Format::Beast, LEAP, false);
+    feed.take(BEAST, 0, &mut text);
+    // a reply of Mode A/C, a multilaterated squitter, and a type that is unknown
+    feed.take(b"\x1a1\0\0\0\xb7\x1b\0\x80\x20\x40", 0, &mut text);
+    feed.take(
+        b"\x1a3\xff\0MLAT\x80\x8d\x48\x40\xd6\x20\x2c\xc3\x71\xc3\x2c\xe0\x57\x60\x98\x1a9\x1a4",
+        0,
+        &mut text,
+    );
+    // a clock that jumps by 20 minutes
+    feed.take(
+        b"\x1a3\0\x03\x5a\xe4\xd9\0\x80\x8d\x48\x40\xd6\x20\x2c\xc3\x71\xc3\x2c\xe0\x57\x60\x98",
+        0,
+        &mut text,
+    );
+    assert!(rt; counts_of(&feed.counts()) == [6, 1, 1, 1, 1, 1, 1]);
+}
+
+#[test]
+fn a_lost_connection(rt: HostRuntime) {
+    let mut text = TextBuffer::<1024>::new();
+    let mut feed = Feed::new(Format::Beast, LEAP, true);
+    feed.take(BEAST, 1_700_000_000_000, &mut text);
+    feed.take(b"\x1a3\0\0", 1_700_000_000_100, &mut text);
+    feed.disconnected();
+    // the receiver's clock starts again: its frame is as much later as it arrived
+    feed.take(BEAST, 1_700_000_005_000, &mut text);
+    assert!(rt;
+        text.as_str()
+            == "1700000000000 8D4840D6202CC371C32CE0576098\n1700000005000 8D4840D6202CC371C32CE0576098\n"
+    );
+    assert!(rt; counts_of(&feed.counts()) == [5, 2, 2, 0, 0, 1, 0]);
+}
+
+#[test]
+fn frames_in_arrays(rt: HostRuntime) {
+    let mut moments = [0u64; 4];
+    let mut frames = [[0u8; 14]; 4];
+    let mut feed = Feed::new(Format::Beast, LEAP, false);
+    let (taken, given) = feed.take_frames(BEAST, 0, &mut moments, &mut frames);
+    assert!(rt; taken == BEAST.len());
+    assert!(rt; given == 1);
+    assert!(rt; moments == [1000, 0, 0, 0]);
+    assert!(rt; frames[0] == *b"\x8d\x48\x40\xd6\x20\x2c\xc3\x71\xc3\x2c\xe0\x57\x60\x98");
+}
+
+#[test]
+fn the_last_frame(rt: HostRuntime) {
+    let mut text = TextBuffer::<64>::new();
+    let mut feed = Feed::new(Format::Log, LEAP, false);
+    feed.take(b"1000 8D4840D6202CC371C32CE0576098", 0, &mut text);
+    match feed.finish_frame(0) {
+        Some(last) => {
+            assert!(rt; last.0 == 1000);
+            assert!(rt; last.1 == *b"\x8d\x48\x40\xd6\x20\x2c\xc3\x71\xc3\x2c\xe0\x57\x60\x98");
+        }
+        None => assert!(rt; false),
+    }
+    assert!(rt; feed.finish_frame(0).is_none());
+}
+
+#[test]
+fn a_line(rt: HostRuntime) {
+    let mut text = TextBuffer::<LINE_LIMIT>::new();
+    let frame = *b"\x8d\x48\x40\xd6\x20\x2c\xc3\x71\xc3\x2c\xe0\x57\x60\x98";
+    push_log_line(&mut text, 18_446_744_073_709_551_615, &frame);
+    assert!(rt; text.as_str() == "18446744073709551615 8D4840D6202CC371C32CE0576098\n");
+}

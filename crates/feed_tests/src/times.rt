@@ -1,0 +1,67 @@
+//! Clocks, times and counts.
+use sq_feed::{Clock, Counts, Fate, Time, Times};
+
+// The ticks of a second.
+const SECOND: u64 = 12_000_000;
+
+#[test]
+fn a_clock_that_turns(rt: HostRuntime) {
+    let mut clock = Clock::new(600 * SECOND);
+    assert!(rt; clock.hear((1 << 48) - SECOND, 0, Some(5000)) == Some(5000));
+    assert!(rt; clock.hear(SECOND, 0, Some(0)) == Some(7000));
+    // late by half a second
+    assert!(rt; clock.hear(SECOND / 2, 0, Some(0)) == Some(6500));
+    // a jump by an hour is set aside, but for one that arrivals show too
+    assert!(rt; clock.hear(3601 * SECOND, 0, Some(0)) == None);
+    assert!(rt; clock.hear(3601 * SECOND, 3_600_000, Some(0)) == Some(3_607_000));
+    clock.restart();
+    assert!(rt; clock.hear(7, 0, Some(4_000_000)) == Some(4_000_000));
+}
+
+#[test]
+fn three_values_that_agree(rt: HostRuntime) {
+    let mut clock = Clock::new(600 * SECOND);
+    assert!(rt; clock.hear(SECOND, 0, None) == Some(1000));
+    assert!(rt; clock.hear(5000 * SECOND, 0, None) == None);
+    assert!(rt; clock.hear(5001 * SECOND, 0, None) == None);
+    // ten minutes and a tick later
+    assert!(rt; clock.hear(5002 * SECOND, 0, None) == Some(601_000));
+    assert!(rt; clock.hear(5003 * SECOND, 0, None) == Some(602_000));
+}
+
+#[test]
+fn times_of_a_live_source(rt: HostRuntime) {
+    let mut times = Times::new(600_000, true);
+    assert!(rt; times.hear(Time::Unknown, 1000) == Some(1000));
+    assert!(rt; times.hear(Time::Ticks(SECOND), 1500) == Some(1500));
+    assert!(rt; times.hear(Time::Ticks(2 * SECOND), 9000) == Some(2500));
+    assert!(rt; times.hear(Time::Ticks(0), 9100) == Some(2600));
+    times.restart();
+    assert!(rt; times.hear(Time::Ticks(77), 9200) == Some(2700));
+}
+
+#[test]
+fn times_of_rows(rt: HostRuntime) {
+    let mut times = Times::new(600_000, false);
+    assert!(rt; times.hear(Time::Millis(5000), 0) == Some(5000));
+    assert!(rt; times.hear(Time::Millis(4000), 0) == Some(5000));
+    assert!(rt; times.hear(Time::Millis(3999), 0) == None);
+    assert!(rt; times.hear(Time::Millis(700_000), 0) == None);
+    assert!(rt; times.hear(Time::Millis(605_000), 0) == Some(605_000));
+}
+
+#[test]
+fn counts(rt: HostRuntime) {
+    let mut counts = Counts::new();
+    counts.count(Fate::Written);
+    counts.count(Fate::OtherFormat(31));
+    counts.count(Fate::Aside);
+    assert!(rt; counts.found() == 3);
+    assert!(rt; counts.written() == 1);
+    assert!(rt; counts.of_format(24) == 1);
+    assert!(rt; counts.of_format(11) == 0);
+    assert!(rt; counts.mode_ac() == 0);
+    assert!(rt; counts.multilaterated() == 0);
+    assert!(rt; counts.damaged() == 0);
+    assert!(rt; counts.aside() == 1);
+}

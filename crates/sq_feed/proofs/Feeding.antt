@@ -1,0 +1,177 @@
+-- Feeds that go on.
+use Rattle.std.proofs.Common.{◌≡◌, ◌+◌, ◌-◌, ◌≤◌, ◌++◌, ◌∙◌, ℕ, List, [], ◌∷◌, length, take, drop, map, refl, sym, ap, ap₂, subst}
+use Rattle.std.proofs.Common.{append_assoc, append-nil, arith, take-add}
+use Rattle.std.specs.List.{flat_map}
+use Rattle.std.proofs.lemmas.List.{drop-drop, map-append}
+use Rattle.sq_feed.specs.declared.machine.Format.{Format}
+use Rattle.sq_feed.specs.declared.machine.Format.TheVariants.{Beast, Avr, Csv, Log}
+use Rattle.sq_feed.specs.declared.message.Found.{Found}
+use Rattle.sq_feed.specs.Ears.{Hears, Told, ear_after, ear_after_all, told_of, told_of_all}
+use Rattle.sq_feed.specs.Feeds.{HasGiven, AreFed, Fed, Feeding, FeedsGoOn, FeedsTheWhole, HasWritten, last_fed, lines_of, nothing_fed}
+use Rattle.sq_feed.specs.Follows.{Follows}
+use Rattle.sq_feed.specs.Lines.{log_line}
+use Rattle.sq_feed.specs.Machines.{items_of, machine_of, to_come}
+use Rattle.sq_feed.proofs.Following.{follows_more, follows_nothing}
+
+-- ---- several items
+
+told_of_all-append : (arrival : ℕ) (ear : Hears) (xs ys : List Found)
+    → told_of_all arrival ear (xs ++ ys) ≡ told_of_all arrival ear xs
+    ++ told_of_all arrival (ear_after_all arrival ear xs) ys
+told_of_all-append arrival ear [] ys = refl
+told_of_all-append arrival ear (x ∷ xs) ys =
+    ap (λ l. told_of arrival ear x ++ l) (told_of_all-append arrival (ear_after arrival ear x) xs ys)
+    ∙ sym (append_assoc (told_of arrival ear x) (told_of_all arrival (ear_after arrival ear x) xs)
+    (told_of_all arrival (ear_after_all arrival (ear_after arrival ear x) xs) ys))
+
+ear_after_all-append : (arrival : ℕ) (ear : Hears) (xs ys : List Found)
+    → ear_after_all arrival ear (xs ++ ys) ≡ ear_after_all arrival (ear_after_all arrival ear xs) ys
+ear_after_all-append arrival ear [] ys = refl
+ear_after_all-append arrival ear (x ∷ xs) ys = ear_after_all-append arrival (ear_after arrival ear x) xs ys
+
+lines_of-append : (xs ys : List Told) → lines_of (xs ++ ys) ≡ lines_of xs ++ lines_of ys
+lines_of-append [] ys = refl
+lines_of-append (x ∷ xs) ys =
+    ap (λ l. log_line x.moment x.frame ++ l) (lines_of-append xs ys)
+    ∙ sym (append_assoc (log_line x.moment x.frame) (lines_of xs) (lines_of ys))
+
+-- ---- feeds
+
+pub written_nothing : (arrival : ℕ) (old : Feeding) (text : List ℕ) → HasWritten arrival old [] text text old
+written_nothing arrival old text = record {
+  found = [];
+  fed = record { same_format = refl; follows = follows_nothing (to_come old.machine); heard = refl };
+  text = sym (append-nil text);
+}
+
+-- an item was found, and these squitters are in it
+pub written_one : (arrival : ℕ) (old new : Feeding) (bytes before after : List ℕ) (found : Found) (told : List Told)
+    → new.machine.format ≡ old.machine.format → Follows (to_come old.machine) bytes (found ∷ []) (to_come new.machine)
+    → new.ear ≡ ear_after arrival old.ear found → told ≡ told_of arrival old.ear found
+    → after ≡ before ++ lines_of told
+    → HasWritten arrival old bytes before after new
+written_one arrival old new bytes before after found told format follows heard is text = record {
+  found = found ∷ [];
+  fed = record { same_format = format; follows = follows; heard = heard };
+  text = text ∙ ap (λ l. before ++ lines_of l) (is ∙ sym (append-nil (told_of arrival old.ear found)));
+}
+
+pub written_more : FeedsGoOn
+written_more arrival old mid new a b t u v x y = record {
+  found = x.found ++ y.found;
+  fed = record {
+    same_format = y.fed.same_format ∙ x.fed.same_format;
+    follows = follows_more (to_come old.machine) (to_come mid.machine) (to_come new.machine) a b x.found y.found
+        x.fed.follows y.fed.follows;
+    heard = y.fed.heard ∙ ap (λ k. ear_after_all arrival k y.found) x.fed.heard
+        ∙ sym (ear_after_all-append arrival old.ear x.found y.found);
+  };
+  text = y.text ∙ ap₂ (λ l (k : Hears). l ++ lines_of (told_of_all arrival k y.found)) x.text x.fed.heard
+      ∙ append_assoc t (lines_of (told_of_all arrival old.ear x.found))
+      (lines_of (told_of_all arrival (ear_after_all arrival old.ear x.found) y.found))
+      ∙ ap (λ l. t ++ l) (sym (lines_of-append (told_of_all arrival old.ear x.found)
+      (told_of_all arrival (ear_after_all arrival old.ear x.found) y.found)))
+      ∙ ap (λ l. t ++ lines_of l) (sym (told_of_all-append arrival old.ear x.found y.found));
+}
+
+-- more bytes of a piece
+pub written_piece : (arrival : ℕ) (old mid new : Feeding) (piece t u v : List ℕ) (at count : ℕ) → at ≤ length piece
+    → HasWritten arrival old (take at piece) t u mid → HasWritten arrival mid (take count (drop at piece)) u v new
+    → HasWritten arrival old (take (at + count) piece) t v new
+written_piece arrival old mid new piece t u v at count within x y =
+    subst (λ bs. HasWritten arrival old bs t v new) (sym (take-add at count piece))
+    (written_more arrival old mid new (take at piece) (take count (drop at piece)) t u v x y)
+
+-- ---- feeds that give squitters
+
+pub given_nothing : (arrival : ℕ) (old : Feeding) (moments : List ℕ) (frames : List (List ℕ))
+    → HasGiven arrival old [] moments frames moments frames old
+given_nothing arrival old moments frames = record {
+  found = [];
+  fed = record { same_format = refl; follows = follows_nothing (to_come old.machine); heard = refl };
+  moments_are = sym (append-nil moments);
+  frames_are = sym (append-nil frames);
+}
+
+pub given_more : (arrival : ℕ) (old mid new : Feeding) (a b m n o : List ℕ) (f g h : List (List ℕ))
+    → HasGiven arrival old a m f n g mid → HasGiven arrival mid b n g o h new
+    → HasGiven arrival old (a ++ b) m f o h new
+given_more arrival old mid new a b m n o f g h x y =
+    let one = told_of_all arrival old.ear x.found in
+    let two = told_of_all arrival mid.ear y.found in
+    let both : told_of_all arrival old.ear (x.found ++ y.found) ≡ one ++ two =
+    told_of_all-append arrival old.ear x.found y.found
+    ∙ ap (λ (k : Hears). one ++ told_of_all arrival k y.found) (sym x.fed.heard) in record {
+      found = x.found ++ y.found;
+      fed = record {
+        same_format = y.fed.same_format ∙ x.fed.same_format;
+        follows = follows_more (to_come old.machine) (to_come mid.machine) (to_come new.machine) a b x.found y.found
+            x.fed.follows y.fed.follows;
+        heard = y.fed.heard ∙ ap (λ k. ear_after_all arrival k y.found) x.fed.heard
+            ∙ sym (ear_after_all-append arrival old.ear x.found y.found);
+      };
+      moments_are = y.moments_are ∙ ap (λ l. l ++ map (λ (t : Told). t.moment) two) x.moments_are
+          ∙ append_assoc m (map (λ (t : Told). t.moment) one) (map (λ (t : Told). t.moment) two)
+          ∙ ap (λ l. m ++ l) (sym (map-append (λ (t : Told). t.moment) one two))
+          ∙ ap (λ l. m ++ map (λ (t : Told). t.moment) l) (sym both);
+      frames_are = y.frames_are ∙ ap (λ l. l ++ map (λ (t : Told). t.frame) two) x.frames_are
+          ∙ append_assoc f (map (λ (t : Told). t.frame) one) (map (λ (t : Told). t.frame) two)
+          ∙ ap (λ l. f ++ l) (sym (map-append (λ (t : Told). t.frame) one two))
+          ∙ ap (λ l. f ++ map (λ (t : Told). t.frame) l) (sym both);
+    }
+
+pub given_piece : (arrival : ℕ) (old mid new : Feeding) (piece m n o : List ℕ) (f g h : List (List ℕ)) (at count : ℕ)
+    → HasGiven arrival old (take at piece) m f n g mid → HasGiven arrival mid (take count (drop at piece)) n g o h new
+    → HasGiven arrival old (take (at + count) piece) m f o h new
+given_piece arrival old mid new piece m n o f g h at count x y =
+    subst (λ bs. HasGiven arrival old bs m f o h new) (sym (take-add at count piece))
+    (given_more arrival old mid new (take at piece) (take count (drop at piece)) m n o f g h x y)
+
+-- an item was found, and these squitters are in it
+pub given_one : (arrival : ℕ) (old new : Feeding) (bytes m n : List ℕ) (f g : List (List ℕ)) (found : Found)
+    (told : List Told) → new.machine.format ≡ old.machine.format
+    → Follows (to_come old.machine) bytes (found ∷ []) (to_come new.machine)
+    → new.ear ≡ ear_after arrival old.ear found
+    → told ≡ told_of arrival old.ear found → n ≡ m ++ map (λ (t : Told). t.moment) told
+    → g ≡ f ++ map (λ (t : Told). t.frame) told → HasGiven arrival old bytes m f n g new
+given_one arrival old new bytes m n f g found told format follows heard is moments frames = record {
+  found = found ∷ [];
+  fed = record { same_format = format; follows = follows; heard = heard };
+  moments_are = moments
+      ∙ ap (λ l. m ++ map (λ (t : Told). t.moment) l) (is ∙ sym (append-nil (told_of arrival old.ear found)));
+  frames_are = frames
+      ∙ ap (λ l. f ++ map (λ (t : Told). t.frame) l) (is ∙ sym (append-nil (told_of arrival old.ear found)));
+}
+
+-- what lies behind a place lies behind a further one
+pub rest_further : {X : Type 0} (xs ys : List X) (near far : ℕ) → near ≤ far → drop near xs ≡ drop near ys
+    → drop far xs ≡ drop far ys
+rest_further xs ys near far fits same =
+    let split : near + (far - near) ≡ far = omega (arith, fits) in
+    subst (λ (k : ℕ). drop k xs ≡ drop k ys) split
+    (sym (drop-drop (far - near) near xs) ∙ ap (drop (far - near)) same ∙ drop-drop (far - near) near ys)
+
+-- ---- laws
+
+all_follow : (calls : List Fed) (before : Feeding) → AreFed before calls
+    → Follows (to_come before.machine) (flat_map (λ (c : Fed). c.bytes) calls) (flat_map (λ (c : Fed). c.found) calls)
+    (to_come (last_fed before calls).machine)
+all_follow [] before fed = follows_nothing (to_come before.machine)
+all_follow (one ∷ more) before (fed, others) =
+    follows_more (to_come before.machine) (to_come one.after.machine) (to_come
+    (last_fed one.after more).machine) one.bytes
+    (flat_map (λ (c : Fed). c.bytes) more) one.found (flat_map (λ (c : Fed). c.found) more) fed.follows
+    (all_follow more one.after others)
+
+start_is : (format : Format) (bytes : List ℕ) → to_come (machine_of format) bytes ≡ items_of format bytes
+start_is Beast bytes = refl
+start_is Avr bytes = refl
+start_is Csv bytes = refl
+start_is Log bytes = refl
+
+pub feeds_the_whole : FeedsTheWhole
+unfolding Follows
+feeds_the_whole format leap is_live calls fed =
+    let start = nothing_fed format leap is_live in
+    let bytes = flat_map (λ (c : Fed). c.bytes) calls in
+    sym (all_follow calls start fed []) ∙ ap (to_come start.machine) (append-nil bytes) ∙ start_is format bytes

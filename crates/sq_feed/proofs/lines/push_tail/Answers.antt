@@ -1,0 +1,41 @@
+use Rattle.std.proofs.Common.{◌≡◌, ◌≤◌, ◌∙◌, ◌++◌, ◌∷◌, [], List, ℕ, ap, subst, sym, take, length, arith, rules}
+use Rattle.std.proofs.lemmas.List.{take_all}
+use Rattle.std.specs.Str.{IsAscii}
+use Rattle.sq_digits.specs.Characters.{space}
+use Rattle.sq_feed.specs.Lines.{frame_digits, line_tail}
+use Rattle.sq_feed.proofs.Digits.{ascii_tail}
+use Rattle.sq_feed.proofs.lines.push_tail.Goals as goal
+
+-- the tail that was made, of the bytes that the loop went over
+tail_is : (frame bytes made all : List ℕ) (n : ℕ) → length frame ≤ n → bytes ≡ all → all ≡ made ++ 10 ∷ []
+    → made ≡ space ∷ frame_digits (take n frame) → bytes ≡ line_tail frame
+tail_is frame bytes made all n whole same pushed is =
+    same ∙ pushed ∙ ap (λ l. l ++ 10 ∷ []) (is ∙ ap (λ l. space ∷ frame_digits l) (take_all n frame whole))
+
+pub push_front-requires : goal.push_front-requires
+push_front-requires g c =
+    let long : length c.as_bytes.result.now ≡ 30 =
+    omega (
+      arith,
+      ap length c.as_bytes.ensures.value,
+      c.push-2.ensures.len,
+      c.loop-byte.invariant.len,
+      c.loop-byte-test.false,
+      c.loop-byte.auto,
+    ) in (
+      search rules,
+      (
+        subst IsAscii (sym (tail_is c.args.frame.now c.as_bytes.result.now c.loop-byte.tail.bytes _
+            c.loop-byte.byte-index
+            (search rules) c.as_bytes.ensures.value c.push-2.ensures.bytes c.loop-byte.invariant.bytes))
+            (ascii_tail c.args.frame.now),
+        (omega (arith, long), omega (arith, long, c.requires)),
+      ),
+    )
+
+pub returns-clause-bytes : goal.returns-clause-bytes
+returns-clause-bytes g c =
+    c.push_front.ensures.bytes
+    ∙ ap (λ t. c.args.text.now.bytes ++ t) (take_all 30 c.as_bytes.result.now (search rules)
+    ∙ tail_is c.args.frame.now c.as_bytes.result.now c.loop-byte.tail.bytes _ c.loop-byte.byte-index (search rules)
+    c.as_bytes.ensures.value c.push-2.ensures.bytes c.loop-byte.invariant.bytes)

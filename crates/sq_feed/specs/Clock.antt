@@ -1,0 +1,154 @@
+-- Counting on a receiver's clock.
+use Rattle.std.specs.Prelude.{◌≡◌, ◌+◌, ◌-◌, ◌*◌, ◌/◌, ◌%◌, ◌^◌, ◌<◌, ◌≤◌, ⊤, ℕ, Bool, true, false, not, List, [], ◌∷◌, map}
+use Rattle.std.specs.Prelude.{◌==◌, ◌||◌, ◌&&◌, min, max, nat_le, Option, Some, None, if◌then◌else◌}
+
+-- The count runs at 12 MHz. A receiver sends its low 48 bits.
+abbrev pub turn : ℕ
+turn = 2 ^ 48
+
+-- ticks of a millisecond
+abbrev pub rate : ℕ
+rate = 12000
+
+-- the ticks that a value may be late without a jump: a second
+abbrev pub jitter : ℕ
+jitter = 1000 * rate
+
+-- The state of a clock: the latest 48-bit value; the ticks counted so far; the longest gap in ticks that is no jump;
+-- whether any value was heard; the latest value that was set aside; and how many in turn agree with it.
+pub record Counted : Type 0 where
+  pub last : ℕ
+  pub elapsed : ℕ
+  pub leap : ℕ
+  pub is_heard : Bool
+  pub aside : ℕ
+  pub votes : ℕ
+
+abbrev pub unheard : ℕ → Counted
+unheard leap = record { last = 0; elapsed = 0; leap = min leap (2 ^ 47 - 1); is_heard = false; aside = 0; votes = 0 }
+
+-- the state before the first value of another connection
+abbrev pub restarted : Counted → Counted
+restarted before = record before { is_heard = false; votes = 0 }
+
+-- The state agrees with a receiver's true count, of any size, which is now `ticks`. The ticks counted were `start`
+-- when the true count was `first`.
+pub record HasCounted (counted : Counted) (start first ticks : ℕ) : Type 0 where
+  pub heard : counted.is_heard ≡ true
+  pub shown : counted.last ≡ ticks % turn
+  pub passed : counted.elapsed + first ≡ start + ticks
+
+-- The next true count is at or after this one, by at most `leap` ticks.
+abbrev pub IsSoon : ℕ → ℕ → ℕ → Type 0
+IsSoon leap ticks next = (ticks ≤ next) × (next ≤ ticks + leap)
+
+-- True counts in order, with no gap above `leap`.
+abbrev pub AreSoon : ℕ → ℕ → List ℕ → Type 0
+AreSoon leap ticks [] = ⊤
+AreSoon leap ticks (next ∷ more) = IsSoon leap ticks next × AreSoon leap next more
+
+-- The ticks from one 48-bit value to the next, counted forwards: less than a turn.
+abbrev pub ahead_of : ℕ → ℕ → ℕ
+ahead_of last shown = (shown + turn - last) % turn
+
+abbrev pub most : ℕ
+most = 2 ^ 64 - 1
+
+-- the value follows within `leap` ticks
+abbrev pub is_soon : ℕ → ℕ → ℕ → Bool
+is_soon leap last shown = nat_le (ahead_of last shown) leap
+
+-- the gap to the value differs from `waited` milliseconds by at most `leap` ticks
+abbrev pub is_awaited : ℕ → ℕ → ℕ → ℕ → Bool
+is_awaited leap last shown waited =
+    nat_le (ahead_of last shown) (waited * rate + leap) && nat_le (waited * rate) (ahead_of last shown + leap)
+
+-- the value is late by at most the jitter
+abbrev pub is_late : ℕ → ℕ → Bool
+is_late last shown = nat_le turn (ahead_of last shown + jitter)
+
+-- the value goes on with the count
+abbrev pub goes_on : Counted → ℕ → ℕ → Bool
+goes_on before shown waited = is_soon before.leap before.last shown || is_awaited before.leap before.last shown waited
+
+-- the value follows the one that was set aside
+abbrev pub agrees : Counted → ℕ → Bool
+agrees before shown = not (before.votes == 0) && (is_soon before.leap before.aside shown || is_late before.aside shown)
+
+-- the value starts the count, or goes on with it, or is the third in turn that jumps to one place
+abbrev pub is_told : Counted → ℕ → ℕ → Bool
+is_told before shown waited =
+    not before.is_heard || goes_on before shown waited || is_late before.last shown
+    || agrees before shown && (before.votes == 2)
+
+-- Where a count starts anew: at the moment that is given, and not before the ticks counted so far. If none is given,
+-- the very first value is the count, and a later one follows by `leap + 1` ticks, so that nothing is paired over the
+-- break.
+abbrev pub anew_at : ℕ → ℕ → ℕ → Option ℕ → ℕ
+anew_at elapsed leap shown (Some moment) = max (min (moment * rate) most) elapsed
+anew_at elapsed leap shown None = if elapsed == 0 then shown else min (elapsed + (leap + 1)) most
+
+abbrev pub begun_anew : Counted → ℕ → Option ℕ → ℕ
+begun_anew before shown anew = anew_at before.elapsed before.leap shown anew
+
+-- The state after a 48-bit value. Where the value goes on with the count, the gap is added. A value that is late by at
+-- most the jitter changes nothing. Any other value is a jump, and is set aside. The third in turn that agree starts
+-- the count anew.
+abbrev pub heard : Counted → ℕ → ℕ → Option ℕ → Counted
+heard before shown waited anew =
+    if not before.is_heard
+    then record before { last = shown; elapsed = begun_anew before shown anew; is_heard = true; aside = 0; votes = 0 }
+    else (if goes_on before shown waited
+    then record before { last = shown; elapsed = min (before.elapsed + ahead_of before.last shown) most; votes = 0 }
+    else (if is_late before.last shown then record before { votes = 0 }
+    else (if not (agrees before shown) then record before { aside = shown; votes = 1 }
+    else (if before.votes == 2
+    then record before { last = shown; elapsed = begun_anew before shown anew; votes = 0 }
+    else record before { aside = shown; votes = before.votes + 1 }))))
+
+abbrev pub moment_of : Counted → ℕ
+moment_of counted = counted.elapsed / rate
+
+-- The timestamp of an accepted value. A late value has an earlier timestamp than the count.
+abbrev pub own_moment : Counted → ℕ → ℕ → Option ℕ → ℕ
+own_moment before shown waited anew =
+    if before.is_heard && not (goes_on before shown waited) && is_late before.last shown
+    then (before.elapsed - (turn - ahead_of before.last shown)) / rate
+    else moment_of (heard before shown waited anew)
+
+-- What a call of `hear` does, in terms of true counts.
+pub record IsHeard (before : Counted) (shown waited : ℕ) (after : Counted) : Type 0 where
+  pub same_leap : after.leap ≡ before.leap
+  pub passes : before.elapsed ≤ after.elapsed
+  -- The first value starts the count; from then on the state agrees with the true count.
+  pub first : before.is_heard ≡ false → HasCounted after after.elapsed shown shown
+  -- After a gap that is no jump, the state agrees with the new true count.
+  pub counts : (start first ticks next : ℕ) → HasCounted before start first ticks → IsSoon before.leap ticks next
+      → start + next < first + 2 ^ 64 → shown ≡ next % turn
+      → (HasCounted after start first next × (is_told before shown waited ≡ true))
+  -- A value that is not told harms nothing: the state still agrees with the true count.
+  pub aside : (start first ticks : ℕ) → HasCounted before start first ticks → is_told before shown waited ≡ false
+      → HasCounted after start first ticks
+
+-- a call of `hear`: the value that the receiver sent, the milliseconds since the previous value, and the new state
+pub record Hearing : Type 0 where
+  pub shown : ℕ
+  pub waited : ℕ
+  pub after : Counted
+
+-- Calls in turn, each with the low 48 bits of the next true count.
+abbrev pub AreHeardAt : Counted → ℕ → ℕ → List ℕ → List Hearing → Type 0
+AreHeardAt before start first [] [] = ⊤
+AreHeardAt before start first [] (hearing ∷ others) = ⊥
+AreHeardAt before start first (count ∷ counts) [] = ⊥
+AreHeardAt before start first (count ∷ counts) (hearing ∷ others) =
+    (hearing.shown ≡ count % turn) × (start + count < first + 2 ^ 64)
+    × IsHeard before hearing.shown hearing.waited hearing.after × AreHeardAt hearing.after start first counts others
+
+-- While no gap is longer than `leap`, the moments are the true counts and a constant, in whole milliseconds, however
+-- often the 48 bits turn. So two moments are as far apart as their true counts.
+abbrev pub KeepsTheTime : Type 0
+KeepsTheTime = (before : Counted) (start first ticks : ℕ) (counts : List ℕ) (hearings : List Hearing)
+    → HasCounted before start first ticks → AreSoon before.leap ticks counts
+    → AreHeardAt before start first counts hearings
+    → map (λ (h : Hearing). moment_of h.after) hearings ≡ map (λ t. (start + t - first) / rate) counts

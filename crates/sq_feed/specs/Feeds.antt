@@ -1,0 +1,86 @@
+-- A source's bytes as squitters with their timestamps.
+use Rattle.std.specs.Prelude.{◌≡◌, ◌++◌, ⊤, ℕ, Bool, List, [], ◌∷◌, map}
+use Rattle.std.specs.List.{flat_map}
+use Rattle.sq_feed.specs.declared.machine.Format.{Format}
+use Rattle.sq_feed.specs.declared.message.Found.{Found}
+use Rattle.sq_feed.specs.Ears.{Hears, Told, ear_after_all, lost, told_of_all, untouched}
+use Rattle.sq_feed.specs.Follows.{Follows}
+use Rattle.sq_feed.specs.Lines.{log_line}
+use Rattle.sq_feed.specs.Machines.{Begins, dropped, items_of, machine_of, to_come}
+
+-- the state: the unfinished item, the times and the counts
+pub record Feeding : Type 0 where
+  pub machine : Begins
+  pub ear : Hears
+
+abbrev pub nothing_fed : Format → ℕ → Bool → Feeding
+nothing_fed format leap is_live = record { machine = machine_of format; ear = untouched leap is_live }
+
+-- the lines of squitters, in order
+abbrev pub lines_of : List Told → List ℕ
+lines_of told = flat_map (λ t. log_line t.moment t.frame) told
+
+-- With these bytes, which arrived at this moment, a feed went on, and these items were found.
+pub record HasFed (arrival : ℕ) (old : Feeding) (bytes : List ℕ) (found : List Found) (new : Feeding) : Type 0 where
+  pub same_format : new.machine.format ≡ old.machine.format
+  pub follows : Follows (to_come old.machine) bytes found (to_come new.machine)
+  pub heard : new.ear ≡ ear_after_all arrival old.ear found
+
+-- With these bytes a feed went on, and appended the lines of the items found.
+pub record HasWritten (arrival : ℕ) (old : Feeding) (bytes before after : List ℕ) (new : Feeding) : Type 0 where
+  pub found : List Found
+  pub fed : HasFed arrival old bytes found new
+  pub text : after ≡ before ++ lines_of (told_of_all arrival old.ear found)
+
+-- With these bytes a feed went on, and gave the squitters of the items found: their timestamps and their frames are
+-- behind those that were given before.
+pub record HasGiven (arrival : ℕ) (old : Feeding) (bytes : List ℕ) (moments : List ℕ) (frames : List (List ℕ))
+    (all_moments : List ℕ) (all_frames : List (List ℕ)) (new : Feeding) : Type 0 where
+  pub found : List Found
+  pub fed : HasFed arrival old bytes found new
+  pub moments_are : all_moments ≡ moments ++ map (λ (t : Told). t.moment) (told_of_all arrival old.ear found)
+  pub frames_are : all_frames ≡ frames ++ map (λ (t : Told). t.frame) (told_of_all arrival old.ear found)
+
+-- the squitter of the last item of a source, if it has one
+abbrev pub told_at_end : ℕ → Feeding → List Told
+told_at_end arrival old = told_of_all arrival old.ear (to_come old.machine [])
+
+-- A source ended: its last item was heard, and a source of the same format may follow.
+pub record HasEnded (arrival : ℕ) (old new : Feeding) : Type 0 where
+  pub anew : new.machine ≡ machine_of old.machine.format
+  pub heard : new.ear ≡ ear_after_all arrival old.ear (to_come old.machine [])
+
+-- A connection was lost: an unfinished item is damage, and the clock starts anew with the next connection.
+pub record HasLost (old new : Feeding) : Type 0 where
+  pub anew : new.machine ≡ machine_of old.machine.format
+  pub heard : new.ear ≡ lost (ear_after_all 0 old.ear (dropped old.machine))
+
+-- ---- laws
+
+-- A feed that goes on twice, with bytes that arrived at one moment, has gone on with the bytes of both.
+abbrev pub FeedsGoOn : Type 0
+FeedsGoOn = (arrival : ℕ) (old mid new : Feeding) (a b t u v : List ℕ)
+    → HasWritten arrival old a t u mid → HasWritten arrival mid b u v new → HasWritten arrival old (a ++ b) t v new
+
+-- a call: its arrival, the bytes that it took, the items in them, and the state after it
+pub record Fed : Type 0 where
+  pub arrival : ℕ
+  pub bytes : List ℕ
+  pub found : List Found
+  pub after : Feeding
+
+-- calls, one after the other
+abbrev pub AreFed : Feeding → List Fed → Type 0
+AreFed before [] = ⊤
+AreFed before (one ∷ more) = HasFed one.arrival before one.bytes one.found one.after × AreFed one.after more
+
+abbrev pub last_fed : Feeding → List Fed → Feeding
+last_fed before [] = before
+last_fed before (one ∷ more) = last_fed one.after more
+
+-- The items of all calls, and then those at the end of the source, are the items of the whole source.
+abbrev pub FeedsTheWhole : Type 0
+FeedsTheWhole = (format : Format) (leap : ℕ) (is_live : Bool) (calls : List Fed)
+    → AreFed (nothing_fed format leap is_live) calls
+    → flat_map (λ (c : Fed). c.found) calls ++ to_come (last_fed (nothing_fed format leap is_live) calls).machine []
+    ≡ items_of format (flat_map (λ (c : Fed). c.bytes) calls)

@@ -1,0 +1,41 @@
+//! Squitters and their timestamps from the bytes of a receiver.
+//!
+//! A [`Feed`] is pushed a source's bytes in pieces of any length, each with its arrival. It makes the log that `track`
+//! reads, or fills arrays that go to a tracker, and counts what becomes of every item ([`Counts`]). [`Beast`], [`Avr`]
+//! and [`Rows`] split bytes into items: messages, and damage between them. How the bytes are cut into pieces never
+//! matters. [`Times`] gives each squitter its timestamp: by its receiver's [`Clock`], by its arrival, or its own. A
+//! [`Sniffer`] finds the format of a source by its first bytes, and an [`Order`] sorts squitters. No call takes memory.
+#![tactic(auto)]
+
+mod avr;
+mod beast;
+mod cells;
+mod clock;
+mod counts;
+mod digit_values;
+mod ear;
+mod feed;
+pub mod laws;
+mod lines;
+mod machine;
+mod message;
+mod order;
+mod plain_rows;
+mod plain_words;
+mod rows;
+mod sniff;
+mod times;
+
+pub use avr::Avr;
+pub use beast::Beast;
+pub use clock::Clock;
+pub use counts::{Counts, Fate};
+pub use feed::Feed;
+pub use lines::{LINE_LIMIT, push_log_line};
+pub use machine::Format;
+pub use message::{Found, Message, RawFrame, Time};
+pub use order::{Order, Timed};
+pub use rows::{Columns, Layout, Rows};
+pub use sniff::Sniffer;
+pub use sq_digits::TextBuffer;
+pub use times::Times;

@@ -1,0 +1,126 @@
+//! What a source's bytes hold: messages, and damage between them.
+ghost use Rattle.std.specs.Prelude.{◌≡◌, ◌≤◌, length, take};
+ghost use Rattle.std.specs.Int.Digits.{number_from_digits};
+ghost use Rattle.sq_feed.specs.Kinds.{frame_len, frame_of, kind_of, message_len, message_of};
+
+/// The length of a frame in bytes.
+#[derive(Clone, Copy)]
+pub enum Size {
+    TwoBytes,
+    SevenBytes,
+    FourteenBytes,
+}
+
+/// What an escape and a type byte start in a Beast stream.
+#[derive(Clone, Copy)]
+pub enum Kind {
+    Message(Size),
+    Status,
+    Unknown,
+}
+
+/// The bytes of a frame: a reply of Mode A/C, or a short or a long frame of Mode S.
+#[derive(Clone, Copy)]
+pub enum RawFrame {
+    ModeAc([u8; 2]),
+    Short([u8; 7]),
+    Long([u8; 14]),
+}
+
+/// The time of a frame, as its source states it.
+#[derive(Clone, Copy)]
+pub enum Time {
+    /// The source states none.
+    Unknown,
+    /// The low 48 bits of the receiver's count at 12 MHz.
+    Ticks(u64),
+    /// Milliseconds.
+    Millis(u64),
+}
+
+/// A frame and its time.
+#[derive(Clone, Copy)]
+pub struct Message {
+    pub time: Time,
+    pub frame: RawFrame,
+}
+
+/// An item of a source: a message, or bytes that belong to no message.
+#[derive(Clone, Copy)]
+pub enum Found {
+    Whole(Message),
+    Damage,
+}
+
+// Returns the kind that a type byte starts.
+#[inline(always)]
+pub(crate) fn kind_of(byte: u8) -> Kind
+    ensures { result ≡ kind_of byte }
+{
+    match byte {
+        b'1' => Kind::Message(Size::TwoBytes),
+        b'2' => Kind::Message(Size::SevenBytes),
+        b'3' => Kind::Message(Size::FourteenBytes),
+        b'4' => Kind::Status,
+        _ => Kind::Unknown,
+    }
+}
+
+// Returns how many bytes follow the type byte of a message.
+#[inline(always)]
+pub(crate) fn message_len(size: Size) -> usize
+    ensures { result ≡ message_len size }
+{
+    match size {
+        Size::TwoBytes => 9,
+        Size::SevenBytes => 14,
+        Size::FourteenBytes => 21,
+    }
+}
+
+// Returns the message of the bytes after its type byte.
+#[inline(always)]
+pub(crate) fn message_of(size: Size, bytes: &[u8]) -> Message
+    requires { length bytes.now ≡ message_len size }
+    ensures { result ≡ message_of size bytes.now }
+{
+    let time = Time::Ticks(ticks_of(bytes));
+    let frame = frame_of(size, &bytes[7..]);
+    Message { time, frame }
+}
+
+// Returns the receiver's count, which the first six bytes hold.
+#[inline(always)]
+pub(crate) fn ticks_of(bytes: &[u8]) -> u64
+    requires { 6 ≤ length bytes.now }
+    ensures { result ≡ number_from_digits 256 (take 6 bytes.now) }
+{
+    u64::from_be_bytes([
+        0, 0, bytes[0], bytes[1], bytes[2], bytes[3], bytes[4], bytes[5],
+    ])
+}
+
+// Returns the frame of these bytes.
+#[inline(always)]
+pub(crate) fn frame_of(size: Size, bytes: &[u8]) -> RawFrame
+    requires { length bytes.now ≡ frame_len size }
+    ensures { result ≡ frame_of size bytes.now }
+{
+    match size {
+        Size::TwoBytes => RawFrame::ModeAc(array_of(bytes)),
+        Size::SevenBytes => RawFrame::Short(array_of(bytes)),
+        Size::FourteenBytes => RawFrame::Long(array_of(bytes)),
+    }
+}
+
+// Returns the bytes as an array.
+#[inline(always)]
+fn array_of<const N: usize>(bytes: &[u8]) -> [u8; N]
+    requires { length bytes.now ≡ N }
+    ensures { result ≡ bytes.now }
+{
+    match bytes.as_array::<N>() {
+        Some(array) => *array,
+        None => [0; N],
+    }
+}
