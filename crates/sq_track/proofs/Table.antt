@@ -3,6 +3,7 @@ pub mod ContactLemmas
 pub mod EntryLemmas
 pub mod KeepLemmas
 pub mod KeptLemmas
+pub mod OwnLemmas
 pub mod PresentLemmas
 pub mod Remembering
 pub mod Sequences
@@ -11,3 +12,5 @@ pub mod TableLemmas
 pub mod LinkLemmas
 pub mod RoundLemmas
 pub mod PlaceLemmas
+pub mod WalkLemmas
+pub mod RestoreLemmas

@@ -1,7 +1,7 @@
 //! What is kept of each address, in the order of last hearing.
 ghost use Rattle.std.specs.Prelude.{Option, option_copied, ◌≡◌, ℕ, ◌+◌, ◌^◌, ◌<◌, ◌++◌};
 ghost use Rattle.std.specs.Prelude.{is_some, nat_eq, Some, None, length, slice_get, if◌then◌else◌, IfOk, IfSome, OnErr};
-ghost use Rattle.std.specs.Prelude.{[], ◌∷◌};
+ghost use Rattle.std.specs.Prelude.{[], ◌∷◌, ◌≤◌};
 ghost use Rattle.std.specs.List.{IsDistinct, swap_remove};
 ghost use Rattle.std.specs.Map.{keys_of, lookup};
 ghost use Rattle.indexmap.specs.IndexMap.{index_map_len, values, with_value_at};
@@ -58,6 +58,18 @@ fn moment_at<A: Allocator>(table: &Table<A>, at: u32) -> Option<(u32, u64)>
 {
     match table.get_index(at as usize) {
         Some((address, contact)) => Some((*address, contact.moment)),
+        None => None,
+    }
+}
+
+// Returns the address at an index of the table, and its contact.
+fn entry_at<A: Allocator>(table: &Table<A>, at: u32) -> Option<(u32, Contact)>
+    ensures entry { result ≡ slice_get table.now.entries at }
+    ensures found { IfSome (slice_get table.now.entries at)
+        (λ entry. lookup (nat_eq entry.0) table.now.entries ≡ Some entry.1) }
+{
+    match table.get_index(at as usize) {
+        Some((address, contact)) => Some((*address, *contact)),
         None => None,
     }
 }
@@ -170,6 +182,15 @@ fn hear_at<A: Allocator>(
     table[at as usize].hear(window_ms, site, moment, squitter)
 }
 
+// Sets the contact of the address at an index.
+fn set_at<A: Allocator>(table: &mut Table<A>, at: u32, contact: &Contact)
+    requires { at < index_map_len table.old }
+    ensures { (before : Contact) × (slice_get (values table.old) at ≡ Some before)
+        × (table.new ≡ with_value_at table.old at contact.now) }
+{
+    table[at as usize] = *contact;
+}
+
 // Takes an entry out of the table. The last takes its place.
 fn remove_at<A: Allocator>(table: &mut Table<A>, at: usize)
     requires { at < index_map_len table.old }
@@ -191,6 +212,21 @@ impl<A: Allocator + Copy> Contacts<A> {
             links: Vec::new(alloc),
             oldest: 0,
         }
+    }
+
+    /// Returns an empty table with room for `count` contacts. Addresses that leave use up places, so its capacity is
+    /// twice as large.
+    pub fn with_room(alloc: A, count: usize) -> Result<Contacts<A>, AllocError>
+        requires { count ≤ 2 ^ 32 }
+        ensures { IfOk result (λ contacts. contacts ≡ []) }
+    {
+        let table = IndexMap::with_capacity(alloc, 2 * count)?;
+        let links = Vec::with_capacity(alloc, count)?;
+        Ok(Contacts {
+            table,
+            links,
+            oldest: 0,
+        })
     }
 }
 
@@ -255,6 +291,68 @@ impl<A: Allocator> Contacts<A> {
         let heard = hear_at(&mut self.table, at, window_ms, site, moment, squitter);
         self.oldest = put_last(&mut self.links, self.oldest, at, own);
         Ok(heard)
+    }
+
+    /// Puts an address at the end, with this contact. Needs fewer than 2^32 addresses.
+    pub fn put_last(&mut self, address: u32, contact: &Contact) -> Result<(), AllocError>
+        requires room { length self.old < 2 ^ 32 }
+        ensures ok { IfOk result (λ u. self.new ≡ others_in address self.old ++ (address, contact.now) ∷ []) }
+        ensures err { OnErr result (self.new ≡ self.old) }
+    {
+        let at = reach(&mut self.table, &mut self.links, &mut self.oldest, address)?;
+        let places = links_at(&self.links, at);
+        set_at(&mut self.table, at, contact);
+        self.oldest = put_last(&mut self.links, self.oldest, at, places);
+        Ok(())
+    }
+
+    /// Returns the moment of the newest position of the last address, or 0 if there are no addresses.
+    pub fn newest_moment(&self) -> u64
+        ensures none { self.now ≡ [] → result ≡ 0 }
+        ensures last { (index : ℕ) → index + 1 ≡ length self.now
+            → IfSome (slice_get (moments_in self.now) index) (λ entry. result ≡ entry.1) }
+    {
+        let links: &[Neighbours] = &self.links;
+        if self.table.len() == 0 {
+            return 0;
+        }
+        match moment_at(&self.table, links_at(links, self.oldest).before) {
+            Some((_, newest)) => newest,
+            None => 0,
+        }
+    }
+
+    /// Returns the address at an index, the longest unheard first, and its contact. The cost grows with the index.
+    pub fn entry(&self, index: usize) -> Option<(u32, Contact)>
+        ensures { result ≡ slice_get self.now index }
+    {
+        match nth(&self.links, self.oldest, index) {
+            Some(at) => entry_at(&self.table, at),
+            None => None,
+        }
+    }
+
+    /// Returns the entry after the one at an index, given the address at the index.
+    pub fn entry_behind(&self, index: usize, address: u32) -> Option<(u32, Contact)>
+        requires { (contact : Contact) × (slice_get self.now index ≡ Some (address, contact)) }
+        ensures { result ≡ slice_get self.now (index + 1) }
+    {
+        if index >= self.table.len().saturating_sub(1) {
+            return None;
+        }
+        match self.table.get_index_of(&address) {
+            Some(at) => entry_at(&self.table, links_at(&self.links, at as u32).after),
+            None => None,
+        }
+    }
+
+    /// Drops all addresses.
+    pub fn clear(&mut self)
+        ensures { self.new ≡ [] }
+    {
+        self.table.clear();
+        self.links.clear();
+        self.oldest = 0;
     }
 
     /// Drops the longest unheard address, if there is one.

@@ -43,6 +43,15 @@ pub enum TrackFault {
     Full,
 }
 
+/// The reason why a tracker does not restore an address.
+#[derive(Clone, Copy, Debug, PartialEq, Eq)]
+pub enum RestoreFault {
+    /// No tracker can hold the contact after the entries before it.
+    Refused,
+    /// An allocation failed.
+    Memory,
+}
+
 impl TrackFault {
     /// Its text up to its number, at most 13 bytes.
     pub fn words(self) -> &'static str

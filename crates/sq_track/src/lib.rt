@@ -15,11 +15,12 @@ mod heard;
 pub mod laws;
 mod links;
 mod listening;
+mod owned;
 mod tracker;
 pub mod worked;
 
 pub use contact::{Contact, LastFix, Side};
-pub use heard::{Heard, TrackFault};
+pub use heard::{Heard, RestoreFault, TrackFault};
 pub use listening::hear_each;
 pub use sq_message::{Place, Position, Received, Squitter};
 pub use tracker::Tracker;

@@ -52,7 +52,7 @@ distinct_at (x ∷ xs) (suc i) zero d i_lt j_lt e =
 distinct_at (x ∷ xs) (suc i) (suc j) d i_lt j_lt e =
     ap suc (distinct_at xs i j d.1 (omega (arith, i_lt)) (omega (arith, j_lt)) e)
 
-by_address : (es : Entries) (at k : ℕ) → IsDistinct eqb (keys_of es) → at < length es → k < length es
+pub by_address : (es : Entries) (at k : ℕ) → IsDistinct eqb (keys_of es) → at < length es → k < length es
     → eqb (address_at es k) (address_at es at) ≡ eqb k at
 by_address es at k d within lt = by (eqb k at) refl
   where
@@ -79,7 +79,7 @@ pub view-length : (es : Entries) (ls : Links) (oldest : ℕ) → IsTied es (addr
 view-length es ls oldest tied = length-map (addresses_in es ls oldest) (entry_of es) ∙ sym tied.long
 
 -- each index of a round is within the links
-below_round : (ls : Links) (oldest : ℕ) → IsRound ls oldest → AllByRecursion (λ k. k < length ls) (round ls oldest)
+pub below_round : (ls : Links) (oldest : ℕ) → IsRound ls oldest → AllByRecursion (λ k. k < length ls) (round ls oldest)
 below_round ls oldest is_round = by ls refl
   where
     by : (xs : Links) → xs ≡ ls → AllByRecursion (λ k. k < length ls) (round ls oldest)
@@ -179,7 +179,7 @@ oldest_first es ls oldest address newest table at lt =
 -- ---- what the table has at an index
 
 -- the contact at an index of the order
-seen : (es : Entries) (ls : Links) (oldest index at : ℕ) (r : Option (ℕ × Contact))
+pub seen : (es : Entries) (ls : Links) (oldest index at : ℕ) (r : Option (ℕ × Contact))
     → slice_get (round ls oldest) index ≡ Some at
     → at < length es → r ≡ slice_get es at
     → IfSome r (λ e. lookup (eqb e.0) es ≡ Some e.1)
@@ -217,13 +217,17 @@ seen_moment es ls oldest index at at_is lt found =
     ∙ ap (option_map shown) (seen es ls oldest index at (slice_get es at) at_is lt refl found)
     ∙ sym (slice_get-map shown (entries_in es (addresses_in es ls oldest)) index)
 
+pub unseen : (es : Entries) (ls : Links) (oldest index : ℕ) → None ≡ slice_get (round ls oldest) index
+    → None ≡ slice_get (entries_in es (addresses_in es ls oldest)) index
+unseen es ls oldest index none =
+    ap (λ o. option_map (entry_of es) (option_map (address_at es) o)) none
+    ∙ ap (option_map (entry_of es)) (sym (slice_get-map (address_at es) (round ls oldest) index))
+    ∙ sym (slice_get-map (entry_of es) (addresses_in es ls oldest) index)
+
 pub seen_none : (es : Entries) (ls : Links) (oldest index : ℕ) → None ≡ slice_get (round ls oldest) index
     → None ≡ slice_get (moments_in (entries_in es (addresses_in es ls oldest))) index
 seen_none es ls oldest index none =
-    ap (λ o. option_map shown (option_map (entry_of es) (option_map (address_at es) o))) none
-    ∙ ap (λ o. option_map shown (option_map (entry_of es) o))
-    (sym (slice_get-map (address_at es) (round ls oldest) index))
-    ∙ ap (option_map shown) (sym (slice_get-map (entry_of es) (addresses_in es ls oldest) index))
+    ap (option_map shown) (unseen es ls oldest index none)
     ∙ sym (slice_get-map shown (entries_in es (addresses_in es ls oldest)) index)
 
 pub seen_first : (es : Entries) (ls : Links) (oldest : ℕ) → IsLinkedTable es ls oldest

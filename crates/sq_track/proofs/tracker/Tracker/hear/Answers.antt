@@ -18,7 +18,7 @@ use Rattle.sq_track.specs.contracts.tracker.Tracker.{the_view}
 use Rattle.sq_track.proofs.Table.EntryLemmas.{Entries, is_shown, find-entries, bound_from}
 use Rattle.sq_track.proofs.Table.StandsForLemmas.{in_time_of, full_is, not_full, silent_is, heard_silent, stands_silent}
 use Rattle.sq_track.proofs.Table.StandsForLemmas.{stands_position, put_is, ordered_put, sound_put, sound_silent}
-use Rattle.sq_track.proofs.Table.StandsForLemmas.{position_of, silent_of, moment_after, within_after}
+use Rattle.sq_track.proofs.Table.StandsForLemmas.{position_of, silent_of, moment_after, own_after, within_after}
 use Rattle.sq_track.proofs.tracker.Tracker.hear.Goals as goal
 
 pub keep_recent-self-inside-requires : goal.keep_recent-self-inside-requires
@@ -29,7 +29,7 @@ keep_recent-self-inside-requires g c =
 pub invariant_of-self : goal.invariant_of-self
 invariant_of-self g c =
     let t : Held = the_view g.row.A g.A.Allocator c.self.inside in (
-      subst (IsSound t.limit (Some c.args.moment)) (sym c.keep_recent-self-inside.ensures.kept)
+      subst (IsSound t.limit t.window (Some c.args.moment)) (sym c.keep_recent-self-inside.ensures.kept)
           (sound_silent t c.args.moment c.args.squitter.now NotPosition c.in_ok-check_moment.ensures.ok
           c.self.invariant.0),
       c.keep_recent-self-inside.ensures.since,
@@ -121,9 +121,10 @@ invariant_of-self-in-Ok g c =
     ++ (x, new) ∷ []) c.address-address.ensures.value put_at in
     let all = c.keep_recent-self-inside-in-Ok.ensures.kept ∙ ap (filter (fresh_entry t.window m)) put
     ∙ put_is t m q heard here new moment in (
-      subst (IsSound t.limit (Some m)) (sym all)
+      subst (IsSound t.limit t.window (Some m)) (sym all)
           (sound_put t m q heard here new moment le (sym full ∙ c.if-is_full.false) c.self.invariant.0
-          (within_after t m q heard old new le c.self.invariant.0 here refl step.kept)),
+          (within_after t m q heard old new le c.self.invariant.0 here refl step.kept)
+          (own_after t m q heard old new le c.self.invariant.0 here refl step.kept)),
       c.keep_recent-self-inside-in-Ok.ensures.since,
     )
 
