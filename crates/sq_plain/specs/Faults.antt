@@ -13,7 +13,7 @@ use Rattle.sq_plain.specs.declared.faults.Fault.{Fault}
 use Rattle.sq_plain.specs.declared.faults.Refusal.{Refusal}
 use Rattle.sq_plain.specs.declared.faults.Refusal.TheVariants.{Line, Place, Angle, NoPosition, NoHead, NoAngle}
 use Rattle.sq_plain.specs.declared.faults.Refusal.TheVariants.{NoLatitude, NoFeet, NoParity, Memory, NoLimit, NoTracker}
-use Rattle.sq_plain.specs.declared.faults.Refusal.TheVariants.{NoAddress}
+use Rattle.sq_plain.specs.declared.faults.Refusal.TheVariants.{NoAddress, LongLog, NoFormat, Entry}
 
 -- a code with two numbers
 abbrev pub told : (code first second : ℕ) → Fault
@@ -67,6 +67,9 @@ fault_of Memory = told 44 0 0
 fault_of NoLimit = told 45 0 0
 fault_of NoTracker = told 46 0 0
 fault_of NoAddress = told 47 0 0
+fault_of LongLog = told 48 0 0
+fault_of NoFormat = told 49 0 0
+fault_of (Entry index) = told 50 index 0
 
 -- the reason of a text, a frame or a moment with this number, where it has one
 abbrev pub line_with : (first : ℕ) → LineFault → LineFault
@@ -86,6 +89,7 @@ place_with first second fault = fault
 abbrev pub with_numbers : (first second : ℕ) → Refusal → Refusal
 with_numbers first second (Line fault) = Line (line_with first fault)
 with_numbers first second (Place fault) = Place (place_with first second fault)
+with_numbers first second (Entry index) = Entry first
 with_numbers first second refusal = refusal
 
 -- a reason with 0 for its numbers: two reasons have one kind if they differ in their numbers at most

@@ -40,10 +40,16 @@ pub enum Refusal {
     Memory,
     /// The limit of a tracker is 0.
     NoLimit,
-    /// There is no tracker.
+    /// There is no tracker, or no log.
     NoTracker,
     /// No address of a tracker stands at the index.
     NoAddress,
+    /// The log has 2^63 lines, or the piece 2^61 bytes.
+    LongLog,
+    /// The number is no format's.
+    NoFormat,
+    /// No tracker can hold the entry at this index after those before it.
+    Entry(u64),
 }
 
 /// There is an answer: code 0.
@@ -72,6 +78,9 @@ impl Fault {
             Refusal::NoLimit => plain(45),
             Refusal::NoTracker => plain(46),
             Refusal::NoAddress => plain(47),
+            Refusal::LongLog => plain(48),
+            Refusal::NoFormat => plain(49),
+            Refusal::Entry(index) => told(50, index, 0),
         }
     }
 }

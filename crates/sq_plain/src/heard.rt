@@ -20,6 +20,7 @@ pub struct PlainHeard {
 
 /// What was heard, as plain numbers: the place in lowest terms, or 0/0 twice where there is none, and of a split both
 /// zone counts.
+#[inline(always)]
 pub fn plain_heard(heard: &Heard) -> PlainHeard
     ensures { IsPlainHeard heard.now result }
 {

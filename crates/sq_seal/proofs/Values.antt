@@ -1,4 +1,6 @@
 -- The machine value of a seal, and what a box and a seal own.
+use Rattle.std.proofs.Common.{IsSome}
+use Rattle.std.proofs.lemmas.Bool.{false≢true}
 use Rattle.std.proofs.Common.{◌≡◌, List, [], ◌∷◌, ◌++◌, refl, ◌∙◌, ap, Option, None, Some, lit<}
 use mir.Syntax.{impl, tnil, dnil}
 use mir.Val.{Val, vstruct, vcons, vnil, of_list, has_ty, WT}
@@ -15,38 +17,32 @@ use denote.Signature.{Slot, plain}
 use denote.Struct.Struct.{within}
 use denote.Struct.Owning.{shape}
 use Rattle.std.proofs.BoxSteps.Form.{Bx}
-use Rattle.std.specs.contracts.alloc.Global as Heap
-use Rattle.std.specs.contracts.impls.GlobalAllocator.TheImpl.{ghosts, dict}
-use Rattle.std.proofs.alloc.Global.TheLaws as heap
-use Rattle.sq_track.proofs.tracker.Tracker.TheLaws as tracker
+use Rattle.sq_lent.specs.contracts.lent.Lent as Lent
+use Rattle.sq_lent.specs.contracts.lent.LentAllocator.TheImpl.{ghosts, dict}
+use Rattle.sq_lent.proofs.lent.Lent.TheLaws as lent
+use Rattle.sq_seal.specs.contracts.listener.Listener as Listener
+use Rattle.sq_seal.proofs.listener.Listener.TheLaws as log
 use Rattle.sq_seal.specs.contracts.parts.Parts as Parts
 use Rattle.sq_seal.specs.contracts.seal.Seal as Seal
-use Rattle.sq_seal.specs.Seal.{seal_owns, the_tracker}
+use Rattle.sq_seal.specs.Seal.{Kept, seal_owns}
 
 abbrev pub E : Bx
 E = record {
-  row = the_tracker;
-  laws = tracker.the_row_laws Heap.the_row ghosts heap.the_row_laws;
-  al = record {
-    row = Heap.the_row;
-    laws =
-        heap.the_row_laws;
-    g = ghosts;
-    d = dict;
-    drops = impl [] tnil dnil;
-  };
+  row = Listener.the_row;
+  laws = log.the_row_laws;
+  al = record { row = Lent.the_row; laws = lent.the_row_laws; g = ghosts; d = dict; drops = impl [] tnil dnil };
 }
 
 abbrev pub FromParts : Slot 0
-FromParts = plain (λ _. Parts.the_row the_tracker Heap.the_row ghosts)
+FromParts = plain (λ _. Parts.the_row Listener.the_row Lent.the_row ghosts)
 
 abbrev pub FromSeal : Slot 0
 FromSeal = plain (λ _. Seal.the_row)
 
-abbrev pub FromGlobal : Slot 0
-FromGlobal = plain (λ _. Heap.the_row)
+abbrev pub FromLent : Slot 0
+FromLent = plain (λ _. Lent.the_row)
 
-abbrev pub IsHeld : Option the_tracker.Denot → Option the_tracker.Denot → Type 0
+abbrev pub IsHeld : Option Kept → Option Kept → Type 0
 IsHeld held wanted = held ≡ wanted
 
 abbrev pub one : Ptr → Val
@@ -60,7 +56,7 @@ module _ {M : Type 1} {𝓤 : Ura M} {𝓛 : Logic 𝓤} {K : Type 0} {Γ : List
       fsplit t $ fpick t (λ vss. fsplit t $ feq_l t (λ ev. fsplit t $ feq_l t (λ ep. drop t $
       k (ev ∙ ap (λ (ps : List Val). vstruct (of_list (ps ++ [])) ∷ []) ep))))
 
-  pub seal_in : K → (p : Ptr) (h : Option the_tracker.Denot)
+  pub seal_in : K → (p : Ptr) (h : Option Kept)
       → Step K 𝓛 (‵ (Seal.the_row.own_val (record { at = p; held = h }) (one p ∷ [])) ∷ Γ) G (‵ (seal_owns p h) ∷ Γ) G
   seal_in t p h = step (λ s.
       nothing t $ feq_i t (List Val) (ptr_val p ∷ []) (ptr_val p ∷ []) refl $ fjoin t $
@@ -68,10 +64,10 @@ module _ {M : Type 1} {𝓤 : Ura M} {𝓛 : Logic 𝓤} {K : Type 0} {Γ : List
       fpack t (Valss (RawPtr ∷ [])) (within (shape Seal.the_type) (p, tt) (one p ∷ [])) (ptr_val p ∷ [], tt) $
       fjoin t $ s)
 
--- the tracker, or any
-abbrev pub held_in : Option the_tracker.Denot → the_tracker.Denot
-held_in None = record { limit = 0; window = 0; site = None; last = None; contacts = [] }
-held_in (Some x) = x
+-- the value that an option holds
+pub some_of : (o : Option Kept) → IsSome o → (x : Kept) × (o ≡ Some x)
+some_of None h = absurd (false≢true h)
+some_of (Some x) h = (x, refl)
 
 -- a pointer is one
 pub ptr_typed : (p : Ptr) → T (has_ty ty_ptr (ptr_val p)) × WT (ptr_val p)

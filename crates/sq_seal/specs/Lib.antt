@@ -1,1 +1,3 @@
 pub mod Seal
+pub mod Sizes
+pub mod FeedSeal

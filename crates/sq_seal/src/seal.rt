@@ -1,19 +1,18 @@
-//! A boxed tracker, or none, behind a pointer that names no type.
-ghost use Rattle.std.specs.Prelude.{◌≡◌, Option, Some, None};
+//! A boxed listener, or none, behind a pointer that names no type.
+ghost use Rattle.std.specs.Prelude.{◌≡◌, IsSome, Option, Some, None};
 ghost use Rattle.std.specs.Coded.{coded_option};
-ghost use Rattle.sq_track.specs.Held.{Held};
-ghost use Rattle.sq_seal.specs.Seal.{seal_owns, tracker_coded};
+ghost use Rattle.sq_seal.specs.Seal.{Kept, kept_coded, seal_owns};
 
+use crate::listener::Listener;
 use crate::parts::Parts;
-use sq_track::Tracker;
-use std::alloc::Global;
+use sq_lent::Lent;
 use std::marker::Model;
 
-/// The pointer of a boxed tracker, or null. `held` says which tracker lies there, or that none does.
+/// The pointer of a boxed listener, or null. `held` is the listener, if there is one.
 #[repr(C)]
 pub struct Seal {
     at: *mut u8,
-    pub ghost held: { Option Held } by { coded_option tracker_coded },
+    pub ghost held: { Option Kept } by { coded_option kept_coded },
 }
 
 impl Model for Seal {
@@ -21,7 +20,7 @@ impl Model for Seal {
 }
 
 impl Seal {
-    /// Null: no tracker.
+    /// Null: no listener.
     pub fn none() -> Seal
         ensures { result.held ≡ None }
     {
@@ -37,23 +36,22 @@ impl Seal {
         let Seal { at } = self;
     }
 
-    /// Seals what the parts own.
-    pub fn of_parts(parts: Parts<Tracker, Global>) -> Seal
-        ensures { result.held ≡ Some parts.value }
+    /// Seals what the parts own, and returns the allocator.
+    pub fn of_parts(parts: Parts<Listener, Lent>) -> (Seal, Lent)
+        ensures { result.0.held ≡ Some parts.value }
     {
         let Parts { ptr, alloc } = parts;
-        Seal { at: ptr as *mut u8 }
+        (Seal { at: ptr as *mut u8 }, alloc)
     }
 
-    /// Opens a seal that holds a tracker: the parts own it again.
-    pub fn into_parts(self, alloc: Global) -> Parts<Tracker, Global>
-        ghost value: { Held }
-        requires { self.held ≡ Some value }
-        ensures { result.value ≡ value }
+    /// Opens a seal that holds a listener. The parts own it again, with any allocator.
+    pub fn into_parts(self, alloc: Lent) -> Parts<Listener, Lent>
+        requires { IsSome self.held }
+        ensures { Some result.value ≡ self.held }
     {
         let Seal { at } = self;
         Parts {
-            ptr: at as *mut Tracker,
+            ptr: at as *mut Listener,
             alloc,
         }
     }

@@ -1,14 +1,14 @@
-//! What C holds: a tracker, or none.
+//! What C holds: a listener, or none.
 ghost use Rattle.std.specs.Prelude.{◌≡◌, Option, Some, None, option_map};
 ghost use Rattle.sq_seal.specs.Seal.{flag};
 
+use crate::listener::Listener;
 use crate::parts::Parts;
 use crate::seal::Seal;
-use sq_track::Tracker;
-use std::alloc::Global;
+use sq_lent::Lent;
 use std::mem::replace;
 
-/// A tracker, or none. All zero is none. C lends 16 bytes for it and neither writes to them nor copies them.
+/// A listener, or none. All zero is none. C lends these 16 bytes, and neither writes to them nor copies them.
 #[repr(C)]
 pub struct Slot {
     full: u64,
@@ -17,7 +17,7 @@ pub struct Slot {
 }
 
 impl Slot {
-    /// No tracker.
+    /// No listener.
     pub fn none() -> Slot
         ensures { result.seal.held ≡ None }
     {
@@ -27,18 +27,16 @@ impl Slot {
         }
     }
 
-    /// The tracker of a box.
-    pub fn of(tracker: Box<Tracker>) -> Slot
-        ensures { result.seal.held ≡ Some tracker.value }
+    /// The listener of a box.
+    pub fn of(listener: Box<Listener, Lent>) -> Slot
+        ensures { result.seal.held ≡ Some listener.value }
     {
-        Slot {
-            full: 1,
-            seal: Seal::of_parts(Parts::of(tracker)),
-        }
+        let (seal, _handle) = Seal::of_parts(Parts::of(listener));
+        Slot { full: 1, seal }
     }
 
-    /// The box of the tracker, if there is one.
-    pub fn into_tracker(self, alloc: Global) -> Option<Box<Tracker>>
+    /// The box of the listener, if there is one.
+    pub fn into_listener(self) -> Option<Box<Listener, Lent>>
         ensures { option_map (λ b. b.value) result ≡ self.seal.held }
     {
         let Slot { full, seal } = self;
@@ -46,23 +44,33 @@ impl Slot {
             seal.let_go();
             return None;
         }
-        Some(seal.into_parts(alloc).into_box())
+        Some(seal.into_parts(Lent::empty()).into_box())
     }
 
-    /// Takes the tracker out, if there is one. There is none afterwards.
-    pub fn take(&mut self, alloc: Global) -> Option<Box<Tracker>>
+    /// Takes the listener out, if there is one. There is none afterwards.
+    pub fn take(&mut self) -> Option<Box<Listener, Lent>>
         ensures taken { option_map (λ b. b.value) result ≡ self.old.seal.held }
         ensures none { self.new.seal.held ≡ None }
     {
-        replace(self, Slot::none()).into_tracker(alloc)
+        replace(self, Slot::none()).into_listener()
     }
 
-    /// Puts a tracker where there is none.
-    pub fn put(&mut self, tracker: Box<Tracker>)
+    /// Puts a listener where there is none.
+    pub fn put(&mut self, listener: Box<Listener, Lent>)
         requires { self.old.seal.held ≡ None }
-        ensures { self.new.seal.held ≡ Some tracker.value }
+        ensures { self.new.seal.held ≡ Some listener.value }
     {
-        let Slot { full: _, seal } = replace(self, Slot::of(tracker));
+        let Slot { full: _, seal } = replace(self, Slot::of(listener));
         seal.let_go();
+    }
+
+    /// Puts back what was taken out.
+    pub fn put_back(&mut self, taken: Option<Box<Listener, Lent>>)
+        requires { self.old.seal.held ≡ None }
+        ensures { self.new.seal.held ≡ option_map (λ b. b.value) taken }
+    {
+        if let Some(listener) = taken {
+            self.put(listener);
+        }
     }
 }

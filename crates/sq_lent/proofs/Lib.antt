@@ -1,0 +1,2 @@
+pub mod Pairs
+mod Taken
