@@ -1,5 +1,5 @@
 -- What stands at a place of arrays is what the call by itself answers.
-use Rattle.std.proofs.Common.{List, None, get_or, length, slice_index, ◌<◌, ℕ, subst}
+use Rattle.std.proofs.Common.{List, get_or, length, ◌<◌, ℕ, subst}
 use Rattle.std.proofs.lemmas.List.{get_or_default}
 use Rattle.sq_plain.specs.declared.plain.PlainPosition.{PlainPosition}
 use Rattle.sq_plain.specs.Frames.{frame_of}
@@ -7,7 +7,6 @@ use Rattle.squitter_c.specs.Decoding.{IsLocal, IsPair, IsPairAt}
 use Rattle.squitter_c.specs.E7.{IsPositionE7}
 use Rattle.squitter_c.specs.Pinned.{OfEach}
 use Rattle.squitter_c.specs.Reading.{IsFrameRead}
-use Rattle.squitter_c.specs.Tracking.{IsHeardFrame, IsHeardFrameAt}
 
 -- what holds of the item at a place, read with one default, holds of it read with each
 at_each : {A : Type 0} (P : A → Type 0) (xs : List A) (k : ℕ) (d e : A) → k < length xs → P (get_or xs k d)
@@ -43,16 +42,5 @@ of_each = record {
   e7 = λ positions k position old new fault below. (
     λ h. h position,
     λ h d. at_each (λ (x : PlainPosition). IsPositionE7 x old new fault) positions k position d below h,
-  );
-  hear = λ window moments frames k frame old new was is fault below. (
-    λ h. h frame,
-    λ h d. at_each (λ (f : List ℕ). IsHeardFrame window None (slice_index moments k) (frame_of f) old new was is fault)
-        frames k frame d below h,
-  );
-  hear_at = λ window site moments frames k frame old new was is fault below. (
-    λ h. h frame,
-    λ h d. at_each
-        (λ (f : List ℕ). IsHeardFrameAt window site (slice_index moments k) (frame_of f) old new was is fault) frames k
-        frame d below h,
   );
 }

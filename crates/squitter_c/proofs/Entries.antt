@@ -1,31 +1,20 @@
 -- What entries stand for.
-use Rattle.std.proofs.Common.{◌≡◌, ◌≤◌, ℕ, ◌∷◌, [], Option, Some, None, nat_eq, true, refl, sym, ◌∙◌, ap, arith}
+use Rattle.std.proofs.Common.{◌≡◌, Option, Some, None, nat_eq, true, refl, sym, ◌∙◌, ap}
 use Rattle.sq_bits.specs.Frames.{field_of}
-use Rattle.sq_message.specs.declared.squitter.Me.{Me}
-use Rattle.sq_message.specs.declared.squitter.Me.TheVariants as kinds
 use Rattle.sq_message.specs.declared.squitter.Squitter.{Squitter}
-use Rattle.sq_message.specs.Parts.{squitter_parts}
 use Rattle.sq_message.specs.Spelling.{Spells}
 use Rattle.sq_message.proofs.One.{one_squitter}
 use Rattle.sq_track.specs.declared.contact.Contact.{Contact}
 use Rattle.sq_track.specs.declared.contact.LastFix.{LastFix}
 use Rattle.sq_message.specs.declared.received.Received.{Received}
 use Rattle.sq_track.specs.declared.contact.Side.{Side}
-use Rattle.sq_track.specs.History.{History}
-use Rattle.sq_track.specs.Kept.{fix_in, of_other_parity, pair_in, recent_position, recent_squitter}
-use Rattle.sq_track.specs.Ordered.{blank_contact}
-use Rattle.sq_track.specs.Replies.{IsInTime}
-use Rattle.sq_zones.specs.declared.parity.Parity.{Parity}
-use Rattle.sq_zones.specs.declared.parity.Parity.TheVariants.{Even, Odd}
 use Rattle.squitter_c.specs.declared.entry.PlainEntry.{PlainEntry}
 use Rattle.squitter_c.specs.declared.entry.PlainFix.{PlainFix}
 use Rattle.squitter_c.specs.declared.entry.PlainReceived.{PlainReceived}
 use Rattle.squitter_c.specs.declared.entry.PlainSide.{PlainSide}
-use Rattle.sq_plain.specs.Plain.{PlainIsPosition}
 use Rattle.sq_plain.specs.Frames.{frame_of}
 use Rattle.sq_plain.proofs.OnePlain.{is_position, one_of_degrees}
-use Rattle.squitter_c.specs.Tracking.{BlankKeepsNothing, IsContactOf, IsFixOf, IsReceivedOf, IsSideOf, blank_side}
-use Rattle.squitter_c.specs.Tracking.{last_of, no_bytes}
+use Rattle.squitter_c.specs.Entries.{IsContactOf, IsFixOf, IsReceivedOf, IsSideOf, no_bytes}
 
 -- a kept frame stands for one squitter, or for none
 pub one_received : (plain : PlainReceived) (a b : Option Received) → IsReceivedOf plain a → IsReceivedOf plain b → a ≡ b
@@ -62,45 +51,7 @@ one_contact plain a b x y =
     let surface = one_side plain.surface a.surface b.surface x.surface y.surface in
     λ i. record { moment = moment i; airborne = airborne i; surface = surface i }
 
--- a moment that is not below the last is in time
-pub in_time : (history : History) (last moment : ℕ) → last ≡ last_of history → last ≤ moment → IsInTime history moment
-in_time [] last moment is le = tt
-in_time (entry ∷ earlier) last moment is le = omega (arith, is, le)
-
 -- a frame of zeros spells nothing
 pub nothing_spelled : (q : Squitter) → ¬ (Spells (frame_of no_bytes) q)
 unfolding field_of
 nothing_spelled q spells = let format : nat_eq 0 17 ≡ true = ap (λ n. nat_eq n 17) spells.format in absurd (cc)
-
--- an all-zero fix is none
-no_fix_kept : ¬ (PlainIsPosition blank_side.fix.position)
-no_fix_kept is = absurd (omega (arith, is.lat.positive))
-
-blank_is_side : IsSideOf blank_side blank_contact.airborne
-blank_is_side = record { even = nothing_spelled; odd = nothing_spelled; fix = no_fix_kept }
-
--- nothing is kept in a blank contact
-no_frame : (parity : Parity) → of_other_parity parity blank_contact.airborne ≡ None
-no_frame Even = refl
-no_frame Odd = refl
-
-no_pair : (window moment : ℕ) (me : Me) → recent_squitter window moment (pair_in blank_contact me) ≡ None
-no_pair window moment (kinds.Airborne a) = ap (recent_squitter window moment) (no_frame a.parity)
-no_pair window moment (kinds.Surface a) = ap (recent_squitter window moment) (no_frame a.parity)
-no_pair window moment (kinds.Other a) = refl
-
-no_fix : (window moment : ℕ) (me : Me) → recent_position window moment (fix_in blank_contact me) ≡ None
-no_fix window moment (kinds.Airborne a) = refl
-no_fix window moment (kinds.Surface a) = refl
-no_fix window moment (kinds.Other a) = refl
-
-pub blank_keeps_nothing : BlankKeepsNothing
-blank_keeps_nothing window address = record {
-  contact = blank_contact;
-  stands = record { moment = refl; airborne = blank_is_side; surface = blank_is_side };
-  remembers = record {
-    pair = λ moment q later same. no_pair window moment (squitter_parts q).me;
-    fix = λ moment q later same. rw (no_fix window moment (squitter_parts q).me) tt;
-  };
-  last = refl;
-}

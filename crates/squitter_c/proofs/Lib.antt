@@ -1,10 +1,16 @@
 pub mod AsciiTexts
 pub mod Entries
+pub mod Savings
+pub mod Restorings
+pub mod RestoredSavings
 pub mod Blanks
 pub mod OneAnswers
 pub mod OnePlaces
 pub mod OneFrames
 pub mod OneAgain
-pub mod Hearings
 pub mod AtPlaces
 pub mod OneTexts
+pub mod OneTrackers
+pub mod LogSteps
+pub mod LogAll
+pub mod FeedSteps

@@ -1,16 +1,13 @@
 -- Many calls in one.
-use Rattle.std.specs.Prelude.{ℕ, List, None, slice_index, slice_index_or}
+use Rattle.std.specs.Prelude.{ℕ, List, slice_index_or}
 use Rattle.squitter_c.specs.declared.e7.DegreesE7.{DegreesE7}
-use Rattle.squitter_c.specs.declared.entry.PlainEntry.{PlainEntry}
 use Rattle.sq_plain.specs.declared.faults.Fault.{Fault}
 use Rattle.squitter_c.specs.declared.fields.PlainSquitter.{PlainSquitter}
-use Rattle.sq_plain.specs.declared.heard.PlainHeard.{PlainHeard}
 use Rattle.sq_plain.specs.declared.plain.PlainPosition.{PlainPosition}
 use Rattle.squitter_c.specs.Decoding.{IsLocal, IsPair, IsPairAt}
 use Rattle.squitter_c.specs.E7.{IsPositionE7}
 use Rattle.squitter_c.specs.Reading.{IsFrameRead}
 use Rattle.sq_plain.specs.Frames.{frame_of}
-use Rattle.squitter_c.specs.Tracking.{IsHeardFrame, IsHeardFrameAt}
 
 -- the frame at place k is read
 abbrev pub IsReadAt : (frames : List (List ℕ)) → (k : ℕ) → (old new : PlainSquitter) → Fault → Type 0
@@ -38,15 +35,3 @@ IsPairNear older newer site k old new fault = (frame : List ℕ)
 abbrev pub IsE7At : (positions : List PlainPosition) → (k : ℕ) → (old new : DegreesE7) → Fault → Type 0
 IsE7At positions k old new fault =
     (position : PlainPosition) → IsPositionE7 (slice_index_or positions k position) old new fault
-
--- the frame at place k is heard of the entry at its moment
-abbrev pub IsHeardAt : (window : ℕ) → (moments : List ℕ) → (frames : List (List ℕ)) → (k : ℕ)
-    → (old new : PlainEntry) → (was is : PlainHeard) → Fault → Type 0
-IsHeardAt window moments frames k old new was is fault = (frame : List ℕ)
-    → IsHeardFrame window None (slice_index moments k) (frame_of (slice_index_or frames k frame)) old new was is fault
-
--- the frame at place k is heard with a site, which each call looks at first
-abbrev pub IsHeardNear : (window : ℕ) → PlainPosition → (moments : List ℕ) → (frames : List (List ℕ)) → (k : ℕ)
-    → (old new : PlainEntry) → (was is : PlainHeard) → Fault → Type 0
-IsHeardNear window site moments frames k old new was is fault = (frame : List ℕ)
-    → IsHeardFrameAt window site (slice_index moments k) (frame_of (slice_index_or frames k frame)) old new was is fault

@@ -1,5 +1,5 @@
 -- The texts of faults.
-use Rattle.std.specs.Prelude.{◌≡◌, ◌==◌, ◌+◌, ◌*◌, ◌∷◌, ℕ, List, [], Option, Some, None, codes, find, if◌then◌else◌}
+use Rattle.std.specs.Prelude.{◌≡◌, ◌==◌, ◌+◌, ◌*◌, ◌++◌, ◌∷◌, ℕ, List, [], Option, Some, None, codes, decimal, find, if◌then◌else◌}
 use Rattle.sq_angle.specs.Faults.{angle_fault_text}
 use Rattle.sq_angle.specs.declared.read.AngleFault.TheVariants as angles
 use Rattle.sq_message.specs.declared.place.PlaceFault.TheVariants as places
@@ -11,7 +11,7 @@ use Rattle.sq_track.specs.declared.heard.TrackFault.TheVariants as tracks
 use Rattle.sq_plain.specs.declared.faults.Refusal.{Refusal}
 use Rattle.sq_plain.specs.declared.faults.Refusal.TheVariants.{Line, Place, Angle, NoPosition, NoHead, NoAngle}
 use Rattle.sq_plain.specs.declared.faults.Refusal.TheVariants.{NoLatitude, NoFeet, NoParity, Memory, NoLimit, NoTracker}
-use Rattle.sq_plain.specs.declared.faults.Refusal.TheVariants.{NoAddress}
+use Rattle.sq_plain.specs.declared.faults.Refusal.TheVariants.{NoAddress, LongLog, NoFormat, Entry}
 use Rattle.sq_plain.specs.Faults.{fault_of, with_numbers}
 
 -- the text of a reason: that of the program, where it has one
@@ -29,6 +29,9 @@ refusal_text Memory = track_fault_text tracks.Memory
 refusal_text NoLimit = track_fault_text tracks.NoLimit
 refusal_text NoTracker = codes "no tracker"
 refusal_text NoAddress = codes "no address"
+refusal_text LongLog = codes "log too long"
+refusal_text NoFormat = codes "bad format"
+refusal_text (Entry index) = codes "bad entry " ++ decimal index
 
 -- a reason of each kind
 abbrev pub one_of_each : List Refusal
@@ -38,7 +41,8 @@ one_of_each =
     ∷ Place places.NotPosition ∷ Place places.OtherAddress ∷ Place places.OtherKind ∷ Place places.SameParity
     ∷ Place places.NoSite ∷ Place places.OutOfRange ∷ Place (places.ZoneCounts 0 0)
     ∷ Angle angles.NotANumber ∷ Angle angles.TooManyDecimals ∷ Angle angles.OutOfRange
-    ∷ NoPosition ∷ NoHead ∷ NoAngle ∷ NoLatitude ∷ NoFeet ∷ NoParity ∷ Memory ∷ NoLimit ∷ NoTracker ∷ NoAddress ∷ []
+    ∷ NoPosition ∷ NoHead ∷ NoAngle ∷ NoLatitude ∷ NoFeet ∷ NoParity ∷ Memory ∷ NoLimit ∷ NoTracker ∷ NoAddress
+    ∷ LongLog ∷ NoFormat ∷ Entry 0 ∷ []
 
 -- the reason with this code, if there is one, whatever its numbers
 abbrev pub reason_of : (code : ℕ) → Option Refusal

@@ -47,7 +47,7 @@ pub extern "C" fn squitter_position_e7(position: &PlainPosition, out: &mut Degre
 }
 
 // Both coordinates.
-fn both(position: &Position) -> DegreesE7
+pub(crate) fn both(position: &Position) -> DegreesE7
     ensures { AreE7Of position.now result }
 {
     DegreesE7 {

@@ -1,8 +1,8 @@
-//! Decoder state for one aircraft in plain numbers, and the contact that it stands for.
+//! A tracker's entry of an address in plain numbers, and the contact that it represents.
 ghost use Rattle.std.specs.Prelude.{◌≡◌};
 ghost use Rattle.sq_angle.specs.Angle.{degrees};
 ghost use Rattle.sq_plain.specs.Plain.{IsOfDegrees, fraction_of};
-ghost use Rattle.squitter_c.specs.Tracking.{IsContactOf, IsFixOf, IsReceivedOf, IsSideOf};
+ghost use Rattle.squitter_c.specs.Entries.{IsContactOf, IsEntryOf, IsFixOf, IsReceivedOf, IsSideOf};
 
 use sq_angle::{Angle, Position};
 use sq_bits::Frame;
@@ -35,14 +35,13 @@ pub struct PlainSide {
     pub fix: PlainFix,
 }
 
-/// Decoder state for one aircraft. Zero-initialise it before the first frame.
+/// An address of a tracker, with what the tracker holds of it.
 #[repr(C)]
 #[derive(Clone, Copy)]
 pub struct PlainEntry {
-    /// The timestamp of the latest frame.
-    pub last: u64,
-    /// The timestamp of the latest position.
-    pub newest: u64,
+    /// The timestamp of its latest position.
+    pub moment: u64,
+    pub address: u32,
     pub airborne: PlainSide,
     pub surface: PlainSide,
 }
@@ -52,7 +51,7 @@ pub(crate) fn contact_of(plain: &PlainEntry) -> Contact
     ensures { IsContactOf plain.now result }
 {
     Contact {
-        moment: plain.newest,
+        moment: plain.moment,
         airborne: side_of(&plain.airborne),
         surface: side_of(&plain.surface),
     }
@@ -92,14 +91,13 @@ fn fix_of(plain: &PlainFix) -> Option<LastFix>
     }
 }
 
-// The entry that stands for a contact, with the moment of its newest frame.
-pub(crate) fn plain_entry(contact: &Contact, last: u64) -> PlainEntry
-    ensures contact { IsContactOf result contact.now }
-    ensures last { result.last ≡ last }
+// Returns the entry that represents an address and its contact.
+pub(crate) fn plain_entry(address: u32, contact: &Contact) -> PlainEntry
+    ensures { IsEntryOf result (address, contact.now) }
 {
     PlainEntry {
-        last,
-        newest: contact.moment,
+        moment: contact.moment,
+        address,
         airborne: plain_side(&contact.airborne),
         surface: plain_side(&contact.surface),
     }
@@ -153,7 +151,7 @@ fn plain_fix(fix: Option<LastFix>) -> PlainFix
 }
 
 // The fractions of a position, as they are.
-fn as_given(position: &Position) -> PlainPosition
+pub(crate) fn as_given(position: &Position) -> PlainPosition
     ensures { IsOfDegrees result position.now }
 {
     PlainPosition {

@@ -1,10 +1,10 @@
 //! The exports of `libsquitter`: frames, squitters and places, as C calls them.
 //!
-//! A frame crosses as its 14 bytes, and any 14 bytes are one. Angles cross as exact fractions, and every other number
-//! as itself or as one field of a plain struct. Each value of each of these is allowed: what is no position or no head
-//! is refused. So the only duties of a caller are those of its pointers. No call takes memory, keeps anything or ends
-//! otherwise than by its answer. A call that has an answer for `out` answers code 0; where it answers another code,
-//! `out` is as it was.
+//! A frame is passed as its 14 bytes; any 14 bytes are allowed. Angles are exact fractions, and all other numbers are
+//! plain or fields of plain structs. Every value is allowed: an invalid position or head is refused with a code. So a
+//! caller only has to keep its pointers valid. No call allocates, and every call returns. A tracker, a log or a feed
+//! uses a block that the caller lends. A call that writes to `out` returns code 0; with any other code `out` is
+//! unchanged.
 #![tactic(auto)]
 
 mod altitudes;
@@ -12,12 +12,28 @@ mod angles;
 mod decode;
 mod e7;
 mod entry;
+pub mod feed_laws;
+mod feed_new;
+mod feed_sniff;
+mod feed_take;
+mod feed_text;
 mod fields;
 mod heads;
-mod hear;
 pub mod laws;
+mod log_answer;
+pub mod log_laws;
+mod log_new;
+mod log_take;
+mod log_text;
 mod many;
 mod read;
 mod send;
 mod texts;
+mod tracker_get;
+mod tracker_hear;
+pub mod tracker_laws;
+mod tracker_many;
+mod tracker_new;
+mod tracker_restore;
+mod tracker_save;
 mod zones;

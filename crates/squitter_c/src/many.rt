@@ -2,16 +2,14 @@
 //!
 //! The shortest of the arrays counts, and the answer is how many places that are. What lies beyond is as it was.
 ghost use Rattle.std.specs.Prelude.{◌≡◌, length, min};
-ghost use Rattle.sq_plain.specs.Many.{AreAnswered, IsBelow, Leads, shortest};
-ghost use Rattle.squitter_c.specs.Many.{IsE7At, IsHeardAt, IsHeardNear, IsLocalAt, IsPairNear, IsPairThere, IsReadAt};
+ghost use Rattle.sq_plain.specs.Many.{AreAnswered, shortest};
+ghost use Rattle.squitter_c.specs.Many.{IsE7At, IsLocalAt, IsPairNear, IsPairThere, IsReadAt};
 
 use crate::decode::{squitter_local, squitter_pair, squitter_pair_at};
 use crate::e7::{DegreesE7, squitter_position_e7};
-use crate::entry::PlainEntry;
 use crate::fields::PlainSquitter;
-use crate::hear::{squitter_hear, squitter_hear_at};
 use crate::read::squitter_read_frame;
-use sq_plain::{Fault, PlainHeard, PlainPosition};
+use sq_plain::{Fault, PlainPosition};
 
 /// Reads each frame, as [`squitter_read_frame`] does, into its place of `out`, and answers how many places that
 /// are. The fault of each, or none, stands at its place of `faults`; at a fault that place of `out` is as it was.
@@ -110,62 +108,6 @@ pub extern "C" fn squitter_position_e7_many(
     let count = positions.len().min(out.len().min(faults.len()));
     for at in 0..count {
         faults[at] = squitter_position_e7(&positions[at], &mut out[at]);
-    }
-    count
-}
-
-/// Hears frames of the entry's address one after the other, each at its moment, as [`squitter_hear`] does. A frame
-/// at fault leaves the entry and its place of `out` as they were, with the fault at its place of `faults`, and the
-/// next one is heard. The answer is how many frames were heard.
-#[unsafe(no_mangle)]
-pub extern "C" fn squitter_hear_many(
-    entry: &mut PlainEntry,
-    window: u64,
-    moments: &[u64],
-    frames: &[[u8; 14]],
-    out: &mut [PlainHeard],
-    faults: &mut [Fault],
-) -> usize
-    ensures count { result ≡ min (length moments.now)
-        (shortest (length frames.now) (length out.old) (length faults.old)) }
-    ensures each { Leads (IsHeardAt window moments.now frames.now) entry.old out.old out.new faults.new
-        result entry.new }
-    ensures rest { IsBelow out.old out.new faults.old faults.new result }
-{
-    let count = moments
-        .len()
-        .min(frames.len().min(out.len().min(faults.len())));
-    for at in 0..count {
-        faults[at] = squitter_hear(entry, window, moments[at], &frames[at], &mut out[at]);
-    }
-    count
-}
-
-/// Hears frames of the entry's address with a site, as [`squitter_hear_at`] does. A frame at fault leaves the entry
-/// and its place of `out` as they were, with the fault at its place of `faults`, and the next one is heard. The
-/// answer is how many frames were heard.
-#[unsafe(no_mangle)]
-pub extern "C" fn squitter_hear_at_many(
-    entry: &mut PlainEntry,
-    window: u64,
-    site: &PlainPosition,
-    moments: &[u64],
-    frames: &[[u8; 14]],
-    out: &mut [PlainHeard],
-    faults: &mut [Fault],
-) -> usize
-    ensures count { result ≡ min (length moments.now)
-        (shortest (length frames.now) (length out.old) (length faults.old)) }
-    ensures each { Leads (IsHeardNear window site.now moments.now frames.now) entry.old out.old out.new faults.new
-        result entry.new }
-    ensures rest { IsBelow out.old out.new faults.old faults.new result }
-{
-    let count = moments
-        .len()
-        .min(frames.len().min(out.len().min(faults.len())));
-    for at in 0..count {
-        let fault = squitter_hear_at(entry, window, site, moments[at], &frames[at], &mut out[at]);
-        faults[at] = fault;
     }
     count
 }

@@ -1,5 +1,5 @@
 //! The texts of faults, and the version.
-ghost use Rattle.std.specs.Prelude.{◌≡◌, ◌≤◌, ◌++◌, decimal};
+ghost use Rattle.std.specs.Prelude.{◌≡◌, ◌≤◌, ◌++◌, codes, decimal};
 ghost use Rattle.sq_digits.specs.Buffer.{text_len};
 ghost use Rattle.sq_message.specs.Faults.{place_fault_text};
 ghost use Rattle.sq_text.specs.Faults.{fault_text, fault_words};
@@ -70,6 +70,9 @@ fn push_told(text: &mut TextBuffer<63>, code: u32, first: u64, second: u32)
         45 => text.push_str(TrackFault::NoLimit.words()),
         46 => text.push_str("no tracker"),
         47 => text.push_str("no address"),
+        48 => text.push_str("log too long"),
+        49 => text.push_str("bad format"),
+        50 => push_entry(text, first),
         _ => text.push_str("unknown fault"),
     }
 }
@@ -81,6 +84,15 @@ fn push_named(text: &mut TextBuffer<63>, fault: LineFault, number: u64)
 {
     text.push_str(fault.words());
     push_decimal(text, number);
+}
+
+// Appends the words of an entry and its index.
+fn push_entry(text: &mut TextBuffer<63>, index: u64)
+    requires { text_len text.old ≤ 0 }
+    ensures { text.new.bytes ≡ text.old.bytes ++ (codes "bad entry " ++ decimal index) }
+{
+    text.push_str("bad entry ");
+    push_decimal(text, index);
 }
 
 // Appends a remainder, of which the lowest 24 bits are written.

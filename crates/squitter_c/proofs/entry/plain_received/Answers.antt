@@ -1,6 +1,6 @@
 use Rattle.std.proofs.Common.{Option, subst, sym}
 use Rattle.sq_message.specs.declared.received.Received.{Received}
-use Rattle.squitter_c.specs.Tracking.{IsReceivedOf, no_bytes}
+use Rattle.squitter_c.specs.Entries.{IsReceivedOf, no_bytes}
 use Rattle.squitter_c.proofs.Entries.{nothing_spelled}
 use Rattle.squitter_c.proofs.entry.plain_received.Goals as goal
 

@@ -4,7 +4,7 @@ use Rattle.sq_message.specs.declared.place.PlaceFault.TheVariants as places
 use Rattle.sq_text.specs.declared.faults.LineFault.TheVariants as lines
 use Rattle.sq_plain.specs.declared.faults.Refusal.TheVariants.{Line, Place, Angle, NoPosition, NoHead, NoAngle}
 use Rattle.sq_plain.specs.declared.faults.Refusal.TheVariants.{NoLatitude, NoFeet, NoParity, Memory, NoLimit, NoTracker}
-use Rattle.sq_plain.specs.declared.faults.Refusal.TheVariants.{NoAddress}
+use Rattle.sq_plain.specs.declared.faults.Refusal.TheVariants.{NoAddress, LongLog, NoFormat, Entry}
 use Rattle.squitter_c.specs.Texts.{EachText, told_text}
 use Rattle.squitter_c.proofs.laws.each_text.Goals as goal
 
@@ -40,6 +40,9 @@ each_text Memory = refl
 each_text NoLimit = refl
 each_text NoTracker = refl
 each_text NoAddress = refl
+each_text LongLog = refl
+each_text NoFormat = refl
+each_text (Entry index) = refl
 
 pub returns : goal.returns
 returns c = each_text

@@ -1,5 +1,0 @@
-use Rattle.squitter_c.proofs.Hearings.{one_heard_by_entry as the_law}
-use Rattle.squitter_c.proofs.laws.one_heard_by_entry.Goals as goal
-
-pub returns : goal.returns
-returns c = the_law

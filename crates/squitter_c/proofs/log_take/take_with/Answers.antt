@@ -1,0 +1,18 @@
+use Rattle.std.proofs.Common.{[], ap, rules, subst₂, sym, take}
+use Rattle.sq_lines.specs.declared.log.Log.{Log}
+use Rattle.sq_lines.specs.States.{with_job}
+use Rattle.sq_track.specs.Held.{Held}
+use Rattle.squitter_c.specs.LogCalls.{AsAnswers, GoesOn, held_by}
+use Rattle.squitter_c.proofs.log_take.take_with.Goals as goal
+
+pub returns-clause-gone : goal.returns-clause-gone
+returns-clause-gone g c =
+    let told = c.answer_some-told in
+    let end = told.result.1 in
+    let bytes = take told.result.0.taken c.args.piece.now in
+    let written = take told.result.0.written told.new.out in
+    let gone = subst₂ (λ (old new : Log Held). GoesOn AsAnswers end old new bytes [] written)
+    (ap held_by c.resume-log.ensures.log) (sym (ap held_by c.state.ensures)) told.ensures.gone in
+    subst₂ (λ (first last : Held). GoesOn AsAnswers end (with_job first c.args.state.now)
+    (with_job last c.state.result) bytes [] written) (ap (λ tracker. tracker.now) c.hear_values.ensures) (search rules)
+    gone

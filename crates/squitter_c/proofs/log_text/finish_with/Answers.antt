@@ -1,0 +1,19 @@
+use Rattle.std.proofs.Common.{[], ap, rules, subst₂, sym, take}
+use Rattle.sq_lines.specs.declared.log.Log.{Log}
+use Rattle.sq_lines.specs.States.{with_job}
+use Rattle.sq_track.specs.Held.{Held}
+use Rattle.sq_commands.specs.Heard.{heard_telling}
+use Rattle.squitter_c.specs.LogCalls.{AsTexts, GoesToTheEnd, held_by}
+use Rattle.squitter_c.proofs.log_text.finish_with.Goals as goal
+
+pub returns-clause-gone : goal.returns-clause-gone
+returns-clause-gone g c =
+    let told = c.finish_some-told in
+    let end = told.result.1 in
+    let written = take told.result.0.written told.new.out in
+    let gone = subst₂ (λ (old new : Log Held). GoesToTheEnd (AsTexts (heard_telling c.args.format)) end old new []
+    written)
+    (ap held_by c.resume-log.ensures.log) (sym (ap held_by c.state.ensures)) told.ensures.gone in
+    subst₂ (λ (first last : Held). GoesToTheEnd (AsTexts (heard_telling c.args.format)) end (with_job first
+    c.args.state.now)
+    (with_job last c.state.result) [] written) (ap (λ tracker. tracker.now) c.hear_texts.ensures) (search rules) gone

@@ -1,0 +1,25 @@
+-- What was given where a call of a feed left room.
+use Rattle.std.specs.Prelude.{◌≡◌, ◌+◌, ◌<◌, ◌≤◌, ℕ, List, [], Option, Some, length, take}
+use Rattle.sq_feed.specs.Feeds.{HasGiven, HasWritten}
+use Rattle.sq_plain.specs.declared.faults.Fault.{Fault}
+use Rattle.sq_plain.specs.Faults.{none}
+use Rattle.sq_seal.specs.FeedSeal.{KeptFeed}
+use Rattle.squitter_c.specs.declared.log_take.Done.{Done}
+use Rattle.squitter_c.specs.FeedCalls.{IsFeedTaken, IsFeedTextTaken}
+
+-- The squitters of the whole piece, in arrays that have room for one more.
+abbrev pub AllGiven : Type 0
+AllGiven = (arrival : ℕ) (k : KeptFeed) (new : Option KeptFeed) (piece moments_were moments : List ℕ)
+    (frames_were frames : List (List ℕ)) (before after : Done) (fault : Fault)
+    → IsFeedTaken arrival (Some k) new piece moments_were moments frames_were frames before after fault
+    → after.written < length moments → after.written < length frames
+    → (next : KeptFeed) × (new ≡ Some next) × (after.taken ≡ length piece) × (fault ≡ none)
+    × HasGiven arrival k piece [] [] (take after.written moments) (take after.written frames) next
+
+-- The lines of the whole piece, in a buffer that has room for one more.
+abbrev pub AllWritten : Type 0
+AllWritten = (arrival : ℕ) (k : KeptFeed) (new : Option KeptFeed) (piece was is : List ℕ) (before after : Done)
+    (fault : Fault) → IsFeedTextTaken arrival (Some k) new piece was is before after fault
+    → after.written + 50 ≤ length is
+    → (next : KeptFeed) × (new ≡ Some next) × (after.taken ≡ length piece) × (fault ≡ none)
+    × HasWritten arrival k piece [] (take after.written is) next

@@ -1,0 +1,166 @@
+-- What calls of a log answer.
+use Rattle.std.specs.Prelude.{◌≡◌, ◌≤◌, ◌<◌, ◌⊎◌, ◌++◌, ◌^◌, ⊤, ℕ, List, [], Option, None, Some, drop, length, take}
+use Rattle.std.specs.List.{AllZip}
+use Rattle.sq_devices.specs.Device.{IsPrefixOf}
+use Rattle.sq_lines.specs.declared.log.Answer.{Answer as Told}
+use Rattle.sq_lines.specs.declared.log.Log.{Log}
+use Rattle.sq_lines.specs.declared.state.LogState.{LogState}
+use Rattle.sq_lines.specs.Answers.{WantsAt}
+use Rattle.sq_lines.specs.Lines.{closed, ended_lines, with_next}
+use Rattle.sq_lines.specs.Logs.{HasHeard, IsUpToDate}
+use Rattle.sq_lines.specs.Runs.{told_text}
+use Rattle.sq_lines.specs.States.{with_job}
+use Rattle.sq_track.specs.Held.{Held}
+use Rattle.sq_commands.specs.declared.track.Hearing.{Hearing}
+use Rattle.sq_commands.specs.declared.found.HeardSquitter.{HeardSquitter}
+use Rattle.sq_commands.specs.Formats.{Telling, Writers}
+use Rattle.sq_commands.specs.SlowAnswers.{AreTrueAnswers}
+use Rattle.sq_commands.specs.Tracking.{track_manner}
+use Rattle.sq_plain.specs.declared.faults.Fault.{Fault}
+use Rattle.sq_plain.specs.declared.faults.Refusal.TheVariants as refusals
+use Rattle.sq_plain.specs.Faults.{fault_of, none}
+use Rattle.sq_seal.specs.Seal.{Kept}
+use Rattle.squitter_c.specs.declared.log_answer.PlainAnswer.{PlainAnswer}
+use Rattle.squitter_c.specs.declared.log_new.PlainTally.{PlainTally}
+use Rattle.squitter_c.specs.declared.log_take.Done.{Done}
+use Rattle.squitter_c.specs.declared.log_take.End.{End}
+use Rattle.squitter_c.specs.declared.log_take.End.TheVariants as ends
+use Rattle.squitter_c.specs.LogAnswers.{IsPlainAnswer}
+
+-- a machine over a borrowed tracker, as one over the tracker itself
+abbrev pub held_by : {F A : Type 0} → Log (Hearing F A) → Log Held
+held_by log = record {
+  job = log.job.tracker.now;
+  number = log.number;
+  tally = log.tally;
+  window = log.window;
+  counted = log.counted;
+}
+
+-- the log of a listener
+abbrev pub log_in : Kept → Log Held
+log_in k = with_job k.tracker k.log
+
+-- How a call ended, of what was given and of the lines that were heard: all lines were that line feeds end; or there is
+-- no room; or the tracker may want memory for the next line.
+abbrev pub IsEndOf : End → Log Held → (given : List ℕ) → (lines : List (List ℕ)) → Type 0
+IsEndOf ends.Fed log given lines = IsUpToDate log × (lines ≡ ended_lines given)
+IsEndOf ends.Full log given lines = ⊤
+IsEndOf ends.NoMemory log given lines =
+    (next : List ℕ) × IsPrefixOf (with_next lines next) (ended_lines given) × WantsAt track_manner log.job next
+
+-- what answers are written as: a list of plain answers, or a text
+abbrev pub Written : Type 0 → Type 1
+Written X = List (Told HeardSquitter) → List X → Type 0
+
+-- as plain answers
+abbrev pub AsAnswers : Written PlainAnswer
+AsAnswers answers plain = AllZip IsPlainAnswer answers plain
+
+-- as the texts of a format
+abbrev pub AsTexts : Telling HeardSquitter → Written ℕ
+AsTexts telling answers text = (writers : Writers) → text ≡ told_text (telling.text writers) answers
+
+-- The log has heard more lines of what was given, and their answers are written behind those that were told before. In
+-- slow worlds all answers so far are true.
+pub record HasGone {X : Type 0} (As : Written X) (start : Held) (end : End) (log : Log Held) (given : List ℕ)
+    (lines : List (List ℕ)) (answers told : List (Told HeardSquitter)) (written : List X) : Type 0 where
+  pub more : List (List ℕ)
+  pub now_told : List (Told HeardSquitter)
+  pub heard : HasHeard track_manner start log given (lines ++ more) (answers ++ now_told)
+  pub written_are : As (told ++ now_told) written
+  pub ended : IsEndOf end log given (lines ++ more)
+  pub are_true : AreTrueAnswers start (answers ++ now_told)
+
+-- From whatever a log has heard of what it was given, it goes on with these bytes: the answers that it tells are
+-- written behind those that stood there.
+abbrev pub GoesOn : {X : Type 0} → Written X → End → (old new : Log Held) → (bytes : List ℕ) → (before after : List X)
+    → Type 0
+GoesOn As end old new bytes before after =
+    (start : Held) (given : List ℕ) (lines : List (List ℕ)) (answers told : List (Told HeardSquitter))
+    → HasHeard track_manner start old given lines answers → As told before
+    → HasGone As start end new (given ++ bytes) lines answers told after
+
+-- The same at the end of a log: once all is answered, the last line too, which no line feed ends.
+abbrev pub GoesToTheEnd : {X : Type 0} → Written X → End → (old new : Log Held) → (before after : List X) → Type 0
+GoesToTheEnd As end old new before after =
+    (start : Held) (given : List ℕ) (lines : List (List ℕ)) (answers told : List (Told HeardSquitter))
+    → HasHeard track_manner start old given lines answers → As told before
+    → (all : List ℕ) × (closed all ≡ closed given) × (end ≡ ends.Fed → all ≡ closed given)
+    × HasGone As start end new all lines answers told after
+
+-- what the counts say of how a call ended
+abbrev pub IsEndTold : End → Done → (given room : ℕ) → Type 0
+IsEndTold ends.Fed done given room = done.taken ≡ given
+IsEndTold ends.Full done given room = done.written ≡ room
+IsEndTold ends.NoMemory done given room = ⊤
+
+-- the fault of an end
+abbrev pub fault_of_end : End → Fault
+fault_of_end ends.Fed = none
+fault_of_end ends.Full = none
+fault_of_end ends.NoMemory = fault_of refusals.Memory
+
+-- more lines, or bytes of a piece, than a log can have
+abbrev pub IsTooLong : LogState → ℕ → Type 0
+IsTooLong state size = (2 ^ 63 ≤ state.number) ⊎ (2 ^ 61 < size)
+
+-- A call wrote `done.written` elements at the front of the array, and left the rest unchanged.
+pub record IsWrittenTo {X : Type 0} (was is : List X) (done : Done) (size : ℕ) : Type 0 where
+  pub taken : done.taken ≤ size
+  pub written : done.written ≤ length is
+  pub long : length is ≡ length was
+  pub rest : drop done.written is ≡ drop done.written was
+
+-- the log goes on with the bytes that were taken of the piece
+abbrev pub HasTaken : (old new : Kept) → (piece : List ℕ) → (was is : List PlainAnswer) → Done → Fault → Type 0
+HasTaken old new piece was is done fault = (end : End)
+    × GoesOn AsAnswers end (log_in old) (log_in new) (take done.taken piece) [] (take done.written is)
+    × IsWrittenTo was is done (length piece) × IsEndTold end done (length piece) (length is)
+    × (fault ≡ fault_of_end end)
+
+-- the log goes to its end
+abbrev pub HasFinished : (old new : Kept) → (was is : List PlainAnswer) → Done → Fault → Type 0
+HasFinished old new was is done fault = (end : End)
+    × GoesToTheEnd AsAnswers end (log_in old) (log_in new) [] (take done.written is)
+    × IsWrittenTo was is done 0 × IsEndTold end done 0 (length is) × (fault ≡ fault_of_end end)
+
+-- What a call made of a listener: the log went on, or it, or the piece, is too long, which changes nothing.
+abbrev pub IsOfListener : {X : Type 0} → (old new : Kept) → (size : ℕ) → (was is : List X) → (before after : Done)
+    → Fault → Type 0 → Type 0
+IsOfListener old new size was is before after fault Going =
+    ((¬ (IsTooLong old.log size)) × Going)
+    ⊎ (IsTooLong old.log size × (new ≡ old) × (is ≡ was) × (after ≡ before) × (fault ≡ fault_of refusals.LongLog))
+
+-- what taking a piece made of a listener
+abbrev pub IsTakenBy : (old new : Kept) → (piece : List ℕ) → (was is : List PlainAnswer) → (before after : Done)
+    → Fault → Type 0
+IsTakenBy old new piece was is before after fault =
+    IsOfListener old new (length piece) was is before after fault (HasTaken old new piece was is after fault)
+
+-- what finishing made of a listener
+abbrev pub IsFinishedBy : (old new : Kept) → (was is : List PlainAnswer) → (before after : Done) → Fault → Type 0
+IsFinishedBy old new was is before after fault =
+    IsOfListener old new 0 was is before after fault (HasFinished old new was is after fault)
+
+-- what taking a piece made of a log, where there may be none
+abbrev pub IsLogTaken : (old new : Option Kept) → (piece : List ℕ) → (was is : List PlainAnswer)
+    → (before after : Done) → Fault → Type 0
+IsLogTaken (Some k) new piece was is before after fault =
+    (next : Kept) × (new ≡ Some next) × IsTakenBy k next piece was is before after fault
+IsLogTaken None new piece was is before after fault =
+    (new ≡ None) × (is ≡ was) × (after ≡ before) × (fault ≡ fault_of refusals.NoTracker)
+
+-- what finishing made of a log, where there may be none
+abbrev pub IsLogFinished : (old new : Option Kept) → (was is : List PlainAnswer) → (before after : Done) → Fault
+    → Type 0
+IsLogFinished (Some k) new was is before after fault =
+    (next : Kept) × (new ≡ Some next) × IsFinishedBy k next was is before after fault
+IsLogFinished None new was is before after fault =
+    (new ≡ None) × (is ≡ was) × (after ≡ before) × (fault ≡ fault_of refusals.NoTracker)
+
+-- the lines that were good and those that were refused, where there is a log
+abbrev pub IsTallied : Option Kept → (was is : PlainTally) → Fault → Type 0
+IsTallied (Some k) was is fault =
+    (is.good ≡ k.log.tally.good) × (is.refused ≡ k.log.tally.refused) × (fault ≡ none)
+IsTallied None was is fault = (is ≡ was) × (fault ≡ fault_of refusals.NoTracker)

@@ -1,0 +1,66 @@
+-- A call has one answer, unless it is out of memory: what two contracts of one call, with one `out` before it, say is
+-- one.
+use Rattle.std.specs.Prelude.{◌≡◌, ◌≢◌, ◌↔◌, ◌==◌, ◌∷◌, [], ℕ, List, Option, Some, Result, Err, filter}
+use Rattle.sq_angle.specs.declared.position.Position.{Position}
+use Rattle.sq_bits.specs.declared.frame.Frame.{Frame}
+use Rattle.sq_message.specs.declared.squitter.Squitter.{Squitter}
+use Rattle.sq_message.specs.Parts.{squitter_parts}
+use Rattle.sq_message.specs.Places.{IsPosition}
+use Rattle.sq_plain.specs.declared.faults.Fault.{Fault}
+use Rattle.sq_plain.specs.declared.faults.Refusal.TheVariants as refusals
+use Rattle.sq_plain.specs.declared.heard.PlainHeard.{PlainHeard}
+use Rattle.sq_plain.specs.declared.plain.PlainPosition.{PlainPosition}
+use Rattle.sq_plain.specs.Faults.{fault_of}
+use Rattle.sq_plain.specs.Frames.{frame_of}
+use Rattle.sq_seal.specs.Seal.{Kept}
+use Rattle.sq_track.specs.declared.heard.Heard.{Heard}
+use Rattle.sq_track.specs.declared.heard.TrackFault.{TrackFault}
+use Rattle.sq_track.specs.declared.heard.TrackFault.TheVariants.{Memory}
+use Rattle.sq_track.specs.Held.{Held, StandsFor, present_of, settings}
+use Rattle.sq_track.specs.History.{History}
+use Rattle.squitter_c.specs.declared.tracker_get.PlainPresent.{PlainPresent}
+use Rattle.squitter_c.specs.Trackers.{IsGot, IsHeardThere, IsMade, IsMadeAt, IsReplied, IsTrackerHeard, tracker_in}
+
+-- the fault of an allocation that failed
+abbrev pub no_memory : Fault
+no_memory = fault_of refusals.Memory
+
+-- two trackers are made alike
+abbrev pub OneMade : Type 0
+OneMade = (limit window : ℕ) (site : Option Position) (x y : Option Kept) (fault why : Fault)
+    → IsMade limit window site x fault → IsMade limit window site y why → fault ≢ no_memory → why ≢ no_memory
+    → (tracker_in x ≡ tracker_in y) × (fault ≡ why)
+
+-- two trackers with a site are made alike
+abbrev pub OneMadeAt : Type 0
+OneMadeAt = (limit window : ℕ) (plain : PlainPosition) (x y : Option Kept) (fault why : Fault)
+    → IsMadeAt limit window plain x fault → IsMadeAt limit window plain y why → fault ≢ no_memory → why ≢ no_memory
+    → (tracker_in x ≡ tracker_in y) × (fault ≡ why)
+
+-- what is heard of a frame is one, and so is a history that the tracker stands for afterwards
+abbrev pub OneHearing : Type 0
+OneHearing = (moment : ℕ) (frame : Frame) (t u v : Kept) (old new other : PlainHeard) (fault why : Fault)
+    → IsTrackerHeard moment frame (Some t) (Some u) old new fault
+    → IsTrackerHeard moment frame (Some t) (Some v) old other why
+    → fault ≢ no_memory → why ≢ no_memory → (h : History) → StandsFor t.tracker h → (new ≡ other) × (fault ≡ why)
+    × ((later : History) × StandsFor u.tracker later × StandsFor v.tracker later)
+
+-- what is heard of an array of one frame is what is heard of the frame
+abbrev pub OneOfMany : Type 0
+OneOfMany = (moment : ℕ) (frame : List ℕ) (held after : Option Kept) (old new : PlainHeard) (fault : Fault)
+    → IsHeardThere (moment ∷ []) (frame ∷ []) 0 held after old new fault
+    ↔ IsTrackerHeard moment (frame_of frame) held after old new fault
+
+-- what stands at an index is one
+abbrev pub OneGot : Type 0
+OneGot = (held : Option Kept) (index : ℕ) (old new other : PlainPresent) (fault why : Fault)
+    → IsGot held index old new fault → IsGot held index old other why → (new ≡ other) × (fault ≡ why)
+
+-- What `hear` preserves: the settings, and after an error all of the tracker. Memory runs out only at a position of an
+-- address that is not present.
+abbrev pub HearingKeeps : Type 0
+HearingKeeps = (moment : ℕ) (q : Squitter) (old new : Held) (reply : Result Heard TrackFault)
+    → IsReplied moment q old new reply
+    → (settings new ≡ settings old) × ((fault : TrackFault) → reply ≡ Err fault → new ≡ old)
+    × (reply ≡ Err Memory → IsPosition (squitter_parts q).me
+    × (filter (λ entry. entry.0 == (squitter_parts q).address) (present_of old) ≡ []))

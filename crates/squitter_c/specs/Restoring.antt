@@ -1,0 +1,86 @@
+-- What a tracker that C holds tells of itself, and takes back.
+use Rattle.std.specs.Prelude.{◌≡◌, ◌≢◌, ◌<◌, ◌⊎◌, [], ℕ, List, Option, Some, None, length, take}
+use Rattle.std.specs.Prelude.{slice_get, slice_index_or}
+use Rattle.sq_plain.specs.declared.faults.Fault.{Fault}
+use Rattle.sq_plain.specs.declared.faults.Refusal.TheVariants as refusals
+use Rattle.sq_plain.specs.Faults.{fault_of, none}
+use Rattle.sq_seal.specs.Seal.{Kept}
+use Rattle.sq_track.specs.declared.contact.Contact.{Contact}
+use Rattle.sq_track.specs.Held.{Held, settings}
+use Rattle.sq_track.specs.Restoring.{CanBeRestored, CanFollow}
+use Rattle.squitter_c.specs.declared.entry.PlainEntry.{PlainEntry}
+use Rattle.squitter_c.specs.declared.tracker_save.PlainLast.{PlainLast}
+use Rattle.squitter_c.specs.Entries.{AreEntriesOf, IsEntryOf}
+
+-- the last accepted moment, or that there is none
+abbrev pub IsLast : PlainLast → Option ℕ → Type 0
+IsLast plain (Some last) = (plain.heard ≢ 0) × (plain.moment ≡ last)
+IsLast plain None = plain.heard ≡ 0
+
+-- ---- told
+
+-- an entry at an index is written; elements past the last entry are unchanged
+abbrev pub IsToldAt : Option (ℕ × Contact) → (was is : PlainEntry) → Type 0
+IsToldAt (Some e) was is = IsEntryOf is e
+IsToldAt None was is = is ≡ was
+
+-- the entries are written, the longest unheard first, as many as fit
+pub record AreTold (contacts : List (ℕ × Contact)) (was is : List PlainEntry) : Type 0 where
+  pub long : length is ≡ length was
+  pub each : (k : ℕ) → k < length was → (p : PlainEntry)
+      → IsToldAt (slice_get contacts k) (slice_index_or was k p) (slice_index_or is k p)
+
+-- a tracker's last moment and its entries are written; without a tracker nothing is
+abbrev pub IsSaved : Option Kept → (was is : PlainLast) → (old new : List PlainEntry) → Type 0
+IsSaved (Some k) was is old new =
+    IsLast is k.tracker.last × AreTold k.tracker.contacts old new × CanBeRestored k.tracker
+IsSaved None was is old new = (is ≡ was) × (new ≡ old)
+
+-- ---- taken back
+
+-- the tracker with this last moment, and holding these
+abbrev pub holding : Held → Option ℕ → List (ℕ × Contact) → Held
+holding t last contacts = record t { last = last; contacts = contacts }
+
+-- the tracker that has heard nothing
+abbrev pub unheard : Held → Held
+unheard t = holding t None []
+
+-- the entry at the index is the first that no tracker held, which held those before it
+pub record IsRefusedAt (index : ℕ) (t : Held) (last : Option ℕ) (entries : List PlainEntry) : Type 0 where
+  pub inside : index < length entries
+  pub front : List (ℕ × Contact)
+  pub before : AreEntriesOf (take index entries) front
+  pub held : CanBeRestored (holding t last front)
+  pub address : ℕ
+  pub contact : Contact
+  pub there : (p : PlainEntry) → IsEntryOf (slice_index_or entries index p) (address, contact)
+  pub refused : ¬ (CanFollow (holding t last front) address contact)
+
+-- the tracker holds what the entries stand for, which another may have held
+pub record HasRestored (t : Held) (last : Option ℕ) (entries : List PlainEntry) (new : Held) : Type 0 where
+  pub contacts : List (ℕ × Contact)
+  pub stand : AreEntriesOf entries contacts
+  pub held : CanBeRestored (holding t last contacts)
+  pub is : new ≡ holding t last contacts
+
+-- what becomes of a tracker that is given these
+abbrev pub IsRestoring : (t : Held) → (last : Option ℕ) → List PlainEntry → (new : Held) → Fault → Type 0
+IsRestoring t last entries new fault =
+    (HasRestored t last entries new × (fault ≡ none))
+    ⊎ ((index : ℕ) × IsRefusedAt index t last entries × (new ≡ unheard t) × (fault ≡ fault_of (refusals.Entry index)))
+    ⊎ ((new ≡ unheard t) × (fault ≡ fault_of refusals.Memory))
+
+-- the same where there may be no tracker
+abbrev pub IsRestored : PlainLast → List PlainEntry → (old new : Option Kept) → Fault → Type 0
+IsRestored plain entries (Some k) new fault = (last : Option ℕ) × (after : Held) × IsLast plain last
+    × IsRestoring k.tracker last entries after fault × (new ≡ Some (record k { tracker = after }))
+IsRestored plain entries None new fault = (new ≡ None) × (fault ≡ fault_of refusals.NoTracker)
+
+-- What a tracker told is taken back by one with the same settings, all of it, unless memory runs out.
+abbrev pub RestoredAsSaved : Type 0
+RestoredAsSaved = (k t : Kept) (was is : PlainLast) (old entries : List PlainEntry) (new : Option Kept) (fault : Fault)
+    → IsSaved (Some k) was is old entries → length entries ≡ length k.tracker.contacts
+    → settings t.tracker ≡ settings k.tracker
+    → IsRestored is entries (Some t) new fault → fault ≢ fault_of refusals.Memory
+    → (fault ≡ none) × (new ≡ Some (record t { tracker = k.tracker }))

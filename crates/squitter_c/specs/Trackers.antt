@@ -1,0 +1,112 @@
+-- What is answered of a tracker that C holds.
+use Rattle.std.specs.Prelude.{◌≡◌, ◌≢◌, ◌≤◌, ◌⊎◌, ◌==◌, ⊤, ℕ, List, [], Option, Some, None, Result, Ok, Err, OnErr}
+use Rattle.std.specs.Prelude.{find, option_map, slice_get, slice_index, slice_index_or}
+use Rattle.sq_angle.specs.declared.position.Position.{Position}
+use Rattle.sq_bits.specs.declared.frame.Frame.{Frame}
+use Rattle.sq_message.specs.declared.squitter.FrameFault.{FrameFault}
+use Rattle.sq_message.specs.declared.squitter.Squitter.{Squitter}
+use Rattle.sq_message.specs.Parts.{squitter_parts}
+use Rattle.sq_message.specs.Places.{IsPosition}
+use Rattle.sq_message.specs.Spelling.{IsReading}
+use Rattle.sq_plain.specs.declared.faults.Fault.{Fault}
+use Rattle.sq_plain.specs.declared.faults.Refusal.{Refusal}
+use Rattle.sq_plain.specs.declared.faults.Refusal.TheVariants as refusals
+use Rattle.sq_plain.specs.declared.heard.PlainHeard.{PlainHeard}
+use Rattle.sq_plain.specs.declared.plain.PlainPosition.{PlainPosition}
+use Rattle.sq_plain.specs.Faults.{Tells, fault_of, none, of_frames}
+use Rattle.sq_plain.specs.Frames.{frame_of}
+use Rattle.sq_plain.specs.Heard.{IsPlainHeard}
+use Rattle.sq_plain.specs.Plain.{IsOfDegrees, PlainIsPosition}
+use Rattle.sq_text.specs.declared.faults.LineFault.TheVariants as lines
+use Rattle.sq_lines.specs.States.{HasHeardNothing}
+use Rattle.sq_seal.specs.Seal.{Kept}
+use Rattle.sq_seal.specs.Sizes.{IsRoomFor}
+use Rattle.sq_track.specs.declared.heard.Heard.{Heard}
+use Rattle.sq_track.specs.declared.heard.TrackFault.{TrackFault}
+use Rattle.sq_track.specs.declared.heard.TrackFault.TheVariants.{MomentBack, Full, Memory, NoLimit}
+use Rattle.sq_track.specs.Held.{Held, StandsFor, made_with, present_of, settings}
+use Rattle.sq_track.specs.History.{History}
+use Rattle.sq_track.specs.Replies.{IsReply, history_after}
+use Rattle.squitter_c.specs.declared.tracker_get.PlainPresent.{PlainPresent}
+
+-- the tracker that a listener is
+abbrev pub tracker_in : Option Kept → Option Held
+tracker_in held = option_map (λ k. k.tracker) held
+
+-- a new tracker with these settings, or the reason there is none: `limit` is 0, or memory ran out
+abbrev pub IsMade : (limit window : ℕ) → Option Position → (made : Option Kept) → Fault → Type 0
+IsMade limit window site (Some k) fault =
+    (limit ≢ 0) × StandsFor k.tracker [] × (settings k.tracker ≡ made_with limit window site) × (fault ≡ none)
+    × HasHeardNothing k.log
+IsMade limit window site None fault = ((limit ≡ 0) × (fault ≡ fault_of refusals.NoLimit))
+    ⊎ ((limit ≢ 0) × (fault ≡ fault_of refusals.Memory))
+
+-- a tracker is made only in a block that is large enough for its limit
+abbrev pub IsMadeIn : (limit size : ℕ) → (made : Option Kept) → Type 0
+IsMadeIn limit size (Some k) = (bytes : ℕ) × IsRoomFor limit bytes × (bytes ≤ size)
+IsMadeIn limit size None = ⊤
+
+-- a new tracker with a site, or the reason there is none: first, an invalid site
+abbrev pub IsMadeAt : (limit window : ℕ) → PlainPosition → (made : Option Kept) → Fault → Type 0
+IsMadeAt limit window plain made fault =
+    ((¬ (PlainIsPosition plain)) × (made ≡ None) × (fault ≡ fault_of refusals.NoPosition))
+    ⊎ ((site : Position) × IsOfDegrees plain site × IsMade limit window (Some site) made fault)
+
+-- why a tracker refuses a squitter, as a reason
+abbrev pub of_tracker : TrackFault → Refusal
+of_tracker (MomentBack last) = refusals.Line (lines.MomentBack last)
+of_tracker Full = refusals.Line lines.Full
+of_tracker Memory = refusals.Memory
+of_tracker NoLimit = refusals.NoLimit
+
+-- What a tracker makes of a squitter: by each history that it stands for its reply, and it then stands for the history
+-- after that. A refusal changes nothing. Only a position of an address that is not present may want memory.
+pub record IsReplied (moment : ℕ) (q : Squitter) (old new : Held) (reply : Result Heard TrackFault) : Type 0 where
+  pub by_history : (h : History) → StandsFor old h → IsReply (settings old) h moment q reply
+  pub after : (h : History) → StandsFor old h → StandsFor new (history_after h moment q reply)
+  pub refused : OnErr reply (new ≡ old)
+  pub settings : settings new ≡ settings old
+  pub memory : reply ≡ Err Memory → IsPosition (squitter_parts q).me
+      × (find (λ entry. entry.0 == (squitter_parts q).address) (present_of old) ≡ None)
+
+-- what is heard of a frame that was read so
+abbrev pub IsReadHeard :
+    (moment : ℕ) → Result Squitter FrameFault → (old new : Held) → (was is : PlainHeard) → Fault → Type 0
+IsReadHeard moment (Ok q) old new was is fault = (reply : Result Heard TrackFault)
+    × IsReplied moment q old new reply × Tells IsPlainHeard of_tracker reply was is fault
+IsReadHeard moment (Err reason) old new was is fault =
+    (new ≡ old) × (is ≡ was) × (fault ≡ fault_of (of_frames reason))
+
+-- what a tracker hears of a frame: the frame's fault comes first
+abbrev pub IsHeardBy : (moment : ℕ) → Frame → (old new : Held) → (was is : PlainHeard) → Fault → Type 0
+IsHeardBy moment frame old new was is fault =
+    (answer : Result Squitter FrameFault) × IsReading frame answer × IsReadHeard moment answer old new was is fault
+
+-- what is heard of a frame where there may be no tracker
+abbrev pub IsTrackerHeard :
+    (moment : ℕ) → Frame → (old new : Option Kept) → (was is : PlainHeard) → Fault → Type 0
+IsTrackerHeard moment frame (Some k) new was is fault =
+    (after : Held) × (new ≡ Some (record k { tracker = after })) × IsHeardBy moment frame k.tracker after was is fault
+IsTrackerHeard moment frame None new was is fault =
+    (new ≡ None) × (is ≡ was) × (fault ≡ fault_of refusals.NoTracker)
+
+-- what is heard of the frame at place k, at its moment
+abbrev pub IsHeardThere : (moments : List ℕ) → (frames : List (List ℕ)) → (k : ℕ) → (old new : Option Kept)
+    → (was is : PlainHeard) → Fault → Type 0
+IsHeardThere moments frames k old new was is fault = (frame : List ℕ)
+    → IsTrackerHeard (slice_index moments k) (frame_of (slice_index_or frames k frame)) old new was is fault
+
+-- the present addresses, each with the moment of its newest position, the longest unheard first; none of no tracker
+abbrev pub present_in : Option Kept → List (ℕ × ℕ)
+present_in None = []
+present_in (Some k) = present_of k.tracker
+
+-- the address and the moment that stand at an index, or the fault that none do
+abbrev pub IsShown : Option (ℕ × ℕ) → (was is : PlainPresent) → Fault → Type 0
+IsShown (Some one) was is fault = (is.address ≡ one.0) × (is.moment ≡ one.1) × (fault ≡ none)
+IsShown None was is fault = (is ≡ was) × (fault ≡ fault_of refusals.NoAddress)
+
+-- what stands at an index where there may be no tracker
+abbrev pub IsGot : Option Kept → (index : ℕ) → (was is : PlainPresent) → Fault → Type 0
+IsGot (Some k) index was is fault = IsShown (slice_get (present_of k.tracker) index) was is fault
+IsGot None index was is fault = (is ≡ was) × (fault ≡ fault_of refusals.NoTracker)

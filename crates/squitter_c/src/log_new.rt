@@ -1,0 +1,81 @@
+//! Making, counting and freeing a log.
+ghost use Rattle.std.specs.Prelude.{◌≡◌, None};
+ghost use Rattle.sq_seal.specs.Sizes.{IsRoomFor};
+ghost use Rattle.squitter_c.specs.LogCalls.{IsTallied};
+ghost use Rattle.squitter_c.specs.Trackers.{IsMade, IsMadeAt, IsMadeIn};
+
+use crate::tracker_new::{
+    squitter_tracker_free, squitter_tracker_new, squitter_tracker_new_at, squitter_tracker_size,
+};
+use sq_lent::Room;
+use sq_plain::{Fault, NONE, PlainPosition, Refusal};
+use sq_seal::Slot;
+
+/// How many lines were good, and how many were refused.
+#[repr(C)]
+#[derive(Clone, Copy)]
+pub struct PlainTally {
+    pub good: u64,
+    pub refused: u64,
+}
+
+/// Returns the size of a log in bytes, for a limit of addresses.
+#[unsafe(no_mangle)]
+pub extern "C" fn squitter_log_size(limit: u32) -> usize
+    ensures { IsRoomFor limit result }
+{
+    squitter_tracker_size(limit)
+}
+
+/// Makes an empty log without a site, for up to `limit` addresses and a window in milliseconds. The block belongs to
+/// the log until the log is freed. The faults are those of [`squitter_tracker_new`].
+#[unsafe(no_mangle)]
+pub extern "C" fn squitter_log_new(log: &mut Slot, block: Room, limit: u32, window: u64) -> Fault
+    ensures made { IsMade limit window None log.new.seal.held result }
+    ensures room { IsMadeIn limit block.size log.new.seal.held }
+{
+    squitter_tracker_new(log, block, limit, window)
+}
+
+/// Makes a log with a site for pairs on the ground. The faults are those of [`squitter_tracker_new_at`].
+#[unsafe(no_mangle)]
+pub extern "C" fn squitter_log_new_at(
+    log: &mut Slot,
+    block: Room,
+    limit: u32,
+    window: u64,
+    site: &PlainPosition,
+) -> Fault
+    ensures made { IsMadeAt limit window site.now log.new.seal.held result }
+    ensures room { IsMadeIn limit block.size log.new.seal.held }
+{
+    squitter_tracker_new_at(log, block, limit, window, site)
+}
+
+/// Frees the log. Its block is the caller's again. Safe to call twice, and on a log that was never created.
+#[unsafe(no_mangle)]
+pub extern "C" fn squitter_log_free(log: &mut Slot)
+    ensures { log.new.seal.held ≡ None }
+{
+    squitter_tracker_free(log);
+}
+
+/// Returns the numbers of good and of refused lines so far. The fault is `NoTracker` if there is no log.
+#[unsafe(no_mangle)]
+pub extern "C" fn squitter_log_tally(log: &mut Slot, out: &mut PlainTally) -> Fault
+    ensures tallied { IsTallied log.old.seal.held out.old out.new result }
+    ensures same { log.new.seal.held ≡ log.old.seal.held }
+{
+    match log.take() {
+        Some(taken) => {
+            let tally = taken.log.tally();
+            log.put(taken);
+            *out = PlainTally {
+                good: tally.good,
+                refused: tally.refused,
+            };
+            NONE
+        }
+        None => Fault::of(Refusal::NoTracker),
+    }
+}

@@ -1,0 +1,67 @@
+//! The present addresses.
+ghost use Rattle.std.specs.Prelude.{◌≡◌, length, slice_get};
+ghost use Rattle.sq_track.specs.Held.{present_of};
+ghost use Rattle.squitter_c.specs.Trackers.{IsGot, IsShown, present_in};
+
+use sq_plain::{Fault, NONE, Refusal};
+use sq_seal::Slot;
+use sq_track::Tracker;
+use std::alloc::Allocator;
+
+/// An address that is present, and the moment of its newest position.
+#[repr(C)]
+#[derive(Clone, Copy)]
+pub struct PlainPresent {
+    pub moment: u64,
+    pub address: u32,
+}
+
+/// How many addresses are present, never more than the limit; 0 where there is no tracker.
+#[unsafe(no_mangle)]
+pub extern "C" fn squitter_tracker_len(tracker: &mut Slot) -> usize
+    ensures len { result ≡ length (present_in tracker.old.seal.held) }
+    ensures same { tracker.new.seal.held ≡ tracker.old.seal.held }
+{
+    match tracker.take() {
+        Some(taken) => {
+            let count = taken.tracker.len();
+            tracker.put(taken);
+            count
+        }
+        None => 0,
+    }
+}
+
+/// The present address at an index, the longest unheard first, with the moment of its newest position. The faults are
+/// `NoTracker`, and then `NoAddress`, from `squitter_tracker_len` on. The time grows with the index.
+#[unsafe(no_mangle)]
+pub extern "C" fn squitter_tracker_get(
+    tracker: &mut Slot,
+    index: usize,
+    out: &mut PlainPresent,
+) -> Fault
+    ensures got { IsGot tracker.old.seal.held index out.old out.new result }
+    ensures same { tracker.new.seal.held ≡ tracker.old.seal.held }
+{
+    match tracker.take() {
+        Some(taken) => {
+            let fault = show(&taken.tracker, index, out);
+            tracker.put(taken);
+            fault
+        }
+        None => Fault::of(Refusal::NoTracker),
+    }
+}
+
+// Writes the address at an index, or reports that there is none.
+fn show<A: Allocator>(tracker: &Tracker<A>, index: usize, out: &mut PlainPresent) -> Fault
+    ensures { IsShown (slice_get (present_of tracker.now) index) out.old out.new result }
+{
+    match tracker.get(index) {
+        Some((address, moment)) => {
+            *out = PlainPresent { moment, address };
+            NONE
+        }
+        None => Fault::of(Refusal::NoAddress),
+    }
+}

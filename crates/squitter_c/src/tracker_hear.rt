@@ -1,0 +1,98 @@
+//! Hearing a frame.
+ghost use Rattle.sq_plain.specs.Faults.{Tells, fault_of};
+ghost use Rattle.sq_plain.specs.Frames.{frame_of};
+ghost use Rattle.sq_plain.specs.Heard.{IsPlainHeard};
+ghost use Rattle.std.specs.Prelude.{◌≡◌, option_map};
+ghost use Rattle.squitter_c.specs.Trackers.{IsHeardBy, IsTrackerHeard, of_tracker};
+
+use sq_bits::Frame;
+use sq_lent::Lent;
+use sq_message::read_frame;
+use sq_plain::{Fault, LineFault, NONE, PlainHeard, Refusal, plain_heard};
+use sq_seal::{Listener, Slot};
+use sq_track::{Heard, TrackFault, Tracker};
+use std::alloc::Allocator;
+
+/// Hears a frame at a moment: what is heard of it, by the frames that the tracker accepted before. The faults are, in
+/// this order: `NoTracker`; the frame's, `NotDf17` and `Parity`; `MomentBack` with the last accepted moment, where the
+/// moment is below it; `Full`, where the frame carries a position and as many other addresses as the limit are present;
+/// `Memory`, where an allocation fails. At a fault the tracker is unchanged.
+#[unsafe(no_mangle)]
+pub extern "C" fn squitter_tracker_hear(
+    tracker: &mut Slot,
+    moment: u64,
+    frame: &[u8; 14],
+    out: &mut PlainHeard,
+) -> Fault
+    ensures { IsTrackerHeard moment (frame_of frame.now) tracker.old.seal.held tracker.new.seal.held
+        out.old out.new result }
+{
+    let mut held = tracker.take();
+    let fault = hear_in(&mut held, moment, frame, out);
+    tracker.put_back(held);
+    fault
+}
+
+// Hears a frame by what a slot held.
+#[inline(always)]
+pub(crate) fn hear_in(
+    held: &mut Option<Box<Listener, Lent>>,
+    moment: u64,
+    frame: &[u8; 14],
+    out: &mut PlainHeard,
+) -> Fault
+    ensures { IsTrackerHeard moment (frame_of frame.now) (option_map (λ b. b.value) held.old)
+        (option_map (λ b. b.value) held.new) out.old out.new result }
+{
+    match held {
+        Some(taken) => hear_by(&mut taken.tracker, moment, &Frame(*frame), out),
+        None => Fault::of(Refusal::NoTracker),
+    }
+}
+
+// Hears a frame.
+#[inline(always)]
+fn hear_by<A: Allocator>(
+    tracker: &mut Tracker<A>,
+    moment: u64,
+    frame: &Frame,
+    out: &mut PlainHeard,
+) -> Fault
+    ensures { IsHeardBy moment frame.now tracker.old tracker.new out.old out.new result }
+{
+    match read_frame(frame) {
+        Ok(squitter) => {
+            let answer = tracker.hear(moment, &squitter);
+            tell(&answer, out)
+        }
+        Err(fault) => Fault::of(Refusal::Line(fault.into())),
+    }
+}
+
+// Writes what was heard, or reports why nothing was.
+#[inline(always)]
+fn tell(answer: &Result<Heard, TrackFault>, out: &mut PlainHeard) -> Fault
+    ensures { Tells IsPlainHeard of_tracker answer.now out.old out.new result }
+{
+    match answer {
+        Ok(heard) => {
+            *out = plain_heard(heard);
+            NONE
+        }
+        Err(fault) => fault_of_tracker(fault),
+    }
+}
+
+// Why a tracker refuses a squitter, as a fault.
+#[cold]
+#[inline(never)]
+pub(crate) fn fault_of_tracker(fault: &TrackFault) -> Fault
+    ensures { result ≡ fault_of (of_tracker fault.now) }
+{
+    match fault {
+        TrackFault::MomentBack(last) => Fault::of(Refusal::Line(LineFault::MomentBack(*last))),
+        TrackFault::Full => Fault::of(Refusal::Line(LineFault::Full)),
+        TrackFault::Memory => Fault::of(Refusal::Memory),
+        TrackFault::NoLimit => Fault::of(Refusal::NoLimit),
+    }
+}

@@ -1,0 +1,36 @@
+//! Many frames in one call: at each place what the call by itself answers.
+ghost use Rattle.std.specs.Prelude.{◌≡◌, length, min};
+ghost use Rattle.sq_plain.specs.Many.{IsBelow, Leads, shortest};
+ghost use Rattle.squitter_c.specs.Trackers.{IsHeardThere};
+
+use crate::tracker_hear::hear_in;
+use sq_plain::{Fault, PlainHeard};
+use sq_seal::Slot;
+
+/// Hears frames one after the other, each at its moment, as [`squitter_tracker_hear`] does. A frame at fault leaves the
+/// tracker and its place of `out` as they were, with the fault at its place of `faults`, and the next one is heard. The
+/// shortest of the arrays counts, and the answer is how many frames that are. What lies beyond is as it was.
+#[unsafe(no_mangle)]
+pub extern "C" fn squitter_tracker_hear_many(
+    tracker: &mut Slot,
+    moments: &[u64],
+    frames: &[[u8; 14]],
+    out: &mut [PlainHeard],
+    faults: &mut [Fault],
+) -> usize
+    ensures count { result ≡ min (length moments.now)
+        (shortest (length frames.now) (length out.old) (length faults.old)) }
+    ensures each { Leads (IsHeardThere moments.now frames.now) tracker.old.seal.held out.old out.new faults.new
+        result tracker.new.seal.held }
+    ensures rest { IsBelow out.old out.new faults.old faults.new result }
+{
+    let count = moments
+        .len()
+        .min(frames.len().min(out.len().min(faults.len())));
+    let mut held = tracker.take();
+    for at in 0..count {
+        faults[at] = hear_in(&mut held, moments[at], &frames[at], &mut out[at]);
+    }
+    tracker.put_back(held);
+    count
+}

@@ -1,0 +1,72 @@
+//! Restoring a saved tracker.
+ghost use Rattle.std.specs.Prelude.{◌≡◌, Option, None, Some};
+ghost use Rattle.squitter_c.specs.Restoring.{IsLast, IsRestored, IsRestoring};
+
+use crate::entry::{PlainEntry, contact_of};
+use crate::tracker_save::PlainLast;
+use sq_plain::{Fault, NONE, Refusal};
+use sq_seal::Slot;
+use sq_track::{RestoreFault, Tracker};
+use std::alloc::Allocator;
+
+/// Replaces a tracker's entries and last moment by those that [`squitter_tracker_save`] wrote. Its limit, window and
+/// site stay.
+///
+/// The faults are, in this order: `NoTracker` if there is no tracker; `Entry` with its index, for the first entry that
+/// no tracker with this limit, window and last moment can hold after the entries before it; `Memory` if an allocation
+/// fails. After `Entry` or `Memory` the tracker is empty.
+#[unsafe(no_mangle)]
+pub extern "C" fn squitter_tracker_restore(
+    tracker: &mut Slot,
+    last: &PlainLast,
+    entries: &[PlainEntry],
+) -> Fault
+    ensures { IsRestored last.now entries.now tracker.old.seal.held tracker.new.seal.held result }
+{
+    match tracker.take() {
+        Some(taken) => {
+            let mut taken = taken;
+            let fault = restore(&mut taken.tracker, moment_of(last), entries);
+            tracker.put(taken);
+            fault
+        }
+        None => Fault::of(Refusal::NoTracker),
+    }
+}
+
+fn moment_of(last: &PlainLast) -> Option<u64>
+    ensures { IsLast last.now result }
+{
+    if last.heard == 0 {
+        None
+    } else {
+        Some(last.moment)
+    }
+}
+
+// Replaces a tracker's entries and last moment.
+fn restore<A: Allocator>(
+    tracker: &mut Tracker<A>,
+    last: Option<u64>,
+    entries: &[PlainEntry],
+) -> Fault
+    ensures { IsRestoring tracker.old last entries.now tracker.new result }
+{
+    tracker.resume(last);
+    for at in 0..entries.len() {
+        let entry = &entries[at];
+        let contact = contact_of(entry);
+        match tracker.restore(entry.address, &contact) {
+            Ok(()) => {}
+            Err(RestoreFault::Refused) => {
+                tracker.resume(None);
+                return Fault::of(Refusal::Entry(at as u64));
+            }
+            Err(RestoreFault::Memory) => {
+                tracker.resume(None);
+                return Fault::of(Refusal::Memory);
+            }
+        }
+    }
+    NONE
+}

@@ -1,2 +1,0 @@
-pub mod Trackers
-pub mod OneAnswers
