@@ -1,28 +1,27 @@
 /* squitter.h - libsquitter: ADS-B position squitters (DF17), read, decoded and written exactly.
  *
- * Each call is proved to meet its contract; README.md beside this file says what that covers. There is no floating
- * point in it: an angle is a fraction of whole numbers, in degrees, and an answer is the exact point of the standard's
- * grid.
+ * Each call is proved to meet its contract; README.md beside this file says what that covers. The library uses
+ * no floating point. An angle is a fraction of whole numbers, in degrees; a position is an exact point of the
+ * standard's grid.
  *
- * FRAMES. A frame is 14 bytes, as a receiver has them: byte 0 holds the downlink format. Any 14 bytes may be given.
+ * FRAMES. A frame is 14 bytes; byte 0 holds the downlink format. Any 14 bytes may be given.
  *
- * FAULTS. Nearly every call answers a squitter_fault. Its code is SQUITTER_OK (0) where there is an answer, which then
- * stands in *out. Else the code says what is wrong, the first thing in the order that the call states, and *out is as
- * it was. squitter_text_of_fault writes it as words.
+ * FAULTS. Nearly every call returns a squitter_fault. If its code is SQUITTER_OK (0), the result is in *out. Otherwise
+ * the code is the first error, in the order that the call lists them, and *out is unchanged. squitter_text_of_fault
+ * writes a fault in words.
  *
- * NUMBERS. Every value of every number is allowed, in arguments and in fields: what is out of range is answered by a
- * fault.
+ * NUMBERS. Any value of any number may be passed, in arguments and in fields; the call returns a fault if it is out of
+ * range.
  *
- * POINTERS. What a caller owes is what C's own rules ask for:
- *   - no pointer is null (a text of length 0 too points somewhere), each is aligned for its type and points to a whole
- *     object, which lives through the call;
- *   - *out overlaps no other argument, and while a call runs nobody else writes what it reads, or reads or writes *out;
- *   - a text is `length` bytes, has no need of a zero at its end, and is shorter than 2^63 bytes.
+ * POINTERS. The caller must keep the rules of C:
+ *   - no pointer is null (not even that of a text of length 0); each is aligned for its type and points to a whole
+ *     object that lives through the call;
+ *   - *out overlaps no other argument; while a call runs, nothing else writes its inputs, or reads or writes *out;
+ *   - a text has `length` bytes, fewer than 2^63, and needs no zero at its end.
  *
- * No call takes memory, keeps a pointer, blocks, has state or touches errno: calls may run side by side on threads, and
- * in signal handlers. Those of a tracker (squitter_tracker_*) alone take memory, by malloc and realloc, and give it
- * back, by free: they may run side by side for different trackers. Structs are laid out as written, and the bytes
- * between fields mean nothing. */
+ * No call allocates memory, blocks, has static state or touches errno. Only the _new and _new_at calls keep a pointer:
+ * the one to the block. Calls may run in parallel on threads and in signal handlers, but never two on the same tracker,
+ * log or feed. Structs are laid out as written; padding bytes have no meaning. */
 #ifndef SQUITTER_H
 #define SQUITTER_H
 
@@ -54,7 +53,7 @@ extern "C" {
 #define SQUITTER_PURE
 #endif
 
-/* The version of this header: 65536 * major + 256 * minor + patch. squitter_version() answers the library's. */
+/* The version of this header: 65536 * major + 256 * minor + patch. squitter_version() returns the library's. */
 #define SQUITTER_VERSION 256
 
 #define SQUITTER_FRAME_BYTES 14      /* of a frame */
@@ -62,7 +61,7 @@ extern "C" {
 #define SQUITTER_ANGLE_TEXT_BYTES 16 /* room for an angle's text and the zeros after it */
 #define SQUITTER_FAULT_TEXT_BYTES 64 /* room for a fault's text and the zeros after it */
 
-/* What a call answers. `first` and `second` are 0 but where a code says otherwise. */
+/* The error that a call returns, or OK. `first` and `second` are 0 unless the code's comment names them. */
 typedef struct squitter_fault {
   uint32_t code;   /* one of the codes below */
   uint32_t second;
@@ -72,46 +71,49 @@ typedef struct squitter_fault {
 enum {
   SQUITTER_OK = 0,
   /* of frame texts and frames */
-  SQUITTER_WRAP = 1,             /* one of `*` and `;` stands without the other */
+  SQUITTER_WRAP = 1,             /* one of `*` and `;` without the other */
   SQUITTER_SHORT = 2,            /* the body has 14 bytes: a reply of 56 bits */
   SQUITTER_LENGTH = 3,           /* the body has `first` bytes, neither 28 nor 14 */
-  SQUITTER_DIGIT = 4,            /* byte `first` of the body, from 1, is the first that is no hexadecimal digit */
+  SQUITTER_DIGIT = 4,            /* byte `first` of the body, from 1, is the first that is not a hexadecimal digit */
   SQUITTER_NOT_DF17 = 5,         /* the downlink format is `first`, not 17 */
   SQUITTER_PARITY = 6,           /* the remainder of the parity is `first`, not 0 */
-  /* of places: the first that applies */
-  SQUITTER_NOT_POSITION = 10,    /* a squitter carries no position */
+  /* of positions: the first that applies */
+  SQUITTER_NOT_POSITION = 10,    /* the squitter carries no position */
   SQUITTER_OTHER_ADDRESS = 11,   /* the addresses of a pair differ */
   SQUITTER_OTHER_KIND = 12,      /* one of a pair is in the air and one on the ground */
   SQUITTER_SAME_PARITY = 13,     /* both of a pair are even, or both are odd */
-  SQUITTER_NO_SITE = 14,         /* a pair on the ground wants a site */
+  SQUITTER_NO_SITE = 14,         /* a surface pair needs a receiver position (site) */
   SQUITTER_OUT_OF_RANGE = 15,    /* a latitude would lie outside -90 to 90 degrees */
-  SQUITTER_ZONE_COUNTS = 16,     /* the zone counts (NL) of a pair's even and odd latitudes, `first` and `second`, differ */
+  SQUITTER_ZONE_COUNTS = 16,     /* the zone counts (NL) of a pair's latitudes, even `first`, odd `second`, differ */
   /* of arguments */
-  SQUITTER_BAD_POSITION = 20,    /* the reference, the site or the position is no position */
-  SQUITTER_BAD_FIELDS = 21,      /* a field of a head, or of an altitude, lies outside its range */
-  SQUITTER_BAD_ANGLE = 22,       /* the fraction is no angle */
-  SQUITTER_BAD_LATITUDE = 23,    /* the fraction is no latitude */
-  SQUITTER_BAD_FEET = 24,        /* no altitude field means these feet */
+  SQUITTER_BAD_POSITION = 20,    /* the reference, the site or the position is invalid */
+  SQUITTER_BAD_FIELDS = 21,      /* a field of a head, or of an altitude, is out of range */
+  SQUITTER_BAD_ANGLE = 22,       /* the fraction is not a valid angle */
+  SQUITTER_BAD_LATITUDE = 23,    /* the fraction is not a valid latitude */
+  SQUITTER_BAD_FEET = 24,        /* no altitude field encodes these feet */
   SQUITTER_BAD_PARITY = 25,      /* the parity is neither 0 nor 1 */
   /* of the texts of angles */
   SQUITTER_NOT_A_NUMBER = 30,    /* not an optional `-`, one to three digits, and optionally a point and digits */
-  SQUITTER_TOO_MANY_DECIMALS = 31, /* more than twelve digits stand after the point */
+  SQUITTER_TOO_MANY_DECIMALS = 31, /* more than twelve digits after the point */
   SQUITTER_ANGLE_RANGE = 32,     /* the magnitude is above 360 degrees */
-  /* of moments */
-  SQUITTER_MOMENT_BACK = 42,     /* the moment lies before the last one, which is `first` */
-  /* of the program's logs; no call here answers one of these */
+  /* of timestamps */
+  SQUITTER_MOMENT_BACK = 42,     /* the timestamp is before the last one, `first` */
+  /* of the lines of a log; these come before the faults of frames and of timestamps */
   SQUITTER_LONG_LINE = 40,       /* a line has more than 64 bytes */
-  SQUITTER_BAD_MOMENT = 41,      /* a line does not begin with a moment */
-  /* of trackers */
+  SQUITTER_BAD_MOMENT = 41,      /* a line does not begin with a timestamp */
+  /* of trackers, logs and feeds */
   SQUITTER_TABLE_FULL = 43,      /* as many other addresses as the limit are present */
-  SQUITTER_NO_MEMORY = 44,       /* an allocation failed */
+  SQUITTER_NO_MEMORY = 44,       /* the block is too small */
   SQUITTER_NO_LIMIT = 45,        /* the limit is 0 */
-  SQUITTER_NO_TRACKER = 46,      /* there is no tracker */
-  SQUITTER_NO_ADDRESS = 47       /* no address stands at the index */
+  SQUITTER_NO_TRACKER = 46,      /* there is no tracker, no log, or no feed */
+  SQUITTER_NO_ADDRESS = 47,      /* no address is at the index */
+  SQUITTER_LONG_LOG = 48,        /* a log has 2^63 lines, or a piece more than 2^61 bytes */
+  SQUITTER_BAD_FORMAT = 49,      /* no format has this number, or the bytes show no format */
+  SQUITTER_BAD_ENTRY = 50        /* no tracker with the same settings can hold the entry at index `first` */
 };
 
-/* num / den degrees. An angle has a den from 1 to 10^12 and a magnitude of at most 360 degrees. What a call writes is
- * in lowest terms, with 0 as 0/1, but for the fix of an entry, which is a place as it was worked out. */
+/* num / den degrees. A valid angle has a den from 1 to 10^12 and a magnitude of at most 360 degrees. Calls write angles
+ * in lowest terms, with 0 as 0/1, except in the fix of an entry and in a squitter_answer. */
 typedef struct squitter_angle {
   int64_t num;
   uint64_t den;
@@ -134,7 +136,7 @@ enum {
   SQUITTER_GROUND = 2  /* a surface position, type codes 5 to 8 */
 };
 
-/* What an altitude field means. */
+/* The meaning of an altitude field. */
 enum {
   SQUITTER_NO_ALTITUDE = 0,     /* none is sent */
   SQUITTER_FEET = 1,            /* feet, a multiple of 25 from -1000 to 50175 */
@@ -162,14 +164,16 @@ typedef struct squitter_fields {
   uint8_t track;         /* on the ground: below 128, raw */
 } squitter_fields;
 
-/* All of an airborne position squitter but its place; ranges as in squitter_fields, type codes of kind air alone. */
+/* The fields of an airborne position squitter, except its position. Ranges are those of squitter_fields; the type code
+ * is one of kind air. */
 typedef struct squitter_air_head {
   uint32_t address;
   uint16_t altitude;
   uint8_t ca, type_code, status, flag, time, odd;
 } squitter_air_head;
 
-/* All of a surface position squitter but its place; ranges as in squitter_fields, type codes of kind ground alone. */
+/* The fields of a surface position squitter, except its position. Ranges are those of squitter_fields; the type code is
+ * one of kind ground. */
 typedef struct squitter_ground_head {
   uint32_t address;
   uint8_t ca, type_code, movement, track_status, track, time, odd;
@@ -181,49 +185,54 @@ typedef struct squitter_altitude {
   uint8_t form;
 } squitter_altitude;
 
-/* The zones in which a place lies. With YZ and XZ, the code of its frame (`lat` and `lon` in squitter_fields), its
- * latitude is degrees / lat_zones * (lat_zone + YZ / 2^17), and its longitude
- * degrees / lon_zones * (lon_zone + XZ / 2^17), less 360 degrees from 180 up. */
+/* The zones that a position lies in. YZ and XZ are the CPR code of its frame (`lat` and `lon` in squitter_fields). Its
+ * latitude is degrees / lat_zones * (lat_zone + YZ / 2^17). Its longitude is
+ * degrees / lon_zones * (lon_zone + XZ / 2^17), minus 360 degrees if that is 180 or more. */
 typedef struct squitter_zones {
   int32_t lat_zone;    /* the zone of latitude, j: negative in the south */
   uint32_t lon_zone;   /* the zone of longitude, m: from 0, eastwards from the prime meridian */
-  uint32_t degrees;    /* what the zones share: 360 in the air, 90 on the ground */
+  uint32_t degrees;    /* the degrees that the zones divide: 360 in the air, 90 on the ground */
   uint8_t lat_zones;   /* 60 even, 59 odd */
-  uint8_t zone_count;  /* of the place's latitude, NL */
+  uint8_t zone_count;  /* of the position's latitude, NL */
   uint8_t lon_zones;   /* NL even; odd, one less and at least 1 */
   uint8_t odd;
 } squitter_zones;
 
-/* What is kept of one address, for squitter_hear. The caller holds it, in an array, a map or a file: it is plain data,
- * may be copied, and is empty where all its bytes are 0, as calloc and memset leave it. Each value of each field is
- * allowed: a frame that spells no squitter, and a position that is none, count as nothing kept. One thread at a time
- * may let an entry hear. Its numbers have the byte order of the machine, also in a file. */
-typedef struct squitter_received { /* a frame, and its moment */
+/* State of one address of a tracker, as squitter_tracker_save writes it. It is plain data, so it may be copied and
+ * stored in a file; numbers have the machine's byte order. All bytes of an absent frame or fix are 0. A frame that is
+ * not a squitter counts as absent, and so does a position that is out of range. */
+typedef struct squitter_received { /* a frame, and its timestamp */
   uint64_t moment;
   uint8_t frame[14];
 } squitter_received;
 
-typedef struct squitter_last_fix { /* the position of the newest fix or followed place, and its moment */
+typedef struct squitter_last_fix { /* the position of the newest fix or followed position, and its timestamp */
   uint64_t moment;
   squitter_position position;
 } squitter_last_fix;
 
-typedef struct squitter_side { /* what is kept in the air, or on the ground */
+typedef struct squitter_side { /* in the air, or on the ground */
   squitter_received even, odd;
   squitter_last_fix fix;
 } squitter_side;
 
 typedef struct squitter_entry {
-  uint64_t last;   /* the moment of its newest frame */
-  uint64_t newest; /* the moment of its newest position */
+  uint64_t moment; /* timestamp of its newest position */
+  uint32_t address;
   squitter_side airborne, surface;
 } squitter_entry;
 
-/* What is heard of a frame: the first of these that applies. */
+/* Timestamp of the last frame that a tracker accepted. `heard` is 1, or 0 if the tracker has accepted no frame. */
+typedef struct squitter_last {
+  uint64_t moment;
+  uint64_t heard;
+} squitter_last;
+
+/* The result for a frame: the first of these that applies. */
 enum {
-  SQUITTER_FIX = 1,          /* its place, of it and the newest frame of its kind and of the other parity */
-  SQUITTER_FOLLOWED = 2,     /* its place near the last fix of its kind, where WAITING or SPLIT would be answered */
-  SQUITTER_WAITING = 3,      /* there is no such frame within the window */
+  SQUITTER_FIX = 1,          /* position from this frame and the newest frame of its kind with the other parity */
+  SQUITTER_FOLLOWED = 2,     /* position near the last fix of its kind, instead of WAITING or SPLIT */
+  SQUITTER_WAITING = 3,      /* no frame of its kind with the other parity within the window */
   SQUITTER_SPLIT = 4,        /* the zone counts of the pair's latitudes, `even` and `odd`, differ */
   SQUITTER_FAR = 5,          /* a latitude of the pair would lie outside -90 to 90 degrees */
   SQUITTER_WITHOUT_SITE = 6, /* the pair is on the ground, and no site is given */
@@ -231,221 +240,394 @@ enum {
 };
 
 typedef struct squitter_heard {
-  squitter_position position; /* of FIX and FOLLOWED, in lowest terms; else 0/0 and 0/0, which is no position */
-  uint8_t what;               /* one of the seven */
+  squitter_position position; /* of FIX and FOLLOWED, in lowest terms; else 0/0 and 0/0, an invalid position */
+  uint8_t what;               /* one of the seven results above */
   uint8_t even, odd;          /* of SPLIT; else 0 */
 } squitter_heard;
 
-/* A tracker of all addresses at once, as `squitter track` has it: squitter_tracker_new makes it, and
- * squitter_tracker_free gives its memory back. The caller lends these 16 bytes, all 0 at first
- * (`squitter_tracker tracker = {0, 0};`), which is no tracker, and then neither writes to them nor uses a copy of them:
- * what they hold is the library's own. */
+/* Memory that the caller provides: `memory` points to `size` bytes, aligned to 16 bytes as malloc aligns them. */
+typedef struct squitter_block {
+  size_t size;
+  void *memory;
+} squitter_block;
+
+/* A tracker of many addresses, as `squitter track` uses it. Initialise it to zero, which means no tracker:
+ * `squitter_tracker tracker = {0, 0};`. From squitter_tracker_new to squitter_tracker_free the caller must not write to
+ * these 16 bytes or to the block, or use a copy of them. */
 typedef struct squitter_tracker {
   uint64_t full;
   void *at;
 } squitter_tracker;
 
-/* An address that is present in a tracker, and the moment of its newest position. */
+/* An address that is present in a tracker, and the timestamp of its newest position. */
 typedef struct squitter_present {
   uint64_t moment;
   uint32_t address;
 } squitter_present;
 
+/* A log that is passed in pieces and decoded as by `squitter track`. The rules for squitter_tracker apply. */
+typedef struct squitter_log {
+  uint64_t full;
+  void *at;
+} squitter_log;
+
+/* The result for a line of a log. For a refused line, all but `number` and `fault` is 0. */
+typedef struct squitter_answer {
+  uint64_t number;             /* of the line, from 1 */
+  uint64_t moment;
+  squitter_heard heard;        /* its position is not in lowest terms */
+  squitter_fault fault;        /* why the line is refused; OK for a good line */
+  squitter_degrees_e7 degrees; /* the position of FIX and FOLLOWED, in units of 10^-7 degree; else 0 */
+  uint32_t address;            /* the ICAO address */
+  int32_t feet;                /* the altitude if altitude_form is SQUITTER_FEET; else 0 */
+  uint8_t kind;                /* SQUITTER_OTHER, SQUITTER_AIR or SQUITTER_GROUND */
+  uint8_t altitude_form;       /* in the air: SQUITTER_NO_ALTITUDE, SQUITTER_FEET or SQUITTER_OTHER_ALTITUDE */
+} squitter_answer;
+
+/* Progress of a call on a piece. */
+typedef struct squitter_done {
+  size_t taken;   /* bytes of the piece */
+  size_t written; /* elements of the output */
+} squitter_done;
+
+/* Numbers of good lines and of refused lines. */
+typedef struct squitter_tally {
+  uint64_t good, refused;
+} squitter_tally;
+
+/* A feed finds the squitters in a receiver's bytes, with their timestamps. The rules for squitter_tracker apply. */
+typedef struct squitter_feed {
+  uint64_t full;
+  void *at;
+} squitter_feed;
+
+/* Counts of the items of a source. `found` is the sum of all other counts; at 2^64 - 1 all counts stop. */
+typedef struct squitter_counts {
+  uint64_t found;
+  uint64_t written;        /* squitters, with a timestamp */
+  uint64_t mode_ac;        /* replies of Mode A/C */
+  uint64_t multilaterated; /* frames that a server computed by multilateration */
+  uint64_t damaged;        /* bytes outside messages, and frames of the wrong length for their downlink format */
+  uint64_t aside;          /* squitters that were set aside because of their time */
+  uint64_t formats[25];    /* frames of each downlink format other than 17; [24] counts formats 24 and above */
+} squitter_counts;
+
 /* ---- Texts and frames ---- */
 
-/* The frame of a frame text: 28 hexadecimal digits of either case, bare or between `*` and `;`.
+/* Parses a frame text: 28 hexadecimal digits of either case, bare or between `*` and `;`.
  * Faults: WRAP, SHORT, LENGTH, DIGIT. */
 squitter_fault squitter_frame_of_text(const char *text, size_t length, uint8_t SQUITTER_BYTES(out, 14)) SQUITTER_CALL;
 
-/* The text of a frame: 28 upper-case hexadecimal digits. No zero is written after them. */
+/* Writes the text of a frame: 28 upper-case hexadecimal digits, without a zero at the end. */
 void squitter_text_of_frame(const uint8_t SQUITTER_CONST_BYTES(frame, 14), char SQUITTER_BYTES(out, 28)) SQUITTER_WRITE;
 
-/* The fields of the squitter that a frame text spells. Faults: those of squitter_frame_of_text, then NOT_DF17,
- * PARITY. */
+/* Reads the fields of a squitter from a frame text. Faults: those of squitter_frame_of_text, then NOT_DF17, PARITY. */
 squitter_fault squitter_read_text(const char *text, size_t length,
                                   squitter_fields *SQUITTER_RESTRICT out) SQUITTER_CALL;
 
-/* The fields of the squitter that a frame spells. Faults: NOT_DF17, PARITY. */
+/* Reads the fields of a squitter from a frame. Faults: NOT_DF17, PARITY. */
 squitter_fault squitter_read_frame(const uint8_t SQUITTER_CONST_BYTES(frame, 14),
                                    squitter_fields *SQUITTER_RESTRICT out) SQUITTER_CALL;
 
-/* ---- Places ---- */
+/* ---- Positions ---- */
 
-/* The place of a frame near a reference: the one point with the frame's code that lies within half a zone of it.
- * Faults: BAD_POSITION (the reference), NOT_DF17, PARITY, NOT_POSITION, OUT_OF_RANGE. */
+/* Decodes the position of a frame near a reference: the one point with the frame's code within half a zone of the
+ * reference. Faults: BAD_POSITION (the reference), NOT_DF17, PARITY, NOT_POSITION, OUT_OF_RANGE. */
 squitter_fault squitter_local(const uint8_t SQUITTER_CONST_BYTES(frame, 14), const squitter_position *reference,
                               squitter_position *SQUITTER_RESTRICT out) SQUITTER_CALL;
 
-/* The zones in which that place lies: how it comes about. Faults: those of squitter_local. */
+/* Writes the zones that the position of squitter_local lies in. Faults: those of squitter_local. */
 squitter_fault squitter_local_zones(const uint8_t SQUITTER_CONST_BYTES(frame, 14), const squitter_position *reference,
                                     squitter_zones *SQUITTER_RESTRICT out) SQUITTER_CALL;
 
-/* The place of the newer of an even and an odd frame of one address in the air, which were sent from nearly one place.
- * Faults: NOT_DF17, PARITY (of the older, then of the newer), NOT_POSITION, OTHER_ADDRESS, OTHER_KIND, SAME_PARITY,
- * NO_SITE (for every pair on the ground), OUT_OF_RANGE, ZONE_COUNTS. */
+/* Decodes the position of the newer of an even and an odd airborne frame. Both have the same address, and were sent
+ * from nearly the same position. Faults: NOT_DF17, PARITY (of the older, then of the newer), NOT_POSITION,
+ * OTHER_ADDRESS, OTHER_KIND, SAME_PARITY, NO_SITE (for every surface pair), OUT_OF_RANGE, ZONE_COUNTS. */
 squitter_fault squitter_pair(const uint8_t SQUITTER_CONST_BYTES(older, 14),
                              const uint8_t SQUITTER_CONST_BYTES(newer, 14),
                              squitter_position *SQUITTER_RESTRICT out) SQUITTER_CALL;
 
-/* The same with a site, which a pair on the ground wants: of its four places the one within 45 degrees of the site. A
- * pair in the air does not look at it. Faults: BAD_POSITION (the site), and then those of squitter_pair but NO_SITE. */
+/* The same with a receiver position (the site). A surface pair has four candidate positions; the result is the one
+ * within 45 degrees of the site. An airborne pair does not use the site. Faults: BAD_POSITION (the site), then those of
+ * squitter_pair except NO_SITE. */
 squitter_fault squitter_pair_at(const uint8_t SQUITTER_CONST_BYTES(older, 14),
                                 const uint8_t SQUITTER_CONST_BYTES(newer, 14), const squitter_position *site,
                                 squitter_position *SQUITTER_RESTRICT out) SQUITTER_CALL;
 
-/* ---- Hearing ---- */
-
-/* Hears one frame more of an address: what is heard of it, by the frames that were heard before it, as the program
- * `squitter track` answers. `entry` is what is kept of the frame's address: the caller looks it up by the address that
- * squitter_read_frame answers, and lets it hear no frame of another address. Moments and the window are in
- * milliseconds, or in any other unit. The other frame of a fix, and the last fix that is followed, are at most the
- * window older. Whatever an entry keeps, also one from elsewhere, what is heard is that of its frames and fix, and all
- * of them stay but those that this frame replaces: so the window may grow from call to call. At a fault *entry and *out
- * are as they were. Faults: NOT_DF17, PARITY, MOMENT_BACK. */
-squitter_fault squitter_hear(squitter_entry *SQUITTER_RESTRICT entry, uint64_t window, uint64_t moment,
-                             const uint8_t SQUITTER_CONST_BYTES(frame, 14),
-                             squitter_heard *SQUITTER_RESTRICT out) SQUITTER_CALL;
-
-/* The same with a site, which pairs on the ground want. Faults: BAD_POSITION (the site), and then those of
- * squitter_hear. */
-squitter_fault squitter_hear_at(squitter_entry *SQUITTER_RESTRICT entry, uint64_t window, const squitter_position *site,
-                                uint64_t moment, const uint8_t SQUITTER_CONST_BYTES(frame, 14),
-                                squitter_heard *SQUITTER_RESTRICT out) SQUITTER_CALL;
-
 /* ---- A tracker ---- */
 
-/* Makes an empty tracker for up to `limit` addresses, without a site. An address is present while it has a position
- * that is at most the window older than the last moment that was heard. A tracker that is there is freed first; at a
- * fault there is none. Faults: NO_LIMIT (the limit is 0), NO_MEMORY. The program has a limit of 1000 and a window of
- * 10000 milliseconds. */
-squitter_fault squitter_tracker_new(squitter_tracker *tracker, uint32_t limit, uint64_t window) SQUITTER_CALL;
+/* Returns the size in bytes of the block for a tracker of up to `limit` addresses: 730 thousand for 1000. */
+size_t squitter_tracker_size(uint32_t limit) SQUITTER_PURE;
 
-/* The same with a site, which pairs on the ground want. Faults: BAD_POSITION (the site), and then those of
+/* Creates an empty tracker for up to `limit` addresses in the block, without a receiver position. An address is
+ * present while its newest position is at most `window` milliseconds older than the last accepted frame. An existing
+ * tracker is freed first. After a fault there is no tracker, and the block is the caller's. Faults: NO_LIMIT (the limit
+ * is 0), NO_MEMORY (the block is smaller than squitter_tracker_size returns). The program uses a limit of 1000 and a
+ * window of 10000. */
+squitter_fault squitter_tracker_new(squitter_tracker *tracker, squitter_block block, uint32_t limit,
+                                    uint64_t window) SQUITTER_CALL;
+
+/* The same with a receiver position, which surface pairs need. Faults: BAD_POSITION (the site), then those of
  * squitter_tracker_new. */
-squitter_fault squitter_tracker_new_at(squitter_tracker *SQUITTER_RESTRICT tracker, uint32_t limit, uint64_t window,
-                                       const squitter_position *site) SQUITTER_CALL;
+squitter_fault squitter_tracker_new_at(squitter_tracker *SQUITTER_RESTRICT tracker, squitter_block block,
+                                       uint32_t limit, uint64_t window, const squitter_position *site) SQUITTER_CALL;
 
-/* Frees the tracker. Safe to call twice, and on a tracker that was never created: {0, 0}. */
+/* Frees the tracker; its block is the caller's again. Safe to call twice, and on a tracker that was never created. */
 void squitter_tracker_free(squitter_tracker *tracker) SQUITTER_WRITE;
 
-/* Hears a frame: what is heard of it, by the frames that the tracker accepted before. Memory is taken for an address
- * that is not present alone, and the time of a call does not grow with the number of addresses. At a fault the tracker
- * and *out are as they were. Faults: NO_TRACKER, NOT_DF17, PARITY, MOMENT_BACK, TABLE_FULL, NO_MEMORY. */
+/* Adds a frame with its timestamp, and writes the result from this frame and all frames accepted before it. The time of
+ * a call does not grow with the number of addresses. After a fault the tracker and *out are unchanged. Faults:
+ * NO_TRACKER, NOT_DF17, PARITY, MOMENT_BACK, TABLE_FULL. */
 squitter_fault squitter_tracker_hear(squitter_tracker *SQUITTER_RESTRICT tracker, uint64_t moment,
                                      const uint8_t SQUITTER_CONST_BYTES(frame, 14),
                                      squitter_heard *SQUITTER_RESTRICT out) SQUITTER_CALL;
 
-/* squitter_tracker_hear of each frame at its moment, one after the other, as the calls of arrays below do: the answer
- * is how many. */
+/* Calls squitter_tracker_hear for each frame in turn, and returns the number of frames. The rules under Arrays, below,
+ * apply. */
 size_t squitter_tracker_hear_many(squitter_tracker *SQUITTER_RESTRICT tracker, const uint64_t *moments,
                                   size_t moments_count, const uint8_t (*frames)[14], size_t frames_count,
                                   squitter_heard *SQUITTER_RESTRICT out, size_t out_count,
                                   squitter_fault *SQUITTER_RESTRICT faults, size_t faults_count) SQUITTER_CALL;
 
-/* How many addresses are present, at most the limit; 0 where there is no tracker. */
+/* Returns the number of present addresses, at most the limit; 0 without a tracker. */
 size_t squitter_tracker_len(squitter_tracker *tracker) SQUITTER_CALL;
 
-/* The present address at an index, the longest unheard first. The time grows with the index. Faults: NO_TRACKER,
- * NO_ADDRESS (from squitter_tracker_len on). */
+/* Writes the present address at an index, the longest silent first. The time grows with the index. Faults: NO_TRACKER,
+ * NO_ADDRESS (the index is at least squitter_tracker_len). */
 squitter_fault squitter_tracker_get(squitter_tracker *SQUITTER_RESTRICT tracker, size_t index,
                                     squitter_present *SQUITTER_RESTRICT out) SQUITTER_CALL;
 
+/* Writes the state of a tracker: *last, and the entries of the present addresses, as many as fit, the longest silent
+ * first. Returns the number of present addresses. Without a tracker it returns 0 and writes nothing. */
+size_t squitter_tracker_save(squitter_tracker *SQUITTER_RESTRICT tracker, squitter_last *SQUITTER_RESTRICT last,
+                             squitter_entry *SQUITTER_RESTRICT entries, size_t entries_count) SQUITTER_CALL;
+
+/* Replaces the state of a tracker by one that squitter_tracker_save wrote. The tracker keeps its limit, window and
+ * site. Refuses a state that no tracker with these settings and this *last can hold:
+ *   - more entries than the limit, or an address twice;
+ *   - an address that is not present at last->moment;
+ *   - an entry with an earlier timestamp than the entry before it;
+ *   - a frame of another address, kind or parity;
+ *   - a frame or a fix newer than the newest position.
+ * A restored fix may lie anywhere. Faults: NO_TRACKER, BAD_ENTRY (`first` is the index). After BAD_ENTRY the tracker is
+ * as if it had heard no frame. */
+squitter_fault squitter_tracker_restore(squitter_tracker *SQUITTER_RESTRICT tracker, const squitter_last *last,
+                                        const squitter_entry *entries, size_t entries_count) SQUITTER_CALL;
+
+/* ---- A log ---- */
+
+/* Returns the size in bytes of the block for a log of up to `limit` addresses. */
+size_t squitter_log_size(uint32_t limit) SQUITTER_PURE;
+
+/* Creates a log without lines in the block, with a tracker as squitter_tracker_new creates it. Faults: NO_LIMIT,
+ * NO_MEMORY. */
+squitter_fault squitter_log_new(squitter_log *log, squitter_block block, uint32_t limit, uint64_t window) SQUITTER_CALL;
+
+/* The same with a receiver position, which surface pairs need. Faults: BAD_POSITION (the site), then those of
+ * squitter_log_new. */
+squitter_fault squitter_log_new_at(squitter_log *SQUITTER_RESTRICT log, squitter_block block, uint32_t limit,
+                                   uint64_t window, const squitter_position *site) SQUITTER_CALL;
+
+/* Frees the log; its block is the caller's again. Safe to call twice, and on a log that was never created. */
+void squitter_log_free(squitter_log *log) SQUITTER_WRITE;
+
+/* Takes the next piece of the log, of any length, and writes the results of its lines, as many as fit. An empty line
+ * has no result. done->taken counts the bytes that were taken, done->written the results. If the call returns OK and
+ * done->written < out_count, it took the whole piece and wrote the result of each line with a line feed. Otherwise call
+ * again with the bytes that were not taken. Faults: NO_TRACKER (there is no log), LONG_LOG (2^63 lines, or a piece of
+ * more than 2^61 bytes). After a fault nothing has changed. */
+squitter_fault squitter_log_take(squitter_log *SQUITTER_RESTRICT log, const char *piece, size_t length,
+                                 squitter_answer *SQUITTER_RESTRICT out, size_t out_count,
+                                 squitter_done *SQUITTER_RESTRICT done) SQUITTER_CALL;
+
+/* Writes the results of the lines that still wait, and of a last line without a line feed. If the call returns OK and
+ * done->written < out_count, all results are written; otherwise call again. Faults: those of squitter_log_take. */
+squitter_fault squitter_log_finish(squitter_log *SQUITTER_RESTRICT log, squitter_answer *SQUITTER_RESTRICT out,
+                                   size_t out_count, squitter_done *SQUITTER_RESTRICT done) SQUITTER_CALL;
+
+/* The formats of `squitter track --format`. */
+enum {
+  SQUITTER_LINES = 0,
+  SQUITTER_CSV = 1,
+  SQUITTER_JSON = 2
+};
+
+#define SQUITTER_HEADER_BYTES 64       /* room for the header of a format and the zeros after it */
+#define SQUITTER_ANSWER_TEXT_BYTES 512 /* the most that the text of one line takes */
+
+/* Writes the header of a format and zeros after it: the column names of CSV; empty for other formats. */
+void squitter_log_header(uint32_t format, char SQUITTER_BYTES(out, 64)) SQUITTER_WRITE;
+
+/* Like squitter_log_take, but writes the lines that the program prints, without a zero at the end. A line is started
+ * only if there is room for SQUITTER_ANSWER_TEXT_BYTES. If the call returns OK and done->written + 512 <= out_count, it
+ * took the whole piece. Faults: NO_TRACKER, BAD_FORMAT, LONG_LOG. */
+squitter_fault squitter_log_take_text(squitter_log *SQUITTER_RESTRICT log, uint32_t format, const char *piece,
+                                      size_t length, char *SQUITTER_RESTRICT out, size_t out_count,
+                                      squitter_done *SQUITTER_RESTRICT done) SQUITTER_CALL;
+
+/* Like squitter_log_finish, but writes the lines that the program prints. If the call returns OK and
+ * done->written + 512 <= out_count, all lines are written; otherwise call again. Faults: those of
+ * squitter_log_take_text. */
+squitter_fault squitter_log_finish_text(squitter_log *SQUITTER_RESTRICT log, uint32_t format,
+                                        char *SQUITTER_RESTRICT out, size_t out_count,
+                                        squitter_done *SQUITTER_RESTRICT done) SQUITTER_CALL;
+
+/* Writes the numbers of good and of refused lines so far. Fault: NO_TRACKER. */
+squitter_fault squitter_log_tally(squitter_log *SQUITTER_RESTRICT log,
+                                  squitter_tally *SQUITTER_RESTRICT out) SQUITTER_CALL;
+
+/* ---- A feed ---- */
+
+/* The formats of a source. */
+enum {
+  SQUITTER_FEED_BEAST = 0, /* Beast binary */
+  SQUITTER_FEED_AVR = 1,   /* AVR text, with clocks or without */
+  SQUITTER_FEED_CSV = 2,   /* CSV: columns `time` (s) and `rawmsg`; if no header names them, columns 1 and 3 */
+  SQUITTER_FEED_LOG = 3    /* a log: a timestamp (ms), a space and a frame on each line */
+};
+
+#define SQUITTER_LINE_BYTES 50 /* the most that one line of a log takes */
+
+/* Detects the format of a source from its first bytes. Three consecutive messages without damage between them show
+ * Beast. The end of a line shows a text format, if this or an earlier line has a frame. The first byte that shows a
+ * format decides. Fault: BAD_FORMAT (the bytes show no format). */
+squitter_fault squitter_feed_format(const char *bytes, size_t length, uint32_t *SQUITTER_RESTRICT out) SQUITTER_CALL;
+
+/* Returns the size in bytes of the block for a feed. */
+size_t squitter_feed_size(void) SQUITTER_PURE;
+
+/* Creates a feed in the block, at the start of a source. A gap above `leap` milliseconds is a jump of the source's
+ * clock. `is_live` is 0 for a recorded source; `arrival` has no effect then. For a live source, `arrival` is the time
+ * (ms) when the bytes were received, and the timestamp of frames without a clock. An existing feed is freed first.
+ * After a fault there is no feed, and the block is the caller's. Faults: BAD_FORMAT, NO_MEMORY (the block is smaller
+ * than squitter_feed_size returns). squitter-feed uses a leap of 10000. */
+squitter_fault squitter_feed_new(squitter_feed *feed, squitter_block block, uint32_t format, uint64_t leap,
+                                 uint32_t is_live) SQUITTER_CALL;
+
+/* Frees the feed; its block is the caller's again. Safe to call twice, and on a feed that was never created. */
+void squitter_feed_free(squitter_feed *feed) SQUITTER_WRITE;
+
+/* Takes the next bytes of the source, of any number. Writes the timestamps (ms) and frames of their squitters, as many
+ * as fit both arrays. The arrays can go straight to squitter_tracker_hear_many. Timestamps never go back.
+ * done->taken counts the bytes that were taken, done->written the squitters. If done->written is below both array
+ * lengths, all bytes were taken. Otherwise call again with the bytes that were not taken. The squitters do not depend
+ * on how the source is cut into pieces. Fault: NO_TRACKER if there is no feed; nothing is changed then. */
+squitter_fault squitter_feed_take(squitter_feed *SQUITTER_RESTRICT feed, const char *piece, size_t length,
+                                  uint64_t arrival, uint64_t *SQUITTER_RESTRICT moments, size_t moments_count,
+                                  uint8_t (*SQUITTER_RESTRICT frames)[14], size_t frames_count,
+                                  squitter_done *SQUITTER_RESTRICT done) SQUITTER_CALL;
+
+/* Ends the source. If the last frame is complete and a squitter, the call writes it; done->written is 0 or 1. The next
+ * bytes belong to another source. Without room for a squitter, nothing is changed. Fault: NO_TRACKER. */
+squitter_fault squitter_feed_finish(squitter_feed *SQUITTER_RESTRICT feed, uint64_t arrival,
+                                    uint64_t *SQUITTER_RESTRICT moments, size_t moments_count,
+                                    uint8_t (*SQUITTER_RESTRICT frames)[14], size_t frames_count,
+                                    squitter_done *SQUITTER_RESTRICT done) SQUITTER_CALL;
+
+/* Like squitter_feed_take, but writes the squitters as lines for `squitter track`, without a zero at the end. A line is
+ * started only if there is room for SQUITTER_LINE_BYTES. If done->written + 50 <= out_count, all bytes were taken.
+ * Fault: NO_TRACKER if there is no feed; nothing is changed then. */
+squitter_fault squitter_feed_take_text(squitter_feed *SQUITTER_RESTRICT feed, const char *piece, size_t length,
+                                       uint64_t arrival, char *SQUITTER_RESTRICT out, size_t out_count,
+                                       squitter_done *SQUITTER_RESTRICT done) SQUITTER_CALL;
+
+/* Like squitter_feed_finish, but writes the squitter as a line. With less room than SQUITTER_LINE_BYTES, nothing is
+ * changed. Fault: NO_TRACKER. */
+squitter_fault squitter_feed_finish_text(squitter_feed *SQUITTER_RESTRICT feed, uint64_t arrival,
+                                         char *SQUITTER_RESTRICT out, size_t out_count,
+                                         squitter_done *SQUITTER_RESTRICT done) SQUITTER_CALL;
+
+/* Drops an unfinished frame after a lost connection, and counts it as damaged. The next bytes belong to a new
+ * connection: its clock starts afresh, and timestamps do not go back. Fault: NO_TRACKER. */
+squitter_fault squitter_feed_disconnected(squitter_feed *feed) SQUITTER_CALL;
+
+/* Writes the counts of the items so far. Fault: NO_TRACKER. */
+squitter_fault squitter_feed_counts(squitter_feed *SQUITTER_RESTRICT feed,
+                                    squitter_counts *SQUITTER_RESTRICT out) SQUITTER_CALL;
+
 /* ---- Arrays ---- */
 
-/* Many calls in one. At place k of `out` and of `faults` stands what the call by itself answers for place k of the
- * others; at a fault that place of `out` is as it was. Each array has its number of elements after it; the shortest
- * counts, and the answer is how many places that are. What lies beyond is as it was. An array may have no element, and
- * then its pointer too points somewhere. `out` and `faults` overlap no other argument. */
+/* One call for many elements. Element k of `out` and of `faults` is what the single call writes and returns for
+ * element k of the other arrays; after a fault that element of `out` is unchanged. Each array is followed by its
+ * length. The shortest length counts, and is returned; elements beyond it are unchanged. An array may be empty, but
+ * its pointer is not null. `out` and `faults` overlap no other argument. */
 
-/* squitter_read_frame of each frame. */
+/* Calls squitter_read_frame for each frame. */
 size_t squitter_read_many(const uint8_t (*frames)[14], size_t frames_count, squitter_fields *SQUITTER_RESTRICT out,
                           size_t out_count, squitter_fault *SQUITTER_RESTRICT faults,
                           size_t faults_count) SQUITTER_CALL;
 
-/* squitter_local of each frame near the reference of its place. */
+/* Calls squitter_local for each frame and its reference. */
 size_t squitter_local_many(const uint8_t (*frames)[14], size_t frames_count, const squitter_position *references,
                            size_t references_count, squitter_position *SQUITTER_RESTRICT out, size_t out_count,
                            squitter_fault *SQUITTER_RESTRICT faults, size_t faults_count) SQUITTER_CALL;
 
-/* squitter_pair of each older frame and the newer one of its place. */
+/* Calls squitter_pair for each older frame and its newer one. */
 size_t squitter_pair_many(const uint8_t (*older)[14], size_t older_count, const uint8_t (*newer)[14],
                           size_t newer_count, squitter_position *SQUITTER_RESTRICT out, size_t out_count,
                           squitter_fault *SQUITTER_RESTRICT faults, size_t faults_count) SQUITTER_CALL;
 
-/* squitter_pair_at of the same, with one site. */
+/* Calls squitter_pair_at for each pair, with one site. */
 size_t squitter_pair_at_many(const uint8_t (*older)[14], size_t older_count, const uint8_t (*newer)[14],
                              size_t newer_count, const squitter_position *site,
                              squitter_position *SQUITTER_RESTRICT out, size_t out_count,
                              squitter_fault *SQUITTER_RESTRICT faults, size_t faults_count) SQUITTER_CALL;
 
-/* squitter_hear of each frame at its moment, one after the other: each call finds the entry as the one before left
- * it. */
-size_t squitter_hear_many(squitter_entry *SQUITTER_RESTRICT entry, uint64_t window, const uint64_t *moments,
-                          size_t moments_count, const uint8_t (*frames)[14], size_t frames_count,
-                          squitter_heard *SQUITTER_RESTRICT out, size_t out_count,
-                          squitter_fault *SQUITTER_RESTRICT faults, size_t faults_count) SQUITTER_CALL;
-
-/* squitter_hear_at of the same. */
-size_t squitter_hear_at_many(squitter_entry *SQUITTER_RESTRICT entry, uint64_t window, const squitter_position *site,
-                             const uint64_t *moments, size_t moments_count, const uint8_t (*frames)[14],
-                             size_t frames_count, squitter_heard *SQUITTER_RESTRICT out, size_t out_count,
-                             squitter_fault *SQUITTER_RESTRICT faults, size_t faults_count) SQUITTER_CALL;
-
-/* squitter_position_e7 of each position. */
+/* Calls squitter_position_e7 for each position. */
 size_t squitter_position_e7_many(const squitter_position *positions, size_t positions_count,
                                  squitter_degrees_e7 *SQUITTER_RESTRICT out, size_t out_count,
                                  squitter_fault *SQUITTER_RESTRICT faults, size_t faults_count) SQUITTER_CALL;
 
 /* ---- Sending ---- */
 
-/* The frame that is sent of a position in the air, with the code of the point to which the position rounds.
+/* Encodes the frame for an airborne position. The frame has the code of the point that the position rounds to.
  * Faults: BAD_FIELDS (the head), BAD_POSITION. */
 squitter_fault squitter_encode_air(const squitter_air_head *head, const squitter_position *position,
                                    uint8_t SQUITTER_BYTES(out, 14)) SQUITTER_CALL;
 
-/* The same on the ground. */
+/* The same for a surface position. */
 squitter_fault squitter_encode_ground(const squitter_ground_head *head, const squitter_position *position,
                                       uint8_t SQUITTER_BYTES(out, 14)) SQUITTER_CALL;
 
-/* The frame with this parity (0 even, 1 odd) and the code of this position, and all else as it was: the squitter, sent
- * again from there. Faults: BAD_PARITY, BAD_POSITION, NOT_DF17, PARITY, NOT_POSITION. */
+/* Encodes the frame again with this parity (0 even, 1 odd) and the code of this position; its other fields stay.
+ * Faults: BAD_PARITY, BAD_POSITION, NOT_DF17, PARITY, NOT_POSITION. */
 squitter_fault squitter_send_again(const uint8_t SQUITTER_CONST_BYTES(frame, 14), uint8_t odd,
                                    const squitter_position *position, uint8_t SQUITTER_BYTES(out, 14)) SQUITTER_CALL;
 
 /* ---- Parts ---- */
 
-/* The number of longitude zones at a latitude (NL), from 1 to 59. Fault: BAD_LATITUDE. */
+/* Writes the number of longitude zones at a latitude (NL), from 1 to 59. Fault: BAD_LATITUDE. */
 squitter_fault squitter_zone_count(const squitter_angle *lat, uint8_t *SQUITTER_RESTRICT out) SQUITTER_CALL;
 
-/* The text of an angle with seven decimals, rounded, ties away from zero: at most 12 bytes, and zeros after them.
+/* Writes an angle with seven decimals, rounded half away from zero: at most 12 bytes, and zeros after them.
  * Fault: BAD_ANGLE. */
 squitter_fault squitter_text_of_angle(const squitter_angle *angle, char SQUITTER_BYTES(out, 16)) SQUITTER_CALL;
 
-/* The angle in units of 10^-7 degree, rounded half away from zero, as its text with seven decimals is.
+/* Writes the angle in units of 10^-7 degree, rounded half away from zero like its text with seven decimals.
  * Fault: BAD_ANGLE. */
 squitter_fault squitter_angle_e7(const squitter_angle *angle, int64_t *SQUITTER_RESTRICT out) SQUITTER_CALL;
 
-/* The same of both coordinates of a position. Fault: BAD_POSITION. */
+/* The same for both coordinates of a position. Fault: BAD_POSITION. */
 squitter_fault squitter_position_e7(const squitter_position *position,
                                     squitter_degrees_e7 *SQUITTER_RESTRICT out) SQUITTER_CALL;
 
-/* The angle that a text spells: an optional `-`, one to three digits, and optionally a point and one to twelve digits.
+/* Parses an angle: an optional `-`, one to three digits, and optionally a point and one to twelve digits.
  * Faults: NOT_A_NUMBER, TOO_MANY_DECIMALS, ANGLE_RANGE. */
 squitter_fault squitter_angle_of_text(const char *text, size_t length,
                                       squitter_angle *SQUITTER_RESTRICT out) SQUITTER_CALL;
 
-/* What an altitude field of 12 bits means in an airborne position of this type code. Fault: BAD_FIELDS. */
+/* Decodes an altitude field of 12 bits in an airborne position of this type code. Fault: BAD_FIELDS. */
 squitter_fault squitter_feet_of_field(uint8_t type_code, uint16_t field,
                                       squitter_altitude *SQUITTER_RESTRICT out) SQUITTER_CALL;
 
-/* The altitude field, in steps of 25 feet, that means so many feet: a multiple of 25 from -1000 to 50175.
+/* Encodes an altitude as a field in steps of 25 feet. Valid `feet` are multiples of 25 from -1000 to 50175.
  * Fault: BAD_FEET. */
 squitter_fault squitter_field_of_feet(int32_t feet, uint16_t *SQUITTER_RESTRICT out) SQUITTER_CALL;
 
-/* The words of a fault, those of the program `squitter` where it has some, and zeros after them. */
+/* Writes the words of a fault, those of the program `squitter` if it has any, and zeros after them. */
 void squitter_text_of_fault(const squitter_fault *fault, char SQUITTER_BYTES(out, 64)) SQUITTER_WRITE;
 
-/* The version of the library, as SQUITTER_VERSION is the header's. */
+/* Returns the version of the library; SQUITTER_VERSION is the header's. */
 uint32_t squitter_version(void) SQUITTER_PURE;
 
 #if defined __STDC_VERSION__ && __STDC_VERSION__ >= 201112L
@@ -466,10 +648,16 @@ SQUITTER_SIZE(squitter_received, 24);
 SQUITTER_SIZE(squitter_last_fix, 40);
 SQUITTER_SIZE(squitter_side, 88);
 SQUITTER_SIZE(squitter_entry, 192);
+SQUITTER_SIZE(squitter_last, 16);
 SQUITTER_SIZE(squitter_heard, 40);
 SQUITTER_SIZE(squitter_degrees_e7, 8);
 SQUITTER_SIZE(squitter_tracker, 16);
 SQUITTER_SIZE(squitter_present, 16);
+SQUITTER_SIZE(squitter_log, 16);
+SQUITTER_SIZE(squitter_answer, 96);
+SQUITTER_SIZE(squitter_tally, 16);
+SQUITTER_SIZE(squitter_feed, 16);
+SQUITTER_SIZE(squitter_counts, 248);
 
 #ifdef __cplusplus
 }

@@ -1,9 +1,10 @@
 """ADS-B position squitters (DF17), read, decoded and written exactly: libsquitter for Python.
 
-Angles are ``fractions.Fraction`` in degrees, so nothing is rounded. Whole numbers, ``decimal.Decimal`` and texts such
-as ``"52.25"`` are taken too. A float is refused, since its digits are not those that were written. A frame is 14 bytes,
-or its text of 28 hexadecimal digits, bare or between ``*`` and ``;``. What has no answer raises a :class:`Fault`, whose
-text is the library's; a value that does not fit a C number of its field is refused by the fault that the field has.
+Angles are ``fractions.Fraction`` in degrees, so nothing is rounded. Whole numbers, ``decimal.Decimal``, texts such as
+``"52.25"`` and floats are taken too. A float counts as its shortest text, which is how it was written: 52.31 is
+5231/100. A frame is 14 bytes, or its text of 28 hexadecimal digits, bare or between ``*`` and ``;``. A call without a
+result raises a :class:`Fault` with the library's text. A value that does not fit its field in C raises the fault of
+that field.
 
 >>> import squitter
 >>> squitter.read("8D40621D58C382D690C8AC2863A7").feet
@@ -17,26 +18,23 @@ from __future__ import annotations
 import ctypes
 import enum
 import operator
-import threading
-import weakref
 from dataclasses import dataclass
 from decimal import Decimal
 from fractions import Fraction
 from numbers import Rational
-from typing import (
-    Any, Iterable, Iterator, List, NamedTuple, Optional, Sequence, SupportsIndex, Tuple, Type, TypeVar, Union,
-)
+from typing import Iterable, Iterator, List, NamedTuple, Optional, Sequence, Tuple, Type, TypeVar, Union
 
 from squitter._library import (
-    _FRAME, _AirHead, _Altitude, _Angle, _DegreesE7, _Entry, _Fault, _Fields, _GroundHead, _Heard, _Position, _Present,
-    _Tracker, _Zones, _fits, _frames, _lib, _read_angle, _text, _times,
+    _FRAME, _AirHead, _Altitude, _Angle, _DegreesE7, _Fault, _Fields, _GroundHead, _Heard, _Position, _Zones,
+    _fits, _frames, _layout, _lib, _read_angle, _text,
 )
 
 __all__ = [
-    "AirHead", "Altitude", "AltitudeForm", "Code", "Contact", "Fault", "Fields", "Frame", "GroundHead", "Heard", "Kind",
-    "Position", "Present", "Tracker", "What", "Zones", "angle", "angle_e7", "angle_text", "encode", "fault_text",
-    "feet_of_field", "field_of_feet", "frame", "frame_text", "local", "local_many", "local_zones", "pair", "pair_many",
-    "position_e7", "read", "read_many", "send_again", "version", "zone_count",
+    "AirHead", "Altitude", "AltitudeForm", "Code", "Contact", "Counts", "Fault", "Feed", "FeedFormat", "Fields",
+    "Format", "Frame", "GroundHead", "Heard", "Kind", "Log", "Position", "Present", "Tally", "Tracker", "What",
+    "Zones", "angle", "angle_e7", "angle_text", "encode", "fault_text", "feed_format", "feet_of_field",
+    "field_of_feet", "frame", "frame_text", "local", "local_many", "local_zones", "pair", "pair_many", "position_e7",
+    "read", "read_many", "send_again", "version", "zone_count",
 ]
 
 Frame = Union[bytes, bytearray, str]
@@ -45,8 +43,8 @@ Frame = Union[bytes, bytearray, str]
 Frames = Union[bytes, bytearray, memoryview]
 """Frames one after the other, 14 bytes each."""
 
-Degrees = Union[int, Rational, Decimal, str]
-"""An exact number of degrees: an int, a Fraction, a Decimal or a text. A float is refused."""
+Degrees = Union[int, Rational, Decimal, str, float]
+"""A number of degrees: an int, a Fraction, a Decimal, a text or a float. The float 52.31 counts as the text "52.31"."""
 
 
 class Code(enum.IntEnum):
@@ -83,6 +81,9 @@ class Code(enum.IntEnum):
     NO_LIMIT = 45
     NO_TRACKER = 46
     NO_ADDRESS = 47
+    LONG_LOG = 48
+    BAD_FORMAT = 49
+    BAD_ENTRY = 50
 
 
 class Kind(enum.IntEnum):
@@ -94,7 +95,7 @@ class Kind(enum.IntEnum):
 
 
 class AltitudeForm(enum.IntEnum):
-    """What an altitude field means: nothing sent, feet, or another form."""
+    """The meaning of an altitude field: nothing sent, feet, or another form."""
 
     NONE = 0
     FEET = 1
@@ -102,7 +103,7 @@ class AltitudeForm(enum.IntEnum):
 
 
 class What(enum.IntEnum):
-    """What is heard of a frame: the first of these that applies."""
+    """The result for a frame: the first of these that applies."""
 
     FIX = 1
     FOLLOWED = 2
@@ -114,17 +115,18 @@ class What(enum.IntEnum):
 
 
 class Fault(ValueError):
-    """Why a call has no answer: the first thing that is wrong. ``str`` of it is the library's text."""
+    """The first error of a call. Its ``str`` is the library's text, followed by a hint if there is one."""
 
-    def __init__(self, code: int, first: int = 0, second: int = 0) -> None:
+    def __init__(self, code: int, first: int = 0, second: int = 0, hint: str = "") -> None:
         self.code = Code(code)
         self.first = first
         self.second = second
-        super().__init__(fault_text(code, first, second))
+        self.hint = hint
+        super().__init__(fault_text(code, first, second) + (f": {hint}" if hint else ""))
 
-    def __reduce__(self) -> Tuple[type, Tuple[int, int, int]]:
-        """What a copy, or another process of a pool, makes the fault of."""
-        return type(self), (int(self.code), self.first, self.second)
+    def __reduce__(self) -> Tuple[type, Tuple[int, int, int, str]]:
+        """Returns the class and the arguments that copies and pickles of the fault are made from."""
+        return type(self), (int(self.code), self.first, self.second, self.hint)
 
 
 class Position(NamedTuple):
@@ -157,18 +159,18 @@ class Fields(NamedTuple):
 
     @property
     def lat_code(self) -> int:
-        """The code of the latitude, 17 bits: the field `lat`, which is no number of degrees."""
+        """The CPR code of the latitude, 17 bits: the field `lat`, which is not in degrees."""
         return self.lat
 
     @property
     def lon_code(self) -> int:
-        """The code of the longitude, 17 bits: the field `lon`, which is no number of degrees."""
+        """The CPR code of the longitude, 17 bits: the field `lon`, which is not in degrees."""
         return self.lon
 
 
 @dataclass(frozen=True)
 class AirHead:
-    """All of an airborne position squitter but its place."""
+    """The fields of an airborne position squitter, except its position."""
 
     address: int
     altitude: int = 0
@@ -182,7 +184,7 @@ class AirHead:
 
 @dataclass(frozen=True)
 class GroundHead:
-    """All of a surface position squitter but its place."""
+    """The fields of a surface position squitter, except its position."""
 
     address: int
     ca: int = 4
@@ -195,10 +197,10 @@ class GroundHead:
 
 
 class Zones(NamedTuple):
-    """How a place comes about. With the code ``lat`` and ``lon`` of its frame, its latitude is
-    ``degrees / lat_zones * (lat_zone + lat / 2**17)``, and its longitude
-    ``degrees / lon_zones * (lon_zone + lon / 2**17)``, less 360 degrees from 180 up. ``zone_count`` is NL of its
-    latitude."""
+    """The zones that a position lies in. ``lat`` and ``lon`` are the CPR code of its frame. Its latitude is
+    ``degrees / lat_zones * (lat_zone + lat / 2**17)``. Its longitude is
+    ``degrees / lon_zones * (lon_zone + lon / 2**17)``, minus 360 degrees if that is 180 or more. ``zone_count`` is the
+    NL of its latitude."""
 
     lat_zone: int
     lon_zone: int
@@ -210,14 +212,14 @@ class Zones(NamedTuple):
 
 
 class Altitude(NamedTuple):
-    """What an altitude field means; ``feet`` is 0 in the other forms."""
+    """The meaning of an altitude field; ``feet`` is 0 in the other forms."""
 
     form: AltitudeForm
     feet: int
 
 
 class Heard(NamedTuple):
-    """What is heard of a frame: which of the seven, the place where there is one, and the zone counts of a split."""
+    """The result for a frame: one of the seven kinds, the position if there is one, and the zone counts of a split."""
 
     what: What
     position: Optional[Position]
@@ -226,7 +228,7 @@ class Heard(NamedTuple):
 
 
 class Present(NamedTuple):
-    """An address that is present in a tracker, and the moment of its newest position."""
+    """An address that is present in a tracker, and the timestamp of its newest position."""
 
     address: int
     moment: int
@@ -236,28 +238,30 @@ class Present(NamedTuple):
 
 
 def _done(fault: _Fault) -> None:
-    """Raises the fault, unless it is none."""
+    """Raises the fault, unless its code is OK."""
     if fault.code:
         raise Fault(fault.code, fault.first, fault.second)
 
 
 def _exact(degrees: Degrees, code: Code) -> Rational:
-    """An exact number as a fraction. One that is none, or far too large, is refused with this code."""
+    """Returns an exact number as a fraction. Raises a Fault with this code if it is not finite or far too large."""
     if isinstance(degrees, str):
         return angle(degrees)
     if isinstance(degrees, Decimal):
         if not degrees.is_finite() or degrees.adjusted() > 20 or int(degrees.as_tuple().exponent) < -400:
             raise Fault(code)
         return Fraction(degrees)
+    if isinstance(degrees, float):
+        # A subclass of float may have its own repr, as NumPy's has.
+        return _exact(Decimal(float.__repr__(degrees)), code)
     if not isinstance(degrees, Rational):
-        written = f": write '{degrees!r}' for these digits, or Fraction({degrees!r}) for the float itself"
-        raise TypeError(f"degrees are an int, a Fraction, a Decimal or a text, and not {type(degrees).__name__}"
-                        + (written if isinstance(degrees, float) else ""))
+        raise TypeError("degrees are an int, a Fraction, a Decimal, a float or a text, not "
+                        f"{type(degrees).__name__}")
     return degrees
 
 
 def _angle(degrees: Degrees, code: Code) -> _Angle:
-    """The fraction of an exact number; a numerator or denominator that is too large is refused with this code."""
+    """Returns an exact number as C takes it. Raises a Fault with this code if numerator or denominator is too large."""
     degrees = _exact(degrees, code)
     num, den = int(degrees.numerator), int(degrees.denominator)
     if not -1 << 63 <= num < 1 << 63 or not _fits(den, 64):
@@ -266,12 +270,15 @@ def _angle(degrees: Degrees, code: Code) -> _Angle:
 
 
 def _position(position: Position) -> _Position:
-    lat, lon = position
+    try:
+        lat, lon = position
+    except (TypeError, ValueError):
+        raise TypeError(f"a position is a Position, or a latitude and a longitude, not {position!r:.60}") from None
     return _Position(_angle(lat, Code.BAD_POSITION), _angle(lon, Code.BAD_POSITION))
 
 
 def _look(here: Optional[_Position]) -> None:
-    """Raises BAD_POSITION for a position that is none: near it nothing is decoded, whatever the frame."""
+    """Raises the Fault BAD_POSITION for an invalid position, whatever the frame."""
     if here is not None:
         fault = _lib.squitter_local(bytes(14), ctypes.byref(here), ctypes.byref(_Position()))
         if fault.code == Code.BAD_POSITION:
@@ -279,7 +286,7 @@ def _look(here: Optional[_Position]) -> None:
 
 
 def _frame_near(source: Frame, here: Optional[_Position]) -> bytes:
-    """The bytes of a frame. Where its text is at fault, the fault of the position comes first, as in the library's
+    """Returns the bytes of a frame. If its text is invalid, a fault of the position comes first, as in the library's
     calls."""
     try:
         return frame(source)
@@ -289,8 +296,7 @@ def _frame_near(source: Frame, here: Optional[_Position]) -> bytes:
 
 
 def _two_frames(older: Frame, newer: Frame, here: Optional[_Position]) -> Tuple[bytes, bytes]:
-    """The bytes of two frames. What is wrong with the older one comes before what is wrong with the text of the
-    newer."""
+    """Returns the bytes of two frames. Faults of the older one come before faults of the newer one's text."""
     first = _frame_near(older, here)
     try:
         return first, frame(newer)
@@ -304,17 +310,25 @@ def _read_position(position: _Position) -> Position:
     return Position(_read_angle(position.lat), _read_angle(position.lon))
 
 
+# Members by their values: an enum looks them up in three times the time.
+_KINDS, _FORMS, _WHATS = ({int(member): member for member in kind} for kind in (Kind, AltitudeForm, What))
+_FIELDS, _HEARD = _layout(_Fields), _layout(_Heard)
+
+
 def _read_fields(out: _Fields) -> Fields:
-    return Fields(
-        Kind(out.kind), out.address, out.ca, out.type_code, out.odd, out.lat, out.lon, out.time, out.status, out.flag,
-        out.altitude, AltitudeForm(out.altitude_form), out.feet, out.movement, out.track_status, out.track, out.raw,
-    )
+    # All members are read at once, because each attribute of a ctypes structure takes a call.
+    (raw, address, lat, lon, feet, altitude, form, kind, ca, type_code, odd, time, status, flag, movement, track_status,
+     track) = _FIELDS.unpack_from(out)
+    return Fields(_KINDS[kind], address, ca, type_code, odd, lat, lon, time, status, flag, altitude, _FORMS[form], feet,
+                  movement, track_status, track, raw)
 
 
 def _read_heard(out: _Heard) -> Heard:
-    what = What(out.what)
-    place = _read_position(out.position) if what in (What.FIX, What.FOLLOWED) else None
-    return Heard(what, place, out.even, out.odd)
+    lat_num, lat_den, lon_num, lon_den, number, even, odd = _HEARD.unpack_from(out)
+    what = _WHATS[number]
+    if what is not What.FIX and what is not What.FOLLOWED:
+        return Heard(what, None, even, odd)
+    return Heard(what, Position(Fraction(lat_num, lat_den), Fraction(lon_num, lon_den)), even, odd)
 
 
 def _places(answers: Iterable[Tuple[_Position, Optional[Fault]]]) -> List[Union[Position, Fault]]:
@@ -325,7 +339,7 @@ _Kind = TypeVar("_Kind", bound=ctypes.Structure)
 
 
 def _many(name: str, kind: Type[_Kind], count: int, *before: object) -> Iterator[Tuple[_Kind, Optional[Fault]]]:
-    """What a call of arrays answers at each place: what it wrote, and the fault or None."""
+    """Yields what a call of arrays wrote for each element, with the fault or None."""
     out, faults = (kind * count)(), (_Fault * count)()
     getattr(_lib, f"squitter_{name}")(*before, ctypes.addressof(out), count, ctypes.addressof(faults), count)
     for one, fault in zip(out, faults):
@@ -336,27 +350,33 @@ def _many(name: str, kind: Type[_Kind], count: int, *before: object) -> Iterator
 
 
 def frame(source: Frame) -> bytes:
-    """The 14 bytes of a frame, or of a frame text. Another number of bytes, or items that are wider, raise
-    ValueError."""
+    """Returns the 14 bytes of a frame, or of a frame text. Raises ValueError for another number of bytes, or for wider
+    items."""
+    if type(source) is bytes and len(source) == 14:
+        return source
     if isinstance(source, str):
         out, text = _FRAME(), _text(source)
         _done(_lib.squitter_frame_of_text(text, len(text), ctypes.byref(out)))
         return bytes(out)
-    view = memoryview(source)
+    wanted = "a frame is 14 bytes or a text of 28 hexadecimal digits"
+    try:
+        view = memoryview(source)
+    except TypeError:
+        raise TypeError(f"{wanted}, not {source!r:.60}") from None
     if view.itemsize != 1 or view.nbytes != 14:
-        raise ValueError("a frame has 14 bytes")
+        raise ValueError(f"{wanted}, not {view.nbytes} bytes in items of {view.itemsize}")
     return view.tobytes()
 
 
 def frame_text(source: Frame) -> str:
-    """The frame as 28 upper-case hexadecimal digits."""
+    """Returns the frame as 28 upper-case hexadecimal digits."""
     out = ctypes.create_string_buffer(28)
     _lib.squitter_text_of_frame(frame(source), out)
     return out.raw.decode("ascii")
 
 
 def read(source: Frame) -> Fields:
-    """The fields of the squitter that a frame, or a frame text, spells."""
+    """Returns the fields of the squitter in a frame or a frame text."""
     out = _Fields()
     if isinstance(source, str):
         text = _text(source)
@@ -370,21 +390,21 @@ def read(source: Frame) -> Fields:
 
 
 def local(source: Frame, reference: Position) -> Position:
-    """The place of a frame near a reference, exactly."""
+    """Returns the exact position of a frame near a reference."""
     here, out = _position(reference), _Position()
     _done(_lib.squitter_local(_frame_near(source, here), ctypes.byref(here), ctypes.byref(out)))
     return _read_position(out)
 
 
 def local_zones(source: Frame, reference: Position) -> Zones:
-    """The zones in which the place of a frame near a reference lies: how it comes about."""
+    """Returns the zones that the position of a frame near a reference lies in."""
     here, out = _position(reference), _Zones()
     _done(_lib.squitter_local_zones(_frame_near(source, here), ctypes.byref(here), ctypes.byref(out)))
     return Zones(*(getattr(out, name) for name in Zones._fields))
 
 
 def pair(older: Frame, newer: Frame, site: Optional[Position] = None) -> Position:
-    """The place of the newer of an even and an odd frame of one address, exactly; on the ground near a site."""
+    """Returns the exact position of the newer of an even and an odd frame of one address. Surface pairs need a site."""
     here, out = None if site is None else _position(site), _Position()
     first, second = _two_frames(older, newer, here)
     if here is None:
@@ -398,14 +418,14 @@ def pair(older: Frame, newer: Frame, site: Optional[Position] = None) -> Positio
 
 
 def read_many(frames: Frames) -> List[Union[Fields, Fault]]:
-    """The fields of each frame, or its fault, which is not raised."""
+    """Returns the fields or the fault of each frame; it raises no Fault."""
     source, count = _frames(frames)
     return [fault or _read_fields(out) for out, fault in _many("read_many", _Fields, count, source, count)]
 
 
 def local_many(frames: Frames, references: Sequence[Position]) -> List[Union[Position, Fault]]:
-    """The place of each frame near the reference of its place, or its fault. Other than one reference a frame is a
-    ValueError."""
+    """Returns the position of each frame near its reference, or its fault. Raises ValueError unless there is one
+    reference for each frame."""
     source, count = _frames(frames)
     if len(references) != count:
         raise ValueError(f"{count} frames and {len(references)} references")
@@ -414,8 +434,8 @@ def local_many(frames: Frames, references: Sequence[Position]) -> List[Union[Pos
 
 
 def pair_many(older: Frames, newer: Frames, site: Optional[Position] = None) -> List[Union[Position, Fault]]:
-    """The place of each pair of frames, or its fault; on the ground near the site. Other than one newer frame for each
-    older one is a ValueError."""
+    """Returns the position of each pair of frames, or its fault; surface pairs need the site. Raises ValueError unless
+    there is one newer frame for each older one."""
     (first, count), (second, other) = _frames(older), _frames(newer)
     if count != other:
         raise ValueError(f"{count} older frames and {other} newer ones")
@@ -425,175 +445,11 @@ def pair_many(older: Frames, newer: Frames, site: Optional[Position] = None) -> 
     return _places(_many("pair_at_many", _Position, count, first, count, second, count, here))
 
 
-# ---- hearing ----
-
-
-class Contact:
-    """What is kept of one address, and what is heard of one frame more of it.
-
-    The caller finds the contact of a frame's address; a frame of another address is not looked for. Moments and the
-    window are whole numbers below 2**64 of milliseconds, or of any other unit. One thread at a time may let a contact
-    hear. A copy, or what is made of a pickle on a machine of the same byte order, has heard what the contact has, and
-    goes its own way.
-    """
-
-    __slots__ = ("_entry", "_site", "_window")
-
-    def __init__(self, window: int, site: Optional[Position] = None) -> None:
-        """A contact of which nothing was heard. The site is for pairs on the ground."""
-        if not _fits(window, 64):
-            raise ValueError("a window is a whole number below 2**64")
-        self._entry, self._window = _Entry(), operator.index(window)
-        self._site = None if site is None else _position(site)
-
-    def __reduce_ex__(self, protocol: SupportsIndex) -> Tuple[Any, ...]:
-        """Returns what a copy, a deep copy or a pickle is made of: the class, its attributes, and an entry of its
-        own."""
-        made: Any = super().__reduce_ex__(max(2, operator.index(protocol)))
-        call, arguments, state, *more = made
-        if isinstance(state, tuple):
-            names, slots = state
-            state = names, {**slots, "_entry": _Entry.from_buffer_copy(self._entry)}
-        return (call, arguments, state, *more)
-
-    def hear(self, moment: int, source: Frame) -> Heard:
-        """What is heard of a frame, by those that were heard before. A Fault leaves the contact as it was."""
-        if not _fits(moment, 64):
-            raise ValueError("a moment is a whole number below 2**64")
-        moment = operator.index(moment)
-        out, entry = _Heard(), ctypes.byref(self._entry)
-        heard = _frame_near(source, self._site)
-        if self._site is None:
-            fault = _lib.squitter_hear(entry, self._window, moment, heard, ctypes.byref(out))
-        else:
-            here = ctypes.byref(self._site)
-            fault = _lib.squitter_hear_at(entry, self._window, here, moment, heard, ctypes.byref(out))
-        _done(fault)
-        return _read_heard(out)
-
-    def hear_many(self, moments: Sequence[int], frames: Frames) -> List[Union[Heard, Fault]]:
-        """What is heard of each frame at its moment, one after the other, or its fault, which is not raised. Other than
-        one moment a frame is a ValueError."""
-        source, count = _frames(frames)
-        times = _times(moments, count)
-        arrays = (ctypes.addressof(times), count, source, count)
-        entry = ctypes.byref(self._entry)
-        if self._site is None:
-            answers = _many("hear_many", _Heard, count, entry, self._window, *arrays)
-        else:
-            answers = _many("hear_at_many", _Heard, count, entry, self._window, ctypes.byref(self._site), *arrays)
-        return [fault or _read_heard(out) for out, fault in answers]
-
-    @property
-    def last(self) -> int:
-        """The moment of the newest frame, 0 where none was heard."""
-        return int(self._entry.last)
-
-    @property
-    def newest(self) -> int:
-        """The moment of the newest position, 0 where none was heard."""
-        return int(self._entry.newest)
-
-
-class Tracker:
-    """All addresses at once, as the program ``squitter track`` hears them: what each frame answers by those before it.
-
-    Its memory is the library's, and is given back by :meth:`close`, at the end of a ``with``, or with the tracker
-    itself; afterwards each call but :meth:`close` raises the Fault NO_TRACKER, whatever its arguments. Calls from
-    several threads wait for one another, and a handler of signals may ask too. A tracker has no copy and no pickle:
-    :class:`Contact` and ``squitter.batch.Tracker`` have.
-
-    >>> with Tracker(window=10_000) as tracker:
-    ...     tracker.hear(0, "8D40621D58C386435CC412692AD6").what.name
-    ...     tracker.hear(400, "8D40621D58C382D690C8AC2863A7").position
-    ...     len(tracker), tracker[0]
-    'WAITING'
-    Position(lat=Fraction(428091, 8192), lon=Fraction(64215, 16384))
-    (1, Present(address=4219421, moment=400))
-    """
-
-    __slots__ = ("_free", "_lock", "_tracker", "__weakref__")
-
-    def __init__(self, window: int = 10_000, site: Optional[Position] = None, limit: int = 1000) -> None:
-        """A tracker that has heard nothing. The site is for pairs on the ground. At most `limit` addresses are present,
-        each while it has a position that is at most the window older than the last moment."""
-        if not _fits(window, 64):
-            raise ValueError("a window is a whole number below 2**64")
-        if not _fits(limit, 32):
-            raise ValueError("a limit is a whole number below 2**32")
-        held = _Tracker()
-        tracker = ctypes.byref(held)
-        if site is None:
-            _done(_lib.squitter_tracker_new(tracker, limit, window))
-        else:
-            _done(_lib.squitter_tracker_new_at(tracker, limit, window, ctypes.byref(_position(site))))
-        # (a handler of signals runs in a thread that may hold the lock, but in no call of the library)
-        self._tracker, self._lock = held, threading.RLock()
-        self._free = weakref.finalize(self, _lib.squitter_tracker_free, held)
-
-    def close(self) -> None:
-        """Gives the memory back. What is closed may be closed again."""
-        with self._lock:
-            self._free()
-
-    def _look_open(self) -> None:
-        """Raises NO_TRACKER where the tracker is closed."""
-        if not self._free.alive:
-            raise Fault(Code.NO_TRACKER)
-
-    def __enter__(self) -> Tracker:
-        self._look_open()
-        return self
-
-    def __exit__(self, *fault: object) -> None:
-        self.close()
-
-    def __reduce__(self) -> str:
-        raise TypeError("a tracker has no copy and no pickle")
-
-    def hear(self, moment: int, source: Frame) -> Heard:
-        """What is heard of a frame. A Fault leaves the tracker as it was."""
-        with self._lock:
-            self._look_open()
-            times, bytes_of, out = _times([moment], 1), frame(source), _Heard()
-            _done(_lib.squitter_tracker_hear(ctypes.byref(self._tracker), times[0], bytes_of, ctypes.byref(out)))
-        return _read_heard(out)
-
-    def hear_many(self, moments: Sequence[int], frames: Frames) -> List[Union[Heard, Fault]]:
-        """What is heard of each frame at its moment, one after the other, or its fault, which is not raised. Other than
-        one moment a frame is a ValueError."""
-        with self._lock:
-            self._look_open()
-            source, count = _frames(frames)
-            times = _times(moments, count)
-            arrays = (ctypes.addressof(times), count, source, count)
-            answers = list(_many("tracker_hear_many", _Heard, count, ctypes.byref(self._tracker), *arrays))
-        return [fault or _read_heard(out) for out, fault in answers]
-
-    def __len__(self) -> int:
-        """How many addresses are present, at most the limit."""
-        with self._lock:
-            self._look_open()
-            return int(_lib.squitter_tracker_len(ctypes.byref(self._tracker)))
-
-    def __getitem__(self, index: int) -> Present:
-        """The present address at an index, the longest unheard first; below 0 from the newest on. The time grows with
-        the index."""
-        with self._lock:
-            self._look_open()
-            place, out = operator.index(index), _Present()
-            count = int(_lib.squitter_tracker_len(ctypes.byref(self._tracker)))
-            if not -count <= place < count:
-                raise IndexError(f"{count} addresses are present")
-            _done(_lib.squitter_tracker_get(ctypes.byref(self._tracker), place % count, ctypes.byref(out)))
-        return Present(out.address, out.moment)
-
-
 # ---- sending ----
 
 
 def encode(head: Union[AirHead, GroundHead], position: Position) -> bytes:
-    """The frame that is sent of a position, with this head."""
+    """Returns the frame for a position, with this head."""
     kind = _AirHead if isinstance(head, AirHead) else _GroundHead
     plain = kind()
     for field in kind._fields_:
@@ -601,12 +457,15 @@ def encode(head: Union[AirHead, GroundHead], position: Position) -> bytes:
         if not _fits(value, 8 * ctypes.sizeof(field[1])):
             raise Fault(Code.BAD_FIELDS)
         setattr(plain, name, operator.index(value))
+    if isinstance(plain, _AirHead) and 4095 < plain.altitude <= 50175 and plain.altitude % 25 == 0:
+        raise Fault(Code.BAD_FIELDS, hint=f"altitude is a field of 12 bits; for {plain.altitude} feet use "
+                                          f"field_of_feet({plain.altitude})")
     call = _lib.squitter_encode_air if kind is _AirHead else _lib.squitter_encode_ground
     out = _FRAME()
     try:
         here = _position(position)
     except Fault:
-        # what is wrong with the head comes first, as in the library's call
+        # Faults of the head come first, as in the library's call.
         _done(call(ctypes.byref(plain), ctypes.byref(_position(Position(0, 0))), ctypes.byref(out)))
         raise
     _done(call(ctypes.byref(plain), ctypes.byref(here), ctypes.byref(out)))
@@ -614,7 +473,7 @@ def encode(head: Union[AirHead, GroundHead], position: Position) -> bytes:
 
 
 def send_again(source: Frame, odd: int, position: Position) -> bytes:
-    """The frame with this parity (0 even, 1 odd) and the code of this position, and all else as it was."""
+    """Returns the frame with this parity (0 even, 1 odd) and the code of this position. Its other fields stay."""
     if odd not in (0, 1):
         raise Fault(Code.BAD_PARITY)
     here, out = _position(position), _FRAME()
@@ -626,14 +485,14 @@ def send_again(source: Frame, odd: int, position: Position) -> bytes:
 
 
 def zone_count(lat: Degrees) -> int:
-    """The number of longitude zones at a latitude (NL), from 1 to 59."""
+    """Returns the number of longitude zones at a latitude (NL), from 1 to 59."""
     plain, out = _angle(lat, Code.BAD_LATITUDE), ctypes.c_uint8()
     _done(_lib.squitter_zone_count(ctypes.byref(plain), ctypes.byref(out)))
     return out.value
 
 
 def angle_text(degrees: Degrees) -> str:
-    """An angle with seven decimals, rounded, ties away from zero."""
+    """Returns an angle with seven decimals, rounded half away from zero."""
     plain, out = _angle(degrees, Code.BAD_ANGLE), ctypes.create_string_buffer(16)
     _done(_lib.squitter_text_of_angle(ctypes.byref(plain), out))
     return out.value.decode("ascii")
@@ -654,14 +513,17 @@ def position_e7(position: Position) -> Tuple[int, int]:
 
 
 def angle(text: str) -> Fraction:
-    """The angle that a text spells: an optional ``-``, one to three digits, and optionally a point and decimals."""
+    """Returns the angle of a text: an optional ``-``, one to three digits, and optionally a point and decimals. Raises
+    TypeError for anything but a str."""
+    if not isinstance(text, str):
+        raise TypeError(f"an angle is read from a text, as '52.25', not from {text!r:.60}")
     out, spelled = _Angle(), _text(text)
     _done(_lib.squitter_angle_of_text(spelled, len(spelled), ctypes.byref(out)))
     return _read_angle(out)
 
 
 def feet_of_field(type_code: int, field: int) -> Altitude:
-    """What an altitude field of 12 bits means in an airborne position of this type code."""
+    """Decodes an altitude field of 12 bits in an airborne position of this type code."""
     if not _fits(type_code, 8) or not _fits(field, 16):
         raise Fault(Code.BAD_FIELDS)
     out = _Altitude()
@@ -670,7 +532,7 @@ def feet_of_field(type_code: int, field: int) -> Altitude:
 
 
 def field_of_feet(feet: int) -> int:
-    """The altitude field that means so many feet: a multiple of 25 from -1000 to 50175."""
+    """Returns the altitude field for these feet, a multiple of 25 from -1000 to 50175."""
     if not -1 << 31 <= operator.index(feet) < 1 << 31:
         raise Fault(Code.BAD_FEET)
     out = ctypes.c_uint16()
@@ -679,8 +541,8 @@ def field_of_feet(feet: int) -> int:
 
 
 def fault_text(code: int, first: int = 0, second: int = 0) -> str:
-    """The words of a fault, those of the program ``squitter`` where it has some. A number that is too large for C is a
-    ValueError."""
+    """Returns the words of a fault, those of the program ``squitter`` if it has any. Raises ValueError for a number
+    that is too large for C."""
     if not (_fits(code, 32) and _fits(first, 64) and _fits(second, 32)):
         raise ValueError("a fault has a code below 2**32, a first number below 2**64 and a second below 2**32")
     plain, out = _Fault(code, second, first), ctypes.create_string_buffer(64)
@@ -689,9 +551,14 @@ def fault_text(code: int, first: int = 0, second: int = 0) -> str:
 
 
 def version() -> str:
-    """The version of the library."""
+    """Returns the version of the library."""
     number = _lib.squitter_version()
     return f"{number >> 16}.{number >> 8 & 255}.{number & 255}"
 
 
 __version__ = version()
+
+
+# These modules import the names above.
+from squitter._hearing import Contact, Format, Log, Tally, Tracker  # noqa: E402
+from squitter._feed import Counts, Feed, FeedFormat, feed_format  # noqa: E402

@@ -1,18 +1,19 @@
-"""The answers of squitter.batch as texts, rows and data frames: what `squitter track` prints of them."""
+"""The results of squitter.batch as lines, rows and data frames, as `squitter track` prints them."""
 from __future__ import annotations
 
 import operator
 import os
-import re
 from fractions import Fraction
-from typing import TYPE_CHECKING, Any, Dict, Iterator, List, Optional, Sequence, Tuple, Union
+from typing import TYPE_CHECKING, Any, Dict, Iterator, List, Mapping, Optional, Sequence, Tuple, Union
 
 import numpy as np
 import numpy.typing as npt
 
 import squitter
-from squitter import AltitudeForm, Code, Position, What
-from squitter._records import FAULT, POSITION, TRACKED, Records, _moments
+from squitter import AltitudeForm, Position, What
+from squitter._library import _Answer
+from squitter._records import FAULT, POSITION, TRACKED, Records, _limit, _moments
+from squitter._source import Source, bytes_of, refuse_other, squitters_of
 
 if TYPE_CHECKING:
     import pandas  # type: ignore[import]
@@ -24,15 +25,15 @@ _KINDS = np.array(["other", "air", "ground"], "S6")
 
 
 def lines(heard: Records, faults: Records, first: int = 1) -> bytes:
-    """The lines that `squitter track` prints of these answers, of which the first is that of the line of this number.
-    Empty lines have no answer, and so no place in arrays."""
+    """Returns the lines that `squitter track` prints for these results; `first` is the number of the first line. Empty
+    lines have no result, so arrays do not contain them."""
     numbers = _numbers(heard, faults, first)
     return b"".join(_lines(heard[some], faults[some], numbers[some]) for some in _blocks(len(heard)))
 
 
 def csv_rows(moments: npt.ArrayLike, heard: Records, faults: Records, first: int = 1) -> bytes:
-    """The same as the rows of `squitter track --format=csv`, byte for byte: COLUMNS. A refused line has its number and
-    the fault, and no other value."""
+    """Returns the rows that `squitter track --format=csv` prints, byte for byte (COLUMNS). The row of a refused line
+    has only its number and the fault."""
     numbers = _numbers(heard, faults, first)
     times, _ = _moments(moments, len(heard))
     blocks = _blocks(len(heard))
@@ -40,19 +41,20 @@ def csv_rows(moments: npt.ArrayLike, heard: Records, faults: Records, first: int
 
 
 def _numbers(heard: Records, faults: Records, first: int) -> npt.NDArray[np.uint64]:
-    """The numbers of lines from this one on. Raises ValueError for what are no answers of `track`, or no number."""
+    """Returns the line numbers from `first` on. Raises ValueError if `first` is invalid, or if the arrays are not
+    results of `track`."""
     _look(heard, faults)
     try:
         start = operator.index(first)
     except TypeError:
-        raise ValueError(f"the first number is a whole number, and not {first!r}") from None
+        raise ValueError(f"the first number is a whole number, not {first!r}") from None
     if not 0 <= start <= (1 << 64) - max(len(heard), 1):
-        raise ValueError(f"the first number is {first}, and the numbers of lines are from 0 and below 2**64")
+        raise ValueError(f"the first number is {first}, but line numbers are from 0 and below 2**64")
     return np.arange(len(heard), dtype=np.uint64) + np.uint64(start)
 
 
 def _look(heard: Records, faults: Records) -> None:
-    """Raises ValueError for what are no answers of `track`."""
+    """Raises ValueError if the arrays are not results of `track`."""
     for name, array, dtype in (("heard", heard, TRACKED), ("faults", faults, FAULT)):
         if not isinstance(array, np.ndarray) or array.dtype != dtype or array.ndim != 1:
             raise ValueError(f"{name} is an array of another type than {dtype}, or of more dimensions")
@@ -61,12 +63,12 @@ def _look(heard: Records, faults: Records) -> None:
 
 
 def _blocks(count: int) -> Iterator[slice]:
-    """Places of so many, some at once, so that the characters of few lines are in memory."""
+    """Yields slices of `count` lines, so that the characters of few lines are in memory at once."""
     return (slice(at, at + (1 << 15)) for at in range(0, count, 1 << 15))
 
 
 Characters = npt.NDArray[np.uint8]
-"""A row of characters for each line, in which a 0 is none."""
+"""A row of characters for each line; a 0 is no character."""
 
 
 def _lines(heard: Records, faults: Records, numbers: npt.NDArray[np.uint64]) -> bytes:
@@ -97,7 +99,7 @@ def _csv_rows(
 
 
 def _words(heard: Records, faults: Records) -> Tuple[npt.NDArray[np.bool_], Characters]:
-    """Which lines have an answer, and what each is: one of the seven, or the text of the fault."""
+    """Returns which lines are good, and a word for each: one of the seven results, or the text of the fault."""
     good = faults["code"] == 0
     words = _WORDS[np.where(good, heard["what"], 0)]
     bad = np.flatnonzero(~good)
@@ -114,24 +116,24 @@ def _characters(words: npt.NDArray[np.bytes_]) -> Characters:
 
 
 def _joined(count: int, columns: Sequence[Characters]) -> bytes:
-    """The characters of all columns, line by line."""
+    """Joins the characters of all columns, line by line."""
     rows = np.hstack([np.broadcast_to(column, (count, column.shape[1])) for column in columns])
     return bytes(rows[rows != 0])
 
 
 def _mark(character: str) -> Characters:
-    """A character of each line."""
+    """Returns a column with this character in each line."""
     return np.array([[ord(character)]], np.uint8)
 
 
 def _if(these: npt.NDArray[np.bool_], *columns: Characters) -> Characters:
-    """Columns that these lines alone have."""
+    """Joins columns that only these lines have."""
     rows = np.hstack([np.broadcast_to(column, (len(these), column.shape[1])) for column in columns])
     return np.where(these[:, np.newaxis], rows, np.uint8(0))
 
 
 def _decimal(values: npt.NDArray[Any], least: int = 1) -> Characters:
-    """Whole numbers in decimal, with so many digits at least."""
+    """Writes whole numbers in decimal, with at least `least` digits."""
     most = int(values.max(initial=0))
     width = max(least, len(str(most)))
     digits = np.empty((width, len(values)), np.uint8)
@@ -146,13 +148,13 @@ def _decimal(values: npt.NDArray[Any], least: int = 1) -> Characters:
 
 
 def _hexadecimal(addresses: npt.NDArray[np.uint32]) -> Characters:
-    """Addresses in six hexadecimal digits."""
+    """Writes addresses in six hexadecimal digits."""
     digits = np.stack([addresses >> np.uint32(shift) & np.uint32(15) for shift in range(20, -1, -4)], axis=1)
     return np.where(digits < 10, digits + ord("0"), digits + ord("A") - 10).astype(np.uint8)
 
 
 def _degrees(angles: npt.NDArray[np.int64]) -> Characters:
-    """Angles in degrees, with seven decimals."""
+    """Writes angles in degrees, with seven decimals."""
     whole, part = np.divmod(np.abs(angles), 10**7)
     sign = np.where(angles < 0, np.uint8(ord("-")), np.uint8(0))[:, np.newaxis]
     point = np.broadcast_to(_mark("."), (len(angles), 1))
@@ -165,120 +167,207 @@ def _degrees(angles: npt.NDArray[np.int64]) -> Characters:
 def columns(
     moments: npt.ArrayLike, heard: Records, faults: Records, first: int = 1
 ) -> Dict[str, np.ma.MaskedArray[Any, Any]]:
-    """The same as columns: COLUMNS, then `lat_e7`, `lon_e7` and `fault`, one of :class:`squitter.Code`. What a line has
-    not is masked, so that no number stands for it."""
+    """Returns the results as columns: COLUMNS, then `lat_e7`, `lon_e7` and `fault`, one of :class:`squitter.Code`.
+    Values that a line lacks are masked."""
     numbers = _numbers(heard, faults, first)
     times, _ = _moments(moments, len(heard))
-    good, words = _words(heard, faults)
-    placed, high = good & (heard["what"] <= What.FOLLOWED), good & (heard["altitude_form"] == AltitudeForm.FEET)
-    every = np.ones(len(heard), np.bool_)
-    told = {
-        "line": (numbers, every), "moment": (times, good), "answer": (_texts(words), every),
-        "address": (_texts(_hexadecimal(heard["address"])), good),
-        "kind": (_KINDS[heard["kind"]].astype("U6").astype(object), good),
-        "lat": (heard["lat_e7"] / 1e7, placed), "lon": (heard["lon_e7"] / 1e7, placed),
-        "feet": (heard["feet"].astype(np.int64), high),
-        "lat_e7": (heard["lat_e7"], placed), "lon_e7": (heard["lon_e7"], placed),
-        "fault": (faults["code"].astype(np.int64), every),
-    }
-    return {name: _masked(values, ~these) for name, (values, these) in told.items()}
+    table = _Table(len(heard))
+    for at in range(0, len(heard), _AT_ONCE):
+        some = slice(at, at + _AT_ONCE)
+        table.add(numbers[some], times[some], heard[some], faults[some])
+    return table.columns()
 
 
-def _masked(values: npt.NDArray[Any], mask: npt.NDArray[np.bool_]) -> np.ma.MaskedArray[Any, Any]:
-    made: Any = np.ma.MaskedArray
-    return made(values, mask)  # type: ignore[no-any-return]
+_WORD_TEXTS = _WORDS.astype("U").astype(object)
+_KIND_TEXTS = _KINDS.astype("U").astype(object)
+_AT_ONCE = 1 << 13  # results of a call: few enough to stay in the processor's cache
+
+# The type of each column, and the condition for a value: a good line, a position, an altitude.
+_OF_TABLE = {
+    "line": ("u8", ""), "moment": ("u8", "good"), "answer": ("O", ""), "address": ("O", "good"), "kind": ("O", "good"),
+    "lat": ("f8", "placed"), "lon": ("f8", "placed"), "feet": ("i8", "high"), "lat_e7": ("i8", "placed"),
+    "lon_e7": ("i8", "placed"), "fault": ("i8", ""),
+}
 
 
-Source = Union[str, "os.PathLike[str]", Any]
-"""A log: its file, by name or open for bytes, or a table with the columns `moment` and `frame`."""
+class _Table:
+    """Columns that are written part by part, while the results are in the cache. Each page of them is written once."""
 
-_LONGEST = 64  # bytes of a line
-_LOGGED = re.compile(rb"([0-9]{1,20}) (.*)", re.S)
+    def __init__(self, most: int) -> None:
+        """Creates columns with room for `most` lines."""
+        self._count = 0
+        self._values = {name: np.empty(most, dtype) for name, (dtype, _) in _OF_TABLE.items()}
+        self._masks = {name: np.empty(most, np.bool_) for name in ("good", "placed", "high")}
+        # Index of each address's text, or 0. calloc commits pages only when they are written.
+        self._places, self._texts = np.zeros(1 << 24, np.uint32), np.array([""], object)
+        self.has_good = False
+
+    def add(
+        self, numbers: npt.NDArray[np.uint64], times: npt.NDArray[np.uint64],
+        heard: Union[Records, Mapping[str, npt.NDArray[Any]]], faults: Records,
+    ) -> None:
+        """Adds the results of the lines with these numbers and timestamps."""
+        part = slice(self._count, self._count + len(numbers))
+        into = {name: values[part] for name, values in self._values.items()}
+        self._count = part.stop
+        what, codes = heard["what"].copy(), into["fault"]
+        codes[:] = faults["code"]
+        good = codes == 0
+        self.has_good = self.has_good or bool(good.any())
+        placed, high = good & (what <= What.FOLLOWED), good & (heard["altitude_form"] == AltitudeForm.FEET)
+        for name, these in (("good", good), ("placed", placed), ("high", high)):
+            np.logical_not(these, out=self._masks[name][part])
+        into["line"][:], into["moment"][:], into["feet"][:] = numbers, times, heard["feet"]
+        for name in ("lat", "lon"):
+            into[f"{name}_e7"][:] = heard[f"{name}_e7"]
+            np.divide(into[f"{name}_e7"], 1e7, out=into[name])
+        into["answer"][:] = _WORD_TEXTS[what]
+        into["kind"][:] = _KIND_TEXTS[heard["kind"]]
+        self._put_addresses(heard["address"], into["address"])
+        # Each parity fault has a number of its own, so the texts of refused lines are not shared.
+        bad = np.flatnonzero(self._masks["good"][part])
+        texts = [squitter.fault_text(code, first, second) for code, second, first in faults[bad].tolist()]
+        into["answer"][bad] = np.array(texts, object)
+
+    def _put_addresses(self, addresses: npt.NDArray[np.uint32], into: npt.NDArray[np.object_]) -> None:
+        """Writes addresses in six hexadecimal digits. Equal addresses share one text."""
+        places = self._places[addresses]
+        if not places.all():
+            new = np.unique(addresses[places == 0])
+            self._places[new] = np.arange(len(self._texts), len(self._texts) + len(new), dtype=np.uint32)
+            self._texts = np.append(self._texts, np.array([f"{address:06X}" for address in new.tolist()], object))
+            places = self._places[addresses]
+        into[:] = self._texts[places]
+
+    def columns(self) -> Dict[str, np.ma.MaskedArray[Any, Any]]:
+        """Returns the columns of all lines that were added."""
+        told: Dict[str, np.ma.MaskedArray[Any, Any]] = {}
+        made: Any = np.ma.MaskedArray
+        for name, (_, condition) in _OF_TABLE.items():
+            # Each column gets a mask of its own, because the caller may write to it.
+            mask = self._masks[condition][:self._count].copy() if condition else np.zeros(self._count, np.bool_)
+            told[name] = made(self._values[name][:self._count], mask)
+        return told
+
+
+ANSWER = np.dtype(_Answer)
+"""The result of a line of a log: ``squitter_answer`` of squitter.h."""
 
 
 def dataframe(
-    log: Source, window: int = 10_000, site: Optional[Position] = None, limit: Optional[int] = 1000, exact: bool = False
+    log: Union[Source, Any], window: int = 10_000, site: Optional[Position] = None, limit: Optional[int] = 1000,
+    exact: bool = False,
 ) -> pandas.DataFrame:
-    """What `squitter track` answers to a log, as a data frame of pandas with a row for each line that is not empty.
+    """Decodes a log as `squitter track` does. Returns a pandas data frame with a row for each line that is not empty.
 
-    Its columns are COLUMNS, then `lat_e7` and `lon_e7`, whole numbers of 10^-7 degree, and `fault`, one of
+    Its columns are COLUMNS, then `lat_e7` and `lon_e7` in units of 10^-7 degree, and `fault`, one of
     :class:`squitter.Code`. `answer` is the word or the fault that `track` prints, and `address` six hexadecimal digits.
-    What a line has not is missing: NaN in `lat` and `lon`, which are floats, and NA or None in the other columns.
-    With `exact` there are `lat_exact` and `lon_exact` behind, which are Fractions.
+    Values that a line lacks are missing: NaN in `lat` and `lon`, which are floats, and NA or None in other columns.
+    With `exact`, the Fractions `lat_exact` and `lon_exact` follow.
 
-    The log is a file, by its name or open for bytes, or a table with the columns `moment` and `frame`.
+    The log is a file, by its name or open for bytes, or bytes, or a table with the columns `moment` and `frame`. A file
+    may also be a receiver's: Beast, AVR with a clock, or CSV, as :func:`squitter.batch.feed` reads them; `line` then
+    counts its squitters. Window, site and limit are those of :func:`squitter.batch.track`. Raises ValueError for an
+    archive and for frames without times, and KeyError for a table without one of the two columns.
     """
     import pandas
-    from squitter.batch import track
 
-    numbers, moments, frames, long = _read_log(log)
-    heard, faults = track(moments, frames, window, site, limit)
-    faults[long] = Code.LONG_LINE, 0, 0
-    told = columns(moments, heard, faults)
-    told["line"] = _masked(numbers, np.zeros(len(numbers), np.bool_))
-    frame = pandas.DataFrame({name: _of_pandas(values) for name, values in told.items()})
-    for name in ("line", "fault"):
-        frame[name] = told[name].data
+    if isinstance(log, (str, os.PathLike, bytes, bytearray, memoryview)) or hasattr(log, "read"):
+        data = bytes_of(log)
+        squitters = squitters_of(data, log)
+    else:
+        squitters = _column(log, "moment"), _column(log, "frame")
+    if squitters is None:
+        told, places = _columns_of_log(data, log, window, site, limit, exact)
+    else:
+        told, places = _columns_of_squitters(*squitters, window, site, limit)
+    frame = pandas.DataFrame({name: _of_pandas(name, values) for name, values in told.items()}, copy=False)
     if exact:
-        both = fractions(heard)
+        both = fractions(places)
         frame["lat_exact"] = pandas.Series([place and place.lat for place in both], dtype=object)
         frame["lon_exact"] = pandas.Series([place and place.lon for place in both], dtype=object)
     return frame
 
 
-def _of_pandas(column: np.ma.MaskedArray[Any, Any]) -> Any:
-    """A column as pandas has it: what is masked is NaN of a float, None of a text, and NA of a whole number."""
+_LINE_OF_FRAME = 30  # bytes of the shortest line with a frame
+
+
+def _columns_of_squitters(
+    moments: npt.ArrayLike, frames: npt.ArrayLike, window: int, site: Optional[Position], limit: Optional[int],
+) -> Tuple[Dict[str, np.ma.MaskedArray[Any, Any]], Records]:
+    """Decodes timestamps and frames. Returns the columns of their results, and the positions. Raises the Faults
+    BAD_POSITION (the site), NO_MEMORY."""
+    from squitter.batch import track
+
+    heard, faults = track(moments, frames, window, site, limit)
+    return columns(moments, heard, faults), heard
+
+
+def _columns_of_log(
+    data: npt.NDArray[np.uint8], log: Source, window: int, site: Optional[Position], limit: Optional[int], exact: bool,
+) -> Tuple[Dict[str, np.ma.MaskedArray[Any, Any]], Records]:
+    """Decodes a log. Returns the columns of its results, and with `exact` the positions (POSITION). There are at most
+    as many addresses as lines that fit a frame. Raises the Faults BAD_POSITION (the site), NO_MEMORY."""
+    most = _limit(window, limit, len(data) // _LINE_OF_FRAME + 1)
+    table, room, parts = _Table(_line_feeds(data) + 1), np.empty(_AT_ONCE, ANSWER), [np.zeros(0, POSITION)]
+    with squitter.Log(window, site, most) as listener:
+        for count in listener._answers(data.ctypes.data, len(data), room.ctypes.data, len(room)):
+            answers = room[:count]
+            table.add(answers["number"], answers["moment"], _fields(answers), answers["fault"])
+            if exact:
+                parts.append(answers.view(_PLACES)["place"].copy().view(POSITION))
+    if not table.has_good:
+        refuse_other(data, log)
+    return table.columns(), np.concatenate(parts)
+
+
+def _column(table: Any, name: str) -> Any:
+    """Returns a column of a table. Raises KeyError if the column is missing, and TypeError if there is no table."""
+    wanted = "a log is a file, by its name or open for bytes, or bytes, or a table with the columns moment and frame"
+    try:
+        return table[name]
+    except (KeyError, ValueError):
+        there = ", ".join(map(str, getattr(table, "keys", list)())) or "of another kind"
+        raise KeyError(f"{wanted}, not a table with the columns {there}") from None
+    except (TypeError, IndexError):
+        raise TypeError(f"{wanted}, not {type(table).__name__}") from None
+
+
+def _line_feeds(data: npt.NDArray[np.uint8]) -> int:
+    """Returns the number of line feeds."""
+    parts = (data[at:at + (1 << 16)] for at in range(0, len(data), 1 << 16))
+    return sum(int(np.count_nonzero(part == ord("\n"))) for part in parts)
+
+
+# The position of a result as a block of memory: NumPy copies it whole, instead of field by field.
+_PLACES = np.dtype({
+    "names": ["place"], "formats": [f"V{POSITION.itemsize}"], "offsets": [_Answer.heard.offset],
+    "itemsize": ANSWER.itemsize,
+})
+
+
+def _fields(answers: Records) -> Dict[str, npt.NDArray[Any]]:
+    """Returns views of the fields that columns are made from, under their names in TRACKED."""
+    degrees = answers["degrees"]
+    told = {name: answers[name] for name in ("address", "kind", "feet", "altitude_form")}
+    return {**told, "what": answers["heard"]["what"], "lat_e7": degrees["lat"], "lon_e7": degrees["lon"]}
+
+
+def _of_pandas(name: str, column: np.ma.MaskedArray[Any, Any]) -> Any:
+    """Returns a column for pandas, which takes over the column's memory. Masked values become NaN in floats, None in
+    texts, and NA in whole numbers."""
     import pandas
 
-    values: Any = column.data
-    mask: Any = np.broadcast_to(column.mask, values.shape)
-    if column.dtype.kind == "f":
-        return np.where(mask, np.nan, values)
-    if column.dtype.kind == "O":
-        told = values.copy()
-        told[mask] = None
-        return told
-    return pandas.arrays.IntegerArray(values.copy(), mask.copy())
+    values, mask = column.data, np.ma.getmaskarray(column)
+    if column.dtype.kind in "fO":
+        values[mask] = np.nan if column.dtype.kind == "f" else None
+        return values
+    return pandas.arrays.IntegerArray(values, mask) if _OF_TABLE[name][1] else values
 
 
 def fractions(heard: Records) -> List[Optional[Position]]:
-    """The place of each record of TRACKED or POSITION in exact fractions of a degree, None where there is none."""
+    """Returns the position of each record of TRACKED or POSITION in exact fractions of a degree, or None."""
     return [
         Position(Fraction(lat_num, lat_den), Fraction(lon_num, lon_den)) if lat_den else None
         for lat_num, lat_den, lon_num, lon_den in heard[list(POSITION.names or ())].tolist()
     ]
-
-
-def _texts(characters: Characters) -> npt.NDArray[np.object_]:
-    """Rows of characters as texts."""
-    rows = np.ascontiguousarray(characters).view(f"S{characters.shape[1]}").reshape(-1)
-    return rows.astype(f"U{characters.shape[1]}").astype(object)
-
-
-def _read_log(
-    log: Source
-) -> Tuple[npt.NDArray[np.uint64], Any, Any, npt.NDArray[np.intp]]:
-    """The numbers of the lines, their moments and frames, and which of them are too long."""
-    if not isinstance(log, (str, os.PathLike)) and not hasattr(log, "read"):
-        moments, frames = log["moment"], log["frame"]
-        return np.arange(1, len(moments) + 1, dtype=np.uint64), moments, frames, np.zeros(0, np.intp)
-    if hasattr(log, "read"):
-        data = log.read()
-    else:
-        with open(log, "rb") as file:
-            data = file.read()
-    numbers: List[int] = []
-    times: List[Optional[int]] = []
-    texts: List[str] = []
-    long: List[int] = []
-    for number, line in enumerate(data.split(b"\n"), 1):
-        if len(line) > _LONGEST:
-            long.append(len(numbers))
-        line = line[:-1] if line.endswith(b"\r") else line
-        if line:
-            found = _LOGGED.fullmatch(line)
-            moment = int(found[1]) if found else 1 << 64
-            numbers.append(number)
-            times.append(moment if moment < 1 << 64 else None)
-            texts.append(found[2].decode("utf-8", "surrogateescape") if found else "")
-    return np.array(numbers, np.uint64), times, texts, np.array(long, np.intp)

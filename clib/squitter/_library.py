@@ -3,11 +3,13 @@
 from __future__ import annotations
 
 import ctypes
+import mmap
 import operator
 import os
+import struct
 from ctypes.util import find_library
 from fractions import Fraction
-from typing import Sequence, Tuple, Union
+from typing import Any, Optional, Sequence, Tuple, Type, Union
 
 # ---- structures ----
 
@@ -21,7 +23,6 @@ class _Angle(ctypes.Structure):
 
 
 class _Position(ctypes.Structure):
-    __module__ = "squitter"  # where pickles of contacts look for it
     _fields_ = [("lat", _Angle), ("lon", _Angle)]
 
 
@@ -71,8 +72,11 @@ class _Side(ctypes.Structure):
 
 
 class _Entry(ctypes.Structure):
-    __module__ = "squitter"  # where pickles of contacts look for it
-    _fields_ = [("last", ctypes.c_uint64), ("newest", ctypes.c_uint64), ("airborne", _Side), ("surface", _Side)]
+    _fields_ = [("moment", ctypes.c_uint64), ("address", ctypes.c_uint32), ("airborne", _Side), ("surface", _Side)]
+
+
+class _Last(ctypes.Structure):
+    _fields_ = [("moment", ctypes.c_uint64), ("heard", ctypes.c_uint64)]
 
 
 class _Heard(ctypes.Structure):
@@ -93,12 +97,40 @@ class _DegreesE7(ctypes.Structure):
     _fields_ = [("lat", ctypes.c_int32), ("lon", ctypes.c_int32)]
 
 
-class _Tracker(ctypes.Structure):
+class _Block(ctypes.Structure):
+    _fields_ = [("size", ctypes.c_size_t), ("memory", ctypes.c_void_p)]
+
+
+class _Slot(ctypes.Structure):  # squitter_tracker, squitter_log and squitter_feed
     _fields_ = [("full", ctypes.c_uint64), ("at", ctypes.c_void_p)]
+
+
+class _Answer(ctypes.Structure):
+    _fields_ = [
+        ("number", ctypes.c_uint64), ("moment", ctypes.c_uint64), ("heard", _Heard), ("fault", _Fault),
+        ("degrees", _DegreesE7), ("address", ctypes.c_uint32), ("feet", ctypes.c_int32), ("kind", ctypes.c_uint8),
+        ("altitude_form", ctypes.c_uint8),
+    ]
+
+
+class _Done(ctypes.Structure):
+    _fields_ = [("taken", ctypes.c_size_t), ("written", ctypes.c_size_t)]
+
+
+class _Tally(ctypes.Structure):
+    _fields_ = [("good", ctypes.c_uint64), ("refused", ctypes.c_uint64)]
 
 
 class _Present(ctypes.Structure):
     _fields_ = [("moment", ctypes.c_uint64), ("address", ctypes.c_uint32)]
+
+
+class _Counts(ctypes.Structure):
+    _fields_ = [
+        ("found", ctypes.c_uint64), ("written", ctypes.c_uint64), ("mode_ac", ctypes.c_uint64),
+        ("multilaterated", ctypes.c_uint64), ("damaged", ctypes.c_uint64), ("aside", ctypes.c_uint64),
+        ("formats", ctypes.c_uint64 * 25),
+    ]
 
 
 # ---- calls ----
@@ -114,8 +146,6 @@ _CALLS = {
     "local_zones": [ctypes.c_char_p, _P(_Position), _P(_Zones)],
     "pair": [ctypes.c_char_p, ctypes.c_char_p, _P(_Position)],
     "pair_at": [ctypes.c_char_p, ctypes.c_char_p, _P(_Position), _P(_Position)],
-    "hear": [_P(_Entry), ctypes.c_uint64, ctypes.c_uint64, ctypes.c_char_p, _P(_Heard)],
-    "hear_at": [_P(_Entry), ctypes.c_uint64, _P(_Position), ctypes.c_uint64, ctypes.c_char_p, _P(_Heard)],
     "encode_air": [_P(_AirHead), _P(_Position), _P(_FRAME)],
     "encode_ground": [_P(_GroundHead), _P(_Position), _P(_FRAME)],
     "send_again": [ctypes.c_char_p, ctypes.c_uint8, _P(_Position), _P(_FRAME)],
@@ -126,10 +156,35 @@ _CALLS = {
     "field_of_feet": [ctypes.c_int32, _P(ctypes.c_uint16)],
     "angle_e7": [_P(_Angle), _P(ctypes.c_int64)],
     "position_e7": [_P(_Position), _P(_DegreesE7)],
-    "tracker_new": [_P(_Tracker), ctypes.c_uint32, ctypes.c_uint64],
-    "tracker_new_at": [_P(_Tracker), ctypes.c_uint32, ctypes.c_uint64, _P(_Position)],
-    "tracker_hear": [_P(_Tracker), ctypes.c_uint64, ctypes.c_char_p, _P(_Heard)],
-    "tracker_get": [_P(_Tracker), ctypes.c_size_t, _P(_Present)],
+    "tracker_new": [_P(_Slot), _Block, ctypes.c_uint32, ctypes.c_uint64],
+    "tracker_new_at": [_P(_Slot), _Block, ctypes.c_uint32, ctypes.c_uint64, _P(_Position)],
+    "tracker_hear": [_P(_Slot), ctypes.c_uint64, ctypes.c_char_p, _P(_Heard)],
+    "tracker_get": [_P(_Slot), ctypes.c_size_t, _P(_Present)],
+    "tracker_restore": [_P(_Slot), _P(_Last), ctypes.c_void_p, ctypes.c_size_t],
+    "log_new": [_P(_Slot), _Block, ctypes.c_uint32, ctypes.c_uint64],
+    "log_new_at": [_P(_Slot), _Block, ctypes.c_uint32, ctypes.c_uint64, _P(_Position)],
+    "log_take": [_P(_Slot), ctypes.c_void_p, ctypes.c_size_t, ctypes.c_void_p, ctypes.c_size_t, _P(_Done)],
+    "log_finish": [_P(_Slot), ctypes.c_void_p, ctypes.c_size_t, _P(_Done)],
+    "log_take_text": [
+        _P(_Slot), ctypes.c_uint32, ctypes.c_void_p, ctypes.c_size_t, ctypes.c_void_p, ctypes.c_size_t, _P(_Done),
+    ],
+    "log_finish_text": [_P(_Slot), ctypes.c_uint32, ctypes.c_void_p, ctypes.c_size_t, _P(_Done)],
+    "log_tally": [_P(_Slot), _P(_Tally)],
+    "feed_format": [ctypes.c_char_p, ctypes.c_size_t, _P(ctypes.c_uint32)],
+    "feed_new": [_P(_Slot), _Block, ctypes.c_uint32, ctypes.c_uint64, ctypes.c_uint32],
+    "feed_take": [
+        _P(_Slot), ctypes.c_void_p, ctypes.c_size_t, ctypes.c_uint64, ctypes.c_void_p, ctypes.c_size_t,
+        ctypes.c_void_p, ctypes.c_size_t, _P(_Done),
+    ],
+    "feed_finish": [
+        _P(_Slot), ctypes.c_uint64, ctypes.c_void_p, ctypes.c_size_t, ctypes.c_void_p, ctypes.c_size_t, _P(_Done),
+    ],
+    "feed_take_text": [
+        _P(_Slot), ctypes.c_void_p, ctypes.c_size_t, ctypes.c_uint64, ctypes.c_void_p, ctypes.c_size_t, _P(_Done),
+    ],
+    "feed_finish_text": [_P(_Slot), ctypes.c_uint64, ctypes.c_void_p, ctypes.c_size_t, _P(_Done)],
+    "feed_disconnected": [_P(_Slot)],
+    "feed_counts": [_P(_Slot), _P(_Counts)],
 }
 
 # And each call of arrays, which are handed over as an address and a number of elements.
@@ -139,10 +194,24 @@ _MANY = {
     "local_many": 4 * _ARRAY,
     "pair_many": 4 * _ARRAY,
     "pair_at_many": [*_ARRAY, *_ARRAY, _P(_Position), *_ARRAY, *_ARRAY],
-    "hear_many": [_P(_Entry), ctypes.c_uint64, *(4 * _ARRAY)],
-    "hear_at_many": [_P(_Entry), ctypes.c_uint64, _P(_Position), *(4 * _ARRAY)],
     "position_e7_many": 3 * _ARRAY,
-    "tracker_hear_many": [_P(_Tracker), *(4 * _ARRAY)],
+    "tracker_hear_many": [_P(_Slot), *(4 * _ARRAY)],
+    "tracker_save": [_P(_Slot), _P(_Last), *_ARRAY],
+}
+
+# The calls that cannot fail: their arguments and their results.
+_SURE = {
+    "text_of_frame": ([ctypes.c_char_p, ctypes.c_char_p], None),
+    "text_of_fault": ([_P(_Fault), ctypes.c_char_p], None),
+    "tracker_size": ([ctypes.c_uint32], ctypes.c_size_t),
+    "tracker_len": ([_P(_Slot)], ctypes.c_size_t),
+    "tracker_free": ([_P(_Slot)], None),
+    "log_size": ([ctypes.c_uint32], ctypes.c_size_t),
+    "log_free": ([_P(_Slot)], None),
+    "log_header": ([ctypes.c_uint32, ctypes.c_char_p], None),
+    "feed_size": ([], ctypes.c_size_t),
+    "feed_free": ([_P(_Slot)], None),
+    "version": ([], ctypes.c_uint32),
 }
 
 
@@ -165,17 +234,26 @@ def _load() -> ctypes.CDLL:
     for name, arguments in _MANY.items():
         call = getattr(library, f"squitter_{name}")
         call.argtypes, call.restype = arguments, ctypes.c_size_t
-    library.squitter_text_of_frame.argtypes = [ctypes.c_char_p, ctypes.c_char_p]
-    library.squitter_text_of_frame.restype = None
-    library.squitter_text_of_fault.argtypes = [_P(_Fault), ctypes.c_char_p]
-    library.squitter_text_of_fault.restype = None
-    library.squitter_tracker_len.argtypes, library.squitter_tracker_len.restype = [_P(_Tracker)], ctypes.c_size_t
-    library.squitter_tracker_free.argtypes, library.squitter_tracker_free.restype = [_P(_Tracker)], None
-    library.squitter_version.argtypes, library.squitter_version.restype = [], ctypes.c_uint32
+    for name, (arguments, answer) in _SURE.items():
+        call = getattr(library, f"squitter_{name}")
+        call.argtypes, call.restype = arguments, answer
     return library
 
 
 _lib = _load()
+
+
+# ---- memory ----
+
+
+def _lend(size: int) -> Tuple[_Block, Optional[mmap.mmap]]:
+    """Returns a block of this size, and the object that owns its memory. The system commits a page when it is first
+    written. If there is no memory, the block has size 0."""
+    try:
+        memory = mmap.mmap(-1, max(size, 1), flags=mmap.MAP_PRIVATE | mmap.MAP_ANONYMOUS)
+    except (OSError, OverflowError):
+        return _Block(0, None), None
+    return _Block(size, ctypes.addressof(ctypes.c_char.from_buffer(memory))), memory
 
 
 # ---- values ----
@@ -196,20 +274,54 @@ def _text(text: str) -> bytes:
 
 
 def _frames(source: Union[bytes, bytearray, memoryview]) -> Tuple[bytes, int]:
-    """Frames one after the other, and how many: 14 bytes each, else a ValueError."""
-    view = memoryview(source)
-    if view.itemsize != 1 or view.nbytes % 14:
-        raise ValueError("frames are 14 bytes each")
+    """Returns the bytes and the number of frames. Raises ValueError unless there are 14 bytes for each."""
+    view = _binary("frames", source)
     return view.tobytes(), view.nbytes // 14
 
 
+_OF_TEXT = b"0123456789ABCDEFabcdef*; \r\n"
+
+
+def _binary(name: str, source: Union[bytes, bytearray, memoryview]) -> memoryview:
+    """Returns the bytes of frames one after the other. Raises ValueError unless there are 14 bytes for each, and for
+    texts. Text bytes cannot be squitters: the first byte of a squitter is at least 128."""
+    wanted = f"{name} are 14 bytes each, one after the other"
+    try:
+        view = memoryview(source)
+    except TypeError:
+        raise TypeError(f"{wanted}, not {type(source).__name__}") from None
+    if view.itemsize != 1 or not view.c_contiguous:
+        raise ValueError(f"{wanted}, not items of {view.itemsize} bytes")
+    if view.nbytes and not view[:14].tobytes().strip(_OF_TEXT) and not view.tobytes().strip(_OF_TEXT):
+        raise ValueError(f"{wanted}, not hexadecimal digits: {view[:32].tobytes().decode('ascii')!r}; "
+                         "a frame text is a str")
+    if view.nbytes % 14:
+        raise ValueError(f"{wanted}, not {view.nbytes} bytes")
+    return view
+
+
 def _times(moments: Sequence[int], count: int) -> ctypes.Array[ctypes.c_uint64]:
-    """The moments of so many frames, as C takes them."""
+    """Returns the timestamps of this many frames, as C takes them."""
     if len(moments) != count:
         raise ValueError(f"{count} frames and {len(moments)} moments")
-    if not all(_fits(moment, 64) for moment in moments):
+    return (ctypes.c_uint64 * count)(*map(_moment, moments))
+
+
+def _moment(moment: int) -> int:
+    """Returns a timestamp, as C takes it."""
+    if not _fits(moment, 64):
         raise ValueError("a moment is a whole number below 2**64")
-    return (ctypes.c_uint64 * count)(*map(operator.index, moments))
+    return operator.index(moment)
+
+
+def _layout(kind: Type[ctypes.Structure]) -> struct.Struct:
+    """Returns the members of a structure, and of those in it, as the module struct unpacks them."""
+    codes = {ctypes.c_uint64: "Q", ctypes.c_int64: "q", ctypes.c_uint32: "I", ctypes.c_int32: "i", ctypes.c_uint16: "H",
+             ctypes.c_uint8: "B"}
+
+    def spelled(part: Any) -> str:
+        return codes.get(part) or "".join(spelled(member) for _, member in part._fields_)
+    return struct.Struct("@" + spelled(kind))
 
 
 def _read_angle(angle: _Angle) -> Fraction:

@@ -1,12 +1,14 @@
-"""The records of squitter.batch: their types, and the moments of a log as C takes them."""
+"""The records of squitter.batch: their types, and the timestamps of a log as C takes them."""
 from __future__ import annotations
 
 import operator
 from datetime import datetime, timedelta, timezone
-from typing import Any, List, Sequence, Tuple
+from typing import Any, List, Optional, Sequence, Tuple
 
 import numpy as np
 import numpy.typing as npt
+
+from squitter._library import _fits
 
 COLUMNS = ("line", "moment", "answer", "address", "kind", "lat", "lon", "feet")
 """The columns of `squitter track --format=csv`, which rows and data frames have, in this order."""
@@ -15,19 +17,18 @@ Records = npt.NDArray[np.void]
 """A structured array of one dimension."""
 
 FAULT = np.dtype([("code", "u4"), ("second", "u4"), ("first", "u8")], align=True)
-"""A fault: `code` is one of :class:`squitter.Code`, 0 where there is an answer, with the numbers that the code has."""
+"""A fault: `code` is one of :class:`squitter.Code`, or 0 for a result, with the numbers of that code."""
 
 FIELDS = np.dtype([
     ("raw", "u8"), ("address", "u4"), ("lat", "u4"), ("lon", "u4"), ("feet", "i4"), ("altitude", "u2"),
     ("altitude_form", "u1"), ("kind", "u1"), ("ca", "u1"), ("type_code", "u1"), ("odd", "u1"), ("time", "u1"),
     ("status", "u1"), ("flag", "u1"), ("movement", "u1"), ("track_status", "u1"), ("track", "u1"),
 ], align=True)
-"""A squitter, field by field, as ``squitter_fields`` of squitter.h says them. `lat` and `lon` are the code of the
-position."""
+"""A squitter, field by field: ``squitter_fields`` of squitter.h. `lat` and `lon` are the CPR code of the position."""
 
 POSITION = np.dtype([("lat_num", "i8"), ("lat_den", "u8"), ("lon_num", "i8"), ("lon_den", "u8")], align=True)
 """A latitude, north positive, and a longitude, east positive: lat_num / lat_den and lon_num / lon_den degrees,
-exactly. What is answered is in lowest terms; a denominator of 0 is no position."""
+exactly. Results are in lowest terms; a denominator of 0 means no position."""
 
 DEGREES = np.dtype([("lat_e7", "i8"), ("lon_e7", "i8")], align=True)
 """A latitude and a longitude in units of 10^-7 degree, rounded half away from zero. They would fit 32 bits; the
@@ -37,14 +38,14 @@ TRACKED = np.dtype([
     *POSITION.descr, ("what", "u1"), ("even", "u1"), ("odd", "u1"), ("kind", "u1"), ("address", "u4"), *DEGREES.descr,
     ("feet", "i4"), ("altitude_form", "u1"),
 ], align=True)
-"""What is heard of a line of a log. `address` is the ICAO address, `kind` one of :class:`squitter.Kind`, and `what` one
-of :class:`squitter.What`. Of FIX and FOLLOWED the place stands in the fields of POSITION and of DEGREES, which are else
-all 0: a longitude of 0 is a place only where lon_den is not 0. `even` and `odd` are the zone counts of SPLIT, and else
-0. `feet` is the altitude where `altitude_form` is FEET, one of :class:`squitter.AltitudeForm`, and else 0."""
+"""The result of a line of a log. `address` is the ICAO address, `kind` is one of :class:`squitter.Kind`, and `what` is
+one of :class:`squitter.What`. The fields of POSITION and DEGREES have the position of FIX and FOLLOWED; otherwise they
+are 0. So a longitude of 0 is a position only if lon_den is not 0. `even` and `odd` are the zone counts of SPLIT,
+otherwise 0. `feet` is the altitude if `altitude_form`, one of :class:`squitter.AltitudeForm`, is FEET, otherwise 0."""
 
 
 def _is_missing(value: Any) -> bool:
-    """Whether a value stands for none: None, NaN, NaT, or NA of pandas."""
+    """Returns whether a value is missing: None, NaN, NaT, or NA of pandas."""
     if value is None:
         return True
     if isinstance(value, (float, np.floating, np.datetime64, datetime)):
@@ -52,16 +53,28 @@ def _is_missing(value: Any) -> bool:
     return type(value).__name__ == "NAType"
 
 
+def _limit(window: int, limit: Optional[int], lines: int) -> int:
+    """Returns the limit of a tracker for this many lines, which have at most as many addresses. With a limit of None no
+    line is TABLE_FULL. Raises ValueError for an invalid window or limit."""
+    if not _fits(window, 64):
+        raise ValueError("a window is a whole number below 2**64")
+    if limit is not None and not (_fits(limit, 32) and limit):
+        raise ValueError("a limit is a whole number from 1, below 2**32")
+    least = max(lines, 1)
+    return least if limit is None else min(operator.index(limit), least)
+
+
 def _moments(source: npt.ArrayLike, count: int) -> Tuple[npt.NDArray[np.uint64], npt.NDArray[np.intp]]:
-    """The moments of so many lines, as they lie in memory for C; and the lines that have none, whose moment is 0."""
+    """Returns the timestamps of this many lines, as C takes them, and the indices of missing timestamps, which become
+    0."""
     if isinstance(source, (list, tuple, range)):
-        # (an array of them all would be of floats where one is NaN)
+        # One NaN would turn an array of all timestamps into floats.
         array = np.empty(len(source), object)
         array[:] = source
     else:
         array = np.asarray(source)
     if array.shape != (count,):
-        raise ValueError(f"moments have the shape {array.shape}, and are to have ({count},)")
+        raise ValueError(f"moments have the shape {array.shape}, not ({count},)")
     missing = np.zeros(0, np.intp)
     if array.dtype.kind == "M":
         missing = np.flatnonzero(np.isnat(array))

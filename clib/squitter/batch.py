@@ -1,13 +1,13 @@
-"""Arrays of frames over NumPy: what the module squitter answers for one frame, for millions of them in one call.
+"""Arrays of frames over NumPy: the functions of the module squitter for millions of frames in one call.
 
-Each function answers two structured arrays, with a record for each frame: the answers, and the faults, whose ``code``
-is 0 where there is an answer. At a fault the record of the answer stays as it was, which is all 0 in a new array. The
-types below say each field. Both may be given, as ``out`` and ``faults``, and are then written in place.
+Each function returns two structured arrays with one record for each frame: the results, and the faults, with ``code`` 0
+for a result. For a frame with a fault, the record of the result is unchanged, so it is all 0 in a new array. The types
+below describe each field. Pass arrays as ``out`` and ``faults`` to have both written in place.
 
-Frames are bytes, an array of ``(n, 14)`` uint8 or of ``V14`` or a buffer of 14 bytes for each, or they are frame
-texts: an array of ``S28``, or of other bytes, texts or objects that are str, or a list of str. What lies in memory as
-the library takes it is read where it lies; else it is copied first. An argument of another shape, type, length or
-layout is a ValueError that names it. While a call runs nobody else may write to its arrays.
+Frames are bytes: an array of ``(n, 14)`` uint8 or of ``V14``, or a buffer of 14 bytes for each. Or they are frame
+texts: an array of ``S28``, or of other bytes, texts or objects that are str, or a list of str. An argument is read in
+place if its memory has the layout that the library takes, and copied first otherwise. An argument of another shape,
+type, length or layout raises a ValueError that names it. While a call runs nobody else may write to its arrays.
 
 >>> from squitter import batch
 >>> fields, faults = batch.read(["8D40621D58C382D690C8AC2863A7", "8D40621D58C382D690C8AC2863A6"])
@@ -24,55 +24,52 @@ layout is a ValueError that names it. While a call runs nobody else may write to
 
 from __future__ import annotations
 
+import copy
 import ctypes
-import operator
-from collections import OrderedDict
-from concurrent.futures import ThreadPoolExecutor
-from contextlib import closing
-from typing import Any, Callable, Generator, Iterable, NamedTuple, Optional, Sequence, Tuple
+from typing import Any, Dict, Iterable, NamedTuple, Optional, Sequence, Tuple, Type
 
 import numpy as np
 import numpy.typing as npt
 
 import squitter
-from squitter import Code, Kind, Position, What
-from squitter._answers import columns, csv_rows, dataframe, fractions, lines
-from squitter._library import _ARRAY, _FRAME, _Entry, _fits, _lib, _text
-from squitter._records import COLUMNS, DEGREES, FAULT, FIELDS, POSITION, TRACKED, Records, _is_missing, _moments
+from squitter import Code, Position, _parts
+from squitter._answers import ANSWER, columns, csv_rows, dataframe, fractions, lines
+from squitter._library import _FRAME, _binary, _lib, _text
+from squitter._parts import DEGREES_E7, Room, first_words
+from squitter._records import (
+    COLUMNS, DEGREES, FAULT, FIELDS, POSITION, TRACKED, Records, _is_missing, _limit, _moments,
+)
+from squitter._source import feed
 
 __all__ = [
-    "COLUMNS", "DEGREES", "FAULT", "FIELDS", "POSITION", "TRACKED", "Tracker", "columns", "csv_rows", "dataframe",
-    "fractions", "lines", "local", "pair", "pair_at", "position_e7", "positions", "read", "track",
+    "ANSWER", "COLUMNS", "DEGREES", "FAULT", "FIELDS", "POSITION", "TRACKED", "Tracker", "columns", "csv_rows",
+    "dataframe", "feed", "fractions", "lines", "local", "pair", "pair_at", "position_e7", "positions", "read", "track",
 ]
 
-_HEARD = np.dtype([*POSITION.descr, ("what", "u1"), ("even", "u1"), ("odd", "u1")], align=True)
-_DEGREES_E7 = np.dtype([("lat", "i4"), ("lon", "i4")], align=True)
-_ENTRY_WORDS = ctypes.sizeof(_Entry) // 8
-_BLOCK = 1 << 18  # lines that are heard at once, so that what is needed beside the answers stays small
-_PART = 1 << 14  # and few enough to stay in the processor's cache
-_ADDRESSES = 1 << 24  # as many as there are
+_ADDRESSES = 1 << 24  # the number of ICAO addresses
+_LEAST_LIMIT = 1000  # addresses that a tracker has room for at first
 
 
-# ---- what is handed over ----
+# ---- arguments ----
 
 
 def _given(array: npt.NDArray[Any]) -> Tuple[int, int]:
-    """An array as C takes it: where it lies, and how many elements it has."""
+    """Returns the address of an array and its number of elements, as C takes it."""
     return array.ctypes.data, len(array)
 
 
 def _room(count: int, dtype: np.dtype[Any], name: str, given: Optional[Records]) -> Records:
-    """The array to be written: a new one, or the one that is given, where it is as C needs it."""
+    """Returns the array to write: a new one, or the given one if its layout is the one that C needs."""
     if given is None:
-        # for np.empty NumPy asks the system for large pages, and for np.zeros it does not: these take longer to come
-        # than the zeros to be written
+        # NumPy asks the system for large pages in np.empty, and not in np.zeros. Small pages take longer to come than
+        # the zeros take to be written.
         new = np.empty(count * dtype.itemsize, np.uint8)
         new.fill(0)
         return new.view(dtype)
     if not isinstance(given, np.ndarray) or given.dtype != dtype or not given.dtype.isnative:
         raise ValueError(f"{name} is an array of another type than {dtype}")
     if given.shape != (count,):
-        raise ValueError(f"{name} has the shape {given.shape}, and is to have ({count},)")
+        raise ValueError(f"{name} has the shape {given.shape}, not ({count},)")
     if not given.flags.writeable:
         raise ValueError(f"{name} is read-only")
     if not given.flags.c_contiguous or not given.flags.aligned:
@@ -83,7 +80,7 @@ def _room(count: int, dtype: np.dtype[Any], name: str, given: Optional[Records])
 def _rooms(
     count: int, dtype: np.dtype[Any], out: Optional[Records], faults: Optional[Records], *inputs: npt.NDArray[Any]
 ) -> Tuple[Records, Records]:
-    """The arrays of answers and of faults, which overlap nothing."""
+    """Returns the arrays of results and of faults. Raises ValueError if they overlap each other or an input."""
     rooms = _room(count, dtype, "out", out), _room(count, FAULT, "faults", faults)
     if np.may_share_memory(*rooms) or any(np.may_share_memory(room, one) for room in rooms for one in inputs):
         raise ValueError("out and faults overlap each other or what is read")
@@ -91,31 +88,35 @@ def _rooms(
 
 
 class _Frames(NamedTuple):
-    """Frames as bytes, of shape (n, 14). Where a text is no frame they are 0, and its fault stands here."""
+    """Frames as bytes, of shape (n, 14); zeros for an invalid text. `bad` has the indices of invalid texts, and
+    `faults` their faults."""
 
     bytes: npt.NDArray[np.uint8]
     bad: npt.NDArray[np.intp]
     faults: Records
 
 
+_NO_ROWS, _NO_FAULTS = np.zeros(0, np.intp), np.zeros(0, FAULT)
+
+
 def _frames(name: str, source: npt.ArrayLike) -> _Frames:
-    """The frames of an argument of this name."""
-    none = np.zeros(0, np.intp), np.zeros(0, FAULT)
+    """Returns the frames of an argument of this name."""
+    none = _NO_ROWS, _NO_FAULTS
     if isinstance(source, (bytes, bytearray, memoryview)):
-        view = memoryview(source)
-        if view.itemsize != 1 or view.nbytes % 14 or not view.c_contiguous:
-            raise ValueError(f"{name} are 14 bytes each, one after the other")
-        # (of no bytes NumPy makes no array)
+        view = _binary(name, source)
+        # NumPy refuses to make an array from an empty buffer.
         return _Frames(np.frombuffer(view if view.nbytes else bytes(14), np.uint8, view.nbytes).reshape(-1, 14), *none)
     if isinstance(source, (list, tuple)):
         return _frames_of_texts(name, source)
     array = np.asarray(source)
+    if array.shape == (0,):
+        return _Frames(np.zeros((0, 14), np.uint8), *none)  # An empty column may have any type.
     if array.dtype == np.uint8 and array.ndim == 2 and array.shape[1] == 14:
         return _Frames(np.ascontiguousarray(array), *none)
     if array.dtype.kind not in "SUOV" or (array.dtype.kind == "V" and array.dtype != "V14"):
-        raise ValueError(f"{name} are (n, 14) of uint8, V14 or texts, and not {array.dtype} of the shape {array.shape}")
+        raise ValueError(f"{name} are (n, 14) of uint8, V14 or texts, not {array.dtype} of the shape {array.shape}")
     if array.ndim != 1:
-        raise ValueError(f"{name} have the shape {array.shape}, and are to have one dimension")
+        raise ValueError(f"{name} have {array.ndim} dimensions, not one")
     if array.dtype.kind == "V":
         return _Frames(np.ascontiguousarray(array).view(np.uint8).reshape(-1, 14), *none)
     return _frames_of_bytes(array) if array.dtype.kind == "S" else _frames_of_texts(name, array.tolist())
@@ -128,13 +129,13 @@ _NO_BODY = "-" * _BODY
 
 
 def _frames_of_texts(name: str, texts: Sequence[Any]) -> _Frames:
-    """The frames of str. A missing value is an empty text, which is a fault."""
+    """Returns the frames of str values. A missing value counts as an empty text, which has a fault."""
     if not set(map(type, texts)) <= {str}:
         for place, text in enumerate(texts):
             if not isinstance(text, str) and not _is_missing(text):
                 raise ValueError(f"{name}[{place}] is no str, but of type {type(text).__name__}")
         texts = [text if isinstance(text, str) else "" for text in texts]
-    # a byte for each character: one that is no digit stays none
+    # Each character becomes one byte, and only digits become digits.
     joined = "".join(map(_body, texts)).encode("latin-1", "replace")
     digits = np.frombuffer(joined, np.uint8) if texts else np.zeros(0, np.uint8)
     frames, bad = _decoded(digits.reshape(-1, _BODY))
@@ -142,14 +143,14 @@ def _frames_of_texts(name: str, texts: Sequence[Any]) -> _Frames:
 
 
 def _body(text: str) -> str:
-    """The 28 characters that have to be digits, or 28 that are none."""
+    """Returns the 28 characters that must be digits, or 28 characters that are not digits."""
     if len(text) == _BODY:
         return text
     return text[1:-1] if len(text) == _BODY + 2 and text[0] == "*" and text[-1] == ";" else _NO_BODY
 
 
 def _frames_of_bytes(texts: npt.NDArray[np.bytes_]) -> _Frames:
-    """The frames of an array of bytes, in which a text ends before the zeros that fill its place."""
+    """Returns the frames of an array of bytes. Each text ends before the zeros that fill its element."""
     width = texts.dtype.itemsize
     raw = np.ascontiguousarray(texts).view(np.uint8).reshape(len(texts), width)
     if width < _BODY:
@@ -166,11 +167,11 @@ def _frames_of_bytes(texts: npt.NDArray[np.bytes_]) -> _Frames:
 
 
 def _decoded(digits: npt.NDArray[np.uint8]) -> Tuple[npt.NDArray[np.uint8], npt.NDArray[np.intp]]:
-    """The frames of rows of 28 digits, and the rows with another byte, whose frames are 0."""
+    """Returns the frames of rows of 28 digits, and the indices of rows with another byte. Their frames are 0."""
     frames, bad = np.empty((len(digits), 14), np.uint8), []
     for at in range(0, len(digits), 1 << 14):  # few enough to stay in the processor's cache
         part, into = digits[at:at + (1 << 14)], frames[at:at + (1 << 14)]
-        # (a number below the first digit wraps around to one above the last)
+        # A byte below the first digit wraps around to a value above the last digit.
         good = ((part - ord("0")) < 10) | (((part | 0x20) - ord("a")) < 6)
         values = (part & 15) + 9 * (part >> 6)
         np.bitwise_or(values[:, ::2] << 4, values[:, 1::2], out=into)
@@ -182,7 +183,7 @@ def _decoded(digits: npt.NDArray[np.uint8]) -> Tuple[npt.NDArray[np.uint8], npt.
 
 
 def _text_faults(texts: Iterable[bytes]) -> Records:
-    """Why each of these texts is no frame."""
+    """Returns the faults of these texts."""
     out, told = _FRAME(), []
     for text in texts:
         fault = _lib.squitter_frame_of_text(text, len(text), ctypes.byref(out))
@@ -194,34 +195,34 @@ def _text_faults(texts: Iterable[bytes]) -> Records:
 
 
 def _positions(name: str, source: npt.ArrayLike, count: Optional[int] = None) -> Records:
-    """The positions of an array that has the fields of POSITION, as they lie in memory for C."""
+    """Returns the positions of an array with the fields of POSITION, laid out for C."""
     array = np.asarray(source)
     if array.ndim != 1 or array.dtype.names is None or not set(POSITION.names or ()) <= set(array.dtype.names):
-        raise ValueError(f"{name} are an array of POSITION, and not {array.dtype} of the shape {array.shape}")
+        raise ValueError(f"{name} are an array of POSITION, not {array.dtype} of the shape {array.shape}")
     if count is not None and len(array) != count:
-        raise ValueError(f"{name} are {len(array)}, and are to be {count}")
+        raise ValueError(f"there are {len(array)} {name}, not {count}")
     if array.dtype == POSITION and array.dtype.isnative and array.flags.c_contiguous and array.flags.aligned:
         return array
     out = np.empty(len(array), POSITION)
     for field in POSITION.names or ():
         if not np.can_cast(array.dtype[field], POSITION[field], "equiv"):
-            raise ValueError(f"{field} of {name} is {array.dtype[field]}, and is to be {POSITION[field]}")
+            raise ValueError(f"{field} of {name} is {array.dtype[field]}, not {POSITION[field]}")
         out[field] = array[field]
     return out
 
 
 def _one_position(position: Position) -> Records:
-    """A position, as an array of one."""
+    """Returns a position as an array of one."""
     return np.frombuffer(bytes(squitter._position(position)), POSITION)
 
 
 def positions(lat_e7: npt.ArrayLike, lon_e7: npt.ArrayLike) -> Records:
-    """The positions of whole numbers of 10^-7 degree: references for :func:`local`. What is no whole number that fits
-    64 bits, and other than one longitude for each latitude, is a ValueError."""
+    """Returns positions from units of 10^-7 degree, as references for :func:`local`. Raises ValueError unless all are
+    whole numbers of 64 bits, with one longitude for each latitude."""
     parts = [np.asarray(part) for part in (lat_e7, lon_e7)]
     for name, part in zip(("lat_e7", "lon_e7"), parts):
         if part.ndim != 1 or not (np.can_cast(part.dtype, np.int64) and part.dtype.kind in "iu" or part.size == 0):
-            raise ValueError(f"{name} are whole numbers of 64 bits, and not {part.dtype} of the shape {part.shape}")
+            raise ValueError(f"{name} are whole numbers of 64 bits, not {part.dtype} of the shape {part.shape}")
     if len(parts[0]) != len(parts[1]):
         raise ValueError(f"{len(parts[0])} latitudes and {len(parts[1])} longitudes")
     out = np.empty(len(parts[0]), POSITION)
@@ -233,11 +234,11 @@ def positions(lat_e7: npt.ArrayLike, lon_e7: npt.ArrayLike) -> Records:
 def position_e7(
     places: npt.ArrayLike, out: Optional[Records] = None, faults: Optional[Records] = None
 ) -> Tuple[Records, Records]:
-    """Each position in units of 10^-7 degree (DEGREES). Fault: BAD_POSITION. The places are an array of
-    POSITION, or of another type that has its fields."""
+    """Returns each position in units of 10^-7 degree (DEGREES). Fault: BAD_POSITION. The places are an array of
+    POSITION, or of another type with the same fields."""
     source = _positions("places", places)
     out, faults = _rooms(len(source), DEGREES, out, faults, source)
-    narrow = np.empty(min(len(source), 1 << 14), _DEGREES_E7)
+    narrow = np.empty(min(len(source), 1 << 14), DEGREES_E7)
     for at in range(0, len(source), len(narrow) or 1):
         part, told = source[at:at + len(narrow)], faults[at:at + len(narrow)]
         _lib.squitter_position_e7_many(*_given(part), *_given(narrow), *_given(told))
@@ -257,7 +258,7 @@ def position_e7(
 def read(
     frames: npt.ArrayLike, out: Optional[Records] = None, faults: Optional[Records] = None
 ) -> Tuple[Records, Records]:
-    """The fields of each frame (FIELDS). Faults: those of its text, and then NOT_DF17, PARITY."""
+    """Returns the fields of each frame (FIELDS). Faults: those of its text, then NOT_DF17, PARITY."""
     source = _frames("frames", frames)
     out, faults = _rooms(len(source.bytes), FIELDS, out, faults, source.bytes)
     if len(out):
@@ -269,8 +270,8 @@ def read(
 def local(
     frames: npt.ArrayLike, references: Any, out: Optional[Records] = None, faults: Optional[Records] = None
 ) -> Tuple[Records, Records]:
-    """The place of each frame near its reference (POSITION): an array of one for each frame, or one `squitter.Position`
-    for all. Faults: those of `squitter.local`."""
+    """Returns the position of each frame near its reference (POSITION). `references` has one for each frame, or is one
+    `squitter.Position` for all. Faults: those of `squitter.local`."""
     source = _frames("frames", frames)
     count = len(source.bytes)
     if isinstance(references, Position):
@@ -287,8 +288,8 @@ def local(
 def pair(
     older: npt.ArrayLike, newer: npt.ArrayLike, out: Optional[Records] = None, faults: Optional[Records] = None
 ) -> Tuple[Records, Records]:
-    """The place of the newer of each two frames (POSITION). Faults: those of `squitter.pair`; a pair on the ground is
-    NO_SITE."""
+    """Returns the position of the newer frame of each pair (POSITION). Faults: those of `squitter.pair`. A surface pair
+    has the fault NO_SITE."""
     return _pair(older, newer, None, out, faults)
 
 
@@ -296,8 +297,8 @@ def pair_at(
     older: npt.ArrayLike, newer: npt.ArrayLike, site: Position, out: Optional[Records] = None,
     faults: Optional[Records] = None,
 ) -> Tuple[Records, Records]:
-    """The same with one site, near which pairs on the ground lie. A site that is no position is BAD_POSITION at each
-    place."""
+    """The same with one receiver position (the site), which surface pairs need. With an invalid site each fault is
+    BAD_POSITION."""
     return _pair(older, newer, squitter._position(site), out, faults)
 
 
@@ -318,7 +319,7 @@ def _pair(
     else:
         _lib.squitter_pair_at_many(*frames, ctypes.byref(site), *_given(out), *_given(faults))
     if len(second.bad):
-        # what is wrong with the older frame comes before what is wrong with the text of the newer one
+        # Faults of the older frame come before faults of the newer one's text.
         _, of_older = read(first.bytes[second.bad])
         wrong = of_older["code"] != 0
         _tell(_Frames(second.bytes, second.bad, np.where(wrong, of_older, second.faults)), faults)
@@ -327,7 +328,7 @@ def _pair(
 
 
 def _tell(source: _Frames, faults: Records) -> None:
-    """Writes the faults of texts, before which only that of a reference or a site comes."""
+    """Writes the faults of texts, unless a reference or a site has a fault, which comes first."""
     told = faults["code"][source.bad] != Code.BAD_POSITION
     faults[source.bad[told]] = source.faults[told]
 
@@ -339,287 +340,104 @@ def track(
     moments: npt.ArrayLike, frames: npt.ArrayLike, window: int = 10_000, site: Optional[Position] = None,
     limit: Optional[int] = 1000, out: Optional[Records] = None, faults: Optional[Records] = None,
 ) -> Tuple[Records, Records]:
-    """What `squitter track` answers for each line of a log, in order (TRACKED): a moment in milliseconds, and a frame.
+    """Returns the results of `squitter track` for the lines of a log (TRACKED), each a timestamp in milliseconds and a
+    frame, and their faults.
 
-    The faults are those of the program, and in its order: those of a frame's text, NOT_DF17, PARITY, MOMENT_BACK
-    where the moment lies before that of the last line that was heard, TABLE_FULL. Window, site and limit are the
-    options of `track`, with the same values where they are not given. Without a limit (None) no line is TABLE_FULL:
-    the answers are those of `track --limit=16777216`, which is as many addresses as there are. A site that is no
-    position is the Fault BAD_POSITION.
+    The faults are those of the program, in its order: those of a frame's text, NOT_DF17, PARITY, MOMENT_BACK (the
+    timestamp is before that of the last accepted line), TABLE_FULL. Window, site and limit are the options of `track`,
+    with the same defaults. With a limit of None no line is TABLE_FULL, as with `track --limit=16777216`, the number of
+    all addresses. Raises the Fault BAD_POSITION if the site is out of range.
     """
     source, times = _log(moments, frames)
-    count = len(times)
-    # New arrays are written part by part, so that their pages come beside what is heard.
-    blank = None if out is not None else np.zeros(1, TRACKED)
-    rooms = [np.empty(count, dtype) if room is None else room for room, dtype in ((out, TRACKED), (faults, FAULT))]
-    out, faults = _rooms(count, TRACKED, *rooms, source.bytes, times)
-    _look_at(window, limit)
-    at_once = min(count, _PART)
-    parts = [slice(at, min(at + at_once, count)) for at in range(0, count, at_once or 1)]
-    heard_in_turn = [np.zeros(at_once, _HEARD) for _ in parts[:2]]
-    room = [np.zeros(at_once, dtype) for dtype in (POSITION, _DEGREES_E7, FAULT, FIELDS)]
+    with squitter.Tracker(window, site, _limit(window, limit, len(times))) as tracker:
+        return _hear_all(tracker, Room(min(len(times), _parts.PART)), source, times, out, faults)
 
-    told: Records = faults
 
-    def hear(number: int) -> Records:
-        part = parts[number]
-        heard = heard_in_turn[number % 2][:part.stop - part.start]
-        arrays: Tuple[npt.NDArray[Any], ...] = (times[part], source.bytes[part], heard, told[part])
-        lines_of = [word for array in arrays for word in _given(array)]
-        _lib.squitter_tracker_hear_many(ctypes.byref(tracker._tracker), *lines_of)
-        return heard
-
-    with squitter.Tracker(window, site, _ADDRESSES if limit is None else limit) as tracker, closing(
-        _one_ahead(hear, len(parts))
-    ) as hearing:
-        for part, heard in zip(parts, hearing):
-            parts_of_room = [array[:len(heard)] for array in room]
-            _write_part(heard, source.bytes[part], parts_of_room, blank, out[part], faults[part])
-    # (where a text is no frame, the bytes that were heard are 0, which is refused and changes nothing)
-    faults[source.bad] = source.faults
+def _hear_all(
+    tracker: squitter.Tracker, room: Room, source: _Frames, times: npt.NDArray[np.uint64], out: Optional[Records],
+    faults: Optional[Records],
+) -> Tuple[Records, Records]:
+    """Returns the tracker's results for lines (TRACKED) and their faults. In a given array, the records of refused
+    lines are unchanged."""
+    count, is_new = len(times), out is None
+    rooms = [np.empty(count, dtype) if given is None else given for given, dtype in ((out, TRACKED), (faults, FAULT))]
+    out, faults = rooms if is_new and faults is None else _rooms(count, TRACKED, *rooms, source.bytes, times)
+    with tracker._lock:
+        room.hear_all(tracker, times, source.bytes, out, faults, is_new)
+    # An invalid text was passed to the tracker as zeros, which it refused without a change.
+    if len(source.bad):
+        faults[source.bad] = source.faults
     return out, faults
 
 
-def _look_at(window: int, limit: Optional[int]) -> None:
-    """Raises ValueError for a window or a limit that is none."""
-    if not _fits(window, 64):
-        raise ValueError("a window is a whole number below 2**64")
-    if limit is not None and not (_fits(limit, 32) and limit):
-        raise ValueError("a limit is a whole number from 1, below 2**32")
-
-
-def _one_ahead(call: Callable[[int], Records], count: int) -> Generator[Records, None, None]:
-    """What the call answers for 0, 1 and so on. While its caller has one answer, the next call runs in another
-    thread."""
-    if count < 2:
-        yield from map(call, range(count))
-        return
-    with ThreadPoolExecutor(1) as beside:
-        under_way = beside.submit(call, 0)
-        for number in range(count):
-            answer = under_way.result()
-            if number + 1 < count:
-                under_way = beside.submit(call, number + 1)
-            yield answer
-
-
-def _write_part(
-    heard: Records, frames: npt.NDArray[np.uint8], room: Sequence[Records], blank: Optional[Records], out: Records,
-    faults: Records,
-) -> None:
-    """Writes what was heard of some lines. The room is for the places, these in degrees, which of them are none, and
-    the fields of the frames. At a fault the record stays as it was, or is blank."""
-    places, degrees, nowhere, fields = room
-    bad = np.flatnonzero(faults["code"])
-    if (faults["code"][bad] == Code.NO_MEMORY).any():
-        raise MemoryError(squitter.fault_text(Code.NO_MEMORY))
-    before = _whole(out)[bad] if blank is None else _whole(blank)
-    _front(places, POSITION)[:] = _front(heard, POSITION)
-    degrees.view(np.uint64).fill(0)  # where there is no place, both stay 0
-    _lib.squitter_position_e7_many(*_given(places), *_given(degrees), *_given(nowhere))
-    _front(out, _HEARD)[:] = _front(heard, _HEARD)
-    # (the front of a record has room for an address behind what was heard, so it comes after that)
-    np.bitwise_and(_first_words(frames), np.uint32(0xFFFFFF), out=out["address"])
-    out["lat_e7"], out["lon_e7"] = degrees["lat"], degrees["lon"]
-    _lib.squitter_read_many(*_given(frames), *_given(fields), *_given(nowhere))
-    for field in ("kind", "feet", "altitude_form"):
-        out[field] = fields[field]
-    _whole(out)[bad] = before
-
-
-def _front(records: Records, dtype: np.dtype[Any]) -> npt.NDArray[np.void]:
-    """The front of each record, as large as a record of this type, which NumPy moves whole, and not field by field."""
-    return np.ndarray(records.shape, f"V{dtype.itemsize}", records, 0, records.strides)
-
-
-def _first_words(frames: npt.NDArray[np.uint8]) -> npt.NDArray[np.uint32]:
-    """The first four bytes of each frame, of which the last three are its address."""
-    return np.ndarray(len(frames), ">u4", frames, 0, frames.strides[:1])
-
-
 class Tracker:
-    """A log that comes in pieces: what is heard of each is what :func:`track` answers for the whole of it.
+    """A log in pieces: together the results are those of :func:`track` for the whole log.
 
-    Each address is heard by itself, by the library's call for arrays: what `squitter track` answers to a line that it
-    accepts depends on what it accepted of the same address before, and of no other (`one_address_alone` in
-    docs/THEOREMS.md). Other addresses count in two refusals alone, MOMENT_BACK and TABLE_FULL. These are told apart
-    first, over all lines in order.
-
-    A tracker keeps 192 bytes for each address with a position that is at most the window older than the last moment.
-    A pickle of it goes on elsewhere, on a machine of the same byte order. One thread at a time may let a tracker hear.
+    It is a :class:`squitter.Tracker` for arrays. It can be pickled, and unpickled on a machine of the same byte order.
+    One thread at a time may call it.
     """
 
-    __slots__ = ("_addresses", "_entries", "_last", "_limit", "_site", "_window")
+    __slots__ = ("_most", "_rooms", "_tracker")
 
     def __init__(
         self, window: int = 10_000, site: Optional[Position] = None, limit: Optional[int] = 1000
     ) -> None:
-        """A tracker that has heard nothing."""
-        _look_at(window, limit)
-        self._window, self._limit = operator.index(window), limit if limit is None else operator.index(limit)
-        self._site = None if site is None else bytes(squitter._position(site))
-        squitter._look(None if site is None else squitter._position(site))
-        self._last = 0
-        # addresses in order, and of each what C's squitter_entry has
-        self._addresses = np.zeros(0, np.uint32)
-        self._entries = np.zeros((0, _ENTRY_WORDS), np.uint64)
+        """Creates a tracker without lines; window, site and limit as for :func:`track`."""
+        self._most = _limit(window, limit, _ADDRESSES)
+        self._tracker = squitter.Tracker(window, site, min(self._most, _LEAST_LIMIT))
+        self._rooms: Dict[int, Room] = {}
 
     @property
     def last(self) -> int:
-        """The moment of the last line that was heard, 0 where none was."""
-        return self._last
+        """The timestamp of the last accepted frame; 0 if none was accepted."""
+        return self._tracker.last
 
     def hear(
         self, moments: npt.ArrayLike, frames: npt.ArrayLike, out: Optional[Records] = None,
         faults: Optional[Records] = None,
     ) -> Tuple[Records, Records]:
-        """What is heard of the next lines (TRACKED), as :func:`track` says it."""
+        """Returns the results of the next lines (TRACKED) and their faults, as :func:`track` does."""
         source, times = _log(moments, frames)
-        count = len(times)
-        out, faults = _rooms(count, TRACKED, out, faults, source.bytes, times)
-        fields = np.empty(min(count, _BLOCK), FIELDS)
-        for at in range(0, count, _BLOCK):
-            part = slice(at, min(at + _BLOCK, count))
-            told, read_as = faults[part], fields[:part.stop - at]
-            _lib.squitter_read_many(*_given(source.bytes[part]), *_given(read_as), *_given(told))
-            these = slice(*np.searchsorted(source.bad, (part.start, part.stop)))
-            told[source.bad[these] - at] = source.faults[these]
-            self._hear_block(times[part], source.bytes[part], read_as, out[part], told)
-        return out, faults
+        self._make_room(source.bytes)
+        return _hear_all(self._tracker, self._room(len(times)), source, times, out, faults)
 
-    def _hear_block(
-        self, times: npt.NDArray[np.uint64], frames: npt.NDArray[np.uint8], fields: Records, out: Records,
-        faults: Records,
-    ) -> None:
-        """Hears lines whose frames were read, and writes what is heard of them."""
-        good = faults["code"] == 0
-        positions = good & (fields["kind"] != Kind.OTHER)
-        addresses = np.unique(fields["address"][positions])
-        known = np.union1d(self._addresses, addresses)
-        if self._limit is not None and len(known) > self._limit:
-            last = self._refuse_one_by_one(times, fields, good, faults)
-        else:
-            last = self._refuse(times, good, faults)
-        accepted = faults["code"] == 0
-        entries = np.zeros((len(known), _ENTRY_WORDS), np.uint64)
-        entries[np.searchsorted(known, self._addresses)] = self._entries
-        at = np.flatnonzero(accepted & positions)
-        at = at[_in_order(fields["address"][at])]
-        those = _whole(frames)[at].view(np.uint8).reshape(-1, 14)
-        _whole(out)[at] = _whole(self._hear_positions(times[at], those, fields["address"][at], known, entries))
-        others = np.flatnonzero(accepted & ~positions)
-        told = np.zeros(len(others), TRACKED)
-        told["what"], told["address"] = What.NO_PLACE, fields["address"][others]
-        _whole(out)[others] = _whole(told)
-        heard = np.flatnonzero(accepted)
-        for field in ("kind", "feet", "altitude_form"):
-            out[field][heard] = fields[field][heard]
-        # what is older than the window is as good as nothing, and all zero is what was never heard
-        kept = entries.any(axis=1) & (np.uint64(last) - entries[:, 1] <= np.uint64(self._window))
-        self._addresses, self._entries, self._last = known[kept], entries[kept], last
+    def __reduce__(self) -> Tuple[Any, ...]:
+        """Returns a tracker with the same settings and state, without its scratch arrays."""
+        return _unpickled, (type(self), self._most, self._tracker)
 
-    def _refuse(self, times: npt.NDArray[np.uint64], good: npt.NDArray[np.bool_], faults: Records) -> int:
-        """Refuses the lines that lie before the last one, which is the greatest moment of all before: one that is
-        refused is not above it. Answers the last moment."""
-        before = np.empty(len(times) + 1, np.uint64)
-        before[0] = self._last
-        before[1:] = np.where(good, times, np.uint64(0))
-        np.maximum.accumulate(before, out=before)
-        back = np.flatnonzero(good & (times < before[:-1]))
-        faults["code"][back], faults["first"][back] = Code.MOMENT_BACK, before[:-1][back]
-        return int(before[-1])
+    def _room(self, count: int) -> Room:
+        """Returns memory for pieces of this size: one for each power of two, because a new one takes longer than a
+        small piece."""
+        size = min(1 << max(count - 1, 1).bit_length(), _parts.PART)
+        room = self._rooms.get(size)
+        if room is None:
+            room = self._rooms[size] = Room(size)
+        return room
 
-    def _refuse_one_by_one(
-        self, times: npt.NDArray[np.uint64], fields: Records, good: npt.NDArray[np.bool_], faults: Records
-    ) -> int:
-        """The same where the table may be full. A line that is refused for that sets no moment and takes no place in
-        it, so that each line has to be looked at after those before it. Answers the last moment."""
-        by_age = np.argsort(self._entries[:, 1], kind="stable")
-        present = OrderedDict(zip(self._addresses[by_age].tolist(), self._entries[by_age, 1].tolist()))
-        last, window, limit, told = self._last, self._window, self._limit or 0, []
-        places = np.flatnonzero(good)
-        columns = (places, times[places], fields["address"][places], fields["kind"][places])
-        for place, moment, address, kind in zip(*(column.tolist() for column in columns)):
-            if moment < last:
-                told.append((place, Code.MOMENT_BACK, last))
-                continue
-            if kind != Kind.OTHER:
-                if address in present:
-                    present.move_to_end(address)
-                elif len(present) >= limit:
-                    while present and moment - next(iter(present.values())) > window:
-                        present.popitem(last=False)
-                    if len(present) >= limit:
-                        told.append((place, Code.TABLE_FULL, 0))
-                        continue
-                present[address] = moment
-            last = moment
-        for place, code, first in told:
-            faults[place] = code, 0, first
-        return last
-
-    def _hear_positions(
-        self, times: npt.NDArray[np.uint64], frames: npt.NDArray[np.uint8], addresses: npt.NDArray[np.uint32],
-        known: npt.NDArray[np.uint32], entries: npt.NDArray[np.uint64],
-    ) -> Records:
-        """What is heard of positions that are accepted, those of an address together and in order."""
-        count = len(addresses)
-        heard, faults = np.empty(count, _HEARD), np.empty(count, FAULT)
-        starts = np.flatnonzero(np.diff(addresses, prepend=~addresses[:1]))
-        ends = np.append(starts[1:], count)
-        hear = _hearing(self._window, self._site)
-        at_entry, bytes_of_entry = entries.ctypes.data, entries.strides[0]
-        arrays: Tuple[npt.NDArray[Any], ...] = times, frames, heard, faults
-        at = [(array.ctypes.data, array.strides[0]) for array in arrays]
-        which_entry = np.searchsorted(known, addresses[starts])
-        for which, start, end in zip(which_entry.tolist(), starts.tolist(), ends.tolist()):
-            given = [word for place, size in at for word in (place + size * start, end - start)]
-            hear(at_entry + bytes_of_entry * which, *given)
-        assert not faults["code"].any(), "what is accepted is heard"
-        return _tracked(heard, addresses)
+    def _make_room(self, frames: npt.NDArray[np.uint8]) -> None:
+        """Replaces the tracker by a larger one, up to the limit, if these frames may bring more addresses than fit."""
+        window, site, room = self._tracker._settings
+        if room == self._most or (present := len(self._tracker)) + len(frames) <= room:
+            return
+        wanted = present + len(np.unique(first_words(frames) & np.uint32(0xFFFFFF)))
+        if wanted <= room:
+            return
+        larger = squitter.Tracker(window, site, min(max(2 * room, wanted), self._most))
+        larger._restore(*self._tracker._save())
+        self._tracker.close()
+        self._tracker = larger
 
 
-def _tracked(heard: Records, addresses: npt.NDArray[np.uint32]) -> Records:
-    """What was heard of positions of these addresses, with the places in degrees."""
-    told = np.zeros(len(heard), TRACKED)
-    words = _words_of_places(heard)
-    _words_of_places(told)[:] = words
-    for field in ("what", "even", "odd"):
-        told[field] = heard[field]
-    told["address"] = addresses
-    placed = np.flatnonzero(heard["lat_den"])
-    places = np.ascontiguousarray(words if len(placed) == len(heard) else words[placed]).view(POSITION)
-    degrees, _ = position_e7(places.reshape(-1))
-    told["lat_e7"][placed], told["lon_e7"][placed] = degrees["lat_e7"], degrees["lon_e7"]
-    return told
-
-
-def _words_of_places(records: Records) -> npt.NDArray[np.uint64]:
-    """The position with which each record begins, as four words."""
-    return records.view(np.uint64).reshape(len(records), records.itemsize // 8)[:, :POSITION.itemsize // 8]
-
-
-def _whole(rows: npt.NDArray[Any]) -> npt.NDArray[np.void]:
-    """Rows or records as pieces of memory, which NumPy moves whole, and not field by field. (Of one row the stride may
-    be any.)"""
-    width = rows.itemsize * (rows.shape[1] if rows.ndim == 2 else 1)
-    return np.ndarray(len(rows), f"V{width}", rows, 0, rows.strides[:1])
-
-
-def _hearing(window: int, site: Optional[bytes]) -> Callable[..., int]:
-    """The library's call by which lines of one address are heard: an entry and four arrays are what it takes."""
-    name = "squitter_hear_many" if site is None else "squitter_hear_at_many"
-    call = _lib[name]  # (by its name in brackets it is a new object, whose entry is an address)
-    of_site = [] if site is None else [ctypes.c_char_p]
-    call.argtypes = [ctypes.c_void_p, ctypes.c_uint64, *of_site, *(4 * _ARRAY)]
-    call.restype = ctypes.c_size_t
-    if site is None:
-        return lambda entry, *arrays: call(entry, window, *arrays)
-    return lambda entry, *arrays: call(entry, window, site, *arrays)
+def _unpickled(kind: Type[Tracker], most: int, tracker: squitter.Tracker) -> Tracker:
+    """Returns a tracker with this limit and a copy of this state."""
+    made = kind.__new__(kind)
+    made._most, made._tracker, made._rooms = most, copy.copy(tracker), {}
+    return made
 
 
 def _log(moments: npt.ArrayLike, frames: npt.ArrayLike) -> Tuple[_Frames, npt.NDArray[np.uint64]]:
-    """The frames and the moments of a log. A line without a moment has the fault BAD_MOMENT, and its frame is 0."""
+    """Returns the frames and the timestamps of a log. A line without a timestamp gets the fault BAD_MOMENT and a frame
+    of zeros."""
     source = _frames("frames", frames)
     times, missing = _moments(moments, len(source.bytes))
     if not len(missing):
@@ -630,10 +448,3 @@ def _log(moments: npt.ArrayLike, frames: npt.ArrayLike) -> Tuple[_Frames, npt.ND
     faults[np.searchsorted(bad, source.bad)] = source.faults
     faults[np.searchsorted(bad, missing)] = Code.BAD_MOMENT, 0, 0
     return _Frames(blank, bad, faults), times
-
-
-def _in_order(addresses: npt.NDArray[np.uint32]) -> npt.NDArray[np.intp]:
-    """The places of addresses, those of the lowest first, and those of one address as they come: sorted by the lower 16
-    bits and then by the others, which takes a time that grows with the number of places alone."""
-    order = np.argsort(addresses.astype(np.uint16), kind="stable")
-    return order[np.argsort((addresses[order] >> 16).astype(np.uint8), kind="stable")]

@@ -16,7 +16,7 @@ from fractions import Fraction
 HERE = os.path.dirname(os.path.abspath(__file__))
 sys.path.insert(0, os.path.join(HERE, ".."))
 import squitter  # noqa: E402
-from squitter import AirHead, Code, Contact, Fault, GroundHead, Kind, Position, What  # noqa: E402
+from squitter import AirHead, Code, Contact, Fault, GroundHead, Kind, Position, Tracker, What  # noqa: E402
 
 PROGRAM = os.environ.get("PROGRAM") or subprocess.run(
     [os.path.join(HERE, "..", "..", "dist", "program")], check=True, stdout=subprocess.PIPE, text=True).stdout.strip()
@@ -97,12 +97,11 @@ def summary(text):
     return f"ok {fields.address:06X} {kind} {PARITIES[fields.odd]} {fields.lat} {fields.lon}"
 
 
-def heard_line(contacts, moment, text, site):
+def heard_line(tracker, moment, text):
     """The line of `track`, without its number."""
     try:
         address = squitter.read(text).address
-        contact = contacts.setdefault(address, Contact(10_000, site))
-        heard = contact.hear(moment, text)
+        heard = tracker.hear(moment, text)
     except Fault as fault:
         return str(fault)
     line = f"{WORDS[heard.what]} {address:06X}"
@@ -132,12 +131,12 @@ def compare_logs(rng, texts, _count):
     *lines, tally = out.splitlines()
     for number, (text, line) in enumerate(zip(texts, lines), 1):
         same(f"check of {text!r}", f"{number} {summary(text)}", line)
-    moment, log, contacts, ours = 0, [], {}, []
-    site = Position(Fraction(521, 10), 4)
+    moment, log, ours = 0, [], []
+    tracker = Tracker(site=Position(Fraction(521, 10), 4))
     for number, text in enumerate(texts, 1):
         moment += rng.randint(0, 900)
         log.append(f"{moment} {text}\n")
-        ours.append(f"{number} {heard_line(contacts, moment, text, site)}")
+        ours.append(f"{number} {heard_line(tracker, moment, text)}")
     out, _, _ = run("track", "--lat", "52.1", "--lon", "4", text="".join(log))
     theirs = out.splitlines()
     same("lines of track", len(ours), len(theirs))

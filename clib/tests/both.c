@@ -16,9 +16,14 @@ squitter_fault r_squitter_local(const uint8_t *, const squitter_position *, squi
 squitter_fault r_squitter_local_zones(const uint8_t *, const squitter_position *, squitter_zones *);
 squitter_fault r_squitter_pair(const uint8_t *, const uint8_t *, squitter_position *);
 squitter_fault r_squitter_pair_at(const uint8_t *, const uint8_t *, const squitter_position *, squitter_position *);
-squitter_fault r_squitter_hear(squitter_entry *, uint64_t, uint64_t, const uint8_t *, squitter_heard *);
-squitter_fault r_squitter_hear_at(squitter_entry *, uint64_t, const squitter_position *, uint64_t, const uint8_t *,
-                                  squitter_heard *);
+size_t r_squitter_tracker_size(uint32_t);
+squitter_fault r_squitter_tracker_new_at(squitter_tracker *, squitter_block, uint32_t, uint64_t,
+                                         const squitter_position *);
+squitter_fault r_squitter_tracker_hear(squitter_tracker *, uint64_t, const uint8_t *, squitter_heard *);
+size_t r_squitter_tracker_hear_many(squitter_tracker *, const uint64_t *, size_t, const uint8_t (*)[14], size_t,
+                                    squitter_heard *, size_t, squitter_fault *, size_t);
+size_t r_squitter_tracker_save(squitter_tracker *, squitter_last *, squitter_entry *, size_t);
+squitter_fault r_squitter_tracker_restore(squitter_tracker *, const squitter_last *, const squitter_entry *, size_t);
 size_t r_squitter_read_many(const uint8_t (*)[14], size_t, squitter_fields *, size_t, squitter_fault *, size_t);
 size_t r_squitter_local_many(const uint8_t (*)[14], size_t, const squitter_position *, size_t, squitter_position *,
                              size_t, squitter_fault *, size_t);
@@ -26,10 +31,6 @@ size_t r_squitter_pair_many(const uint8_t (*)[14], size_t, const uint8_t (*)[14]
                             squitter_fault *, size_t);
 size_t r_squitter_pair_at_many(const uint8_t (*)[14], size_t, const uint8_t (*)[14], size_t, const squitter_position *,
                                squitter_position *, size_t, squitter_fault *, size_t);
-size_t r_squitter_hear_many(squitter_entry *, uint64_t, const uint64_t *, size_t, const uint8_t (*)[14], size_t,
-                            squitter_heard *, size_t, squitter_fault *, size_t);
-size_t r_squitter_hear_at_many(squitter_entry *, uint64_t, const squitter_position *, const uint64_t *, size_t,
-                               const uint8_t (*)[14], size_t, squitter_heard *, size_t, squitter_fault *, size_t);
 size_t r_squitter_position_e7_many(const squitter_position *, size_t, squitter_degrees_e7 *, size_t, squitter_fault *,
                                    size_t);
 squitter_fault r_squitter_angle_e7(const squitter_angle *, int64_t *);
@@ -185,37 +186,55 @@ static int are_one_side(const squitter_side *a, const squitter_side *b) {
     && !memcmp(a->odd.frame, b->odd.frame, 14) && !memcmp(&a->fix, &b->fix, sizeof a->fix);
 }
 static int are_one(const squitter_entry *a, const squitter_entry *b) {
-  return a->last == b->last && a->newest == b->newest && are_one_side(&a->airborne, &b->airborne)
+  return a->moment == b->moment && a->address == b->address && are_one_side(&a->airborne, &b->airborne)
     && are_one_side(&a->surface, &b->surface);
 }
 
-/* One entry, heard by both: its bytes stay the same, and at a fault as they were. Now and then any bytes. */
+enum { LIMIT = 8 };
+static squitter_tracker trackers[2];
+static squitter_entry entries[2][LIMIT];
+static squitter_last last[2];
+
+/* A tracker of each build, both with the same site. */
+static void make_trackers(const squitter_position *site) {
+  static squitter_block blocks[2];
+  size_t size = squitter_tracker_size(LIMIT);
+  for (int i = 0; i < 2 && !blocks[i].memory; i++) {
+    blocks[i].size = size;
+    if (!(blocks[i].memory = malloc(size))) exit(2);
+  }
+  same("tracker_new_at", squitter_tracker_new_at(&trackers[0], blocks[0], LIMIT, 1000, site),
+       r_squitter_tracker_new_at(&trackers[1], blocks[1], LIMIT, 1000, site), "", "", 0);
+}
+
+/* Both trackers save the same state, and restore it alike, as they do any other bytes in its place. */
+static void save(void) {
+  memset(entries, 7, sizeof entries);
+  size_t n = squitter_tracker_save(&trackers[0], &last[0], entries[0], LIMIT);
+  size_t m = r_squitter_tracker_save(&trackers[1], &last[1], entries[1], LIMIT);
+  int differ = n != m || n > LIMIT || memcmp(&last[0], &last[1], sizeof last[0]);
+  for (size_t k = 0; k < n && !differ; k++) differ = !are_one(&entries[0][k], &entries[1][k]);
+  if (differ && differences++ < 5) printf("tracker_save differs\n");
+  if (n && below(2)) ((uint8_t *)entries[0])[below(n * sizeof entries[0][0])] ^= (uint8_t)next();
+  squitter_fault f = squitter_tracker_restore(&trackers[0], &last[0], entries[0], n);
+  squitter_fault g = r_squitter_tracker_restore(&trackers[1], &last[0], entries[0], n);
+  same("tracker_restore", f, g, "", "", 0);
+}
+
+/* Adds a frame to both trackers. */
 static void hear(const squitter_position *site) {
-  static squitter_entry entry[2];
   static uint64_t moment;
-  squitter_entry before = entry[0];
   squitter_heard heard[2];
-  squitter_fault f, g;
   const uint8_t *frame = pool[below(64)];
+  if (!trackers[0].full || !below(4096)) make_trackers(site);
+  if (!trackers[0].full) return;
   memset(heard, 7, sizeof heard);
   moment += below(40);
   uint64_t at = below(16) ? moment : moment - below(100);
-  if (below(2)) {
-    f = squitter_hear(&entry[0], 1000, at, frame, &heard[0]);
-    g = r_squitter_hear(&entry[1], 1000, at, frame, &heard[1]);
-  } else {
-    f = squitter_hear_at(&entry[0], 1000, site, at, frame, &heard[0]);
-    g = r_squitter_hear_at(&entry[1], 1000, site, at, frame, &heard[1]);
-  }
-  same("hear", f, g, &heard[0], &heard[1], UP_TO(squitter_heard, odd));
-  if (!are_one(&entry[0], &entry[1]) || (f.code && !are_one(&before, &entry[0]))) {
-    if (differences++ < 5) printf("hear differs: entries\n");
-  }
-  if (!below(64)) {
-    for (size_t k = 0; k < sizeof entry[0]; k++) ((uint8_t *)&entry[0])[k] = below(2) ? next() : 0;
-    entry[0].last = 0;
-    entry[1] = entry[0];
-  }
+  squitter_fault f = squitter_tracker_hear(&trackers[0], at, frame, &heard[0]);
+  squitter_fault g = r_squitter_tracker_hear(&trackers[1], at, frame, &heard[1]);
+  same("tracker_hear", f, g, &heard[0], &heard[1], UP_TO(squitter_heard, odd));
+  if (!below(64)) save();
 }
 
 /* Calls one build and the other with arrays of which each may be the shortest: what they return, each element of `out`
@@ -241,25 +260,19 @@ static void arrays(const squitter_position *p, const squitter_position *q, const
   squitter_fault faults[2][ROOM];
   squitter_heard heard[2][ROOM];
   squitter_degrees_e7 degrees[2][ROOM];
-  squitter_entry entry[4] = {0};
   MANY(read_many, fields, UP_TO(squitter_fields, track), older, ROOM);
   MANY(local_many, places, sizeof places[0][0], older, ROOM, near_all, ROOM);
   MANY(pair_many, places, sizeof places[0][0], older, ROOM, newer, ROOM);
   MANY(pair_at_many, places, sizeof places[0][0], older, ROOM, newer, ROOM, site);
   MANY(position_e7_many, degrees, sizeof degrees[0][0], near_all, ROOM);
-  /* (two entries a call: the arguments are written out once for each build) */
+  if (!trackers[0].full) return;
   memset(heard, 7, sizeof heard);
   memset(faults, 7, sizeof faults);
-  for (int with = 0; with < 2; with++) {
-    squitter_entry *a = &entry[2 * with], *b = a + 1;
-    size_t n = with ? squitter_hear_at_many(a, 10, site, moments, ROOM, older, ROOM, heard[0], ROOM, faults[0], ROOM)
-                    : squitter_hear_many(a, 10, moments, ROOM, older, ROOM, heard[0], ROOM, faults[0], ROOM);
-    size_t m = with ? r_squitter_hear_at_many(b, 10, site, moments, ROOM, older, ROOM, heard[1], ROOM, faults[1], ROOM)
-                    : r_squitter_hear_many(b, 10, moments, ROOM, older, ROOM, heard[1], ROOM, faults[1], ROOM);
-    int differ = n != m || !are_one(a, b) || memcmp(faults[0], faults[1], sizeof faults[0]);
-    for (int k = 0; k < ROOM; k++) differ |= memcmp(&heard[0][k], &heard[1][k], UP_TO(squitter_heard, odd));
-    if (differ && differences++ < 5) printf("hear_many differs\n");
-  }
+  size_t n = squitter_tracker_hear_many(&trackers[0], moments, ROOM, older, ROOM, heard[0], ROOM, faults[0], ROOM);
+  size_t m = r_squitter_tracker_hear_many(&trackers[1], moments, ROOM, older, ROOM, heard[1], ROOM, faults[1], ROOM);
+  int differ = n != m || memcmp(faults[0], faults[1], sizeof faults[0]);
+  for (int k = 0; k < ROOM; k++) differ |= memcmp(&heard[0][k], &heard[1][k], UP_TO(squitter_heard, odd));
+  if (differ && differences++ < 5) printf("tracker_hear_many differs\n");
 }
 
 int main(int argc, char **argv) {

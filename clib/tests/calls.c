@@ -113,17 +113,26 @@ static void check_parts(void) {
 }
 
 static void check_hearing(const uint8_t *older, const uint8_t *newer) {
-  squitter_entry *entry = calloc(1, sizeof *entry);
+  size_t size = squitter_tracker_size(3);
+  squitter_block block = {size, malloc(size)};
+  squitter_tracker *tracker = calloc(1, sizeof *tracker);
+  squitter_entry *entry = malloc(sizeof *entry);
+  squitter_last *last = malloc(sizeof *last);
   squitter_heard heard;
   squitter_position site = {{52, 1}, {4, 1}};
-  if (!entry) exit(2);
-  CHECK(squitter_hear(entry, 10000, 5, older, &heard).code == SQUITTER_OK && heard.what == SQUITTER_WAITING);
-  CHECK(squitter_hear(entry, 10000, 9, newer, &heard).code == SQUITTER_OK && heard.what == SQUITTER_FIX);
+  if (!block.memory || !tracker || !entry || !last) exit(2);
+  CHECK(squitter_tracker_new_at(tracker, block, 3, 10000, &site).code == SQUITTER_OK);
+  CHECK(squitter_tracker_hear(tracker, 5, older, &heard).code == SQUITTER_OK && heard.what == SQUITTER_WAITING);
+  CHECK(squitter_tracker_hear(tracker, 9, newer, &heard).code == SQUITTER_OK && heard.what == SQUITTER_FIX);
   CHECK(heard.position.lat.num == 428091 && heard.position.lat.den == 8192);
-  CHECK(squitter_hear_at(entry, 10000, &site, 8, older, &heard).code == SQUITTER_MOMENT_BACK);
+  CHECK(squitter_tracker_hear(tracker, 8, older, &heard).code == SQUITTER_MOMENT_BACK);
+  CHECK(squitter_tracker_save(tracker, last, entry, 1) == 1 && last->moment == 9 && entry->address == 0x40621D);
+  CHECK(squitter_tracker_restore(tracker, last, entry, 1).code == SQUITTER_OK && squitter_tracker_len(tracker) == 1);
+  CHECK(squitter_tracker_restore(tracker, last, entry, 0).code == SQUITTER_OK && squitter_tracker_len(tracker) == 0);
   memset(entry, 0xFF, sizeof *entry);
-  CHECK(squitter_hear(entry, 10000, 5, older, &heard).code == SQUITTER_MOMENT_BACK);
-  free(entry);
+  CHECK(squitter_tracker_restore(tracker, last, entry, 1).code == SQUITTER_BAD_ENTRY);
+  squitter_tracker_free(tracker);
+  free(block.memory), free(tracker), free(entry), free(last);
 }
 
 /* Each call of arrays, on arrays of their exact size: what single calls answer, and as it was beyond the shortest. */
@@ -132,14 +141,10 @@ static void check_arrays(const uint8_t *older, const uint8_t *newer) {
   squitter_position *places = calloc(3, sizeof *places), *near_all = malloc(2 * sizeof *near_all);
   squitter_fields *fields = calloc(3, sizeof *fields);
   squitter_fault *faults = calloc(3, sizeof *faults);
-  squitter_heard *heard = calloc(3, sizeof *heard);
   squitter_degrees_e7 *degrees = calloc(2, sizeof *degrees);
-  squitter_entry *entry = calloc(1, sizeof *entry);
-  uint64_t *moments = calloc(2, sizeof *moments);
   uint8_t (*first)[14] = calloc(3, 14), (*second)[14] = calloc(3, 14);
   int64_t number = 0;
-  if (!places || !near_all || !fields || !faults || !heard || !degrees || !entry || !moments) exit(2);
-  if (!first || !second) exit(2);
+  if (!places || !near_all || !fields || !faults || !degrees || !first || !second) exit(2);
   near_all[0] = near_all[1] = near_it;
   memcpy(first[1], older, 14);
   memcpy(second[0], older, 14);
@@ -159,12 +164,7 @@ static void check_arrays(const uint8_t *older, const uint8_t *newer) {
   CHECK(faults[0].code == SQUITTER_BAD_POSITION && degrees[1].lat == 522572021 && degrees[1].lon == 39193726);
   CHECK(squitter_position_e7(&near_it, degrees).code == SQUITTER_OK && degrees[0].lat == 520000000);
   CHECK(squitter_angle_e7(&near_it.lon, &number).code == SQUITTER_OK && number == 40000000);
-  moments[1] = 9;
-  CHECK(squitter_hear_many(entry, 10000, moments, 2, news, 3, heard, 3, faults, 3) == 2);
-  CHECK(heard[0].what == SQUITTER_WAITING && heard[1].what == SQUITTER_FIX && !heard[2].what && entry->last == 9);
-  CHECK(squitter_hear_at_many(entry, 10000, &site, moments, 1, news, 3, heard, 3, faults, 3) == 1);
-  CHECK(faults[0].code == SQUITTER_MOMENT_BACK && faults[0].first == 9 && heard[0].what == SQUITTER_WAITING);
-  free(places), free(near_all), free(fields), free(faults), free(heard), free(degrees), free(entry), free(moments);
+  free(places), free(near_all), free(fields), free(faults), free(degrees);
   free(first), free(second);
 }
 

@@ -1,4 +1,4 @@
-/* Each call once on what it is for, and once on what it refuses: worked rows, and that *out is as it was at a fault. */
+/* Tests each call once on a worked example, and once on invalid input, which must leave *out unchanged. */
 #include "squitter.h"
 #include <stddef.h>
 #include <stdio.h>
@@ -32,7 +32,7 @@ static int same_place(const squitter_position *one, const squitter_position *oth
   return same_angle(one->lat, other->lat) && same_angle(one->lon, other->lon);
 }
 
-/* What is lent to a call is filled with this byte before it; where the call refuses, each byte is as it was. */
+/* Outputs are filled with this byte before a call; after a fault each byte must be unchanged. */
 enum { UNTOUCHED = 9 };
 static void filled(void *at, size_t size) { memset(at, UNTOUCHED, size); }
 static int is_filled(const void *at, size_t size) {
@@ -169,6 +169,7 @@ static void try_altitudes(void) {
 
 static void try_texts_of_faults(void) {
   squitter_fault zones = {SQUITTER_ZONE_COUNTS, 44, 45}, parity = {SQUITTER_PARITY, 0, 0xA}, unknown = {77, 0, 0};
+  squitter_fault entry = {SQUITTER_BAD_ENTRY, 0, UINT64_MAX};
   char text[SQUITTER_FAULT_TEXT_BYTES];
   filled(text, sizeof text);
   squitter_text_of_fault(&zones, text);
@@ -177,46 +178,9 @@ static void try_texts_of_faults(void) {
   IS(strcmp(text, "parity 00000A") == 0);
   squitter_text_of_fault(&unknown, text);
   IS(strcmp(text, "unknown fault") == 0);
+  squitter_text_of_fault(&entry, text);
+  IS(strcmp(text, "bad entry 18446744073709551615") == 0);
   IS(squitter_version() == 256);
-}
-
-static void try_hearing_a_pair(void) {
-  squitter_entry entry, before;
-  squitter_heard heard;
-  memset(&entry, 0, sizeof entry), memset(&heard, 0, sizeof heard);
-  IS(is_ok(squitter_hear(&entry, 10000, 5, odd, &heard)) && heard.what == SQUITTER_WAITING &&
-     heard.position.lat.den == 0);
-  IS(is_ok(squitter_hear(&entry, 10000, 10005, even, &heard)) && heard.what == SQUITTER_FIX &&
-     same_place(&heard.position, &place));
-  before = entry;
-  IS(is_fault(squitter_hear(&entry, 10000, 10004, odd, &heard), SQUITTER_MOMENT_BACK, 10005));
-  IS(is_fault(squitter_hear(&entry, 10000, 10006, no_squitter, &heard), SQUITTER_NOT_DF17, 0));
-  IS(memcmp(&entry, &before, sizeof entry) == 0 && heard.what == SQUITTER_FIX && same_place(&heard.position, &place));
-  IS(is_ok(squitter_hear(&entry, 10000, 20006, odd, &heard)) && heard.what == SQUITTER_WAITING);
-}
-
-static void try_following(void) {
-  squitter_entry entry;
-  squitter_heard heard;
-  memset(&entry, 0, sizeof entry);
-  entry.airborne.fix.position = place;
-  entry.airborne.fix.moment = 3;
-  IS(is_ok(squitter_hear(&entry, 10, 13, even, &heard)) && heard.what == SQUITTER_FOLLOWED &&
-     same_place(&heard.position, &place));
-}
-
-static void try_hearing_near_a_site(void) {
-  squitter_entry entry, waiting;
-  squitter_heard heard;
-  memset(&entry, 0, sizeof entry);
-  IS(is_ok(squitter_hear(&entry, 10, 1, ground_older, &heard)) && heard.what == SQUITTER_WAITING);
-  waiting = entry;
-  IS(is_ok(squitter_hear(&entry, 10, 2, ground_newer, &heard)) && heard.what == SQUITTER_WITHOUT_SITE);
-  entry = waiting;
-  IS(is_fault(squitter_hear_at(&entry, 10, &nowhere, 2, ground_newer, &heard), SQUITTER_BAD_POSITION, 0));
-  IS(memcmp(&entry, &waiting, sizeof entry) == 0 && heard.what == SQUITTER_WITHOUT_SITE);
-  IS(is_ok(squitter_hear_at(&entry, 10, &site, 2, ground_newer, &heard)));
-  IS(heard.what == SQUITTER_FIX && same_place(&heard.position, &ground_place));
 }
 
 static void try_reading_many(void) {
@@ -256,23 +220,6 @@ static void try_places_of_many(void) {
   IS(is_ok(faults[0]) && same_place(&out[0], &ground_place) && is_ok(faults[1]) && same_place(&out[1], &place));
 }
 
-static void try_hearing_many(void) {
-  static const uint64_t moments[] = {5, 6, 7, 8}, later[] = {6, 7};
-  frame_bytes frames[3];
-  squitter_entry entry;
-  squitter_heard out[3];
-  squitter_fault faults[3];
-  memset(&entry, 0, sizeof entry), filled(out, sizeof out);
-  memcpy(frames[0], odd, sizeof odd), memset(frames[1], 0, sizeof frames[1]), memcpy(frames[2], even, sizeof even);
-  IS(squitter_hear_many(&entry, 10000, moments, 4, (const frame_bytes *)frames, 3, out, 3, faults, 3) == 3);
-  IS(is_ok(faults[0]) && out[0].what == SQUITTER_WAITING);
-  IS(is_fault(faults[1], SQUITTER_NOT_DF17, 0) && is_filled(&out[1], sizeof out[1]));
-  IS(is_ok(faults[2]) && out[2].what == SQUITTER_FIX && same_place(&out[2].position, &place));
-  IS(squitter_hear_at_many(&entry, 10000, &site, later, 2, (const frame_bytes *)frames, 3, out, 3, faults, 3) == 2);
-  IS(is_fault(faults[0], SQUITTER_MOMENT_BACK, 7) && out[0].what == SQUITTER_WAITING &&
-     is_fault(faults[1], SQUITTER_NOT_DF17, 0));
-}
-
 /* 428091/8192 is 52.2572021484375, and 64215/16384 is 3.91937255859375. */
 static void try_whole_numbers(void) {
   static const squitter_position places[] = {{{-90, 1}, {-180, 1}}, {{7, 0}, {7, 0}}};
@@ -292,7 +239,11 @@ static void try_whole_numbers(void) {
   IS(is_fault(faults[1], SQUITTER_BAD_POSITION, 0) && is_filled(&out[1], sizeof out[1]));
 }
 
-/* The calls of a tracker; tests/tracker.c tries them on a log, and without memory. */
+/* A block for a tracker of nine addresses. */
+_Alignas(16) static unsigned char memory[1 << 14];
+static const squitter_block block = {sizeof memory, memory};
+
+/* Tests the calls of a tracker; tests/tracker.c tests them in other blocks. */
 static void try_a_tracker(void) {
   squitter_tracker tracker = {0, 0};
   squitter_present present = {9, 9};
@@ -304,10 +255,11 @@ static void try_a_tracker(void) {
   IS(is_fault(squitter_tracker_get(&tracker, 0, &present), SQUITTER_NO_TRACKER, 0) && present.moment == 9 &&
      present.address == 9);
   squitter_tracker_free(&tracker);
-  IS(is_fault(squitter_tracker_new(&tracker, 0, 10000), SQUITTER_NO_LIMIT, 0));
-  IS(is_fault(squitter_tracker_new_at(&tracker, 0, 10000, &nowhere), SQUITTER_BAD_POSITION, 0));
-  IS(is_fault(squitter_tracker_new_at(&tracker, 0, 10000, &place), SQUITTER_NO_LIMIT, 0));
-  IS(is_ok(squitter_tracker_new_at(&tracker, 1, 10000, &place)) && is_ok(squitter_tracker_new(&tracker, 1, 10000)));
+  IS(is_fault(squitter_tracker_new(&tracker, block, 0, 10000), SQUITTER_NO_LIMIT, 0));
+  IS(is_fault(squitter_tracker_new_at(&tracker, block, 0, 10000, &nowhere), SQUITTER_BAD_POSITION, 0));
+  IS(is_fault(squitter_tracker_new_at(&tracker, block, 0, 10000, &place), SQUITTER_NO_LIMIT, 0));
+  IS(is_ok(squitter_tracker_new_at(&tracker, block, 1, 10000, &place)));
+  IS(is_ok(squitter_tracker_new(&tracker, block, 1, 10000)));
   IS(is_ok(squitter_tracker_hear(&tracker, 0, odd, &heard)) && heard.what == SQUITTER_WAITING);
   IS(is_ok(squitter_tracker_hear(&tracker, 400, even, &heard)));
   IS(heard.what == SQUITTER_FIX && same_place(&heard.position, &place));
@@ -328,13 +280,87 @@ static void try_a_tracker_with_many(void) {
   squitter_fault faults[5];
   filled(out, sizeof out), filled(faults, sizeof faults);
   memcpy(frames[0], odd, sizeof odd), memset(frames[1], 0, sizeof frames[1]), memcpy(frames[2], even, sizeof even);
-  IS(is_ok(squitter_tracker_new(&tracker, 9, 10000)));
+  IS(is_ok(squitter_tracker_new(&tracker, block, 9, 10000)));
   IS(squitter_tracker_hear_many(&tracker, moments, 4, (const frame_bytes *)frames, 3, out, 4, faults, 5) == 3);
   IS(is_ok(faults[0]) && out[0].what == SQUITTER_WAITING);
   IS(is_fault(faults[1], SQUITTER_NOT_DF17, 0) && is_filled(&out[1], sizeof out[1]));
   IS(is_ok(faults[2]) && out[2].what == SQUITTER_FIX && same_place(&out[2].position, &place));
   IS(is_filled(&out[3], sizeof out[3]) && is_filled(&faults[3], 2 * sizeof faults[3]));
   squitter_tracker_free(&tracker);
+}
+
+static void try_a_tracker_near_a_site(void) {
+  squitter_tracker tracker = {0, 0};
+  squitter_heard heard;
+  IS(is_ok(squitter_tracker_new(&tracker, block, 9, 10)));
+  IS(is_ok(squitter_tracker_hear(&tracker, 1, ground_older, &heard)) && heard.what == SQUITTER_WAITING);
+  IS(is_ok(squitter_tracker_hear(&tracker, 2, ground_newer, &heard)) && heard.what == SQUITTER_WITHOUT_SITE);
+  IS(is_fault(squitter_tracker_new_at(&tracker, block, 9, 10, &nowhere), SQUITTER_BAD_POSITION, 0));
+  IS(is_ok(squitter_tracker_new_at(&tracker, block, 9, 10, &site)));
+  IS(is_ok(squitter_tracker_hear(&tracker, 1, ground_older, &heard)) && heard.what == SQUITTER_WAITING);
+  IS(is_ok(squitter_tracker_hear(&tracker, 2, ground_newer, &heard)));
+  IS(heard.what == SQUITTER_FIX && same_place(&heard.position, &ground_place));
+  squitter_tracker_free(&tracker);
+}
+
+/* Tests that a tracker returns the same results after saving and restoring; tests/tracker.c tests refused states. */
+static void try_saving(void) {
+  squitter_tracker tracker = {0, 0};
+  squitter_last last = {9, 9};
+  squitter_entry entries[2];
+  squitter_heard heard;
+  filled(entries, sizeof entries);
+  IS(squitter_tracker_save(&tracker, &last, entries, 2) == 0 && last.moment == 9 && is_filled(entries, sizeof entries));
+  IS(is_fault(squitter_tracker_restore(&tracker, &last, entries, 1), SQUITTER_NO_TRACKER, 0));
+  IS(is_ok(squitter_tracker_new(&tracker, block, 9, 10000)));
+  IS(squitter_tracker_save(&tracker, &last, entries, 2) == 0 && last.moment == 0 && last.heard == 0);
+  IS(is_ok(squitter_tracker_hear(&tracker, 5, odd, &heard)) && is_ok(squitter_tracker_hear(&tracker, 9, even, &heard)));
+  IS(squitter_tracker_save(&tracker, &last, entries, 0) == 1 && is_filled(entries, sizeof entries));
+  IS(last.moment == 9 && last.heard == 1);
+  IS(squitter_tracker_save(&tracker, &last, entries, 2) == 1 && is_filled(&entries[1], sizeof entries[1]));
+  IS(entries[0].moment == 9 && entries[0].address == 0x40621D && entries[0].airborne.odd.moment == 5);
+  IS(memcmp(entries[0].airborne.odd.frame, odd, sizeof odd) == 0 && entries[0].airborne.even.moment == 9);
+  IS(entries[0].airborne.fix.moment == 9 && entries[0].surface.fix.position.lat.den == 0);
+  IS(is_ok(squitter_tracker_new(&tracker, block, 9, 10000)));
+  IS(is_ok(squitter_tracker_restore(&tracker, &last, entries, 1)) && squitter_tracker_len(&tracker) == 1);
+  IS(is_fault(squitter_tracker_hear(&tracker, 8, even, &heard), SQUITTER_MOMENT_BACK, 9));
+  IS(is_ok(squitter_tracker_hear(&tracker, 10004, even, &heard)) && heard.what == SQUITTER_FIX);
+  IS(same_place(&heard.position, &place));
+  entries[1] = entries[0];
+  IS(is_fault(squitter_tracker_restore(&tracker, &last, entries, 2), SQUITTER_BAD_ENTRY, 1));
+  IS(squitter_tracker_len(&tracker) == 0 && is_ok(squitter_tracker_hear(&tracker, 0, even, &heard)));
+  squitter_tracker_free(&tracker);
+}
+
+/* Tests the calls of a feed; tests/feed.c tests them with each format, in pieces and in other blocks. */
+static void try_a_feed(void) {
+  static const char log[] = "400 8D40621D58C382D690C8AC2863A7";
+  squitter_feed feed = {0, 0};
+  squitter_done done;
+  squitter_counts counts;
+  uint64_t moment = 9;
+  uint32_t format = 9;
+  frame_bytes frame;
+  char text[SQUITTER_LINE_BYTES];
+  filled(&done, sizeof done), filled(&counts, sizeof counts), filled(frame, sizeof frame);
+  IS(is_fault(squitter_feed_take(&feed, log, 32, 0, &moment, 1, &frame, 1, &done), SQUITTER_NO_TRACKER, 0));
+  IS(is_fault(squitter_feed_counts(&feed, &counts), SQUITTER_NO_TRACKER, 0));
+  IS(is_fault(squitter_feed_new(&feed, block, 4, 10000, 0), SQUITTER_BAD_FORMAT, 0));
+  IS(is_fault(squitter_feed_format(log, 32, &format), SQUITTER_BAD_FORMAT, 0) && format == 9);
+  IS(is_ok(squitter_feed_format("7 *2040;\n", 9, &format)) && format == SQUITTER_FEED_LOG);
+  IS(is_filled(&done, sizeof done) && is_filled(&counts, sizeof counts) && is_filled(frame, sizeof frame));
+  IS(squitter_feed_size() <= block.size && is_ok(squitter_feed_new(&feed, block, SQUITTER_FEED_LOG, 10000, 0)));
+  IS(is_ok(squitter_feed_take(&feed, log, 32, 0, &moment, 1, &frame, 1, &done)) && done.taken == 32);
+  IS(done.written == 0 && moment == 9);
+  IS(is_ok(squitter_feed_finish(&feed, 0, &moment, 1, &frame, 1, &done)) && done.written == 1 && moment == 400);
+  IS(memcmp(frame, even, sizeof even) == 0);
+  IS(is_ok(squitter_feed_take_text(&feed, log, 32, 0, text, sizeof text, &done)) && done.written == 0);
+  IS(is_ok(squitter_feed_finish_text(&feed, 0, text, sizeof text, &done)) && done.written == 33);
+  IS(memcmp(text, log, 32) == 0 && text[32] == '\n');
+  IS(is_ok(squitter_feed_take(&feed, "x", 1, 0, &moment, 1, &frame, 1, &done)));
+  IS(is_ok(squitter_feed_disconnected(&feed)));
+  IS(is_ok(squitter_feed_counts(&feed, &counts)) && counts.found == 3 && counts.written == 2 && counts.damaged == 1);
+  squitter_feed_free(&feed);
 }
 
 int main(void) {
@@ -347,15 +373,14 @@ int main(void) {
   try_angles();
   try_altitudes();
   try_texts_of_faults();
-  try_hearing_a_pair();
-  try_following();
-  try_hearing_near_a_site();
   try_reading_many();
   try_places_of_many();
-  try_hearing_many();
   try_whole_numbers();
   try_a_tracker();
   try_a_tracker_with_many();
+  try_a_tracker_near_a_site();
+  try_saving();
+  try_a_feed();
   printf("exports: %d of %d wrong\n", wrong, tried);
   return wrong != 0;
 }

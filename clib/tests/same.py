@@ -14,7 +14,7 @@ import tempfile
 HERE = os.path.dirname(os.path.abspath(__file__))
 CLIB = os.path.dirname(HERE)
 CRATES = [os.path.join(os.path.dirname(CLIB), "crates", name)
-          for name in ("sq_plain", "squitter_c", "squitter_tracker")]
+          for name in ("sq_plain", "squitter_c")]
 sys.path.insert(0, CLIB)
 os.environ.setdefault("LIBSQUITTER", os.path.join(CLIB, "libsquitter.so.0"))
 import squitter  # noqa: E402
@@ -32,19 +32,22 @@ STRUCTS = {
     "PlainFix": ("squitter_last_fix", "_LastFix"), "PlainSide": ("squitter_side", "_Side"),
     "PlainEntry": ("squitter_entry", "_Entry"), "PlainHeard": ("squitter_heard", "_Heard"),
     "DegreesE7": ("squitter_degrees_e7", "_DegreesE7"), "PlainZones": ("squitter_zones", "_Zones"),
-    "PlainPresent": ("squitter_present", "_Present"), "Slot": ("squitter_tracker", "_Tracker"),
+    "PlainPresent": ("squitter_present", "_Present"), "Slot": ("squitter_tracker", "_Slot"),
+    "Room": ("squitter_block", "_Block"), "PlainAnswer": ("squitter_answer", "_Answer"),
+    "Done": ("squitter_done", "_Done"), "PlainTally": ("squitter_tally", "_Tally"),
+    "PlainLast": ("squitter_last", "_Last"),
+    "FeedSlot": ("squitter_feed", "_Slot"), "PlainCounts": ("squitter_counts", "_Counts"),
 }
 # Reasons whose code has another name in C.
 RENAMED = {
     "NoPosition": "BAD_POSITION", "NoHead": "BAD_FIELDS", "NoAngle": "BAD_ANGLE", "NoLatitude": "BAD_LATITUDE",
     "NoFeet": "BAD_FEET", "NoParity": "BAD_PARITY", "angles.OutOfRange": "ANGLE_RANGE", "lines.Moment": "BAD_MOMENT",
     "lines.Full": "TABLE_FULL", "lines.NotDf17": "NOT_DF17", "Memory": "NO_MEMORY",
+    "NoFormat": "BAD_FORMAT", "Entry": "BAD_ENTRY",
 }
-# Reasons of the tracker alone, which is in no page.
-OF_TRACKER = {"NO_MEMORY", "NO_LIMIT", "NO_TRACKER", "NO_ADDRESS"}
-# What the libraries may want: no function of the C library but these, which compilers call by themselves, the heap of
-# the tracker, and of the archive the divisions of libgcc.
-WANTED = {"memcpy", "memset", "memmove", "memcmp", "malloc", "realloc", "free", "__udivti3", "__umodti3"}
+# The symbols that the libraries may need: functions of the C library that compilers call by themselves, and, for the
+# archive, the divisions of libgcc.
+WANTED = {"memcpy", "memset", "memmove", "memcmp", "__udivti3", "__umodti3"}
 differences = []
 
 
@@ -63,47 +66,54 @@ def sources():
 
 
 def c_type(rust):
-    """A Rust type as C has it: the type and what stands after the name."""
-    array = re.fullmatch(r"\[u8; (\d+)\]", rust)
+    """Returns the C type of a Rust type, and the text after the name."""
+    array = re.fullmatch(r"\[(u8|u64); (\d+)\]", rust)
     if array:
-        return "uint8_t", f"[{array[1]}]"
+        return NUMBERS[array[1]], f"[{array[2]}]"
     return (NUMBERS[rust] if rust in NUMBERS else STRUCTS[rust][0]), ""
 
 
-def slot_fields():
-    """The fields of the crate's Slot, in which those of the seal stand in its place."""
-    texts = {}
-    for name in ("slot", "seal"):
-        with open(os.path.join(os.path.dirname(CRATES[0]), "sq_seal", "src", f"{name}.rt"), encoding="utf-8") as file:
-            body = re.search(r"#\[repr\(C\)\]\npub struct \w+ \{\n(.*?)\n\}", file.read(), re.S)[1]
-        texts[name] = re.findall(r"^    (?:pub )?(\w+): ([\w* ]+),$", body, re.M)
-    for name, kind in texts["slot"]:
-        yield from texts["seal"] if kind == "Seal" else [(name, kind)]
+def fields_of(crate, name, file):
+    """Returns the fields of a struct with private fields, from this file of the crate."""
+    path = os.path.join(os.path.dirname(CRATES[0]), crate, "src", f"{file}.rt")
+    with open(path, encoding="utf-8") as file:
+        body = re.search(rf"#\[repr\(C\)\]\n(?:#\[[^\n]*\]\n)*pub struct {name} \{{\n(.*?)\n\}}", file.read(), re.S)[1]
+    return re.findall(r"^    (?:pub(?:\(crate\))? )?(\w+): ([\w* ]+),$", body, re.M)
 
 
 def structs():
-    """Each #[repr(C)] struct with its fields, in order."""
-    yield "Slot", list(slot_fields())
+    """Yields each #[repr(C)] struct with its fields, in order. Seals and memories are replaced by their own fields."""
+    for slot, file, seal, sealed in (("Slot", "slot", "Seal", "seal"),
+                                     ("FeedSlot", "feed_slot", "FeedSeal", "feed_seal")):
+        yield slot, [field for name, kind in fields_of("sq_seal", slot, file)
+                     for field in (fields_of("sq_seal", seal, sealed) if kind == seal else [(name, kind)])]
+    memory = [kind for _, kind in fields_of("sq_lent", "Memory", "memory")]
+    room = fields_of("sq_lent", "Room", "memory")
+    yield "Room", [(name, memory[0] if kind == "Memory" else kind) for name, kind in room]
     for source in sources():
         for name, body in re.findall(r"#\[repr\(C\)\]\n(?:#\[[^\n]*\]\n)*pub struct (\w+) \{\n(.*?)\n\}", source, re.S):
             yield name, re.findall(r"^    pub (\w+): (.*),$", body, re.M)
 
 
 def exports():
-    """Each export: its name, its parameters and what it answers."""
+    """Yields the name, the parameters and the result of each export."""
     for source in sources():
         for name, parameters, answer in re.findall(r"pub extern \"C\" fn (\w+)\((.*?)\)(?: -> (\w+))?\n", source, re.S):
-            found = re.findall(r"(\w+): (&?(?:mut )?(?:\[+\w+(?:; \d+)?\]+|\w+))", parameters)
-            # (an allocator has no size, and does not cross)
-            yield name, [(parameter, kind) for parameter, kind in found if kind != "Global"], answer
+            yield name, re.findall(r"(\w+): (&?(?:mut )?(?:\[+\w+(?:; \d+)?\]+|\w+))", parameters), answer
 
 
-def c_parameter(name, rust, texts):
-    """A parameter as C declares it. The bytes of a text are char in C, those of a frame uint8_t."""
+def c_parameter(call, name, rust):
+    """Returns a parameter of a call as C declares it. The bytes of a text are char in C, those of a frame uint8_t."""
     if rust == "&[u8]":
         return "const char *, size_t"
+    if rust == "&mut [u8]":
+        return "char *, size_t"
     if rust == "&[[u8; 14]]":
         return "const uint8_t (*)[14], size_t"
+    if rust == "&mut [[u8; 14]]":
+        return "uint8_t (*)[14], size_t"
+    if rust == "&mut Slot":
+        return "squitter_log *" if call.startswith("squitter_log_") else "squitter_tracker *"
     many = re.fullmatch(r"&(mut )?\[(\w+)\]", rust)
     if many:
         return f"{'' if many[1] else 'const '}{c_type(many[2])[0]} *, size_t"
@@ -111,7 +121,8 @@ def c_parameter(name, rust, texts):
     if not borrowed:
         return c_type(rust)[0]
     array = re.fullmatch(r"\[u8; (\d+)\]", borrowed[2])
-    kind = ("char" if texts and name == "out" else "uint8_t") if array else c_type(borrowed[2])[0]
+    is_text = name == "out" and call.startswith(("squitter_text_of", "squitter_log_header"))
+    kind = ("char" if is_text else "uint8_t") if array else c_type(borrowed[2])[0]
     return f"{'' if borrowed[1] else 'const '}{kind} *"
 
 
@@ -122,6 +133,9 @@ def c_checks():
     for name, fields in structs():
         seen.add(name)
         here = STRUCTS[name][0]
+        if name == "Slot":
+            yield f'_Static_assert(sizeof(squitter_log) == sizeof({here}), "size of squitter_log");'
+            yield f'_Static_assert(offsetof(squitter_log, at) == offsetof({here}, at), "at of squitter_log");'
         yield f"struct own_{here} {{ {' '.join(f'{c_type(t)[0]} {n}{c_type(t)[1]};' for n, t in fields)} }};"
         yield f'_Static_assert(sizeof(struct own_{here}) == sizeof({here}), "size of {here}");'
         yield f'_Static_assert(_Alignof(struct own_{here}) == _Alignof({here}), "alignment of {here}");'
@@ -134,8 +148,7 @@ def c_checks():
     for name in set(STRUCTS) - seen:
         differ(f"the crates have no struct {name}")
     for name, parameters, answer in exports():
-        texts = name.startswith("squitter_text_of")
-        kinds = ", ".join(c_parameter(n, t, texts) for n, t in parameters) or "void"
+        kinds = ", ".join(c_parameter(name, n, t) for n, t in parameters) or "void"
         result = {"": "void", "Fault": "squitter_fault", "usize": "size_t"}.get(answer) or NUMBERS[answer]
         yield f'_Static_assert(_Generic(&{name}, {result} (*)({kinds}): 1, default: 0), "type of {name}");'
 
@@ -159,7 +172,7 @@ def check_python_structs():
         if [n for n, _ in here._fields_] != [n for n, _ in fields]:
             differ(f"fields of {here.__name__} in the module")
         for (field, rust), (_, kind) in zip(fields, here._fields_):
-            plain = "c_void_p" if rust == "*mut u8" else "c_" + NUMBERS.get(rust, "")[:-2]
+            plain = {"*mut u8": "c_void_p", "usize": "c_size_t"}.get(rust, "c_" + NUMBERS.get(rust, "")[:-2])
             if rust in NUMBERS and kind is not getattr(ctypes, plain):
                 differ(f"type of {field} of {here.__name__} in the module")
 
@@ -188,15 +201,14 @@ def check_codes():
         differ(f"codes of squitter.h: {sorted(set(named.items()) ^ set(codes.items()))}")
     if {code.name: code.value for code in squitter.Code} != codes:
         differ("codes of the module")
-    without_tracker = {name: code for name, code in codes.items() if name not in OF_TRACKER}
     for file, told in in_page("Code"):
-        if told != without_tracker:
-            differ(f"codes of {file}: {sorted(set(told.items()) ^ set(without_tracker.items()))}")
+        if told != codes:
+            differ(f"codes of {file}: {sorted(set(told.items()) ^ set(codes.items()))}")
 
 
 def in_page(enum):
     """What the module for JavaScript and its types say of an enum, by the names of the files."""
-    for file, start, number in (("squitter.js", rf"export const {enum} = ", r"(\w+): (\d+)"),
+    for file, start, number in (("squitter_values.js", rf"export const {enum} = ", r"(\w+): (\d+)"),
                                 ("squitter.d.ts", rf"export declare const {enum}: ", r"readonly (\w+): (\d+);")):
         with open(os.path.join(os.path.dirname(CLIB), "web", file), encoding="utf-8") as text:
             block = re.search(start + r".*?\}", text.read(), re.S)
@@ -210,11 +222,12 @@ def definitions(crate, file, pattern):
 
 
 def check_enums():
-    """The other enums: the kind of a squitter, the form of its altitude and what is heard have in the header and in the
-    module the numbers that the definitions say."""
+    """Compares the other enums with their definitions: kinds, altitude forms, results and formats have the same numbers
+    in the header and in the module."""
     kinds = definitions("squitter_c", "Fields.antt", r"^pub record IsPlain(\w+) .*\n  pub kind : plain\.kind ≡ (\d+)$")
     forms = definitions("squitter_c", "Fields.antt", r"^IsPlainAltitude \(?altitudes\.(\w+)[^=]*= \(form ≡ (\d+)\)")
     heard = definitions("sq_plain", "Heard.antt", r"^IsPlainHeard \(?(\w+)[^=]*= IsHeardAs (\d+) ")
+    feeds = definitions("squitter_c", "FeedCalls.antt", r"^feed_number formats\.(\w+) = (\d+)$")
     # the enum of the module, what the definitions say, and the names of the cases in the module and in the header
     rows = (
         (squitter.Kind, kinds, {"Other": "OTHER OTHER", "Airborne": "AIR AIR", "Surface": "GROUND GROUND"}),
@@ -223,6 +236,8 @@ def check_enums():
         (squitter.What, heard, {
             "Fix": "FIX FIX", "Followed": "FOLLOWED FOLLOWED", "Waiting": "WAITING WAITING", "Split": "SPLIT SPLIT",
             "Far": "FAR FAR", "NoSite": "WITHOUT_SITE WITHOUT_SITE", "NotPosition": "NO_PLACE NO_PLACE"}),
+        (squitter.FeedFormat, feeds, {
+            "Beast": "BEAST FEED_BEAST", "Avr": "AVR FEED_AVR", "Csv": "CSV FEED_CSV", "Log": "LOG FEED_LOG"}),
     )
     blocks = [{name: int(number) for name, number in re.findall(r"SQUITTER_(\w+) = (\d+)", block)}
               for block in re.findall(r"^enum \{\n(.*?)^\};", header(), re.M | re.S)]
@@ -257,20 +272,9 @@ def check_symbols():
         wanted = {row[-1].split("@")[0] for row in symbols(*words, "--undefined-only", path)}
         if wanted - WANTED:
             differ(f"{file} wants {sorted(wanted - WANTED)}")
-    called = {f"squitter_{name}" for name in {**_library._CALLS, **_library._MANY}}
-    called |= {"squitter_text_of_frame", "squitter_text_of_fault", "squitter_version"}
-    called |= {"squitter_tracker_len", "squitter_tracker_free"}
+    called = {f"squitter_{name}" for name in {**_library._CALLS, **_library._MANY, **_library._SURE}}
     if called != names:
         differ(f"calls of the module: {sorted(called ^ names)}")
-
-
-def check_heap():
-    """The heap of the tracker: that of the program, line by line."""
-    with open(os.path.join(CLIB, "heap.c"), encoding="utf-8") as file:
-        ours = file.read().partition("#include <stdlib.h>\n\n")[2]
-    with open(os.path.join(os.path.dirname(CLIB), "dist", "os.c"), encoding="utf-8") as file:
-        if not ours or not file.read().endswith("\n" + ours):
-            differ("heap.c and dist/os.c")
 
 
 def check_tests():

@@ -3,10 +3,13 @@
 `track` beside the program, byte for byte, on logs of the repository and random ones; arrays that are wrong, empty,
 read-only, not contiguous or of the other byte order. PROGRAM is the program (the launcher at the top of the
 repository where it is not set). Needs NumPy."""
+import bz2
 import ctypes
 import doctest
+import gzip
 import io
 import json
+import lzma
 import os
 import pathlib
 import pickle
@@ -29,7 +32,8 @@ HERE = os.path.dirname(os.path.abspath(__file__))
 TOP = os.path.join(HERE, "..", "..")
 sys.path.insert(0, os.path.join(HERE, ".."))
 import squitter  # noqa: E402
-from squitter import AirHead, Code, Contact, Fault, GroundHead, Kind, Position, What, _library, batch  # noqa: E402
+from squitter import AirHead, Code, Contact, Fault, GroundHead, Kind, Position, What  # noqa: E402
+from squitter import _library, _parts, batch  # noqa: E402
 
 try:
     import pandas
@@ -179,8 +183,8 @@ class Batch(unittest.TestCase):
             self.alike(batch.read(cut), (single(squitter.read, one.decode()) for one in cut.tolist()), fields)
 
     def test_layouts(self) -> None:
-        kinds = {batch.FAULT: "_Fault", batch.FIELDS: "_Fields", batch.POSITION: "_Position", batch._HEARD: "_Heard",
-                 batch._DEGREES_E7: "_DegreesE7"}
+        kinds = {batch.FAULT: "_Fault", batch.FIELDS: "_Fields", batch.POSITION: "_Position", _parts.HEARD: "_Heard",
+                 _parts.DEGREES_E7: "_DegreesE7"}
         for dtype, name in kinds.items():
             self.assertEqual((list(flat(getattr(_library, name))), ctypes.sizeof(getattr(_library, name))), (
                 [(dtype.fields[one][1], dtype.fields[one][0].itemsize, one) for one in dtype.names], dtype.itemsize))
@@ -244,7 +248,7 @@ class Track(unittest.TestCase):
 
         frames = np.tile(np.frombuffer(bytes.fromhex(EVEN), np.uint8), (60_000, 1))
         with mock.patch.object(squitter.Tracker, "close", closed):
-            with mock.patch.object(batch, "_write_part", side_effect=KeyboardInterrupt):
+            with mock.patch.object(_parts.Room, "write", side_effect=KeyboardInterrupt):
                 self.assertRaises(KeyboardInterrupt, batch.track, range(60_000), frames)
         self.assertEqual(running, [0])
 
@@ -300,23 +304,21 @@ class Track(unittest.TestCase):
             self.assertEqual(answers.count(b" fix "), 1000 if limit == 1000 else len(addresses))
 
     def test_blocks(self) -> None:
-        """What is heard does not depend on how many lines are heard at once."""
+        """The results do not depend on how many lines are decoded at once."""
         moments, texts = random_log(random.Random(9), 3000)
-        whole, was = batch.track(moments, texts, site=SITE, limit=30), batch._BLOCK
-        try:
-            for batch._BLOCK in (1, 7, 1000):
+        whole = batch.track(moments, texts, site=SITE, limit=30)
+        for size in (1, 7, 1000):
+            with mock.patch.object(_parts, "PART", size):
                 tracker = batch.Tracker(site=SITE, limit=30)
                 for call in (batch.track, tracker.hear):
                     options = {"site": SITE, "limit": 30} if call is batch.track else {}
                     for ours, theirs in zip(call(moments, texts, **options), whole):
                         np.testing.assert_array_equal(ours, theirs)
-        finally:
-            batch._BLOCK = was
 
     def test_parts(self) -> None:
         """What is heard ahead, in another thread, does not take the place of what is not yet written."""
         moments, texts = random_log(random.Random(10), 2000)
-        whole, write = batch.track(moments, texts, site=SITE), batch._write_part
+        whole, write = batch.track(moments, texts, site=SITE), _parts.Room.write
 
         def late(*given: Any) -> None:
             time.sleep(0.02)  # (the next part is heard meanwhile)
@@ -324,9 +326,26 @@ class Track(unittest.TestCase):
 
         for size in (1, 2, 90, 700):
             count = min(len(texts), 12 * size)
-            with mock.patch.object(batch, "_PART", size), mock.patch.object(batch, "_write_part", late):
+            with mock.patch.object(_parts, "PART", size), mock.patch.object(_parts.Room, "write", late):
                 for ours, theirs in zip(batch.track(moments[:count], texts[:count], site=SITE), whole):
                     np.testing.assert_array_equal(ours, theirs[:count])
+
+    def test_rooms(self) -> None:
+        """A tracker keeps memory for each power of two up to a part, and uses it again."""
+        tracker = batch.Tracker()
+        for count, size in ((1, 2), (2, 2), (3, 4), (4, 4), (5, 8)):
+            self.assertEqual(tracker._room(count).count, size)
+            self.assertIs(tracker._room(count), tracker._room(size))
+        for count in (_parts.PART, _parts.PART + 1, 10 * _parts.PART):
+            self.assertEqual(tracker._room(count).count, _parts.PART)
+
+    def test_no_memory(self) -> None:
+        """NO_MEMORY of any line is a MemoryError."""
+        def hear(turn: Any, *given: Any) -> None:
+            turn.codes[1] = Code.NO_MEMORY
+
+        with mock.patch.object(_parts._Turn, "hear", hear):
+            self.assertRaises(MemoryError, batch.track, [0, 1], [ODD, EVEN])
 
     def test_at_the_window(self) -> None:
         """What is as old as the window is kept between pieces, and what is older is not."""
@@ -342,7 +361,21 @@ class Track(unittest.TestCase):
         refused = Code.TABLE_FULL
         for moment, text, code in ((0, ODD, 0), (10, other, refused), (11, other, 0), (11, ODD, refused)):
             self.assertEqual(full.hear([moment], [text])[1]["code"].tolist(), [code], moment)
-        self.assertEqual((full.last, len(full._addresses)), (11, 1))
+        self.assertEqual((full.last, len(full._tracker)), (11, 1))
+
+    def test_room(self) -> None:
+        """A tracker grows as addresses come, up to its limit, and keeps its state."""
+        frames = [[squitter.encode(AirHead(one, odd=odd), Position(52, 4)) for one in range(1003)] for odd in (0, 1)]
+        for limit, full in ((None, 0), (1003, 0), (1002, 1), (1001, 2)):
+            for first in (999, 1000, 1001):
+                tracker = batch.Tracker(limit=limit)
+                rooms, told = [], []
+                for piece in (frames[0][:first], frames[0][first:], frames[1]):
+                    told.append(tracker.hear([0] * len(piece), np.frombuffer(b"".join(piece), "V14")))
+                    rooms.append(tracker._tracker._settings[2])
+                self.assertEqual(rooms[0], 1000 if first < 1001 else min(2000, limit or 2000))
+                self.assertEqual([(faults["code"] != 0).sum() for _, faults in told[1:]], [full, full])
+                self.assertEqual((told[2][0]["what"] == What.FIX).sum(), 1003 - full)
 
     def test_beside_contacts(self) -> None:
         """The exact places are those that the library hears of one address."""
@@ -365,7 +398,7 @@ class Track(unittest.TestCase):
         for wrong in ({"window": -1}, {"window": 1 << 64}, {"limit": 0}, {"limit": 1 << 32}):
             with self.assertRaises(ValueError):
                 batch.Tracker(**wrong)
-        for wrong in ({"window": 1.0}, {"limit": 1.0}, {"site": (52.0, 4.0)}):
+        for wrong in ({"window": 1.0}, {"limit": 1.0}, {"site": (52, None)}):
             with self.assertRaises(TypeError):
                 batch.Tracker(**wrong)
         with self.assertRaises(Fault):
@@ -378,6 +411,25 @@ class Arrays(unittest.TestCase):
     def refused(self, words: str, call: Callable[..., Any], *arguments: Any, **named: Any) -> None:
         with self.assertRaisesRegex(ValueError, words):
             call(*arguments, **named)
+
+    def test_texts_as_bytes(self) -> None:
+        """Bytes of hexadecimal digits are refused, here and in squitter.read_many. Among other frames, a frame of
+        digits is decoded."""
+        for data in (EVEN.encode(), EVEN.lower().encode() * 3, f"*{EVEN};".encode(), f"{EVEN}\r\n".encode() * 7):
+            for call in (batch.read, squitter.read_many):
+                for source in (data, bytearray(data), memoryview(data)):
+                    self.refused("frames are 14 bytes each.*hexadecimal digits.*a frame text is a str", call, source)
+        mixed = b"8D40621D58C382" + bytes.fromhex(EVEN)
+        self.assertEqual(batch.read(mixed)[1]["code"].tolist(), [Code.NOT_DF17, 0])
+        self.assertEqual(len(squitter.read_many(mixed)), 2)
+        self.refused(", not 13 bytes", batch.read, bytes(13))
+        self.refused(", not 29 bytes", squitter.read_many, bytes.fromhex(EVEN) * 2 + b"8")
+        with self.assertRaisesRegex(TypeError, "frames are 14 bytes each, one after the other, not list"):
+            squitter.read_many([EVEN])
+        for empty in (np.zeros(0), np.zeros(0, "S28"), [], b"", np.zeros((0, 14), np.uint8)):
+            self.assertEqual([len(part) for part in batch.read(empty)], [0, 0])
+        self.refused("float64", batch.read, np.zeros(1))
+        self.refused("float64", batch.read, np.zeros((0, 14)))
 
     def test_frames(self) -> None:
         fields, _ = batch.read(self.frames)
@@ -468,13 +520,11 @@ class Arrays(unittest.TestCase):
         floats = np.array([0, np.nan, 2, 3, np.nan, 5])
         self.assertEqual(batch.track(floats, texts)[1]["code"].tolist(), [0, 41, 0, 0, 41, 0])
         self.assertEqual(batch.track(np.array([0.0, float(1 << 53)]), [ODD, EVEN])[1]["code"].tolist(), [0, 0])
-        in_blocks, was = batch.track(floats, texts), batch._BLOCK
-        try:
-            for batch._BLOCK in (1, 2, 3):
-                for ours, theirs in zip(batch.Tracker().hear(floats, texts), in_blocks):
+        whole = batch.track(floats, texts)
+        for size in (1, 2, 3):
+            with mock.patch.object(_parts, "PART", size):
+                for ours, theirs in zip(batch.Tracker().hear(floats, texts), whole):
                     np.testing.assert_array_equal(ours, theirs)
-        finally:
-            batch._BLOCK = was
 
     def test_dates(self) -> None:
         """Dates are milliseconds since 1970, rounded down; NaT is missing."""
@@ -555,8 +605,8 @@ class Arrays(unittest.TestCase):
             self.refused("references", batch.local, self.frames, wrong)
         for wrong in (([0.5], [1]), ([1], [1, 2]), ([[1]], [[1]]), ([1], [1 << 63]), (["1"], ["1"])):
             self.refused("lat|lon", batch.positions, *wrong)
-        with self.assertRaises(TypeError):
-            batch.local(self.frames, Position(52.0, 4.0))
+        self.assertEqual(batch.local(self.frames, Position(52.25, 4.0))[0].tolist(),
+                         batch.local(self.frames, Position("52.25", 4))[0].tolist())
 
     def test_given_arrays(self) -> None:
         frames, near = self.frames, batch.positions([1] * 6, [2] * 6)
@@ -619,8 +669,29 @@ class Frames(unittest.TestCase):
         whole = {"line": "UInt64", "moment": "UInt64", "feet": "Int64"}
         return pandas.read_csv(io.BytesIO(text), dtype={**known, **whole})
 
+    def test_borders(self) -> None:
+        """The results of a call fill its array, nearly or more than fully. Each has the right line, timestamp and
+        address, even if most lines are empty, or the file is a pipe."""
+        for count in (0, 1, 8191, 8192, 8193, 2 * 8192 + 1):
+            heads = [AirHead(address=n // 2 % 5000, odd=n % 2) for n in range(count)]
+            frames = [squitter.encode(head, SITE).hex() for head in heads]
+            for end in ("\n", "\r\n\n\n"):
+                log = "".join(f"{7 * n} {text}{end}" for n, text in enumerate(frames)).encode()
+                frame = batch.dataframe(io.BytesIO(log), limit=None)
+                self.assertEqual(frame["line"].tolist(), [1 + n * end.count("\n") for n in range(count)])
+                self.assertEqual(frame["moment"].tolist(), [7 * n for n in range(count)])
+                self.assertTrue(frame["address"].tolist() == [f"{n // 2 % 5000:06X}" for n in range(count)])
+                self.assertEqual(frame["fault"].tolist(), [0] * count)
+                self.assertEqual(frame["lat_e7"].notna().tolist(), [n % 2 == 1 for n in range(count)])
+        with tempfile.TemporaryDirectory() as folder:
+            os.mkfifo(f"{folder}/pipe")
+            writer = threading.Thread(target=lambda: pathlib.Path(f"{folder}/pipe").write_bytes(log))
+            writer.start()
+            self.assertTrue(batch.dataframe(f"{folder}/pipe", limit=None).equals(frame))
+            writer.join()
+
     def test_as_program(self) -> None:
-        """The columns of the one schema are those of the program, name by name and value by value."""
+        """The columns are those of the program, name by name and value by value."""
         with open(self.log, "rb") as log:
             data = log.read()
         data += b"".join(b"5 %s%s\n" % (b"8" * count, end) for count in (60, 61, 62, 63) for end in (b"", b"\r"))
@@ -674,14 +745,36 @@ class Frames(unittest.TestCase):
         empty = batch.dataframe({"moment": [], "frame": []}, exact=True)
         self.assertEqual((len(empty), len(empty.columns)), (0, 13))
         self.assertEqual(len(batch.dataframe(io.BytesIO(b"\n\r\n"))), 0)
+        self.assertEqual(batch.dataframe(io.BytesIO(), exact=True).shape, (0, 13))
+        # As many results as a call writes, one less and one more. The last line has a line feed or none.
+        for count in (8191, 8192, 8193, 16384, 16385):
+            for end in (b"", b"\n"):
+                many = batch.dataframe(io.BytesIO(b"\n".join([b"5 " + EVEN.encode()] * count) + end), limit=None)
+                self.assertEqual(many["line"].tolist(), list(range(1, count + 1)))
+                self.assertEqual(set(many["answer"]), {"waiting"})
         limited = {"moment": [0, 0], "frame": [ODD, squitter.frame_text(squitter.encode(AirHead(5), Position(0, 0)))]}
         self.assertEqual(batch.dataframe(limited, limit=1)["answer"].tolist(), ["waiting", "table full"])
         apart = {"moment": [0, 11], "frame": [ODD, EVEN]}
         self.assertEqual(batch.dataframe(apart, 10)["answer"].tolist(), ["waiting", "waiting"])
-        with self.assertRaises(KeyError):
-            batch.dataframe({"moment": []})
+        for table in ({"moment": []}, {"frame": [], "time": []}, pandas.DataFrame({"frame": [ODD]})):
+            names = ", ".join(table.keys())
+            with self.assertRaisesRegex(KeyError, f"moment and frame, not a table with the columns {names}"):
+                batch.dataframe(table)
+        for table in (5, [1, 2], None):
+            with self.assertRaisesRegex(TypeError, f"columns moment and frame, not {type(table).__name__}"):
+                batch.dataframe(table)
+        with self.assertRaisesRegex(TypeError, "open for bytes"):
+            batch.dataframe(io.StringIO("5 x\n"))
+        self.assertEqual(len(batch.dataframe(pandas.DataFrame({"moment": [], "frame": []}))), 0)
         with self.assertRaises(FileNotFoundError):
             batch.dataframe("/nonesuch")
+        for wrong in ({"limit": 0}, {"limit": 1 << 32}, {"window": -1}):
+            with self.assertRaises(ValueError):
+                batch.dataframe(self.log, **wrong)
+        with self.assertRaises(TypeError):
+            batch.dataframe(io.StringIO("5 x"))
+        with self.assertRaises(squitter.Fault):
+            batch.dataframe(self.log, site=Position(91, 0))
 
 
 def aside(dtype: np.dtype, count: int) -> np.ndarray:

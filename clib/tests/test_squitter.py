@@ -6,26 +6,48 @@ import doctest
 import gc
 import os
 import pickle
+import resource
 import signal
 import sys
 import threading
 import unittest
+import weakref
 from decimal import Decimal
 from fractions import Fraction
 
 sys.path.insert(0, os.path.join(os.path.dirname(os.path.abspath(__file__)), ".."))
 import squitter  # noqa: E402
 from squitter import (  # noqa: E402
-    AirHead, AltitudeForm, Code, Contact, Fault, GroundHead, Kind, Position, Tracker, What,
+    AirHead, AltitudeForm, Code, Contact, Fault, Format, GroundHead, Kind, Log, Position, Tracker, What,
 )
 
 EVEN = "8D40621D58C382D690C8AC2863A7"
 ODD = "8D40621D58C386435CC412692AD6"
+OTHER = "8D4840D6202CC371C32CE0576098"
 GROUND_OLDER = "8C4841753AAB238733C8CD4020B1"
 GROUND_NEWER = "8C4841753A8A35323FAEBDAC702D"
 PLACE = Position(Fraction(428091, 8192), Fraction(64215, 16384))
 GROUND_PLACE = Position(Fraction(202304115, 3866624), Fraction(2172069, 458752))
 SITE = Position(Fraction(51990, 1000), Fraction(4375, 1000))
+
+# A log without a line feed at its end, its results, and the number of results after each number of line feeds.
+LINES = f"""5 {ODD}
+6 {GROUND_OLDER}\r
+
+10005 *{EVEN};
+x
+10004 {ODD}
+{"A" * 65}
+10006 {GROUND_NEWER}""".encode()
+ANSWERS = b"""1 waiting 40621D
+2 waiting 484175
+4 fix 40621D 52.2572021 3.9193726
+5 bad moment
+6 moment back 10005
+7 long line
+8 fix 484175 52.3206071 4.7347347
+"""
+ANSWERED = [0, 1, 2, 2, 3, 4, 5, 6]
 
 
 class Named(Contact):
@@ -43,12 +65,24 @@ def reversed_once(tracker):
 
 
 class Calls(unittest.TestCase):
-    def refused(self, code, call, *arguments, first=0, second=0):
+    def refused(self, code, call, *arguments, first=0, second=0, **named):
         with self.assertRaises(Fault) as raised:
-            call(*arguments)
+            call(*arguments, **named)
         fault = raised.exception
         self.assertEqual((fault.code, fault.first, fault.second), (code, first, second))
         self.assertEqual(str(fault), squitter.fault_text(code, first, second))
+
+    def test_each_field(self):
+        """Each field of a squitter in its place, each with a value of its own, in the air and on the ground."""
+        altitude = squitter.field_of_feet(-300)
+        air = AirHead(0x123456, altitude, ca=3, type_code=18, status=2, flag=1, time=0, odd=1)
+        read = squitter.read(squitter.encode(air, Position(1, 2)))
+        self.assertEqual(read._replace(lat=0, lon=0, raw=0), squitter.Fields(
+            Kind.AIR, 0x123456, 3, 18, 1, 0, 0, 0, 2, 1, altitude, AltitudeForm.FEET, -300, 0, 0, 0, 0))
+        ground = GroundHead(0xABCDEF, ca=6, type_code=7, movement=100, track_status=1, track=90, time=1)
+        read = squitter.read(squitter.encode(ground, Position(1, 2)))
+        self.assertEqual(read._replace(lat=0, lon=0, raw=0), squitter.Fields(
+            Kind.GROUND, 0xABCDEF, 6, 7, 0, 0, 0, 1, 0, 0, 0, AltitudeForm.NONE, 0, 100, 1, 90, 0))
 
     def test_frames(self):
         frame = squitter.frame(f"*{EVEN.lower()};")
@@ -118,14 +152,12 @@ class Calls(unittest.TestCase):
         self.assertEqual(squitter.local(EVEN, Position(52, 4)), PLACE)
         self.refused(Code.BAD_POSITION, squitter.local, EVEN, Position(91, 0))
         self.refused(Code.BAD_POSITION, squitter.local, EVEN, Position(Fraction(1, 1 << 64), 0))
-        with self.assertRaises(TypeError):
-            squitter.local(EVEN, Position(52.0, 4.0))
 
     def test_degrees(self):
-        """Positions are whole numbers, fractions, decimals and texts; what to write for a float is said."""
+        """Positions can be whole numbers, fractions, decimals, texts or floats. A float counts as its shortest text."""
         here = Position(Fraction(5225, 100), Fraction(-1, 8))
         wanted = squitter.local(EVEN, Position(Fraction(5225, 100), 4))
-        for lat in ("52.25", Decimal("52.25"), Decimal("5225E-2"), Fraction(209, 4), "52.250000000000"):
+        for lat in ("52.25", Decimal("52.25"), Decimal("5225E-2"), Fraction(209, 4), "52.250000000000", 52.25):
             self.assertEqual(squitter.local(EVEN, Position(lat, "4")), wanted)
             self.assertEqual(squitter.position_e7(Position(lat, "-0.125")), squitter.position_e7(here))
             site = Position("51.99", Decimal("4.375"))
@@ -139,12 +171,50 @@ class Calls(unittest.TestCase):
         for number in ("NaN", "Infinity", "1E+30", "1E-500", "1E-70", "1E+1000000", "91", "-sNaN"):
             self.refused(Code.BAD_POSITION, squitter.local, EVEN, Position(Decimal(number), 4))
         self.refused(Code.BAD_ANGLE, squitter.angle_text, Decimal("NaN"))
-        for wrong in (52.25, float("nan")):
-            with self.assertRaisesRegex(TypeError, f"write '{wrong}' for these digits, or Fraction"):
-                squitter.local(EVEN, Position(wrong, 4))
+        class Float(float):
+            def __repr__(self):
+                return f"Float({float(self)})"
+
+        for number, fraction in ((52.31, Fraction(5231, 100)), (0.1, Fraction(1, 10)), (-0.0, 0), (90.0, 90),
+                                 (1e-07, Fraction(1, 10**7)), (Float(4.76), Fraction(476, 100))):
+            self.assertEqual(squitter.angle_text(number), squitter.angle_text(fraction))
+            here, there = Position(number, number), Position(fraction, fraction)
+            self.assertEqual(bytes(squitter._position(here)), bytes(squitter._position(there)))
+        for wrong in (float("nan"), float("inf"), float("-inf"), 91.0, -90.00000000000001, 1e300, 5e-324):
+            self.refused(Code.BAD_POSITION, squitter.local, EVEN, Position(wrong, 4))
         for wrong in (None, b"52", 1j, [52]):
-            with self.assertRaisesRegex(TypeError, "degrees are an int, a Fraction, a Decimal or a text"):
+            with self.assertRaisesRegex(TypeError, "are an int, a Fraction, a Decimal, a float or a text, not "):
                 squitter.local(EVEN, Position(wrong, 4))
+
+    def test_told(self):
+        """An error says in one line which value is wanted, and which one was given."""
+        for wrong in (5, None, [EVEN], 1.5):
+            with self.assertRaisesRegex(TypeError, "^a frame is 14 bytes or a text of 28 hexadecimal digits, not "):
+                squitter.read(wrong)
+        for wrong in (b"", bytes(13), bytes(15), EVEN.encode()):
+            with self.assertRaisesRegex(ValueError, f"^a frame is 14 bytes or a text .*, not {len(wrong)} bytes"):
+                squitter.frame(wrong)
+        for wrong in (float("nan"), 52.25, 52, None, b"52"):
+            with self.assertRaisesRegex(TypeError, "^an angle is read from a text, as '52.25', not from "):
+                squitter.angle(wrong)
+        for wrong in (5, (1, 2, 3), None, Fraction(1)):
+            with self.assertRaisesRegex(TypeError, "^a position is a Position, or a latitude and a longitude, not "):
+                squitter.local(EVEN, wrong)
+
+    def test_feet_as_altitude(self):
+        """The fault for feet in the altitude field says how to get the field. Other numbers get no hint."""
+        for feet in (4100, 38000, 50175):
+            with self.assertRaises(Fault) as told:
+                squitter.encode(AirHead(0x40621D, altitude=feet), Position(52, 4))
+            self.assertEqual(told.exception.code, Code.BAD_FIELDS)
+            text = squitter.fault_text(Code.BAD_FIELDS)
+            wanted = f"{text}: altitude is a field of 12 bits; for {feet} feet use field_of_feet({feet})"
+            for fault in (told.exception, pickle.loads(pickle.dumps(told.exception)), copy.copy(told.exception)):
+                self.assertEqual((str(fault), fault.code), (wanted, Code.BAD_FIELDS))
+        for field in (4096, 4101, 50176, 50200, 65536, -25):
+            self.refused(Code.BAD_FIELDS, squitter.encode, AirHead(0, altitude=field), Position(52, 4))
+        field = squitter.field_of_feet(38000)
+        self.assertEqual(squitter.read(squitter.encode(AirHead(0, altitude=field), Position(52, 4))).feet, 38000)
 
     def test_names(self):
         fields = squitter.read(EVEN)
@@ -173,7 +243,6 @@ class Calls(unittest.TestCase):
         self.refused(Code.BAD_POSITION, squitter.pair, "", damaged, Position(91, 0))
         self.refused(Code.BAD_POSITION, squitter.pair, damaged, "", Position(91, 0))
         self.refused(Code.BAD_POSITION, squitter.local, "", Position(91, 0))
-        self.refused(Code.BAD_POSITION, Contact(10, Position(91, 0)).hear, 1, "")
 
     def test_sending(self):
         frame = squitter.encode(AirHead(0x40621D, altitude=squitter.field_of_feet(38000)), PLACE)
@@ -222,7 +291,9 @@ class Calls(unittest.TestCase):
         ground = Contact(10, SITE)
         ground.hear(1, GROUND_OLDER)
         self.assertEqual(ground.hear(2, GROUND_NEWER), (What.FIX, GROUND_PLACE, 0, 0))
-        self.refused(Code.BAD_POSITION, Contact(10, Position(91, 0)).hear, 1, EVEN)
+        self.refused(Code.BAD_POSITION, Contact, 10, Position(91, 0))
+        self.refused(Code.TABLE_FULL, contact.hear, 40_000, GROUND_OLDER)
+        self.assertEqual(contact.hear(40_001, GROUND_OLDER).what, What.WAITING)
         for window, moment in ((10.0, 1), (10, 1.0), ("10", 1)):
             with self.assertRaises(TypeError):
                 Contact(window).hear(moment, EVEN)
@@ -250,7 +321,7 @@ class Calls(unittest.TestCase):
         tracker.close()
 
     def test_closed_tracker(self):
-        """Each call of a closed tracker is NO_TRACKER, whatever its arguments."""
+        """Each call of a closed tracker raises NO_TRACKER, whatever its arguments."""
         tracker = Tracker()
         tracker.hear(1, ODD)
         for _ in range(2):
@@ -265,24 +336,24 @@ class Calls(unittest.TestCase):
                 self.refused(Code.NO_TRACKER, call, tracker)
 
     def test_closed_by_another_thread(self):
-        """What closes a tracker waits until the calls that are under way are done."""
+        """Closing a tracker waits until the calls under way are done."""
         tracker = Tracker()
         with tracker._lock:
             closing = threading.Thread(target=tracker.close)
             closing.start()
             closing.join(0.2)
-            self.assertTrue(closing.is_alive() and tracker._free.alive)
+            self.assertTrue(closing.is_alive() and tracker._slot.full)
         closing.join(5)
-        self.assertFalse(closing.is_alive() or tracker._free.alive)
+        self.assertFalse(closing.is_alive() or tracker._slot.full)
 
     def test_signal_handler(self):
-        """A handler of signals may ask a tracker in the middle of what the thread asks of it."""
+        """A signal handler may use a tracker in the middle of a call of the thread."""
         tracker, told = Tracker(), []
         tracker.hear(1, ODD)
 
         def handler(*_):
             if not tracker._lock.acquire(blocking=False):
-                return  # (the calls below would wait for ever)
+                return  # The calls below would wait for ever.
             tracker._lock.release()
             told.append((len(tracker), tracker[0].address, tracker.hear(5, EVEN).what))
 
@@ -291,7 +362,7 @@ class Calls(unittest.TestCase):
         taken = tracker._lock
 
         class Slow:
-            """Moments that come late, so that the signal comes while they are read."""
+            """Timestamps that raise the signal while they are read."""
 
             def __len__(self):
                 return 1
@@ -336,15 +407,107 @@ class Calls(unittest.TestCase):
         with self.assertRaises(TypeError):
             Tracker(limit=1.0)
         tracker = Tracker()
-        for taken in (copy.copy, copy.deepcopy, pickle.dumps):
-            with self.assertRaises(TypeError):
-                taken(tracker)
         tracker.hear(1, ODD)
-        held, free = tracker._tracker, tracker._free
-        self.assertTrue(held.full and held.at and free.alive)
+        memory = weakref.ref(tracker._memory)
+        tracker.close()
+        for taken in (copy.copy, copy.deepcopy, pickle.dumps):
+            self.refused(Code.NO_TRACKER, taken, tracker)
+        self.assertFalse(tracker._slot.full or tracker._slot.at or memory())
+        tracker = Tracker()
+        memory = weakref.ref(tracker._memory)
         del tracker
         gc.collect()
-        self.assertFalse(held.full or held.at or free.alive)
+        self.assertIsNone(memory())
+
+    def test_no_memory(self):
+        """Trackers and logs for more addresses than the system has memory for are refused."""
+        was = resource.getrlimit(resource.RLIMIT_AS)
+        self.addCleanup(resource.setrlimit, resource.RLIMIT_AS, was)
+        resource.setrlimit(resource.RLIMIT_AS, (1 << 33, was[1]))
+        for make in (Tracker, Log):
+            self.refused(Code.NO_MEMORY, make, limit=(1 << 32) - 1)
+            self.refused(Code.BAD_POSITION, make, site=Position(91, 0), limit=(1 << 32) - 1)
+            self.assertIsNotNone(make(limit=1))
+
+    def test_log(self):
+        """The result of a line comes with its line feed, whatever the pieces, and that of the last line at the end."""
+        for size in (1, 2, 7, 64, len(LINES)):
+            log, told = Log(10_000, SITE), b""
+            for at in range(0, len(LINES), size):
+                told += log.take(LINES[at:at + size])
+                self.assertEqual(told.count(b"\n"), ANSWERED[LINES[:at + size].count(b"\n")])
+            self.assertEqual(told + log.finish(), ANSWERS)
+            self.assertEqual(log.tally, (4, 3))
+            self.assertEqual(log.finish(), b"")
+        for kind in (bytearray, memoryview):
+            log = Log(10_000, SITE)
+            self.assertEqual(log.take(kind(LINES)) + log.finish(), ANSWERS)
+        self.assertEqual((Log().take(b""), Log().finish()), (b"", b""))
+        for wrong in ("5 x", 5, None, [53]):
+            with self.assertRaises(TypeError):
+                Log().take(wrong)
+
+    def test_formats(self):
+        line = f"5 {ODD}\n".encode()
+        header = b"line,moment,answer,address,kind,lat,lon,feet\n"
+        for form in ("csv", Format.CSV, 1):
+            log = Log(format=form)
+            self.assertEqual(log.take(line), header + b"1,5,waiting,40621D,air,,,38000\n")
+            self.assertEqual(log.take(line), b"2,5,waiting,40621D,air,,,38000\n")
+        self.assertEqual(Log(format="csv").finish(), header)
+        self.assertEqual(
+            Log(format="json").take(line),
+            b'{"line":1,"moment":5,"answer":"waiting","address":"40621D","kind":"air","lat":null,"lon":null,'
+            b'"feet":38000}\n')
+        for wrong in ("CSV", "lines ", "", 3, -1, None):
+            with self.assertRaises(ValueError):
+                Log(format=wrong)
+
+    def test_log_in_a_signal_handler(self):
+        """A signal handler may use the log between two calls of the library; the outer call returns the same."""
+        log, count, told, texts = Log(), 10_000, [], squitter._hearing.ctypes.string_at
+
+        def interrupted(*words):
+            """Runs the handler before the module copies the library's output."""
+            squitter._hearing.ctypes.string_at = texts
+            signal.raise_signal(signal.SIGALRM)
+            return texts(*words)
+
+        was = signal.signal(signal.SIGALRM, lambda *_: told.append(log.take(b"\nx\n")))
+        self.addCleanup(signal.signal, signal.SIGALRM, was)
+        self.addCleanup(setattr, squitter._hearing.ctypes, "string_at", texts)
+        squitter._hearing.ctypes.string_at = interrupted
+        outer = log.take(f"5 {ODD}\n".encode() * count)
+        # The handler's bytes come in the middle of a line.
+        (inner,) = told
+        self.assertTrue(inner.endswith(b" bad moment\n"), inner)
+        before = int(inner.split()[0])
+        self.assertTrue(outer.startswith(b"".join(b"%d waiting 40621D\n" % number for number in range(1, before))))
+
+    def test_rooms_of_answers(self):
+        """All results are returned, however many calls of the library they take."""
+        line, log = f"5 {ODD}\n".encode(), Log()
+        for count in (1, 3_500, 3_641, 3_642, 10_000):
+            log = Log()
+            told = log.take(line * count)
+            self.assertEqual(told, b"".join(b"%d waiting 40621D\n" % (number + 1) for number in range(count)))
+            self.assertEqual(log.tally, (count, 0))
+
+    def test_closed_log(self):
+        log = Log()
+        log.take(LINES[:40])
+        for _ in range(2):
+            log.close()
+            for call in (lambda it: it.take(b""), lambda it: it.take(3), lambda it: it.finish(), lambda it: it.tally,
+                         lambda it: it.__enter__()):
+                self.refused(Code.NO_TRACKER, call, log)
+        with Log() as log:
+            self.assertEqual(log.take(b"x\n"), b"1 bad moment\n")
+        self.refused(Code.NO_TRACKER, log.finish)
+        for taken in (copy.copy, copy.deepcopy, pickle.dumps):
+            with self.assertRaises(TypeError):
+                taken(Log())
+        self.refused(Code.NO_LIMIT, Log, limit=0)
 
     def test_tracker_of_threads(self):
         tracker, heard = Tracker(), []
@@ -361,16 +524,23 @@ class Calls(unittest.TestCase):
         self.assertEqual((len(heard), set(heard), len(tracker)), (800, {What.WAITING}, 1))
 
     def test_copies(self):
-        contact = Contact(10_000, SITE)
-        contact.hear(5, ODD)
-        for other in (copy.copy(contact), copy.deepcopy(contact), pickle.loads(pickle.dumps(contact))):
+        tracker = Tracker(10_000, SITE, 7)
+        tracker.hear(4, GROUND_OLDER), tracker.hear(5, ODD)
+        for other in (copy.copy(tracker), copy.deepcopy(tracker), pickle.loads(pickle.dumps(tracker))):
+            self.assertEqual([*other], [*tracker])
             self.assertEqual(other.hear(6, EVEN), (What.FIX, PLACE, 0, 0))
-            self.assertEqual((contact.last, other.last), (5, 6))
-            other.hear(7, GROUND_OLDER)
+            self.assertEqual((tracker.last, other.last), (5, 6))
             self.assertEqual(other.hear(8, GROUND_NEWER).position, GROUND_PLACE)
-        self.assertEqual(contact.hear(6, EVEN).what, What.FIX)
-        # its parts are named by the package too, not by a module in it
-        self.assertNotIn(b"squitter.", pickle.dumps(contact))
+            self.refused(Code.MOMENT_BACK, other.hear, 7, ODD, first=8)
+        self.assertEqual(tracker.hear(6, EVEN).what, What.FIX)
+        # An empty tracker too, and one that accepted a frame without a position.
+        for moments in ([], [9]):
+            tracker = Tracker(limit=1)
+            tracker.hear_many(moments, bytes.fromhex(OTHER) * len(moments))
+            other = pickle.loads(pickle.dumps(tracker))
+            self.assertEqual((other.last, len(other), other._save()), (sum(moments), 0, tracker._save()))
+        # A pickle names the class in the package, not in a module of it.
+        self.assertNotIn(b"squitter.", pickle.dumps(tracker))
         mine = Named(10_000, SITE)
         mine.name, mine.notes, mine.__dict__["free"] = "A", [1], 5
         mine.hear(5, ODD)
@@ -381,6 +551,11 @@ class Calls(unittest.TestCase):
             self.assertEqual(other.notes is mine.notes, take is copy.copy)
             self.assertEqual(other.hear(6, EVEN).position, PLACE)
             self.assertEqual((mine.last, other.last), (5, 6))
+        _, entries = mine._save()
+        Contact().__setstate__((None, {}, (10, None, 1), 15, entries))
+        self.refused(Code.BAD_ENTRY, Contact().__setstate__, (None, {}, (10, None, 1), 16, entries))
+        with self.assertRaises(ValueError):
+            Contact().__setstate__((None, {}, (10, None, 1), 15, entries + b"0"))
         fault = Fault(Code.ZONE_COUNTS, 45, 44)
         for other in (copy.copy(fault), copy.deepcopy(fault), pickle.loads(pickle.dumps(fault))):
             self.assertEqual((other.code, other.first, other.second), (Code.ZONE_COUNTS, 45, 44))
@@ -399,6 +574,7 @@ class Calls(unittest.TestCase):
 
 def load_tests(loader, tests, pattern):
     tests.addTests(doctest.DocTestSuite(squitter))
+    tests.addTests(doctest.DocTestSuite(squitter._hearing))
     return tests
 
 

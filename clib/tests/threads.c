@@ -2,6 +2,7 @@
 #include "squitter.h"
 #include <pthread.h>
 #include <stdio.h>
+#include <stdlib.h>
 #include <string.h>
 
 enum { THREADS = 8, ROUNDS = 20000 };
@@ -10,8 +11,10 @@ static const char even[] = "8D40621D58C382D690C8AC2863A7", odd[] = "8D40621D58C3
 static void *work(void *at) {
   uint64_t sum = 0;
   uint8_t older[14], newer[14], again[14];
-  squitter_entry entry;
-  memset(&entry, 0, sizeof entry);
+  size_t size = squitter_tracker_size(3);
+  squitter_block block = {size, malloc(size)};
+  squitter_tracker tracker = {0, 0};
+  if (!block.memory || squitter_tracker_new(&tracker, block, 3, 100).code) exit(2);
   for (int round = 0; round < ROUNDS; round++) {
     squitter_heard heard;
     squitter_position place, moved;
@@ -21,9 +24,11 @@ static void *work(void *at) {
     moved = place;
     moved.lat.num += round;
     if (!fault.code) fault = squitter_send_again(newer, round % 2, &moved, again);
-    if (!fault.code) fault = squitter_hear(&entry, 100, round, again, &heard);
+    if (!fault.code) fault = squitter_tracker_hear(&tracker, (uint64_t)round, again, &heard);
     sum = sum * 31 + fault.code + again[8] + heard.what + (uint64_t)heard.position.lat.num + heard.position.lon.den;
   }
+  squitter_tracker_free(&tracker);
+  free(block.memory);
   *(uint64_t *)at = sum;
   return 0;
 }

@@ -1,198 +1,278 @@
-/* tracker LOG: the calls of a tracker. Each frame of a log is heard as by squitter_hear with an entry for its address,
- * one by one and many at once; each allocation is refused in turn, which changes no answer but that one; and all memory
- * is given back, which valgrind sees. Between frames of one address of this log less than the window passes, or nothing
- * is heard of it twice. */
+/* tracker COUNT: tests trackers in blocks. COUNT new addresses come and go, at limits of 1 to 1000, without NO_MEMORY.
+ * No byte outside a block is written, a block can be reused, and two trackers share nothing. A saved tracker is
+ * restored, and one with a changed field is refused. */
 #include "squitter.h"
 #include <stdbool.h>
-#include <stddef.h>
 #include <stdio.h>
 #include <stdlib.h>
 #include <string.h>
 
-enum { MOST = 4000, ADDRESSES = 100, LIMIT = 1000, WINDOW = 10000 };
+enum { WINDOW = 10000, GUARD = 64, FILLED = 0xA5 };
 
-static int tried, wrong;
+static long tried, wrong;
 #define IS(what) (tried++, (what) ? (void)0 : (wrong++, (void)printf("line %d: %s\n", __LINE__, #what)))
 
-/* The linker has the library ask these for memory (--wrap): the one of this number gets none. */
-static long allocations, refused = -1;
-void *__real_malloc(size_t size);
-void *__real_realloc(void *at, size_t size);
-void *__wrap_malloc(size_t size);
-void *__wrap_realloc(void *at, size_t size);
-void *__wrap_malloc(size_t size) { return allocations++ == refused ? NULL : __real_malloc(size); }
-void *__wrap_realloc(void *at, size_t size) { return allocations++ == refused ? NULL : __real_realloc(at, size); }
+static const squitter_position place = {{52, 1}, {4, 1}}, nowhere = {{0, 0}, {0, 0}};
 
-static uint8_t frames[MOST][SQUITTER_FRAME_BYTES];
-static uint64_t moments[MOST];
-static size_t lines;
+/* A block between guards. */
+typedef struct lent {
+  unsigned char *all;
+  squitter_block block;
+} lent;
 
-static bool read_log(const char *path) {
-  char line[256];
-  FILE *log = fopen(path, "rb");
-  if (!log) return false;
-  while (lines < MOST && fgets(line, sizeof line, log)) {
-    char *text = strchr(line, ' ');
-    if (!text || squitter_frame_of_text(text + 1, strcspn(text + 1, "\r\n"), frames[lines]).code) continue;
-    moments[lines++] = strtoull(line, 0, 10);
-  }
-  return fclose(log) == 0 && lines > 0;
+static lent lend(size_t size) {
+  lent made;
+  made.all = malloc(size + 2 * GUARD);
+  if (!made.all) exit(2);
+  memset(made.all, FILLED, size + 2 * GUARD);
+  made.block.size = size;
+  made.block.memory = made.all + GUARD;
+  return made;
 }
 
-/* What a line is to be answered: the fault, and what is heard, zero at a fault. */
-static squitter_heard wanted[MOST];
-static squitter_fault wanted_faults[MOST];
-
-static bool same_fault(squitter_fault one, squitter_fault other) { return memcmp(&one, &other, sizeof one) == 0; }
-static bool same_heard(const squitter_heard *one, const squitter_heard *other) {
-  return memcmp(one, other, offsetof(squitter_heard, odd) + 1) == 0;
+static bool is_guarded(const lent *block) {
+  const unsigned char *end = block->all + GUARD + block->block.size;
+  for (int i = 0; i < GUARD; i++) if (block->all[i] != FILLED || end[i] != FILLED) return false;
+  return true;
 }
 
-/* By entries, in a table that never forgets; a moment that lies back is looked for over all addresses. */
-static void hear_by_entries(void) {
-  static struct { uint32_t address; squitter_entry entry; } table[ADDRESSES];
-  size_t used = 0;
-  uint64_t last = 0;
-  for (size_t i = 0; i < lines; i++) {
-    squitter_fields fields;
-    squitter_fault *fault = &wanted_faults[i];
-    *fault = squitter_read_frame(frames[i], &fields);
-    if (fault->code) continue;
-    if (moments[i] < last) {
-      squitter_fault back = {SQUITTER_MOMENT_BACK, 0, last};
-      *fault = back;
-      continue;
-    }
-    size_t at = 0;
-    while (at < used && table[at].address != fields.address) at++;
-    if (at == used && used < ADDRESSES - 1) table[used++].address = fields.address;
-    *fault = squitter_hear(&table[at].entry, WINDOW, moments[i], frames[i], &wanted[i]);
-    last = moments[i];
-  }
+/* Writes a position squitter of this address. */
+static void frame_of(uint32_t address, int odd, uint8_t out[SQUITTER_FRAME_BYTES]) {
+  squitter_air_head head = {0, 0xC38, 5, 11, 0, 0, 0, 0};
+  head.address = address & 0xFFFFFF;
+  head.odd = (uint8_t)odd;
+  if (squitter_encode_air(&head, &place, out).code) exit(2);
 }
 
-static squitter_fault code_alone(uint32_t code) {
-  squitter_fault fault = {code, 0, 0};
-  return fault;
+static uint32_t random_state = 42;
+static uint32_t next_random(void) {
+  random_state = random_state * 1664525u + 1013904223u;
+  return random_state >> 8;
 }
 
-static void try_none(void) {
-  squitter_tracker tracker = {0, 0};
-  squitter_heard heard, before;
-  squitter_present present = {7, 7};
-  squitter_position nowhere = {{0, 0}, {0, 0}}, site = {{52, 1}, {5, 1}};
-  memset(&heard, 7, sizeof heard), memset(&before, 7, sizeof before);
-  IS(same_fault(squitter_tracker_hear(&tracker, 0, frames[0], &heard), code_alone(SQUITTER_NO_TRACKER)));
-  IS(same_heard(&heard, &before));
-  IS(squitter_tracker_len(&tracker) == 0);
-  IS(squitter_tracker_get(&tracker, 0, &present).code == SQUITTER_NO_TRACKER && present.address == 7 &&
-     present.moment == 7);
-  squitter_tracker_free(&tracker);
-  IS(same_fault(squitter_tracker_new(&tracker, 0, WINDOW), code_alone(SQUITTER_NO_LIMIT)));
-  IS(same_fault(squitter_tracker_new_at(&tracker, 0, WINDOW, &nowhere), code_alone(SQUITTER_BAD_POSITION)));
-  IS(same_fault(squitter_tracker_new_at(&tracker, 0, WINDOW, &site), code_alone(SQUITTER_NO_LIMIT)));
-  IS(squitter_tracker_new_at(&tracker, LIMIT, WINDOW, &site).code == SQUITTER_OK);
-  IS(squitter_tracker_new(&tracker, LIMIT, WINDOW).code == SQUITTER_OK); /* the first is freed */
-  IS(squitter_tracker_new_at(&tracker, LIMIT, WINDOW, &nowhere).code == SQUITTER_BAD_POSITION); /* and so is this one */
-  IS(squitter_tracker_len(&tracker) == 0);
-  IS(squitter_tracker_hear(&tracker, 0, frames[0], &heard).code == SQUITTER_NO_TRACKER);
-  squitter_tracker_free(&tracker);
-  squitter_tracker_free(&tracker);
-}
-
-/* One by one; and then what is present. */
-static void try_one_by_one(squitter_tracker *tracker) {
-  squitter_present present, next;
-  size_t count;
-  for (size_t i = 0; i < lines; i++) {
-    squitter_heard heard;
-    memset(&heard, 0, sizeof heard);
-    IS(same_fault(squitter_tracker_hear(tracker, moments[i], frames[i], &heard), wanted_faults[i]));
-    IS(same_heard(&heard, &wanted[i]));
-  }
-  count = squitter_tracker_len(tracker);
-  IS(count > 0 && count < ADDRESSES);
-  for (size_t i = 0; i + 1 < count; i++) {
-    IS(squitter_tracker_get(tracker, i, &present).code == SQUITTER_OK);
-    IS(squitter_tracker_get(tracker, i + 1, &next).code == SQUITTER_OK);
-    IS(present.moment <= next.moment && present.address != next.address);
-  }
-  next.address = 7;
-  IS(same_fault(squitter_tracker_get(tracker, count, &next), code_alone(SQUITTER_NO_ADDRESS)) && next.address == 7);
-}
-
-static void try_many(squitter_tracker *tracker) {
-  static squitter_heard out[MOST];
-  static squitter_fault faults[MOST];
-  const uint8_t (*from)[SQUITTER_FRAME_BYTES] = (const uint8_t (*)[SQUITTER_FRAME_BYTES])frames;
-  size_t half = lines / 2;
-  faults[half].code = 99;
-  IS(squitter_tracker_hear_many(tracker, moments, lines, from, half, out, MOST, faults, MOST) == half);
-  IS(faults[half].code == 99 && out[half].what == 0);
-  IS(squitter_tracker_hear_many(tracker, moments + half, MOST, from + half, lines - half, out + half, MOST - half,
-                                faults + half, MOST - half) == lines - half);
-  for (size_t i = 0; i < lines; i++) IS(same_fault(faults[i], wanted_faults[i]) && same_heard(&out[i], &wanted[i]));
-}
-
-/* Each allocation is refused in turn: that call answers NO_MEMORY, and made again it answers as ever. How many there
- * are. */
-static long try_without_memory(void) {
-  for (long number = 0;; number++) {
-    squitter_tracker tracker = {0, 0};
-    size_t again = 0;
-    allocations = 0, refused = number;
-    if (squitter_tracker_new(&tracker, LIMIT, WINDOW).code == SQUITTER_NO_MEMORY) {
-      IS(squitter_tracker_len(&tracker) == 0);
-      IS(squitter_tracker_new(&tracker, LIMIT, WINDOW).code == SQUITTER_OK);
-      again++;
-    }
-    for (size_t i = 0; i < lines; i++) {
-      squitter_heard heard;
-      memset(&heard, 0, sizeof heard);
-      size_t count = squitter_tracker_len(&tracker);
-      squitter_fault fault = squitter_tracker_hear(&tracker, moments[i], frames[i], &heard);
-      if (fault.code == SQUITTER_NO_MEMORY) {
-        IS(heard.what == 0 && squitter_tracker_len(&tracker) == count);
-        again++;
-        fault = squitter_tracker_hear(&tracker, moments[i], frames[i], &heard);
-      }
-      IS(same_fault(fault, wanted_faults[i]) && same_heard(&heard, &wanted[i]));
-    }
-    squitter_tracker_free(&tracker);
-    refused = -1;
-    IS(again == (number < allocations));
-    if (again == 0) return number;
-  }
-}
-
-static void try_full(void) {
+/* Tests `count` new addresses. As many as the limit are present, and each leaves as another comes. Every third step of
+ * time has a random length. */
+static void try_churn(uint32_t limit, long count) {
+  lent block = lend(squitter_tracker_size(limit));
   squitter_tracker tracker = {0, 0};
   squitter_heard heard;
-  size_t full = 0;
-  IS(squitter_tracker_new(&tracker, 1, WINDOW).code == SQUITTER_OK);
-  for (size_t i = 0; i < lines; i++)
-    full += squitter_tracker_hear(&tracker, moments[i], frames[i], &heard).code == SQUITTER_TABLE_FULL;
-  IS(full > 0 && squitter_tracker_len(&tracker) == 1);
+  uint8_t frame[SQUITTER_FRAME_BYTES];
+  uint64_t moment = 0;
+  long full = 0;
+  IS(squitter_tracker_new(&tracker, block.block, limit, WINDOW).code == SQUITTER_OK);
+  for (long n = 0; n < count; n++) {
+    squitter_fault fault;
+    frame_of(next_random(), (int)(n & 1), frame);
+    moment += n % 3 ? WINDOW / limit + 1 : next_random() % (2 * WINDOW / limit + 2);
+    fault = squitter_tracker_hear(&tracker, moment, frame, &heard);
+    full += fault.code == SQUITTER_TABLE_FULL;
+    if (fault.code && fault.code != SQUITTER_TABLE_FULL) IS(!"out of memory");
+  }
+  IS(squitter_tracker_len(&tracker) <= limit && full < count);
+  IS(is_guarded(&block));
   squitter_tracker_free(&tracker);
+  free(block.all);
+}
+
+/* Tests blocks that are too small, by one byte or more. */
+static void try_too_small(uint32_t limit) {
+  size_t size = squitter_tracker_size(limit), sizes[] = {0, 1, 16, 64, 1279, 1280, 4096, size - 16, size - 1};
+  for (size_t i = 0; i < sizeof sizes / sizeof *sizes; i++) {
+    if (sizes[i] >= size) continue;
+    lent block = lend(sizes[i]);
+    squitter_tracker tracker = {0, 0};
+    IS(squitter_tracker_new(&tracker, block.block, limit, WINDOW).code == SQUITTER_NO_MEMORY);
+    IS(squitter_tracker_new_at(&tracker, block.block, limit, WINDOW, &place).code == SQUITTER_NO_MEMORY);
+    IS(squitter_tracker_new(&tracker, block.block, 0, WINDOW).code == SQUITTER_NO_LIMIT);
+    IS(squitter_tracker_new_at(&tracker, block.block, limit, WINDOW, &nowhere).code == SQUITTER_BAD_POSITION);
+    IS(squitter_tracker_len(&tracker) == 0 && is_guarded(&block));
+    free(block.all);
+  }
+  lent larger = lend(size + 5);
+  squitter_tracker tracker = {0, 0};
+  IS(squitter_tracker_new(&tracker, larger.block, limit, WINDOW).code == SQUITTER_OK);
+  squitter_tracker_free(&tracker);
+  IS(is_guarded(&larger));
+  free(larger.all);
+}
+
+/* Tests one block after the other in the same tracker, and reuse of a block. */
+static void try_again(void) {
+  size_t size = squitter_tracker_size(10);
+  lent one = lend(size), two = lend(size);
+  squitter_tracker tracker = {0, 0}, other = {0, 0};
+  squitter_heard heard;
+  squitter_present present = {7, 7};
+  uint8_t even[SQUITTER_FRAME_BYTES], odd[SQUITTER_FRAME_BYTES];
+  frame_of(1, 0, even), frame_of(1, 1, odd);
+  for (int round = 0; round < 3; round++) {
+    IS(squitter_tracker_new(&tracker, one.block, 10, WINDOW).code == SQUITTER_OK);
+    IS(squitter_tracker_new(&other, two.block, 10, WINDOW).code == SQUITTER_OK);
+    IS(squitter_tracker_len(&tracker) == 0);
+    IS(squitter_tracker_hear(&tracker, 1, even, &heard).code == SQUITTER_OK && heard.what == SQUITTER_WAITING);
+    IS(squitter_tracker_hear(&other, 2, odd, &heard).code == SQUITTER_OK && heard.what == SQUITTER_WAITING);
+    IS(squitter_tracker_hear(&tracker, 3, odd, &heard).code == SQUITTER_OK && heard.what == SQUITTER_FIX);
+    IS(squitter_tracker_get(&tracker, 0, &present).code == SQUITTER_OK && present.moment == 3 && present.address == 1);
+    IS(squitter_tracker_get(&tracker, 1, &present).code == SQUITTER_NO_ADDRESS && present.moment == 3);
+    if (round == 1) { /* the tracker is freed before its block is reused */
+      squitter_tracker_free(&tracker), squitter_tracker_free(&other);
+      memset(one.block.memory, FILLED, size), memset(two.block.memory, 0, size);
+    }
+  }
+  squitter_tracker_free(&tracker), squitter_tracker_free(&tracker), squitter_tracker_free(&other);
+  IS(squitter_tracker_hear(&tracker, 4, odd, &heard).code == SQUITTER_NO_TRACKER);
+  IS(squitter_tracker_get(&tracker, 0, &present).code == SQUITTER_NO_TRACKER && squitter_tracker_len(&tracker) == 0);
+  IS(is_guarded(&one) && is_guarded(&two));
+  free(one.all), free(two.all);
+}
+
+/* Tests that a refused frame leaves its elements unchanged, and that the next frame is accepted. */
+static void try_many(void) {
+  lent block = lend(squitter_tracker_size(2));
+  squitter_tracker tracker = {0, 0};
+  uint8_t frames[5][SQUITTER_FRAME_BYTES];
+  const uint64_t moments[5] = {5, 4, 6, 7, 8};
+  squitter_heard out[5];
+  squitter_fault faults[5];
+  memset(out, 7, sizeof out), memset(faults, 7, sizeof faults);
+  for (int i = 0; i < 5; i++) frame_of(i < 3 ? 1 : (uint32_t)i, i & 1, frames[i]);
+  IS(squitter_tracker_new(&tracker, block.block, 2, WINDOW).code == SQUITTER_OK);
+  IS(squitter_tracker_hear_many(&tracker, moments, 5, (const uint8_t (*)[SQUITTER_FRAME_BYTES])frames, 5, out, 5,
+                                faults, 5) == 5);
+  IS(faults[0].code == SQUITTER_OK && out[0].what == SQUITTER_WAITING);
+  IS(faults[1].code == SQUITTER_MOMENT_BACK && faults[1].first == 5 && out[1].what == 7);
+  IS(faults[2].code == SQUITTER_OK && out[2].what == SQUITTER_WAITING);
+  IS(faults[3].code == SQUITTER_OK && faults[4].code == SQUITTER_TABLE_FULL && out[4].what == 7);
+  squitter_tracker_free(&tracker);
+  faults[0].code = 9;
+  IS(squitter_tracker_hear_many(&tracker, moments, 5, (const uint8_t (*)[SQUITTER_FRAME_BYTES])frames, 5, out, 5,
+                                faults, 5) == 5);
+  IS(faults[0].code == SQUITTER_NO_TRACKER && faults[4].code == SQUITTER_NO_TRACKER);
+  free(block.all);
+}
+
+/* A saved state of two addresses, for a tracker with a limit of 2 and a window of 100. */
+typedef struct state {
+  squitter_last last;
+  squitter_entry entries[3];
+  size_t count;
+} state;
+
+static state saved;
+static squitter_tracker restored;
+
+static bool is_restored(const state *given) {
+  squitter_last last;
+  squitter_entry entries[3];
+  if (squitter_tracker_restore(&restored, &given->last, given->entries, given->count).code) return false;
+  if (squitter_tracker_save(&restored, &last, entries, 3) != given->count) return false;
+  return last.heard == given->last.heard && last.moment == (last.heard ? given->last.moment : 0);
+}
+
+static bool is_refused(const state *given, uint64_t index) {
+  squitter_last last;
+  squitter_heard heard;
+  uint8_t frame[SQUITTER_FRAME_BYTES];
+  squitter_fault fault = squitter_tracker_restore(&restored, &given->last, given->entries, given->count);
+  if (fault.code != SQUITTER_BAD_ENTRY || fault.first != index || squitter_tracker_len(&restored)) return false;
+  if (squitter_tracker_save(&restored, &last, saved.entries, 0) || last.heard) return false;
+  frame_of(9, 0, frame);
+  return squitter_tracker_hear(&restored, 0, frame, &heard).code == SQUITTER_OK && heard.what == SQUITTER_WAITING;
+}
+
+static void try_times(void) {
+  state changed = saved;
+  changed.last.moment = 29;
+  IS(is_refused(&changed, 1));
+  changed.last.moment = 120;
+  IS(is_restored(&changed));
+  changed.last.moment = 121;
+  IS(is_refused(&changed, 0));
+  changed = saved, changed.last.heard = 0;
+  IS(is_refused(&changed, 0));
+  changed.count = 0;
+  IS(is_restored(&changed));
+  changed = saved, changed.entries[1].moment = changed.entries[1].airborne.even.moment = 20;
+  IS(is_restored(&changed));
+  changed.entries[1].moment = changed.entries[1].airborne.even.moment = 19;
+  IS(is_refused(&changed, 1));
+  changed = saved, changed.entries[0].moment = 19;
+  IS(is_refused(&changed, 0));
+  changed.entries[0].moment = 21;
+  IS(is_refused(&changed, 0));
+  changed = saved, changed.entries[0].airborne.even.moment = 21;
+  IS(is_refused(&changed, 0));
+  changed = saved, changed.entries[0].airborne.fix.moment = 21;
+  IS(is_refused(&changed, 0));
+  changed.entries[0].airborne.fix.moment = 19;
+  IS(is_restored(&changed));
+}
+
+static void try_frames(void) {
+  squitter_received even = saved.entries[0].airborne.even;
+  state changed = saved;
+  changed.entries[0].address++;
+  IS(is_refused(&changed, 0));
+  changed = saved, changed.entries[0].airborne.even = changed.entries[0].airborne.odd;
+  changed.entries[0].airborne.odd = even;
+  IS(is_refused(&changed, 0));
+  changed = saved, changed.entries[0].surface = changed.entries[0].airborne;
+  IS(is_refused(&changed, 0));
+  changed = saved, changed.entries[0].airborne.even.frame[13] ^= 1; /* not a squitter, so absent */
+  IS(is_restored(&changed));
+  changed = saved, changed.entries[0].airborne.odd.frame[13] ^= 1; /* now the newest position is absent */
+  IS(is_refused(&changed, 0));
+  changed = saved, changed.entries[0].surface.fix = changed.entries[0].airborne.fix; /* a fix without a position */
+  IS(is_refused(&changed, 0));
+}
+
+static void try_entries(void) {
+  state changed = saved;
+  changed.count = 3;
+  IS(is_refused(&changed, 2));
+  changed.count = 2, changed.entries[1] = changed.entries[2];
+  IS(is_restored(&changed));
+  changed.entries[1] = changed.entries[0];
+  IS(is_refused(&changed, 1));
+  changed.entries[0] = saved.entries[1], changed.entries[1] = saved.entries[0];
+  IS(is_refused(&changed, 1));
+}
+
+static void try_restoring(void) {
+  lent block = lend(squitter_tracker_size(3)), other = lend(squitter_tracker_size(2));
+  squitter_tracker tracker = {0, 0};
+  squitter_heard heard;
+  uint8_t frame[SQUITTER_FRAME_BYTES];
+  IS(squitter_tracker_new(&tracker, block.block, 3, 100).code == SQUITTER_OK);
+  IS(squitter_tracker_new(&restored, other.block, 2, 100).code == SQUITTER_OK);
+  for (int i = 0; i < 4; i++) {
+    frame_of(i < 2 ? 1 : (uint32_t)i, i == 1, frame);
+    IS(squitter_tracker_hear(&tracker, i < 3 ? (uint64_t)(10 * i + 10) : 30, frame, &heard).code == SQUITTER_OK);
+  }
+  saved.count = 2;
+  IS(squitter_tracker_save(&tracker, &saved.last, saved.entries, 3) == 3 && saved.last.moment == 30);
+  IS(is_restored(&saved) && saved.entries[0].airborne.fix.moment == 20);
+  try_times();
+  try_frames();
+  try_entries();
+  IS(is_guarded(&block) && is_guarded(&other));
+  squitter_tracker_free(&tracker), squitter_tracker_free(&restored);
+  free(block.all), free(other.all);
 }
 
 int main(int argc, char **argv) {
-  squitter_tracker tracker = {0, 0};
-  long asked;
-  if (argc != 2 || !read_log(argv[1])) {
-    fprintf(stderr, "tracker: give a log\n");
+  static const uint32_t limits[] = {1, 2, 3, 4, 5, 8, 9, 10, 17, 18, 30, 35, 60, 100, 140, 250, 500, 501, 999, 1000};
+  const size_t many = sizeof limits / sizeof *limits;
+  long count = argc == 2 ? atol(argv[1]) : 0;
+  if (count < (long)many) {
+    fprintf(stderr, "tracker: give a number of addresses\n");
     return 2;
   }
-  hear_by_entries();
-  try_none();
-  IS(squitter_tracker_new(&tracker, LIMIT, WINDOW).code == SQUITTER_OK);
-  try_one_by_one(&tracker);
-  IS(squitter_tracker_new(&tracker, LIMIT, WINDOW).code == SQUITTER_OK);
-  try_many(&tracker);
-  squitter_tracker_free(&tracker);
-  asked = try_without_memory();
-  IS(asked > 3);
-  try_full();
-  printf("tracker: %zu frames, %ld allocations, %d of %d wrong\n", lines, asked, wrong, tried);
+  for (size_t i = 0; i < many; i++) try_churn(limits[i], count / (long)many);
+  for (size_t i = 0; i < many; i++) try_too_small(limits[i]);
+  try_again();
+  try_many();
+  try_restoring();
+  printf("tracker: %ld addresses, %ld of %ld wrong\n", count, wrong, tried);
   return wrong != 0;
 }

@@ -1,0 +1,171 @@
+"""Feeds of libsquitter in Python's memory: they find the squitters in a receiver's bytes, and give them timestamps."""
+
+from __future__ import annotations
+
+import array
+import ctypes
+import enum
+import threading
+from typing import NamedTuple, Optional, Tuple, Union
+
+from squitter import Code, _done
+from squitter._hearing import _Lent, _bytes
+from squitter._library import _Counts, _Done, _Slot, _fits, _lend, _lib
+
+_LINE = 50  # the most bytes that a line takes
+_ROOM = 1 << 16  # bytes of lines that a call writes at once
+_COUNT = 1 << 12  # squitters that a call writes at once
+_FRAME_BYTES = 14
+
+
+class FeedFormat(enum.IntEnum):
+    """The formats of a receiver's bytes."""
+
+    BEAST = 0
+    AVR = 1
+    CSV = 2
+    LOG = 3
+
+
+def feed_format(first: Union[bytes, bytearray, memoryview]) -> Optional[FeedFormat]:
+    """Detects the format of a source from its first bytes. Returns None if the bytes do not show a format yet. Three
+    messages show Beast, and a line with a frame shows a text format. The first byte that shows a format decides."""
+    out, data = ctypes.c_uint32(), _bytes(first)
+    fault = _lib.squitter_feed_format(data, len(data), ctypes.byref(out))
+    return FeedFormat(out.value) if fault.code == Code.OK else None
+
+
+class Counts(NamedTuple):
+    """Counts of the items of a source. ``found`` is the sum of all other counts.
+
+    ``formats`` counts the frames of each downlink format other than 17; ``formats[24]`` counts formats 24 and above."""
+
+    found: int
+    written: int
+    mode_ac: int
+    multilaterated: int
+    damaged: int
+    aside: int
+    formats: Tuple[int, ...]
+
+
+class Feed(_Lent):
+    r"""Finds the squitters in a receiver's bytes, in pieces of any length, with their timestamps in milliseconds.
+
+    :meth:`take` and :meth:`finish` return lines for ``squitter track`` and :class:`Log`. :meth:`take_frames` and
+    :meth:`finish_frames` return timestamps and frames for :meth:`Tracker.hear_many`. The results do not depend on how
+    the source is cut into pieces, and timestamps never go back. After :meth:`close`, or at the end of a ``with``, each
+    call except :meth:`close` raises the Fault NO_TRACKER. Calls from several threads wait for one another.
+
+    >>> with Feed("avr") as feed:
+    ...     feed.take(b"@0000005B8D808D40621D58C386435CC4")
+    ...     feed.take(b"12692AD6;") + feed.finish()
+    ...     feed.counts.written
+    b''
+    b'500 8D40621D58C386435CC412692AD6\n'
+    1
+    """
+
+    __slots__ = ("__weakref__",)
+
+    def __init__(
+        self, format: Union[FeedFormat, str] = FeedFormat.BEAST, leap: int = 10_000, live: bool = False,
+    ) -> None:
+        """Creates a feed at the start of a source. The format is one of :class:`FeedFormat`, or its name in lower case
+        ("beast", "avr", "csv", "log"). A gap above `leap` milliseconds is a jump of the source's clock. Arrival times
+        count only for a live source. Raises ValueError for any other format, and unless the leap is a whole number
+        below 2**64."""
+        names = {form.name.lower(): form for form in FeedFormat}
+        form = names[format] if isinstance(format, str) and format in names else FeedFormat(format)
+        if not _fits(leap, 64):
+            raise ValueError("a leap is a whole number below 2**64")
+        self._kind, self._lock, self._slot = "feed", threading.RLock(), _Slot()
+        block, self._memory = _lend(_lib.squitter_feed_size())
+        _done(_lib.squitter_feed_new(ctypes.byref(self._slot), block, form, leap, bool(live)))
+
+    def __enter__(self) -> Feed:
+        self._look_open()
+        return self
+
+    def take(self, piece: Union[bytes, bytearray, memoryview], arrival: int = 0) -> bytes:
+        """Returns the lines of the squitters in this piece; `arrival` is its arrival time (ms). An incomplete message
+        at the end waits for the next piece. Raises ValueError unless the arrival is a whole number below 2**64."""
+        with self._lock:
+            self._look_open()
+            return self._texts(_bytes(piece), arrival)
+
+    def finish(self, arrival: int = 0) -> bytes:
+        """Ends the source. Returns the line of its last squitter if the end completes one, as it does for the last line
+        of a text. The next piece belongs to another source."""
+        with self._lock:
+            self._look_open()
+            return self._texts(None, arrival)
+
+    def take_frames(
+        self, piece: Union[bytes, bytearray, memoryview], arrival: int = 0,
+    ) -> Tuple[array.array[int], bytes]:
+        """Returns the timestamps of the squitters in this piece, an array of type "Q", and their frames, 14 bytes each,
+        one after the other. The arguments are those of :meth:`take`."""
+        with self._lock:
+            self._look_open()
+            return self._squitters(_bytes(piece), arrival)
+
+    def finish_frames(self, arrival: int = 0) -> Tuple[array.array[int], bytes]:
+        """Ends the source. Returns the timestamp and the frame of its last squitter if the end completes one."""
+        with self._lock:
+            self._look_open()
+            return self._squitters(None, arrival)
+
+    def disconnected(self) -> None:
+        """Drops an unfinished frame after a lost connection, and counts it as damaged. The next piece belongs to a new
+        connection, and its clock starts afresh."""
+        with self._lock:
+            self._look_open()
+            _done(_lib.squitter_feed_disconnected(ctypes.byref(self._slot)))
+
+    @property
+    def counts(self) -> Counts:
+        """The counts of the items so far."""
+        with self._lock:
+            self._look_open()
+            out = _Counts()
+            _done(_lib.squitter_feed_counts(ctypes.byref(self._slot), ctypes.byref(out)))
+        return Counts(
+            out.found, out.written, out.mode_ac, out.multilaterated, out.damaged, out.aside, tuple(out.formats),
+        )
+
+    def _texts(self, data: Optional[bytes], arrival: int) -> bytes:
+        """Calls the library until it leaves room, and returns the lines."""
+        # Each call has a buffer of its own, because a signal handler may use the feed between two calls.
+        room, done, at, told = ctypes.create_string_buffer(_ROOM), _Done(0, _ROOM), 0, []
+        call = _lib.squitter_feed_finish_text if data is None else _lib.squitter_feed_take_text
+        while done.written + _LINE > _ROOM:
+            given = _given(data, at, arrival)
+            _done(call(ctypes.byref(self._slot), *given, ctypes.addressof(room), _ROOM, ctypes.byref(done)))
+            told.append(ctypes.string_at(room, done.written))
+            at += done.taken
+        return b"".join(told)
+
+    def _squitters(self, data: Optional[bytes], arrival: int) -> Tuple[array.array[int], bytes]:
+        """Calls the library until it leaves room, and returns the timestamps and frames of the squitters."""
+        moments, frames = (ctypes.c_uint64 * _COUNT)(), ctypes.create_string_buffer(_FRAME_BYTES * _COUNT)
+        arrays = ctypes.addressof(moments), _COUNT, ctypes.addressof(frames), _COUNT
+        call = _lib.squitter_feed_finish if data is None else _lib.squitter_feed_take
+        done, at, times, told = _Done(0, _COUNT), 0, array.array("Q"), []
+        while done.written == _COUNT:
+            given = _given(data, at, arrival)
+            _done(call(ctypes.byref(self._slot), *given, *arrays, ctypes.byref(done)))
+            times.frombytes(ctypes.string_at(moments, 8 * done.written))
+            told.append(ctypes.string_at(frames, _FRAME_BYTES * done.written))
+            at += done.taken
+        return times, b"".join(told)
+
+
+def _given(data: Optional[bytes], at: int, arrival: int) -> Tuple[int, ...]:
+    """Returns the arguments of a call: the address and length of the data from `at` on, if any, and the arrival."""
+    if not _fits(arrival, 64):
+        raise ValueError("an arrival is a whole number below 2**64")
+    if data is None:
+        return (arrival,)
+    start = ctypes.cast(data, ctypes.c_void_p).value or 0
+    return start + at, len(data) - at, arrival

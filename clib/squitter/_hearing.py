@@ -1,0 +1,301 @@
+"""Trackers and logs of libsquitter in Python's memory: they decode all addresses at once."""
+
+from __future__ import annotations
+
+import ctypes
+import enum
+import operator
+import threading
+from typing import Any, Iterator, List, NamedTuple, Optional, Sequence, SupportsIndex, Tuple, Union
+
+from squitter import Code, Fault, Frame, Frames, Heard, Position, Present, _done, _many, _position, _read_heard, frame
+from squitter._library import _Done, _Entry, _Heard, _Last, _Present, _Slot, _Tally
+from squitter._library import _fits, _frames, _lend, _lib, _moment, _times
+
+
+class _Lent:
+    """A tracker, a log or a feed of the library, in Python's memory.
+
+    Calls from several threads wait for one another. A signal handler may call too: its thread may hold the lock, but
+    is not inside a call of the library."""
+
+    __slots__ = ("_kind", "_lock", "_memory", "_slot")
+
+    def close(self) -> None:
+        """Frees the memory. Safe to call twice."""
+        with self._lock:
+            getattr(_lib, f"squitter_{self._kind}_free")(ctypes.byref(self._slot))
+            self._memory = None
+
+    def _look_open(self) -> None:
+        """Raises the Fault NO_TRACKER after :meth:`close`."""
+        if self._memory is None:
+            raise Fault(Code.NO_TRACKER)
+
+    def __exit__(self, *fault: object) -> None:
+        self.close()
+
+    def __reduce__(self) -> Union[str, Tuple[Any, ...]]:
+        raise TypeError(f"a {self._kind} cannot be copied or pickled")
+
+
+class _Listener(_Lent):
+    """A tracker or a log of the library."""
+
+    __slots__ = ("_settings",)
+
+    def __init__(self, kind: str, window: int, site: Optional[Position], limit: int) -> None:
+        if not _fits(window, 64):
+            raise ValueError("a window is a whole number below 2**64")
+        if not _fits(limit, 32):
+            raise ValueError("a limit is a whole number below 2**32")
+        self._kind, self._lock, self._slot = kind, threading.RLock(), _Slot()
+        self._settings = operator.index(window), site, operator.index(limit)
+        block, self._memory = _lend(getattr(_lib, f"squitter_{kind}_size")(limit))
+        slot = ctypes.byref(self._slot)
+        if site is None:
+            _done(getattr(_lib, f"squitter_{kind}_new")(slot, block, limit, window))
+        else:
+            here = ctypes.byref(_position(site))
+            _done(getattr(_lib, f"squitter_{kind}_new_at")(slot, block, limit, window, here))
+
+
+class Tracker(_Listener):
+    """Positions of many aircraft from their frames, as the program ``squitter track`` decodes them.
+
+    Its memory is freed by :meth:`close`, at the end of a ``with``, or with the tracker itself. After that each call
+    except :meth:`close` raises the Fault NO_TRACKER. Calls from several threads wait for one another, and a signal
+    handler may call too. A copy starts with the same state. So does an unpickled tracker, on a machine of the same byte
+    order.
+
+    >>> with Tracker(window=10_000) as tracker:
+    ...     tracker.hear(0, "8D40621D58C386435CC412692AD6").what.name
+    ...     tracker.hear(400, "8D40621D58C382D690C8AC2863A7").position
+    ...     len(tracker), tracker[0]
+    'WAITING'
+    Position(lat=Fraction(428091, 8192), lon=Fraction(64215, 16384))
+    (1, Present(address=4219421, moment=400))
+    """
+
+    __module__ = "squitter"  # where pickles look for it
+    __slots__ = ("__weakref__",)
+
+    def __init__(self, window: int = 10_000, site: Optional[Position] = None, limit: int = 1000) -> None:
+        """Creates a tracker without frames. The window is in milliseconds. The site is the receiver position, which
+        surface pairs need. An address is present while its newest position is at most the window older than the last
+        accepted frame; at most `limit` can be. Raises the Faults BAD_POSITION (the site), NO_LIMIT, NO_MEMORY."""
+        super().__init__("tracker", window, site, limit)
+
+    def __enter__(self) -> Tracker:
+        self._look_open()
+        return self
+
+    __reduce__ = object.__reduce__  # __reduce_ex__ makes copies and pickles
+
+    def __reduce_ex__(self, protocol: SupportsIndex) -> Tuple[Any, ...]:
+        """Returns the class, the attributes of a subclass, and the state of the tracker."""
+        with self._lock:
+            self._look_open()
+            made: Any = super().__reduce_ex__(max(2, operator.index(protocol)))
+            call, arguments, (attributes, slots), *more = made
+            own = {*_Lent.__slots__, *_Listener.__slots__}
+            added = {name: value for name, value in slots.items() if name not in own}
+            return (call, arguments, (attributes, added, self._settings, *self._save()), *more)
+
+    def __setstate__(self, state: Tuple[Any, ...]) -> None:
+        """Creates the tracker again with this state. Raises the Fault BAD_ENTRY if no tracker can hold it."""
+        attributes, slots, (window, site, limit), last, entries = state
+        _Listener.__init__(self, "tracker", window, site, limit)
+        self._restore(last, entries)
+        for name, value in {**(attributes or {}), **slots}.items():
+            setattr(self, name, value)
+
+    def _save(self) -> Tuple[Optional[int], bytes]:
+        """Returns the timestamp of the last accepted frame, and the entries of the present addresses."""
+        last, slot = _Last(), ctypes.byref(self._slot)
+        entries = (_Entry * _lib.squitter_tracker_len(slot))()
+        _lib.squitter_tracker_save(slot, ctypes.byref(last), ctypes.addressof(entries), len(entries))
+        return last.moment if last.heard else None, bytes(entries)
+
+    def _restore(self, last: Optional[int], entries: bytes) -> None:
+        """Restores what :meth:`_save` returned."""
+        if len(entries) % ctypes.sizeof(_Entry):
+            raise ValueError(f"an entry has {ctypes.sizeof(_Entry)} bytes")
+        kept = _Last(last or 0, last is not None)
+        held = (_Entry * (len(entries) // ctypes.sizeof(_Entry))).from_buffer_copy(entries)
+        slot = ctypes.byref(self._slot)
+        _done(_lib.squitter_tracker_restore(slot, ctypes.byref(kept), ctypes.addressof(held), len(held)))
+
+    @property
+    def last(self) -> int:
+        """The timestamp of the last accepted frame; 0 if none was accepted."""
+        with self._lock:
+            self._look_open()
+            last = _Last()
+            _lib.squitter_tracker_save(ctypes.byref(self._slot), ctypes.byref(last), ctypes.addressof(last), 0)
+        return int(last.moment)
+
+    def hear(self, moment: int, source: Frame) -> Heard:
+        """Adds a frame with its timestamp in milliseconds, and returns the result. Raises the Faults of a frame text,
+        NO_TRACKER, NOT_DF17, PARITY, MOMENT_BACK, TABLE_FULL. After a Fault the tracker is unchanged."""
+        with self._lock:
+            self._look_open()
+            time, bytes_of, out = _moment(moment), frame(source), _Heard()
+            _done(_lib.squitter_tracker_hear(ctypes.byref(self._slot), time, bytes_of, ctypes.byref(out)))
+        return _read_heard(out)
+
+    def hear_many(self, moments: Sequence[int], frames: Frames) -> List[Union[Heard, Fault]]:
+        """Adds frames one after the other, and returns a list of results, with a Fault for each refused frame. Raises
+        ValueError unless there is one timestamp for each frame."""
+        with self._lock:
+            self._look_open()
+            source, count = _frames(frames)
+            times = _times(moments, count)
+            arrays = (ctypes.addressof(times), count, source, count)
+            answers = list(_many("tracker_hear_many", _Heard, count, ctypes.byref(self._slot), *arrays))
+        return [fault or _read_heard(out) for out, fault in answers]
+
+    def __len__(self) -> int:
+        """Returns the number of present addresses, at most the limit."""
+        with self._lock:
+            self._look_open()
+            return int(_lib.squitter_tracker_len(ctypes.byref(self._slot)))
+
+    def __getitem__(self, index: int) -> Present:
+        """Returns the present address at an index, the longest silent first. A negative index counts from the newest.
+        The time grows with the index. Raises IndexError for any other index."""
+        with self._lock:
+            self._look_open()
+            place, out = operator.index(index), _Present()
+            count = int(_lib.squitter_tracker_len(ctypes.byref(self._slot)))
+            if not -count <= place < count:
+                raise IndexError(f"{count} addresses are present")
+            _done(_lib.squitter_tracker_get(ctypes.byref(self._slot), place % count, ctypes.byref(out)))
+        return Present(out.address, out.moment)
+
+
+class Contact(Tracker):
+    """A tracker of one address. A second address raises TABLE_FULL while the first is present."""
+
+    __module__ = "squitter"
+    __slots__ = ()
+
+    def __init__(self, window: int = 10_000, site: Optional[Position] = None) -> None:
+        """Creates a contact without frames; window and site as for :class:`Tracker`."""
+        super().__init__(window, site, 1)
+
+    @property
+    def newest(self) -> int:
+        """The timestamp of the newest position; 0 if there is none."""
+        with self._lock:
+            return self[0].moment if len(self) else 0
+
+
+class Format(enum.IntEnum):
+    """The formats of ``squitter track --format``."""
+
+    LINES = 0
+    CSV = 1
+    JSON = 2
+
+
+class Tally(NamedTuple):
+    """The numbers of good lines and of refused lines."""
+
+    good: int
+    refused: int
+
+
+_LEAST_ROOM = 512  # the most bytes that one line of output takes
+_ROOM = 1 << 16  # bytes of text that a call writes at once
+_HEADER = 64  # bytes for the header of a format
+
+
+def _bytes(piece: Union[bytes, bytearray, memoryview]) -> bytes:
+    """Returns the bytes of a piece. Raises TypeError for anything else, such as a str."""
+    return piece if isinstance(piece, bytes) else memoryview(piece).tobytes()
+
+
+class Log(_Listener):
+    r"""A log in pieces, as the program ``squitter track`` decodes it.
+
+    The results of :meth:`take` and :meth:`finish`, joined, are the output of the program, byte for byte. After
+    :meth:`close`, or at the end of a ``with``, each call except :meth:`close` raises the Fault NO_TRACKER. Calls from
+    several threads wait for one another.
+
+    >>> with Log() as log:
+    ...     log.take(b"0 8D40621D58C386435CC412692AD6\n400 8D40621D58C3")
+    ...     log.take(b"82D690C8AC2863A7") + log.finish()
+    ...     log.tally
+    b'1 waiting 40621D\n'
+    b'2 fix 40621D 52.2572021 3.9193726\n'
+    Tally(good=2, refused=0)
+    """
+
+    __slots__ = ("_ahead", "_format", "__weakref__")
+
+    def __init__(
+        self, window: int = 10_000, site: Optional[Position] = None, limit: int = 1000,
+        format: Union[Format, str] = Format.LINES,
+    ) -> None:
+        """Creates a log without lines; window, site and limit as for :class:`Tracker`. The format is one of
+        :class:`Format`, or its name in lower case ("lines", "csv", "json"). Raises ValueError for any other format."""
+        names = {form.name.lower(): form for form in Format}
+        self._format = names[format] if isinstance(format, str) and format in names else Format(format)
+        super().__init__("log", window, site, limit)
+        header = ctypes.create_string_buffer(_HEADER)
+        _lib.squitter_log_header(self._format, header)
+        self._ahead = header.value
+
+    def __enter__(self) -> Log:
+        self._look_open()
+        return self
+
+    def take(self, piece: Union[bytes, bytearray, memoryview]) -> bytes:
+        """Returns the output for the lines that end in this piece. An incomplete line at the end waits for the next
+        piece. Raises the Fault LONG_LOG after 2**63 lines."""
+        with self._lock:
+            self._look_open()
+            return self._texts("log_take_text", _bytes(piece))
+
+    def finish(self) -> bytes:
+        """Returns the output for the last line, if it has no line feed."""
+        with self._lock:
+            self._look_open()
+            return self._texts("log_finish_text", None)
+
+    def _texts(self, name: str, data: Optional[bytes]) -> bytes:
+        """Calls the library until it leaves room, and returns the text that it wrote."""
+        call, told = getattr(_lib, f"squitter_{name}"), [self._ahead]
+        self._ahead = b""
+        # Each call has a buffer of its own, because a signal handler may use the log between two calls.
+        room, done, at = ctypes.create_string_buffer(_ROOM), _Done(0, _ROOM), 0
+        start = ctypes.cast(data, ctypes.c_void_p).value or 0
+        while done.written + _LEAST_ROOM > _ROOM:
+            given = () if data is None else (start + at, len(data) - at)
+            out = ctypes.addressof(room), _ROOM, ctypes.byref(done)
+            _done(call(ctypes.byref(self._slot), self._format, *given, *out))
+            told.append(ctypes.string_at(room, done.written))
+            at += done.taken
+        return b"".join(told)
+
+    def _answers(self, start: int, length: int, out: int, count: int) -> Iterator[int]:
+        """Decodes a whole log of `length` bytes at the address `start`. Writes the results to the array of `count`
+        squitter_answers at the address `out`, again and again; yields how many it holds, until all are written."""
+        at, done = 0, _Done(0, count)
+        for name in ("log_take", "log_finish"):
+            call, done.written = getattr(_lib, f"squitter_{name}"), count
+            while done.written == count:
+                given = (start + at, length - at) if name == "log_take" else ()
+                _done(call(ctypes.byref(self._slot), *given, out, count, ctypes.byref(done)))
+                at += done.taken
+                yield int(done.written)
+
+    @property
+    def tally(self) -> Tally:
+        """The numbers of good lines and of refused lines so far."""
+        with self._lock:
+            self._look_open()
+            out = _Tally()
+            _done(_lib.squitter_log_tally(ctypes.byref(self._slot), ctypes.byref(out)))
+        return Tally(out.good, out.refused)

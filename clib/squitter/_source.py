@@ -1,0 +1,118 @@
+"""What a receiver recorded, as arrays: the timestamps and the frames of Beast, AVR, CSV or a log."""
+
+from __future__ import annotations
+
+import os
+import re
+from typing import Any, Optional, Tuple, Union
+
+import numpy as np
+import numpy.typing as npt
+
+import squitter
+from squitter import FeedFormat
+
+Source = Union[str, "os.PathLike[str]", Any]
+"""A file, by its name or open for bytes, or bytes."""
+
+Squitters = Tuple[npt.NDArray[np.uint64], npt.NDArray[np.uint8]]
+"""Timestamps in milliseconds, and frames of shape (n, 14)."""
+
+_FIRST = 1 << 16  # bytes by which the format of a source is found
+_PIECE = 1 << 20  # bytes that a feed takes at once
+_WITH_CLOCK = (FeedFormat.BEAST, FeedFormat.AVR, "beast", "avr")
+_OTHERS = (
+    (rb"\x1f\x8b", "gzip"), (rb"BZh[1-9]", "bzip2"), (rb"\xfd7zXZ\x00", "xz"), (rb"\x28\xb5\x2f\xfd", "zstd"),
+    (rb"PK\x03\x04", "a zip archive"), (rb"\s*[*@:][0-9A-Fa-f]{14,40};\s*$", "AVR, frames without times"),
+    (rb"\s*\x1a[1-4]", "Beast, without three messages in a row"),
+    (rb"[^\n]*,", "CSV, without a time in seconds and a rawmsg in each row"),
+)
+
+
+def feed(source: Source, format: Union[FeedFormat, str, None] = None, leap: int = 10_000) -> Squitters:
+    """Returns the timestamps (ms) and the frames, (n, 14) uint8, of a receiver's recording, for :func:`track`.
+
+    The source is a file, by its name or open for bytes, or bytes. It is Beast, AVR with a clock, CSV with the columns
+    time and rawmsg, or a log; without a `format` (:class:`squitter.FeedFormat` or its name) its first bytes decide. A
+    gap above `leap` milliseconds is a jump of the receiver's clock. Raises ValueError if the source shows no format, or
+    if its frames have no times.
+    """
+    data = bytes_of(source)
+    form = _format_of(data) if format is None else format
+    if form is None:
+        refuse_other(data, source)
+        raise ValueError(f"{name_of(source)} has no frame of Beast, AVR, CSV or a log in its first {_FIRST} bytes")
+    squitters = _squitters(data, form, leap)
+    if form in _WITH_CLOCK and not _are_timed(squitters):
+        raise _untimed(source)
+    return squitters
+
+
+def squitters_of(data: npt.NDArray[np.uint8], source: Source) -> Optional[Squitters]:
+    """Returns the squitters of a recording of Beast, AVR with a clock, or CSV, or None for any other data, such as a
+    log with a line that lacks its time. Raises ValueError for Beast without times."""
+    form = _format_of(data)
+    if form is None or form == FeedFormat.LOG:
+        return None
+    squitters = _squitters(data, form, 10_000)
+    if form not in _WITH_CLOCK or squitters[0].any():
+        return squitters
+    if form == FeedFormat.BEAST:
+        raise _untimed(source)
+    return None
+
+
+def _format_of(data: npt.NDArray[np.uint8]) -> Optional[FeedFormat]:
+    return squitter.feed_format(data[:_FIRST].tobytes())
+
+
+def _squitters(data: npt.NDArray[np.uint8], form: Union[FeedFormat, str], leap: int) -> Squitters:
+    moments, frames = [], []
+    with squitter.Feed(form, leap) as source:
+        for at in range(0, len(data), _PIECE):
+            times, some = source.take_frames(data[at:at + _PIECE].tobytes())
+            moments.append(np.frombuffer(times, np.uint64) if times else np.zeros(0, np.uint64))
+            frames.append(some)
+        times, some = source.finish_frames()
+    moments.append(np.array(times, np.uint64))
+    return np.concatenate(moments), np.frombuffer(b"".join([*frames, some]), np.uint8).reshape(-1, 14)
+
+
+def _are_timed(squitters: Squitters) -> bool:
+    """Returns whether frames have times. If none has, all timestamps are 0; a single frame needs no time."""
+    return len(squitters[0]) < 2 or bool(squitters[0].any())
+
+
+def _untimed(source: Source) -> ValueError:
+    return ValueError(f"{name_of(source)} has no times, and positions need them")
+
+
+def bytes_of(source: Source) -> npt.NDArray[np.uint8]:
+    """Returns the bytes of a file, by its name or open for bytes, or given bytes. Raises TypeError for a text file."""
+    if isinstance(source, (bytes, bytearray, memoryview)):
+        return np.frombuffer(bytes(source), np.uint8)
+    if hasattr(source, "read"):
+        data = source.read()
+        if isinstance(data, str):
+            raise TypeError("a source is a file that is open for bytes ('rb'), not for text")
+        return np.frombuffer(data, np.uint8)
+    with open(source, "rb") as file:
+        # (read into an array, because NumPy asks for large pages for it; a pipe has the size 0)
+        data = np.empty(os.fstat(file.fileno()).st_size, np.uint8)
+        data, rest = data[:file.readinto(data)], np.frombuffer(file.read(), np.uint8)
+    return np.concatenate([data, rest]) if len(rest) else data
+
+
+def name_of(source: Source) -> str:
+    """Returns the name of a file for an error, or a word for other sources."""
+    name = source if isinstance(source, (str, os.PathLike)) else getattr(source, "name", None)
+    return str(name) if isinstance(name, (str, os.PathLike)) else "this"
+
+
+def refuse_other(data: npt.NDArray[np.uint8], source: Source) -> None:
+    """Raises ValueError if data without a good line begin as another format does."""
+    front = bytes(data[:200])
+    for pattern, what in _OTHERS:
+        if re.match(pattern, front, re.M):
+            raise ValueError(
+                f"{name_of(source)} is {what}, and a log has lines of a time and a frame, as squitter-feed writes")

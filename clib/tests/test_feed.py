@@ -1,0 +1,249 @@
+#!/usr/bin/env python3
+"""Tests the class Feed of the module squitter: a source of each format in pieces of any length, its end, arrivals,
+counts and errors."""
+import copy
+import doctest
+import os
+import pickle
+import signal
+import struct
+import sys
+import threading
+import unittest
+
+sys.path.insert(0, os.path.join(os.path.dirname(os.path.abspath(__file__)), ".."))
+import squitter  # noqa: E402
+from squitter import Code, Counts, Fault, Feed, FeedFormat, Log, Tracker, What  # noqa: E402
+
+EVEN = "8D40621D58C382D690C8AC2863A7"
+ODD = "8D40621D58C386435CC412692AD6"
+ALL_CALL = "5D4840D6F83D31"
+
+
+def message(kind, ticks, frame):
+    """Returns a Beast message: each 1A after its type is doubled."""
+    body = struct.pack(">Q", ticks)[2:] + b"\x1a" + bytes.fromhex(frame)
+    return b"\x1a" + kind + body.replace(b"\x1a", b"\x1a\x1a")
+
+
+# A source of each format. It has the timestamps 6682, 7000, 7400 and 7400, one short frame, and one piece of damage. If
+# the format has Mode A/C, the source has one such reply.
+SOURCES = {
+    "beast": b"x" + message(b"3", 12_000 * 6682 + 5, EVEN) + message(b"1", 1, "2040") + message(b"2", 2, ALL_CALL)
+    + message(b"3", 84_000_000, ODD) + message(b"3", 88_800_000, EVEN) + message(b"3", 88_800_001, ODD),
+    "avr": f"*2040;\n@{6682 * 12_000:012X}{EVEN};<{84_000_000:012x}1a{ODD.lower()};\r\n*{ALL_CALL};*12;\n"
+    f"%{88_800_000:012X}{EVEN};\n@{88_800_001:012X}{ODD};".encode(),
+    "csv": (f'time,icao24,rawmsg\n6.682,x,{EVEN}\n7,,"{ODD}"\r\n7.1,,{ALL_CALL}\nx,,{EVEN}\n\n7.4,,{EVEN}\n'
+            f"7.4009,,{ODD}\n").encode(),
+    "log": f"6682 {EVEN}\n7000 *{ODD};\r\n7001 {ALL_CALL}\n7400 {EVEN}0\n7400 {EVEN.lower()}\n7400 {ODD}\n".encode(),
+}
+MOMENTS = [6682, 7000, 7400, 7400]
+FRAMES = bytes.fromhex(EVEN + ODD) * 2
+LINES = f"6682 {EVEN}\n7000 {ODD}\n7400 {EVEN}\n7400 {ODD}\n".encode()
+
+
+def found(name):
+    """Returns the counts of a source."""
+    mode_ac = name in ("beast", "avr")
+    formats = [0] * 25
+    formats[11] = 1
+    return Counts(6 + mode_ac, 4, mode_ac, 0, 1, 0, tuple(formats))
+
+
+class Feeds(unittest.TestCase):
+    def refused(self, code, call, *arguments, **named):
+        with self.assertRaises(Fault) as raised:
+            call(*arguments, **named)
+        self.assertEqual(raised.exception.code, code)
+
+    def test_lines(self):
+        """The lines of each format do not depend on the cut."""
+        for form in FeedFormat:
+            name = form.name.lower()
+            source = SOURCES[name]
+            for size in (1, 2, 7, 64, len(source)):
+                with Feed(form) as feed:
+                    told = b"".join(feed.take(source[at:at + size]) for at in range(0, len(source), size))
+                    self.assertEqual(told + feed.finish(), LINES, (name, size))
+                    self.assertEqual(feed.counts, found(name), (name, size))
+                    self.assertEqual(feed.finish(), b"")
+
+    def test_frames(self):
+        """The squitters of each format do not depend on the cut, and can go straight to a tracker."""
+        for name, source in SOURCES.items():
+            for size in (1, 2, 7, 64, len(source)):
+                feed, times, frames = Feed(name), [], b""
+                for at in range(0, len(source), size):
+                    more, bytes_of = feed.take_frames(memoryview(source)[at:at + size])
+                    self.assertEqual((more.typecode, 14 * len(more)), ("Q", len(bytes_of)))
+                    times.extend(more)
+                    frames += bytes_of
+                self.assertEqual((times, frames), (MOMENTS, FRAMES), (name, size))
+                self.assertEqual(feed.counts, found(name))
+            with Tracker() as tracker:
+                heard = tracker.hear_many(*Feed(name).take_frames(bytearray(source)))
+                self.assertEqual([one.what for one in heard], [What.WAITING, What.FIX, What.FIX, What.FIX])
+
+    def test_ends(self):
+        """The end of a text completes its last line, and the next piece belongs to another source."""
+        for name, last in (("avr", EVEN), ("csv", f"0,,{EVEN}"), ("log", f"0 {EVEN}")):
+            feed = Feed(name)
+            for _ in range(2):
+                self.assertEqual(feed.take(last.encode()), b"")
+                self.assertEqual(feed.finish(), f"0 {EVEN}\n".encode())
+                self.assertEqual(feed.finish(), b"")
+                self.assertEqual(feed.take_frames(last.encode()), feed.take_frames(b""))
+                times, frames = feed.finish_frames()
+                self.assertEqual((list(times), frames), ([0], bytes.fromhex(EVEN)))
+                times, frames = feed.finish_frames()
+                self.assertEqual((list(times), frames), ([], b""))
+        feed = Feed()
+        self.assertEqual(feed.take(SOURCES["beast"][:-1])[-42:] + feed.finish(), LINES[:-34][-42:])
+        self.assertEqual(feed.counts.damaged, 2)
+
+    def test_arrivals(self):
+        """In a live source, the timestamp of a frame without a clock is its arrival."""
+        for live, first, last in ((True, 1_700_000_000_000, 1_700_000_000_500), (False, 0, 0)):
+            feed = Feed("avr", live=live)
+            self.assertEqual(feed.take(f"*{EVEN};{ODD}".encode(), 1_700_000_000_000), f"{first} {EVEN}\n".encode())
+            self.assertEqual(feed.finish(1_700_000_000_500), f"{last} {ODD}\n".encode())
+        feed = Feed("avr", live=True)
+        feed.take(f"{EVEN}".encode(), 5)
+        self.assertEqual(feed.finish(7), f"7 {EVEN}\n".encode())
+        self.assertEqual(list(feed.take_frames(f"*{EVEN};".encode(), 2**64 - 1)[0]), [2**64 - 1])
+        for wrong in (-1, 2**64):
+            for call in (feed.take, feed.take_frames):
+                with self.assertRaises(ValueError):
+                    call(b"", wrong)
+            for call in (feed.finish, feed.finish_frames):
+                with self.assertRaises(ValueError):
+                    call(wrong)
+        for wrong in (1.0, "1", None):
+            with self.assertRaises(TypeError):
+                feed.take(b"", wrong)
+        self.assertEqual(feed.counts.found, 2)
+
+    def test_connections(self):
+        """A frame that a lost connection cut off is damaged, and the next clock starts a leap later."""
+        for leap in (10_000, 0, 20_000):
+            feed, one = Feed(leap=leap), message(b"3", 12_000_000, EVEN)
+            self.assertEqual(feed.take(one + one[:9]), f"1000 {EVEN}\n".encode())
+            feed.disconnected()
+            feed.disconnected()
+            self.assertEqual((feed.counts.found, feed.counts.damaged), (2, 1))
+            self.assertEqual(feed.take(one), f"{1000 + leap} {EVEN}\n".encode())
+
+    def test_formats(self):
+        for wrong in ("BEAST", "beast ", "", 4, -1, None, 1.5):
+            with self.assertRaises(ValueError):
+                Feed(wrong)
+        for wrong in (-1, 2**64):
+            with self.assertRaises(ValueError):
+                Feed(leap=wrong)
+        with self.assertRaises(TypeError):
+            Feed(leap=1.0)
+        for wrong in ("text", 3, None):
+            with self.assertRaises(TypeError):
+                Feed().take(wrong)
+        self.assertEqual([form.value for form in FeedFormat], [0, 1, 2, 3])
+        far = f"0 {EVEN}\n{2**64 - 1} {ODD}\n".encode()
+        self.assertEqual(Feed("log", leap=2**64 - 1).take(far), far)
+        self.assertEqual(Feed("log", leap=2**64 - 2).take(far), far[:31])
+
+    def test_format_of_a_source(self):
+        """The first bytes show the format, once a line ends or three Beast messages are complete."""
+        for name, source in SOURCES.items():
+            first = next(count for count in range(len(source) + 1) if squitter.feed_format(source[:count]) is not None)
+            for count in (first, first + 1, len(source)):
+                self.assertEqual(squitter.feed_format(memoryview(source)[:count]), FeedFormat[name.upper()])
+            if name != "beast":
+                self.assertEqual(source[first - 1:first], b"\n")
+        three = message(b"1", 1, "2040") * 3
+        self.assertEqual(squitter.feed_format(bytearray(three)), FeedFormat.BEAST)
+        for nothing in (b"", three[:-1], b"*2040;", b"MSG,3,1,1,4840D6\n", bytes(1000)):
+            self.assertIsNone(squitter.feed_format(nothing))
+        with self.assertRaises(TypeError):
+            squitter.feed_format("text")
+
+    def test_rooms(self):
+        """All lines and squitters are returned, however many calls of the library they take."""
+        line = f"12345678901234567890 {EVEN}\n"[1:].encode()
+        self.assertEqual(len(line), 49)
+        for count in (1, 1335, 1336, 1337, 1338, 4095, 4096, 4097, 8192, 10_000):
+            feed = Feed("log")
+            self.assertEqual(feed.take(line * count), line * count)
+            times, frames = feed.take_frames(line * count)
+            self.assertEqual((set(times), len(times)), ({2345678901234567890}, count))
+            self.assertEqual(frames, bytes.fromhex(EVEN) * count)
+            self.assertEqual(feed.counts.written, 2 * count)
+        # After the first call, one byte too few is left for the longest line.
+        lines = line[1:] * 26 + line * 1312
+        self.assertEqual(len(lines) - len(line), (1 << 16) - 49)
+        self.assertEqual(Feed("log", leap=2**64 - 1).take(lines), lines)
+
+    def test_log_of_a_feed(self):
+        with Feed() as feed, Log() as log:
+            self.assertEqual(log.take(feed.take(SOURCES["beast"])).split(b"\n")[0], b"1 waiting 40621D")
+            self.assertEqual(log.tally, (4, 0))
+
+    def test_signal_handler(self):
+        """A signal handler may use the feed between two calls of the library; the outer call returns the same."""
+        feed, told, texts = Feed("log"), [], squitter._feed.ctypes.string_at
+        line = f"7 {EVEN}\n".encode()
+
+        def interrupted(*words):
+            """Runs the handler before the module copies the library's output."""
+            squitter._feed.ctypes.string_at = texts
+            signal.raise_signal(signal.SIGALRM)
+            return texts(*words)
+
+        was = signal.signal(signal.SIGALRM, lambda *_: told.append(feed.take(f"\n7 {ODD}\n".encode())))
+        self.addCleanup(signal.signal, signal.SIGALRM, was)
+        self.addCleanup(setattr, squitter._feed.ctypes, "string_at", texts)
+        squitter._feed.ctypes.string_at = interrupted
+        outer = feed.take(line * 10)
+        self.assertEqual((outer, told), (line * 10, [f"7 {ODD}\n".encode()]))
+
+    def test_threads(self):
+        feed, told = Feed("log"), []
+
+        def take():
+            told.extend(feed.take(f"7 {EVEN}\n".encode()) for _ in range(200))
+
+        threads = [threading.Thread(target=take) for _ in range(4)]
+        for thread in threads:
+            thread.start()
+        for thread in threads:
+            thread.join()
+        self.assertEqual((feed.counts.written, b"".join(told)), (800, f"7 {EVEN}\n".encode() * 800))
+
+    def test_closed(self):
+        feed = Feed()
+        feed.take(SOURCES["beast"][:40])
+        for _ in range(2):
+            feed.close()
+            for call in (lambda it: it.take(b""), lambda it: it.take(3), lambda it: it.finish(), lambda it: it.counts,
+                         lambda it: it.take_frames(b""), lambda it: it.finish_frames(), lambda it: it.disconnected(),
+                         lambda it: it.__enter__()):
+                self.refused(Code.NO_TRACKER, call, feed)
+        with Feed() as feed:
+            self.assertEqual(feed.take(SOURCES["beast"]), LINES)
+        self.refused(Code.NO_TRACKER, feed.finish)
+        for taken in (copy.copy, copy.deepcopy, pickle.dumps):
+            with self.assertRaisesRegex(TypeError, "a feed cannot be copied or pickled"):
+                taken(Feed())
+
+    def test_no_memory(self):
+        lend = squitter._feed._lend
+        self.addCleanup(setattr, squitter._feed, "_lend", lend)
+        squitter._feed._lend = lambda size: lend(size - 1)
+        self.refused(Code.NO_MEMORY, Feed)
+        squitter._feed._lend = lambda size: (squitter._library._Block(0, None), None)
+        self.refused(Code.NO_MEMORY, Feed)
+
+    def test_examples(self):
+        self.assertEqual(doctest.testmod(squitter._feed, extraglobs=vars(squitter)).failed, 0)
+
+
+if __name__ == "__main__":
+    unittest.main()
