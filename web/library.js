@@ -1,44 +1,21 @@
-/* squitter.js as a classic script, for a page that is opened from a folder; web/embed writes this file. */
+/* squitter.js as a classic script, for a page opened from a folder; web/embed writes this file. */
 "use strict";
 function squitterModule() {
-/* squitter.js: libsquitter for JavaScript: ADS-B position squitters (DF17), read, decoded and written exactly.
- *
- *     import { load } from "./squitter.js";
- *     const squitter = await load(fetch("squitter.wasm"));           // in a browser; in Node:
- *     const squitter = await load(readFileSync("squitter.wasm"));    // Node 20: node --experimental-wasm-memory64
- *     const place = squitter.pair("8D40621D58C382D690C8AC2863A7", "8D40621D58C386435CC412692AD6");
- *     console.log(`${place.lat} ${place.lon}`);                      // 52.2657802 3.9389125
- *     console.log(place.lat.num, place.lat.den);                     // 25261515n 483328n
- *
- * The module is dist/squitter.wasm, the proved library with 64-bit memory. Here is only how its arguments and answers
- * are laid out in memory, as squitter.h has them: nothing is worked out here, and names are those of the Python module.
- *
- * DEGREES go in as a fraction {num, den} of two BigInts, a BigInt or a whole number, and come out as an Angle: nothing
- * is rounded. A FRAME is 14 bytes or its text of 28 hexadecimal digits, bare or between * and ;. What has no answer
- * throws a Fault, the first thing that is wrong in the order of squitter.h. A number that fits no C number of its field
- * is refused by the fault that the field has; what is no whole number at all is a TypeError. */
-
-/** The codes of faults, as squitter.h names them. */
 const Code = Object.freeze({
   OK: 0, WRAP: 1, SHORT: 2, LENGTH: 3, DIGIT: 4, NOT_DF17: 5, PARITY: 6,
   NOT_POSITION: 10, OTHER_ADDRESS: 11, OTHER_KIND: 12, SAME_PARITY: 13, NO_SITE: 14, OUT_OF_RANGE: 15, ZONE_COUNTS: 16,
   BAD_POSITION: 20, BAD_FIELDS: 21, BAD_ANGLE: 22, BAD_LATITUDE: 23, BAD_FEET: 24, BAD_PARITY: 25,
   NOT_A_NUMBER: 30, TOO_MANY_DECIMALS: 31, ANGLE_RANGE: 32,
-  LONG_LINE: 40, BAD_MOMENT: 41, MOMENT_BACK: 42, TABLE_FULL: 43,
+  LONG_LINE: 40, BAD_MOMENT: 41, MOMENT_BACK: 42, TABLE_FULL: 43, NO_MEMORY: 44, NO_LIMIT: 45, NO_TRACKER: 46,
+  NO_ADDRESS: 47, LONG_LOG: 48, BAD_FORMAT: 49, BAD_ENTRY: 50,
 });
-
-/** The kind of a squitter, by its type code. */
 const Kind = Object.freeze({ OTHER: 0, AIR: 1, GROUND: 2 });
-
-/** What an altitude field means: nothing sent, feet, or another form. */
 const AltitudeForm = Object.freeze({ NONE: 0, FEET: 1, OTHER: 2 });
-
-/** What is heard of a frame: the first of these that applies. */
 const What = Object.freeze({
   FIX: 1, FOLLOWED: 2, WAITING: 3, SPLIT: 4, FAR: 5, WITHOUT_SITE: 6, NO_PLACE: 7,
 });
-
-/** Why a call has no answer: the first thing that is wrong. Its message is the library's text. */
+const Format = Object.freeze({ LINES: 0, CSV: 1, JSON: 2 });
+const FeedFormat = Object.freeze({ BEAST: 0, AVR: 1, CSV: 2, LOG: 3 });
 class Fault extends Error {
   constructor(message, code, first = 0n, second = 0) {
     super(message);
@@ -47,91 +24,84 @@ class Fault extends Error {
     this.first = first;
     this.second = second;
   }
+  toJSON() {
+    const { name, message, code, first, second } = this;
+    return { name, message, code, first: String(first), second };
+  }
 }
-
-/** An exact number of degrees, num/den in lowest terms; as a text it has seven decimals, by the library's own call. */
+class Fields {
+  constructor(fields) {
+    Object.assign(this, fields);
+  }
+  toJSON() {
+    return { ...this, raw: String(this.raw) };
+  }
+}
 class Angle {
   #library;
-
   constructor(library, num, den) {
     this.#library = library;
     this.num = num;
     this.den = den;
     Object.freeze(this);
   }
-
-  /** Seven decimals, rounded, ties away from zero. */
   toString() {
     return this.#library.angleText(this);
   }
-
-  /** The nearest number that JavaScript has: for drawing, as the fraction alone is exact. */
   toNumber() {
     return Number(this.num) / Number(this.den);
   }
-
-  /** The fraction as a text, as JSON has no BigInt. */
   toJSON() {
     return `${this.num}/${this.den}`;
   }
 }
-
-/** All of an airborne position squitter but its place. */
+function refuseOthers(head, others) {
+  for (const name of Object.keys(others)) {
+    const hint = name === "feet" ? ": give altitude, a field of 12 bits, which fieldOfFeet(feet) returns" : "";
+    throw new TypeError(`${head} has no field ${name}${hint}`);
+  }
+}
 class AirHead {
-  constructor({ address, altitude = 0, ca = 5, typeCode = 11, status = 0, flag = 0, time = 0, odd = 0 }) {
+  constructor({ address, altitude = 0, ca = 5, typeCode = 11, status = 0, flag = 0, time = 0, odd = 0, ...others }) {
+    refuseOthers("AirHead", others);
     Object.assign(this, { address, altitude, ca, typeCode, status, flag, time, odd });
   }
 }
-
-/** All of a surface position squitter but its place. */
 class GroundHead {
-  constructor({ address, ca = 4, typeCode = 7, movement = 0, trackStatus = 0, track = 0, time = 0, odd = 0 }) {
+  constructor({
+    address, ca = 4, typeCode = 7, movement = 0, trackStatus = 0, track = 0, time = 0, odd = 0, ...others
+  }) {
+    refuseOthers("GroundHead", others);
     Object.assign(this, { address, ca, typeCode, movement, trackStatus, track, time, odd });
   }
 }
-
-/** The fields of each head in memory, each with its bytes. */
 const AIR_LAYOUT = [["address", 4], ["altitude", 2], ["ca", 1], ["typeCode", 1], ["status", 1], ["flag", 1],
   ["time", 1], ["odd", 1]];
-const GROUND_LAYOUT = [["address", 4], ["ca", 1], ["typeCode", 1], ["movement", 1], ["trackStatus", 1], ["track", 1],
-  ["time", 1], ["odd", 1]];
-
-/** The fields of one byte at the end of a squitter's fields, from byte 26 on. */
+const GROUND_LAYOUT = [["address", 4], ["ca", 1], ["typeCode", 1], ["movement", 1], ["trackStatus", 1],
+  ["track", 1], ["time", 1], ["odd", 1]];
 const SMALL_FIELDS = ["altitudeForm", "kind", "ca", "typeCode", "odd", "time", "status", "flag", "movement",
   "trackStatus", "track"];
-
 const FRAME_BYTES = 14, ENTRY_BYTES = 192, PAGE_BYTES = 65536;
-
-/** A whole number as a BigInt. */
 function whole(value) {
   if (typeof value === "bigint") return value;
   if (Number.isSafeInteger(value)) return BigInt(value);
   throw new TypeError(`a whole number is wanted, not ${String(value)}`);
 }
-
-/** A whole number that fits so many bits without a sign. What does not becomes the largest that does, which lies
- * outside the range of every field, so that the library refuses it in its turn. */
 function fitted(value, bits) {
   const number = whole(value);
   return Number(BigInt.asUintN(bits, number) === number ? number : (1n << BigInt(bits)) - 1n);
 }
-
-/** A moment or a window: a whole number below 2^64. */
 function moment(value) {
   const number = whole(value);
   if (BigInt.asUintN(64, number) !== number) throw new RangeError("a moment is a whole number below 2^64");
   return number;
 }
-
-/** Numerator and denominator of exact degrees. What fits no angle of C becomes 0/0, which the library refuses. */
 function fraction(degrees) {
   const isFraction = typeof degrees === "object" && degrees !== null;
   const num = whole(isFraction ? degrees.num : degrees), den = isFraction ? whole(degrees.den) : 1n;
   const fits = BigInt.asIntN(64, num) === num && BigInt.asUintN(64, den) === den;
   return fits ? { num, den } : { num: 0n, den: 0n };
 }
-
-/** The bytes of a frame that is no text. */
 function frameBytes(source) {
   const isBytes = source instanceof ArrayBuffer || (ArrayBuffer.isView(source) && !(source.BYTES_PER_ELEMENT > 1));
   if (!isBytes) throw new TypeError("a frame is bytes or a text");
@@ -139,20 +109,18 @@ function frameBytes(source) {
   if (source instanceof ArrayBuffer) return new Uint8Array(source.slice(0));
   return new Uint8Array(source.buffer, source.byteOffset, FRAME_BYTES).slice();
 }
-
-/** The memory of the module, and the places above its own in which arguments and answers lie. */
 class Memory {
   constructor(exports) {
     this.exports = exports;
     const base = exports.memory.buffer.byteLength;
     this.grow(1);
     Object.assign(this, { faultAt: base, outAt: base + 256, firstAt: base + 512, secondAt: base + 544 });
-    Object.assign(this, { placeAt: base + 576, entryAt: base + 640, textAt: base + 1024 });
+    Object.assign(this, { placeAt: base + 576, textAt: base + 1024, textRoom: PAGE_BYTES - 1088 });
+    Object.assign(this, { zerosAt: base + PAGE_BYTES - 64, end: base + PAGE_BYTES });
+    this.free = [];
     this.data = new DataView(exports.memory.buffer);
     this.all = new Uint8Array(exports.memory.buffer);
   }
-
-  /** Grows by so many pages: engines want a BigInt, and those of before the standard was done a number. */
   grow(pages) {
     try {
       this.exports.memory.grow(BigInt(pages));
@@ -161,50 +129,53 @@ class Memory {
       this.exports.memory.grow(pages);
     }
   }
-
-  /** Grows until there are so many bytes after a place. */
   reach(at, count) {
     const lack = at + count - this.exports.memory.buffer.byteLength;
     if (lack > 0) this.grow(Math.ceil(lack / PAGE_BYTES));
   }
-
+  claim(count) {
+    const fitting = this.free.filter((block) => block.count >= count).sort((one, other) => one.count - other.count);
+    if (fitting.length) return this.free.splice(this.free.indexOf(fitting[0]), 1)[0];
+    const block = { at: this.end, count: (count + 15) & ~15 };
+    this.end += block.count;
+    this.reach(block.at, block.count);
+    return block;
+  }
+  release(block) {
+    this.free.push(block);
+  }
   view() {
     const { buffer } = this.exports.memory;
     return this.data.buffer === buffer ? this.data : (this.data = new DataView(buffer));
   }
-
   bytes() {
     const { buffer } = this.exports.memory;
     return this.all.buffer === buffer ? this.all : (this.all = new Uint8Array(buffer));
   }
-
   bytesAt(at, count) {
     return this.bytes().subarray(at, at + count);
   }
-
   putBytes(at, bytes) {
     this.bytesAt(at, bytes.length).set(bytes);
   }
-
-  /** Writes a text, and answers its length. Halves of surrogate pairs become bytes that no frame and no angle has. */
   putText(text) {
     const spelled = new TextEncoder().encode(text);
-    this.reach(this.textAt, spelled.length);
+    if (spelled.length > this.textRoom) {
+      const { at, count } = this.claim(2 * spelled.length);
+      Object.assign(this, { textAt: at, textRoom: count });
+    }
     this.putBytes(this.textAt, spelled);
     return BigInt(spelled.length);
   }
-
   putAngle(at, degrees) {
     const { num, den } = fraction(degrees);
     this.view().setBigInt64(at, num, true);
     this.view().setBigUint64(at + 8, den, true);
   }
-
   putPosition(at, { lat, lon }) {
     this.putAngle(at, lat);
     this.putAngle(at + 16, lon);
   }
-
   putHead(at, layout, head) {
     let next = at;
     for (const [name, count] of layout) {
@@ -215,25 +186,21 @@ class Memory {
       next += count;
     }
   }
-
-  /** The text at a place, up to the first zero. */
   getText(at, room) {
     const held = this.bytes();
     let text = "";
     for (let next = at; next < at + room && held[next]; next++) text += String.fromCharCode(held[next]);
     return text;
   }
-
   getFields(at) {
     const view = this.view();
     const small = Object.fromEntries(SMALL_FIELDS.map((name, index) => [name, view.getUint8(at + 26 + index)]));
-    return {
+    return new Fields({
       raw: view.getBigUint64(at, true), address: view.getUint32(at + 8, true), lat: view.getUint32(at + 12, true),
       lon: view.getUint32(at + 16, true), feet: view.getInt32(at + 20, true), altitude: view.getUint16(at + 24, true),
       ...small,
-    };
+    });
   }
-
   getZones(at) {
     const view = this.view(), [latZones, zoneCount, lonZones, odd] = this.bytesAt(at + 12, 4);
     return {
@@ -242,38 +209,406 @@ class Memory {
     };
   }
 }
-
-/** The loaded library: one of them does for all calls of a thread. */
+function ask(library, name, ...words) {
+  const { exports, faultAt } = library.memory;
+  exports[`squitter_${name}`](BigInt(faultAt), ...words);
+  const view = library.memory.view(), code = view.getUint32(faultAt, true);
+  if (!code) return;
+  const second = view.getUint32(faultAt + 4, true), first = view.getBigUint64(faultAt + 8, true);
+  throw new Fault(library.faultText(code, first, second), code, first, second);
+}
+function angleAt(library, at) {
+  const view = library.memory.view();
+  return new Angle(library, view.getBigInt64(at, true), view.getBigUint64(at + 8, true));
+}
+function positionAt(library, at) {
+  return Object.freeze({ lat: angleAt(library, at), lon: angleAt(library, at + 16) });
+}
+function heardAt(library, at) {
+  const view = library.memory.view(), what = view.getUint8(at + 32);
+  const position = what === What.FIX || what === What.FOLLOWED ? positionAt(library, at) : null;
+  return { what, position, even: view.getUint8(at + 33), odd: view.getUint8(at + 34) };
+}
+const unused = new FinalizationRegistry((lent) => lent.close());
+class Lent {
+  constructor(owner, library, name, size, make) {
+    const { memory } = library;
+    unused.register(owner, this);
+    Object.assign(this, { library, name, block: memory.claim(16 + size), rooms: {} });
+    this.slot = BigInt(this.block.at);
+    memory.bytesAt(this.block.at, 16).fill(0);
+    memory.view().setBigUint64(memory.outAt, BigInt(size), true);
+    memory.view().setBigUint64(memory.outAt + 8, this.slot + 16n, true);
+    try {
+      make(this.slot, BigInt(memory.outAt));
+    } catch (error) {
+      this.close();
+      throw error;
+    }
+  }
+  close() {
+    if (!this.block) return;
+    this.library.memory.exports[`squitter_${this.name}_free`](this.slot);
+    for (const block of [this.block, ...Object.values(this.rooms)]) this.library.memory.release(block);
+    this.block = null;
+    this.rooms = {};
+    this.slot = BigInt(this.library.memory.zerosAt);
+  }
+}
+const PIECE_BYTES = 1 << 16;
+function bytesOf(piece) {
+  if (ArrayBuffer.isView(piece)) return new Uint8Array(piece.buffer, piece.byteOffset, piece.byteLength);
+  if (piece instanceof ArrayBuffer) return new Uint8Array(piece);
+  throw new TypeError("a piece is an ArrayBuffer or a view of one");
+}
+const MOST_ADDRESSES = 1 << 20;
+function settingsOf({ window = 10_000n, limit = 1000, site = null }) {
+  const number = Number(whole(limit));
+  if (number < 0 || number > MOST_ADDRESSES) throw new RangeError(`a limit is at most ${MOST_ADDRESSES}`);
+  return { window: moment(window), limit: number, site };
+}
+function listenerOf(owner, library, name, settings) {
+  const { memory } = library, { window, limit, site } = settingsOf(settings);
+  return new Lent(owner, library, name, Number(memory.exports[`squitter_${name}_size`](limit)), (slot, block) => {
+    if (site) memory.putPosition(memory.placeAt, site);
+    const words = [slot, block, limit, window, ...(site ? [BigInt(memory.placeAt)] : [])];
+    ask(library, `${name}_new${site ? "_at" : ""}`, ...words);
+  });
+}
+const LAST_BYTES = 16, ANSWER_BYTES = 96, ANSWERS_AT_ONCE = 4096, TEXT_ROOM = 1 << 18, ANSWER_TEXT = 512;
+const E7 = 10_000_000;
+const COLUMN_ROOM = 1 << 15;
+const LOWER = 1 - new Uint8Array(Uint32Array.of(1).buffer)[0];
+function columnsOf(count) {
+  return {
+    numbers: new Float64Array(count), moments: new BigUint64Array(count), whats: new Uint8Array(count),
+    addresses: new Int32Array(count), kinds: new Uint8Array(count), lats: new Float64Array(count),
+    lons: new Float64Array(count), feet: new Float64Array(count), evens: new Uint8Array(count),
+    odds: new Uint8Array(count), codes: new Uint32Array(count), firsts: new BigUint64Array(count),
+  };
+}
+function frontOf({ ...columns }, count) {
+  for (const name of Object.keys(columns)) columns[name] = columns[name].slice(0, count);
+  return columns;
+}
+function joinedColumns(parts) {
+  const all = columnsOf(parts.reduce((sum, part) => sum + part.numbers.length, 0));
+  let from = 0;
+  for (const part of parts) {
+    for (const name of Object.keys(all)) all[name].set(part[name], from);
+    from += part.numbers.length;
+  }
+  return all;
+}
+function putAnswers(view, from, count, columns, first) {
+  const { numbers, moments, whats, addresses, kinds, lats, lons, feet, evens, odds, codes, firsts } = columns;
+  const times = new Uint32Array(moments.buffer), details = new Uint32Array(firsts.buffer);
+  for (let index = first, at = from; index < first + count; index++, at += ANSWER_BYTES) {
+    const what = view.getUint8(at + 48), isPlace = what === What.FIX || what === What.FOLLOWED;
+    const lower = 2 * index + LOWER, upper = 2 * index + 1 - LOWER;
+    numbers[index] = view.getUint32(at, true) + 2 ** 32 * view.getUint32(at + 4, true);
+    times[lower] = view.getUint32(at + 8, true);
+    times[upper] = view.getUint32(at + 12, true);
+    whats[index] = what;
+    evens[index] = view.getUint8(at + 49);
+    odds[index] = view.getUint8(at + 50);
+    codes[index] = view.getUint32(at + 56, true);
+    details[lower] = view.getUint32(at + 64, true);
+    details[upper] = view.getUint32(at + 68, true);
+    addresses[index] = what ? view.getUint32(at + 80, true) : -1;
+    kinds[index] = view.getUint8(at + 88);
+    lats[index] = isPlace ? view.getInt32(at + 72, true) / E7 : NaN;
+    lons[index] = isPlace ? view.getInt32(at + 76, true) / E7 : NaN;
+    feet[index] = view.getUint8(at + 89) === AltitudeForm.FEET ? view.getInt32(at + 84, true) : NaN;
+  }
+}
+class Log {
+  #listener;
+  #library;
+  #columnRoom;
+  constructor(library, settings = {}) {
+    this.#library = library;
+    this.#listener = listenerOf(this, library, "log", settings);
+    this.#listener.rooms = {
+      done: library.memory.claim(16), piece: library.memory.claim(PIECE_BYTES),
+      out: library.memory.claim(Math.max(TEXT_ROOM, ANSWERS_AT_ONCE * ANSWER_BYTES)),
+    };
+  }
+  take(piece) {
+    return this.#columns((hear) => this.#pieces(piece, (at, count) => hear("log_take", at, count)));
+  }
+  finish() {
+    return this.#columns((hear) => hear("log_finish"));
+  }
+  takeText(piece, format = Format.LINES) {
+    return this.#text((hear) => this.#pieces(piece, (at, count) => hear("log_take_text", format, at, count)));
+  }
+  finishText(format = Format.LINES) {
+    return this.#text((hear) => hear("log_finish_text", format));
+  }
+  header(format = Format.LINES) {
+    const { exports, outAt } = this.#library.memory;
+    exports.squitter_log_header(format, BigInt(outAt));
+    return this.#library.memory.getText(outAt, 64);
+  }
+  get tally() {
+    const { outAt } = this.#library.memory;
+    ask(this.#library, "log_tally", this.#listener.slot, BigInt(outAt));
+    const view = this.#library.memory.view();
+    return { good: view.getBigUint64(outAt, true), refused: view.getBigUint64(outAt + 8, true) };
+  }
+  close() {
+    this.#listener.close();
+    this.#columnRoom = null;
+  }
+  #pieces(piece, hear) {
+    const bytes = bytesOf(piece);
+    if (!this.#listener.rooms.piece) return hear(this.#library.memory.zerosAt, 0);
+    for (let from = 0; from < bytes.length; from += PIECE_BYTES) {
+      const part = bytes.subarray(from, from + PIECE_BYTES);
+      this.#library.memory.putBytes(this.#listener.rooms.piece.at, part);
+      hear(this.#listener.rooms.piece.at, part.length);
+    }
+  }
+  #call(room, full, name, at, count, format, use) {
+    const { memory } = this.#library;
+    const out = this.#listener.rooms.out?.at ?? memory.zerosAt, done = this.#listener.rooms.done?.at ?? memory.zerosAt;
+    let taken = 0, written = 0;
+    do {
+      const words = [...(format === undefined ? [] : [format]),
+        ...(at === undefined ? [] : [BigInt(at + taken), BigInt(count - taken)])];
+      ask(this.#library, name, this.#listener.slot, ...words, BigInt(out), BigInt(room), BigInt(done));
+      const view = memory.view();
+      taken += Number(view.getBigUint64(done, true));
+      written = Number(view.getBigUint64(done + 8, true));
+      use(out, written);
+    } while (written > full);
+  }
+  #columns(run) {
+    const room = this.#columnRoom ??= columnsOf(COLUMN_ROOM), parts = [];
+    let filled = 0;
+    const flush = () => parts.push(frontOf(room, filled));
+    run((name, at, count) => this.#call(ANSWERS_AT_ONCE, ANSWERS_AT_ONCE - 1, name, at, count, undefined,
+      (out, written) => {
+        if (filled + written > COLUMN_ROOM) {
+          flush();
+          filled = 0;
+        }
+        putAnswers(this.#library.memory.view(), out, written, room, filled);
+        filled += written;
+      }));
+    flush();
+    return parts.length === 1 ? parts[0] : joinedColumns(parts);
+  }
+  #text(run) {
+    const decoder = new TextDecoder();
+    let text = "";
+    run((name, format, at, count) => this.#call(TEXT_ROOM, TEXT_ROOM - ANSWER_TEXT, name, at, count, format,
+      (out, written) => { text += decoder.decode(this.#library.memory.bytesAt(out, written)); }));
+    return text;
+  }
+}
+class Tracker {
+  #listener;
+  #library;
+  #settings;
+  constructor(library, settings = {}) {
+    this.#library = library;
+    this.#listener = listenerOf(this, library, "tracker", settings);
+    const { window, limit, site } = settingsOf(settings);
+    this.#settings = { window, limit, site: site && { lat: fraction(site.lat), lon: fraction(site.lon) } };
+  }
+  hear(at, source) {
+    const { memory } = this.#library, time = moment(at);
+    memory.putBytes(memory.firstAt, this.#library.frame(source));
+    ask(this.#library, "tracker_hear", this.#listener.slot, time, BigInt(memory.firstAt), BigInt(memory.outAt));
+    return heardAt(this.#library, memory.outAt);
+  }
+  get size() {
+    return Number(this.#library.memory.exports.squitter_tracker_len(this.#listener.slot));
+  }
+  present(index) {
+    const { outAt } = this.#library.memory;
+    ask(this.#library, "tracker_get", this.#listener.slot, whole(index), BigInt(outAt));
+    const view = this.#library.memory.view();
+    return { address: view.getUint32(outAt + 8, true), moment: view.getBigUint64(outAt, true) };
+  }
+  get last() {
+    return this.#state(0).last ?? 0n;
+  }
+  save() {
+    return this.#state(this.size);
+  }
+  #state(count) {
+    const { memory } = this.#library;
+    const room = memory.claim(LAST_BYTES + ENTRY_BYTES * count);
+    memory.bytesAt(room.at, LAST_BYTES).fill(0);
+    const at = BigInt(room.at), entries = at + BigInt(LAST_BYTES);
+    memory.exports.squitter_tracker_save(this.#listener.slot, at, entries, BigInt(count));
+    const view = memory.view();
+    const last = view.getBigUint64(room.at + 8, true) ? view.getBigUint64(room.at, true) : null;
+    const saved = { last, entries: memory.bytesAt(room.at + LAST_BYTES, ENTRY_BYTES * count).slice() };
+    memory.release(room);
+    return saved;
+  }
+  restore({ last, entries }) {
+    const { memory } = this.#library, bytes = bytesOf(entries);
+    if (bytes.length % ENTRY_BYTES) throw new RangeError(`an entry has ${ENTRY_BYTES} bytes`);
+    const isHeard = last !== null && last !== undefined, time = isHeard ? moment(last) : 0n;
+    const room = memory.claim(LAST_BYTES + bytes.length);
+    try {
+      memory.view().setBigUint64(room.at, time, true);
+      memory.view().setBigUint64(room.at + 8, isHeard ? 1n : 0n, true);
+      memory.putBytes(room.at + LAST_BYTES, bytes);
+      const at = BigInt(room.at), count = BigInt(bytes.length / ENTRY_BYTES);
+      ask(this.#library, "tracker_restore", this.#listener.slot, at, at + BigInt(LAST_BYTES), count);
+    } finally {
+      memory.release(room);
+    }
+  }
+  copy() {
+    const other = new Tracker(this.#library, this.#settings);
+    other.restore(this.save());
+    return other;
+  }
+  close() {
+    this.#listener.close();
+  }
+}
+class Contact extends Tracker {
+  #library;
+  #window;
+  #site;
+  constructor(library, window = 10_000n, site = null) {
+    super(library, { window, site, limit: 1 });
+    this.#library = library;
+    this.#window = moment(window);
+    this.#site = site && { lat: fraction(site.lat), lon: fraction(site.lon) };
+  }
+  get newest() {
+    return this.size ? this.present(0).moment : 0n;
+  }
+  copy() {
+    const other = new Contact(this.#library, this.#window, this.#site);
+    other.restore(this.save());
+    return other;
+  }
+}
+const SQUITTERS_AT_ONCE = 1024, LINES_ROOM = 1 << 16, LINE_BYTES = 50, FORMATS = 25;
+class Feed {
+  #lent;
+  #library;
+  constructor(library, { format = FeedFormat.BEAST, leap = 10_000n, live = false } = {}) {
+    const { memory } = library, number = fitted(format, 32), longest = moment(leap);
+    this.#library = library;
+    this.#lent = new Lent(this, library, "feed", Number(memory.exports.squitter_feed_size()),
+      (slot, block) => ask(library, "feed_new", slot, block, number, longest, live ? 1 : 0));
+    this.#lent.rooms = {
+      done: memory.claim(16), piece: memory.claim(PIECE_BYTES), moments: memory.claim(8 * SQUITTERS_AT_ONCE),
+      out: memory.claim(LINES_ROOM),
+    };
+  }
+  take(piece, arrival = 0n) {
+    return this.#squitters("feed_take", bytesOf(piece), moment(arrival));
+  }
+  finish(arrival = 0n) {
+    return this.#squitters("feed_finish", null, moment(arrival));
+  }
+  takeText(piece, arrival = 0n) {
+    return this.#text("feed_take_text", bytesOf(piece), moment(arrival));
+  }
+  finishText(arrival = 0n) {
+    return this.#text("feed_finish_text", null, moment(arrival));
+  }
+  disconnected() {
+    ask(this.#library, "feed_disconnected", this.#lent.slot);
+  }
+  get counts() {
+    const { memory } = this.#library, { outAt } = memory;
+    ask(this.#library, "feed_counts", this.#lent.slot, BigInt(outAt));
+    const numbers = Array.from({ length: 6 + FORMATS }, (_, at) => memory.view().getBigUint64(outAt + 8 * at, true));
+    const [found, written, modeAc, multilaterated, damaged, aside, ...formats] = numbers;
+    return { found, written, modeAc, multilaterated, damaged, aside, formats };
+  }
+  close() {
+    this.#lent.close();
+  }
+  #call(name, bytes, arrival, outputs, full, use) {
+    const { memory } = this.#library, { zerosAt } = memory, at = this.#lent.rooms.piece?.at ?? zerosAt;
+    const done = this.#lent.rooms.done?.at ?? zerosAt, rest = [...outputs.map(BigInt), BigInt(done)];
+    let from = 0;
+    do {
+      const part = this.#lent.rooms.piece && bytes ? bytes.subarray(from, from + PIECE_BYTES) : new Uint8Array(0);
+      memory.putBytes(at, part);
+      let taken = 0, written = 0;
+      do {
+        const given = bytes ? [BigInt(at + taken), BigInt(part.length - taken)] : [];
+        ask(this.#library, name, this.#lent.slot, ...given, arrival, ...rest);
+        const view = memory.view();
+        taken += Number(view.getBigUint64(done, true));
+        written = Number(view.getBigUint64(done + 8, true));
+        use(written);
+      } while (written > full);
+      from += PIECE_BYTES;
+    } while (bytes && from < bytes.length);
+  }
+  #squitters(name, bytes, arrival) {
+    const { memory } = this.#library, moments = this.#lent.rooms.moments?.at ?? memory.zerosAt;
+    const out = this.#lent.rooms.out?.at ?? memory.zerosAt, parts = [];
+    const outputs = [moments, SQUITTERS_AT_ONCE, out, SQUITTERS_AT_ONCE];
+    this.#call(name, bytes, arrival, outputs, SQUITTERS_AT_ONCE - 1, (count) => parts.push({
+      moments: new BigUint64Array(memory.exports.memory.buffer, moments, count).slice(),
+      frames: memory.bytesAt(out, FRAME_BYTES * count).slice(),
+    }));
+    return parts.length === 1 ? parts[0] : joinedSquitters(parts);
+  }
+  #text(name, bytes, arrival) {
+    const { memory } = this.#library, out = this.#lent.rooms.out?.at ?? memory.zerosAt, decoder = new TextDecoder();
+    let text = "";
+    this.#call(name, bytes, arrival, [out, LINES_ROOM], LINES_ROOM - LINE_BYTES,
+      (written) => { text += decoder.decode(memory.bytesAt(out, written)); });
+    return text;
+  }
+}
+function feedFormat(library, first) {
+  const { memory } = library, bytes = bytesOf(first), room = memory.claim(Math.max(bytes.length, 1));
+  memory.putBytes(room.at, bytes);
+  memory.release(room);
+  try {
+    ask(library, "feed_format", BigInt(room.at), BigInt(bytes.length), BigInt(memory.outAt));
+  } catch (error) {
+    if (error instanceof Fault && error.code === Code.BAD_FORMAT) return null;
+    throw error;
+  }
+  return memory.view().getUint32(memory.outAt, true);
+}
+function joinedSquitters(parts) {
+  const count = parts.reduce((sum, part) => sum + part.moments.length, 0);
+  const moments = new BigUint64Array(count), frames = new Uint8Array(FRAME_BYTES * count);
+  let from = 0;
+  for (const part of parts) {
+    moments.set(part.moments, from);
+    frames.set(part.frames, FRAME_BYTES * from);
+    from += part.moments.length;
+  }
+  return { moments, frames };
+}
 class Squitter {
-  /** @param {WebAssembly.Instance} instance */
   constructor(instance) {
     this.memory = new Memory(instance.exports);
   }
-
-  /** Makes a call that answers a fault, and throws it unless it is none. */
   #ask(name, ...words) {
-    const { exports, faultAt } = this.memory;
-    exports[`squitter_${name}`](BigInt(faultAt), ...words);
-    const view = this.memory.view(), code = view.getUint32(faultAt, true);
-    if (!code) return;
-    const second = view.getUint32(faultAt + 4, true), first = view.getBigUint64(faultAt + 8, true);
-    throw new Fault(this.faultText(code, first, second), code, first, second);
+    ask(this, name, ...words);
   }
-
   #angleAt(at) {
-    const view = this.memory.view();
-    return new Angle(this, view.getBigInt64(at, true), view.getBigUint64(at + 8, true));
+    return angleAt(this, at);
   }
-
   #positionAt(at) {
-    return Object.freeze({ lat: this.#angleAt(at), lon: this.#angleAt(at + 16) });
+    return positionAt(this, at);
   }
-
   #frameAt(at) {
     return this.memory.bytesAt(at, FRAME_BYTES).slice();
   }
-
-  /** Throws BAD_POSITION where a position is given that is none: near it nothing is decoded, whatever the frame. */
   #look(near) {
     if (!near) return;
     const { firstAt, placeAt, outAt } = this.memory;
@@ -285,8 +620,6 @@ class Squitter {
       if (error.code === Code.BAD_POSITION) throw error;
     }
   }
-
-  /** The bytes of a frame. What is wrong with its text comes after what is wrong with the position. */
   #frameNear(source, near) {
     try {
       return this.frame(source);
@@ -295,8 +628,6 @@ class Squitter {
       throw error;
     }
   }
-
-  /** The bytes of two frames. What is wrong with the older comes before what is wrong with the text of the newer. */
   #twoFrames(older, newer, near) {
     const first = this.#frameNear(older, near);
     try {
@@ -307,34 +638,24 @@ class Squitter {
       throw error;
     }
   }
-
-  /** The 14 bytes of a frame, or of a frame text. Faults: WRAP, SHORT, LENGTH, DIGIT. */
   frame(source) {
     if (typeof source !== "string") return frameBytes(source);
-    const { textAt, outAt } = this.memory;
-    const length = this.memory.putText(source);
+    const length = this.memory.putText(source), { textAt, outAt } = this.memory;
     this.#ask("frame_of_text", BigInt(textAt), length, BigInt(outAt));
     return this.#frameAt(outAt);
   }
-
-  /** The frame as 28 upper-case hexadecimal digits. Faults: those of `frame`. */
   frameText(source) {
     const { exports, firstAt, outAt } = this.memory;
     this.memory.putBytes(firstAt, this.frame(source));
     exports.squitter_text_of_frame(BigInt(firstAt), BigInt(outAt));
     return this.memory.getText(outAt, 28);
   }
-
-  /** The fields of the squitter that a frame spells. Faults: those of `frame`, then NOT_DF17, PARITY. */
   read(source) {
     const { firstAt, outAt } = this.memory;
     this.memory.putBytes(firstAt, this.frame(source));
     this.#ask("read_frame", BigInt(firstAt), BigInt(outAt));
     return this.memory.getFields(outAt);
   }
-
-  /** The place of a frame near a reference: the one point with its code within half a zone of the reference.
-   * Faults: BAD_POSITION (the reference), those of `read`, NOT_POSITION, OUT_OF_RANGE. */
   local(source, reference) {
     const { firstAt, placeAt, outAt } = this.memory;
     this.memory.putPosition(placeAt, reference);
@@ -342,8 +663,6 @@ class Squitter {
     this.#ask("local", BigInt(firstAt), BigInt(placeAt), BigInt(outAt));
     return this.#positionAt(outAt);
   }
-
-  /** The zones in which that place lies: how it comes about. Faults: those of `local`. */
   localZones(source, reference) {
     const { firstAt, placeAt, outAt } = this.memory;
     this.memory.putPosition(placeAt, reference);
@@ -351,10 +670,6 @@ class Squitter {
     this.#ask("local_zones", BigInt(firstAt), BigInt(placeAt), BigInt(outAt));
     return this.memory.getZones(outAt);
   }
-
-  /** The place of the newer of an even and an odd frame of one address; on the ground near a site. Faults:
-   * BAD_POSITION (the site), those of `read` (of the older, then of the newer), NOT_POSITION, OTHER_ADDRESS,
-   * OTHER_KIND, SAME_PARITY, NO_SITE, OUT_OF_RANGE, ZONE_COUNTS. */
   pair(older, newer, site = null) {
     const { firstAt, secondAt, placeAt, outAt } = this.memory;
     if (site) this.memory.putPosition(placeAt, site);
@@ -365,8 +680,6 @@ class Squitter {
     else this.#ask("pair", BigInt(firstAt), BigInt(secondAt), BigInt(outAt));
     return this.#positionAt(outAt);
   }
-
-  /** The frame that is sent of a position, with an AirHead or a GroundHead. Faults: BAD_FIELDS, BAD_POSITION. */
   encode(head, position) {
     const isAir = head instanceof AirHead;
     if (!isAir && !(head instanceof GroundHead)) throw new TypeError("a head is an AirHead or a GroundHead");
@@ -376,54 +689,38 @@ class Squitter {
     this.#ask(isAir ? "encode_air" : "encode_ground", BigInt(firstAt), BigInt(placeAt), BigInt(outAt));
     return this.#frameAt(outAt);
   }
-
-  /** The frame with this parity (0 even, 1 odd) and the code of this position, and all else as it was.
-   * Faults: BAD_PARITY, BAD_POSITION, those of `read`, NOT_POSITION. */
   sendAgain(source, odd, position) {
     const { firstAt, placeAt, outAt } = this.memory, parity = fitted(odd, 8);
     this.memory.putPosition(placeAt, position);
-    // (a parity that is none is refused before the frame is looked at, whichever it is)
     const frame = parity > 1 ? new Uint8Array(FRAME_BYTES) : this.#frameNear(source, position);
     this.memory.putBytes(firstAt, frame);
     this.#ask("send_again", BigInt(firstAt), parity, BigInt(placeAt), BigInt(outAt));
     return this.#frameAt(outAt);
   }
-
-  /** The number of longitude zones at a latitude (NL), from 1 to 59. Fault: BAD_LATITUDE. */
   zoneCount(lat) {
     const { placeAt, outAt } = this.memory;
     this.memory.putAngle(placeAt, lat);
     this.#ask("zone_count", BigInt(placeAt), BigInt(outAt));
     return this.memory.view().getUint8(outAt);
   }
-
-  /** The angle that a text spells: an optional -, one to three digits, and optionally a point and up to twelve
-   * decimals. Faults: NOT_A_NUMBER, TOO_MANY_DECIMALS, ANGLE_RANGE. */
   angle(text) {
-    if (typeof text !== "string") throw new TypeError("a text is wanted");
-    const { textAt, outAt } = this.memory;
-    const length = this.memory.putText(text);
+    if (typeof text !== "string") throw new TypeError("an angle is read from a text");
+    const length = this.memory.putText(text), { textAt, outAt } = this.memory;
     this.#ask("angle_of_text", BigInt(textAt), length, BigInt(outAt));
     return this.#angleAt(outAt);
   }
-
-  /** An angle with seven decimals, rounded, ties away from zero. Fault: BAD_ANGLE. */
   angleText(degrees) {
     const { placeAt, outAt } = this.memory;
     this.memory.putAngle(placeAt, degrees);
     this.#ask("text_of_angle", BigInt(placeAt), BigInt(outAt));
     return this.memory.getText(outAt, 16);
   }
-
-  /** The angle in units of 10^-7 degree, rounded half away from zero. Fault: BAD_ANGLE. */
   angleE7(degrees) {
     const { placeAt, outAt } = this.memory;
     this.memory.putAngle(placeAt, degrees);
     this.#ask("angle_e7", BigInt(placeAt), BigInt(outAt));
     return this.memory.view().getBigInt64(outAt, true);
   }
-
-  /** The position in units of 10^-7 degree, rounded half away from zero. Fault: BAD_POSITION. */
   positionE7(position) {
     const { placeAt, outAt } = this.memory;
     this.memory.putPosition(placeAt, position);
@@ -431,24 +728,17 @@ class Squitter {
     const view = this.memory.view();
     return { lat: view.getInt32(outAt, true), lon: view.getInt32(outAt + 4, true) };
   }
-
-  /** What an altitude field of 12 bits means in an airborne position of this type code: its form, and feet or 0.
-   * Fault: BAD_FIELDS. */
   feetOfField(typeCode, field) {
     const { outAt } = this.memory;
     this.#ask("feet_of_field", fitted(typeCode, 8), fitted(field, 16), BigInt(outAt));
     return { form: this.memory.view().getUint8(outAt + 4), feet: this.memory.view().getInt32(outAt, true) };
   }
-
-  /** The altitude field that means so many feet: a multiple of 25 from -1000 to 50175. Fault: BAD_FEET. */
   fieldOfFeet(feet) {
     const { outAt } = this.memory, number = whole(feet);
     const fits = BigInt.asIntN(32, number) === number;
     this.#ask("field_of_feet", fits ? Number(number) : 0x7fffffff, BigInt(outAt));
     return this.memory.view().getUint16(outAt, true);
   }
-
-  /** The words of a fault, those of the program where it has some. */
   faultText(code, first = 0n, second = 0) {
     const { exports, faultAt, outAt } = this.memory, view = this.memory.view();
     const numbers = [[code, 32], [first, 64], [second, 32]].map(([value, bits]) => [whole(value), bits]);
@@ -460,93 +750,36 @@ class Squitter {
     exports.squitter_text_of_fault(BigInt(faultAt), BigInt(outAt));
     return this.memory.getText(outAt, 64);
   }
-
-  /** The version of the library. */
+  feedFormat(first) {
+    return feedFormat(this, first);
+  }
   version() {
     const number = this.memory.exports.squitter_version();
     return `${number >> 16}.${(number >> 8) & 255}.${number & 255}`;
   }
-
-  /** What is heard of a frame more, of which these bytes are kept; they are changed. For a Contact. */
-  hear(entry, window, at, source, site = null) {
-    const { firstAt, placeAt, entryAt, outAt } = this.memory;
-    if (site) this.memory.putPosition(placeAt, site);
-    this.memory.putBytes(firstAt, this.#frameNear(source, site));
-    this.memory.putBytes(entryAt, entry);
-    const kept = BigInt(entryAt), frame = BigInt(firstAt), out = BigInt(outAt);
-    if (site) this.#ask("hear_at", kept, window, BigInt(placeAt), at, frame, out);
-    else this.#ask("hear", kept, window, at, frame, out);
-    entry.set(this.memory.bytesAt(entryAt, ENTRY_BYTES));
-    const view = this.memory.view(), what = view.getUint8(outAt + 32);
-    const position = what === What.FIX || what === What.FOLLOWED ? this.#positionAt(outAt) : null;
-    return { what, position, even: view.getUint8(outAt + 33), odd: view.getUint8(outAt + 34) };
-  }
 }
-
-/** What is kept of one address, and what is heard of one frame more of it. The caller finds the contact of a frame's
- * address; a frame of another address is not looked for. Moments and the window are whole numbers below 2^64 of
- * milliseconds, or of any other unit. */
-class Contact {
-  #library;
-  #window;
-  #site;
-  #entry = new Uint8Array(ENTRY_BYTES);
-
-  /** A contact of which nothing was heard. The site is for pairs on the ground. */
-  constructor(library, window, site = null) {
-    this.#library = library;
-    this.#window = moment(window);
-    this.#site = site && { lat: fraction(site.lat), lon: fraction(site.lon) };
-  }
-
-  /** What is heard of a frame, by those that were heard before. A Fault leaves the contact as it was.
-   * Faults: BAD_POSITION (the site), those of `read`, MOMENT_BACK. */
-  hear(at, source) {
-    return this.#library.hear(this.#entry, this.#window, moment(at), source, this.#site);
-  }
-
-  /** A contact that has heard what this one has, and goes its own way. */
-  copy() {
-    const other = new Contact(this.#library, this.#window, this.#site);
-    other.#entry.set(this.#entry);
-    return other;
-  }
-
-  /** The moment of the newest frame, 0 where none was heard. */
-  get last() {
-    return new DataView(this.#entry.buffer).getBigUint64(0, true);
-  }
-
-  /** The moment of the newest position, 0 where none was heard. */
-  get newest() {
-    return new DataView(this.#entry.buffer).getBigUint64(8, true);
-  }
-}
-
-/** Makes an instance of the module. Engines without 64-bit memory say 'invalid memory limits flags', which names neither
- * the cause nor what to do. */
 async function instantiated(given) {
   try {
     return await WebAssembly.instantiate(given, {});
   } catch (error) {
     if (!(error instanceof WebAssembly.CompileError) || !error.message.includes("invalid memory limits")) throw error;
-    const advice = "squitter.wasm needs WebAssembly with 64-bit memory; start Node 20 as: node --experimental-wasm-memory64";
-    throw new WebAssembly.CompileError(`${advice} (${error.message})`, { cause: error });
+    const remedy = "start Node 20 as: node --experimental-wasm-memory64";
+    const advice = `squitter.wasm needs WebAssembly with 64-bit memory; ${remedy} (${error.message})`;
+    throw new WebAssembly.CompileError(advice, { cause: error });
   }
 }
-
-/** Loads the library from dist/squitter.wasm: its bytes, the Response of fetch, a compiled module, or a promise of one
- * of these. Rejects with a WebAssembly.CompileError if the engine has no 64-bit memory; Node 20 has it if it is started
- * as `node --experimental-wasm-memory64`. */
 async function load(source) {
   let given = await source;
-  if (typeof Response !== "undefined" && given instanceof Response) {
-    if (!given.ok) throw new Error(`the module is not there: ${given.status}`);
+  const isModule = given instanceof ArrayBuffer || ArrayBuffer.isView(given) || given instanceof WebAssembly.Module;
+  if (!isModule && typeof Response !== "undefined" && given instanceof Response) {
+    if (!given.ok) throw new Error(`the module cannot be loaded: ${given.status}`);
     given = await given.arrayBuffer();
   }
   const made = await instantiated(given);
   return new Squitter(made instanceof WebAssembly.Instance ? made : made.instance);
 }
-
-return { Code, Kind, AltitudeForm, What, Fault, Angle, AirHead, GroundHead, Squitter, Contact, load };
+return {
+  AirHead, AltitudeForm, Angle, Code, Contact, Fault, Feed, FeedFormat, Format, GroundHead, Kind, Log, Squitter,
+  Tracker, What, load,
+};
 }

@@ -1,14 +1,14 @@
-/* log.js: a log, heard in a worker: its answers in a table, its tracks on the map, and both as files. */
+/* log.js: decodes a log in a worker, and shows its results in a table, on the map and as files. */
 "use strict";
 
-/** @typedef {Answers & {first: number}} Chunk  some answers, with how many came before them */
+/** @typedef {Answers & {first: number}} Chunk  some results, with the number of results before them */
 
 const ROWS_SHOWN = 100;
 
-/** The site of the example's receiver, which no other log is heard with. */
+/** The receiver position of the example; no other log uses it. */
 const EXAMPLE_SITE = ["52.31", "4.76"];
 
-/** Nothing but a text that the page has put together itself may become a script, and that only of a worker. */
+/** Only a text that the page itself has put together may become a script, and only the script of a worker. */
 const WORKER_POLICY = /** @type {any} */ (window).trustedTypes?.createPolicy("squitter-worker", {
   createScriptURL(address) {
     if (!address.startsWith("blob:")) throw new TypeError("a worker starts from a blob");
@@ -18,9 +18,11 @@ const WORKER_POLICY = /** @type {any} */ (window).trustedTypes?.createPolicy("sq
 
 const HEARD = ["refused", "fix", "followed", "waiting", "split", "far", "no site", "no position"];
 
-/** The answers to a log so far, and which of them a filter leaves. */
+/** The results of a log so far, and the ones that pass the filter. */
 class LogAnswers {
-  constructor() {
+  /** @param {Library} library */
+  constructor(library) {
+    this.library = library;
     /** @type {Chunk[]} */
     this.chunks = [];
     this.count = 0;
@@ -35,23 +37,23 @@ class LogAnswers {
 
   /** @param {Answers} answers */
   add(answers) {
-    if (!answers.starts.length) return;
+    if (!answers.numbers.length) return;
     const chunk = { ...answers, first: this.count };
     this.chunks.push(chunk);
-    this.count += answers.starts.length;
-    for (const what of answers.whats) {
-      if (what === 1 || what === 2) this.places++;
-      if (what === 0) this.refused++;
-      if (what === 6) this.withoutSite++;
+    this.count += answers.numbers.length;
+    const { whats } = answers;
+    for (let at = 0; at < whats.length; at++) {
+      if (whats[at] === 1 || whats[at] === 2) this.places++;
+      if (whats[at] === 0) this.refused++;
+      if (whats[at] === 6) this.withoutSite++;
     }
     this.sift(chunk);
   }
 
   /** @param {Chunk} chunk */
-  sift(chunk) {
-    chunk.whats.forEach((what, at) => {
-      if (this.wanted(what, chunk.addresses[at])) this.left.push(chunk.first + at);
-    });
+  sift({ whats, addresses, first }) {
+    const { wanted, left } = this;
+    for (let at = 0; at < whats.length; at++) if (wanted(whats[at], addresses[at])) left.push(first + at);
   }
 
   /** @param {(what: number, address: number) => boolean} wanted */
@@ -61,7 +63,7 @@ class LogAnswers {
     for (const chunk of this.chunks) this.sift(chunk);
   }
 
-  /** The cells of an answer. @param {number} index @returns {string[]} */
+  /** Returns the cells of a result. @param {number} index @returns {string[]} */
   row(index) {
     let low = 0, high = this.chunks.length - 1;
     while (low < high) {
@@ -70,12 +72,14 @@ class LogAnswers {
       else high = middle - 1;
     }
     const chunk = this.chunks[low], at = index - chunk.first, what = chunk.whats[at];
-    const line = chunk.text.slice(chunk.starts[at], chunk.starts[at + 1] ?? chunk.text.length).trimEnd();
-    const number = String(chunk.numbers[at]), words = line.slice(number.length + 1);
-    if (what === 0) return [number, "", `refused: ${words}`, "", "", ""];
-    const parts = words.split(" "), isPlace = what === 1 || what === 2;
-    const heard = what === 4 ? `split ${parts[2]} ${parts[3]}` : HEARD[what];
-    const place = isPlace ? parts.slice(2) : ["", ""];
+    const number = String(chunk.numbers[at]);
+    if (what === 0) {
+      const words = this.library.faultText(chunk.codes[at], chunk.firsts[at]);
+      return [number, "", `refused: ${words}`, "", "", ""];
+    }
+    const isPlace = what === 1 || what === 2;
+    const heard = what === 4 ? `split ${chunk.evens[at]} ${chunk.odds[at]}` : HEARD[what];
+    const place = isPlace ? [chunk.lats[at].toFixed(7), chunk.lons[at].toFixed(7)] : ["", ""];
     return [number, String(chunk.moments[at]), heard, hexadecimal(chunk.addresses[at], 6), ...place];
   }
 }
@@ -88,19 +92,21 @@ class LogPanel {
     const saying = (name) => (text) => { byId(name).textContent = text; };
     this.map = new TrackMap(byId("map"), saying("map-state"), saying("map-spot"));
     this.playback = new Playback(this.map);
-    this.answers = new LogAnswers();
+    this.answers = new LogAnswers(library);
     this.tracks = new Tracks(0);
     /** @type {Worker | null} */
     this.worker = null;
     /** @type {(() => void) | null} */
     this.again = null;
+    /** @type {{file: Blob, settings: HearingSettings} | null} */
+    this.task = null;
     this.at = 0;
     this.started = 0;
     this.seconds = 0;
     this.listen();
   }
 
-  /** What is typed of the settings, with another site where one is given.
+  /** Returns the settings that are typed, with the site `where` if given.
    * @param {string[]} [where] @returns {HearingSettings} */
   settings(where = [byId("log-lat").value, byId("log-lon").value]) {
     const whole = (name, most) => {
@@ -108,16 +114,16 @@ class LogPanel {
       if (!/^\d{1,20}$/.test(text) || BigInt(text) > most) throw new Error(`bad ${name}`);
       return BigInt(text);
     };
-    const window = whole("window", (1n << 64n) - 1n), limit = Number(whole("limit", (1n << 32n) - 1n));
+    const window = whole("window", (1n << 64n) - 1n), limit = Number(whole("limit", 1n << 20n));
     if (!limit) throw new Error("limit is 0");
     const [lat, lon] = where;
     const site = lat.trim() || lon.trim() ? positionOf(this.library, lat, lon) : null;
-    // (a site that is no position is refused here, before any line is)
+    // An invalid site is refused here, before the worker starts.
     if (site) this.library.encode(new AirHead({ address: 0 }), site);
     return { window, limit, site };
   }
 
-  /** Hears a log from its beginning; near a site of its own where one is given.
+  /** Decodes a log from its beginning, with the site `where` if given.
    * @param {Blob} file @param {string} name @param {string[]} [where] */
   hear(file, name, where) {
     this.stop();
@@ -128,7 +134,7 @@ class LogPanel {
     } catch (error) {
       return this.say(`Refused: ${error.message}`);
     }
-    this.answers = new LogAnswers();
+    this.answers = new LogAnswers(this.library);
     this.setFilter();
     this.tracks = new Tracks(Number(settings.window));
     this.map.show(this.tracks);
@@ -136,25 +142,20 @@ class LogPanel {
     this.name = name;
     this.size = file.size;
     this.started = performance.now();
-    const text = `"use strict";\n${squitterModule}\n${squitterHearing}\n(${squitterHearingWorker})();`;
-    const address = URL.createObjectURL(new Blob([text], { type: "text/javascript" }));
-    this.worker = new Worker(WORKER_POLICY.createScriptURL(address));
-    URL.revokeObjectURL(address);
-    this.worker.onmessage = ({ data }) => this.told(data);
-    this.worker.onerror = (event) => this.told({ failed: event.message || "the worker did not start" });
-    this.worker.postMessage({ wasm: moduleBytes(), file, settings });
+    this.task = { file, settings };
+    this.worker = startHearing(this.task, (said) => this.told(said));
     this.say(`Hearing ${name}.`);
     this.able();
   }
 
-  /** Hears the last log again, as the settings have changed. A site with one half still to be typed is no site yet. */
+  /** Decodes the last log again after a change of settings. Waits while only one half of the site is typed. */
   hearAgain() {
     const isWhole = Boolean(byId("log-lat").value.trim()) === Boolean(byId("log-lon").value.trim());
     if (isWhole) this.again?.();
   }
 
-  /** Takes what the worker tells. */
-  told({ answers, done, finished, failed }) {
+  /** Handles a message of the worker. */
+  told({ answers, done, finished, failed, feed }) {
     if (answers) {
       const first = !this.answers.count;
       this.answers.add(answers);
@@ -166,24 +167,50 @@ class LogPanel {
       byId("log-progress").value = this.size ? done / this.size : 1;
       this.say(`Hearing ${this.name}: ${this.answers.count} answers.`);
     }
-    if (finished) this.end("heard");
+    if (finished) this.end("heard", feed);
     if (failed) this.end(`not heard to its end (${failed})`);
   }
 
-  /** The log is at its end, or was left. */
-  end(how) {
+  /** Ends the log, at its end or because it was left. `feed` has the counts of a receiver's file. */
+  end(how, feed = null) {
     this.stop();
     const { count, places, refused, withoutSite } = this.answers;
     this.seconds = (performance.now() - this.started) / 1000;
     byId("log-progress").value = how === "heard" ? 1 : byId("log-progress").value;
     const counts = `${count} answers, ${places} places, ${refused} refused`;
-    const ground = withoutSite ? ` Frames from the ground without a place: ${withoutSite}. Type where your receiver is.` : "";
-    this.say(`${this.name}: ${how}. ${counts}, in ${this.seconds.toFixed(1)} seconds.${ground}`);
+    const ground = withoutSite
+      ? ` Frames from the ground without a place: ${withoutSite}. Type where your receiver is.` : "";
+    const found = feed ? ` The file has ${feed.found} frames: ${feed.written} squitters, ${feed.damaged} damaged.` : "";
+    this.say(`${this.name}: ${how}. ${counts}, in ${this.seconds.toFixed(1)} seconds.${found}${ground}`);
     this.showRows();
     this.nameTracks();
     if (!this.map.moved) this.map.fit();
     this.playback.take(this.tracks);
     this.able();
+  }
+
+  /** Decodes the log once more. Returns what `squitter track` prints for it. @returns {Promise<string[]>} */
+  texts() {
+    return new Promise((resolve, reject) => {
+      /** @type {string[]} */
+      const texts = [];
+      const worker = startHearing({ ...this.task, asText: true }, ({ text, finished, failed }) => {
+        if (text !== undefined) texts.push(text);
+        if (!finished && !failed) return;
+        worker.terminate();
+        if (finished) resolve(texts);
+        else reject(new Error(failed));
+      });
+    });
+  }
+
+  /** Saves the results as a file. */
+  async saveText() {
+    try {
+      save("answers.txt", "text/plain", await this.texts());
+    } catch (error) {
+      this.say(`The answers were not written (${error.message}).`);
+    }
   }
 
   /** Lists the addresses beside the map. */
@@ -246,7 +273,7 @@ class LogPanel {
     for (const name of ["lat", "lon", "window", "limit"]) {
       byId(`log-${name}`).addEventListener("change", () => this.hearAgain());
     }
-    // A browser reports no change if the same file is chosen again, unless the field was emptied.
+    // A browser reports a change for the same file only if the field was emptied before.
     byId("log-file").addEventListener("click", () => { byId("log-file").value = ""; });
     byId("log-file").addEventListener("change", () => {
       const [file] = byId("log-file").files;
@@ -255,8 +282,7 @@ class LogPanel {
     byId("log-example").addEventListener("click", () =>
       this.hear(exampleLog(), `examples/flights.log, near ${EXAMPLE_SITE.join(", ")}`, EXAMPLE_SITE));
     byId("log-cancel").addEventListener("click", () => this.end("cancelled"));
-    byId("log-text").addEventListener("click", () =>
-      save("answers.txt", "text/plain", this.answers.chunks.map(({ text }) => text)));
+    byId("log-text").addEventListener("click", () => this.saveText());
     byId("log-geojson").addEventListener("click", () =>
       save("tracks.geojson", "application/geo+json", [JSON.stringify(this.tracks.geojson()), "\n"]));
     byId("log-back").addEventListener("click", () => this.turn(-ROWS_SHOWN));
@@ -286,7 +312,7 @@ class LogPanel {
   }
 }
 
-/** The example, as a file has it. */
+/** Returns the example log as a file. */
 function exampleLog() {
   return new Blob([SQUITTER_FLIGHTS.replaceAll("\n", "").replaceAll("|", "\n")]);
 }

@@ -77,8 +77,13 @@ function answerWith(form, answer) {
   answer();
 }
 
+/** @type {Uint8Array | null} */
+let moduleRead = null;
+
+/** Returns the bytes of the module. They are decoded once, because the worker of each log needs them. */
 function moduleBytes() {
-  return Uint8Array.from(atob(SQUITTER_MODULE), (letter) => letter.charCodeAt(0));
+  moduleRead ??= Uint8Array.from(atob(SQUITTER_MODULE), (letter) => letter.charCodeAt(0));
+  return moduleRead;
 }
 
 /** The tabs: arrows, Home and End move among them, and the address of the page keeps which is open. */

@@ -29,8 +29,32 @@ export declare const Code: {
   readonly BAD_MOMENT: 41;
   readonly MOMENT_BACK: 42;
   readonly TABLE_FULL: 43;
+  readonly NO_MEMORY: 44;
+  readonly NO_LIMIT: 45;
+  readonly NO_TRACKER: 46;
+  readonly NO_ADDRESS: 47;
+  readonly LONG_LOG: 48;
+  readonly BAD_FORMAT: 49;
+  readonly BAD_ENTRY: 50;
 };
 export type Code = (typeof Code)[keyof typeof Code];
+
+/** The output formats of a log, those of `squitter track --format`. */
+export declare const Format: {
+  readonly LINES: 0;
+  readonly CSV: 1;
+  readonly JSON: 2;
+};
+export type Format = (typeof Format)[keyof typeof Format];
+
+/** The formats of a receiver's bytes. */
+export declare const FeedFormat: {
+  readonly BEAST: 0;
+  readonly AVR: 1;
+  readonly CSV: 2;
+  readonly LOG: 3;
+};
+export type FeedFormat = (typeof FeedFormat)[keyof typeof FeedFormat];
 
 /** The kind of a squitter, by its type code. */
 export declare const Kind: {
@@ -40,7 +64,7 @@ export declare const Kind: {
 };
 export type Kind = (typeof Kind)[keyof typeof Kind];
 
-/** What an altitude field means: nothing sent, feet, or another form. */
+/** The meaning of an altitude field: nothing sent, feet, or another form. */
 export declare const AltitudeForm: {
   readonly NONE: 0;
   readonly FEET: 1;
@@ -48,7 +72,7 @@ export declare const AltitudeForm: {
 };
 export type AltitudeForm = (typeof AltitudeForm)[keyof typeof AltitudeForm];
 
-/** What is heard of a frame: the first of these that applies. */
+/** The result for a frame: the first of these that applies. */
 export declare const What: {
   readonly FIX: 1;
   readonly FOLLOWED: 2;
@@ -78,7 +102,7 @@ export interface Position {
   readonly lon: Degrees;
 }
 
-/** A position that a call answers. */
+/** A position that a call returns. */
 export interface Place extends Position {
   readonly lat: Angle;
   readonly lon: Angle;
@@ -87,7 +111,7 @@ export interface Place extends Position {
 /** A frame: its text, or its 14 bytes, which are copied. */
 export type Frame = string | ArrayBuffer | Uint8Array | Int8Array | Uint8ClampedArray | DataView;
 
-/** A squitter, field by field. A field that its kind lacks is 0; squitter.h gives the ranges. */
+/** A squitter, field by field. A field that its kind lacks is 0; squitter.h gives the ranges. `raw` is text in JSON. */
 export interface Fields {
   /** Of kind other: the 56 bits of the message, ME. */
   raw: bigint;
@@ -115,13 +139,13 @@ export interface Fields {
   track: number;
 }
 
-/** What an altitude field means; `feet` is 0 in the other forms. */
+/** The meaning of an altitude field; `feet` is 0 in the other forms. */
 export interface Altitude {
   form: AltitudeForm;
   feet: number;
 }
 
-/** What is heard of a frame: which of the seven, the place where there is one, and the zone counts of a split. */
+/** The result for a frame: one of the seven kinds, the position if there is one, and the zone counts of a split. */
 export interface Heard {
   what: What;
   position: Place | null;
@@ -129,47 +153,49 @@ export interface Heard {
   odd: number;
 }
 
-/** Why a call has no answer: the first thing that is wrong. Its message is the library's text. */
+/** The first error of a call. Its message is the library's text. */
 export declare class Fault extends Error {
   constructor(message: string, code: Code, first?: bigint, second?: number);
   readonly code: Code;
   readonly first: bigint;
   readonly second: number;
+  /** Returns the fault with `first` as a text, because JSON has no BigInt. */
+  toJSON(): object;
 }
 
-/** An exact number of degrees that a call answers, num/den in lowest terms. */
+/** An exact number of degrees that a call returns, num/den in lowest terms. */
 export declare class Angle implements Fraction {
   constructor(library: Squitter, num: bigint, den: bigint);
   readonly num: bigint;
   readonly den: bigint;
-  /** Seven decimals, rounded, ties away from zero, by the library's own call. */
+  /** Returns the angle with seven decimals, rounded half away from zero by the library. */
   toString(): string;
-  /** The nearest number that JavaScript has: for drawing, as the fraction alone is exact. */
+  /** Returns a JavaScript number, for drawing; only the fraction is exact. */
   toNumber(): number;
-  /** The fraction as a text, as `428091/8192`. */
+  /** Returns the fraction as a text, such as `428091/8192`. */
   toJSON(): string;
 }
 
-/** The zones in which a place lies. With the code `lat` and `lon` of its frame, its latitude is
- * degrees / latZones * (latZone + lat / 2^17), and its longitude degrees / lonZones * (lonZone + lon / 2^17), less 360
- * degrees from 180 up. */
+/** The zones that a position lies in. `lat` and `lon` are the CPR code of its frame. Its latitude is
+ * degrees / latZones * (latZone + lat / 2^17). Its longitude is degrees / lonZones * (lonZone + lon / 2^17), minus 360
+ * degrees if that is 180 or more. */
 export interface Zones {
   /** The zone of latitude, j: negative in the south. */
   latZone: number;
   /** The zone of longitude, m: from 0, eastwards from the prime meridian. */
   lonZone: number;
-  /** What the zones share: 360 in the air, 90 on the ground. */
+  /** The degrees that the zones divide: 360 in the air, 90 on the ground. */
   degrees: number;
   /** 60 even, 59 odd. */
   latZones: number;
-  /** Of the place's latitude, NL. */
+  /** NL of the position's latitude. */
   zoneCount: number;
   /** NL even; odd, one less and at least 1. */
   lonZones: number;
   odd: number;
 }
 
-/** All of an airborne position squitter but its place. */
+/** The fields of an airborne position squitter, except its position. Other fields throw a TypeError. */
 export declare class AirHead {
   constructor(fields: {
     address: Whole; altitude?: Whole; ca?: Whole; typeCode?: Whole; status?: Whole; flag?: Whole; time?: Whole;
@@ -185,7 +211,7 @@ export declare class AirHead {
   odd: Whole;
 }
 
-/** All of a surface position squitter but its place. */
+/** The fields of a surface position squitter, except its position. Other fields throw a TypeError. */
 export declare class GroundHead {
   constructor(fields: {
     address: Whole; ca?: Whole; typeCode?: Whole; movement?: Whole; trackStatus?: Whole; track?: Whole; time?: Whole;
@@ -201,69 +227,202 @@ export declare class GroundHead {
   odd: Whole;
 }
 
-/** The loaded library. Each call throws a Fault where it has no answer: the first that applies of those it names. */
+/** The loaded library. A call without a result throws a Fault: the first that applies of those it names. */
 export declare class Squitter {
   constructor(instance: WebAssembly.Instance);
-  /** The module's memory, for who makes its calls without anything between, as hearing.js does. */
+  /** The module's memory, for callers that use its exports directly. */
   readonly memory: object;
-  /** The 14 bytes of a frame, or of a frame text. Faults: WRAP, SHORT, LENGTH, DIGIT. */
+  /** Returns the 14 bytes of a frame, or of a frame text. Faults: WRAP, SHORT, LENGTH, DIGIT. */
   frame(source: Frame): Uint8Array;
-  /** The frame as 28 upper-case hexadecimal digits. Faults: those of `frame`. */
+  /** Returns the frame as 28 upper-case hexadecimal digits. Faults: those of `frame`. */
   frameText(source: Frame): string;
-  /** The fields of the squitter that a frame spells. Faults: those of `frame`, then NOT_DF17, PARITY. */
+  /** Returns the fields of the squitter in a frame. Faults: those of `frame`, then NOT_DF17, PARITY. */
   read(source: Frame): Fields;
-  /** The place of a frame near a reference: the one point with its code within half a zone of the reference.
+  /** Returns the position of a frame near a reference: the one point with its code within half a zone of it.
    * Faults: BAD_POSITION (the reference), those of `read`, NOT_POSITION, OUT_OF_RANGE. */
   local(source: Frame, reference: Position): Place;
-  /** The zones in which that place lies: how it comes about. Faults: those of `local`. */
+  /** Returns the zones that the position of `local` lies in. Faults: those of `local`. */
   localZones(source: Frame, reference: Position): Zones;
-  /** The place of the newer of an even and an odd frame of one address; on the ground near a site. Faults: BAD_POSITION
-   * (the site), those of `read` (of the older, then of the newer), NOT_POSITION, OTHER_ADDRESS, OTHER_KIND,
-   * SAME_PARITY, NO_SITE, OUT_OF_RANGE, ZONE_COUNTS. */
+  /** Returns the position of the newer of an even and an odd frame of one address. Surface pairs need the site. Faults:
+   * BAD_POSITION (the site), those of `read` (of the older, then of the newer), NOT_POSITION, OTHER_ADDRESS,
+   * OTHER_KIND, SAME_PARITY, NO_SITE, OUT_OF_RANGE, ZONE_COUNTS. */
   pair(older: Frame, newer: Frame, site?: Position | null): Place;
-  /** The frame that is sent of a position. Faults: BAD_FIELDS (the head), BAD_POSITION. */
+  /** Returns the frame for a position. Faults: BAD_FIELDS (the head), BAD_POSITION. */
   encode(head: AirHead | GroundHead, position: Position): Uint8Array;
-  /** The frame with this parity (0 even, 1 odd) and the code of this position, and all else as it was.
+  /** Returns the frame with this parity (0 even, 1 odd) and the code of this position. Its other fields stay.
    * Faults: BAD_PARITY, BAD_POSITION, those of `read`, NOT_POSITION. */
   sendAgain(source: Frame, odd: Whole, position: Position): Uint8Array;
-  /** The number of longitude zones at a latitude (NL), from 1 to 59. Fault: BAD_LATITUDE. */
+  /** Returns the number of longitude zones at a latitude (NL), from 1 to 59. Fault: BAD_LATITUDE. */
   zoneCount(lat: Degrees): number;
-  /** The angle that a text spells: an optional -, one to three digits, and optionally a point and up to twelve
+  /** Parses an angle: an optional -, one to three digits, and optionally a point and up to twelve
    * decimals. Faults: NOT_A_NUMBER, TOO_MANY_DECIMALS, ANGLE_RANGE. */
   angle(text: string): Angle;
-  /** An angle with seven decimals, rounded, ties away from zero. Fault: BAD_ANGLE. */
+  /** Returns an angle with seven decimals, rounded half away from zero. Fault: BAD_ANGLE. */
   angleText(degrees: Degrees): string;
-  /** The angle in units of 10^-7 degree, rounded half away from zero. Fault: BAD_ANGLE. */
+  /** Returns the angle in units of 10^-7 degree, rounded half away from zero. Fault: BAD_ANGLE. */
   angleE7(degrees: Degrees): bigint;
-  /** The position in units of 10^-7 degree, rounded half away from zero. Fault: BAD_POSITION. */
+  /** Returns the position in units of 10^-7 degree, rounded half away from zero. Fault: BAD_POSITION. */
   positionE7(position: Position): { lat: number; lon: number };
-  /** What an altitude field of 12 bits means in an airborne position of this type code. Fault: BAD_FIELDS. */
+  /** Decodes an altitude field of 12 bits in an airborne position of this type code. Fault: BAD_FIELDS. */
   feetOfField(typeCode: Whole, field: Whole): Altitude;
-  /** The altitude field that means so many feet: a multiple of 25 from -1000 to 50175. Fault: BAD_FEET. */
+  /** Returns the altitude field for these feet, a multiple of 25 from -1000 to 50175. Fault: BAD_FEET. */
   fieldOfFeet(feet: Whole): number;
-  /** The words of a fault, those of the program where it has some. A number that is too large is a RangeError. */
+  /** Returns the words of a fault, those of the program if it has any. Throws a RangeError for numbers that are too
+   * large. */
   faultText(code: Whole, first?: Whole, second?: Whole): string;
-  /** The version of the library. */
+  /** Detects the format of a source from its first bytes. Returns null if the bytes do not show a format yet. Three
+   * messages show Beast, and a line with a frame shows a text format. The first byte that shows a format decides. */
+  feedFormat(first: BufferSource): FeedFormat | null;
+  /** Returns the version of the library. */
   version(): string;
-  /** What is heard of a frame more, of which these 192 bytes are kept; they are changed. For a Contact. */
-  hear(entry: Uint8Array, window: bigint, at: bigint, source: Frame, site?: Position | null): Heard;
 }
 
-/** What is kept of one address, and what is heard of one frame more of it. The caller finds the contact of a frame's
- * address; a frame of another address is not looked for. Moments and the window are whole numbers below 2^64 of
- * milliseconds, or of any other unit; what is larger is a RangeError. */
-export declare class Contact {
-  /** A contact of which nothing was heard. The site is for pairs on the ground. */
-  constructor(library: Squitter, window: Whole, site?: Position | null);
-  /** What is heard of a frame, by those that were heard before. A Fault leaves the contact as it was.
-   * Faults: BAD_POSITION (the site), those of `read`, MOMENT_BACK. */
+/** The settings of a log or a tracker. `window` is in milliseconds (10000 by default). `limit` is the most aircraft at
+ * once (1000 by default; above 2^20 throws a RangeError). `site` is the receiver position, which surface pairs need. */
+export interface Settings {
+  window?: Whole;
+  limit?: Whole;
+  site?: Position | null;
+}
+
+/** Results of lines of a log, as columns of equal length. */
+export interface Answers {
+  /** The numbers of the lines, from 1. */
+  readonly numbers: Float64Array;
+  readonly moments: BigUint64Array;
+  /** One of What, or 0 for a refused line. */
+  readonly whats: Uint8Array;
+  /** The ICAO address, or -1 for a refused line. */
+  readonly addresses: Int32Array;
+  /** One of Kind. */
+  readonly kinds: Uint8Array;
+  /** The position in degrees, exact to seven decimals, or NaN. */
+  readonly lats: Float64Array;
+  readonly lons: Float64Array;
+  /** The altitude in feet, or NaN. */
+  readonly feet: Float64Array;
+  /** The zone counts of What.SPLIT, else 0. */
+  readonly evens: Uint8Array;
+  readonly odds: Uint8Array;
+  /** One of Code (Code.OK for a good line), and the first number of the fault. */
+  readonly codes: Uint32Array;
+  readonly firsts: BigUint64Array;
+}
+
+/** The numbers of good lines and of refused lines. */
+export interface Tally {
+  readonly good: bigint;
+  readonly refused: bigint;
+}
+
+/** A log in pieces of any length, as `squitter track` decodes it. */
+export declare class Log {
+  /** Creates a log without lines. Faults: BAD_POSITION (the site), NO_LIMIT. */
+  constructor(library: Squitter, settings?: Settings);
+  /** Returns the results of the lines that end in this piece. Fault: NO_TRACKER. */
+  take(piece: BufferSource): Answers;
+  /** Returns the result of the last line if it has no line feed. Fault: NO_TRACKER. */
+  finish(): Answers;
+  /** Returns the results of the lines that end in this piece, as text. Faults: NO_TRACKER, BAD_FORMAT. */
+  takeText(piece: BufferSource, format?: Format): string;
+  /** Returns the result of the last line if it has no line feed, as text. Faults: NO_TRACKER, BAD_FORMAT. */
+  finishText(format?: Format): string;
+  /** Returns the header of a format: the column names of CSV; empty for other formats. */
+  header(format?: Format): string;
+  /** The numbers of good lines and of refused lines so far. Fault: NO_TRACKER. */
+  get tally(): Tally;
+  /** Frees the memory. Safe to call twice. */
+  close(): void;
+}
+
+/** Positions of many aircraft from their frames, as `squitter track` decodes them. */
+export declare class Tracker {
+  /** Creates an empty tracker. Faults: BAD_POSITION (the site), NO_LIMIT. */
+  constructor(library: Squitter, settings?: Settings);
+  /** Adds a frame with its timestamp, and returns the result. A Fault leaves the tracker unchanged. Faults: those of
+   * `frame`, NO_TRACKER, NOT_DF17, PARITY, MOMENT_BACK, TABLE_FULL. */
   hear(at: Whole, source: Frame): Heard;
-  /** A contact that has heard what this one has, and goes its own way. */
-  copy(): Contact;
-  /** The moment of the newest frame, 0 where none was heard. */
+  /** The number of aircraft that are present; 0 after `close`. */
+  get size(): number;
+  /** Returns the aircraft at an index, the longest silent first, and the timestamp of its latest position.
+   * Faults: NO_TRACKER, NO_ADDRESS. */
+  present(index: Whole): { address: number; moment: bigint };
+  /** The timestamp of the last accepted frame; 0n if none was accepted. */
   get last(): bigint;
-  /** The moment of the newest position, 0 where none was heard. */
+  /** Returns the state. A closed tracker has an empty state. */
+  save(): Saved;
+  /** Replaces the state of the tracker; the settings stay. Throws a RangeError unless the entries have 192 bytes each.
+   * Faults: NO_TRACKER, BAD_ENTRY. After BAD_ENTRY the tracker is as if it had heard no frame. */
+  restore(saved: Saved): void;
+  /** Returns a tracker with the same settings and state. */
+  copy(): Tracker;
+  /** Frees the memory. Safe to call twice. */
+  close(): void;
+}
+
+/** The state of a tracker: the timestamp of the last accepted frame or null, and 192 bytes for each aircraft. */
+export interface Saved {
+  readonly last: bigint | null;
+  readonly entries: Uint8Array;
+}
+
+/** A tracker of one address. A second address throws TABLE_FULL while the first is present. */
+export declare class Contact extends Tracker {
+  /** Creates a contact without frames. Fault: BAD_POSITION (the site). */
+  constructor(library: Squitter, window?: Whole, site?: Position | null);
+  /** The timestamp of the newest position; 0n if there is none. */
   get newest(): bigint;
+  /** Returns a contact with the same settings and state. */
+  copy(): Contact;
+}
+
+/** The settings of a feed. `format` is BEAST by default. A gap above `leap` milliseconds (10000 by default) is a jump
+ * of the source's clock. Arrival times count only if the source is `live`. */
+export interface FeedSettings {
+  format?: FeedFormat;
+  leap?: Whole;
+  live?: boolean;
+}
+
+/** Squitters: their timestamps in milliseconds, and their frames, 14 bytes each, one after the other. */
+export interface Squitters {
+  readonly moments: BigUint64Array;
+  readonly frames: Uint8Array;
+}
+
+/** Counts of the items of a source: `found` is the sum of all other counts. */
+export interface Counts {
+  readonly found: bigint;
+  /** Squitters, with a timestamp. */
+  readonly written: bigint;
+  readonly modeAc: bigint;
+  readonly multilaterated: bigint;
+  readonly damaged: bigint;
+  /** Squitters that were set aside because of their time. */
+  readonly aside: bigint;
+  /** Frames of each downlink format other than 17; the last number counts formats 24 and above. */
+  readonly formats: bigint[];
+}
+
+/** Finds the squitters in a receiver's bytes, with their timestamps in milliseconds. The bytes come in pieces of any
+ * length, with their arrival times in milliseconds (0 by default). */
+export declare class Feed {
+  /** Creates a feed at the start of a source. Fault: BAD_FORMAT. */
+  constructor(library: Squitter, settings?: FeedSettings);
+  /** Returns the squitters in a piece. An unfinished message waits for the next piece. Fault: NO_TRACKER. */
+  take(piece: BufferSource, arrival?: Whole): Squitters;
+  /** Ends the source, and returns its last squitter, if the end completes one. Fault: NO_TRACKER. */
+  finish(arrival?: Whole): Squitters;
+  /** Returns the squitters in a piece as lines for a Log. Fault: NO_TRACKER. */
+  takeText(piece: BufferSource, arrival?: Whole): string;
+  /** Ends the source, and returns the line of its last squitter, if the end completes one. Fault: NO_TRACKER. */
+  finishText(arrival?: Whole): string;
+  /** Drops an unfinished frame after a lost connection. The next piece belongs to a new one. Fault: NO_TRACKER. */
+  disconnected(): void;
+  /** The counts so far. Fault: NO_TRACKER. */
+  get counts(): Counts;
+  /** Frees the memory. Safe to call twice. */
+  close(): void;
 }
 
 /** Loads the library from dist/squitter.wasm: its bytes, the Response of fetch, a compiled module, or a promise of one

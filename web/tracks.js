@@ -1,12 +1,63 @@
 /* tracks.js: the places of a log by their addresses, in pieces, with their moments and lines. */
 "use strict";
 
-/** @typedef {{lons: number[], lats: number[], moments: number[], lines: number[], joined: boolean, west: number,
- *   east: number, south: number, north: number}} Piece
- * Of a track: its places, each with its moment and line; whether it is cut from the piece before it at 180 degrees
- * alone; and its sides */
 /** @typedef {{pieces: Piece[], moment: number, lon: number}} Track */
 /** @typedef {{address: number, lon: number, lat: number, moment: number, line: number}} Spot  a place of a track */
+
+/** Positions of one address, in order, each with its timestamp and line. They share one block that doubles as it fills.
+ * Four arrays of numbers took most of the time, because each garbage collection copied them. */
+class Piece {
+  /** @param {boolean} joined whether only the cut at 180 degrees separates it from the piece before it */
+  constructor(joined) {
+    this.joined = joined;
+    this.count = 0;
+    this.room = 8;
+    this.block = new Float64Array(4 * this.room);
+    this.west = this.south = Infinity;
+    this.east = this.north = -Infinity;
+  }
+
+  add(lon, lat, moment, line) {
+    if (this.count === this.room) this.grow();
+    const { block, room, count } = this;
+    block[count] = lon;
+    block[room + count] = lat;
+    block[2 * room + count] = moment;
+    block[3 * room + count] = line;
+    this.count = count + 1;
+    if (lon < this.west) this.west = lon;
+    if (lon > this.east) this.east = lon;
+    if (lat < this.south) this.south = lat;
+    if (lat > this.north) this.north = lat;
+  }
+
+  grow() {
+    const block = new Float64Array(8 * this.room);
+    for (let column = 0; column < 4; column++) block.set(this.column(column), 2 * column * this.room);
+    this.room *= 2;
+    this.block = block;
+  }
+
+  column(column) {
+    return this.block.subarray(column * this.room, column * this.room + this.count);
+  }
+
+  get lons() {
+    return this.column(0);
+  }
+
+  get lats() {
+    return this.column(1);
+  }
+
+  get moments() {
+    return this.column(2);
+  }
+
+  get lines() {
+    return this.column(3);
+  }
+}
 
 /** How many of a piece's places were heard up to a moment. @param {Piece} piece */
 function heardBy({ moments }, until) {
@@ -30,34 +81,25 @@ class Tracks {
   }
 
   /** Adds the places of some answers. @param {Answers} answers */
-  add(answers) {
-    answers.whats.forEach((what, at) => {
-      if (what !== 1 && what !== 2) return;
-      const { addresses, lons, lats, moments, numbers } = answers;
-      this.addPlace(addresses[at], lons[at], lats[at], Number(moments[at]), numbers[at]);
-    });
+  add({ whats, addresses, lons, lats, moments, numbers }) {
+    // A BigInt for each timestamp would take longer than everything else. Browsers put the lower half first.
+    const halves = new Uint32Array(moments.buffer);
+    for (let at = 0; at < whats.length; at++) {
+      if (whats[at] !== 1 && whats[at] !== 2) continue;
+      this.addPlace(addresses[at], lons[at], lats[at], halves[2 * at] + 2 ** 32 * halves[2 * at + 1], numbers[at]);
+    }
   }
 
   addPlace(address, lon, lat, moment, line) {
     let track = this.all.get(address);
     if (!track) this.all.set(address, (track = { pieces: [], moment: -Infinity, lon: 0 }));
-    const isSilent = moment - track.moment > this.window;
-    if (isSilent || Math.abs(lon - track.lon) > 180) {
-      const sides = { west: lon, east: lon, south: lat, north: lat };
-      track.pieces.push({ lons: [], lats: [], moments: [], lines: [], joined: !isSilent, ...sides });
-    }
-    const piece = track.pieces[track.pieces.length - 1];
-    piece.lons.push(lon);
-    piece.lats.push(lat);
-    piece.moments.push(moment);
-    piece.lines.push(line);
-    piece.west = Math.min(piece.west, lon);
-    piece.east = Math.max(piece.east, lon);
-    piece.south = Math.min(piece.south, lat);
-    piece.north = Math.max(piece.north, lat);
-    Object.assign(track, { moment, lon });
-    this.first = Math.min(this.first, moment);
-    this.last = Math.max(this.last, moment);
+    const { pieces } = track, isSilent = moment - track.moment > this.window;
+    if (isSilent || Math.abs(lon - track.lon) > 180) pieces.push(new Piece(!isSilent));
+    pieces[pieces.length - 1].add(lon, lat, moment, line);
+    track.moment = moment;
+    track.lon = lon;
+    if (moment < this.first) this.first = moment;
+    if (moment > this.last) this.last = moment;
   }
 
   /** The pieces of one track, or of all. */
@@ -95,7 +137,7 @@ class Tracks {
     };
     const pieces = this.pieces(address), sides = of(pieces);
     if (!this.all.has(address) || sides.east - sides.west < 180) return sides;
-    return of([pieces.reduce((longest, piece) => (piece.lons.length > longest.lons.length ? piece : longest))]);
+    return of([pieces.reduce((longest, piece) => (piece.count > longest.count ? piece : longest))]);
   }
 
   /** The latitudes between which a track lies, or all do, with every piece of them. */
@@ -113,10 +155,10 @@ class Tracks {
     const features = [];
     for (const [address, { pieces }] of this.all) {
       for (const { lons, lats, moments, lines } of pieces) {
-        const places = lons.map((lon, at) => [lon, lats[at]]);
+        const places = Array.from(lons, (lon, at) => [lon, lats[at]]);
         const isLine = places.length > 1, coordinates = isLine ? places : places[0];
         // (named and in the order as the columns of track are)
-        const [line, moment] = isLine ? [lines, moments] : [lines[0], moments[0]];
+        const [line, moment] = isLine ? [Array.from(lines), Array.from(moments)] : [lines[0], moments[0]];
         const properties = { line, moment, address: hexadecimal(address, 6) };
         const geometry = { type: isLine ? "LineString" : "Point", coordinates };
         features.push({ type: "Feature", properties, geometry });

@@ -121,6 +121,14 @@ class Chromium:
             raise RuntimeError(told["exceptionDetails"].get("exception", {}).get("description", "an exception"))
         return told["result"].get("value")
 
+    def processor_seconds(self) -> float:
+        """Returns the processor time of the browser's processes so far, in seconds."""
+        page, self.session = self.session, None
+        try:
+            return sum(float(one["cpuTime"]) for one in self.call("SystemInfo.getProcessInfo")["processInfo"])
+        finally:
+            self.session = page
+
     def wait(self, script: str, seconds: float = 120) -> None:
         """Waits until a piece of JavaScript comes to true."""
         end = time.monotonic() + seconds

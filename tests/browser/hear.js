@@ -1,21 +1,28 @@
-/* hear.js WINDOW LIMIT PIECE [LAT LON]: hears a log from standard input by web/hearing.js, in pieces of so many bytes,
- * and prints the answers. */
+/* hear.js WINDOW LIMIT PIECE [LAT LON]: decodes a log from standard input with web/squitter.js, in pieces of PIECE
+ * bytes, and prints the results. A second log checks that columns have as many results as the text has lines. */
 "use strict";
 const { readFileSync } = require("node:fs");
-const { runInThisContext } = require("node:vm");
 
 const WEB = `${__dirname}/../../web`;
 
 async function main([window, limit, piece, lat, lon]) {
-  const { load } = await import(`${WEB}/squitter.js`);
+  const { load, Log } = await import(`${WEB}/squitter.js`);
   const library = await load(readFileSync(`${WEB}/../dist/squitter.wasm`));
-  const squitterHearing = runInThisContext(`${readFileSync(`${WEB}/hearing.js`)}\nsquitterHearing;`);
   const site = lat ? { lat: library.angle(lat), lon: library.angle(lon) } : null;
-  const hearing = squitterHearing(library, { window: BigInt(window), limit: Number(limit), site });
+  // The program allocates memory as addresses come; a log of the module allocates it all at once.
+  const settings = { window: BigInt(window), limit: Math.min(Number(limit), 1 << 16), site };
+  const texts = new Log(library, settings), columns = new Log(library, settings);
   const log = readFileSync(0), size = Number(piece);
-  let text = "";
-  for (let from = 0; from < log.length; from += size) text += hearing.take(log.subarray(from, from + size)).text;
-  process.stdout.write(text + hearing.finish().text);
+  let text = "", count = 0;
+  for (let from = 0; from < log.length; from += size) {
+    text += texts.takeText(log.subarray(from, from + size));
+    count += columns.take(log.subarray(from, from + size)).numbers.length;
+  }
+  text += texts.finishText();
+  count += columns.finish().numbers.length;
+  const { good, refused } = columns.tally;
+  if (count !== text.split("\n").length - 1 || BigInt(count) !== good + refused) throw new Error(`${count} answers`);
+  process.stdout.write(text);
 }
 
 main(process.argv.slice(2));

@@ -5,9 +5,9 @@ import re
 import subprocess
 import time
 
-from chromium import Chromium, installed
+from chromium import Chromium
 from logs import USUAL, damaged, flights, hostile_logs, of_address, tracked
-from trying import AIR_EVEN, HERE, SITE, Missing, Tries, bytes_of, expect, first_difference
+from trying import AIR_EVEN, SITE, Tries, bytes_of, expect, first_difference
 from using import clicked, given_log, heard, pressed, shown, silent, typed
 
 
@@ -88,6 +88,54 @@ def logs_in_browser(tries: Tries) -> str:
         expect(shown(browser, "#log-state").startswith("Refused: "), field, shown(browser, "#log-state"))
     silent(browser)
     return f"{count} logs, and one dropped"
+
+
+def receiver_files(tries: Tries) -> str:
+    """Beast, AVR with times and CSV are heard as the log of their squitters, also if a MiB cuts a message, and if the
+    last line has no line feed. AVR without times is a log of bad moments, and Beast without times is refused."""
+    browser, path = tries.page("log"), f"{tries.work}/given"
+    flown = re.findall(r"^\d+ \*?(8[C-F][0-9A-F]{26});?$", flights().decode(), re.M)
+    frames = flown * (50_000 // len(flown))
+    timed = list(zip(range(0, 10**9, 20), frames))
+    log = "".join(f"{moment} {frame}\n" for moment, frame in timed).encode()
+    files = {
+        "beast": b"".join(beast(frame, 12_000 * moment) for moment, frame in timed),
+        "avr": "".join(f"@{12_000 * moment:012X}{frame};\n" for moment, frame in timed).encode(),
+        "csv": "time,icao24,rawmsg".encode() + "".join(
+            f"\n{moment // 1000}.{moment % 1000:03},{frame[2:8].lower()},{frame.lower()}" for moment, frame in timed
+        ).encode(),
+    }
+    settings, wanted = (10_000, 1000, SITE), tracked(tries.program, log, (10_000, 1000, SITE))
+    typed(browser, log_lat=SITE[0], log_lon=SITE[1])
+    for name, data in files.items():
+        expect(len(data) > 1 << 20, name, "has one piece")
+        given_file(browser, f"{path}.{name}", data)
+        got = heard(browser)
+        expect(got == wanted, name, first_difference(got, wanted))
+        told = f"The file has {len(timed)} frames: {len(timed)} squitters, 0 damaged."
+        expect(told in shown(browser, "#log-state"), shown(browser, "#log-state"))
+    untimed = "".join(f"*{frame};\n" for frame in frames[:100]).encode()
+    given_file(browser, f"{path}.raw", untimed)
+    got, state = heard(browser), shown(browser, "#log-state")
+    expect(got == tracked(tries.program, untimed, settings) and "The file has" not in state, got, state)
+    given_file(browser, f"{path}.zero", b"".join(map(beast, frames[:100])))
+    expect("(its frames have no times)" in shown(browser, "#log-state"), shown(browser, "#log-state"))
+    silent(browser)
+    return f"{len(timed)} frames in {len(files)} formats"
+
+
+def given_file(browser: Chromium, path: str, data: bytes) -> None:
+    """Gives the page a file, and waits until it is heard or refused."""
+    with open(path, "wb") as file:
+        file.write(data)
+    browser.give("#log-file", path)
+    browser.wait(f"squitterLog.name === {json.dumps(os.path.basename(path))} && squitterLog.worker === null")
+
+
+def beast(frame: str, ticks: int = 0) -> bytes:
+    """A Beast message of type 3: the clock, a signal strength and the frame, with each escape doubled."""
+    body = ticks.to_bytes(6, "big") + b"\x80" + bytes.fromhex(frame)
+    return b"\x1a3" + body.replace(b"\x1a", b"\x1a\x1a")
 
 
 def own_site(tries: Tries) -> str:
@@ -197,17 +245,6 @@ def heard_again(tries: Tries) -> str:
     expect(got == wanted, "another file since:", first_difference(got, wanted))
     silent(browser)
     return "ten times"
-
-
-def rate(tries: Tries) -> str:
-    """The script that measures the page beside the program: both answer alike, and it prints its line."""
-    if not installed():
-        raise Missing("chromium")
-    words = [f"{HERE}/rate", "3000"]
-    done = subprocess.run(words, env={**os.environ, "PROGRAM": tries.program}, capture_output=True, text=True)
-    pattern = r"3000 lines: \d+ a second by the page, \d+ by the program, \d+\.\d times as long\n"
-    expect(done.returncode == 0 and re.fullmatch(pattern, done.stdout), done.stdout, done.stderr)
-    return done.stdout.strip()
 
 
 def huge_line(tries: Tries) -> str:

@@ -2,10 +2,15 @@
  * `check` and `track` answer lines of standard input as the program does; `names` prints what the module has, for its
  * types to be held to; `refusals` tries what no frame spells. */
 import { readFileSync } from "node:fs";
+import { setTimeout as waited } from "node:timers/promises";
+import { setFlagsFromString } from "node:v8";
+import { runInNewContext } from "node:vm";
 import * as squitter from "../../web/squitter.js";
 
-const { load, AirHead, Angle, Code, Contact, Fault, GroundHead, Kind, What } = squitter;
-const library = await load(readFileSync(new URL("../../dist/squitter.wasm", import.meta.url)));
+const {
+  load, AirHead, Angle, Code, Contact, Fault, Feed, FeedFormat, GroundHead, Kind, Log, Tracker, What,
+} = squitter;
+const MODULE = readFileSync(new URL("../../dist/squitter.wasm", import.meta.url)), library = await load(MODULE);
 const FRAME = "8D40621D58C382D690C8AC2863A7";
 const hexadecimal = (number, digits) => number.toString(16).toUpperCase().padStart(digits, "0");
 
@@ -28,13 +33,18 @@ function checked(text) {
 const WORDS = { [What.FIX]: "fix", [What.FOLLOWED]: "followed", [What.WAITING]: "waiting", [What.SPLIT]: "split",
   [What.FAR]: "far", [What.WITHOUT_SITE]: "no site", [What.NO_PLACE]: "no position" };
 
-/** Answers lines of a moment and a frame, with a contact for each address. */
+/** Decodes lines of a timestamp and a frame, with a tracker that is now and then restored from the one before it. */
 function tracking([window, lat, lon]) {
-  const contacts = new Map(), site = lat && { lat: library.angle(lat), lon: library.angle(lon) };
+  const site = lat && { lat: library.angle(lat), lon: library.angle(lon) };
+  let tracker = new Tracker(library, { window: BigInt(window), site, limit: 100_000 }), count = 0;
   return (line) => {
     const [moment, text] = line.split(" "), frame = library.frame(text), { address } = library.read(frame);
-    if (!contacts.has(address)) contacts.set(address, new Contact(library, BigInt(window), site));
-    const { what, position, even, odd } = contacts.get(address).hear(BigInt(moment), frame);
+    if (++count % 1000 === 0) {
+      const before = tracker;
+      tracker = before.copy();
+      before.close();
+    }
+    const { what, position, even, odd } = tracker.hear(BigInt(moment), frame);
     const words = `${WORDS[what]} ${hexadecimal(address, 6)}`;
     if (position) return `${words} ${position.lat} ${position.lon}`;
     return what === What.SPLIT ? `${words} ${even} ${odd}` : words;
@@ -53,7 +63,8 @@ function names() {
   const made = { Fault: new Fault("", 1), Angle: place.lat, AirHead: new AirHead({ address: 0 }),
     GroundHead: new GroundHead({ address: 0 }), Squitter: library, Contact: new Contact(library, 0),
     Fields: library.read(FRAME), Altitude: library.feetOfField(11, 0), Heard: new Contact(library, 0).hear(0, FRAME),
-    Place: place, Zones: library.localZones(FRAME, place) };
+    Place: place, Zones: library.localZones(FRAME, place), Log: new Log(library), Tracker: new Tracker(library),
+    Feed: new Feed(library) };
   const members = ({ prototype }) => Object.getOwnPropertyNames(prototype).filter((name) => name !== "constructor")
     .map((name) => [name, Object.getOwnPropertyDescriptor(prototype, name).value?.length ?? null]);
   const told = Object.entries(squitter).map(([name, one]) => [name, name in made ? Object.fromEntries(members(one))
@@ -65,9 +76,53 @@ function names() {
 const zero = { lat: 0, lon: 0 }, bad = { lat: 91, lon: 0 }, head = (given) => new AirHead({ address: 0, ...given });
 const huge = { num: 1n << 63n, den: 1n }, contact = new Contact(library, 10), wrong = `${FRAME.slice(0, -1)}6`;
 contact.hear(5, FRAME);
+const tracker = new Tracker(library, { limit: 1 }), closed = new Tracker(library), ended = new Log(library);
+const over = new Feed(library);
+tracker.hear(5, FRAME);
+const saved = tracker.save();
+for (const one of [closed, ended, over]) one.close();
+for (const one of [closed, ended, over]) one.close();
 
 /** Calls, each with the code of its fault or the error that it throws. */
 const REFUSED = [
+  [Code.NO_LIMIT, () => new Log(library, { limit: 0 })],
+  [Code.BAD_POSITION, () => new Tracker(library, { site: bad })],
+  [RangeError, () => new Log(library, { limit: 2 ** 20 + 1 })],
+  [RangeError, () => new Tracker(library, { limit: -1 })],
+  [RangeError, () => new Log(library, { window: 1n << 64n })],
+  [Code.MOMENT_BACK, () => tracker.hear(4, FRAME)],
+  [Code.TABLE_FULL, () => tracker.hear(6, library.encode(head({ address: 1 }), zero))],
+  [Code.NO_ADDRESS, () => tracker.present(1)],
+  [Code.NO_TRACKER, () => closed.hear(5, FRAME)],
+  [Code.NO_TRACKER, () => closed.present(0)],
+  [Code.NO_TRACKER, () => ended.take(new Uint8Array(1))],
+  [Code.NO_TRACKER, () => ended.finish()],
+  [Code.NO_TRACKER, () => ended.takeText(new Uint8Array(1))],
+  [Code.NO_TRACKER, () => ended.finishText()],
+  [Code.NO_TRACKER, () => ended.tally],
+  [Code.BAD_FORMAT, () => new Log(library).takeText(new Uint8Array(1), 3)],
+  [Code.BAD_FORMAT, () => new Log(library).finishText(3)],
+  [Code.NO_TRACKER, () => over.take(new Uint8Array(1))],
+  [Code.NO_TRACKER, () => over.finish()],
+  [Code.NO_TRACKER, () => over.takeText(new Uint8Array(1))],
+  [Code.NO_TRACKER, () => over.finishText()],
+  [Code.NO_TRACKER, () => over.disconnected()],
+  [Code.NO_TRACKER, () => over.counts],
+  [Code.BAD_FORMAT, () => new Feed(library, { format: 4 })],
+  [Code.BAD_FORMAT, () => new Feed(library, { format: -1 })],
+  [Code.BAD_FORMAT, () => new Feed(library, { format: 2 ** 32 })],
+  [TypeError, () => new Feed(library, { format: "beast" })],
+  [TypeError, () => new Feed(library, { leap: 1.5 })],
+  [RangeError, () => new Feed(library, { leap: 1n << 64n })],
+  [RangeError, () => new Feed(library).take(new Uint8Array(1), -1)],
+  [RangeError, () => new Feed(library).finishText(1n << 64n)],
+  [TypeError, () => library.feedFormat("x")],
+  [TypeError, () => new Feed(library).take("x")],
+  [TypeError, () => new Feed(library).takeText([1])],
+  [TypeError, () => new Log(library).take("5 x")],
+  [TypeError, () => new Log(library).take([53])],
+  [TypeError, () => new Log(library).takeText(5)],
+  [TypeError, () => new Log(library).take(null)],
   [Code.LENGTH, () => library.read("\ud800".repeat(9))],
   [Code.LENGTH, () => library.frame("0".repeat(5_000_000))],
   [Code.WRAP, () => library.frameText(`*${FRAME}`)],
@@ -79,7 +134,7 @@ const REFUSED = [
   [Code.BAD_POSITION, () => library.local("x", { lat: -91, lon: 0 })],
   [Code.BAD_POSITION, () => library.localZones("x", { lat: 0, lon: -181 })],
   [Code.BAD_POSITION, () => library.pair("x", FRAME, { lat: 0, lon: 181 })],
-  [Code.BAD_POSITION, () => new Contact(library, 1, { lat: 0, lon: 181 }).hear(0, "x")],
+  [Code.BAD_POSITION, () => new Contact(library, 1, { lat: 0, lon: 181 })],
   [Code.BAD_POSITION, () => library.local(FRAME, { lat: huge, lon: 0 })],
   [Code.BAD_POSITION, () => library.localZones("x", bad)],
   [Code.BAD_POSITION, () => library.local(FRAME, { lat: 0, lon: { num: 1, den: 0 } })],
@@ -102,7 +157,16 @@ const REFUSED = [
   [Code.BAD_FIELDS, () => library.feetOfField(11, 65536)],
   [Code.BAD_FEET, () => library.fieldOfFeet(2 ** 32)],
   [Code.MOMENT_BACK, () => contact.hear(4, FRAME)],
-  [Code.BAD_POSITION, () => new Contact(library, 1, bad).hear(0, "x")],
+  [Code.BAD_POSITION, () => new Contact(library, 1, bad)],
+  [Code.TABLE_FULL, () => contact.hear(5, library.encode(head({ address: 1 }), zero))],
+  [Code.NO_TRACKER, () => closed.restore({ last: null, entries: new Uint8Array(0) })],
+  [Code.BAD_ENTRY, () => new Tracker(library, { window: 10 }).restore({ ...saved, last: 16n })],
+  [Code.BAD_ENTRY, () => new Tracker(library).restore({ ...saved, last: 4n })],
+  [Code.BAD_ENTRY, () => new Tracker(library).restore({ ...saved, last: null })],
+  [Code.BAD_ENTRY, () => new Tracker(library).restore({ entries: saved.entries })],
+  [RangeError, () => new Tracker(library).restore({ last: 5n, entries: new Uint8Array(191) })],
+  [RangeError, () => new Tracker(library).restore({ ...saved, last: 1n << 64n })],
+  [TypeError, () => new Tracker(library).restore({ last: 5n, entries: "" })],
   [Code.BAD_ANGLE, () => library.angleE7(361)],
   [Code.BAD_POSITION, () => library.positionE7(bad)],
   [TypeError, () => library.zoneCount(52.5)],
@@ -113,6 +177,10 @@ const REFUSED = [
   [TypeError, () => library.read([...library.frame(FRAME)])],
   [TypeError, () => library.read(new Uint16Array(7))],
   [TypeError, () => library.encode({ address: 0 }, zero)],
+  [TypeError, () => head({ feet: 38000 })],
+  [TypeError, () => head({ movement: 0 })],
+  [TypeError, () => new GroundHead({ address: 0, altitude: 0 })],
+  [TypeError, () => new GroundHead({ address: 0, feet: undefined })],
   [TypeError, () => library.encode(head({ odd: true }), zero)],
   [TypeError, () => library.angle(52)],
   [TypeError, () => library.fieldOfFeet(2 ** 60)],
@@ -157,8 +225,257 @@ function keptWhole() {
   }
 }
 
+/** Opens and closes logs and trackers of several limits. Tests that their memory is reused, and is freed once even if
+ * they are closed twice. */
+function usedAgain() {
+  const round = () => {
+    for (const limit of [1000, 10, 300]) {
+      const made = [new Log(library, { limit }), new Tracker(library, { limit }), new Feed(library)];
+      for (const one of [...made, ...made]) one.close();
+    }
+  };
+  round();
+  const before = library.memory.exports.memory.buffer.byteLength;
+  for (let turn = 0; turn < 50; turn++) round();
+  for (let turn = 0; turn < 50; turn++) library.feedFormat(new Uint8Array(100_000));
+  const one = new Tracker(library), other = new Tracker(library);
+  const after = library.memory.exports.memory.buffer.byteLength;
+  one.hear(5, FRAME);
+  if (other.size !== 0 || one.size !== 1) throw new Error("two trackers share a block");
+  other.restore(one.save());
+  new Tracker(library, { window: 10 }).restore({ ...saved, last: 15n });
+  const isRestored = other.last === 5n && other.size === 1 && !closed.save().entries.length;
+  if (!isRestored) throw new Error("a tracker is not restored");
+  one.close();
+  if (after > before + 2 ** 20) throw new Error(`memory grew from ${before} to ${after}`);
+}
+
+/** Returns the growth of the memory in use, in bytes, while a call is repeated. */
+function grownBy(call) {
+  const { memory } = library, used = () => memory.free.reduce((rest, { count }) => rest - count, memory.end);
+  call();
+  const before = used();
+  for (let turn = 0; turn < 20; turn++) call();
+  return used() - before;
+}
+
+/** Tests that states are freed, that a refused tracker leaves no block, and that claims do not move later blocks. */
+function statesInMemory() {
+  const one = new Tracker(library, { window: 10 }), empty = new Tracker(library, { window: 10 });
+  one.hear(5, FRAME);
+  const state = one.save(), away = { lat: 0, lon: 181 };
+  const refused = () => answered(() => new Tracker(library, { limit: 50_000, site: away }));
+  const claimed = () => library.memory.release(library.memory.claim(4099));
+  const calls = [() => one.save(), () => one.last, () => empty.restore(state), claimed, refused];
+  for (const call of calls) if (grownBy(call)) throw new Error(`${call} takes memory each time`);
+  const odd = library.memory.claim(100_000_003), next = library.memory.claim(100_000_004);
+  if (odd.at % 16 || next.at % 16) throw new Error("a block is not aligned");
+  for (const block of [odd, next]) library.memory.release(block);
+  if (library.memory.claim(odd.count) !== odd) throw new Error("a block that just fits is not used again");
+  library.memory.release(odd);
+  // Each is asked after a tracker that has heard something, so that its memory is not blank.
+  for (const other of [new Tracker(library), closed]) {
+    if (one.last !== 5n || other.last !== 0n || other.save().last !== null) throw new Error(`last is ${other.last}`);
+  }
+  empty.restore({ last: null, entries: new Uint8Array(0) });
+  if (empty.save().last !== null || empty.size) throw new Error("a blank state is not restored");
+}
+
+/** Tests that a text that just fits and one that is a byte longer are refused, and overwrite nothing. */
+async function longTexts() {
+  const blank = await load(MODULE), none = new Tracker(blank);
+  none.close();
+  for (const more of [0, 1, 16]) {
+    const text = "8".repeat(blank.memory.textRoom + more), wanted = `bad length ${text.length}`;
+    const told = answered(() => blank.read(text));
+    if (told !== wanted || none.size !== 0) throw new Error(`${text.length} digits: ${told}, ${none.size} aircraft`);
+    if (more && blank.memory.textRoom < text.length) throw new Error(`${text.length} digits do not fit`);
+  }
+}
+
+/** Tests that trackers free their blocks once they are garbage. */
+async function collected() {
+  setFlagsFromString("--expose-gc");
+  const collect = runInNewContext("gc"), { memory } = library, count = memory.free.length;
+  for (let number = 0; number < 10; number++) new Tracker(library, { limit: 100_000 + number });
+  for (let turn = 0; turn < 100 && memory.free.length < count + 5; turn++) {
+    collect();
+    await waited(10);
+  }
+  if (memory.free.length < count + 5) throw new Error(`${memory.free.length - count} of 10 trackers are freed`);
+}
+
+/** Tests that a copy has the window, the limit and the site of the original. Tests that a contact's `newest` is the
+ * time of a position. */
+function copiesOfSettings() {
+  const site = { lat: 52, lon: { num: 4375, den: 1000 } }, ground = "8C4841753AAB238733C8CD4020B1";
+  const named = "8D4840D6202CC371C32CE0576098", tracker = new Tracker(library, { window: 10, limit: 1, site });
+  const whats = [tracker, new Contact(library, 10, site)].map((one) => {
+    const copy = one.copy();
+    copy.hear(0, ground);
+    const full = answered(() => copy.hear(1, FRAME).what);
+    return [full, copy.hear(1, "8C4841753A8A35323FAEBDAC702D").what, copy.hear(12, ground).what].join();
+  });
+  const wanted = ["table full", What.FIX, What.WAITING].join();
+  if (whats.some((one) => one !== wanted)) throw new Error(whats.join(" "));
+  const contact = new Contact(library);
+  contact.hear(3, named);
+  if (contact.newest !== 0n || contact.last !== 3n) throw new Error(`${contact.newest} of ${contact.last}`);
+}
+
+/** Tests a piece with more results than the columns hold at once, and with nearly as many. */
+function manyAnswers() {
+  for (const count of [0, 1, 4095, 4096, 4097, 32767, 32768, 32769, 100_000]) {
+    const log = new Log(library), piece = new TextEncoder().encode("x\n".repeat(count));
+    const { numbers, codes, addresses, lats, lons, feet } = log.take(piece);
+    if (numbers.length !== count || codes.length !== count) throw new Error(`${numbers.length} answers of ${count}`);
+    const wrong = numbers.findIndex((number, at) => number !== at + 1 || !codes[at] || addresses[at] !== -1);
+    if (wrong >= 0) throw new Error(`answer ${wrong} of ${count}`);
+    if (![...lats, ...lons, ...feet].every(Number.isNaN)) throw new Error("a refused line has a place");
+    log.close();
+  }
+}
+
+/** Tests the JSON of fields and of a fault: numbers of 64 bits are texts. */
+function asJson() {
+  const fields = library.read(FRAME), other = library.read("8D406B902015A678D4D220AA4BDA");
+  const read = [fields, other].map((one) => JSON.parse(JSON.stringify(one)));
+  if (read[0].feet !== 38000 || read[0].raw !== "0" || read[1].raw !== String(0x2015A678D4D220n)) {
+    throw new Error(JSON.stringify(read));
+  }
+  if (Object.keys(read[0]).join() !== Object.keys(fields).join()) throw new Error(Object.keys(read[0]).join());
+  let fault = null;
+  try {
+    library.read(wrong);
+  } catch (error) {
+    fault = error;
+  }
+  const wanted = { name: "Fault", message: "parity 000001", code: Code.PARITY, first: "1", second: 0 };
+  if (JSON.stringify(fault) !== JSON.stringify(wanted)) throw new Error(JSON.stringify(fault));
+  try {
+    head({ feet: 38000 });
+  } catch ({ message }) {
+    if (!message.includes("AirHead has no field feet") || !message.includes("fieldOfFeet")) throw new Error(message);
+  }
+}
+
+/** Tests a log in pieces of several types, each a view of a larger buffer. */
+function piecesOfBytes() {
+  const line = new TextEncoder().encode(`..5 ${FRAME}\n..`), wanted = "1 waiting 40621D\n";
+  const at = line.byteOffset + 2, count = line.byteLength - 4;
+  const kinds = [line.subarray(2, 2 + count), new DataView(line.buffer, at, count), line.slice(2, 2 + count).buffer];
+  for (const kind of kinds) {
+    const text = new Log(library).takeText(kind);
+    if (text !== wanted) throw new Error(`a piece is answered ${text}`);
+  }
+}
+
+const EVEN = FRAME, ODD = "8D40621D58C386435CC412692AD6", ALL_CALL = "5D4840D6F83D31";
+const hexadecimalBytes = (text) => Uint8Array.from(text.match(/../g), (digits) => parseInt(digits, 16));
+
+/** Returns a Beast message: each 1A after its type is doubled. */
+function beastMessage(kind, ticks, frame) {
+  const digits = `${hexadecimal(ticks, 12)}1A${frame}`.match(/../g).map((byte) => (byte === "1A" ? "1A1A" : byte));
+  return hexadecimalBytes(`1A${hexadecimal(kind.charCodeAt(0), 2)}${digits.join("")}`);
+}
+
+function together(parts) {
+  const all = new Uint8Array(parts.reduce((sum, part) => sum + part.length, 0));
+  parts.reduce((at, part) => (all.set(part, at), at + part.length), 0);
+  return all;
+}
+
+/** Returns a source of each format, with the four squitters of LINES, a short frame, and one piece of damage. */
+const text = (words) => new TextEncoder().encode(words);
+const SOURCES = {
+  BEAST: together([text("x"), beastMessage("3", 80_184_005, EVEN), beastMessage("2", 2, ALL_CALL),
+    beastMessage("3", 84_000_000, ODD), beastMessage("3", 88_800_000, EVEN), beastMessage("3", 88_800_001, ODD)]),
+  AVR: text(`@${hexadecimal(80_184_005, 12)}${EVEN};<${hexadecimal(84_000_000, 12)}1a${ODD};\r\n*${ALL_CALL};*12;
+%${hexadecimal(88_800_000, 12)}${EVEN};@${hexadecimal(88_800_001, 12)}${ODD};`),
+  CSV: text(`6.682,x,${EVEN}\nRAWMSG,time\n"${ODD}",7\r\n${ALL_CALL},7.1\n${EVEN},x\n${EVEN},7.4\n${ODD},7.4009\n`),
+  LOG: text(`6682 ${EVEN}\n7000 *${ODD};\r\n7001 ${ALL_CALL}\n\n7400 ${EVEN}0\n7400 ${EVEN}\n7400 ${ODD}\n`),
+};
+const LINES = `6682 ${EVEN}\n7000 ${ODD}\n7400 ${EVEN}\n7400 ${ODD}\n`;
+
+/** Returns the lines that a feed writes for squitters. */
+function linesOf({ moments, frames }) {
+  const frame = (at) => library.frameText(frames.slice(14 * at, 14 * at + 14));
+  return [...moments].map((at, index) => `${at} ${frame(index)}\n`).join("");
+}
+
+/** Tests the format that the first bytes of a source show. */
+function formatsOfSources() {
+  for (const [name, source] of Object.entries(SOURCES)) {
+    if (library.feedFormat(source) !== FeedFormat[name]) throw new Error(`${name} is ${library.feedFormat(source)}`);
+  }
+  for (const none of [new Uint8Array(0), text("*2040;"), text("MSG,3,1\n"), new Uint8Array(100_000)])
+    if (library.feedFormat(none) !== null) throw new Error(`${none.length} bytes show a format`);
+  if (library.feedFormat(text("*2040;\n").buffer) !== FeedFormat.AVR) throw new Error("a line of AVR shows none");
+}
+
+/** Tests a source of each format: squitters, as arrays and as text, and counts do not depend on the cut. */
+function feedsInPieces() {
+  for (const [name, source] of Object.entries(SOURCES)) {
+    for (const size of [1, 2, 7, 22, source.length]) {
+      const format = FeedFormat[name], one = new Feed(library, { format }), other = new Feed(library, { format });
+      let lines = "", texts = "";
+      for (let at = 0; at < source.length; at += size) {
+        lines += linesOf(one.take(source.subarray(at, at + size)));
+        const count = Math.min(size, source.length - at);
+        texts += other.takeText(new DataView(source.buffer, source.byteOffset + at, count));
+      }
+      lines += linesOf(one.finish());
+      texts += other.finishText();
+      if (lines !== LINES || texts !== LINES) throw new Error(`${name} by ${size}: ${lines} ${texts}`);
+      for (const feed of [one, other]) {
+        const { found, written, modeAc, multilaterated, damaged, aside, formats } = feed.counts;
+        const counts = [found, written, modeAc, multilaterated, damaged, aside, formats.length, formats[11]].join(" ");
+        if (counts !== "6 4 0 0 1 0 25 1") throw new Error(`${name}: counts ${counts}`);
+        feed.close();
+      }
+    }
+  }
+}
+
+/** Tests pieces and outputs that are larger than one call of the library handles. */
+function largeFeeds() {
+  for (const count of [1, 1023, 1024, 1025, 2048, 2113, 2114, 2115, 9000]) {
+    const line = `7 ${EVEN}\n`, feed = new Feed(library, { format: FeedFormat.LOG });
+    const { moments, frames } = feed.take(text(line.repeat(count))), given = feed.takeText(text(line.repeat(count)));
+    const good = moments.length === count && frames.length === 14 * count && moments.every((at) => at === 7n);
+    if (!good || linesOf({ moments: moments.slice(-2), frames: frames.slice(-28) }) !== line.repeat(Math.min(count, 2)))
+      throw new Error(`${count} squitters are ${moments.length}`);
+    if (given !== line.repeat(count) || feed.counts.written !== BigInt(2 * count)) throw new Error(`${count} lines`);
+    feed.close();
+  }
+  // After the first call, one byte too few is left for the longest line.
+  const long = `2345678901234567890 ${EVEN}\n`, lines = long.slice(1).repeat(26) + long.repeat(1312);
+  const near = new Feed(library, { format: FeedFormat.LOG, leap: 2n ** 64n - 1n });
+  if (lines.length !== 65_536 || near.takeText(text(lines)) !== lines) throw new Error("lines that end near the room");
+  near.close();
+  const short = `${EVEN}\n`, feed = new Feed(library, { format: FeedFormat.AVR });
+  if (feed.take(text(short.repeat(20_000))).moments.length !== 20_000) throw new Error("short lines");
+  feed.close();
+}
+
+/** Tests arrivals of a live source, the end of a text, and a lost connection. */
+function liveFeeds() {
+  const live = new Feed(library, { format: FeedFormat.AVR, live: true }), dead = new Feed(library, { leap: 500 });
+  const told = [live.takeText(text(`*${EVEN};${ODD}`), 1_700_000_000_000), live.finishText(1_700_000_000_500n)];
+  if (told.join("") !== `1700000000000 ${EVEN}\n1700000000500 ${ODD}\n`) throw new Error(`arrivals ${told}`);
+  const last = [live.takeText(text(EVEN), 1_700_000_000_600), linesOf(live.finish(1_700_000_000_700))];
+  if (last.join("") !== `1700000000700 ${EVEN}\n` || live.finish().moments.length) throw new Error(`ends ${last}`);
+  const one = beastMessage("3", 12_000_000, EVEN), first = dead.takeText(together([one, one.subarray(0, 9)]));
+  dead.disconnected();
+  const next = first + dead.takeText(one);
+  if (next !== `1000 ${EVEN}\n1500 ${EVEN}\n` || dead.counts.damaged !== 1n) throw new Error(`connections ${next}`);
+  const recorded = new Feed(library, { format: FeedFormat.AVR });
+  if (recorded.takeText(text(`*${EVEN};`), 5) !== `0 ${EVEN}\n`) throw new Error("an arrival of a recorded source");
+  for (const feed of [live, dead, recorded]) feed.close();
+}
+
 /** Tries each refusal, and that one leaves nothing behind for the next call. */
-function refusals() {
+async function refusals() {
   for (const [wanted, call] of REFUSED) {
     let got;
     try {
@@ -170,8 +487,20 @@ function refusals() {
     if (!good) throw new Error(`${call} answered ${got}`);
     if (checked(FRAME) !== "ok 40621D air even 93000 51372") throw new Error(`${call} has damaged the next call`);
   }
+  asJson();
+  manyAnswers();
   foreignBytes();
   keptWhole();
+  usedAgain();
+  await longTexts();
+  await collected();
+  statesInMemory();
+  copiesOfSettings();
+  piecesOfBytes();
+  formatsOfSources();
+  feedsInPieces();
+  largeFeeds();
+  liveFeeds();
   const bytes = library.frame(FRAME), copy = contact.copy();
   const kinds = [bytes, bytes.buffer, new DataView(bytes.buffer), new Uint8ClampedArray(bytes)];
   if (!kinds.every((one) => library.frameText(one) === FRAME)) throw new Error("bytes of another kind");
@@ -189,4 +518,4 @@ function refusals() {
 
 const [what, ...words] = process.argv.slice(2);
 const does = { check: () => answerLines(checked), track: () => answerLines(tracking(words)), names, refusals };
-does[what]();
+await does[what]();

@@ -70,8 +70,7 @@ def without_flag(tries: Tries) -> str:
 
 
 # What Python has and JavaScript has not: calls of arrays, where a call of Python costs more than what it asks for.
-# (the module of the page takes no memory, as a tracker does)
-OF_PYTHON_ALONE = {"local_many", "pair_many", "read_many", "Present", "Tracker"}
+OF_PYTHON_ALONE = {"local_many", "pair_many", "read_many", "Present"}
 
 
 def camel(name: str) -> str:

@@ -39,7 +39,7 @@ def pressed(browser: Chromium, key: str) -> None:
 def heard(browser: Chromium) -> bytes:
     """The text of the answers, once the log is heard."""
     browser.wait("squitterLog.worker === null")
-    return str(browser.evaluate("squitterLog.answers.chunks.map(({ text }) => text).join('')")).encode()
+    return str(browser.evaluate("squitterLog.texts().then((texts) => texts.join(''))")).encode()
 
 
 def given_log(browser: Chromium, tries: Tries, log: bytes) -> None:

@@ -14,11 +14,31 @@ from trying import INDEX, SITE, TOP, Missing, Tries, bytes_of, expect, first_dif
 from using import clicked, heard, pressed, shown, silent
 
 
+# Fails unless library.js and squitter.js have the same names, and the same code once comments and space are left out.
+SAME_CODE = r"""
+import assert from "node:assert";
+import { readFileSync } from "node:fs";
+import * as parts from "./squitter.js";
+const joined = new Function(`${readFileSync("library.js", "ascii")}; return squitterModule();`)();
+const bare = (text) => text.replace(/^ *(\/\*[^]*?\*\/|\/\/.*)$/gm, "").replace(/\s+/g, "");
+assert.deepEqual(Object.keys(joined), Object.keys(parts));
+for (const name of Object.keys(parts)) {
+  if (typeof parts[name] === "function") assert.equal(bare(String(joined[name])), bare(String(parts[name])));
+  else assert.deepEqual(joined[name], parts[name]);
+}
+"""
+
+
 def embedded(tries: Tries) -> str:
-    """The files that the page takes from elsewhere are as they are there."""
+    """The files that web/embed writes are up to date, and library.js has the code of squitter.js."""
     done = subprocess.run([f"{TOP}/web/embed", "--check"], capture_output=True, text=True)
     expect(done.returncode == 0, done.stdout, done.stderr)
-    return f"{len(done.stdout.splitlines())} files"
+    count = len(done.stdout.splitlines())
+    if shutil.which("node"):
+        same = ["node", "--input-type=module", "-e", SAME_CODE]
+        done = subprocess.run(same, cwd=f"{TOP}/web", capture_output=True, text=True)
+        expect(done.returncode == 0, done.stdout, done.stderr)
+    return f"{count} files"
 
 
 def contrast(tries: Tries) -> str:
@@ -184,7 +204,7 @@ def without_memory(tries: Tries) -> str:
     return "a sentence"
 
 
-TEXT = "Array.from(page.squitterLog.answers.chunks, (chunk) => chunk.text).join('')"
+TEXT = "page.squitterLog.texts().then((texts) => texts.join(''))"
 
 
 def in_firefox(tries: Tries) -> str:

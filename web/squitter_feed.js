@@ -1,0 +1,137 @@
+/* squitter_feed.js: the feeds of squitter.js. */
+
+import { Lent, PIECE_BYTES, ask, bytesOf } from "./squitter_memory.js";
+import { Code, FRAME_BYTES, Fault, FeedFormat, fitted, moment } from "./squitter_values.js";
+
+const SQUITTERS_AT_ONCE = 1024, LINES_ROOM = 1 << 16, LINE_BYTES = 50, FORMATS = 25;
+
+/** Finds the squitters in a receiver's bytes, in pieces of any length, with their timestamps in milliseconds. */
+export class Feed {
+  #lent;
+  #library;
+
+  /** Creates a feed at the start of a source. `format` is one of FeedFormat. A gap above `leap` milliseconds is a jump
+   * of the source's clock. Arrival times count only if the source is `live`. Fault: BAD_FORMAT. */
+  constructor(library, { format = FeedFormat.BEAST, leap = 10_000n, live = false } = {}) {
+    const { memory } = library, number = fitted(format, 32), longest = moment(leap);
+    this.#library = library;
+    this.#lent = new Lent(this, library, "feed", Number(memory.exports.squitter_feed_size()),
+      (slot, block) => ask(library, "feed_new", slot, block, number, longest, live ? 1 : 0));
+    this.#lent.rooms = {
+      done: memory.claim(16), piece: memory.claim(PIECE_BYTES), moments: memory.claim(8 * SQUITTERS_AT_ONCE),
+      out: memory.claim(LINES_ROOM),
+    };
+  }
+
+  /** Returns the squitters in this piece: their timestamps (`moments`), and their `frames`, 14 bytes each, one after
+   * the other. `arrival` is the arrival time of the piece (ms). An incomplete message at the end waits for the next
+   * piece. Throws a TypeError unless the piece is an ArrayBuffer or a view. Fault: NO_TRACKER. */
+  take(piece, arrival = 0n) {
+    return this.#squitters("feed_take", bytesOf(piece), moment(arrival));
+  }
+
+  /** Ends the source. Returns its last squitter, as `take` does, if the end completes one: the last line of a text. The
+   * next piece belongs to another source. Fault: NO_TRACKER. */
+  finish(arrival = 0n) {
+    return this.#squitters("feed_finish", null, moment(arrival));
+  }
+
+  /** Returns the squitters in this piece as lines for a Log. Fault: NO_TRACKER. */
+  takeText(piece, arrival = 0n) {
+    return this.#text("feed_take_text", bytesOf(piece), moment(arrival));
+  }
+
+  /** Ends the source. Returns the line of its last squitter if the end completes one. Fault: NO_TRACKER. */
+  finishText(arrival = 0n) {
+    return this.#text("feed_finish_text", null, moment(arrival));
+  }
+
+  /** Drops an unfinished frame after a lost connection, and counts it as damaged. The next piece belongs to a new
+   * connection, and its clock starts afresh. Fault: NO_TRACKER. */
+  disconnected() {
+    ask(this.#library, "feed_disconnected", this.#lent.slot);
+  }
+
+  /** The counts of the items so far: `found` is the sum of all others. `formats` counts the frames of each downlink
+   * format other than 17; its last number counts formats 24 and above. Fault: NO_TRACKER. */
+  get counts() {
+    const { memory } = this.#library, { outAt } = memory;
+    ask(this.#library, "feed_counts", this.#lent.slot, BigInt(outAt));
+    const numbers = Array.from({ length: 6 + FORMATS }, (_, at) => memory.view().getBigUint64(outAt + 8 * at, true));
+    const [found, written, modeAc, multilaterated, damaged, aside, ...formats] = numbers;
+    return { found, written, modeAc, multilaterated, damaged, aside, formats };
+  }
+
+  /** Frees the memory. Safe to call twice. */
+  close() {
+    this.#lent.close();
+  }
+
+  /** Calls the library for a piece, in parts that fit the memory, or for the end. Repeats the call until all bytes are
+   * taken and it leaves room in its outputs. */
+  #call(name, bytes, arrival, outputs, full, use) {
+    const { memory } = this.#library, { zerosAt } = memory, at = this.#lent.rooms.piece?.at ?? zerosAt;
+    const done = this.#lent.rooms.done?.at ?? zerosAt, rest = [...outputs.map(BigInt), BigInt(done)];
+    let from = 0;
+    do {
+      const part = this.#lent.rooms.piece && bytes ? bytes.subarray(from, from + PIECE_BYTES) : new Uint8Array(0);
+      memory.putBytes(at, part);
+      let taken = 0, written = 0;
+      do {
+        const given = bytes ? [BigInt(at + taken), BigInt(part.length - taken)] : [];
+        ask(this.#library, name, this.#lent.slot, ...given, arrival, ...rest);
+        const view = memory.view();
+        taken += Number(view.getBigUint64(done, true));
+        written = Number(view.getBigUint64(done + 8, true));
+        use(written);
+      } while (written > full);
+      from += PIECE_BYTES;
+    } while (bytes && from < bytes.length);
+  }
+
+  #squitters(name, bytes, arrival) {
+    const { memory } = this.#library, moments = this.#lent.rooms.moments?.at ?? memory.zerosAt;
+    const out = this.#lent.rooms.out?.at ?? memory.zerosAt, parts = [];
+    const outputs = [moments, SQUITTERS_AT_ONCE, out, SQUITTERS_AT_ONCE];
+    this.#call(name, bytes, arrival, outputs, SQUITTERS_AT_ONCE - 1, (count) => parts.push({
+      moments: new BigUint64Array(memory.exports.memory.buffer, moments, count).slice(),
+      frames: memory.bytesAt(out, FRAME_BYTES * count).slice(),
+    }));
+    return parts.length === 1 ? parts[0] : joinedSquitters(parts);
+  }
+
+  #text(name, bytes, arrival) {
+    const { memory } = this.#library, out = this.#lent.rooms.out?.at ?? memory.zerosAt, decoder = new TextDecoder();
+    let text = "";
+    this.#call(name, bytes, arrival, [out, LINES_ROOM], LINES_ROOM - LINE_BYTES,
+      (written) => { text += decoder.decode(memory.bytesAt(out, written)); });
+    return text;
+  }
+}
+
+/** Detects the format of a source from its first bytes. Returns null if the bytes do not show a format yet. */
+export function feedFormat(library, first) {
+  const { memory } = library, bytes = bytesOf(first), room = memory.claim(Math.max(bytes.length, 1));
+  memory.putBytes(room.at, bytes);
+  memory.release(room);
+  try {
+    ask(library, "feed_format", BigInt(room.at), BigInt(bytes.length), BigInt(memory.outAt));
+  } catch (error) {
+    if (error instanceof Fault && error.code === Code.BAD_FORMAT) return null;
+    throw error;
+  }
+  return memory.view().getUint32(memory.outAt, true);
+}
+
+/** Joins the squitters of several calls. */
+function joinedSquitters(parts) {
+  const count = parts.reduce((sum, part) => sum + part.moments.length, 0);
+  const moments = new BigUint64Array(count), frames = new Uint8Array(FRAME_BYTES * count);
+  let from = 0;
+  for (const part of parts) {
+    moments.set(part.moments, from);
+    frames.set(part.frames, FRAME_BYTES * from);
+    from += part.moments.length;
+  }
+  return { moments, frames };
+}

@@ -1,0 +1,198 @@
+/* squitter_memory.js: the memory of the module of squitter.js, and how calls find their arguments and results there. */
+
+import { What, Fault, Fields, Angle, SMALL_FIELDS, PAGE_BYTES, fitted, fraction } from "./squitter_values.js";
+
+/** The memory of the module, and the addresses of arguments and results, above the memory that the module uses. */
+export class Memory {
+  constructor(exports) {
+    this.exports = exports;
+    const base = exports.memory.buffer.byteLength;
+    this.grow(1);
+    Object.assign(this, { faultAt: base, outAt: base + 256, firstAt: base + 512, secondAt: base + 544 });
+    Object.assign(this, { placeAt: base + 576, textAt: base + 1024, textRoom: PAGE_BYTES - 1088 });
+    Object.assign(this, { zerosAt: base + PAGE_BYTES - 64, end: base + PAGE_BYTES });
+    /** @type {{at: number, count: number}[]} */
+    this.free = [];
+    this.data = new DataView(exports.memory.buffer);
+    this.all = new Uint8Array(exports.memory.buffer);
+  }
+
+  /** Grows by this many pages. Engines take a BigInt; those from before the final standard take a number. */
+  grow(pages) {
+    try {
+      this.exports.memory.grow(BigInt(pages));
+    } catch (error) {
+      if (!(error instanceof TypeError)) throw error;
+      this.exports.memory.grow(pages);
+    }
+  }
+
+  /** Grows until there are `count` bytes from address `at` on. */
+  reach(at, count) {
+    const lack = at + count - this.exports.memory.buffer.byteLength;
+    if (lack > 0) this.grow(Math.ceil(lack / PAGE_BYTES));
+  }
+
+  /** Returns a block of at least `count` bytes, aligned to 16: the smallest free one that fits, or a new one. */
+  claim(count) {
+    const fitting = this.free.filter((block) => block.count >= count).sort((one, other) => one.count - other.count);
+    if (fitting.length) return this.free.splice(this.free.indexOf(fitting[0]), 1)[0];
+    const block = { at: this.end, count: (count + 15) & ~15 };
+    this.end += block.count;
+    this.reach(block.at, block.count);
+    return block;
+  }
+
+  /** Makes a block free for later claims. */
+  release(block) {
+    this.free.push(block);
+  }
+
+  view() {
+    const { buffer } = this.exports.memory;
+    return this.data.buffer === buffer ? this.data : (this.data = new DataView(buffer));
+  }
+
+  bytes() {
+    const { buffer } = this.exports.memory;
+    return this.all.buffer === buffer ? this.all : (this.all = new Uint8Array(buffer));
+  }
+
+  bytesAt(at, count) {
+    return this.bytes().subarray(at, at + count);
+  }
+
+  putBytes(at, bytes) {
+    this.bytesAt(at, bytes.length).set(bytes);
+  }
+
+  /** Writes a text, and returns its length. Halves of surrogate pairs become bytes that no frame and no angle has. */
+  putText(text) {
+    const spelled = new TextEncoder().encode(text);
+    if (spelled.length > this.textRoom) {
+      const { at, count } = this.claim(2 * spelled.length);
+      Object.assign(this, { textAt: at, textRoom: count });
+    }
+    this.putBytes(this.textAt, spelled);
+    return BigInt(spelled.length);
+  }
+
+  putAngle(at, degrees) {
+    const { num, den } = fraction(degrees);
+    this.view().setBigInt64(at, num, true);
+    this.view().setBigUint64(at + 8, den, true);
+  }
+
+  putPosition(at, { lat, lon }) {
+    this.putAngle(at, lat);
+    this.putAngle(at + 16, lon);
+  }
+
+  putHead(at, layout, head) {
+    let next = at;
+    for (const [name, count] of layout) {
+      const value = fitted(head[name], 8 * count), view = this.view();
+      if (count === 4) view.setUint32(next, value, true);
+      else if (count === 2) view.setUint16(next, value, true);
+      else view.setUint8(next, value);
+      next += count;
+    }
+  }
+
+  /** Returns the text at an address, up to the first zero. */
+  getText(at, room) {
+    const held = this.bytes();
+    let text = "";
+    for (let next = at; next < at + room && held[next]; next++) text += String.fromCharCode(held[next]);
+    return text;
+  }
+
+  getFields(at) {
+    const view = this.view();
+    const small = Object.fromEntries(SMALL_FIELDS.map((name, index) => [name, view.getUint8(at + 26 + index)]));
+    return new Fields({
+      raw: view.getBigUint64(at, true), address: view.getUint32(at + 8, true), lat: view.getUint32(at + 12, true),
+      lon: view.getUint32(at + 16, true), feet: view.getInt32(at + 20, true), altitude: view.getUint16(at + 24, true),
+      ...small,
+    });
+  }
+
+  getZones(at) {
+    const view = this.view(), [latZones, zoneCount, lonZones, odd] = this.bytesAt(at + 12, 4);
+    return {
+      latZone: view.getInt32(at, true), lonZone: view.getUint32(at + 4, true), degrees: view.getUint32(at + 8, true),
+      latZones, zoneCount, lonZones, odd,
+    };
+  }
+}
+
+/** Makes a call that returns a fault, and throws the fault unless its code is OK. */
+export function ask(library, name, ...words) {
+  const { exports, faultAt } = library.memory;
+  exports[`squitter_${name}`](BigInt(faultAt), ...words);
+  const view = library.memory.view(), code = view.getUint32(faultAt, true);
+  if (!code) return;
+  const second = view.getUint32(faultAt + 4, true), first = view.getBigUint64(faultAt + 8, true);
+  throw new Fault(library.faultText(code, first, second), code, first, second);
+}
+
+export function angleAt(library, at) {
+  const view = library.memory.view();
+  return new Angle(library, view.getBigInt64(at, true), view.getBigUint64(at + 8, true));
+}
+
+export function positionAt(library, at) {
+  return Object.freeze({ lat: angleAt(library, at), lon: angleAt(library, at + 16) });
+}
+
+/** Returns the result for a frame, from an address. */
+export function heardAt(library, at) {
+  const view = library.memory.view(), what = view.getUint8(at + 32);
+  const position = what === What.FIX || what === What.FOLLOWED ? positionAt(library, at) : null;
+  return { what, position, even: view.getUint8(at + 33), odd: view.getUint8(at + 34) };
+}
+
+/** Frees the memory of logs, trackers and feeds that are no longer used. */
+const unused = new FinalizationRegistry((lent) => lent.close());
+
+/** The memory of a log, a tracker or a feed: a block that starts with the library's 16 bytes (`slot`). `rooms` are
+ * other blocks of the owner. */
+export class Lent {
+  /** Calls `make` with the slot, and with a pointer to the size and the address of a block of `size` bytes. */
+  constructor(owner, library, name, size, make) {
+    const { memory } = library;
+    unused.register(owner, this);
+    Object.assign(this, { library, name, block: memory.claim(16 + size), rooms: {} });
+    this.slot = BigInt(this.block.at);
+    memory.bytesAt(this.block.at, 16).fill(0);
+    memory.view().setBigUint64(memory.outAt, BigInt(size), true);
+    memory.view().setBigUint64(memory.outAt + 8, this.slot + 16n, true);
+    try {
+      make(this.slot, BigInt(memory.outAt));
+    } catch (error) {
+      this.close();
+      throw error;
+    }
+  }
+
+  /** Frees the memory. Each later call throws NO_TRACKER. */
+  close() {
+    if (!this.block) return;
+    this.library.memory.exports[`squitter_${this.name}_free`](this.slot);
+    for (const block of [this.block, ...Object.values(this.rooms)]) this.library.memory.release(block);
+    this.block = null;
+    this.rooms = {};
+    // A slot of zeros means no log, no tracker and no feed.
+    this.slot = BigInt(this.library.memory.zerosAt);
+  }
+}
+
+/** The most bytes that one call of the library gets. */
+export const PIECE_BYTES = 1 << 16;
+
+/** Returns the bytes of a piece. Throws a TypeError for anything else. */
+export function bytesOf(piece) {
+  if (ArrayBuffer.isView(piece)) return new Uint8Array(piece.buffer, piece.byteOffset, piece.byteLength);
+  if (piece instanceof ArrayBuffer) return new Uint8Array(piece);
+  throw new TypeError("a piece is an ArrayBuffer or a view of one");
+}

@@ -1,0 +1,324 @@
+/* squitter_tracking.js: the logs and trackers of squitter.js. */
+
+import { Lent, PIECE_BYTES, ask, bytesOf, heardAt } from "./squitter_memory.js";
+import { AltitudeForm, What, Format, ENTRY_BYTES, fraction, whole, moment } from "./squitter_values.js";
+
+/** The most addresses of a log or a tracker: some 800 megabytes. */
+const MOST_ADDRESSES = 1 << 20;
+
+/** Returns the settings of a log or a tracker, with the defaults. */
+function settingsOf({ window = 10_000n, limit = 1000, site = null }) {
+  const number = Number(whole(limit));
+  if (number < 0 || number > MOST_ADDRESSES) throw new RangeError(`a limit is at most ${MOST_ADDRESSES}`);
+  return { window: moment(window), limit: number, site };
+}
+
+/** Creates a log or a tracker of the library, with its memory. */
+function listenerOf(owner, library, name, settings) {
+  const { memory } = library, { window, limit, site } = settingsOf(settings);
+  return new Lent(owner, library, name, Number(memory.exports[`squitter_${name}_size`](limit)), (slot, block) => {
+    if (site) memory.putPosition(memory.placeAt, site);
+    const words = [slot, block, limit, window, ...(site ? [BigInt(memory.placeAt)] : [])];
+    ask(library, `${name}_new${site ? "_at" : ""}`, ...words);
+  });
+}
+
+const LAST_BYTES = 16, ANSWER_BYTES = 96, ANSWERS_AT_ONCE = 4096, TEXT_ROOM = 1 << 18, ANSWER_TEXT = 512;
+const E7 = 10_000_000;
+
+/** Columns are filled with up to this many results, and then copied at their length. 1 MB of a log has fewer lines. */
+const COLUMN_ROOM = 1 << 15;
+
+/** The index of the lower half of a number of 64 bits in a typed array: 0, or 1 on a big-endian machine. */
+const LOWER = 1 - new Uint8Array(Uint32Array.of(1).buffer)[0];
+
+/** Returns columns with room for `count` results. */
+function columnsOf(count) {
+  return {
+    numbers: new Float64Array(count), moments: new BigUint64Array(count), whats: new Uint8Array(count),
+    addresses: new Int32Array(count), kinds: new Uint8Array(count), lats: new Float64Array(count),
+    lons: new Float64Array(count), feet: new Float64Array(count), evens: new Uint8Array(count),
+    odds: new Uint8Array(count), codes: new Uint32Array(count), firsts: new BigUint64Array(count),
+  };
+}
+
+/** Returns copies of the columns, cut to the first `count` results. */
+function frontOf({ ...columns }, count) {
+  for (const name of Object.keys(columns)) columns[name] = columns[name].slice(0, count);
+  return columns;
+}
+
+/** Joins columns, one part after the other. */
+function joinedColumns(parts) {
+  const all = columnsOf(parts.reduce((sum, part) => sum + part.numbers.length, 0));
+  let from = 0;
+  for (const part of parts) {
+    for (const name of Object.keys(all)) all[name].set(part[name], from);
+    from += part.numbers.length;
+  }
+  return all;
+}
+
+/** Copies `count` results from the address `from` to columns, from the index `first` on. Numbers of 64 bits are copied
+ * in halves, because a BigInt for each line takes longer than everything else. */
+function putAnswers(view, from, count, columns, first) {
+  const { numbers, moments, whats, addresses, kinds, lats, lons, feet, evens, odds, codes, firsts } = columns;
+  const times = new Uint32Array(moments.buffer), details = new Uint32Array(firsts.buffer);
+  for (let index = first, at = from; index < first + count; index++, at += ANSWER_BYTES) {
+    const what = view.getUint8(at + 48), isPlace = what === What.FIX || what === What.FOLLOWED;
+    const lower = 2 * index + LOWER, upper = 2 * index + 1 - LOWER;
+    numbers[index] = view.getUint32(at, true) + 2 ** 32 * view.getUint32(at + 4, true);
+    times[lower] = view.getUint32(at + 8, true);
+    times[upper] = view.getUint32(at + 12, true);
+    whats[index] = what;
+    evens[index] = view.getUint8(at + 49);
+    odds[index] = view.getUint8(at + 50);
+    codes[index] = view.getUint32(at + 56, true);
+    details[lower] = view.getUint32(at + 64, true);
+    details[upper] = view.getUint32(at + 68, true);
+    addresses[index] = what ? view.getUint32(at + 80, true) : -1;
+    kinds[index] = view.getUint8(at + 88);
+    lats[index] = isPlace ? view.getInt32(at + 72, true) / E7 : NaN;
+    lons[index] = isPlace ? view.getInt32(at + 76, true) / E7 : NaN;
+    feet[index] = view.getUint8(at + 89) === AltitudeForm.FEET ? view.getInt32(at + 84, true) : NaN;
+  }
+}
+
+/** A log in pieces of any length, as `squitter track` decodes it. */
+export class Log {
+  #listener;
+  #library;
+  #columnRoom;
+
+  /** Creates a log without lines. `window` is in milliseconds, `limit` is the most aircraft at once, and `site` is the
+   * receiver position, which surface pairs need. Throws a RangeError for a limit above 2^20.
+   * Faults: BAD_POSITION (the site), NO_LIMIT. */
+  constructor(library, settings = {}) {
+    this.#library = library;
+    this.#listener = listenerOf(this, library, "log", settings);
+    this.#listener.rooms = {
+      done: library.memory.claim(16), piece: library.memory.claim(PIECE_BYTES),
+      out: library.memory.claim(Math.max(TEXT_ROOM, ANSWERS_AT_ONCE * ANSWER_BYTES)),
+    };
+  }
+
+  /** Returns the results of the lines that end in this piece, as columns: `numbers` of the lines, `moments` (ms),
+   * `whats` (see What; 0 for a refused line), `addresses` (-1 for a refused line), `kinds`, `lats` and `lons` in
+   * degrees (NaN without a position), `feet` (NaN without an altitude), `evens` and `odds` (NL, for SPLIT), `codes` (0
+   * for a good line) and `firsts`, the first numbers of faults. Throws a TypeError unless the piece is an ArrayBuffer
+   * or a view. Fault: NO_TRACKER. */
+  take(piece) {
+    return this.#columns((hear) => this.#pieces(piece, (at, count) => hear("log_take", at, count)));
+  }
+
+  /** Returns the result of the last line if it has no line feed, as columns. Fault: NO_TRACKER. */
+  finish() {
+    return this.#columns((hear) => hear("log_finish"));
+  }
+
+  /** Returns the results of the lines that end in this piece, as text. Faults: NO_TRACKER, BAD_FORMAT. */
+  takeText(piece, format = Format.LINES) {
+    return this.#text((hear) => this.#pieces(piece, (at, count) => hear("log_take_text", format, at, count)));
+  }
+
+  /** Returns the result of the last line if it has no line feed, as text. Faults: NO_TRACKER, BAD_FORMAT. */
+  finishText(format = Format.LINES) {
+    return this.#text((hear) => hear("log_finish_text", format));
+  }
+
+  /** Returns the header of a format: the column names of CSV, and an empty text otherwise. */
+  header(format = Format.LINES) {
+    const { exports, outAt } = this.#library.memory;
+    exports.squitter_log_header(format, BigInt(outAt));
+    return this.#library.memory.getText(outAt, 64);
+  }
+
+  /** The numbers of good lines and of refused lines so far. Fault: NO_TRACKER. */
+  get tally() {
+    const { outAt } = this.#library.memory;
+    ask(this.#library, "log_tally", this.#listener.slot, BigInt(outAt));
+    const view = this.#library.memory.view();
+    return { good: view.getBigUint64(outAt, true), refused: view.getBigUint64(outAt + 8, true) };
+  }
+
+  /** Frees the memory. Safe to call twice. */
+  close() {
+    this.#listener.close();
+    this.#columnRoom = null;
+  }
+
+  /** Passes a piece to `hear` in parts that fit the memory. */
+  #pieces(piece, hear) {
+    const bytes = bytesOf(piece);
+    if (!this.#listener.rooms.piece) return hear(this.#library.memory.zerosAt, 0);
+    for (let from = 0; from < bytes.length; from += PIECE_BYTES) {
+      const part = bytes.subarray(from, from + PIECE_BYTES);
+      this.#library.memory.putBytes(this.#listener.rooms.piece.at, part);
+      hear(this.#listener.rooms.piece.at, part.length);
+    }
+  }
+
+  /** Repeats a call until all of its bytes are taken and it leaves room in its output. */
+  #call(room, full, name, at, count, format, use) {
+    const { memory } = this.#library;
+    const out = this.#listener.rooms.out?.at ?? memory.zerosAt, done = this.#listener.rooms.done?.at ?? memory.zerosAt;
+    let taken = 0, written = 0;
+    do {
+      const words = [...(format === undefined ? [] : [format]),
+        ...(at === undefined ? [] : [BigInt(at + taken), BigInt(count - taken)])];
+      ask(this.#library, name, this.#listener.slot, ...words, BigInt(out), BigInt(room), BigInt(done));
+      const view = memory.view();
+      taken += Number(view.getBigUint64(done, true));
+      written = Number(view.getBigUint64(done + 8, true));
+      use(out, written);
+    } while (written > full);
+  }
+
+  #columns(run) {
+    const room = this.#columnRoom ??= columnsOf(COLUMN_ROOM), parts = [];
+    let filled = 0;
+    const flush = () => parts.push(frontOf(room, filled));
+    run((name, at, count) => this.#call(ANSWERS_AT_ONCE, ANSWERS_AT_ONCE - 1, name, at, count, undefined,
+      (out, written) => {
+        if (filled + written > COLUMN_ROOM) {
+          flush();
+          filled = 0;
+        }
+        putAnswers(this.#library.memory.view(), out, written, room, filled);
+        filled += written;
+      }));
+    flush();
+    return parts.length === 1 ? parts[0] : joinedColumns(parts);
+  }
+
+  #text(run) {
+    const decoder = new TextDecoder();
+    let text = "";
+    run((name, format, at, count) => this.#call(TEXT_ROOM, TEXT_ROOM - ANSWER_TEXT, name, at, count, format,
+      (out, written) => { text += decoder.decode(this.#library.memory.bytesAt(out, written)); }));
+    return text;
+  }
+}
+
+/** Positions of many aircraft from their frames, as `squitter track` decodes them. */
+export class Tracker {
+  #listener;
+  #library;
+  #settings;
+
+  /** Creates an empty tracker. `window` is in milliseconds, `limit` is the most aircraft at once, and `site` is the
+   * receiver position, which surface pairs need. Throws a RangeError for a limit above 2^20.
+   * Faults: BAD_POSITION (the site), NO_LIMIT. */
+  constructor(library, settings = {}) {
+    this.#library = library;
+    this.#listener = listenerOf(this, library, "tracker", settings);
+    const { window, limit, site } = settingsOf(settings);
+    this.#settings = { window, limit, site: site && { lat: fraction(site.lat), lon: fraction(site.lon) } };
+  }
+
+  /** Adds a frame with its timestamp, and returns the result. A Fault leaves the tracker unchanged.
+   * Faults: those of `frame`, NO_TRACKER, NOT_DF17, PARITY, MOMENT_BACK, TABLE_FULL. */
+  hear(at, source) {
+    const { memory } = this.#library, time = moment(at);
+    memory.putBytes(memory.firstAt, this.#library.frame(source));
+    ask(this.#library, "tracker_hear", this.#listener.slot, time, BigInt(memory.firstAt), BigInt(memory.outAt));
+    return heardAt(this.#library, memory.outAt);
+  }
+
+  /** The number of aircraft that are present; 0 after `close`. */
+  get size() {
+    return Number(this.#library.memory.exports.squitter_tracker_len(this.#listener.slot));
+  }
+
+  /** Returns the aircraft at an index, the longest silent first, and the timestamp of its latest position.
+   * Faults: NO_TRACKER, NO_ADDRESS. */
+  present(index) {
+    const { outAt } = this.#library.memory;
+    ask(this.#library, "tracker_get", this.#listener.slot, whole(index), BigInt(outAt));
+    const view = this.#library.memory.view();
+    return { address: view.getUint32(outAt + 8, true), moment: view.getBigUint64(outAt, true) };
+  }
+
+  /** The timestamp of the last accepted frame; 0n if none was accepted. */
+  get last() {
+    return this.#state(0).last ?? 0n;
+  }
+
+  /** Returns the state: `last`, the timestamp of the last accepted frame or null, and `entries`, 192 bytes for each
+   * present aircraft. A structured clone can be restored elsewhere. A closed tracker has an empty state. */
+  save() {
+    return this.#state(this.size);
+  }
+
+  /** Returns the state, with the first `count` entries. */
+  #state(count) {
+    const { memory } = this.#library;
+    const room = memory.claim(LAST_BYTES + ENTRY_BYTES * count);
+    memory.bytesAt(room.at, LAST_BYTES).fill(0);
+    const at = BigInt(room.at), entries = at + BigInt(LAST_BYTES);
+    memory.exports.squitter_tracker_save(this.#listener.slot, at, entries, BigInt(count));
+    const view = memory.view();
+    const last = view.getBigUint64(room.at + 8, true) ? view.getBigUint64(room.at, true) : null;
+    const saved = { last, entries: memory.bytesAt(room.at + LAST_BYTES, ENTRY_BYTES * count).slice() };
+    memory.release(room);
+    return saved;
+  }
+
+  /** Replaces the state of the tracker by one that `save` returned; the settings stay. Throws a RangeError unless the
+   * entries have 192 bytes each. Faults: NO_TRACKER, BAD_ENTRY (no tracker with these settings can hold the entry at
+   * index `first`). After BAD_ENTRY the tracker is as if it had heard no frame. */
+  restore({ last, entries }) {
+    const { memory } = this.#library, bytes = bytesOf(entries);
+    if (bytes.length % ENTRY_BYTES) throw new RangeError(`an entry has ${ENTRY_BYTES} bytes`);
+    const isHeard = last !== null && last !== undefined, time = isHeard ? moment(last) : 0n;
+    const room = memory.claim(LAST_BYTES + bytes.length);
+    try {
+      memory.view().setBigUint64(room.at, time, true);
+      memory.view().setBigUint64(room.at + 8, isHeard ? 1n : 0n, true);
+      memory.putBytes(room.at + LAST_BYTES, bytes);
+      const at = BigInt(room.at), count = BigInt(bytes.length / ENTRY_BYTES);
+      ask(this.#library, "tracker_restore", this.#listener.slot, at, at + BigInt(LAST_BYTES), count);
+    } finally {
+      memory.release(room);
+    }
+  }
+
+  /** Returns a tracker with the same settings and state. */
+  copy() {
+    const other = new Tracker(this.#library, this.#settings);
+    other.restore(this.save());
+    return other;
+  }
+
+  /** Frees the memory. Safe to call twice. */
+  close() {
+    this.#listener.close();
+  }
+}
+
+/** A tracker of one address. A second address throws TABLE_FULL while the first is present. */
+export class Contact extends Tracker {
+  #library;
+  #window;
+  #site;
+
+  /** Creates a contact without frames; window and site as for Tracker. */
+  constructor(library, window = 10_000n, site = null) {
+    super(library, { window, site, limit: 1 });
+    this.#library = library;
+    this.#window = moment(window);
+    this.#site = site && { lat: fraction(site.lat), lon: fraction(site.lon) };
+  }
+
+  /** The timestamp of the newest position; 0n if there is none. */
+  get newest() {
+    return this.size ? this.present(0).moment : 0n;
+  }
+
+  /** Returns a contact with the same settings and state. */
+  copy() {
+    const other = new Contact(this.#library, this.#window, this.#site);
+    other.restore(this.save());
+    return other;
+  }
+}
