@@ -192,6 +192,70 @@ def foreign() -> None:
         same(of_rows(f"{HEADER}1,,{answer},,,,,\n")[0], 0, answer)
 
 
+def as_floats() -> None:
+    """A table that pandas has written gives the same map: whole numbers as floats, degrees without trailing zeros."""
+    rows = [("1", "0", "fix", "40621D", "air", "52.2572021", "3.9193726", "38000"),
+            ("2", "400", "followed", "40621D", "air", "52.5000000", "-0.0000004", "-25"),
+            ("3", "500", "followed", "40621E", "", "0.0000000", "4.0000000", "")]
+    as_track = HEADER + "".join(f"{','.join(row)}\n" for row in rows)
+    wanted = of_rows(as_track)
+    same((wanted[0], wanted[2]), (0, ""))
+    as_pandas = (HEADER + "1.0,0.0,fix,40621D,air,52.2572021,3.9193726,38000.0\n"
+                 "2.0,400.0,followed,40621D,air,52.5,-4e-07,-25.0\n3.0,500.0,followed,40621E,,0.0,4.0,\n")
+    same(of_rows(as_pandas), wanted)
+    same(of_rows(as_pandas.replace("52.2572021", "52.257202099999995")), wanted, "another float than the nearest")
+    mixed = as_pandas.splitlines(True)[:2] + as_track.splitlines(True)[2:]
+    same(of_rows("".join(mixed)), wanted, "some of both")
+    same(of_rows(as_pandas.replace("\n", "\r\n")), wanted)
+    same(of_rows(as_pandas[:-1]), wanted, "no last line feed")
+    same(of_rows(as_pandas.replace(",fix,", ',"fix",')), wanted, "quotes")
+
+
+def named() -> None:
+    """The message for an invalid row has its number, the column, the cell and what is expected, wherever the row is."""
+    cells = dict(zip(COLUMNS, GOOD.strip().split(",")))
+    bad = [("feet", "500.5", "a whole number of at most 6 digits"), ("feet", "1000000", "at most 6 digits"),
+           ("feet", "-1000000.0", "at most 6 digits"), ("line", "1.5", "a whole number from 0 of at most 20 digits"),
+           ("moment", "-1", "from 0"), ("lat", "90.0000001", "degrees from -90 to 90 of at most seven decimals"),
+           ("lon", "1.00000001", "degrees from -180 to 180"), ("lon", "4e7", "degrees"), ("lat", "1e-0x", "degrees"),
+           ("address", "40621d", "six hexadecimal digits in upper case"), ("kind", "Air", "air, ground or nothing"),
+           ("answer", "FIX", "an answer of track")]
+    for before in (0, 1, 2000, 5000):
+        for name, cell, wanted in bad if before < 2 else bad[:1] + bad[-1:]:
+            text = HEADER + GOOD * before + ",".join({**cells, name: cell}.values()) + "\n" + GOOD * 3
+            status, printed, said = of_rows(text)
+            told = f"row {before + 1} is no answer of track: {name} is {cell!r}, expected "
+            expect((status, printed) == (1, "") and told in said and wanted in said, text[-200:], said)
+            expect(said.count("\n") == 1, said)
+    for text, cell in ((GOOD.strip() + ",x\n", 9), ("1,0\n", 2), ("\n", 1)):
+        said = of_rows(HEADER + GOOD + text + GOOD)[2]
+        told = f"row 2 is no answer of track: it has {cell} cells, expected 8: {HEADER.strip()}"
+        expect(told in said or not text.strip(), said)
+    same(of_rows(HEADER + GOOD + "1,0,fix,40621D,air,52,4\n" + GOOD.strip() + ",x\n")[0], 1, "one less and one more")
+    big = GOOD.replace(",0,", f",{10**20 - 1},", 1)
+    found = features(of_rows(HEADER + GOOD * 3 + big + GOOD)[1])["40621D"]
+    same(found["properties"]["moment"][0][:3] + found["properties"]["moment"][1], [0, 0, 0, 10**20 - 1, 0])
+
+
+def small() -> None:
+    """A position takes some 40 bytes, and a row without a position takes none."""
+    rows = 100_000
+    usual = "".join(f"{n},{n},fix,{n % 50:06X},air,52.0000000,4.{n % 10**7:07d},-25\n" for n in range(rows))
+    waiting = "".join(f"{n},{n},waiting,{n % 50:06X},air,,,-25\n" for n in range(rows))
+    took = []
+    for text in (GOOD, waiting, usual):
+        words = ["/usr/bin/env", "python3", "-c", MEASURED, MAPS]
+        done = subprocess.run(words, input=(HEADER + text).encode(), stdout=subprocess.PIPE, check=True)
+        took.append(int(done.stdout))
+    expect(took[1] - took[0] < 2_000, "kilobytes of rows without a place:", took)
+    expect(took[2] - took[0] < 12_000, "kilobytes of places:", took)
+
+
+MEASURED = """import resource, subprocess, sys
+subprocess.run([sys.argv[1], "-"], stdout=subprocess.DEVNULL, check=True)
+print(resource.getrusage(resource.RUSAGE_CHILDREN).ru_maxrss)"""
+
+
 def foreign_objects() -> None:
     """Rows of JSON that are none of track's are named."""
     texts = [json.dumps({**OF_JSON, name: value}) for name, value in (

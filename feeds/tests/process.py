@@ -92,7 +92,11 @@ def refusals() -> None:
     status, printed, said = ran(["-"], b"MSG,3,1,1,4B1001,1,2026/11/23,22:00:00.000,,,,38000,,,52.1,4.2,,,0,0,0,0\n")
     expect((status, printed) == (1, "") and "SBS" in said and "30005" in said, said)
     rows: List[Tuple[List[str], int, str]] = [
-        (["/nonesuch"], 3, "No such file"),
+        (["/nonesuch"], 3, "cannot read /nonesuch: No such file or directory; a port is given as HOST:PORT"),
+        (["localhost"], 3, "cannot read localhost: No such file or directory; a port is given as HOST:PORT"),
+        ([":30005"], 3, "a port is given as HOST:PORT"),
+        (["http://localhost:8080"], 3, "a port is given as HOST:PORT"),
+        (["localhost:300055"], 3, "a port is given as HOST:PORT"),
         (["/"], 3, "Is a directory"),
         ([], 2, "SOURCE"),
         (["a", "b"], 2, "usage"),
