@@ -15,7 +15,6 @@ static uint8_t strangers[CALLS][14]; /* each of an address of its own */
 static squitter_tracker tracker;
 static char texts[2 * PLACES][28];
 static squitter_position places[PLACES];
-static squitter_entry entries[PLACES];
 static uint64_t sink;
 static const char *wanted; /* the one call that is made, or NULL: each is timed */
 static long count_wanted;
@@ -65,7 +64,9 @@ static void make_strangers(void) {
 
 /* An empty tracker in the place of the one that was there. */
 static void begin(uint32_t limit) {
-  if (squitter_tracker_new(&tracker, limit, WINDOW).code) exit(2);
+  squitter_block block = {squitter_tracker_size(limit), NULL};
+  block.memory = malloc(block.size);
+  if (!block.memory || squitter_tracker_new(&tracker, block, limit, WINDOW).code) exit(2);
 }
 
 #define CALLS_OF(count, ...) for (long n = 0; n < (count); n++) { int i = n % PLACES; (void)i; __VA_ARGS__; }
@@ -109,8 +110,6 @@ int main(int argc, char **argv) {
   RATE("pair_elsewhere", sink += squitter_pair(frames[2 * i], elsewhere[i], &place).code + place.lat.den);
   RATE("pair_ground",
     sink += squitter_pair_at(ground[2 * i], ground[2 * i + 1], &places[i], &place).code + place.lat.den);
-  RATE("hear",
-    sink += squitter_hear(&entries[i], 10000, moment++, frames[2 * i + (n / PLACES) % 2], &heard).code + heard.what);
   RATE("new_address",
     if (!n) begin(CALLS);
     sink += squitter_tracker_hear(&tracker, 0, strangers[n], &heard).code + heard.what;

@@ -31,10 +31,12 @@ int main(int words, char **word) {
     squitter_fault *faults = malloc((count + 1) * sizeof *faults);
     if (!moments || !frames || !count || count != moments_count || !heard || !places || !degrees || !faults) return 2;
     const squitter_position site = {{521, 10}, {47, 10}};
+    squitter_block block = {squitter_tracker_size(1000), NULL};
+    if (!(block.memory = malloc(block.size))) return 2;
     double hearing = 1e18, both = 1e18;
     for (int round = 0; round < 6; round++) { /* the first writes memory for the first time */
         squitter_tracker tracker = {0, 0};
-        if (squitter_tracker_new_at(&tracker, 1000, 10000, &site).code) return 1;
+        if (squitter_tracker_new_at(&tracker, block, 1000, 10000, &site).code) return 1;
         double start = now();
         const uint8_t(*given)[14] = (const uint8_t(*)[14])frames;
         if (squitter_tracker_hear_many(&tracker, moments, count, given, count, heard, count, faults, count) != count)

@@ -1,0 +1,245 @@
+#!/usr/bin/env python3
+"""surfaces.py [LINES [ROUNDS]]: the time of each way to hear one log, beside `squitter track`: C, NumPy, data
+frames, Python, Node and the page, and feeds by their format.
+
+The log has a million LINES of 900 aircraft (bench/gen.c). Each row has the least time and the least processor time of
+five ROUNDS, in nanoseconds a line. Rows of Python count the calls alone; all others count their whole process. Calls
+for one frame, `squitter-feed` and `squitter-geojson` get the first twentieth of the log. The answers of the program,
+Python, Node and the page are compared. Needs NumPy, pandas and a C compiler; skips Node and Chromium if missing."""
+import contextlib
+import hashlib
+import os
+import subprocess
+import sys
+import tempfile
+import time
+from fractions import Fraction
+from pathlib import Path
+from typing import Any, Callable, Dict, NamedTuple, Optional, Sequence, Tuple
+
+TOP = Path(__file__).resolve().parent.parent
+CLIB = TOP / "clib"
+sys.path[:0] = [str(CLIB), str(TOP / "tests" / "browser")]
+import chromium  # noqa: E402
+from trying import Missing, Tries  # noqa: E402
+from using import typed  # noqa: E402
+
+SITE = ("52.1", "4.7")
+AIRCRAFT, PIECE, TEXT_PIECE, PART = 900, 100, 1 << 16, 20
+EPOCH = 1_700_000_000_000  # the Unix time (ms) at which the rows of CSV start
+DIGEST = """squitterLog.texts()
+  .then((texts) => crypto.subtle.digest("SHA-256", new TextEncoder().encode(texts.join(""))))
+  .then((sum) => Array.from(new Uint8Array(sum), (byte) => byte.toString(16).padStart(2, "0")).join(""))"""
+
+
+class Took(NamedTuple):
+    """The time of a run and its processor time in seconds, and the SHA-256 of its answers, if it tells them."""
+
+    seconds: float
+    processor: float
+    answers: str = ""
+
+
+class Way(NamedTuple):
+    """A row: how many lines it hears, and a run of it."""
+
+    count: int
+    run: Callable[[], Took]
+
+
+class Inputs:
+    """The log in each form, in a folder."""
+
+    def __init__(self, folder: str, count: int) -> None:
+        self.folder, self.count, self.part = Path(folder), count, max(count // PART, 1)
+        words = [self.built("gen", "-lm"), "track", str(count), "1", str(AIRCRAFT)]
+        self.lines = subprocess.run(words, check=True, capture_output=True).stdout.splitlines(keepends=True)
+        parts = map(bytes.split, self.lines)
+        self.squitters = [(int(moment), bytes.fromhex(frame.decode())) for moment, frame in parts]
+        self.log = self.written("log", b"".join(self.lines))
+        self.short = self.written("short.log", b"".join(self.lines[:self.part]))
+        self.feeds = {name: self.written(name, b"".join(spelled(*one) for one in self.squitters))
+                      for name, spelled in (("beast", beast), ("avr", avr), ("csv", csv))}
+        self.short_feed = self.written("short", b"".join(beast(*one) for one in self.squitters[:self.part]))
+
+    def written(self, name: str, data: bytes) -> Path:
+        path = self.folder / name
+        path.write_bytes(data)
+        return path
+
+    def built(self, name: str, *words: str) -> str:
+        """A C program of this folder, compiled."""
+        program = str(self.folder / f"{name}.out")
+        subprocess.run(["cc", "-O2", f"-I{CLIB}", "-o", program, str(TOP / "bench" / f"{name}.c"), *words], check=True)
+        return program
+
+
+def beast(moment: int, frame: bytes) -> bytes:
+    body = (12_000 * moment).to_bytes(6, "big") + b"\x80" + frame
+    return b"\x1a3" + body.replace(b"\x1a", b"\x1a\x1a")
+
+
+def avr(moment: int, frame: bytes) -> bytes:
+    return f"@{12_000 * moment:012X}{frame.hex().upper()};\n".encode()
+
+
+def csv(moment: int, frame: bytes) -> bytes:
+    millis = EPOCH + moment
+    return f"{millis // 1000}.{millis % 1000:03},{frame[1:4].hex()},{frame.hex()}\n".encode()
+
+
+def of_process(words: Sequence[str], path: Optional[Path]) -> Callable[[], Took]:
+    """A run of a program with a file as its input. Its statuses are 0 and 1."""
+    def run() -> Took:
+        with open(path or os.devnull, "rb") as given, tempfile.TemporaryFile() as answers:
+            start = time.perf_counter()
+            child = subprocess.Popen(words, stdin=given, stdout=answers, stderr=subprocess.DEVNULL)
+            _, status, used = os.wait4(child.pid, 0)
+            seconds = time.perf_counter() - start
+            child.returncode = os.waitstatus_to_exitcode(status)
+            if child.returncode not in (0, 1):
+                sys.exit(f"{words[0]} ended with status {child.returncode}")
+            answers.seek(0)
+            return Took(seconds, used.ru_utime + used.ru_stime, hashlib.sha256(answers.read()).hexdigest())
+    return run
+
+
+def of_calls(call: Callable[[], Optional[bytes]]) -> Callable[[], Took]:
+    """A run of Python calls, which may return answers as text."""
+    def run() -> Took:
+        start, used = time.perf_counter(), time.process_time()
+        answers = call()
+        seconds, processor = time.perf_counter() - start, time.process_time() - used
+        return Took(seconds, processor, "" if answers is None else hashlib.sha256(answers).hexdigest())
+    return run
+
+
+def of_page(browser: chromium.Chromium, path: Path) -> Callable[[], Took]:
+    """A run of the page, from the choice of the file to the last row."""
+    def run() -> Took:
+        browser.open(f"file://{TOP}/web/index.html#log")
+        typed(browser, log_lat=SITE[0], log_lon=SITE[1])
+        before = browser.processor_seconds()
+        browser.give("#log-file", str(path))
+        # (the page is asked seldom, because each question costs it time)
+        while not browser.evaluate("Boolean(squitterLog.name) && squitterLog.worker === null"):
+            time.sleep(0.1)
+        processor = browser.processor_seconds() - before
+        return Took(float(browser.evaluate("squitterLog.seconds")), processor, str(browser.evaluate(DIGEST)))
+    return run
+
+
+def ways_of_python(inputs: Inputs) -> Dict[str, Way]:
+    """The rows of the module."""
+    import numpy as np
+    import squitter
+    from squitter import batch
+
+    site, count = squitter.Position(*map(Fraction, SITE)), inputs.count
+    moments = np.array([moment for moment, _ in inputs.squitters], np.uint64)
+    frames = np.frombuffer(b"".join(frame for _, frame in inputs.squitters), np.uint8).reshape(-1, 14)
+    text, first = inputs.log.read_bytes(), inputs.squitters[:inputs.part]
+
+    def in_pieces() -> None:
+        tracker = batch.Tracker(site=site)
+        for at in range(0, count, PIECE):
+            tracker.hear(moments[at:at + PIECE], frames[at:at + PIECE])
+
+    def as_log() -> bytes:
+        with squitter.Log(site=site) as log:
+            pieces = [log.take(text[at:at + TEXT_PIECE]) for at in range(0, len(text), TEXT_PIECE)]
+            return b"".join([*pieces, log.finish()])
+
+    def one_by_one() -> None:
+        with squitter.Tracker(site=site) as tracker:
+            for moment, frame in first:
+                tracker.hear(moment, frame)
+
+    calls: Dict[str, Tuple[int, Callable[[], Any]]] = {
+        "batch.track": (count, lambda: batch.track(moments, frames, site=site) and None),
+        "batch.Tracker, 100 lines a call": (count, in_pieces),
+        "batch.dataframe": (count, lambda: batch.dataframe(inputs.log, site=site) is None or None),
+        "squitter.Log": (count, as_log),
+        "squitter.read, one by one": (len(first), lambda: [squitter.read(frame) for _, frame in first] and None),
+        "squitter.Tracker.hear, one by one": (len(first), one_by_one),
+    }
+    calls.update({f"batch.feed of {name}": (count, lambda path=path: batch.feed(path) and None)
+                  for name, path in inputs.feeds.items()})
+    return {name: Way(lines, of_calls(call)) for name, (lines, call) in calls.items()}
+
+
+def ways_of_programs(inputs: Inputs, program: str) -> Dict[str, Way]:
+    """The rows of the program, of C and of the scripts of feeds/."""
+    library, count = str(CLIB / "libsquitter.a"), inputs.count
+    log, feed = inputs.built("log", library), inputs.built("feed", library)
+    site = [f"--lat={SITE[0]}", f"--lon={SITE[1]}"]
+    answers = inputs.written("answers", subprocess.run(
+        [program, "track", *site], stdin=open(inputs.short, "rb"), stdout=subprocess.PIPE, check=True).stdout)
+    rows = {
+        "squitter track": Way(count, of_process([program, "track", *site], inputs.log)),
+        "squitter track --format=csv": Way(count, of_process([program, "track", "--format=csv", *site], inputs.log)),
+        "squitter_log_take, C": Way(count, of_process([log], inputs.log)),
+        "squitter_log_take_text, C": Way(count, of_process([log, "0"], inputs.log)),
+    }
+    rows.update({f"squitter_feed_take_text of {name}, C": Way(count, of_process([feed, name, "text"], path))
+                 for name, path in inputs.feeds.items()})
+    scripts = {"squitter-feed of beast": ("squitter-feed", inputs.short_feed),
+               "squitter-geojson": ("squitter-geojson", inputs.short, answers)}
+    rows.update({name: Way(inputs.part, of_process([f"{TOP}/feeds/{script}", *map(str, paths)], None))
+                 for name, (script, *paths) in scripts.items()})
+    return rows
+
+
+def ways_of_browsers(inputs: Inputs, program: str, closing: contextlib.ExitStack) -> Dict[str, Way]:
+    """The rows of Node and of the page. The browser is closed by `closing`."""
+    rows = {}
+    try:
+        node = Tries(program, str(inputs.folder)).node
+        for form in ("columns", "texts"):
+            words = [*node, str(TOP / "bench" / "log.mjs"), form, *SITE]
+            rows[f"Node, {form}"] = Way(inputs.count, of_process(words, inputs.log))
+    except Missing as tool:
+        print(f"Node: skipped, needs {tool}")
+    if chromium.installed():
+        browser = chromium.Chromium()
+        closing.callback(browser.close)
+        rows["the page"] = Way(inputs.count, of_page(browser, inputs.log))
+    else:
+        print("the page: skipped, needs chromium")
+    return rows
+
+
+def digest(text: str) -> str:
+    return hashlib.sha256(text.encode()).hexdigest()
+
+
+def least(runs: Sequence[Took], count: int) -> Tuple[float, float]:
+    """Returns the least time and processor time of some runs, in nanoseconds a line."""
+    return tuple(1e9 * min(some) / count for some in list(zip(*runs))[:2])  # type: ignore[return-value]
+
+
+def main() -> None:
+    count, rounds = (int(word) for word in (sys.argv + ["1000000", "5"][len(sys.argv) - 1:])[1:3])
+    program = os.environ.get("PROGRAM") or subprocess.run(
+        [f"{TOP}/dist/program"], check=True, stdout=subprocess.PIPE, text=True).stdout.strip()
+    subprocess.run(["make", "-s", "-C", str(CLIB), "libsquitter.a", "libsquitter.so.0"], check=True)
+    with tempfile.TemporaryDirectory() as folder, contextlib.ExitStack() as closing:
+        inputs = Inputs(folder, count)
+        ways = {**ways_of_programs(inputs, program), **ways_of_python(inputs),
+                **ways_of_browsers(inputs, program, closing)}
+        turns = [[way.run() for way in ways.values()] for _ in range(rounds)]
+    runs = dict(zip(ways, zip(*turns)))
+    compared = ("squitter track", "squitter.Log", "Node, texts", "the page")
+    counted = {run.answers for run in runs.get("Node, columns", [])}
+    if len({run.answers for name in compared for run in runs.get(name, [])}) != 1 or counted - {digest(f"{count}\n")}:
+        sys.exit("surfaces.py: the answers differ")
+    print(f"{count} lines of {AIRCRAFT} aircraft, the least of {rounds} rounds")
+    print("| | ns a line | beside `track` | processor ns a line | beside `track` |\n|---|---|---|---|---|")
+    beside = least(runs["squitter track"], count)
+    for name, some in runs.items():
+        seconds, processor = least(some, ways[name].count)
+        print(f"| {name} | {seconds:.0f} | {seconds / beside[0]:.2f} | {processor:.0f} | {processor / beside[1]:.2f} |")
+
+
+if __name__ == "__main__":
+    main()
