@@ -1,2 +1,3 @@
 pub mod Prompt
 pub mod Start
+pub mod Clock

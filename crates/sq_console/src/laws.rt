@@ -1,12 +1,15 @@
 //! Laws of the console's devices, over the definitions that their calls name.
 ghost use Rattle.std.specs.Prelude.{◌≡◌, ◌+◌, ◌≤◌, ◌<◌, ◌↔◌, IsTrue, List, ℕ};
 ghost use Rattle.std.specs.Io.KnownBytes.{Consumes};
+ghost use Rattle.sq_console.specs.Clock.{IsTold, is_live, latest_of};
+ghost use Rattle.sq_console.specs.declared.clock.ConsoleClock.{ConsoleClock};
 ghost use Rattle.sq_console.specs.Prompt.{IsFinish, IsGiven, IsTaken, finishes_of, gets_of, to_come_of};
 ghost use Rattle.sq_console.specs.declared.prompt.PromptInput.{PromptInput};
 ghost use Rattle.sq_console.specs.declared.prompt.PromptOutput.{PromptOutput};
 
 use crate::start::Trouble;
 use std::io::{Read, Write};
+use std::time;
 
 /// One get of the input takes just what it answers from the front of what is to come, where that is reported, and uses
 /// up one get.
@@ -22,6 +25,12 @@ pub fn one_put<W: Write + Drop>()
         ↔ (finishes_of old ≡ finishes_of new) }
     ensures finished { (old new : PromptOutput W W.Write) → IsFinish old new
         ↔ ((finishes_of old < finishes_of new) × (finishes_of new ≤ finishes_of old + 1)) }
+{}
+
+/// One reading of the clock tells its latest time, and whether the input is live stays.
+pub fn one_time<T: time::Clock>()
+    ensures { (old new : ConsoleClock T) (moment : ℕ) → IsTold old moment new
+        ↔ ((latest_of new ≡ moment) × (is_live new ≡ is_live old)) }
 {}
 
 /// Whether two troubles are equal by `==`: exactly if they are one.

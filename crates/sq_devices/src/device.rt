@@ -1,4 +1,4 @@
-//! The two kinds of device.
+//! The three kinds of device.
 ghost use Rattle.std.specs.Prelude.{◌≡◌, ◌+◌, ◌<◌, ◌≤◌, ℕ, Bool, List, true, length, take, Option};
 ghost use Rattle.std.specs.Prelude.{IfOk, OnOk, OnErr};
 ghost use Rattle.std.specs.Io.KnownBytes.{Appends, Consumes, IsAtEnd, Keeps};
@@ -90,4 +90,23 @@ pub trait Sink {
         ensures sent { OnOk result (Finished self.old self.new) }
         ensures counted { OnOk result (finishes self.new ≡ finishes self.old + 1) }
         ensures uncounted { OnErr result (finishes self.new ≡ finishes self.old) };
+}
+
+/// Where times come from.
+pub trait Clock {
+    /// Whether the input is received while it is read. A recorded input has no arrivals.
+    ghost live: { Self → Bool };
+
+    /// Whether one reading told this time, of a clock as it was before it and as it is after it. What that tells is the
+    /// clock's to say; that a reading told it, none but a reading can show of any clock.
+    ghost Told: { Self → ℕ → Self → Type 0 };
+
+    /// Returns whether the input is received while it is read.
+    fn is_live(&self) -> bool
+        ensures { result ≡ live self.now };
+
+    /// Returns the time in milliseconds since 1970. A time may be before an earlier one.
+    fn now(&mut self) -> u64
+        ensures told { Told self.old result self.new }
+        ensures kept { live self.new ≡ live self.old };
 }

@@ -9,11 +9,12 @@ ghost use Rattle.sq_devices.specs.Changes.{GotAtMost, GotUpToEnd, TookAll, TookN
 ghost use Rattle.sq_devices.specs.Changes.{TookSome};
 ghost use Rattle.sq_devices.specs.Changes.{WroteOrFailed, taken_from, written_on};
 ghost use Rattle.sq_devices.specs.Device.{AppendsOrHides, ConsumesOrHides, IsPrefixOf, KeepsOrHides, WroteFront};
+ghost use Rattle.sq_devices.specs.Clocks.{Tells, recorded, times_of};
 ghost use Rattle.sq_devices.specs.declared.readers.Reading.{Reading};
 ghost use Rattle.sq_devices.specs.declared.writers.Writing.{Writing};
 ghost use Rattle.sq_devices.specs.Streams.{IsFinish, IsGiven, IsTaken, finishes_of, gets_of, reader_of, writer_of};
 
-use crate::{Reading, Sink, Source, Writing};
+use crate::{Clock, NoClock, Reading, Sink, Source, Writing};
 use std::io::{Read, Write};
 
 /// No gets at all leave a source as it was, and gets of two pieces are one of each, the second of what the first left.
@@ -116,4 +117,21 @@ pub fn one_put<W: Write>()
         × (finishes_of new ≡ finishes_of old)) }
     ensures finished { (old new : Writing W) → IsFinish W.contents old new
         ↔ (Keeps (W.contents (writer_of old)) (W.contents (writer_of new)) × (finishes_of new ≡ finishes_of old + 1)) }
+{}
+
+/// Readings of a clock: no reading leaves the clock unchanged, and several are the first and then the others.
+pub fn told_in_turn<C: Clock>()
+    ensures none { (old new : C) → Tells C.Told old new [] ↔ (new ≡ old) }
+    ensures two { (old new : C) (x y : ℕ) → Tells C.Told old new (x ∷ y ∷ [])
+        ↔ ((between : C) × C.Told old x between × C.Told between y new) }
+    ensures shown { (old new : C) → (times_of C.Clock old new).is_live ≡ C.live old }
+    ensures told { (old new : C) (moments : List ℕ) → (times_of C.Clock old new).told moments
+        ↔ Tells C.Told old new moments }
+{}
+
+/// Without a clock an input is recorded: readings tell 0, and nothing else.
+pub fn no_clock_is_recorded()
+    ensures live { (old new : NoClock) → (times_of (⟦<NoClock as Clock>⟧) old new).is_live ≡ recorded.is_live }
+    ensures told { (old new : NoClock) (moments : List ℕ)
+        → (times_of (⟦<NoClock as Clock>⟧) old new).told moments ↔ recorded.told moments }
 {}

@@ -1,0 +1,15 @@
+-- What the clock of the console holds.
+use Rattle.std.specs.Prelude.{◌≡◌, ℕ, Bool}
+use Rattle.sq_console.specs.declared.clock.ConsoleClock.{ConsoleClock}
+
+-- whether the input is received while it is read
+abbrev pub is_live : {T : Type 0} → ConsoleClock T → Bool
+is_live clock = clock.live
+
+-- the latest time that was told
+abbrev pub latest_of : {T : Type 0} → ConsoleClock T → ℕ
+latest_of clock = clock.latest
+
+-- one reading told this time: it is the latest
+abbrev pub IsTold : {T : Type 0} → ConsoleClock T → ℕ → ConsoleClock T → Type 0
+IsTold old moment new = (moment ≡ new.latest) × (new.live ≡ old.live)
