@@ -1,22 +1,25 @@
 //! Feeds of each format, by their lines and counts.
+use crate::RECORDED;
 use sq_digits::TextBuffer;
-use sq_feed::{Counts, Feed, Format, LINE_LIMIT, push_log_line};
+use sq_feed::{Counts, Feed, Format, LINE_LIMIT, Manner, push_log_line};
 
-// Ten minutes.
-const LEAP: u64 = 600_000;
+const LIVE: Manner = Manner {
+    is_live: true,
+    ..RECORDED
+};
 
 // The lines of a recorded source that comes in one piece.
 fn lines(format: Format, source: &[u8]) -> TextBuffer<1024> {
     let mut text = TextBuffer::new();
-    let mut feed = Feed::new(format, LEAP, false);
+    let mut feed = Feed::new(Some(format), &RECORDED);
     feed.take(source, 0, &mut text);
     text
 }
 
 // The line at the end of a source.
-fn last_line(format: Format, source: &[u8]) -> TextBuffer<64> {
+fn last_line(format: Format, source: &[u8]) -> TextBuffer<1024> {
     let mut text = TextBuffer::<1024>::new();
-    let mut feed = Feed::new(format, LEAP, false);
+    let mut feed = Feed::new(Some(format), &RECORDED);
     feed.take(source, 0, &mut text);
     let mut last = TextBuffer::new();
     feed.finish(0, &mut last);
@@ -65,7 +68,7 @@ fn csv(rt: HostRuntime) {
 // The lines of a recorded table that comes byte by byte.
 fn lines_by_bytes(source: &[u8]) -> TextBuffer<1024> {
     let mut text = TextBuffer::new();
-    let mut feed = Feed::new(Format::Csv, LEAP, false);
+    let mut feed = Feed::new(Some(Format::Csv), &RECORDED);
     for at in 0..source.len() {
         feed.take(&source[at..at + 1], 0, &mut text);
     }
@@ -122,7 +125,7 @@ fn counts_of(counts: &Counts) -> [u64; 7] {
 #[test]
 fn each_item_is_counted_once(rt: HostRuntime) {
     let mut text = TextBuffer::<1024>::new();
-    let mut feed = Feed::new(Format::Beast, LEAP, false);
+    let mut feed = Feed::new(Some(Format::Beast), &RECORDED);
     feed.take(BEAST, 0, &mut text);
     // a reply of Mode A/C, a multilaterated squitter, and a type that is unknown
     feed.take(b"\x1a1\0\0\0\xb7\x1b\0\x80\x20\x40", 0, &mut text);
@@ -143,7 +146,7 @@ fn each_item_is_counted_once(rt: HostRuntime) {
 #[test]
 fn a_lost_connection(rt: HostRuntime) {
     let mut text = TextBuffer::<1024>::new();
-    let mut feed = Feed::new(Format::Beast, LEAP, true);
+    let mut feed = Feed::new(Some(Format::Beast), &LIVE);
     feed.take(BEAST, 1_700_000_000_000, &mut text);
     feed.take(b"\x1a3\0\0", 1_700_000_000_100, &mut text);
     feed.disconnected();
@@ -160,7 +163,7 @@ fn a_lost_connection(rt: HostRuntime) {
 fn frames_in_arrays(rt: HostRuntime) {
     let mut moments = [0u64; 4];
     let mut frames = [[0u8; 14]; 4];
-    let mut feed = Feed::new(Format::Beast, LEAP, false);
+    let mut feed = Feed::new(Some(Format::Beast), &RECORDED);
     let (taken, given) = feed.take_frames(BEAST, 0, &mut moments, &mut frames);
     assert!(rt; taken == BEAST.len());
     assert!(rt; given == 1);
@@ -169,24 +172,62 @@ fn frames_in_arrays(rt: HostRuntime) {
 }
 
 #[test]
-fn the_last_frame(rt: HostRuntime) {
-    let mut text = TextBuffer::<64>::new();
-    let mut feed = Feed::new(Format::Log, LEAP, false);
-    feed.take(b"1000 8D4840D6202CC371C32CE0576098", 0, &mut text);
-    match feed.finish_frame(0) {
-        Some(last) => {
-            assert!(rt; last.0 == 1000);
-            assert!(rt; last.1 == *b"\x8d\x48\x40\xd6\x20\x2c\xc3\x71\xc3\x2c\xe0\x57\x60\x98");
-        }
-        None => assert!(rt; false),
-    }
-    assert!(rt; feed.finish_frame(0).is_none());
-}
-
-#[test]
 fn a_line(rt: HostRuntime) {
     let mut text = TextBuffer::<LINE_LIMIT>::new();
     let frame = *b"\x8d\x48\x40\xd6\x20\x2c\xc3\x71\xc3\x2c\xe0\x57\x60\x98";
     push_log_line(&mut text, 18_446_744_073_709_551_615, &frame);
     assert!(rt; text.as_str() == "18446744073709551615 8D4840D6202CC371C32CE0576098\n");
+}
+
+#[test]
+fn a_line_of_a_short_frame(rt: HostRuntime) {
+    let mut text = TextBuffer::<LINE_LIMIT>::new();
+    // format 15, the last one with seven bytes
+    let frame = *b"\x7f\x48\x40\xd6\xf8\x3d\x31\0\0\0\0\0\0\0";
+    push_log_line(&mut text, 7, &frame);
+    assert!(rt; text.as_str() == "7 7F4840D6F83D31\n");
+    // format 16, the first one with fourteen bytes
+    text.clear();
+    let frame = *b"\x80\x48\x40\xd6\xf8\x3d\x31\0\0\0\0\0\0\x09";
+    push_log_line(&mut text, 7, &frame);
+    assert!(rt; text.as_str() == "7 804840D6F83D3100000000000009\n");
+}
+
+#[test]
+fn frames_of_all_formats(rt: HostRuntime) {
+    let all = Manner {
+        all_formats: true,
+        ..RECORDED
+    };
+    let mut text = TextBuffer::<1024>::new();
+    let mut feed = Feed::new(Some(Format::Beast), &all);
+    feed.take(BEAST, 0, &mut text);
+    assert!(rt; text.as_str() == "1000 8D4840D6202CC371C32CE0576098\n1000 5D4840D6F83D31\n");
+    // a reply of Mode A/C is still counted
+    text.clear();
+    feed.take(b"\x1a1\0\0\0\xb7\x1b\0\x80\x20\x40\x1a4", 0, &mut text);
+    assert!(rt; text.as_str() == "");
+    assert!(rt; counts_of(&feed.counts()) == [3, 2, 0, 1, 0, 0, 0]);
+    // in arrays, a short frame is followed by zeros
+    let mut moments = [7u64; 3];
+    let mut frames = [[9u8; 14]; 3];
+    let mut feed = Feed::new(Some(Format::Beast), &all);
+    assert!(rt; feed.take_frames(BEAST, 0, &mut moments, &mut frames) == (BEAST.len(), 2));
+    assert!(rt; moments == [1000, 1000, 7]);
+    assert!(rt; frames[1] == *b"\x5d\x48\x40\xd6\xf8\x3d\x31\0\0\0\0\0\0\0");
+}
+
+#[test]
+fn an_ignored_clock(rt: HostRuntime) {
+    let manner = Manner {
+        ignores_clock: true,
+        ..LIVE
+    };
+    let mut text = TextBuffer::<1024>::new();
+    let mut feed = Feed::new(Some(Format::Beast), &manner);
+    feed.take(BEAST, 77, &mut text);
+    feed.take(BEAST, 78, &mut text);
+    assert!(rt;
+        text.as_str() == "77 8D4840D6202CC371C32CE0576098\n78 8D4840D6202CC371C32CE0576098\n"
+    );
 }

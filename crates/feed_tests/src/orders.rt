@@ -1,48 +1,142 @@
 //! Squitters in the order of their timestamps.
-use sq_feed::{Order, Timed};
+use sq_feed::Order;
 
-// A squitter of this timestamp, with a frame of one number.
-fn squitter(moment: u64, number: u8) -> Timed {
-    Timed {
-        moment,
-        frame: [number; 14],
-    }
+// What a call stored: timestamps, frames by the number that fills them, and how many.
+#[derive(Drop)]
+struct Given {
+    moments: [u64; 4],
+    numbers: [u8; 4],
+    count: usize,
 }
 
-// The timestamp and the number of a squitter, or zeros of none.
-fn told(one: Option<Timed>) -> (u64, u8) {
-    match one {
-        Some(one) => (one.moment, one.frame[13]),
-        None => (0, 0),
+// Takes one squitter, with a frame of one number, and returns what is due.
+fn push(order: &mut Order, moment: u64, number: u8) -> Given {
+    let mut moments = [0; 4];
+    let mut frames = [[0; 14]; 4];
+    let (_, count) = order.take(&[moment], &[[number; 14]], &mut moments, &mut frames);
+    stored(moments, &frames, count)
+}
+
+// Returns what is due, or what is held.
+fn pull(order: &mut Order, is_end: bool) -> Given {
+    let mut moments = [0; 4];
+    let mut frames = [[0; 14]; 4];
+    let count = if is_end {
+        order.flush(&mut moments, &mut frames)
+    } else {
+        order.take(&[], &[], &mut moments, &mut frames).1
+    };
+    stored(moments, &frames, count)
+}
+
+// Returns what a call stored.
+fn stored(moments: [u64; 4], frames: &[[u8; 14]; 4], count: usize) -> Given {
+    let numbers = [frames[0][13], frames[1][13], frames[2][13], frames[3][13]];
+    Given {
+        moments,
+        numbers,
+        count,
     }
 }
 
 #[test]
 fn squitters_in_order(rt: HostRuntime) {
-    let mut order = Order::new();
-    assert!(rt; told(order.pop(u64::MAX)) == (0, 0));
-    assert!(rt; told(order.push(squitter(30, 1))) == (0, 0));
-    assert!(rt; told(order.push(squitter(10, 2))) == (0, 0));
-    assert!(rt; told(order.push(squitter(30, 3))) == (0, 0));
-    assert!(rt; told(order.push(squitter(20, 4))) == (0, 0));
-    assert!(rt; told(order.pop(9)) == (0, 0));
-    assert!(rt; told(order.pop(10)) == (10, 2));
-    assert!(rt; told(order.pop(u64::MAX)) == (20, 4));
-    assert!(rt; told(order.pop(u64::MAX)) == (30, 1));
-    assert!(rt; told(order.pop(u64::MAX)) == (30, 3));
-    assert!(rt; told(order.pop(u64::MAX)) == (0, 0));
+    let mut order = Order::new(25);
+    assert!(rt; push(&mut order, 30, 1).count == 0);
+    assert!(rt; push(&mut order, 10, 2).count == 0);
+    assert!(rt; push(&mut order, 30, 3).count == 0);
+    assert!(rt; push(&mut order, 20, 4).count == 0);
+    assert!(rt; order.held() == 4);
+    assert!(rt; push(&mut order, 34, 5).count == 0);
+    let one = push(&mut order, 35, 6);
+    assert!(rt; one.count == 1 && one.moments == [10, 0, 0, 0] && one.numbers == [2, 0, 0, 0]);
+    let three = push(&mut order, 55, 7);
+    assert!(rt;
+        three.count == 3 && three.moments == [20, 30, 30, 0] && three.numbers == [4, 1, 3, 0]
+    );
+    // one that is late by more is given at once
+    let late = push(&mut order, 30, 8);
+    assert!(rt; late.count == 1 && late.moments == [30, 0, 0, 0] && late.numbers == [8, 0, 0, 0]);
+    assert!(rt; pull(&mut order, false).count == 0);
+    let last = pull(&mut order, true);
+    assert!(rt; last.count == 3 && last.moments == [34, 35, 55, 0] && last.numbers == [5, 6, 7, 0]);
+    assert!(rt; order.held() == 0);
+    assert!(rt; pull(&mut order, true).count == 0);
+}
+
+#[test]
+fn without_a_delay_each_is_given(rt: HostRuntime) {
+    let mut order = Order::new(0);
+    assert!(rt; push(&mut order, u64::MAX, 1).moments == [u64::MAX, 0, 0, 0]);
+    assert!(rt; push(&mut order, 0, 2).numbers == [2, 0, 0, 0]);
+    assert!(rt; order.held() == 0);
+}
+
+#[test]
+fn the_longest_delay(rt: HostRuntime) {
+    let mut order = Order::new(u64::MAX);
+    assert!(rt; push(&mut order, 1, 1).count == 0);
+    assert!(rt; push(&mut order, 0, 2).count == 0);
+    let first = push(&mut order, u64::MAX, 3);
+    assert!(rt; first.count == 1 && first.moments == [0, 0, 0, 0] && first.numbers == [2, 0, 0, 0]);
+    assert!(rt; order.held() == 2);
 }
 
 #[test]
 fn a_full_order_gives_the_first(rt: HostRuntime) {
-    let mut order = Order::new();
-    for number in 0..256u64 {
-        let given = order.push(squitter(1000 - number, 7));
-        assert!(rt; told(given) == (0, 0));
+    let mut order = Order::new(u64::MAX);
+    for number in 0..4095u64 {
+        let none = push(&mut order, 10_000 - number, 7);
+        assert!(rt; none.count == 0);
     }
+    assert!(rt; order.held() == 4095);
     // the earliest of all is the new one, and then one that was held
-    assert!(rt; told(order.push(squitter(700, 9))) == (700, 9));
-    assert!(rt; told(order.push(squitter(2000, 9))) == (745, 7));
-    assert!(rt; told(order.push(squitter(746, 9))) == (746, 7));
-    assert!(rt; told(order.pop(746)) == (746, 9));
+    let new = push(&mut order, 5000, 9);
+    assert!(rt; new.count == 1 && new.moments == [5000, 0, 0, 0] && new.numbers == [9, 0, 0, 0]);
+    let old = push(&mut order, 20_000, 9);
+    assert!(rt; old.count == 1 && old.moments == [5906, 0, 0, 0] && old.numbers == [7, 0, 0, 0]);
+    assert!(rt; order.held() == 4095);
+}
+
+#[test]
+fn arrays_without_room(rt: HostRuntime) {
+    let mut order = Order::new(10);
+    let mut moments = [0; 2];
+    let mut frames = [[0; 14]; 2];
+    let came = [[1; 14], [2; 14], [3; 14], [4; 14]];
+    assert!(rt; order.take(&[1, 2], &came, &mut [], &mut frames) == (0, 0));
+    assert!(rt; order.take(&[1, 2], &came, &mut moments, &mut []) == (0, 0));
+    assert!(rt; order.held() == 0);
+    // as many as there are timestamps and frames of
+    assert!(rt; order.take(&[1, 2, 3], &came[..1], &mut moments, &mut frames) == (1, 0));
+    assert!(rt; order.take(&[2, 3, 50], &came[1..], &mut moments, &mut frames) == (3, 2));
+    assert!(rt; moments == [1, 2] && frames == [[1; 14], [2; 14]]);
+    // due squitters come first
+    assert!(rt; order.take(&[60], &came, &mut moments[..1], &mut frames) == (0, 1));
+    assert!(rt; moments == [3, 2] && frames == [[3; 14], [2; 14]]);
+    assert!(rt; order.take(&[60], &came, &mut moments[..1], &mut frames) == (1, 1));
+    assert!(rt; moments == [50, 2] && order.held() == 1);
+    assert!(rt; order.flush(&mut moments, &mut []) == 0);
+    assert!(rt; order.flush(&mut moments, &mut frames) == 1);
+    assert!(rt; moments == [60, 2] && frames == [[1; 14], [2; 14]]);
+}
+
+#[test]
+fn many_squitters(rt: HostRuntime) {
+    let mut order = Order::new(1000);
+    let mut total = 0usize;
+    let mut last = 0u64;
+    for number in 0..20_000u64 {
+        // each two change places
+        let given = push(&mut order, number ^ 1, 7);
+        total = total.wrapping_add(given.count);
+        for moment in given.moments {
+            if moment > 0 {
+                assert!(rt; moment - 1 == last);
+                last = moment;
+            }
+        }
+    }
+    assert!(rt; total == 19_000 && last == 18_999);
+    assert!(rt; order.held() == 1000);
 }

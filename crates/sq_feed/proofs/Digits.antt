@@ -1,11 +1,13 @@
 -- The digits of frames.
-use Rattle.std.proofs.Common.{◌++◌, ◌+◌, ◌/◌, ◌%◌, ◌<◌, ℕ, Bool, true, false, List, [], ◌∷◌, arith}
+use Rattle.std.proofs.Common.{◌≡◌, ◌≤◌, ◌∙◌, ◌++◌, ◌+◌, ◌/◌, ◌%◌, ◌<◌, ℕ, Bool, true, false, List, [], ◌∷◌, ap, arith, length, take}
+use Rattle.std.proofs.lemmas.List.{take_all}
 use Rattle.std.specs.Prelude.{nat_lt, if◌then◌else◌}
 use Rattle.std.specs.Fmt.{digit_glyph}
 use Rattle.std.specs.Str.{IsAscii}
 use Rattle.std.proofs.lemmas.Str.{IsAscii-append}
 use Rattle.std.proofs.lemmas.Str.Ascii.{IsAscii-cons, IsAscii-nil}
-use Rattle.sq_feed.specs.Lines.{frame_digits, line_tail}
+use Rattle.sq_digits.specs.Characters.{space}
+use Rattle.sq_feed.specs.Lines.{frame_digits, tail_of}
 
 glyph_small : (d : ℕ) → d < 16 → digit_glyph true d < 128
 glyph_small d small = by_case (nat_lt d 10)
@@ -23,7 +25,13 @@ ascii_digits (b ∷ frame) =
     (IsAscii-cons (digit_glyph true (b % 16)) [] (glyph_small (b % 16) (omega arith)) IsAscii-nil))
     (ascii_digits frame)
 
-pub ascii_tail : (frame : List ℕ) → IsAscii (line_tail frame)
+pub ascii_tail : (frame : List ℕ) → IsAscii (tail_of frame)
 ascii_tail frame =
     IsAscii-cons 32 (frame_digits frame ++ 10 ∷ []) (omega arith)
     (IsAscii-append (frame_digits frame) (10 ∷ []) (ascii_digits frame) (IsAscii-cons 10 [] (omega arith) IsAscii-nil))
+
+-- the tail that was made, of the bytes that the loop went over
+pub tail_is : (frame bytes made all : List ℕ) (n : ℕ) → length frame ≤ n → bytes ≡ all → all ≡ made ++ 10 ∷ []
+    → made ≡ space ∷ frame_digits (take n frame) → bytes ≡ tail_of frame
+tail_is frame bytes made all n whole same pushed is =
+    same ∙ pushed ∙ ap (λ l. l ++ 10 ∷ []) (is ∙ ap (λ l. space ∷ frame_digits l) (take_all n frame whole))

@@ -1,16 +1,15 @@
 -- Feeds that go on.
-use Rattle.std.proofs.Common.{◌≡◌, ◌+◌, ◌-◌, ◌≤◌, ◌++◌, ◌∙◌, ℕ, List, [], ◌∷◌, length, take, drop, map, refl, sym, ap, ap₂, subst}
+use Rattle.std.proofs.Common.{◌≡◌, ◌⊎◌, ◌*◌, ◌+◌, ◌-◌, ◌<◌, ◌≤◌, ◌++◌, ◌∙◌, ℕ, List, [], ◌∷◌, length, take, drop, get_or, map, refl, sym, inl, inr, ap, ap₂, subst}
 use Rattle.std.proofs.Common.{append_assoc, append-nil, arith, take-add}
 use Rattle.std.specs.List.{flat_map}
-use Rattle.std.proofs.lemmas.List.{drop-drop, map-append}
-use Rattle.sq_feed.specs.declared.machine.Format.{Format}
-use Rattle.sq_feed.specs.declared.machine.Format.TheVariants.{Beast, Avr, Csv, Log}
+use Rattle.std.proofs.lemmas.List.{drop-drop, map-append, take_more}
 use Rattle.sq_feed.specs.declared.message.Found.{Found}
 use Rattle.sq_feed.specs.Ears.{Hears, Told, ear_after, ear_after_all, told_of, told_of_all}
-use Rattle.sq_feed.specs.Feeds.{HasGiven, AreFed, Fed, Feeding, FeedsGoOn, FeedsTheWhole, HasWritten, last_fed, lines_of, nothing_fed}
+use Rattle.sq_feed.specs.Feeds.{HasGiven, AreFed, Fed, Feeding, FeedsBoth, FeedsGoOn, FeedsTheWhole, HasWritten, last_fed, lines_of, nothing_fed}
 use Rattle.sq_feed.specs.Follows.{Follows}
 use Rattle.sq_feed.specs.Lines.{log_line}
-use Rattle.sq_feed.specs.Machines.{items_of, machine_of, to_come}
+use Rattle.sq_feed.proofs.Sourced.{new_is_new}
+use Rattle.sq_feed.specs.Readers.{awaited, items_as}
 use Rattle.sq_feed.proofs.Following.{follows_more, follows_nothing}
 
 -- ---- several items
@@ -40,19 +39,19 @@ lines_of-append (x ∷ xs) ys =
 pub written_nothing : (arrival : ℕ) (old : Feeding) (text : List ℕ) → HasWritten arrival old [] text text old
 written_nothing arrival old text = record {
   found = [];
-  fed = record { same_format = refl; follows = follows_nothing (to_come old.machine); heard = refl };
+  fed = record { same = refl; follows = follows_nothing (awaited old.reader); heard = refl };
   text = sym (append-nil text);
 }
 
 -- an item was found, and these squitters are in it
 pub written_one : (arrival : ℕ) (old new : Feeding) (bytes before after : List ℕ) (found : Found) (told : List Told)
-    → new.machine.format ≡ old.machine.format → Follows (to_come old.machine) bytes (found ∷ []) (to_come new.machine)
+    → new.reader.asked ≡ old.reader.asked → Follows (awaited old.reader) bytes (found ∷ []) (awaited new.reader)
     → new.ear ≡ ear_after arrival old.ear found → told ≡ told_of arrival old.ear found
     → after ≡ before ++ lines_of told
     → HasWritten arrival old bytes before after new
-written_one arrival old new bytes before after found told format follows heard is text = record {
+written_one arrival old new bytes before after found told same follows heard is text = record {
   found = found ∷ [];
-  fed = record { same_format = format; follows = follows; heard = heard };
+  fed = record { same = same; follows = follows; heard = heard };
   text = text ∙ ap (λ l. before ++ lines_of l) (is ∙ sym (append-nil (told_of arrival old.ear found)));
 }
 
@@ -60,8 +59,8 @@ pub written_more : FeedsGoOn
 written_more arrival old mid new a b t u v x y = record {
   found = x.found ++ y.found;
   fed = record {
-    same_format = y.fed.same_format ∙ x.fed.same_format;
-    follows = follows_more (to_come old.machine) (to_come mid.machine) (to_come new.machine) a b x.found y.found
+    same = y.fed.same ∙ x.fed.same;
+    follows = follows_more (awaited old.reader) (awaited mid.reader) (awaited new.reader) a b x.found y.found
         x.fed.follows y.fed.follows;
     heard = y.fed.heard ∙ ap (λ k. ear_after_all arrival k y.found) x.fed.heard
         ∙ sym (ear_after_all-append arrival old.ear x.found y.found);
@@ -82,13 +81,60 @@ written_piece arrival old mid new piece t u v at count within x y =
     subst (λ bs. HasWritten arrival old bs t v new) (sym (take-add at count piece))
     (written_more arrival old mid new (take at piece) (take count (drop at piece)) t u v x y)
 
+-- the last items of a source, one after the other
+pub ear_more : (arrival : ℕ) (ear : Hears) (items : List Found) (i : ℕ) (any : Found) → i < length items
+    → ear_after_all arrival ear (take (i + 1) items)
+    ≡ ear_after arrival (ear_after_all arrival ear (take i items)) (get_or items i any)
+ear_more arrival ear items i any within =
+    ap (ear_after_all arrival ear) (take_more items i any within)
+    ∙ ear_after_all-append arrival ear (take i items) (get_or items i any ∷ [])
+
+pub text_more : (arrival : ℕ) (ear mid : Hears) (items : List Found) (i : ℕ) (any : Found) (text before after : List ℕ)
+    → i < length items → mid ≡ ear_after_all arrival ear (take i items)
+    → before ≡ text ++ lines_of (told_of_all arrival ear (take i items))
+    → after ≡ before ++ lines_of (told_of arrival mid (get_or items i any))
+    → after ≡ text ++ lines_of (told_of_all arrival ear (take (i + 1) items))
+text_more arrival ear mid items i any text before after within is was next =
+    let item = get_or items i any in
+    let told = told_of_all arrival ear (take i items) in
+    next ∙ ap₂ (λ l (k : Hears). l ++ lines_of (told_of arrival k item)) was is
+    ∙ append_assoc text (lines_of told) (lines_of (told_of arrival (ear_after_all arrival ear (take i items)) item))
+    ∙ ap (λ l. text ++ l) (sym (lines_of-append told (told_of arrival (ear_after_all arrival ear (take i items)) item))
+    ∙ ap lines_of (ap (λ l. told ++ l)
+    (sym (append-nil (told_of arrival (ear_after_all arrival ear (take i items)) item)))
+    ∙ sym (told_of_all-append arrival ear (take i items) (item ∷ []))
+    ∙ ap (told_of_all arrival ear) (sym (take_more items i any within))))
+
+-- ---- calls that go on
+
+-- A loop has begun, and its calls went on; or it has not, and nothing has changed.
+abbrev pub HasMoved : (before after room left at : ℕ) → Type 0
+HasMoved before after room left at = (after < before + 7 * at) ⊎ ((at ≡ 0) × (after ≡ before) × (left ≡ room))
+
+pub moved_more : (before mid after room left at count : ℕ) → HasMoved before mid room left at → after < mid + 7 * count
+    → after < before + 7 * (at + count)
+moved_more before mid after room left at count (inl moved) more = omega (arith, moved, more)
+moved_more before mid after room left at count (inr (none, same, free)) more = omega (arith, none, same, more)
+
+-- A loop that has ended: it has begun, if there was anything to do and there was room.
+pub has_begun : (before after room left at bytes : ℕ) (Room : ℕ → Type 0) → HasMoved before after room left at
+    → (0 < bytes) ⊎ (0 < before) → Room room
+    → (Room left → (bytes - at ≡ 0) × (after ≡ 0)) → at ≤ bytes → after < before + 7 * at
+has_begun before after room left at bytes Room (inl moved) some free done fits = moved
+has_begun before after room left at bytes Room (inr (none, same, is)) (inl some) free done fits =
+    let all = done (subst Room (sym is) free) in
+    absurd (omega (arith, some, none, all.0))
+has_begun before after room left at bytes Room (inr (none, same, is)) (inr some) free done fits =
+    let all = done (subst Room (sym is) free) in
+    absurd (omega (arith, some, same, all.1))
+
 -- ---- feeds that give squitters
 
 pub given_nothing : (arrival : ℕ) (old : Feeding) (moments : List ℕ) (frames : List (List ℕ))
     → HasGiven arrival old [] moments frames moments frames old
 given_nothing arrival old moments frames = record {
   found = [];
-  fed = record { same_format = refl; follows = follows_nothing (to_come old.machine); heard = refl };
+  fed = record { same = refl; follows = follows_nothing (awaited old.reader); heard = refl };
   moments_are = sym (append-nil moments);
   frames_are = sym (append-nil frames);
 }
@@ -104,8 +150,8 @@ given_more arrival old mid new a b m n o f g h x y =
     ∙ ap (λ (k : Hears). one ++ told_of_all arrival k y.found) (sym x.fed.heard) in record {
       found = x.found ++ y.found;
       fed = record {
-        same_format = y.fed.same_format ∙ x.fed.same_format;
-        follows = follows_more (to_come old.machine) (to_come mid.machine) (to_come new.machine) a b x.found y.found
+        same = y.fed.same ∙ x.fed.same;
+        follows = follows_more (awaited old.reader) (awaited mid.reader) (awaited new.reader) a b x.found y.found
             x.fed.follows y.fed.follows;
         heard = y.fed.heard ∙ ap (λ k. ear_after_all arrival k y.found) x.fed.heard
             ∙ sym (ear_after_all-append arrival old.ear x.found y.found);
@@ -129,14 +175,14 @@ given_piece arrival old mid new piece m n o f g h at count x y =
 
 -- an item was found, and these squitters are in it
 pub given_one : (arrival : ℕ) (old new : Feeding) (bytes m n : List ℕ) (f g : List (List ℕ)) (found : Found)
-    (told : List Told) → new.machine.format ≡ old.machine.format
-    → Follows (to_come old.machine) bytes (found ∷ []) (to_come new.machine)
+    (told : List Told) → new.reader.asked ≡ old.reader.asked
+    → Follows (awaited old.reader) bytes (found ∷ []) (awaited new.reader)
     → new.ear ≡ ear_after arrival old.ear found
     → told ≡ told_of arrival old.ear found → n ≡ m ++ map (λ (t : Told). t.moment) told
     → g ≡ f ++ map (λ (t : Told). t.frame) told → HasGiven arrival old bytes m f n g new
-given_one arrival old new bytes m n f g found told format follows heard is moments frames = record {
+given_one arrival old new bytes m n f g found told same follows heard is moments frames = record {
   found = found ∷ [];
-  fed = record { same_format = format; follows = follows; heard = heard };
+  fed = record { same = same; follows = follows; heard = heard };
   moments_are = moments
       ∙ ap (λ l. m ++ map (λ (t : Told). t.moment) l) (is ∙ sym (append-nil (told_of arrival old.ear found)));
   frames_are = frames
@@ -154,24 +200,36 @@ rest_further xs ys near far fits same =
 -- ---- laws
 
 all_follow : (calls : List Fed) (before : Feeding) → AreFed before calls
-    → Follows (to_come before.machine) (flat_map (λ (c : Fed). c.bytes) calls) (flat_map (λ (c : Fed). c.found) calls)
-    (to_come (last_fed before calls).machine)
-all_follow [] before fed = follows_nothing (to_come before.machine)
+    → Follows (awaited before.reader) (flat_map (λ (c : Fed). c.bytes) calls) (flat_map (λ (c : Fed). c.found) calls)
+    (awaited (last_fed before calls).reader)
+all_follow [] before fed = follows_nothing (awaited before.reader)
 all_follow (one ∷ more) before (fed, others) =
-    follows_more (to_come before.machine) (to_come one.after.machine) (to_come
-    (last_fed one.after more).machine) one.bytes
+    follows_more (awaited before.reader) (awaited one.after.reader) (awaited
+    (last_fed one.after more).reader) one.bytes
     (flat_map (λ (c : Fed). c.bytes) more) one.found (flat_map (λ (c : Fed). c.found) more) fed.follows
     (all_follow more one.after others)
 
-start_is : (format : Format) (bytes : List ℕ) → to_come (machine_of format) bytes ≡ items_of format bytes
-start_is Beast bytes = refl
-start_is Avr bytes = refl
-start_is Csv bytes = refl
-start_is Log bytes = refl
+same_asked : (calls : List Fed) (before : Feeding) → AreFed before calls
+    → (last_fed before calls).reader.asked ≡ before.reader.asked
+same_asked [] before fed = refl
+same_asked (one ∷ more) before (fed, others) = same_asked more one.after others ∙ fed.same
 
 pub feeds_the_whole : FeedsTheWhole
 unfolding Follows
-feeds_the_whole format leap is_live calls fed =
-    let start = nothing_fed format leap is_live in
+feeds_the_whole asked manner calls fed =
+    let start = nothing_fed asked manner in
     let bytes = flat_map (λ (c : Fed). c.bytes) calls in
-    sym (all_follow calls start fed []) ∙ ap (to_come start.machine) (append-nil bytes) ∙ start_is format bytes
+    sym (all_follow calls start fed []) ∙ ap (awaited start.reader) (append-nil bytes) ∙ (new_is_new asked).awaits bytes
+
+pub feeds_both : FeedsBoth
+unfolding Follows
+feeds_both asked manner calls more closed fed close others =
+    let start = nothing_fed asked manner in
+    let last = last_fed start calls in
+    let bytes = flat_map (λ (c : Fed). c.bytes) more in
+    let items = flat_map (λ (c : Fed). c.found) calls in
+    ap (λ l. items ++ l) (sym (all_follow more closed others []) ∙ ap (awaited closed.reader) (append-nil bytes)
+    ∙ close.closed.awaits bytes
+    ∙ ap (λ a. awaited last.reader [] ++ items_as a bytes) (same_asked calls start fed ∙ (new_is_new asked).same))
+    ∙ sym (append_assoc items (awaited last.reader []) (items_as asked bytes))
+    ∙ ap (λ l. l ++ items_as asked bytes) (feeds_the_whole asked manner calls fed)

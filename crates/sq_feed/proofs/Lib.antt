@@ -17,5 +17,7 @@ pub mod Positions
 pub mod DigitLanes
 pub mod PlainRows
 pub mod Tallies
-pub mod Sniffs
+pub mod Finds
+pub mod Sourced
 pub mod Ordering
+pub mod Nearness

@@ -1,12 +1,12 @@
 -- Counts of items, one after the other.
 use Rattle.std.proofs.Common.{◌≡◌, ◌+◌, ◌-◌, ◌^◌, ◌<◌, ℕ, Bool, true, false, not, List, [], ◌∷◌, length, ap, sym, refl, subst, arith}
 use Rattle.std.proofs.Common.{length-append}
-use Rattle.std.specs.Prelude.{◌==◌, nat_lt, Option, Some, None, if◌then◌else◌}
+use Rattle.std.specs.Prelude.{◌==◌, ◌&&◌, nat_lt, Option, Some, None, if◌then◌else◌}
 use Rattle.std.proofs.lemmas.Bool.{ne_eqb}
 use Rattle.sq_feed.specs.declared.counts.Fate.{Fate}
 use Rattle.sq_feed.specs.declared.counts.Fate.TheVariants.{Written, OtherFormat, ModeAc, Multilaterated, Damaged, Aside}
 use Rattle.sq_feed.specs.declared.message.Found.{Found}
-use Rattle.sq_feed.specs.declared.message.Found.TheVariants.{Whole, Damage}
+use Rattle.sq_feed.specs.declared.message.Found.TheVariants.{Whole, Damage, Foreign}
 use Rattle.sq_feed.specs.declared.message.RawFrame.{RawFrame}
 use Rattle.sq_feed.specs.declared.message.RawFrame.TheVariants.{ModeAc as ModeAcFrame, Short, Long}
 use Rattle.sq_feed.specs.declared.message.Time.{Time}
@@ -57,38 +57,34 @@ told_counts : (tally : Tally) (test : Bool) (told : List Told) → length told �
 told_counts tally true told one few = subst (Counts tally (counted tally Written)) (sym one) (written_counts tally few)
 told_counts tally false told one few = other_counts tally Aside tt few
 
--- a long frame, by the three tests of its fate
-long_counts : (a b c : Bool) (format arrival : ℕ) (ear : Hears) (time : Time) (frame : List ℕ)
+-- a frame, by the three tests of its fate
+tests_count : (a b c : Bool) (format arrival : ℕ) (ear : Hears) (time : Time) (frame : RawFrame)
     → ear.counts.found < 2 ^ 64 - 1
     → let fate : Option Fate = if a then Some Damaged
     else (if b then Some Multilaterated else (if c then Some (OtherFormat format) else None)) in
-    Counts ear.counts (ear_by fate arrival ear time).counts (length (told_by fate arrival ear time (Long frame)))
-long_counts true b c format arrival ear time frame few = other_counts ear.counts Damaged tt few
-long_counts false true c format arrival ear time frame few = other_counts ear.counts Multilaterated tt few
-long_counts false false true format arrival ear time frame few = other_counts ear.counts (OtherFormat format) tt few
-long_counts false false false format arrival ear time frame few =
+    Counts ear.counts (ear_by fate arrival ear time).counts (length (told_by fate arrival ear time frame))
+tests_count true b c format arrival ear time frame few = other_counts ear.counts Damaged tt few
+tests_count false true c format arrival ear time frame few = other_counts ear.counts Multilaterated tt few
+tests_count false false true format arrival ear time frame few = other_counts ear.counts (OtherFormat format) tt few
+tests_count false false false format arrival ear time frame few =
     told_counts ear.counts (is_told_at ear.times time arrival) _ refl few
 
-short_counts : (a b : Bool) (format : ℕ) (tally : Tally) → tally.found < 2 ^ 64 - 1
-    → Counts tally (counted tally (if a then Damaged else (if b then Multilaterated else OtherFormat format))) 0
-short_counts true b format tally few = other_counts tally Damaged tt few
-short_counts false true format tally few = other_counts tally Multilaterated tt few
-short_counts false false format tally few = other_counts tally (OtherFormat format) tt few
-
 frame_counts : (frame : RawFrame) (arrival : ℕ) (ear : Hears) (time : Time) → ear.counts.found < 2 ^ 64 - 1
-    → Counts ear.counts (ear_by (fate_of time frame) arrival ear time).counts
-    (length (told_by (fate_of time frame) arrival ear time frame))
+    → let fate = fate_of ear.all_formats time frame in
+    Counts ear.counts (ear_by fate arrival ear time).counts (length (told_by fate arrival ear time frame))
 frame_counts (ModeAcFrame frame) arrival ear time few = other_counts ear.counts ModeAc tt few
 frame_counts (Short frame) arrival ear time few =
-    short_counts (not (nat_lt (format_of frame) 16)) (is_multilaterated time) (format_of frame) ear.counts few
+    tests_count (not (nat_lt (format_of frame) 16)) (is_multilaterated time) (not ear.all_formats) (format_of frame)
+    arrival ear time (Short frame) few
 frame_counts (Long frame) arrival ear time few =
-    long_counts (nat_lt (format_of frame) 16) (is_multilaterated time) (not (format_of frame == 17)) (format_of frame)
-    arrival ear time frame few
+    tests_count (nat_lt (format_of frame) 16) (is_multilaterated time)
+    (not (format_of frame == 17) && not ear.all_formats) (format_of frame) arrival ear time (Long frame) few
 
 item_counts : (arrival : ℕ) (ear : Hears) (item : Found) → ear.counts.found < 2 ^ 64 - 1
     → Counts ear.counts (ear_after arrival ear item).counts (length (told_of arrival ear item))
 item_counts arrival ear (Whole message) few = frame_counts message.frame arrival ear message.time few
 item_counts arrival ear Damage few = other_counts ear.counts Damaged tt few
+item_counts arrival ear (Foreign stranger) few = other_counts ear.counts Damaged tt few
 
 pub counts_each : CountsEach
 counts_each arrival ear [] few = (omega arith, omega arith)

@@ -10,22 +10,32 @@ turn = 2 ^ 48
 abbrev pub rate : ℕ
 rate = 12000
 
--- the ticks that a value may be late without a jump: a second
+-- the ticks that a value may always be late without a jump: a second
 abbrev pub jitter : ℕ
 jitter = 1000 * rate
 
 -- The state of a clock: the latest 48-bit value; the ticks counted so far; the longest gap in ticks that is no jump;
--- whether any value was heard; the latest value that was set aside; and how many in turn agree with it.
+-- by how many ticks a value may be late; whether any value was heard; the latest value that was set aside; and how many
+-- in turn agree with it.
 pub record Counted : Type 0 where
   pub last : ℕ
   pub elapsed : ℕ
   pub leap : ℕ
+  pub late : ℕ
   pub is_heard : Bool
   pub aside : ℕ
   pub votes : ℕ
 
-abbrev pub unheard : ℕ → Counted
-unheard leap = record { last = 0; elapsed = 0; leap = min leap (2 ^ 47 - 1); is_heard = false; aside = 0; votes = 0 }
+abbrev pub unheard : ℕ → ℕ → Counted
+unheard leap late = record {
+  last = 0;
+  elapsed = 0;
+  leap = min leap (2 ^ 47 - 1);
+  late = max (min late (2 ^ 47 - 1)) jitter;
+  is_heard = false;
+  aside = 0;
+  votes = 0;
+}
 
 -- the state before the first value of another connection
 abbrev pub restarted : Counted → Counted
@@ -63,9 +73,9 @@ abbrev pub is_awaited : ℕ → ℕ → ℕ → ℕ → Bool
 is_awaited leap last shown waited =
     nat_le (ahead_of last shown) (waited * rate + leap) && nat_le (waited * rate) (ahead_of last shown + leap)
 
--- the value is late by at most the jitter
-abbrev pub is_late : ℕ → ℕ → Bool
-is_late last shown = nat_le turn (ahead_of last shown + jitter)
+-- the value is late by at most so many ticks
+abbrev pub is_late : ℕ → ℕ → ℕ → Bool
+is_late late last shown = nat_le turn (ahead_of last shown + late)
 
 -- the value goes on with the count
 abbrev pub goes_on : Counted → ℕ → ℕ → Bool
@@ -73,12 +83,13 @@ goes_on before shown waited = is_soon before.leap before.last shown || is_awaite
 
 -- the value follows the one that was set aside
 abbrev pub agrees : Counted → ℕ → Bool
-agrees before shown = not (before.votes == 0) && (is_soon before.leap before.aside shown || is_late before.aside shown)
+agrees before shown =
+    not (before.votes == 0) && (is_soon before.leap before.aside shown || is_late before.late before.aside shown)
 
 -- the value starts the count, or goes on with it, or is the third in turn that jumps to one place
 abbrev pub is_told : Counted → ℕ → ℕ → Bool
 is_told before shown waited =
-    not before.is_heard || goes_on before shown waited || is_late before.last shown
+    not before.is_heard || goes_on before shown waited || is_late before.late before.last shown
     || agrees before shown && (before.votes == 2)
 
 -- Where a count starts anew: at the moment that is given, and not before the ticks counted so far. If none is given,
@@ -91,16 +102,15 @@ anew_at elapsed leap shown None = if elapsed == 0 then shown else min (elapsed +
 abbrev pub begun_anew : Counted → ℕ → Option ℕ → ℕ
 begun_anew before shown anew = anew_at before.elapsed before.leap shown anew
 
--- The state after a 48-bit value. Where the value goes on with the count, the gap is added. A value that is late by at
--- most the jitter changes nothing. Any other value is a jump, and is set aside. The third in turn that agree starts
--- the count anew.
+-- The state after a 48-bit value. Where the value goes on with the count, the gap is added. A late value changes
+-- nothing. Any other value is a jump, and is set aside. The third in turn that agree starts the count anew.
 abbrev pub heard : Counted → ℕ → ℕ → Option ℕ → Counted
 heard before shown waited anew =
     if not before.is_heard
     then record before { last = shown; elapsed = begun_anew before shown anew; is_heard = true; aside = 0; votes = 0 }
     else (if goes_on before shown waited
     then record before { last = shown; elapsed = min (before.elapsed + ahead_of before.last shown) most; votes = 0 }
-    else (if is_late before.last shown then record before { votes = 0 }
+    else (if is_late before.late before.last shown then record before { votes = 0 }
     else (if not (agrees before shown) then record before { aside = shown; votes = 1 }
     else (if before.votes == 2
     then record before { last = shown; elapsed = begun_anew before shown anew; votes = 0 }
@@ -112,7 +122,7 @@ moment_of counted = counted.elapsed / rate
 -- The timestamp of an accepted value. A late value has an earlier timestamp than the count.
 abbrev pub own_moment : Counted → ℕ → ℕ → Option ℕ → ℕ
 own_moment before shown waited anew =
-    if before.is_heard && not (goes_on before shown waited) && is_late before.last shown
+    if before.is_heard && not (goes_on before shown waited) && is_late before.late before.last shown
     then (before.elapsed - (turn - ahead_of before.last shown)) / rate
     else moment_of (heard before shown waited anew)
 

@@ -1,20 +1,21 @@
 -- A source's bytes as squitters with their timestamps.
-use Rattle.std.specs.Prelude.{◌≡◌, ◌++◌, ⊤, ℕ, Bool, List, [], ◌∷◌, map}
+use Rattle.std.specs.Prelude.{◌≡◌, ◌++◌, ⊤, ℕ, Bool, List, [], ◌∷◌, map, Option}
 use Rattle.std.specs.List.{flat_map}
 use Rattle.sq_feed.specs.declared.machine.Format.{Format}
+use Rattle.sq_feed.specs.declared.manner.Manner.{Manner}
 use Rattle.sq_feed.specs.declared.message.Found.{Found}
 use Rattle.sq_feed.specs.Ears.{Hears, Told, ear_after_all, lost, told_of_all, untouched}
 use Rattle.sq_feed.specs.Follows.{Follows}
 use Rattle.sq_feed.specs.Lines.{log_line}
-use Rattle.sq_feed.specs.Machines.{Begins, dropped, items_of, machine_of, to_come}
+use Rattle.sq_feed.specs.Readers.{HasClosed, IsNew, Reads, awaited, format_at, items_as, lost_items, new_reads}
 
--- the state: the unfinished item, the times and the counts
+-- the state: the reader of the source, the times and the counts
 pub record Feeding : Type 0 where
-  pub machine : Begins
+  pub reader : Reads
   pub ear : Hears
 
-abbrev pub nothing_fed : Format → ℕ → Bool → Feeding
-nothing_fed format leap is_live = record { machine = machine_of format; ear = untouched leap is_live }
+abbrev pub nothing_fed : Option Format → Manner → Feeding
+nothing_fed asked manner = record { reader = new_reads asked; ear = untouched manner }
 
 -- the lines of squitters, in order
 abbrev pub lines_of : List Told → List ℕ
@@ -22,8 +23,8 @@ lines_of told = flat_map (λ t. log_line t.moment t.frame) told
 
 -- With these bytes, which arrived at this moment, a feed went on, and these items were found.
 pub record HasFed (arrival : ℕ) (old : Feeding) (bytes : List ℕ) (found : List Found) (new : Feeding) : Type 0 where
-  pub same_format : new.machine.format ≡ old.machine.format
-  pub follows : Follows (to_come old.machine) bytes found (to_come new.machine)
+  pub same : new.reader.asked ≡ old.reader.asked
+  pub follows : Follows (awaited old.reader) bytes found (awaited new.reader)
   pub heard : new.ear ≡ ear_after_all arrival old.ear found
 
 -- With these bytes a feed went on, and appended the lines of the items found.
@@ -41,19 +42,28 @@ pub record HasGiven (arrival : ℕ) (old : Feeding) (bytes : List ℕ) (moments 
   pub moments_are : all_moments ≡ moments ++ map (λ (t : Told). t.moment) (told_of_all arrival old.ear found)
   pub frames_are : all_frames ≡ frames ++ map (λ (t : Told). t.frame) (told_of_all arrival old.ear found)
 
--- the squitter of the last item of a source, if it has one
+-- the squitters of the last items of a source
 abbrev pub told_at_end : ℕ → Feeding → List Told
-told_at_end arrival old = told_of_all arrival old.ear (to_come old.machine [])
+told_at_end arrival old = told_of_all arrival old.ear (awaited old.reader [])
 
--- A source ended: its last item was heard, and a source of the same format may follow.
+-- A source ended: its last items were heard, and another source may follow.
 pub record HasEnded (arrival : ℕ) (old new : Feeding) : Type 0 where
-  pub anew : new.machine ≡ machine_of old.machine.format
-  pub heard : new.ear ≡ ear_after_all arrival old.ear (to_come old.machine [])
+  pub anew : IsNew old.reader.asked new.reader
+  pub heard : new.ear ≡ ear_after_all arrival old.ear (awaited old.reader [])
+
+-- A source ended: its last items wait to be heard, and another source may follow.
+pub record HasClosedFeed (old new : Feeding) : Type 0 where
+  pub closed : HasClosed old.reader new.reader
+  pub same_ear : new.ear ≡ old.ear
 
 -- A connection was lost: an unfinished item is damage, and the clock starts anew with the next connection.
 pub record HasLost (old new : Feeding) : Type 0 where
-  pub anew : new.machine ≡ machine_of old.machine.format
-  pub heard : new.ear ≡ lost (ear_after_all 0 old.ear (dropped old.machine))
+  pub anew : IsNew old.reader.asked new.reader
+  pub heard : new.ear ≡ lost (ear_after_all 0 old.ear (lost_items old.reader))
+
+-- the format of the source, once it is known
+abbrev pub format_of_source : Feeding → Option Format
+format_of_source feed = format_at feed.reader.stage feed.reader
 
 -- ---- laws
 
@@ -78,9 +88,24 @@ abbrev pub last_fed : Feeding → List Fed → Feeding
 last_fed before [] = before
 last_fed before (one ∷ more) = last_fed one.after more
 
+-- the bytes that calls took, and the items in them
+abbrev pub bytes_in : List Fed → List ℕ
+bytes_in calls = flat_map (λ (c : Fed). c.bytes) calls
+
+abbrev pub items_in : List Fed → List Found
+items_in calls = flat_map (λ (c : Fed). c.found) calls
+
 -- The items of all calls, and then those at the end of the source, are the items of the whole source.
 abbrev pub FeedsTheWhole : Type 0
-FeedsTheWhole = (format : Format) (leap : ℕ) (is_live : Bool) (calls : List Fed)
-    → AreFed (nothing_fed format leap is_live) calls
-    → flat_map (λ (c : Fed). c.found) calls ++ to_come (last_fed (nothing_fed format leap is_live) calls).machine []
-    ≡ items_of format (flat_map (λ (c : Fed). c.bytes) calls)
+FeedsTheWhole = (asked : Option Format) (manner : Manner) (calls : List Fed)
+    → AreFed (nothing_fed asked manner) calls
+    → items_in calls ++ awaited (last_fed (nothing_fed asked manner) calls).reader []
+    ≡ items_as asked (bytes_in calls)
+
+-- So it is where a source is closed between the calls: then the items are those of both sources.
+abbrev pub FeedsBoth : Type 0
+FeedsBoth = (asked : Option Format) (manner : Manner) (calls more : List Fed) (closed : Feeding)
+    → AreFed (nothing_fed asked manner) calls
+    → HasClosedFeed (last_fed (nothing_fed asked manner) calls) closed → AreFed closed more
+    → items_in calls ++ (items_in more ++ awaited (last_fed closed more).reader [])
+    ≡ items_as asked (bytes_in calls) ++ items_as asked (bytes_in more)

@@ -10,9 +10,10 @@ pub mod Kinds
 pub mod Laws
 pub mod Lines
 pub mod Machines
+pub mod Readers
 pub mod Rows
 pub mod Stream
 pub mod Times
 pub mod Words
-pub mod Sniffing
+pub mod Finding
 pub mod Orders

@@ -1,16 +1,21 @@
 -- Lines of a log.
-use Rattle.std.specs.Prelude.{◌++◌, ℕ, List, [], ◌∷◌, decimal}
+use Rattle.std.specs.Prelude.{◌++◌, ℕ, List, [], ◌∷◌, decimal, nat_lt, take, if◌then◌else◌}
 use Rattle.std.specs.List.{flat_map}
 use Rattle.sq_digits.specs.Characters.{space}
 use Rattle.sq_digits.specs.Digits.{hexadecimal}
+use Rattle.sq_feed.specs.Ears.{format_of}
 
 -- the digits of bytes, two upper-case ones each
 abbrev pub frame_digits : List ℕ → List ℕ
 frame_digits frame = flat_map (hexadecimal 2) frame
 
--- what follows the moment: a space, the digits of the frame, and a line feed
+-- a space, the digits of bytes, and a line feed
+abbrev pub tail_of : List ℕ → List ℕ
+tail_of bytes = space ∷ (frame_digits bytes ++ (10 ∷ []))
+
+-- What follows the moment. Frames of downlink formats below 16 have seven bytes.
 abbrev pub line_tail : List ℕ → List ℕ
-line_tail frame = space ∷ (frame_digits frame ++ (10 ∷ []))
+line_tail frame = if nat_lt (format_of frame) 16 then tail_of (take 7 frame) else tail_of frame
 
 -- a moment in decimal digits, and what follows it
 unfoldable pub log_line : ℕ → List ℕ → List ℕ

@@ -1,13 +1,13 @@
 -- The items of a source of any format.
-use Rattle.std.specs.Prelude.{◌++◌, ℕ, List, []}
+use Rattle.std.specs.Prelude.{◌++◌, ℕ, List}
 use Rattle.sq_feed.specs.declared.machine.Format.{Format}
 use Rattle.sq_feed.specs.declared.machine.Format.TheVariants.{Beast, Avr, Csv, Log}
 use Rattle.sq_feed.specs.declared.message.Found.{Found}
-use Rattle.sq_feed.specs.Avr.{BegunWord, avr_found, cut_word, avr_to_come, no_word_begun}
+use Rattle.sq_feed.specs.Avr.{BegunWord, cut_word, avr_to_come, no_word_begun}
 use Rattle.sq_feed.specs.Begun.{Begun, cut_off, nothing_begun, rest_of}
 use Rattle.sq_feed.specs.declared.rows.Layout.{Layout}
 use Rattle.sq_feed.specs.declared.rows.Layout.TheVariants.{Log as LogLayout}
-use Rattle.sq_feed.specs.Rows.{BegunRow, csv_start, cut_row, no_row_begun, rows_from, rows_to_come}
+use Rattle.sq_feed.specs.Rows.{BegunRow, csv_start, cut_row, no_row_begun, rows_to_come}
 use Rattle.sq_feed.specs.Stream.{found_in}
 
 -- the format of a source, and what is begun
@@ -24,21 +24,14 @@ layout_of Avr = LogLayout
 layout_of Csv = csv_start
 layout_of Log = LogLayout
 
--- the start of a source
-abbrev pub machine_of : Format → Begins
-machine_of format = record {
+-- the machine at the start of a source, whose rows have this layout
+abbrev pub machine_with : Format → Layout → Begins
+machine_with format layout = record {
   format = format;
   beast = nothing_begun;
   avr = no_word_begun;
-  rows = no_row_begun (layout_of format);
+  rows = no_row_begun layout;
 }
-
--- the items of a whole source of a format
-abbrev pub items_of : Format → List ℕ → List Found
-items_of Beast bytes = found_in bytes
-items_of Avr bytes = avr_found bytes
-items_of Csv bytes = rows_from csv_start [] bytes
-items_of Log bytes = rows_from LogLayout [] bytes
 
 abbrev pub to_come_as : Format → Begins → List ℕ → List Found
 to_come_as Beast machine bytes = found_in (rest_of machine.beast ++ bytes)

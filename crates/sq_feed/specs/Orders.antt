@@ -1,44 +1,92 @@
 -- Squitters in the order of their timestamps, held in a place of fixed size.
-use Rattle.std.specs.Prelude.{◌≡◌, ◌≤◌, ◌++◌, ◌+◌, ⊤, ℕ, Bool, List, [], ◌∷◌, drop, length, nat_lt, take, if◌then◌else◌}
+use Rattle.std.specs.Prelude.{◌≡◌, ◌≤◌, ◌<◌, ◌++◌, ◌+◌, ⊤, ℕ, Bool, false, true, List, [], ◌∷◌, eqb, filter}
+use Rattle.std.specs.Prelude.{length, max, nat_le, nat_lt, if◌then◌else◌}
 use Rattle.std.specs.List.{insert}
 use Rattle.sq_feed.specs.declared.order.Timed.{Timed}
 
--- the place of a squitter with this timestamp: behind all before the first that is later
+-- the state: how late a squitter may come (ms), the latest timestamp so far, and the squitters that are held
+pub record Sorting : Type 0 where
+  pub reorder : ℕ
+  pub latest : ℕ
+  pub held : List Timed
+
+abbrev pub nothing_sorted : ℕ → Sorting
+nothing_sorted reorder = record { reorder = reorder; latest = 0; held = [] }
+
+-- squitters by their timestamps and frames, as many as there are of both
+abbrev pub squitters_of : List ℕ → List (List ℕ) → List Timed
+squitters_of [] frames = []
+squitters_of (moment ∷ moments) [] = []
+squitters_of (moment ∷ moments) (frame ∷ frames) =
+    record { moment = moment; frame = frame } ∷ squitters_of moments frames
+
+-- ---- a squitter comes
+
+-- the place of a squitter with this timestamp: behind the last one that is not later
 abbrev pub place_of : ℕ → List Timed → ℕ
 place_of moment [] = 0
-place_of moment (one ∷ more) = if nat_lt moment one.moment then 0 else place_of moment more + 1
+place_of moment (one ∷ more) =
+    if eqb (place_of moment more) 0 then (if nat_lt moment one.moment then 0 else 1) else place_of moment more + 1
 
 -- a squitter in its place among others
 abbrev pub put_in : Timed → List Timed → List Timed
 put_in one held = insert held (place_of one.moment held) one
 
--- the squitters that are given when one comes: the first of all, unless there is room
-abbrev pub given_by : (room : ℕ) → List Timed → Timed → List Timed
-given_by room held one = if nat_lt (length held) room then [] else take 1 (put_in one held)
+abbrev pub with_one : Timed → Sorting → Sorting
+with_one one s = record { reorder = s.reorder; latest = max s.latest one.moment; held = put_in one s.held }
 
--- the squitters that are held after it
-abbrev pub held_by : (room : ℕ) → List Timed → Timed → List Timed
-held_by room held one = if nat_lt (length held) room then put_in one held else drop 1 (put_in one held)
+-- ---- squitters are given
 
--- the first squitter, if its timestamp is at or before a moment, and those that are held after it
-abbrev pub told_until : ℕ → List Timed → List Timed
-told_until until [] = []
-told_until until (one ∷ more) = if nat_lt until one.moment then [] else one ∷ []
+-- The first squitter is due: the latest one is later by as much as a squitter may come late, or the place is full.
+abbrev pub is_due : (room reorder latest : ℕ) → List Timed → Bool
+is_due room reorder latest [] = false
+is_due room reorder latest (one ∷ more) =
+    if nat_le (one.moment + reorder) latest then true else nat_le room (length (one ∷ more))
 
-abbrev pub left_after : ℕ → List Timed → List Timed
-left_after until [] = []
-left_after until (one ∷ more) = if nat_lt until one.moment then one ∷ more else more
+-- the squitters that are due, from the first one on, and those behind them
+abbrev pub due_of : (room reorder latest : ℕ) → List Timed → List Timed
+due_of room reorder latest [] = []
+due_of room reorder latest (one ∷ more) =
+    if is_due room reorder latest (one ∷ more) then one ∷ due_of room reorder latest more else []
+
+abbrev pub left_of : (room reorder latest : ℕ) → List Timed → List Timed
+left_of room reorder latest [] = []
+left_of room reorder latest (one ∷ more) =
+    if is_due room reorder latest (one ∷ more) then left_of room reorder latest more else one ∷ more
+
+abbrev pub given_now : ℕ → Sorting → List Timed
+given_now room s = due_of room s.reorder s.latest s.held
+
+abbrev pub settled : ℕ → Sorting → Sorting
+settled room s =
+    record { reorder = s.reorder; latest = s.latest; held = left_of room s.reorder s.latest s.held }
 
 -- ---- several squitters
 
--- the squitters that are given in all, and those that are held at the end
-abbrev pub given_all : (room : ℕ) → List Timed → List Timed → List Timed
-given_all room held [] = []
-given_all room held (one ∷ more) = given_by room held one ++ given_all room (held_by room held one) more
+-- The squitters that are given in all, where each one comes once all that were due are given; and the state after it.
+abbrev pub given_all : ℕ → Sorting → List Timed → List Timed
+given_all room s [] = given_now room s
+given_all room s (one ∷ more) = given_now room s ++ given_all room (with_one one (settled room s)) more
 
-abbrev pub held_all : (room : ℕ) → List Timed → List Timed → List Timed
-held_all room held [] = held
-held_all room held (one ∷ more) = held_all room (held_by room held one) more
+abbrev pub sorted_all : ℕ → Sorting → List Timed → Sorting
+sorted_all room s [] = settled room s
+sorted_all room s (one ∷ more) = sorted_all room (with_one one (settled room s)) more
+
+-- These squitters came, and these were given: with any more to come, `old` gives these, and then what `new` gives.
+pub record HasSorted (room : ℕ) (old : Sorting) (came given : List Timed) (new : Sorting) : Type 0 where
+  pub gives : (more : List Timed) → given_all room old (came ++ more) ≡ given ++ given_all room new more
+  pub leaves : (more : List Timed) → sorted_all room old (came ++ more) ≡ sorted_all room new more
+
+-- The first squitters that were held were given.
+pub record HasFlushed (old : Sorting) (given : List Timed) (new : Sorting) : Type 0 where
+  pub held : given ++ new.held ≡ old.held
+  pub same : (new.reorder ≡ old.reorder) × (new.latest ≡ old.latest)
+
+-- ---- words of the laws
+
+-- a squitter with this timestamp, and a frame of no bytes
+abbrev pub timed_at : ℕ → Timed
+timed_at moment = record { moment = moment; frame = [] }
 
 -- how many squitters pass a test
 abbrev pub count_of : (Timed → Bool) → List Timed → ℕ
@@ -50,31 +98,98 @@ abbrev pub RiseFrom : ℕ → List Timed → Type 0
 RiseFrom moment [] = ⊤
 RiseFrom moment (one ∷ more) = (moment ≤ one.moment) × RiseFrom one.moment more
 
--- the timestamp of the last one, or this one of nothing
-abbrev pub last_moment : ℕ → List Timed → ℕ
-last_moment moment [] = moment
-last_moment moment (one ∷ more) = last_moment one.moment more
+-- timestamps that are all at or before a moment
+abbrev pub AllUntil : ℕ → List Timed → Type 0
+AllUntil moment [] = ⊤
+AllUntil moment (one ∷ more) = (one.moment ≤ moment) × AllUntil moment more
+
+-- squitters, each put in its place when it comes
+abbrev pub put_all : List Timed → List Timed → List Timed
+put_all held [] = held
+put_all held (one ∷ more) = put_all (put_in one held) more
+
+abbrev pub sorted : List Timed → List Timed
+sorted came = put_all [] came
+
+-- the squitters with one timestamp
+abbrev pub only : ℕ → List Timed → List Timed
+only moment squitters = filter (λ one. eqb one.moment moment) squitters
 
 -- No squitter comes after a later one was given.
-abbrev pub AreTimely : (room moment : ℕ) → List Timed → List Timed → Type 0
-AreTimely room moment held [] = ⊤
-AreTimely room moment held (one ∷ more) =
-    (moment ≤ one.moment)
-    × AreTimely room (last_moment moment (given_by room held one)) (held_by room held one) more
+abbrev pub AreTimely : ℕ → Sorting → List Timed → Type 0
+AreTimely room s came = (before : List Timed) (one : Timed) (after : List Timed) → came ≡ before ++ one ∷ after
+    → AllUntil one.moment (given_all room s before)
+
+-- the latest timestamp
+abbrev pub latest_of : ℕ → List Timed → ℕ
+latest_of latest [] = latest
+latest_of latest (one ∷ more) = latest_of (max latest one.moment) more
+
+-- A squitter is not yet due by its timestamp.
+abbrev pub is_recent : (reorder latest : ℕ) → Timed → Bool
+is_recent reorder latest one = nat_lt latest (one.moment + reorder)
+
+-- Each squitter is late by at most `reorder`, and fewer squitters than there is room for are recent at a time.
+abbrev pub ComeInTime : (room reorder : ℕ) → List Timed → Type 0
+ComeInTime room reorder came = (before : List Timed) (one : Timed) (after : List Timed) → came ≡ before ++ one ∷ after
+    → (latest_of 0 before ≤ one.moment + reorder)
+    × (count_of (is_recent reorder (latest_of 0 (before ++ one ∷ []))) (before ++ one ∷ []) < room)
+
+-- a call: the squitters that came, those that were given, and the state after it
+pub record Sorted : Type 0 where
+  pub came : List Timed
+  pub given : List Timed
+  pub after : Sorting
+
+-- calls, one after the other
+abbrev pub AreSorted : ℕ → Sorting → List Sorted → Type 0
+AreSorted room before [] = ⊤
+AreSorted room before (one ∷ more) = HasSorted room before one.came one.given one.after × AreSorted room one.after more
+
+abbrev pub last_sorted : Sorting → List Sorted → Sorting
+last_sorted before [] = before
+last_sorted before (one ∷ more) = last_sorted one.after more
+
+abbrev pub came_in : List Sorted → List Timed
+came_in [] = []
+came_in (one ∷ more) = one.came ++ came_in more
+
+abbrev pub given_in : List Sorted → List Timed
+given_in [] = []
+given_in (one ∷ more) = one.given ++ given_in more
 
 -- ---- laws
 
 -- Each squitter that came or was held is given or held at the end, as often as it came: no squitter is lost or
 -- doubled.
 abbrev pub GivesAll : Type 0
-GivesAll = (room : ℕ) (held came : List Timed) (test : Timed → Bool)
-    → count_of test (given_all room held came ++ held_all room held came) ≡ count_of test (held ++ came)
+GivesAll = (room : ℕ) (s : Sorting) (came : List Timed) (test : Timed → Bool)
+    → count_of test (given_all room s came ++ (sorted_all room s came).held) ≡ count_of test (s.held ++ came)
 
--- The timestamps of the squitters that are given, and then of those that are held, rise.
+-- If no squitter comes after a later one was given, those that are given, and then those that are held, are all that
+-- came, sorted.
 abbrev pub GivesInOrder : Type 0
-GivesInOrder = (room moment : ℕ) (held came : List Timed) → RiseFrom moment held → AreTimely room moment held came
-    → RiseFrom moment (given_all room held came ++ held_all room held came)
+GivesInOrder = (room : ℕ) (s : Sorting) (came : List Timed) → AreTimely room s came
+    → given_all room s came ++ (sorted_all room s came).held ≡ put_all s.held came
 
--- The earliest is given if it is due, and what was held is given or held.
-abbrev pub PopsTheFirst : Type 0
-PopsTheFirst = (until : ℕ) (held : List Timed) → told_until until held ++ left_after until held ≡ held
+-- No squitter comes after a later one was given, if all come in time.
+abbrev pub InTimeIsTimely : Type 0
+InTimeIsTimely = (room reorder : ℕ) (came : List Timed) → 0 < room → ComeInTime room reorder came
+    → AreTimely room (nothing_sorted reorder) came
+
+-- Sorted squitters: their timestamps rise, and squitters with one timestamp are in the order of arrival.
+abbrev pub SortsStably : Type 0
+SortsStably = (came : List Timed)
+    → RiseFrom 0 (sorted came) × ((moment : ℕ) → only moment (sorted came) ≡ only moment came)
+
+-- The cut into calls does not matter: the squitters that are given by all calls, and by a flush after them, are those
+-- that are given and held where all come at once.
+abbrev pub SortsTheWhole : Type 0
+SortsTheWhole = (room : ℕ) (before : Sorting) (calls : List Sorted) → AreSorted room before calls
+    → given_in calls ++ (last_sorted before calls).held
+    ≡ given_all room before (came_in calls) ++ (sorted_all room before (came_in calls)).held
+
+-- The earliest squitters are given, as many as are due, and what was held is given or held.
+abbrev pub GivesTheFirst : Type 0
+GivesTheFirst = (room reorder latest : ℕ) (held : List Timed)
+    → due_of room reorder latest held ++ left_of room reorder latest held ≡ held

@@ -1,17 +1,21 @@
 -- The timestamps of frames: by their receiver's clock, by their arrival, or their own.
-use Rattle.std.specs.Prelude.{◌==◌, ◌+◌, ◌-◌, ◌*◌, ◌%◌, ℕ, Bool, true, false, not, ◌||◌, ◌&&◌, min, nat_le, nat_lt}
+use Rattle.std.specs.Prelude.{◌==◌, ◌+◌, ◌-◌, ◌*◌, ◌%◌, ℕ, Bool, true, false, not, ◌||◌, ◌&&◌, max, min, nat_le, nat_lt}
 use Rattle.std.specs.Prelude.{Option, Some, None, if◌then◌else◌}
+use Rattle.sq_feed.specs.declared.manner.Manner.{Manner}
 use Rattle.sq_feed.specs.declared.message.Time.{Time}
 use Rattle.sq_feed.specs.declared.message.Time.TheVariants.{Unknown, Ticks, Millis}
 use Rattle.sq_feed.specs.Clock.{Counted, heard, is_told, most, own_moment, rate, restarted, turn, unheard}
 
--- The state: the receiver's clock; whether arrivals are those of a live source; the longest gap (ms) that is no jump;
--- the latest timestamp, and the arrival of its frame; the arrival of the frame that the clock was read of; whether a
--- row had a time of its own; the latest such time that was set aside, and how many in turn agree with it.
+-- The state: the receiver's clock; whether arrivals are those of a live source; whether the clock is ignored; the
+-- longest gap (ms) that is no jump; by how much (ms) a timestamp may be before the latest one; the latest timestamp,
+-- and the arrival of its frame; the arrival of the frame that the clock was read of; whether a row had a time of its
+-- own; the latest such time that was set aside, and how many in turn agree with it.
 pub record Timing : Type 0 where
   pub clock : Counted
   pub is_live : Bool
+  pub ignores_clock : Bool
   pub leap : ℕ
+  pub late : ℕ
   pub latest : ℕ
   pub arrival : ℕ
   pub read_at : ℕ
@@ -19,11 +23,13 @@ pub record Timing : Type 0 where
   pub aside : ℕ
   pub votes : ℕ
 
-abbrev pub no_times : ℕ → Bool → Timing
-no_times leap is_live = record {
-  clock = unheard (leap * rate);
-  is_live = is_live;
-  leap = leap;
+abbrev pub no_times : Manner → Timing
+no_times manner = record {
+  clock = unheard (manner.leap * rate) (manner.late * rate);
+  is_live = manner.is_live;
+  ignores_clock = manner.ignores_clock;
+  leap = manner.leap;
+  late = manner.late;
   latest = 0;
   arrival = 0;
   read_at = 0;
@@ -40,9 +46,13 @@ other_times t = record t { clock = restarted t.clock }
 abbrev pub due : Timing → ℕ → ℕ
 due t arrival = if t.is_live then min (t.latest + (arrival - t.arrival)) most else t.latest
 
--- A frame with this timestamp was told. One that is earlier than the latest has the latest.
+-- A frame of this moment was told: the latest timestamp goes on to it, and never goes back.
 abbrev pub gone_on : Timing → ℕ → ℕ → Timing
 gone_on t moment arrival = if nat_le t.latest moment then record t { latest = moment; arrival = arrival } else t
+
+-- The timestamp of a frame of this moment: the moment, but not before the latest timestamp by more than `late`.
+abbrev pub told_as : Timing → ℕ → ℕ
+told_as t moment = if nat_le t.latest moment then moment else max moment (t.latest - t.late)
 
 -- ---- a frame without a time
 
@@ -77,9 +87,10 @@ by_clock t ticks arrival =
 
 -- ---- a row with a time of its own
 
--- the first such time; or it follows the latest timestamp within a leap, or is late by at most a second
+-- the first such time; or it follows the latest timestamp within a leap, or is late by at most `late` or a second
 abbrev pub is_row_fit : Timing → ℕ → Bool
-is_row_fit t moment = not t.is_dated || nat_le t.latest (moment + 1000) && nat_le moment (t.latest + t.leap)
+is_row_fit t moment =
+    not t.is_dated || nat_le t.latest (moment + max t.late 1000) && nat_le moment (t.latest + t.leap)
 
 -- the time is at or after the one that was set aside
 abbrev pub row_agrees : Timing → ℕ → Bool
@@ -89,7 +100,7 @@ row_agrees t moment = not (t.votes == 0) && nat_le t.aside moment
 abbrev pub is_own_told : Timing → ℕ → Bool
 is_own_told t moment = is_row_fit t moment || not (nat_lt moment t.latest) && row_agrees t moment && (t.votes == 2)
 
--- Any time that goes back by more than a second is left out. One that jumps ahead is set aside, until three in turn
+-- Any time that goes back further is left out. One that jumps ahead is set aside, until three in turn
 -- have come, each at or after the previous one. Rows that go on jumping are accepted from then on.
 abbrev pub by_own : Timing → ℕ → ℕ → Timing
 by_own t moment arrival =
@@ -102,12 +113,22 @@ by_own t moment arrival =
 -- ---- any frame
 
 -- A clock of 0 is none, as programs send that have none.
+abbrev pub is_clockless : Timing → ℕ → Bool
+is_clockless t ticks = ticks == 0 || t.ignores_clock
+
 abbrev pub is_told_at : Timing → Time → ℕ → Bool
 is_told_at t Unknown arrival = true
-is_told_at t (Ticks ticks) arrival = if ticks == 0 then true else is_clock_told t ticks arrival
+is_told_at t (Ticks ticks) arrival = if is_clockless t ticks then true else is_clock_told t ticks arrival
 is_told_at t (Millis moment) arrival = is_own_told t moment
 
 abbrev pub times_after : Timing → Time → ℕ → Timing
 times_after t Unknown arrival = by_arrival t arrival
-times_after t (Ticks ticks) arrival = if ticks == 0 then by_arrival t arrival else by_clock t ticks arrival
+times_after t (Ticks ticks) arrival = if is_clockless t ticks then by_arrival t arrival else by_clock t ticks arrival
 times_after t (Millis moment) arrival = by_own t moment arrival
+
+-- the timestamp of a frame that is told
+abbrev pub moment_at : Timing → Time → ℕ → ℕ
+moment_at t Unknown arrival = told_as t (due t arrival)
+moment_at t (Ticks ticks) arrival =
+    told_as t (if is_clockless t ticks then due t arrival else clock_moment t ticks arrival)
+moment_at t (Millis moment) arrival = told_as t moment

@@ -265,6 +265,18 @@ impl Avr {
     }
 }
 
+// Returns the mark that a byte is.
+pub(crate) fn mark_of(byte: u8) -> Option<Mark>
+    ensures { result ≡ mark_of byte }
+{
+    match byte {
+        b'*' | b':' => Some(Mark::Plain),
+        b'@' | b'%' => Some(Mark::Clocked),
+        b'<' => Some(Mark::Signalled),
+        _ => None,
+    }
+}
+
 // Returns the edge that a byte is.
 #[inline(always)]
 fn edge_of(byte: u8) -> Option<Edge>
@@ -401,6 +413,22 @@ fn frame_of_any(word: &[u8]) -> Option<RawFrame>
             Some(message_of(Mark::Plain, size, bytes.as_slice()).frame)
         }
         None => None,
+    }
+}
+
+// Returns the item of a word behind a mark.
+pub(crate) fn item_of_word(mark: Mark, word: &[u8]) -> Found
+    ensures { result ≡ item_of mark word.now }
+{
+    if word.len() > MOST || !are_hex(word) {
+        return Found::Damage;
+    }
+    match size_of(mark, word.len()) {
+        Some(size) => {
+            let bytes = bytes_of(word);
+            Found::Whole(message_of(mark, size, bytes.as_slice()))
+        }
+        None => Found::Damage,
     }
 }
 

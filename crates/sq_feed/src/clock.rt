@@ -10,7 +10,7 @@ const TURN: u64 = 1 << 48;
 // The ticks of a millisecond.
 const RATE: u64 = 12_000;
 
-// The ticks that a value may be late without a jump: a second.
+// The ticks that a value may always be late without a jump: a second.
 const JITTER: u64 = 1000 * RATE;
 
 // The values in turn that make a jump.
@@ -22,6 +22,7 @@ pub struct Clock {
     last: u64,
     elapsed: u64,
     leap: u64,
+    late: u64,
     is_heard: bool,
     aside: u64,
     votes: u8,
@@ -37,30 +38,34 @@ impl Model for Clock {
       last = s.last;
       elapsed = s.elapsed;
       leap = s.leap;
+      late = s.late;
       is_heard = s.is_heard;
       aside = s.aside;
       votes = s.votes;
     } };
 
-    ghost invariant = { λ s. (s.last < 2 ^ 48) × (s.leap < 2 ^ 47) × (s.aside < 2 ^ 48) × (s.votes < 3) };
+    ghost invariant = { λ s. (s.last < 2 ^ 48) × (s.leap < 2 ^ 47) × (s.late < 2 ^ 47) × (s.aside < 2 ^ 48)
+        × (s.votes < 3) };
 }
 
 impl Clock {
-    /// Returns a clock that no value was heard of. A gap above `leap` ticks is a jump; `leap` is at most half a turn.
-    pub fn new(leap: u64) -> Clock
-        ensures { result ≡ unheard leap }
+    /// Returns a clock that no value was heard of. A gap above `leap` ticks is a jump. A value may be late by `late`
+    /// ticks, or by a second. Both are at most half a turn.
+    pub fn new(leap: u64, late: u64) -> Clock
+        ensures { result ≡ unheard leap late }
     {
         Clock {
             last: 0,
             elapsed: 0,
             leap: leap.min(TURN / 2 - 1),
+            late: late.min(TURN / 2 - 1).max(JITTER),
             is_heard: false,
             aside: 0,
             votes: 0,
         }
     }
 
-    /// Hears the low 48 bits of a count, and returns its timestamp (ms). A value may be late by a second. Any other
+    /// Hears the low 48 bits of a count, and returns its timestamp (ms). A late value has an earlier one. Any other
     /// gap above `leap` is a jump, unless about `waited` milliseconds have passed. Returns `None` for a value that
     /// jumps, until three in turn agree: the count then goes on from `anew` (ms), or a leap later if that is `None`.
     /// The first value starts the count at `anew`, or at itself.
@@ -110,13 +115,13 @@ impl Clock {
             self.votes = 0;
             return Some(self.elapsed / RATE);
         }
-        if is_late(self.last, shown) {
+        if is_late(self.late, self.last, shown) {
             self.votes = 0;
             let behind = TURN - (shown + TURN - self.last) % TURN;
             return Some(self.elapsed.saturating_sub(behind) / RATE);
         }
         if self.votes == 0
-            || !(is_soon(self.leap, self.aside, shown) || is_late(self.aside, shown))
+            || !(is_soon(self.leap, self.aside, shown) || is_late(self.late, self.aside, shown))
         {
             self.aside = shown;
             self.votes = 1;
@@ -176,12 +181,13 @@ fn is_awaited(leap: u64, last: u64, shown: u64, waited: u64) -> bool
     gap <= awaited.saturating_add(leap) && awaited <= gap + leap
 }
 
-// Returns whether a value is late by at most the jitter.
+// Returns whether a value is late by at most `late` ticks.
 #[inline(always)]
-fn is_late(last: u64, shown: u64) -> bool
+fn is_late(late: u64, last: u64, shown: u64) -> bool
+    requires late { late < 2 ^ 47 }
     requires last { last < 2 ^ 48 }
     requires shown { shown < 2 ^ 48 }
-    ensures { result ≡ is_late last shown }
+    ensures { result ≡ is_late late last shown }
 {
-    TURN <= (shown + TURN - last) % TURN + JITTER
+    TURN <= (shown + TURN - last) % TURN + late
 }

@@ -1,10 +1,11 @@
 //! What becomes of each item: a squitter with its timestamp, or a count.
-ghost use Rattle.std.specs.Prelude.{◌≡◌, [], ◌∷◌, MatchOption};
-ghost use Rattle.sq_feed.specs.Ears.{ear_after, ear_by, fate_of_long, fate_of_short, is_multilaterated, lost, told_by, told_of, untouched};
-ghost use Rattle.sq_feed.specs.declared.message.RawFrame.TheVariants.{Long};
+ghost use Rattle.std.specs.Prelude.{◌≡◌, ◌≤◌, [], ◌∷◌, MatchOption, length};
+ghost use Rattle.sq_feed.specs.Ears.{ear_after, fate_of, fate_of_long, fate_of_short, frame_in, is_multilaterated, lost};
+ghost use Rattle.sq_feed.specs.Ears.{padded, told_of, untouched, whole_of};
 
 use crate::counts::{Counts, Fate};
-use crate::message::{Found, Message, RawFrame, Time};
+use crate::manner::Manner;
+use crate::message::{Found, Message, RawFrame, Stranger, Time};
 use crate::times::Times;
 use std::marker::Model;
 
@@ -21,7 +22,9 @@ const FIRST_LONG: u8 = 16;
 #[derive(Drop)]
 pub struct Ear {
     times: Times,
+    all_formats: bool,
     counts: Counts,
+    stranger: Option<Stranger>,
 }
 
 impl Model for Ear {
@@ -29,17 +32,24 @@ impl Model for Ear {
 
     ghost Value = { Hears };
 
-    ghost view = { λ s. record { times = s.times; counts = s.counts } };
+    ghost view = { λ s. record {
+      times = s.times;
+      all_formats = s.all_formats;
+      counts = s.counts;
+      stranger = s.stranger;
+    } };
 }
 
 impl Ear {
-    /// Returns an ear that heard nothing. A gap above `leap` milliseconds is a jump.
-    pub fn new(leap: u64, is_live: bool) -> Ear
-        ensures { result ≡ untouched leap is_live }
+    /// Returns an ear that heard nothing.
+    pub fn new(manner: &Manner) -> Ear
+        ensures { result ≡ untouched manner.now }
     {
         Ear {
-            times: Times::new(leap, is_live),
+            times: Times::new(manner),
+            all_formats: manner.all_formats,
             counts: Counts::new(),
+            stranger: None,
         }
     }
 
@@ -50,16 +60,29 @@ impl Ear {
         self.counts
     }
 
-    /// Hears an item that arrived at this moment (ms). Returns its squitter with its timestamp, if it has one.
+    /// Returns what the last source without frames was, if there was one.
+    pub fn stranger(&self) -> Option<Stranger>
+        ensures { result ≡ self.now.stranger }
+    {
+        self.stranger
+    }
+
+    /// Hears an item that arrived at this moment (ms). Returns the timestamp of its frame, if it has one.
     #[inline(never)]
-    pub fn hear<'a>(&mut self, found: &'a Found, arrival: u64) -> Option<(u64, &'a [u8; 14])>
+    pub fn hear(&mut self, found: &Found, arrival: u64) -> Option<u64>
         ensures kept { self.new ≡ ear_after arrival self.old found.now }
         ensures told { MatchOption result (told_of arrival self.old found.now ≡ [])
-            (λ told. told_of arrival self.old found.now ≡ record { moment = told.0; frame = told.1.now } ∷ []) }
+            (λ moment. told_of arrival self.old found.now
+            ≡ record { moment = moment; frame = frame_in found.now } ∷ []) }
     {
         match found {
             Found::Damage => {
                 self.counts.count(Fate::Damaged);
+                None
+            }
+            Found::Foreign(stranger) => {
+                self.counts.count(Fate::Damaged);
+                self.stranger = Some(*stranger);
                 None
             }
             Found::Whole(message) => self.hear_message(message, arrival),
@@ -75,47 +98,17 @@ impl Ear {
 
     // Hears a message that arrived at this moment.
     #[inline(always)]
-    pub(crate) fn hear_message<'a>(
-        &mut self,
-        message: &'a Message,
-        arrival: u64,
-    ) -> Option<(u64, &'a [u8; 14])>
+    pub(crate) fn hear_message(&mut self, message: &Message, arrival: u64) -> Option<u64>
         ensures kept { self.new ≡ ear_after arrival self.old (Found.Whole message.now) }
         ensures told { MatchOption result (told_of arrival self.old (Found.Whole message.now) ≡ [])
-            (λ told. told_of arrival self.old (Found.Whole message.now)
-            ≡ record { moment = told.0; frame = told.1.now } ∷ []) }
+            (λ moment. told_of arrival self.old (Found.Whole message.now)
+            ≡ record { moment = moment; frame = whole_of message.now.frame } ∷ []) }
     {
-        match &message.frame {
-            RawFrame::ModeAc(_) => {
-                self.counts.count(Fate::ModeAc);
-                None
-            }
-            RawFrame::Short(frame) => {
-                let fate = fate_of_short(message.time, frame);
-                self.counts.count(fate);
-                None
-            }
-            RawFrame::Long(frame) => match self.hear_long(message.time, frame, arrival) {
-                Some(moment) => Some((moment, frame)),
-                None => None,
-            },
-        }
-    }
-
-    // Hears a long frame. Returns its timestamp, if it is a squitter's.
-    #[inline(always)]
-    fn hear_long(&mut self, time: Time, frame: &[u8; 14], arrival: u64) -> Option<u64>
-        ensures kept { self.new ≡ ear_by (fate_of_long time frame.now) arrival self.old time }
-        ensures told { MatchOption result
-            (told_by (fate_of_long time frame.now) arrival self.old time (Long frame.now) ≡ [])
-            (λ moment. told_by (fate_of_long time frame.now) arrival self.old time (Long frame.now)
-            ≡ record { moment = moment; frame = frame.now } ∷ []) }
-    {
-        if let Some(fate) = fate_of_long(time, frame) {
+        if let Some(fate) = fate_of(self.all_formats, message.time, &message.frame) {
             self.counts.count(fate);
             return None;
         }
-        match self.times.hear(time, arrival) {
+        match self.times.hear(message.time, arrival) {
             Some(moment) => {
                 self.counts.count(Fate::Written);
                 Some(moment)
@@ -128,31 +121,78 @@ impl Ear {
     }
 }
 
-// Returns what becomes of a short frame.
-fn fate_of_short(time: Time, frame: &[u8; 7]) -> Fate
-    ensures { result ≡ fate_of_short time frame.now }
+// Returns the frame of an item.
+pub(crate) fn frame_in(found: &Found) -> [u8; 14]
+    ensures { result ≡ frame_in found.now }
 {
-    let format = frame[0] >> 3;
-    if format >= FIRST_LONG {
-        Fate::Damaged
-    } else if is_multilaterated(time) {
-        Fate::Multilaterated
-    } else {
-        Fate::OtherFormat(format)
+    match found {
+        Found::Whole(message) => whole_of(&message.frame),
+        Found::Damage => [0; 14],
+        Found::Foreign(_) => [0; 14],
     }
 }
 
-// Returns what becomes of a long frame that is no squitter.
+// Returns a frame, followed by zeros.
 #[inline(always)]
-fn fate_of_long(time: Time, frame: &[u8; 14]) -> Option<Fate>
-    ensures { result ≡ fate_of_long time frame.now }
+pub(crate) fn whole_of(frame: &RawFrame) -> [u8; 14]
+    ensures { result ≡ whole_of frame.now }
+{
+    match frame {
+        RawFrame::Long(frame) => *frame,
+        RawFrame::Short(frame) => padded(frame),
+        RawFrame::ModeAc(frame) => padded(frame),
+    }
+}
+
+// Returns the bytes of a frame, followed by zeros.
+fn padded(frame: &[u8]) -> [u8; 14]
+    requires { length frame.now ≤ 14 }
+    ensures { result ≡ padded frame.now }
+{
+    let mut whole = [0; 14];
+    whole[..frame.len()].copy_from_slice(frame);
+    whole
+}
+
+// Returns what becomes of a frame that is not given.
+#[inline(always)]
+fn fate_of(all_formats: bool, time: Time, frame: &RawFrame) -> Option<Fate>
+    ensures { result ≡ fate_of all_formats time frame.now }
+{
+    match frame {
+        RawFrame::ModeAc(_) => Some(Fate::ModeAc),
+        RawFrame::Short(frame) => fate_of_short(all_formats, time, frame),
+        RawFrame::Long(frame) => fate_of_long(all_formats, time, frame),
+    }
+}
+
+// Returns what becomes of a short frame that is not given.
+fn fate_of_short(all_formats: bool, time: Time, frame: &[u8; 7]) -> Option<Fate>
+    ensures { result ≡ fate_of_short all_formats time frame.now }
+{
+    let format = frame[0] >> 3;
+    if format >= FIRST_LONG {
+        Some(Fate::Damaged)
+    } else if is_multilaterated(time) {
+        Some(Fate::Multilaterated)
+    } else if all_formats {
+        None
+    } else {
+        Some(Fate::OtherFormat(format))
+    }
+}
+
+// Returns what becomes of a long frame that is not given.
+#[inline(always)]
+fn fate_of_long(all_formats: bool, time: Time, frame: &[u8; 14]) -> Option<Fate>
+    ensures { result ≡ fate_of_long all_formats time frame.now }
 {
     let format = frame[0] >> 3;
     if format < FIRST_LONG {
         Some(Fate::Damaged)
     } else if is_multilaterated(time) {
         Some(Fate::Multilaterated)
-    } else if format != SQUITTER {
+    } else if format != SQUITTER && !all_formats {
         Some(Fate::OtherFormat(format))
     } else {
         None

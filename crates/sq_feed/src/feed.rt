@@ -1,21 +1,25 @@
 //! Squitters and their timestamps from a source's bytes, as they come.
-ghost use Rattle.std.specs.Prelude.{◌≡◌, ◌+◌, ◌≤◌, ◌<◌, ◌++◌, [], ◌∷◌, MatchOption, drop, length, take};
+ghost use Rattle.std.specs.Prelude.{◌≡◌, ◌⊎◌, ◌*◌, ◌+◌, ◌≤◌, ◌<◌, ◌++◌, [], ◌∷◌, drop, false, length, take, true};
 ghost use Rattle.sq_digits.specs.Buffer.{text_len};
 ghost use Rattle.sq_feed.specs.Ears.{ear_after, frames_of, moments_of, told_of};
-ghost use Rattle.sq_feed.specs.Feeds.{HasEnded, HasGiven, HasLost, HasWritten, lines_of, nothing_fed, told_at_end};
+ghost use Rattle.sq_feed.specs.Feeds.{HasClosedFeed, HasEnded, HasGiven, HasLost, HasWritten, format_of_source, lines_of};
+ghost use Rattle.sq_feed.specs.Feeds.{nothing_fed, told_at_end};
+ghost use Rattle.sq_feed.specs.Readers.{calls_left, waiting};
 
 use crate::counts::Counts;
-use crate::ear::Ear;
+use crate::ear::{Ear, frame_in, whole_of};
 use crate::lines::{LINE_LIMIT, push_log_line};
-use crate::machine::{Format, Machine};
-use crate::message::{Found, Message};
+use crate::machine::Format;
+use crate::manner::Manner;
+use crate::message::{Found, Message, Stranger};
+use crate::reader::Reader;
 use sq_digits::TextBuffer;
 use std::marker::Model;
 
 /// Makes the log that `track` reads from a source's bytes, and counts what it leaves out. Allocates nothing.
 #[derive(Drop)]
 pub struct Feed {
-    machine: Machine,
+    reader: Reader,
     ear: Ear,
 }
 
@@ -24,23 +28,23 @@ impl Model for Feed {
 
     ghost Value = { Feeding };
 
-    ghost view = { λ s. record { machine = s.machine; ear = s.ear } };
+    ghost view = { λ s. record { reader = s.reader; ear = s.ear } };
 }
 
 impl Feed {
-    /// Returns a feed at the start of a source. A gap above `leap` milliseconds is a jump of its clock. The arrivals
-    /// of a live source say when its bytes were received; those of a recorded source are ignored.
-    pub fn new(format: Format, leap: u64, is_live: bool) -> Feed
-        ensures { result ≡ nothing_fed format leap is_live }
+    /// Returns a feed at the start of a source of this format. Without a format, the first bytes of the source show it.
+    pub fn new(format: Option<Format>, manner: &Manner) -> Feed
+        ensures { result ≡ nothing_fed format manner.now }
     {
         Feed {
-            machine: Machine::new(format),
-            ear: Ear::new(leap, is_live),
+            reader: Reader::new(format),
+            ear: Ear::new(manner),
         }
     }
 
     /// Takes bytes of a piece that arrived at this moment (ms), while there is room for a line, and appends their
-    /// lines. Returns how many bytes it took.
+    /// lines. Returns how many bytes it took. With room for a line left over, these are all bytes. While the format is
+    /// unknown, bytes are taken without lines; the lines of the first items follow in a later call at the latest.
     pub fn take<const N: usize>(
         &mut self,
         piece: &[u8],
@@ -48,12 +52,16 @@ impl Feed {
         text: &mut TextBuffer<N>,
     ) -> usize
         ensures fits { result ≤ length piece.now }
-        ensures some { 0 < length piece.now → text_len text.old + 50 ≤ N → 0 < result }
-        ensures all { text_len text.new + 50 ≤ N → result ≡ length piece.now }
+        ensures some { 0 < length piece.now → text_len text.old + 300 ≤ N → 0 < result }
+        ensures goes_on { (0 < length piece.now) ⊎ (0 < calls_left self.old.reader) → text_len text.old + 50 ≤ N
+            → calls_left self.new.reader < calls_left self.old.reader + 7 * result }
+        ensures all { text_len text.new + 50 ≤ N → (result ≡ length piece.now) × (calls_left self.new.reader ≡ 0) }
         ensures written { HasWritten arrival self.old (take result piece.now) text.old.bytes text.new.bytes self.new }
     {
+        // At most five lines come without a byte.
+        let _ = self.reader.waiting();
         let mut at = 0;
-        while at < piece.len() && text.len() + LINE_LIMIT <= N {
+        while self.reader.goes_on(piece.len() - at) && text.len() + LINE_LIMIT <= N {
             at += self.take_one(&piece[at..], arrival, text);
         }
         at
@@ -71,8 +79,12 @@ impl Feed {
     ) -> (usize, usize)
         ensures fits { result.0 ≤ length piece.now }
         ensures few { (result.1 ≤ length moments.old) × (result.1 ≤ length frames.old) }
-        ensures some { 0 < length piece.now → 0 < length moments.old → 0 < length frames.old → 0 < result.0 }
-        ensures all { result.1 < length moments.old → result.1 < length frames.old → result.0 ≡ length piece.now }
+        ensures some { 0 < length piece.now → 0 < length moments.old → 0 < length frames.old
+            → (0 < result.0) ⊎ (0 < result.1) }
+        ensures goes_on { (0 < length piece.now) ⊎ (0 < calls_left self.old.reader) → 0 < length moments.old
+            → 0 < length frames.old → calls_left self.new.reader < calls_left self.old.reader + 7 * result.0 }
+        ensures all { result.1 < length moments.old → result.1 < length frames.old
+            → (result.0 ≡ length piece.now) × (calls_left self.new.reader ≡ 0) }
         ensures given { HasGiven arrival self.old (take result.0 piece.now) [] [] (take result.1 moments.new)
             (take result.1 frames.new) self.new }
         ensures rest { (drop result.1 moments.new ≡ drop result.1 moments.old)
@@ -82,7 +94,7 @@ impl Feed {
         let mut at = 0;
         let mut given = 0;
         let room = moments.len().min(frames.len());
-        while at < piece.len() && given < room {
+        while self.reader.goes_on(piece.len() - at) && given < room {
             let (count, more) = self.give_one(&piece[at..], arrival, given, moments, frames);
             at += count;
             given = more;
@@ -90,35 +102,40 @@ impl Feed {
         (at, given)
     }
 
-    /// Ends the source: appends the line of its last frame, if that frame is complete. The next bytes are of another
-    /// source.
+    /// Ends the source: appends the lines of its last frames. The next bytes are of another source.
     pub fn finish<const N: usize>(&mut self, arrival: u64, text: &mut TextBuffer<N>)
-        requires { text_len text.old + 50 ≤ N }
+        requires { text_len text.old + 300 ≤ N }
         ensures ended { HasEnded arrival self.old self.new }
         ensures text { text.new.bytes ≡ text.old.bytes ++ lines_of (told_at_end arrival self.old) }
     {
-        if let Some(last) = self.finish_frame(arrival) {
-            let (moment, frame) = last;
-            push_log_line(text, moment, &frame);
+        let items = self.reader.finish();
+        self.reader.restart();
+        for found in items.as_slice() {
+            self.tell_item(found, arrival, text);
         }
     }
 
-    /// Ends the source: returns its last squitter with its timestamp, if that frame is complete and is one. The next
-    /// bytes are of another source.
-    pub fn finish_frame(&mut self, arrival: u64) -> Option<(u64, [u8; 14])>
-        ensures ended { HasEnded arrival self.old self.new }
-        ensures told { MatchOption result (told_at_end arrival self.old ≡ [])
-            (λ told. told_at_end arrival self.old ≡ record { moment = told.0; frame = told.1 } ∷ []) }
+    /// Ends the source: its last squitters come with the next calls, which may have no bytes. The bytes after them are
+    /// of another source.
+    pub fn close(&mut self)
+        ensures { HasClosedFeed self.old self.new }
     {
-        let last = self.machine.finish();
-        self.machine.restart();
-        match last {
-            Some(found) => match self.ear.hear(&found, arrival) {
-                Some((moment, frame)) => Some((moment, *frame)),
-                None => None,
-            },
-            None => None,
-        }
+        self.reader.close();
+    }
+
+    /// Returns the format of the source, once it is known.
+    pub fn format(&self) -> Option<Format>
+        ensures { result ≡ format_of_source self.now }
+    {
+        self.reader.format()
+    }
+
+    /// Returns what the last source without frames was, if there was one. It is known by the first bytes or lines of
+    /// the source, or at its end.
+    pub fn stranger(&self) -> Option<Stranger>
+        ensures { result ≡ self.now.ear.stranger }
+    {
+        self.ear.stranger()
     }
 
     /// Drops an unfinished frame after a lost connection, and counts it as damaged. The next bytes are of another
@@ -126,12 +143,12 @@ impl Feed {
     pub fn disconnected(&mut self)
         ensures { HasLost self.old self.new }
     {
-        let last = self.machine.cut_off();
+        let last = self.reader.cut_off();
         if let Some(found) = last {
             let _ = self.ear.hear(&found, 0);
         }
         self.ear.restart();
-        self.machine.restart();
+        self.reader.restart();
     }
 
     /// Returns the counts. Each item found is counted once: the other counts add up to `found`.
@@ -139,6 +156,14 @@ impl Feed {
         ensures { result ≡ self.now.ear.counts }
     {
         self.ear.counts()
+    }
+
+    /// Returns whether a call with this many bytes has work to do: there are bytes, or squitters wait.
+    pub fn goes_on(&self, bytes: usize) -> bool
+        ensures more { result ≡ true → (0 < bytes) ⊎ (0 < calls_left self.now.reader) }
+        ensures done { result ≡ false → (bytes ≡ 0) × (calls_left self.now.reader ≡ 0) }
+    {
+        self.reader.goes_on(bytes)
     }
 
     // Takes bytes up to the end of the first item, or all of them, and stores its squitter, if it has one, in these
@@ -152,11 +177,11 @@ impl Feed {
         moments: &mut [u64],
         frames: &mut [[u8; 14]],
     ) -> (usize, usize)
-        requires some { 0 < length piece.now }
+        requires some { (0 < length piece.now) ⊎ (0 < calls_left self.old.reader) }
         requires moments { given < length moments.old }
         requires frames { given < length frames.old }
         ensures fits { result.0 ≤ length piece.now }
-        ensures some { 0 < result.0 }
+        ensures goes_on { calls_left self.new.reader < calls_left self.old.reader + 7 * result.0 }
         ensures few { result.1 ≤ given + 1 }
         ensures given { HasGiven arrival self.old (take result.0 piece.now) (take given moments.old)
             (take given frames.old)
@@ -166,15 +191,15 @@ impl Feed {
             × (drop result.1 frames.new ≡ drop result.1 frames.old) }
         ensures long { (length moments.new ≡ length moments.old) × (length frames.new ≡ length frames.old) }
     {
-        if let Some((message, count)) = self.machine.whole_message(piece) {
+        if let Some((message, count)) = self.reader.whole_message(piece) {
             let more = self.give(&message, arrival, given, moments, frames);
             return (count, more);
         }
-        if let Some((message, count)) = self.machine.whole_row(piece) {
+        if let Some((message, count)) = self.reader.whole_row(piece) {
             let more = self.give(&message, arrival, given, moments, frames);
             return (count, more);
         }
-        if let Some((message, count)) = self.machine.whole_line(piece) {
+        if let Some((message, count)) = self.reader.whole_line(piece) {
             let more = self.give_line(&message, arrival, given, moments, frames);
             return (count, more);
         }
@@ -194,7 +219,7 @@ impl Feed {
     ) -> usize
         requires moments { given < length moments.old }
         requires frames { given < length frames.old }
-        ensures machine { self.new.machine ≡ self.old.machine }
+        ensures reader { self.new.reader ≡ self.old.reader }
         ensures heard { self.new.ear ≡ ear_after arrival self.old.ear (Found.Whole message.now) }
         ensures few { result ≤ given + 1 }
         ensures moments { take result moments.new ≡ take given moments.old
@@ -207,9 +232,9 @@ impl Feed {
         ensures long { (length moments.new ≡ length moments.old) × (length frames.new ≡ length frames.old) }
     {
         match self.ear.hear_message(message, arrival) {
-            Some((moment, frame)) => {
+            Some(moment) => {
                 moments[given] = moment;
-                frames[given] = *frame;
+                frames[given] = whole_of(&message.frame);
                 given + 1
             }
             None => given,
@@ -228,7 +253,7 @@ impl Feed {
     ) -> usize
         requires moments { given < length moments.old }
         requires frames { given < length frames.old }
-        ensures machine { self.new.machine ≡ self.old.machine }
+        ensures reader { self.new.reader ≡ self.old.reader }
         ensures heard { self.new.ear ≡ ear_after arrival self.old.ear (Found.Whole message.now) }
         ensures few { result ≤ given + 1 }
         ensures moments { take result moments.new ≡ take given moments.old
@@ -253,11 +278,11 @@ impl Feed {
         moments: &mut [u64],
         frames: &mut [[u8; 14]],
     ) -> (usize, usize)
-        requires some { 0 < length piece.now }
+        requires some { (0 < length piece.now) ⊎ (0 < calls_left self.old.reader) }
         requires moments { given < length moments.old }
         requires frames { given < length frames.old }
         ensures fits { result.0 ≤ length piece.now }
-        ensures some { 0 < result.0 }
+        ensures goes_on { calls_left self.new.reader < calls_left self.old.reader + 7 * result.0 }
         ensures few { result.1 ≤ given + 1 }
         ensures given { HasGiven arrival self.old (take result.0 piece.now) (take given moments.old)
             (take given frames.old)
@@ -267,11 +292,11 @@ impl Feed {
             × (drop result.1 frames.new ≡ drop result.1 frames.old) }
         ensures long { (length moments.new ≡ length moments.old) × (length frames.new ≡ length frames.old) }
     {
-        let (count, found) = self.machine.take(piece);
+        let (count, found) = self.reader.take(piece);
         if let Some(found) = found {
-            if let Some((moment, frame)) = self.ear.hear(&found, arrival) {
+            if let Some(moment) = self.ear.hear(&found, arrival) {
                 moments[given] = moment;
-                frames[given] = *frame;
+                frames[given] = frame_in(&found);
                 return (count, given + 1);
             }
         }
@@ -287,21 +312,23 @@ impl Feed {
         arrival: u64,
         text: &mut TextBuffer<N>,
     ) -> usize
-        requires some { 0 < length piece.now }
+        requires some { (0 < length piece.now) ⊎ (0 < calls_left self.old.reader) }
         requires room { text_len text.old + 50 ≤ N }
         ensures fits { result ≤ length piece.now }
-        ensures some { 0 < result }
+        ensures goes_on { calls_left self.new.reader < calls_left self.old.reader + 7 * result }
+        ensures first { 0 < length piece.now → result ≡ 0
+            → text_len text.new + 50 * waiting self.new.reader ≤ text_len text.old + 50 * waiting self.old.reader }
         ensures written { HasWritten arrival self.old (take result piece.now) text.old.bytes text.new.bytes self.new }
     {
-        if let Some((message, count)) = self.machine.whole_message(piece) {
+        if let Some((message, count)) = self.reader.whole_message(piece) {
             self.tell(&message, arrival, text);
             return count;
         }
-        if let Some((message, count)) = self.machine.whole_row(piece) {
+        if let Some((message, count)) = self.reader.whole_row(piece) {
             self.tell(&message, arrival, text);
             return count;
         }
-        if let Some((message, count)) = self.machine.whole_line(piece) {
+        if let Some((message, count)) = self.reader.whole_line(piece) {
             self.tell(&message, arrival, text);
             return count;
         }
@@ -312,13 +339,26 @@ impl Feed {
     #[inline(always)]
     fn tell<const N: usize>(&mut self, message: &Message, arrival: u64, text: &mut TextBuffer<N>)
         requires { text_len text.old + 50 ≤ N }
-        ensures machine { self.new.machine ≡ self.old.machine }
+        ensures reader { self.new.reader ≡ self.old.reader }
         ensures heard { self.new.ear ≡ ear_after arrival self.old.ear (Found.Whole message.now) }
         ensures text { text.new.bytes ≡ text.old.bytes
             ++ lines_of (told_of arrival self.old.ear (Found.Whole message.now)) }
     {
-        if let Some((moment, frame)) = self.ear.hear_message(message, arrival) {
-            push_log_line(text, moment, frame);
+        if let Some(moment) = self.ear.hear_message(message, arrival) {
+            push_log_line(text, moment, &whole_of(&message.frame));
+        }
+    }
+
+    // Hears an item, and appends its line, if it has one.
+    fn tell_item<const N: usize>(&mut self, found: &Found, arrival: u64, text: &mut TextBuffer<N>)
+        requires { text_len text.old + 50 ≤ N }
+        ensures reader { self.new.reader ≡ self.old.reader }
+        ensures heard { self.new.ear ≡ ear_after arrival self.old.ear found.now }
+        ensures text { text.new.bytes ≡ text.old.bytes ++ lines_of (told_of arrival self.old.ear found.now) }
+        ensures len { text_len text.new ≤ text_len text.old + 50 }
+    {
+        if let Some(moment) = self.ear.hear(found, arrival) {
+            push_log_line(text, moment, &frame_in(found));
         }
     }
 
@@ -330,17 +370,17 @@ impl Feed {
         arrival: u64,
         text: &mut TextBuffer<N>,
     ) -> usize
-        requires some { 0 < length piece.now }
+        requires some { (0 < length piece.now) ⊎ (0 < calls_left self.old.reader) }
         requires room { text_len text.old + 50 ≤ N }
         ensures fits { result ≤ length piece.now }
-        ensures some { 0 < result }
+        ensures goes_on { calls_left self.new.reader < calls_left self.old.reader + 7 * result }
+        ensures first { 0 < length piece.now → result ≡ 0
+            → text_len text.new + 50 * waiting self.new.reader ≤ text_len text.old + 50 * waiting self.old.reader }
         ensures written { HasWritten arrival self.old (take result piece.now) text.old.bytes text.new.bytes self.new }
     {
-        let (count, found) = self.machine.take(piece);
+        let (count, found) = self.reader.take(piece);
         if let Some(found) = found {
-            if let Some((moment, frame)) = self.ear.hear(&found, arrival) {
-                push_log_line(text, moment, frame);
-            }
+            self.tell_item(&found, arrival, text);
         }
         count
     }

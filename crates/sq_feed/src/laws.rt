@@ -1,30 +1,30 @@
 //! Laws of streams, texts and clocks. A function with an empty body does nothing: its contract is the law.
 ghost use Rattle.std.specs.Prelude.{◌≡◌, ◌↔◌, ◌++◌, codes, ◌+◌, ◌*◌, ◌^◌, ◌%◌, ◌<◌, ◌≤◌, ℕ, List, [], ◌∷◌, length, take};
-ghost use Rattle.std.specs.Prelude.{None, Some, map, option_to_list, true};
+ghost use Rattle.std.specs.Prelude.{max, None, Option, Some, map, option_to_list, true};
 ghost use Rattle.sq_feed.specs.declared.message.Found.{Found as Item};
 ghost use Rattle.sq_feed.specs.Laws.{AreSent, AreTakes, GivesTheStream, IsFoundOnce, IsReadOnce, Sent, SentIsFound};
 ghost use Rattle.sq_feed.specs.Laws.{SentIsFoundAnywhere, StartSplits, Step};
 ghost use Rattle.sq_feed.specs.Avr.{AreHex, AvrSent, BareFrameIsFound, IsSent, SentFrameIsFound, avr_found, lead, mark_of};
-ghost use Rattle.sq_feed.specs.Ears.{CountsEach, Told, ear_after_all, lost, told_of_all};
-ghost use Rattle.sq_feed.specs.Feeds.{AreFed, Fed, Feeding, FeedsGoOn, FeedsTheWhole, HasEnded, HasFed, HasGiven, HasLost};
-ghost use Rattle.sq_feed.specs.Feeds.{HasWritten, lines_of};
+ghost use Rattle.sq_feed.specs.Ears.{AreNear, CountsEach, StaysNear, Told, ear_after_all, lost, told_of_all};
+ghost use Rattle.sq_feed.specs.Feeds.{AreFed, Fed, Feeding, FeedsBoth, FeedsGoOn, FeedsTheWhole, HasClosedFeed, HasEnded, HasFed};
+ghost use Rattle.sq_feed.specs.Feeds.{HasGiven, HasLost, HasWritten, lines_of};
+ghost use Rattle.sq_feed.specs.Finding.{any_found, bare_item, millis_item};
 ghost use Rattle.sq_feed.specs.Follows.{FollowsMore};
 ghost use Rattle.sq_feed.specs.Kinds.{frame_len, message_len};
-ghost use Rattle.sq_feed.specs.Machines.{dropped, machine_of, to_come};
+ghost use Rattle.sq_feed.specs.Readers.{HasClosed, IsNew, Reads, awaited, items_as, lost_items};
 ghost use Rattle.sq_feed.specs.Clock.{AreHeardAt, AreSoon, Counted, Hearing, IsHeard, KeepsTheTime};
 ghost use Rattle.sq_feed.specs.Rows.{BegunRow, IsHeld, LineIsRead, csv_start, rows_from};
-ghost use Rattle.sq_feed.specs.Sniffing.{HasRaced, HaveRaced, NothingIsSeen, Racing, ShownInPieces, Sniffing, first_shown};
-ghost use Rattle.sq_feed.specs.Sniffing.{in_turn, needed};
 ghost use Rattle.sq_feed.specs.declared.order.Timed.{Timed};
-ghost use Rattle.sq_feed.specs.Orders.{AreTimely, GivesAll, GivesInOrder, PopsTheFirst, RiseFrom, given_by, held_by};
-ghost use Rattle.sq_feed.specs.Orders.{last_moment};
-ghost use Rattle.sq_feed.specs.Machines.{items_of};
+ghost use Rattle.sq_feed.specs.Orders.{AllUntil, AreSorted, AreTimely, ComeInTime, GivesAll, GivesInOrder, GivesTheFirst};
+ghost use Rattle.sq_feed.specs.Orders.{HasFlushed, HasSorted, InTimeIsTimely, RiseFrom, Sorted, Sorting, SortsStably};
+ghost use Rattle.sq_feed.specs.Orders.{SortsTheWhole, count_of, given_all, is_recent, latest_of, nothing_sorted};
+ghost use Rattle.sq_feed.specs.Orders.{sorted_all, timed_at};
 ghost use Rattle.sq_feed.specs.Follows.{Follows};
 ghost use Rattle.sq_feed.specs.Stream.{Hold, Spell, Symbol, found_in};
 
 use crate::beast::Beast;
 use crate::machine::Format;
-use crate::message::{Found, RawFrame, Time};
+use crate::message::{Found, RawFrame, Stranger, Time};
 use crate::rows::Layout;
 
 /// Exactly one list of symbols spells any bytes, and exactly one list of items is found in them.
@@ -82,21 +82,32 @@ pub fn takes_go_on()
 pub fn feed_gives_the_whole()
     ensures on { FeedsGoOn }
     ensures whole { FeedsTheWhole }
+    ensures both { FeedsBoth }
 {}
 
-/// The format that a source shows first does not depend on how its bytes are cut into pieces. A new sniffer has seen
-/// nothing.
-pub fn format_is_shown_once()
-    ensures cut { ShownInPieces }
-    ensures start { NothingIsSeen }
-{}
-
-/// Each squitter that comes into an order is given or held, as often as it came. The timestamps of those that are given
-/// rise, if no squitter comes after a later one was given.
+/// An order loses and doubles no squitter. If each is late by at most `reorder`, and fewer than 4096 are recent at a
+/// time, what is given, and then what is held, is what came, sorted. The cut into calls does not matter.
 pub fn orders_keep_all()
     ensures all { GivesAll }
     ensures sorted { GivesInOrder }
-    ensures popped { PopsTheFirst }
+    ensures in_time { InTimeIsTimely }
+    ensures stable { SortsStably }
+    ensures whole { SortsTheWhole }
+    ensures first { GivesTheFirst }
+{}
+
+/// No timestamp of a feed is before the latest one by more than `late`.
+pub fn timestamps_stay_near()
+    ensures { StaysNear }
+{}
+
+/// Frames with timestamps near the latest one.
+pub fn nearness_exactly()
+    ensures none { (late latest : ℕ) → AreNear late latest [] }
+    ensures more { (late latest : ℕ) (one : Told) (more : List Told) → AreNear late latest (one ∷ more)
+        ↔ ((latest ≤ one.moment + late) × AreNear late (max latest one.moment) more) }
+    ensures first { (late latest : ℕ) (one : Told) (more : List Told) → AreNear late latest (one ∷ more)
+        → latest ≤ one.moment + late }
 {}
 
 /// Each item is counted once, and each squitter with a timestamp is counted as written.
@@ -149,45 +160,68 @@ pub fn feeds_exactly()
         × (after ≡ moments ++ map (λ (t : Told). t.moment) (told_of_all arrival old.ear found))
         × (more ≡ frames ++ map (λ (t : Told). t.frame) (told_of_all arrival old.ear found))) }
     ensures ended { (arrival : ℕ) (old new : Feeding) → HasEnded arrival old new
-        ↔ ((new.machine ≡ machine_of old.machine.format)
-        × (new.ear ≡ ear_after_all arrival old.ear (to_come old.machine []))) }
-    ensures dropped { (old new : Feeding) → HasLost old new ↔ ((new.machine ≡ machine_of old.machine.format)
-        × (new.ear ≡ lost (ear_after_all 0 old.ear (dropped old.machine)))) }
+        ↔ (IsNew old.reader.asked new.reader
+        × (new.ear ≡ ear_after_all arrival old.ear (awaited old.reader []))) }
+    ensures closed { (old new : Feeding) → HasClosedFeed old new
+        ↔ (HasClosed old.reader new.reader × (new.ear ≡ old.ear)) }
+    ensures lost { (old new : Feeding) → HasLost old new ↔ (IsNew old.reader.asked new.reader
+        × (new.ear ≡ lost (ear_after_all 0 old.ear (lost_items old.reader)))) }
 {}
 
-/// A machine that races has taken the bytes so far, and counts the messages that came in turn.
-pub fn sniffers_exactly()
-    ensures one { (format : Format) (racing : Racing) (seen : List ℕ) → HasRaced format racing seen
-        ↔ ((racing.machine.format ≡ format) × ((items : List Item)
-        × Follows (items_of format) seen items (to_come racing.machine)
-        × (racing.run ≡ in_turn (needed format) 0 items))) }
-    ensures all { (sniffing : Sniffing) (seen : List ℕ) → HaveRaced sniffing seen
-        ↔ (HasRaced Format.Beast sniffing.beast seen × HasRaced Format.Avr sniffing.avr seen
-        × HasRaced Format.Csv sniffing.csv seen × HasRaced Format.Log sniffing.log seen) }
+/// A reader at the start of a source, and one after the end of its source.
+pub fn readers_exactly()
+    ensures start { (asked : Option Format) (reads : Reads) → IsNew asked reads
+        ↔ ((reads.asked ≡ asked) × ((bytes : List ℕ) → awaited reads bytes ≡ items_as asked bytes)) }
+    ensures closed { (old new : Reads) → HasClosed old new ↔ ((new.asked ≡ old.asked)
+        × ((bytes : List ℕ) → awaited new bytes ≡ awaited old [] ++ items_as old.asked bytes)) }
 {}
 
-/// The formats that short sources show first.
+/// The items of short sources of unknown format.
+#[tactic(auto, unfolding(crate::specs::Finding::line_sign, crate::specs::Finding::start_sign))]
 pub fn formats_in_letters()
-    ensures log { first_shown [] (codes "7 *2040;" ++ 10 ∷ []) ≡ Some Format.Log }
-    ensures table { first_shown [] (codes "7,x,2040" ++ 10 ∷ []) ≡ Some Format.Csv }
-    ensures text { first_shown [] (codes "*2040;" ++ 10 ∷ []) ≡ Some Format.Avr }
-    ensures line { first_shown [] (codes "*2040;") ≡ None }
-    ensures nothing { first_shown [] (codes "2040x" ++ 10 ∷ []) ≡ None }
+    ensures log { any_found (codes "x" ++ 10 ∷ codes "7 2040" ++ 10 ∷ codes "8 2041")
+        ≡ Found.Damage ∷ millis_item 7 64 ∷ millis_item 8 65 ∷ [] }
+    ensures table { any_found (codes "rawmsg,time" ++ 10 ∷ codes "2040,.5" ++ 10 ∷ codes "2040,1.5")
+        ≡ Found.Damage ∷ millis_item 1500 64 ∷ [] }
+    ensures text { any_found (codes "*2040;*2041;") ≡ bare_item 64 ∷ bare_item 65 ∷ [] }
+    ensures none { any_found (codes "2040") ≡ Found.Foreign Stranger.NoFrame ∷ [] }
+    ensures nothing { any_found [] ≡ [] }
+    ensures other { any_found (codes "MSG,3" ++ 10 ∷ codes "7 2040") ≡ Found.Foreign Stranger.Sbs ∷ [] }
 {}
 
-/// Timestamps that rise, and squitters that come in time.
+/// The words of orders: timestamps that rise, squitters that come in time, and calls.
 pub fn orders_exactly()
     ensures nothing { (moment : ℕ) → RiseFrom moment [] }
     ensures rising { (moment : ℕ) (one : Timed) (more : List Timed)
         → RiseFrom moment (one ∷ more) ↔ ((moment ≤ one.moment) × RiseFrom one.moment more) }
     ensures first { (moment : ℕ) (one : Timed) (more : List Timed) → RiseFrom moment (one ∷ more)
         → moment ≤ one.moment }
-    ensures none { (room moment : ℕ) (held : List Timed) → AreTimely room moment held [] }
-    ensures next { (room moment : ℕ) (held : List Timed) (one : Timed) (more : List Timed)
-        → AreTimely room moment held (one ∷ more) → moment ≤ one.moment }
-    ensures timely { (room moment : ℕ) (held : List Timed) (one : Timed) (more : List Timed)
-        → AreTimely room moment held (one ∷ more) ↔ ((moment ≤ one.moment)
-        × AreTimely room (last_moment moment (given_by room held one)) (held_by room held one) more) }
+    ensures until { (moment : ℕ) (one : Timed) (more : List Timed)
+        → AllUntil moment (one ∷ more) ↔ ((one.moment ≤ moment) × AllUntil moment more) }
+    ensures timely { (room : ℕ) (s : Sorting) (came : List Timed) → AreTimely room s came
+        ↔ ((before : List Timed) (one : Timed) (after : List Timed) → came ≡ before ++ one ∷ after
+        → AllUntil one.moment (given_all room s before)) }
+    ensures in_time { (room reorder : ℕ) (came : List Timed) → ComeInTime room reorder came
+        ↔ ((before : List Timed) (one : Timed) (after : List Timed) → came ≡ before ++ one ∷ after
+        → (latest_of 0 before ≤ one.moment + reorder)
+        × (count_of (is_recent reorder (latest_of 0 (before ++ one ∷ []))) (before ++ one ∷ []) < room)) }
+    ensures sorted { (room : ℕ) (old new : Sorting) (came given : List Timed) → HasSorted room old came given new
+        ↔ (((more : List Timed) → given_all room old (came ++ more) ≡ given ++ given_all room new more)
+        × ((more : List Timed) → sorted_all room old (came ++ more) ≡ sorted_all room new more)) }
+    ensures flushed { (old new : Sorting) (given : List Timed) → HasFlushed old given new
+        ↔ ((given ++ new.held ≡ old.held) × (new.reorder ≡ old.reorder) × (new.latest ≡ old.latest)) }
+    ensures none { (room : ℕ) (before : Sorting) → AreSorted room before [] }
+    ensures calls { (room : ℕ) (before : Sorting) (one : Sorted) (more : List Sorted)
+        → AreSorted room before (one ∷ more)
+        ↔ (HasSorted room before one.came one.given one.after × AreSorted room one.after more) }
+{}
+
+/// What an order with a delay of 5 ms gives and holds, with room for few.
+pub fn orders_in_numbers()
+    ensures given { given_all 5 (nothing_sorted 5) (map timed_at (10 ∷ 8 ∷ 12 ∷ 9 ∷ 13 ∷ [])) ≡ map timed_at (8 ∷ []) }
+    ensures held { (sorted_all 5 (nothing_sorted 5) (map timed_at (10 ∷ 8 ∷ 12 ∷ 13 ∷ []))).held
+        ≡ map timed_at (10 ∷ 12 ∷ 13 ∷ []) }
+    ensures full { given_all 3 (nothing_sorted 50) (map timed_at (10 ∷ 12 ∷ 9 ∷ 8 ∷ [])) ≡ map timed_at (9 ∷ 8 ∷ []) }
 {}
 
 /// A row counts as too long only once it holds 512 bytes.

@@ -4,7 +4,8 @@
 //! reads, or fills arrays that go to a tracker, and counts what becomes of every item ([`Counts`]). [`Beast`], [`Avr`]
 //! and [`Rows`] split bytes into items: messages, and damage between them. How the bytes are cut into pieces never
 //! matters. [`Times`] gives each squitter its timestamp: by its receiver's [`Clock`], by its arrival, or its own. A
-//! [`Sniffer`] finds the format of a source by its first bytes, and an [`Order`] sorts squitters. No call takes memory.
+//! feed without a format finds it by the first bytes, and names a source without frames ([`Stranger`]). An [`Order`]
+//! sorts squitters by their timestamps. No call takes memory.
 #![tactic(auto)]
 
 mod avr;
@@ -15,15 +16,18 @@ mod counts;
 mod digit_values;
 mod ear;
 mod feed;
+mod finder;
 pub mod laws;
 mod lines;
 mod machine;
+mod manner;
 mod message;
 mod order;
 mod plain_rows;
 mod plain_words;
+mod reader;
 mod rows;
-mod sniff;
+mod signs;
 mod times;
 
 pub use avr::Avr;
@@ -33,9 +37,9 @@ pub use counts::{Counts, Fate};
 pub use feed::Feed;
 pub use lines::{LINE_LIMIT, push_log_line};
 pub use machine::Format;
-pub use message::{Found, Message, RawFrame, Time};
-pub use order::{Order, Timed};
+pub use manner::Manner;
+pub use message::{Found, Message, RawFrame, Stranger, Time};
+pub use order::Order;
 pub use rows::{Columns, Layout, Rows};
-pub use sniff::Sniffer;
 pub use sq_digits::TextBuffer;
 pub use times::Times;

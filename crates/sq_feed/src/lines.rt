@@ -1,34 +1,61 @@
 //! Lines of a log, in the form that `track` reads.
-ghost use Rattle.std.specs.Prelude.{◌≡◌, ◌+◌, ◌*◌, ◌≤◌, ◌++◌, length};
+ghost use Rattle.std.specs.Prelude.{◌≡◌, ◌+◌, ◌*◌, ◌≤◌, ◌++◌, length, take};
 ghost use Rattle.sq_digits.specs.Buffer.{text_len};
-ghost use Rattle.sq_feed.specs.Lines.{line_tail, log_line};
+ghost use Rattle.sq_feed.specs.Lines.{line_tail, log_line, tail_of};
 
 use sq_digits::{TextBuffer, push_byte, push_decimal};
 
-// The bytes behind the timestamp: a space, the digits of the frame, and a line feed.
+// The bytes behind the timestamp: a space, the digits of a long or of a short frame, and a line feed.
 const TAIL: usize = 30;
+
+const SHORT_TAIL: usize = 16;
+
+// The first downlink format of long frames.
+const FIRST_LONG: u8 = 16;
 
 /// The most bytes that a line has.
 pub const LINE_LIMIT: usize = 50;
 
-/// Appends the line of a frame and its timestamp (ms). Needs room for `LINE_LIMIT` bytes.
+/// Appends the line of a frame and its timestamp (ms). A frame of a downlink format below 16 has seven bytes, the first
+/// ones. Needs room for `LINE_LIMIT` bytes.
 #[inline(never)]
 #[tactic(auto, unfolding(crate::specs::Lines::log_line))]
 pub fn push_log_line<const N: usize>(text: &mut TextBuffer<N>, moment: u64, frame: &[u8; 14])
     requires { text_len text.old + 50 ≤ N }
     ensures bytes { text.new.bytes ≡ text.old.bytes ++ log_line moment frame.now }
+    ensures some { text_len text.old + 16 ≤ text_len text.new }
     ensures len { text_len text.new ≤ text_len text.old + 50 }
 {
     push_decimal(text, moment);
-    push_tail(text, frame);
+    if frame[0] >> 3 < FIRST_LONG {
+        push_short_tail(text, frame);
+    } else {
+        push_tail(text, frame);
+    }
 }
 
-// Appends the part after the timestamp. It is built in a separate text, so that the compiler knows its length at each
-// byte.
+// Appends the part after the timestamp of a short frame.
+#[inline(never)]
+fn push_short_tail<const N: usize>(text: &mut TextBuffer<N>, frame: &[u8; 14])
+    requires { text_len text.old + 16 ≤ N }
+    ensures bytes { text.new.bytes ≡ text.old.bytes ++ tail_of (take 7 frame.now) }
+    ensures len { text_len text.new ≡ text_len text.old + 16 }
+{
+    let mut tail = TextBuffer::<16>::new();
+    tail.push(b' ');
+    for byte in &frame[..7] {
+        push_byte(&mut tail, *byte);
+    }
+    tail.push(b'\n');
+    text.push_front(tail.as_bytes(), SHORT_TAIL);
+}
+
+// Appends the part after the timestamp of a long frame. It is built in a separate text, so that the compiler knows its
+// length at each byte.
 #[inline(always)]
 fn push_tail<const N: usize>(text: &mut TextBuffer<N>, frame: &[u8; 14])
     requires { text_len text.old + 30 ≤ N }
-    ensures bytes { text.new.bytes ≡ text.old.bytes ++ line_tail frame.now }
+    ensures bytes { text.new.bytes ≡ text.old.bytes ++ tail_of frame.now }
     ensures len { text_len text.new ≡ text_len text.old + 30 }
 {
     let mut tail = TextBuffer::<30>::new();

@@ -1,7 +1,7 @@
 //! The machine of each format.
 ghost use Rattle.std.specs.Prelude.{◌≡◌, ◌<◌, ◌≤◌, [], ◌∷◌, IfSome, length, take, option_to_list};
 ghost use Rattle.sq_feed.specs.Follows.{Follows};
-ghost use Rattle.sq_feed.specs.Machines.{dropped, layout_of, machine_of, to_come};
+ghost use Rattle.sq_feed.specs.Machines.{dropped, layout_of, machine_with, to_come};
 
 use crate::avr::Avr;
 use crate::beast::Beast;
@@ -41,16 +41,23 @@ impl Model for Machine {
 }
 
 impl Machine {
-    // Returns the machine of a format, at the start of a source.
-    pub(crate) fn new(format: Format) -> Machine
-        ensures { result ≡ machine_of format }
+    // Returns the machine of a format, at the start of a source. Its rows have this layout.
+    pub(crate) fn starting(format: Format, layout: Layout) -> Machine
+        ensures { result ≡ machine_with format layout }
     {
         Machine {
             format,
             beast: Beast::new(),
             avr: Avr::new(),
-            rows: Rows::new(layout_of(format)),
+            rows: Rows::new(layout),
         }
+    }
+
+    // Returns the format.
+    pub(crate) fn format(&self) -> Format
+        ensures { result ≡ self.now.format }
+    {
+        self.format
     }
 
     // Returns the message at the front of a piece and its length, if it is whole in a Beast stream, without an escape,
@@ -138,19 +145,10 @@ impl Machine {
             Format::Log => self.rows.cut_off(),
         }
     }
-
-    // Goes to the start of another source.
-    pub(crate) fn restart(&mut self)
-        ensures { self.new ≡ machine_of self.old.format }
-    {
-        self.beast = Beast::new();
-        self.avr = Avr::new();
-        self.rows.restart(layout_of(self.format));
-    }
 }
 
 // Returns the layout of lines in a format.
-fn layout_of(format: Format) -> Layout
+pub(crate) fn layout_of(format: Format) -> Layout
     ensures { result ≡ layout_of format }
 {
     match format {

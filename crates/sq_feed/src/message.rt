@@ -45,11 +45,30 @@ pub struct Message {
     pub frame: RawFrame,
 }
 
-/// An item of a source: a message, or bytes that belong to no message.
+/// What a source is, if it holds no frames in a known format.
 #[derive(Clone, Copy)]
+pub enum Stranger {
+    /// SBS (BaseStation) text, which has positions and no frames.
+    Sbs,
+    /// A tar archive.
+    Tar,
+    /// Compressed by gzip, bzip2, xz or zstd, or a zip archive.
+    Packed,
+    /// Text in UTF-16.
+    Utf16,
+    /// Lines of JSON.
+    Json,
+    /// Bytes without any frame.
+    NoFrame,
+}
+
+/// An item of a source: a message, bytes that belong to no message, or a whole source that holds no frames.
+#[derive(Clone, Copy, Default)]
 pub enum Found {
     Whole(Message),
+    #[default]
     Damage,
+    Foreign(Stranger),
 }
 
 // Returns the kind that a type byte starts.

@@ -14,7 +14,7 @@ use arrayvec::ArrayVec;
 use std::marker::Model;
 
 // The maximum length of a line in bytes.
-const LONGEST: usize = 512;
+pub(crate) const LONGEST: usize = 512;
 
 // The maximum number of digits of a timestamp.
 const MOMENT: usize = 20;
@@ -131,6 +131,7 @@ impl Rows {
         match row_read(self.layout, &near[..end]) {
             Row::One(Found::Whole(message)) => Some((message, end + 1)),
             Row::One(Found::Damage) => None,
+            Row::One(Found::Foreign(_)) => None,
             Row::Blank => None,
             Row::Names(_) => None,
         }
@@ -253,7 +254,7 @@ impl Rows {
 }
 
 // Reads a line.
-fn row_read(layout: Layout, line: &[u8]) -> Row
+pub(crate) fn row_read(layout: Layout, line: &[u8]) -> Row
     requires { length line.now ≤ 512 }
     ensures { result ≡ row_read layout line.now }
 {
@@ -342,7 +343,7 @@ fn columns_of(row: &[u8]) -> Option<Columns>
 }
 
 // Drops this byte from the end of a text, if it is there.
-fn without_last(byte: u8, text: &[u8]) -> &[u8]
+pub(crate) fn without_last(byte: u8, text: &[u8]) -> &[u8]
     ensures value { result.now ≡ without_last byte text.now }
     ensures within { length result.now ≤ length text.now }
 {

@@ -1,27 +1,31 @@
 //! The timestamps of frames: by their receiver's clock, by their arrival, or their own.
-ghost use Rattle.std.specs.Prelude.{◌≡◌, ◌*◌, ◌≤◌, ℕ, MatchOption, false, true};
-ghost use Rattle.sq_feed.specs.Times.{anew_of, by_arrival, by_clock, by_own, due, gone_on, is_clock_told, is_own_told, is_row_fit};
-ghost use Rattle.sq_feed.specs.Times.{is_told_at, no_times, other_times, row_agrees, times_after, waited};
+ghost use Rattle.std.specs.Prelude.{◌≡◌, ◌+◌, ◌*◌, ◌≤◌, ℕ, IfSome, MatchOption, false, true};
+ghost use Rattle.sq_feed.specs.Times.{anew_of, by_arrival, by_clock, by_own, clock_moment, due, gone_on, is_clock_told};
+ghost use Rattle.sq_feed.specs.Times.{is_own_told, is_row_fit, is_told_at, moment_at, no_times, other_times, row_agrees};
+ghost use Rattle.sq_feed.specs.Times.{times_after, told_as, waited};
 
 use crate::clock::Clock;
+use crate::manner::Manner;
 use crate::message::Time;
 use std::marker::Model;
 
 // The ticks of a millisecond.
 const RATE: u64 = 12_000;
 
-// The milliseconds that a row's time may be late.
+// The milliseconds that a row's time may always be late.
 const JITTER: u64 = 1000;
 
 // The rows in turn that make a jump.
 const AGREEING: u8 = 3;
 
-/// Gives frames their timestamps (ms). They never go back.
+/// Gives frames their timestamps (ms). None is before the latest one by more than `Manner::late`.
 #[derive(Drop)]
 pub struct Times {
     clock: Clock,
     is_live: bool,
+    ignores_clock: bool,
     leap: u64,
+    late: u64,
     latest: u64,
     arrival: u64,
     read_at: u64,
@@ -39,7 +43,9 @@ impl Model for Times {
     ghost view = { λ s. record {
       clock = s.clock;
       is_live = s.is_live;
+      ignores_clock = s.ignores_clock;
       leap = s.leap;
+      late = s.late;
       latest = s.latest;
       arrival = s.arrival;
       read_at = s.read_at;
@@ -52,15 +58,19 @@ impl Model for Times {
 }
 
 impl Times {
-    /// Returns the times of a source before its first frame. A gap above `leap` milliseconds is a jump. The arrivals of
-    /// a live source say when its frames were received; those of a recorded source are ignored.
-    pub fn new(leap: u64, is_live: bool) -> Times
-        ensures { result ≡ no_times leap is_live }
+    /// Returns the times of a source before its first frame.
+    pub fn new(manner: &Manner) -> Times
+        ensures { result ≡ no_times manner.now }
     {
         Times {
-            clock: Clock::new(leap.saturating_mul(RATE)),
-            is_live,
-            leap,
+            clock: Clock::new(
+                manner.leap.saturating_mul(RATE),
+                manner.late.saturating_mul(RATE),
+            ),
+            is_live: manner.is_live,
+            ignores_clock: manner.ignores_clock,
+            leap: manner.leap,
+            late: manner.late,
             latest: 0,
             arrival: 0,
             read_at: 0,
@@ -70,20 +80,22 @@ impl Times {
         }
     }
 
-    /// Hears the time that a source states of a frame, and its arrival (ms). Returns the timestamp, at or after all
-    /// before it, or `None` where the time is set aside. A frame without a time has its arrival; in a recorded source
-    /// it has the timestamp of the frame before it, or 0.
+    /// Hears the time that a source states of a frame, and its arrival (ms). Returns the timestamp, or `None` where the
+    /// time is set aside. A frame without a time has its arrival; in a recorded source it has the latest timestamp, or
+    /// 0. An earlier time than the latest timestamp is moved to it, or to `late` before it.
     #[inline(always)]
     pub fn hear(&mut self, time: Time, arrival: u64) -> Option<u64>
         ensures kept { self.new ≡ times_after self.old time arrival }
         ensures told { MatchOption result (is_told_at self.old time arrival ≡ false)
-            (λ moment. (is_told_at self.old time arrival ≡ true) × (moment ≡ self.new.latest)) }
+            (λ moment. (is_told_at self.old time arrival ≡ true) × (moment ≡ moment_at self.old time arrival)) }
+        ensures near { IfSome result (λ moment. (moment ≤ self.new.latest)
+            × (self.new.latest ≤ moment + self.old.late)) }
         ensures goes_on { self.old.latest ≤ self.new.latest }
     {
         match time {
             Time::Unknown => Some(self.hear_arrival(arrival)),
             Time::Ticks(ticks) => {
-                if ticks == 0 {
+                if ticks == 0 || self.ignores_clock {
                     Some(self.hear_arrival(arrival))
                 } else {
                     self.hear_clock(ticks, arrival)
@@ -103,7 +115,8 @@ impl Times {
     // Hears a frame without a time.
     fn hear_arrival(&mut self, arrival: u64) -> u64
         ensures kept { self.new ≡ by_arrival self.old arrival }
-        ensures told { result ≡ self.new.latest }
+        ensures told { result ≡ told_as self.old (due self.old arrival) }
+        ensures near { (result ≤ self.new.latest) × (self.new.latest ≤ result + self.old.late) }
         ensures goes_on { self.old.latest ≤ self.new.latest }
     {
         let moment = self.due(arrival);
@@ -115,7 +128,10 @@ impl Times {
     fn hear_clock(&mut self, ticks: u64, arrival: u64) -> Option<u64>
         ensures kept { self.new ≡ by_clock self.old ticks arrival }
         ensures told { MatchOption result (is_clock_told self.old ticks arrival ≡ false)
-            (λ moment. (is_clock_told self.old ticks arrival ≡ true) × (moment ≡ self.new.latest)) }
+            (λ moment. (is_clock_told self.old ticks arrival ≡ true)
+            × (moment ≡ told_as self.old (clock_moment self.old ticks arrival))) }
+        ensures near { IfSome result (λ moment. (moment ≤ self.new.latest)
+            × (self.new.latest ≤ moment + self.old.late)) }
         ensures goes_on { self.old.latest ≤ self.new.latest }
     {
         let waited = self.waited(arrival);
@@ -133,7 +149,8 @@ impl Times {
     fn hear_own(&mut self, moment: u64, arrival: u64) -> Option<u64>
         ensures kept { self.new ≡ by_own self.old moment arrival }
         ensures told { MatchOption result (is_own_told self.old moment ≡ false)
-            (λ told. (is_own_told self.old moment ≡ true) × (told ≡ self.new.latest)) }
+            (λ told. (is_own_told self.old moment ≡ true) × (told ≡ told_as self.old moment)) }
+        ensures near { IfSome result (λ told. (told ≤ self.new.latest) × (self.new.latest ≤ told + self.old.late)) }
         ensures goes_on { self.old.latest ≤ self.new.latest }
     {
         if self.is_row_fit(moment) {
@@ -157,12 +174,13 @@ impl Times {
         None
     }
 
-    // Returns whether a row's time follows the latest timestamp within a leap, or is late by at most a second.
+    // Returns whether a row's time follows the latest timestamp within a leap, or is late by at most `late`, or by a
+    // second.
     fn is_row_fit(&self, moment: u64) -> bool
         ensures { result ≡ is_row_fit self.now moment }
     {
         !self.is_dated
-            || self.latest <= moment.saturating_add(JITTER)
+            || self.latest <= moment.saturating_add(self.late.max(JITTER))
                 && moment <= self.latest.saturating_add(self.leap)
     }
 
@@ -173,18 +191,20 @@ impl Times {
         self.votes != 0 && self.aside <= moment
     }
 
-    // Takes the timestamp of a frame, and returns the latest one.
+    // Takes the moment of a frame, and returns its timestamp.
     #[inline(always)]
     fn go_on(&mut self, moment: u64, arrival: u64) -> u64
         ensures kept { self.new ≡ gone_on self.old moment arrival }
-        ensures told { result ≡ self.new.latest }
+        ensures told { result ≡ told_as self.old moment }
+        ensures near { (result ≤ self.new.latest) × (self.new.latest ≤ result + self.old.late) }
         ensures goes_on { self.old.latest ≤ self.new.latest }
     {
         if self.latest <= moment {
             self.latest = moment;
             self.arrival = arrival;
+            return moment;
         }
-        self.latest
+        moment.max(self.latest.saturating_sub(self.late))
     }
 
     // Returns the present timestamp, by what has passed since the latest frame arrived.

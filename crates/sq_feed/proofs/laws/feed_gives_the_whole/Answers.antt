@@ -1,4 +1,4 @@
-use Rattle.sq_feed.proofs.Feeding.{feeds_the_whole, written_more}
+use Rattle.sq_feed.proofs.Feeding.{feeds_both, feeds_the_whole, written_more}
 use Rattle.sq_feed.proofs.laws.feed_gives_the_whole.Goals as goal
 
 pub returns-clause-on : goal.returns-clause-on
@@ -6,3 +6,6 @@ returns-clause-on c = written_more
 
 pub returns-clause-whole : goal.returns-clause-whole
 returns-clause-whole c = feeds_the_whole
+
+pub returns-clause-both : goal.returns-clause-both
+returns-clause-both c = feeds_both

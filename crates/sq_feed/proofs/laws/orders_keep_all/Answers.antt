@@ -1,4 +1,4 @@
-use Rattle.sq_feed.proofs.Ordering.{gives_all, gives_in_order, pops_the_first}
+use Rattle.sq_feed.proofs.Ordering.{gives_all, gives_in_order, gives_the_first, in_time_is_timely, sorts_stably, sorts_the_whole}
 use Rattle.sq_feed.proofs.laws.orders_keep_all.Goals as goal
 
 pub returns-clause-all : goal.returns-clause-all
@@ -7,5 +7,14 @@ returns-clause-all c = gives_all
 pub returns-clause-sorted : goal.returns-clause-sorted
 returns-clause-sorted c = gives_in_order
 
-pub returns-clause-popped : goal.returns-clause-popped
-returns-clause-popped c = pops_the_first
+pub returns-clause-in_time : goal.returns-clause-in_time
+returns-clause-in_time c = in_time_is_timely
+
+pub returns-clause-stable : goal.returns-clause-stable
+returns-clause-stable c = sorts_stably
+
+pub returns-clause-whole : goal.returns-clause-whole
+returns-clause-whole c = sorts_the_whole
+
+pub returns-clause-first : goal.returns-clause-first
+returns-clause-first c = gives_the_first

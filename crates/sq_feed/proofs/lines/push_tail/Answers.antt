@@ -1,16 +1,8 @@
 use Rattle.std.proofs.Common.{◌≡◌, ◌≤◌, ◌∙◌, ◌++◌, ◌∷◌, [], List, ℕ, ap, subst, sym, take, length, arith, rules}
 use Rattle.std.proofs.lemmas.List.{take_all}
 use Rattle.std.specs.Str.{IsAscii}
-use Rattle.sq_digits.specs.Characters.{space}
-use Rattle.sq_feed.specs.Lines.{frame_digits, line_tail}
-use Rattle.sq_feed.proofs.Digits.{ascii_tail}
+use Rattle.sq_feed.proofs.Digits.{ascii_tail, tail_is}
 use Rattle.sq_feed.proofs.lines.push_tail.Goals as goal
-
--- the tail that was made, of the bytes that the loop went over
-tail_is : (frame bytes made all : List ℕ) (n : ℕ) → length frame ≤ n → bytes ≡ all → all ≡ made ++ 10 ∷ []
-    → made ≡ space ∷ frame_digits (take n frame) → bytes ≡ line_tail frame
-tail_is frame bytes made all n whole same pushed is =
-    same ∙ pushed ∙ ap (λ l. l ++ 10 ∷ []) (is ∙ ap (λ l. space ∷ frame_digits l) (take_all n frame whole))
 
 pub push_front-requires : goal.push_front-requires
 push_front-requires g c =

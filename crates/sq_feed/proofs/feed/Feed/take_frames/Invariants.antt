@@ -1,12 +1,14 @@
-use Rattle.std.proofs.Common.{◌≡◌, ◌≤◌, ◌-◌, [], length, drop, take}
+use Rattle.std.proofs.Common.{◌≡◌, ◌≤◌, ◌+◌, ◌*◌, ◌-◌, [], length, drop, take}
 use Rattle.sq_feed.specs.Feeds.{HasGiven}
+use Rattle.sq_feed.specs.Readers.{calls_left}
+use Rattle.sq_feed.proofs.Feeding.{HasMoved}
 use Rattle.sq_feed.proofs.feed.Feed.take_frames.Given as goal
 
-abbrev pub invariant-loop-at : goal.invariant-loop-at
-invariant-loop-at l = record {
+abbrev pub invariant-loop-self : goal.invariant-loop-self
+invariant-loop-self l = record {
   fits : l.at ≤ length l.piece;
   few : l.given ≤ l.room;
-  none : l.at ≡ 0 → l.given ≡ 0;
+  moved : HasMoved (calls_left l.initial.self.reader) (calls_left l.self.reader) 0 l.given l.at;
   given : HasGiven l.arrival l.initial.self (take l.at l.piece) [] [] (take l.given l.moments)
       (take l.given l.frames) l.self;
   rest : (drop l.given l.moments ≡ drop l.given l.initial.moments)
@@ -14,5 +16,5 @@ invariant-loop-at l = record {
   long : (length l.moments ≡ length l.initial.moments) × (length l.frames ≡ length l.initial.frames);
 }
 
-abbrev pub decreases-loop-at : goal.decreases-loop-at
-decreases-loop-at l = length l.piece - l.at
+abbrev pub decreases-loop-self : goal.decreases-loop-self
+decreases-loop-self l = 7 * (length l.piece - l.at) + calls_left l.self.reader

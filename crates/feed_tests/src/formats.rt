@@ -1,0 +1,157 @@
+//! Feeds that find the format of their source, however it is cut.
+use crate::RECORDED;
+use sq_digits::TextBuffer;
+use sq_feed::{Feed, Format, Stranger};
+
+// The number that C has for a format or another source, and 4 where none is known.
+fn number(feed: &Feed) -> usize {
+    match feed.format() {
+        Some(Format::Beast) => 0,
+        Some(Format::Avr) => 1,
+        Some(Format::Csv) => 2,
+        Some(Format::Log) => 3,
+        None => match feed.stranger() {
+            None => 4,
+            Some(Stranger::Sbs) => 5,
+            Some(Stranger::Tar) => 6,
+            Some(Stranger::Packed) => 7,
+            Some(Stranger::Utf16) => 8,
+            Some(Stranger::Json) => 9,
+            Some(Stranger::NoFrame) => 10,
+        },
+    }
+}
+
+// The lines of a source, its number, and how many items are damage, in pieces of this size.
+fn lines(source: &[u8], size: usize) -> (TextBuffer<1024>, usize, u64) {
+    let mut text = TextBuffer::new();
+    let mut feed = Feed::new(None, &RECORDED);
+    for piece in source.chunks(size.max(1)) {
+        feed.take(piece, 0, &mut text);
+    }
+    let shown = number(&feed);
+    feed.close();
+    feed.take(b"", 0, &mut text);
+    let shown = if shown == 4 { number(&feed) } else { shown };
+    let damaged = feed.counts().damaged();
+    (text, shown, damaged)
+}
+
+// Whether a source has these lines, this number and so much damage, whole, byte by byte and by sevens.
+fn holds(source: &[u8], wanted: &str, shown: usize, damaged: u64) -> bool {
+    let mut good = true;
+    for size in [1, 7, 4096] {
+        let (text, number, damage) = lines(source, size);
+        good = good && text.as_str() == wanted && number == shown && damage == damaged;
+    }
+    good
+}
+
+// Three messages of Beast with the clocks 12,000,000, 12,000,000 and 24,000,000, and bytes of another before them.
+const BEAST: &[u8] =
+    b"x\x1a3\0\0\0\xb7\x1b\0\x80\x8d\x48\x40\xd6\x20\x2c\xc3\x71\xc3\x2c\xe0\x57\x60\x98\x1a2\0\0\0\xb7\x1b\0\x80\x5d\x48\x40\xd6\xf8\x3d\x31\x1a3\0\0\x01\x6e\x36\0\x80\x8d\x48\x40\xd6\x20\x2c\xc3\x71\xc3\x2c\xe0\x57\x60\x98";
+
+const TWO: &str = "1000 8D4840D6202CC371C32CE0576098\n2000 8D4840D6202CC371C32CE0576098\n";
+
+#[test]
+fn beast_is_found(rt: HostRuntime) {
+    assert!(rt; holds(BEAST, TWO, 0, 1));
+    // Two messages show nothing before the source ends.
+    assert!(rt; holds(&BEAST[..40], "1000 8D4840D6202CC371C32CE0576098\n", 4, 1));
+    // Damage between messages begins the count again, and hides those before it.
+    assert!(rt; holds(b"\x1a1\0\0\0\0\0\x01\x80\x20\x40y", "", 10, 1));
+}
+
+#[test]
+fn text_is_found(rt: HostRuntime) {
+    let marked =
+        b"4D6;\n*2040;\n@000000B71B008D4840D6202CC371C32CE0576098;@0000016E36008D4840D6202CC371C32CE0576098;";
+    assert!(rt; holds(marked, TWO, 1, 1));
+    assert!(rt;
+        holds(
+            b"8D4840D6202CC371C32CE0576098\r\n8D4840D6202CC371C32CE0576098",
+            "0 8D4840D6202CC371C32CE0576098\n0 8D4840D6202CC371C32CE0576098\n",
+            1,
+            0
+        )
+    );
+    let table =
+        b"\xEF\xBB\xBFrawmsg,time\n8D4840D6202CC371C32CE0576098,1.0\n8D4840D6202CC371C32CE0576098,2\n";
+    assert!(rt; holds(table, TWO, 2, 0));
+    let rows = b"icao24\n1,x,8D4840D6202CC371C32CE0576098\n2,x,8D4840D6202CC371C32CE0576098";
+    assert!(rt; holds(rows, TWO, 2, 1));
+    let log = b"\n\r\n1000 *8D4840D6202CC371C32CE0576098;\n2000 8D4840D6202CC371C32CE0576098\n";
+    assert!(rt; holds(log, TWO, 3, 0));
+    assert!(rt;
+        holds(
+            b"7 8D4840D6202CC371C32CE0576098",
+            "7 8D4840D6202CC371C32CE0576098\n",
+            4,
+            0
+        )
+    );
+}
+
+#[test]
+fn other_sources_are_told(rt: HostRuntime) {
+    assert!(rt; holds(b"", "", 4, 0));
+    assert!(rt;
+        holds(
+            b"MSG,3,1,1,4840D6\n7 8D4840D6202CC371C32CE0576098\n",
+            "",
+            5,
+            1
+        )
+    );
+    assert!(rt; holds(b"\x1f\x8b\x08\n7 8D4840D6202CC371C32CE0576098\n", "", 7, 1));
+    assert!(rt; holds(b"BZh91AY", "", 7, 1));
+    assert!(rt; holds(b"\xff\xfe7\0 \0", "", 8, 1));
+    assert!(rt; holds(b"{\"now\":1}\n", "", 9, 1));
+    assert!(rt; holds(b"2040\n", "", 10, 1));
+    assert!(rt; holds(b"\nBZh", "", 10, 1));
+}
+
+#[test]
+fn tar_is_told(rt: HostRuntime) {
+    let mut header = [0u8; 262];
+    header[257..].copy_from_slice(b"ustar");
+    assert!(rt; holds(&header, "", 6, 1));
+    assert!(rt; holds(&header[..261], "", 10, 1));
+}
+
+#[test]
+fn a_source_shows_its_format_soon(rt: HostRuntime) {
+    for (blanks, shown) in [(16_375, 3), (16_376, 10)] {
+        let mut feed = Feed::new(None, &RECORDED);
+        let mut text = TextBuffer::<1024>::new();
+        for _ in 0..blanks {
+            feed.take(b"\n", 0, &mut text);
+        }
+        // The 16,384th byte is the last that may show the format.
+        feed.take(b"1 *2040;\n", 0, &mut text);
+        assert!(rt; number(&feed) == shown);
+    }
+}
+
+#[test]
+fn sources_follow_each_other(rt: HostRuntime) {
+    let mut feed = Feed::new(None, &RECORDED);
+    let mut text = TextBuffer::<1024>::new();
+    feed.take(b"1000 8D4840D6202CC371C32CE0576098", 0, &mut text);
+    feed.close();
+    feed.close();
+    let mut moments = [9u64; 2];
+    let mut frames = [[0u8; 14]; 2];
+    let (taken, given) = feed.take_frames(b"", 0, &mut moments, &mut frames);
+    assert!(rt;
+        taken == 0 && given == 1 && moments[0] == 1000 && moments[1] == 9 && text.is_empty()
+    );
+    feed.take(b"2.0,x,8D4840D6202CC371C32CE0576098\n3,x", 0, &mut text);
+    assert!(rt; text.as_str() == "2000 8D4840D6202CC371C32CE0576098\n" && number(&feed) == 2);
+    feed.disconnected();
+    assert!(rt;
+        feed.counts().damaged() == 1 && feed.format().is_none() && feed.stranger().is_none()
+    );
+    feed.take(BEAST, 0, &mut text);
+    assert!(rt; feed.counts().written() == 4 && feed.counts().damaged() == 2);
+}

@@ -1,0 +1,223 @@
+//! The signs by which a text shows its format.
+ghost use Rattle.std.specs.Prelude.{◌≡◌, ◌==◌, ◌++◌, ◌<◌, ◌≤◌, [], ◌∷◌, bytes_eq, length, take};
+ghost use Rattle.sq_feed.specs.Finding.{first_sign, is_packed, is_sbs, is_tar, is_utf16, line_sign, marked_sign, other_sign};
+ghost use Rattle.sq_feed.specs.Finding.{sign_of_frame, sign_of_line, sign_of_row, start_sign};
+ghost use Rattle.sq_feed.specs.Avr.{frame_of_word};
+ghost use Rattle.sq_feed.specs.Rows.{csv_start, row_read, without_last};
+ghost use Rattle.std.specs.Prelude.{if◌then◌else◌};
+
+use crate::avr::{frame_of_word, item_of_word, mark_of};
+use crate::machine::Format;
+use crate::message::{Found, Message, RawFrame, Stranger, Time};
+use crate::rows::{Columns, LONGEST, Layout, Row, row_read, without_last};
+
+/// What a byte or a line shows.
+#[derive(Clone, Copy)]
+pub(crate) enum Sign {
+    /// Nothing.
+    Unclear,
+    /// A text of this format, by this message. Its rows have this layout.
+    Shows(Format, Layout, Option<Message>),
+    /// A source of another kind.
+    Other(Stranger),
+}
+
+// The place of the name in the header of a tar archive, and the bytes up to its end.
+const TAR_AT: usize = 257;
+
+const TAR_END: usize = 262;
+
+// Returns the first sign that is clear.
+pub(crate) fn first_sign(one: Sign, other: Sign) -> Sign
+    ensures { result ≡ first_sign one other }
+{
+    match one {
+        Sign::Unclear => other,
+        Sign::Shows(_, _, _) => one,
+        Sign::Other(_) => one,
+    }
+}
+
+// Returns the sign of the end of a line, or of a semicolon, after the line so far.
+pub(crate) fn edge_sign(line: &[u8], byte: u8) -> Sign
+    ensures { result ≡ (if byte == 10 then line_sign line.now
+        else (if byte == 59 then marked_sign line.now else Sign.Unclear)) }
+{
+    if byte == b'\n' {
+        line_sign(line)
+    } else if byte == b';' {
+        marked_sign(line)
+    } else {
+        Sign::Unclear
+    }
+}
+
+// Returns the sign of a whole line, without its line feed.
+#[tactic(auto, unfolding(crate::specs::Finding::line_sign))]
+pub(crate) fn line_sign(line: &[u8]) -> Sign
+    ensures { result ≡ line_sign line.now }
+{
+    first_sign(
+        log_sign(line),
+        first_sign(
+            table_sign(line),
+            first_sign(bare_sign(line), other_sign(line)),
+        ),
+    )
+}
+
+// Returns the sign of a line of a log.
+fn log_sign(line: &[u8]) -> Sign
+    ensures { result ≡ sign_of_line (row_read Layout.Log line.now) }
+{
+    match row_of(Layout::Log, line) {
+        Row::One(Found::Whole(message)) => { Sign::Shows(Format::Log, Layout::Log, Some(message)) }
+        Row::One(Found::Damage) => Sign::Unclear,
+        Row::One(Found::Foreign(_)) => Sign::Unclear,
+        Row::Blank => Sign::Unclear,
+        Row::Names(_) => Sign::Unclear,
+    }
+}
+
+// Returns the sign of a row of a table, or of its names.
+fn table_sign(line: &[u8]) -> Sign
+    ensures { result ≡ sign_of_row (row_read csv_start line.now) }
+{
+    let start = Layout::Csv(Columns { time: 0, frame: 2 });
+    match row_of(start, line) {
+        Row::One(Found::Whole(message)) => Sign::Shows(Format::Csv, start, Some(message)),
+        Row::One(Found::Damage) => Sign::Unclear,
+        Row::One(Found::Foreign(_)) => Sign::Unclear,
+        Row::Blank => Sign::Unclear,
+        Row::Names(columns) => Sign::Shows(Format::Csv, Layout::Csv(columns), None),
+    }
+}
+
+// Returns the sign of a frame on a line of its own.
+fn bare_sign(line: &[u8]) -> Sign
+    ensures { result ≡ sign_of_frame (frame_of_word (without_last 13 line.now)) }
+{
+    let frame = match frame_of_word(without_last(b'\r', line)) {
+        Some(frame) => frame,
+        None => return Sign::Unclear,
+    };
+    let message = Message {
+        time: Time::Unknown,
+        frame,
+    };
+    match frame {
+        RawFrame::ModeAc(_) => Sign::Unclear,
+        RawFrame::Short(_) => Sign::Shows(Format::Avr, Layout::Log, Some(message)),
+        RawFrame::Long(_) => Sign::Shows(Format::Avr, Layout::Log, Some(message)),
+    }
+}
+
+// Reads a line of any length.
+fn row_of(layout: Layout, line: &[u8]) -> Row
+    ensures { result ≡ row_read layout line.now }
+{
+    if line.len() > LONGEST {
+        Row::One(Found::Damage)
+    } else {
+        row_read(layout, line)
+    }
+}
+
+// Returns the sign of a line of another kind of text.
+fn other_sign(line: &[u8]) -> Sign
+    ensures { result ≡ other_sign line.now }
+{
+    if is_sbs(line) {
+        Sign::Other(Stranger::Sbs)
+    } else if starts(line, b"{") {
+        Sign::Other(Stranger::Json)
+    } else {
+        Sign::Unclear
+    }
+}
+
+// Returns whether a line is SBS (BaseStation) text.
+fn is_sbs(line: &[u8]) -> bool
+    ensures { result ≡ is_sbs line.now }
+{
+    starts(line, b"MSG,")
+        || starts(line, b"SEL,")
+        || starts(line, b"ID,")
+        || starts(line, b"AIR,")
+        || starts(line, b"STA,")
+        || starts(line, b"CLK,")
+}
+
+// Returns the sign of a marked frame at the start of a line, by the line before its semicolon.
+fn marked_sign(line: &[u8]) -> Sign
+    ensures { result ≡ marked_sign line.now }
+{
+    if line.is_empty() {
+        return Sign::Unclear;
+    }
+    let Some(mark) = mark_of(line[0]) else {
+        return Sign::Unclear;
+    };
+    match item_of_word(mark, &line[1..]) {
+        Found::Whole(message) => Sign::Shows(Format::Avr, Layout::Log, Some(message)),
+        Found::Damage => Sign::Unclear,
+        Found::Foreign(_) => Sign::Unclear,
+    }
+}
+
+// Returns the sign of the first bytes of a source.
+#[tactic(auto, unfolding(crate::specs::Finding::start_sign))]
+pub(crate) fn start_sign(start: &[u8]) -> Sign
+    ensures { result ≡ start_sign start.now }
+{
+    if is_packed(start) {
+        Sign::Other(Stranger::Packed)
+    } else if is_utf16(start) {
+        Sign::Other(Stranger::Utf16)
+    } else if is_tar(start) {
+        Sign::Other(Stranger::Tar)
+    } else {
+        Sign::Unclear
+    }
+}
+
+// Returns whether these are the first bytes of a packed file.
+fn is_packed(start: &[u8]) -> bool
+    ensures { result ≡ is_packed start.now }
+{
+    is_word(start, b"\x1F\x8B\x08")
+        || is_word(start, b"BZh")
+        || is_word(start, b"\xFD7zXZ")
+        || is_word(start, b"\x28\xB5\x2F\xFD")
+        || is_word(start, b"PK\x03\x04")
+}
+
+// Returns whether these are the first four bytes of text in UTF-16.
+fn is_utf16(start: &[u8]) -> bool
+    ensures { result ≡ is_utf16 start.now }
+{
+    start.len() == 4
+        && (is_word(&start[..2], b"\xFF\xFE") && is_word(&start[3..], b"\0")
+            || is_word(&start[..3], b"\xFE\xFF\0"))
+}
+
+// Returns whether these bytes end with the name in the header of a tar archive.
+fn is_tar(start: &[u8]) -> bool
+    ensures { result ≡ is_tar start.now }
+{
+    start.len() == TAR_END && is_word(&start[TAR_AT..TAR_END], b"ustar")
+}
+
+// Returns whether a text starts with a word.
+fn starts(text: &[u8], word: &[u8]) -> bool
+    ensures { result ≡ bytes_eq (take (length word.now) text.now) word.now }
+{
+    text.len() >= word.len() && is_word(&text[..word.len()], word)
+}
+
+// Returns whether a text is this word.
+fn is_word(text: &[u8], word: &[u8]) -> bool
+    ensures { result ≡ bytes_eq text.now word.now }
+{
+    text == word
+}
