@@ -14,6 +14,8 @@ mod encode;
 #[cfg(test)]
 mod faulty_devices;
 #[cfg(test)]
+mod feed;
+#[cfg(test)]
 mod formats;
 #[cfg(test)]
 mod lines;

@@ -8,3 +8,8 @@ pub mod OneRuns
 pub mod SomeWriters
 pub mod TrackLemmas
 pub mod OnePast
+pub mod Feeding
+pub mod FeedRuns
+pub mod Summaries
+pub mod Arrivals
+pub mod Recorded

@@ -4,5 +4,6 @@ pub mod Words
 pub mod Frames
 pub mod Lines
 pub mod Logs
+pub mod Feeds
 pub mod Sent
 pub mod Runs

@@ -15,6 +15,8 @@ pub mod Tracking
 pub mod SlowAnswers
 pub mod TrueAnswers
 pub mod Track
+pub mod Summary
+pub mod Feed
 pub mod Runs
 pub mod OneRun
 pub mod BrokenOff

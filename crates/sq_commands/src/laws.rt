@@ -1,8 +1,11 @@
 //! Laws over the definitions that the contracts name.
-ghost use Rattle.std.specs.Prelude.{◌≡◌, ◌≢◌, ◌↔◌, ◌∷◌, [], List, ℕ, Contains, Err, IfSome, IsTrue, None, Ok, Option, Some};
-ghost use Rattle.std.specs.Prelude.{codes, map};
+ghost use Rattle.std.specs.Prelude.{◌≡◌, ◌≢◌, ◌↔◌, ◌++◌, ◌∷◌, [], List, ℕ, Contains, Err, IfSome, IsTrue, None, Ok, Option, Some};
+ghost use Rattle.std.specs.Prelude.{codes, false, map};
 ghost use Rattle.std.specs.List.{AllZip};
-ghost use Rattle.sq_devices.specs.Changes.{WroteNothing, taken_from, written_on};
+ghost use Rattle.sq_devices.specs.Changes.{WroteNothing, WroteOrFailed, taken_from, written_on};
+ghost use Rattle.sq_devices.specs.Clocks.{times_of};
+ghost use Rattle.sq_feed.specs.Counts.{Tally as Counts};
+ghost use Rattle.sq_feed.specs.declared.machine.Format.{Format as SourceFormat};
 ghost use Rattle.sq_lines.specs.declared.tallies.Tally.{Tally};
 ghost use Rattle.sq_text.specs.declared.faults.LineFault.{LineFault};
 ghost use Rattle.sq_text.specs.Timed.{TimedReader};
@@ -12,9 +15,12 @@ ghost use Rattle.sq_track.specs.Tame.{IsSlow, IsSlowForFollowing};
 ghost use Rattle.sq_track.specs.Worlds.{Arrival, ArisesFrom, IfHeard, IsTruePlaceHeard, World, received_of};
 ghost use Rattle.sq_commands.specs.declared.arguments.TrackOptions.{TrackOptions as Options};
 ghost use Rattle.sq_commands.specs.declared.formats.Format.{Format};
-ghost use Rattle.sq_commands.specs.declared.status.Status.TheVariants.{Good, Misused};
-ghost use Rattle.sq_commands.specs.BrokenOff.{BrokenAnswers, BrokenAside, BrokenChecks, BrokenLogs};
+ghost use Rattle.sq_requests.specs.Requests.{Asked};
+ghost use Rattle.sq_commands.specs.declared.status.Status.{Status as Ending};
+ghost use Rattle.sq_commands.specs.declared.status.Status.TheVariants.{Good, Misused, Refused};
+ghost use Rattle.sq_commands.specs.BrokenOff.{BrokenAnswers, BrokenAside, BrokenChecks, BrokenFeeds, BrokenLogs};
 ghost use Rattle.sq_commands.specs.Check.{IsCheckRunIn, IsChecked, IsNoFormat};
+ghost use Rattle.sq_commands.specs.Feed.{IsFed, IsFeedRunIn, IsNoSource, IsSourceWord};
 ghost use Rattle.sq_commands.specs.Formats.{IsFormatWord, Telling, Writers};
 ghost use Rattle.sq_commands.specs.Heard.{heard_telling};
 ghost use Rattle.sq_commands.specs.Laws.{OneEncodeFault, OnePositionFault, OneSiteFault, OneTrackFault};
@@ -22,6 +28,9 @@ ghost use Rattle.sq_commands.specs.OneRun.{AlikeOutputsEndAlike, AnyDevices, One
 ghost use Rattle.sq_commands.specs.Outputs.{effects, outputs};
 ghost use Rattle.sq_commands.specs.Squitters.{squitter_telling};
 ghost use Rattle.sq_commands.specs.SlowAnswers.{AreTrueAfter, AreTrueAnswers, heard_in, received_in};
+ghost use Rattle.sq_commands.specs.Summary.{stranger_text, summary_text};
+ghost use Rattle.sq_feed.specs.declared.message.Stranger.{Stranger};
+ghost use Rattle.sq_commands.specs.Runs.{IsRun, IsTimedRun};
 ghost use Rattle.sq_commands.specs.Track.{IsLogRun, IsTracked};
 ghost use Rattle.sq_lines.specs.Content.{Answer as LineAnswer};
 ghost use Rattle.sq_lines.specs.Logs.{AreAnswers, told_from};
@@ -32,7 +41,7 @@ use crate::found::HeardSquitter;
 use crate::numbered::Numbered;
 use crate::status::Status;
 use crate::track::Hearing;
-use sq_devices::{Sink, Source};
+use sq_devices::{Clock, Sink, Source};
 use sq_lines::{Log, Step};
 use sq_track::Tracker;
 
@@ -49,11 +58,16 @@ pub fn one_argument_fault()
     ensures track { OneTrackFault }
 {}
 
-/// A word names at most one format: `lines`, `csv` or `json`.
+/// A word names at most one format: `lines`, `csv` or `json`; of `feed`, `auto`, `beast`, `avr`, `csv` or `log`.
 pub fn one_format()
     ensures one { (word : Option (List ℕ)) (a b : Format) → IsFormatWord word a → IsFormatWord word b → a ≡ b }
     ensures none { (word : Option (List ℕ)) → IsNoFormat word
         ↔ (word ≢ None) × (word ≢ Some (codes "lines")) × (word ≢ Some (codes "csv")) × (word ≢ Some (codes "json")) }
+    ensures one_source { (word : Option (List ℕ)) (a b : Option SourceFormat) → IsSourceWord word a
+        → IsSourceWord word b → a ≡ b }
+    ensures no_source { (word : Option (List ℕ)) → IsNoSource word ↔ (word ≢ None) × (word ≢ Some (codes "auto"))
+        × (word ≢ Some (codes "beast")) × (word ≢ Some (codes "avr")) × (word ≢ Some (codes "csv"))
+        × (word ≢ Some (codes "log")) }
 {}
 
 /// Returns whether two statuses are equal by `==`: exactly if they are the same.
@@ -89,8 +103,8 @@ pub fn ended_exactly<S: Source, K: Sink, F: Sink>()
 {}
 
 /// A run that stopped early: `check` and `track` answered all lines that were read until a get failed, or the output
-/// failed within the answers, or `track` had no memory for a line. A command that reads no lines left the input alone.
-/// The reason was reported in one line.
+/// failed within the answers, or `track` had no memory for a line. A command that reads no input left it alone. The
+/// reason was reported in one line.
 pub fn broken_exactly<S: Source, K: Sink, F: Sink>()
     ensures check { BrokenChecks S.Source K.Sink F.Sink }
     ensures track { BrokenLogs S.Source K.Sink F.Sink }
@@ -98,12 +112,44 @@ pub fn broken_exactly<S: Source, K: Sink, F: Sink>()
     ensures aside { BrokenAside S.Source K.Sink F.Sink }
 {}
 
+/// How a run of `feed` ends: good only if all lines were written and the summary was reported; refused if the input is
+/// no feed, which was reported; else broken off, after the lines of all items that were read until a get failed, or
+/// within them; never misused.
+pub fn feed_ended_exactly<C: Clock, S: Source, K: Sink, F: Sink>()
+    ensures good { (format : Option SourceFormat) (first last : C) (from to : S) (old new : K) (before after : F)
+        → IsFeedRunIn format (times_of C.Clock first last) Good
+        (effects S.Source from to (outputs K.Sink F.Sink old new before after))
+        → (counts : Counts)
+        × IsFed format (times_of C.Clock first last) (Ok (record { counts = counts; stranger = None }))
+        (taken_from S.Source from to) (written_on K.Sink old new)
+        × WroteOrFailed (written_on F.Sink before after) (summary_text counts ++ codes "\n") }
+    ensures refused { (format : Option SourceFormat) (first last : C) (from to : S) (old new : K) (before after : F)
+        → IsFeedRunIn format (times_of C.Clock first last) Refused
+        (effects S.Source from to (outputs K.Sink F.Sink old new before after))
+        → (counts : Counts) × (stranger : Stranger)
+        × IsFed format (times_of C.Clock first last) (Ok (record { counts = counts; stranger = Some stranger }))
+        (taken_from S.Source from to) (written_on K.Sink old new)
+        × WroteOrFailed (written_on F.Sink before after) (stranger_text stranger ++ codes "\n") }
+    ensures used { (format : Option SourceFormat) (first last : C) (from to : S) (old new : K) (before after : F)
+        → ¬ IsFeedRunIn format (times_of C.Clock first last) Misused
+        (effects S.Source from to (outputs K.Sink F.Sink old new before after)) }
+    ensures broken { (first last : C) → BrokenFeeds S.Source K.Sink F.Sink (times_of C.Clock first last) }
+{}
+
 /// A request has one run, whatever the devices are. If no device failed and memory was granted, two runs on the same
-/// input have one status, write the same, report the same, and leave the same of the input. Commands that read no lines
-/// may have any input.
+/// recorded input have one status, write the same, report the same, and leave the same of the input. Commands that read
+/// no input may have any.
 pub fn one_run<S: Source, K: Sink, F: Sink, T: Source, L: Sink, G: Sink>()
     ensures alike { OneRun S.Source K.Sink F.Sink T.Source L.Sink G.Sink }
     ensures aside { OneRunAside S.Source K.Sink F.Sink T.Source L.Sink G.Sink }
+{}
+
+/// On an input that is not live a clock changes nothing: a run by it is a run on a recorded input.
+pub fn recorded_has_no_arrivals<C: Clock, S: Source, K: Sink, F: Sink>()
+    ensures { (words : Asked) (status : Ending) (first last : C) (from to : S) (old new : K) (before after : F)
+        → C.live first ≡ false → IsTimedRun (times_of C.Clock first last) words status
+        (effects S.Source from to (outputs K.Sink F.Sink old new before after))
+        → IsRun words status (effects S.Source from to (outputs K.Sink F.Sink old new before after)) }
 {}
 
 /// Any input, output and sink for faults can be used together, so the law of one run covers all devices.

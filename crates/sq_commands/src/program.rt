@@ -1,20 +1,22 @@
 //! The commands over the devices.
+ghost use Rattle.sq_devices.specs.Clocks.{times_of};
 ghost use Rattle.sq_requests.specs.Requests.{asked_by};
 ghost use Rattle.sq_commands.specs.Outputs.{effects, outputs};
-ghost use Rattle.sq_commands.specs.Runs.{IsRun};
+ghost use Rattle.sq_commands.specs.Runs.{IsRun, IsTimedRun};
 
 use crate::check::check;
 use crate::encode::encode;
+use crate::feed::feed;
 use crate::local::local;
 use crate::pair::pair;
 use crate::show::show;
 use crate::status::Status;
 use crate::track::track;
-use sq_devices::{Sink, Source};
+use sq_devices::{Clock, NoClock, Sink, Source};
 use sq_requests::Request;
 use std::alloc::Global;
 
-/// Runs a request and returns how it ended.
+/// Runs a request on a recorded input and returns how it ended.
 ///
 /// Writes an answer to the output, and a fault in one line to the sink for faults. A failure there changes no status.
 /// `show`, `encode`, `local` and `pair` leave the input alone.
@@ -26,6 +28,22 @@ pub fn answer<S: Source, K: Sink, F: Sink>(
     faults: &mut F,
 ) -> Status
     ensures { IsRun (asked_by request.entry) result
+        (effects S.Source input.old input.new (outputs K.Sink F.Sink output.old output.new faults.old faults.new)) }
+{
+    answer_live(alloc, request, &mut NoClock, input, output, faults)
+}
+
+/// Runs a request as [`answer`] does, on an input that is received by a clock. `feed` reads the clock after each get;
+/// no other command does.
+pub fn answer_live<C: Clock, S: Source, K: Sink, F: Sink>(
+    alloc: Global,
+    request: Request<'_>,
+    clock: &mut C,
+    input: &mut S,
+    output: &mut K,
+    faults: &mut F,
+) -> Status
+    ensures { IsTimedRun (times_of C.Clock clock.old clock.new) (asked_by request.entry) result
         (effects S.Source input.old input.new (outputs K.Sink F.Sink output.old output.new faults.old faults.new)) }
 {
     match request {
@@ -40,5 +58,6 @@ pub fn answer<S: Source, K: Sink, F: Sink>(
         } => pair(older, newer, lat, lon, output, faults),
         Request::Check { format } => check(format, input, output, faults),
         Request::Track(words) => track(alloc, &words, input, output, faults),
+        Request::Feed(words) => feed(&words, clock, input, output, faults),
     }
 }

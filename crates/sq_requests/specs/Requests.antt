@@ -1,6 +1,7 @@
 -- What is asked for: one of the commands, with the texts of its values.
 use Rattle.std.specs.Prelude.{ℕ, List, Option, codes, option_copied}
 use Rattle.sq_requests.specs.declared.EncodeWords.{EncodeWords}
+use Rattle.sq_requests.specs.declared.FeedWords.{FeedWords}
 use Rattle.sq_requests.specs.declared.Request.{Request}
 use Rattle.sq_requests.specs.declared.TrackWords.{TrackWords}
 use Rattle.sq_requests.specs.declared.Request.TheVariants as variants
@@ -25,6 +26,10 @@ pub record AskedTrack : Type 0 where
   pub lat : Option Text
   pub lon : Option Text
 
+-- the values of `feed`
+pub record AskedFeed : Type 0 where
+  pub format : Option Text
+
 -- a command with its values, each as it was written; an option that was left out is `None`
 pub data Asked : Type 0 where
   Show : (frame : Text) → Asked
@@ -33,6 +38,7 @@ pub data Asked : Type 0 where
   Pair : (older newer : Text) (lat lon : Option Text) → Asked
   Check : (format : Option Text) → Asked
   Track : AskedTrack → Asked
+  Feed : AskedFeed → Asked
 
 -- the word that names the command
 abbrev pub command_name : Asked → Text
@@ -42,6 +48,7 @@ command_name (Local frame lat lon) = codes "local"
 command_name (Pair older newer lat lon) = codes "pair"
 command_name (Check format) = codes "check"
 command_name (Track words) = codes "track"
+command_name (Feed words) = codes "feed"
 
 -- the values that a request of `encode` holds
 abbrev pub asked_encode : EncodeWords → AskedEncode
@@ -64,6 +71,10 @@ asked_track words = record {
   lon = option_copied words.lon;
 }
 
+-- the values that a request of `feed` holds
+abbrev pub asked_feed : FeedWords → AskedFeed
+asked_feed words = record { format = option_copied words.format }
+
 -- what a request stands for
 abbrev pub asked_by : Request → Asked
 asked_by (variants.Show frame) = Show frame.now
@@ -73,3 +84,4 @@ asked_by (variants.Pair older newer lat lon) =
     Pair older.now newer.now (option_copied lat) (option_copied lon)
 asked_by (variants.Check format) = Check (option_copied format)
 asked_by (variants.Track words) = Track (asked_track words)
+asked_by (variants.Feed words) = Feed (asked_feed words)

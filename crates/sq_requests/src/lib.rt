@@ -33,6 +33,13 @@ pub struct TrackWords<'a> {
     pub lon: Option<&'a str>,
 }
 
+/// The values of the command `feed`, each as it was written, where it is given.
+#[derive(Clone, Copy, Debug)]
+pub struct FeedWords<'a> {
+    /// `--format`
+    pub format: Option<&'a str>,
+}
+
 /// A command with its values, each as it was written. An option that is left out is `None`.
 #[derive(Clone, Copy, Debug)]
 pub enum Request<'a> {
@@ -61,4 +68,6 @@ pub enum Request<'a> {
     },
     /// `track [--format FORMAT] [--limit N] [--window MS] [--lat LAT] [--lon LON]`
     Track(TrackWords<'a>),
+    /// `feed [--format FORMAT]`
+    Feed(FeedWords<'a>),
 }

@@ -1,12 +1,17 @@
 -- A command line has one run.
-use Rattle.std.proofs.Common.{◌∙◌, inl, inr, subst, sym}
+use Rattle.std.proofs.Common.{◌≡◌, ◌∙◌, List, false, inl, inr, subst, sym}
+use Rattle.sq_devices.specs.Clocks.{Times}
 use Rattle.sq_devices.specs.declared.device.Sink.{Ghosts as SinkGhosts}
 use Rattle.sq_devices.specs.declared.device.Source.{Ghosts as SourceGhosts}
-use Rattle.sq_requests.specs.Requests.{Asked}
+use Rattle.sq_requests.specs.Requests.{Asked, Text}
 use Rattle.sq_words.specs.Requests.{OneRequest}
 use Rattle.sq_commands.specs.OneRun.{OneRun, between}
+use Rattle.sq_commands.specs.Outputs.{Effects}
 use Rattle.sq_commands.specs.Runs.{IsRun}
+use Rattle.sq_commands.specs.declared.status.Status.{Status}
+use Rattle.sq_commands.proofs.Recorded.{run_recorded}
 use Rattle.sq_tool.specs.OneProgram.{BrokenProgram, OneProgramRun}
+use Rattle.sq_tool.specs.Program.{IsProgramRun, IsTimedProgramRun}
 
 -- where words ask for one thing and a request has one run, a command line has one run
 pub one_program_run : {S K F T L G : Type 0} (s : SourceGhosts S) (k : SinkGhosts K) (f : SinkGhosts F)
@@ -31,6 +36,13 @@ one_program_run s k f t l g one_request one_run words a b old new other last byt
     unbroken unbroken' reported reported' = absurd (unbroken' q.1.0)
 one_program_run s k f t l g one_request one_run words a b old new other last bytes here there (inr (inl p))
     (inr (inr q)) unbroken unbroken' reported reported' = absurd (unbroken' q.1.0)
+
+-- a run on an input that is not live is one on a recorded input
+pub program_recorded : (clock : Times) → clock.is_live ≡ false → (words : List Text) (status : Status) (e : Effects)
+    → IsTimedProgramRun clock words status e → IsProgramRun words status e
+program_recorded clock is words status e (inl (asked, asks, run)) =
+    inl (asked, asks, run_recorded clock is asked status e run)
+program_recorded clock is words status e (inr refused) = inr refused
 
 -- what broke off is a request, or there was no memory
 pub broken_program : {S K F : Type 0} (s : SourceGhosts S) (k : SinkGhosts K) (f : SinkGhosts F) → BrokenProgram s k f

@@ -1,12 +1,13 @@
 -- What the program does with a command line.
 use Rattle.std.specs.Prelude.{◌≡◌, ◌⊎◌, List}
 use Rattle.sq_devices.specs.Changes.{TookNothing, WroteNothing}
+use Rattle.sq_devices.specs.Clocks.{Times, recorded}
 use Rattle.sq_requests.specs.Requests.{Asked, Text}
 use Rattle.sq_words.specs.Requests.{Asks, IsFaulty}
 use Rattle.sq_commands.specs.declared.status.Status.{Status}
 use Rattle.sq_commands.specs.declared.status.Status.TheVariants.{Misused}
 use Rattle.sq_commands.specs.Outputs.{Effects, IsOutOfMemory}
-use Rattle.sq_commands.specs.Runs.{IsRun}
+use Rattle.sq_commands.specs.Runs.{IsTimedRun}
 
 -- clap finds a fault in the words, or they ask for help: nothing is read or written, and clap's text is reported
 abbrev pub IsRefusal : List Text → Status → Effects → Type 0
@@ -16,7 +17,12 @@ IsRefusal words status e = IsFaulty words × (status ≡ Misused) × TookNothing
 abbrev pub IsUnread : Status → Effects → Type 0
 IsUnread status e = TookNothing e.input × IsOutOfMemory status e.outputs
 
--- the words ask for a command, which is run; or they are refused; or there is no memory to read them
+-- the words ask for a command, which is run by the clock; or they are refused; or there is no memory to read them
+abbrev pub IsTimedProgramRun : Times → List Text → Status → Effects → Type 0
+IsTimedProgramRun clock words status e =
+    ((asked : Asked) × Asks words asked × IsTimedRun clock asked status e) ⊎ IsRefusal words status e
+    ⊎ IsUnread status e
+
+-- the same on a recorded input
 abbrev pub IsProgramRun : List Text → Status → Effects → Type 0
-IsProgramRun words status e =
-    ((asked : Asked) × Asks words asked × IsRun asked status e) ⊎ IsRefusal words status e ⊎ IsUnread status e
+IsProgramRun = IsTimedProgramRun recorded

@@ -1,7 +1,13 @@
 //! Laws of the program, over the definitions that its contracts name, and the laws below that a reader of them needs.
+ghost use Rattle.std.specs.Prelude.{◌≡◌, List, false};
+ghost use Rattle.sq_devices.specs.Clocks.{times_of};
+ghost use Rattle.sq_requests.specs.Requests.{Text};
+ghost use Rattle.sq_commands.specs.Outputs.{effects, outputs};
+ghost use Rattle.sq_commands.specs.declared.status.Status.{Status};
 ghost use Rattle.sq_tool.specs.OneProgram.{BrokenProgram, OneProgramRun};
+ghost use Rattle.sq_tool.specs.Program.{IsProgramRun, IsTimedProgramRun};
 
-use sq_devices::{Sink, Source};
+use sq_devices::{Clock, Sink, Source};
 pub use sq_lines::laws::lines_in_pieces;
 pub use sq_words::laws::{accepted_words_ask, one_request, refused_words_ask_nothing};
 
@@ -9,6 +15,15 @@ pub use sq_words::laws::{accepted_words_ask, one_request, refused_words_ask_noth
 /// or there was no memory to read the words, so that nothing was read or written, and that was reported.
 pub fn broken_program_exactly<S: Source, K: Sink, F: Sink>()
     ensures { BrokenProgram S.Source K.Sink F.Sink }
+{}
+
+/// On an input that is not live a clock changes nothing, so `one_program_run` speaks of it too. When the bytes of a
+/// file were read does not matter.
+pub fn recorded_has_no_arrivals<C: Clock, S: Source, K: Sink, F: Sink>()
+    ensures { (words : List Text) (status : Status) (first last : C) (from to : S) (old new : K) (before after : F)
+        → C.live first ≡ false → IsTimedProgramRun (times_of C.Clock first last) words status
+        (effects S.Source from to (outputs K.Sink F.Sink old new before after))
+        → IsProgramRun words status (effects S.Source from to (outputs K.Sink F.Sink old new before after)) }
 {}
 
 /// A command line has one run, whatever the devices are. Where the same bytes are to come, no device failed and memory

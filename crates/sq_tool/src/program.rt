@@ -1,21 +1,23 @@
 //! The whole program over its devices.
 ghost use Rattle.std.specs.Prelude.{◌≡◌, map};
+ghost use Rattle.sq_devices.specs.Clocks.{times_of};
 ghost use Rattle.sq_commands.specs.Outputs.{effects, outputs};
 ghost use Rattle.sq_commands.specs.Statuses.{exit_status};
 ghost use Rattle.sq_commands.specs.declared.status.Status.{Status};
-ghost use Rattle.sq_tool.specs.Program.{IsProgramRun};
+ghost use Rattle.sq_tool.specs.Program.{IsProgramRun, IsTimedProgramRun};
 
-use sq_commands::{Status, answer, break_off, report};
-use sq_devices::{Sink, Source};
+use sq_commands::{Status, answer_live, break_off, report};
+use sq_devices::{Clock, NoClock, Sink, Source};
 use sq_lines::RunFault;
 use sq_words::{Refusal, read_request};
 use std::alloc::Global;
 
-/// Does what the words ask for, and answers the exit status: 0 all is good; 1 a line, a frame or a place was refused; 2
-/// a bad command line; 3 a read, write or memory fault. The first of the words is the program's name.
+/// Does what the words ask for, and returns the exit status: 0 all is good; 1 a line, a frame or a place was refused; 2
+/// a bad command line; 3 a read, write or memory fault. The first of the words is the program's name. The input is
+/// recorded: `feed` reads no clock.
 ///
 /// An answer goes to the output, a fault in one line to the sink for faults, as does clap's text for words that it
-/// refuses; what could not be written there changes no status.
+/// refuses, and the summary of `feed`; what could not be written there changes no status.
 pub fn run<S: Source, K: Sink, F: Sink>(
     alloc: Global,
     words: &[&str],
@@ -27,22 +29,40 @@ pub fn run<S: Source, K: Sink, F: Sink>(
         × IsProgramRun (map (λ word. word.now) words.entry.now) status
         (effects S.Source input.old input.new (outputs K.Sink F.Sink output.old output.new faults.old faults.new)) }
 {
-    follow(alloc, words, input, output, faults).exit_status()
+    run_live(alloc, words, &mut NoClock, input, output, faults)
+}
+
+/// Does what [`run`] does, on an input that is received by a clock. `feed` reads the clock after each get; no other
+/// command does.
+pub fn run_live<C: Clock, S: Source, K: Sink, F: Sink>(
+    alloc: Global,
+    words: &[&str],
+    clock: &mut C,
+    input: &mut S,
+    output: &mut K,
+    faults: &mut F,
+) -> u8
+    ensures { (status : Status) × (result ≡ exit_status status)
+        × IsTimedProgramRun (times_of C.Clock clock.old clock.new) (map (λ word. word.now) words.entry.now) status
+        (effects S.Source input.old input.new (outputs K.Sink F.Sink output.old output.new faults.old faults.new)) }
+{
+    follow(alloc, words, clock, input, output, faults).exit_status()
 }
 
 // Does what the words ask for, or reports why they are not read.
-fn follow<S: Source, K: Sink, F: Sink>(
+fn follow<C: Clock, S: Source, K: Sink, F: Sink>(
     alloc: Global,
     words: &[&str],
+    clock: &mut C,
     input: &mut S,
     output: &mut K,
     faults: &mut F,
 ) -> Status
-    ensures { IsProgramRun (map (λ word. word.now) words.entry.now) result
+    ensures { IsTimedProgramRun (times_of C.Clock clock.old clock.new) (map (λ word. word.now) words.entry.now) result
         (effects S.Source input.old input.new (outputs K.Sink F.Sink output.old output.new faults.old faults.new)) }
 {
     match read_request(alloc, words) {
-        Ok(request) => answer(alloc, request, input, output, faults),
+        Ok(request) => answer_live(alloc, request, clock, input, output, faults),
         Err(Refusal::Words(text)) => {
             report(text.as_str(), faults);
             Status::Misused

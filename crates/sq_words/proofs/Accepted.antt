@@ -24,7 +24,7 @@ use Rattle.sq_words.specs.CommandLine.{squitter}
 use Rattle.sq_requests.specs.Requests.{Asked, command_name}
 use Rattle.sq_words.specs.CommandLine.{HasValues}
 use Rattle.sq_words.specs.Requests.{Asks}
-use Rattle.sq_requests.specs.Requests.{Show, Encode, Local, Pair, Check, Track}
+use Rattle.sq_requests.specs.Requests.{Show, Encode, Local, Pair, Check, Track, Feed}
 use Rattle.sq_words.proofs.Full.{AllFull, Each, IsSingle, Full-walk, Full-settled, Full-defaults, find-each, given_value}
 use Rattle.sq_words.proofs.Full.{or_else-nil}
 
@@ -319,7 +319,11 @@ squitter-serves = (
                   refl,
                   (refl, refl, refl, refl, refl),
                 )),
-            (λ name words answers quiet none. absurd (help_is_quiet name answers quiet), tt),
+            (
+              serve _ (inr (refl, refl, refl), (inl refl, tt))
+                  (λ rows g. (Feed (record { format = first_of (codes "format") rows }), refl, refl)),
+              (λ name words answers quiet none. absurd (help_is_quiet name answers quiet), tt),
+            ),
           ),
         ),
       ),

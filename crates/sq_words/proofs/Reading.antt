@@ -17,7 +17,7 @@ use Rattle.sq_words.specs.CommandLine.{squitter}
 use Rattle.sq_requests.specs.Requests.{Asked, AskedEncode, command_name}
 use Rattle.sq_words.specs.CommandLine.{HasValues}
 use Rattle.sq_words.specs.Requests.{Asks, IsAsked}
-use Rattle.sq_requests.specs.Requests.{Show, Encode, Local, Pair, Check, Track}
+use Rattle.sq_requests.specs.Requests.{Show, Encode, Local, Pair, Check, Track, Feed}
 
 -- clap says of this command line what it makes of the words
 pub squitter-is_simple : is_simple squitter ≡ true
@@ -44,6 +44,7 @@ show_values rows (Local frame lat lon) is = other _ _ is.named refl
 show_values rows (Pair older newer lat lon) is = other _ _ is.named refl
 show_values rows (Check format) is = other _ _ is.named refl
 show_values rows (Track words) is = other _ _ is.named refl
+show_values rows (Feed words) is = other _ _ is.named refl
 
 pub encode_values : (rows : List Row) (asked : Asked) → IsAsked (codes "encode") rows asked
     → (e : AskedEncode) × HasValues rows (Encode e)
@@ -53,6 +54,7 @@ encode_values rows (Local frame lat lon) is = other _ _ is.named refl
 encode_values rows (Pair older newer lat lon) is = other _ _ is.named refl
 encode_values rows (Check format) is = other _ _ is.named refl
 encode_values rows (Track words) is = other _ _ is.named refl
+encode_values rows (Feed words) is = other _ _ is.named refl
 
 -- the values of `local`
 pub record LocalValues (rows : List Row) : Type 0 where
@@ -68,6 +70,7 @@ local_values rows (Local f a o) is = record { frame = f; lat = a; lon = o; value
 local_values rows (Pair older newer lat lon) is = other _ _ is.named refl
 local_values rows (Check format) is = other _ _ is.named refl
 local_values rows (Track words) is = other _ _ is.named refl
+local_values rows (Feed words) is = other _ _ is.named refl
 
 -- the values of `pair`
 pub record PairValues (rows : List Row) : Type 0 where
@@ -84,6 +87,7 @@ pair_values rows (Local frame lat lon) is = other _ _ is.named refl
 pair_values rows (Pair o n a b) is = record { older = o; newer = n; lat = a; lon = b; values = is.values }
 pair_values rows (Check format) is = other _ _ is.named refl
 pair_values rows (Track words) is = other _ _ is.named refl
+pair_values rows (Feed words) is = other _ _ is.named refl
 
 -- ---- what clap answers
 

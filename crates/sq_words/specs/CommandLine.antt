@@ -1,7 +1,7 @@
 -- The command line, in clap's words: its commands, each with its arguments and options, and their values.
 use Rattle.std.specs.Prelude.{◌≡◌, List, Some, codes, true}
 use Rattle.clap.specs.Words.{App, Row, Rule, Text, first_of, new_app, new_rule, with_rule, with_subcommand}
-use Rattle.sq_requests.specs.Requests.{Asked, Show, Encode, Local, Pair, Check, Track}
+use Rattle.sq_requests.specs.Requests.{Asked, Show, Encode, Local, Pair, Check, Track, Feed}
 
 -- what has to be there
 abbrev pub required : Rule → Rule
@@ -53,6 +53,10 @@ track = with_rule (with_rule (with_rule (with_rule (with_rule (new_app (codes "t
     (option (codes "limit"))) (option (codes "window")))
     (option (codes "lat"))) (option (codes "lon"))
 
+-- feed [--format FORMAT]
+abbrev pub feed : App
+feed = with_rule (new_app (codes "feed")) (option (codes "format"))
+
 -- the program with no command yet, one being required; it has a version, for which `--version` asks
 abbrev pub program : App
 program = let named = new_app (codes "squitter") in
@@ -62,9 +66,13 @@ program = let named = new_app (codes "squitter") in
 abbrev pub frame_commands : App
 frame_commands = with_subcommand (with_subcommand (with_subcommand program show.top) encode.top) local.top
 
+-- the program with its commands on frames, and on lines of them
+abbrev pub line_commands : App
+line_commands = with_subcommand (with_subcommand frame_commands pair.top) check.top
+
 -- the program with all its commands
 abbrev pub squitter : App
-squitter = with_subcommand (with_subcommand (with_subcommand frame_commands pair.top) check.top) track.top
+squitter = with_subcommand (with_subcommand line_commands track.top) feed.top
 
 -- ---- the values
 
@@ -85,3 +93,4 @@ HasValues rows (Track words) =
     (first_of (codes "format") rows ≡ words.format) × (first_of (codes "limit") rows ≡ words.limit)
     × (first_of (codes "window") rows ≡ words.window) × (first_of (codes "lat") rows ≡ words.lat)
     × (first_of (codes "lon") rows ≡ words.lon)
+HasValues rows (Feed words) = first_of (codes "format") rows ≡ words.format

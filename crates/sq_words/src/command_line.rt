@@ -4,23 +4,32 @@ ghost use Rattle.std.specs.Prelude.{◌≡◌, IfNone, IfOk, IfSome, codes, fals
 ghost use Rattle.clap.specs.Words.{app_of, found_of, new_app, new_rule, rows_of, rule_of};
 ghost use Rattle.clap.specs.declared.builder.Command.TheViews.{out-Command as fields_of};
 ghost use Rattle.sq_requests.specs.Requests.{Asked, asked_by};
-ghost use Rattle.sq_words.specs.CommandLine.{check as check_line, encode, encode_head as encode_first};
-ghost use Rattle.sq_words.specs.CommandLine.{frame_commands as frame_program, local, option as option_rule, pair};
+ghost use Rattle.sq_words.specs.CommandLine.{check as check_line, encode, encode_head as encode_first, feed};
+ghost use Rattle.sq_words.specs.CommandLine.{frame_commands as frame_program, line_commands as line_program, local};
+ghost use Rattle.sq_words.specs.CommandLine.{option as option_rule, pair};
 ghost use Rattle.sq_words.specs.CommandLine.{program as no_commands, required, show, squitter, track};
 ghost use Rattle.sq_words.specs.Requests.{IsAsked};
 
 use clap::{Arg, ArgMatches, Command};
-use sq_requests::{EncodeWords, Request, TrackWords};
+use sq_requests::{EncodeWords, FeedWords, Request, TrackWords};
 use std::alloc::{AllocError, Global};
 
 /// The command line of the program.
 pub(crate) fn squitter_command<'a>(alloc: Global) -> Result<Command<'a>, AllocError>
     ensures { IfOk result (λ c. app_of c ≡ squitter) }
 {
+    line_commands(alloc)?
+        .subcommand(track_command(alloc)?)?
+        .subcommand(feed_command(alloc)?)
+}
+
+// The program with its commands on frames, and on lines of them.
+fn line_commands<'a>(alloc: Global) -> Result<Command<'a>, AllocError>
+    ensures { IfOk result (λ c. app_of c ≡ line_program) }
+{
     frame_commands(alloc)?
         .subcommand(pair_command(alloc)?)?
-        .subcommand(check_command(alloc)?)?
-        .subcommand(track_command(alloc)?)
+        .subcommand(check_command(alloc)?)
 }
 
 // The program with its commands on one frame.
@@ -46,16 +55,17 @@ pub(crate) fn request_of<'a>(name: &'a str, values: &ArgMatches<'a>) -> Option<R
         "pair" => pair_request(values),
         "check" => Some(check_request(values)),
         "track" => Some(track_request(values)),
+        "feed" => Some(feed_request(values)),
         _ => None,
     }
 }
 
 const SQUITTER: CommandHelp = CommandHelp {
     about: "Decodes and encodes ADS-B position messages (DF17, 112 bits) in exact fractions of a degree",
-    usage: "squitter <show|encode|local|pair|check|track> ..",
+    usage: "squitter <show|encode|local|pair|check|track|feed> ..",
     after: "A frame is 28 hexadecimal digits, bare or between '*' and ';'.
 Angles are in degrees, with up to 12 decimals; south and west need the equals sign: --lat=-33.9.
-'check' and 'track' read standard input; they take no file name.
+'check', 'track' and 'feed' read standard input; they take no file name.
 
 Exit status: 0 success; 1 a line, a frame or a position was refused; 2 a bad command line, or help;
 3 a read, a write or an allocation failed. Errors and help go to standard error.
@@ -64,6 +74,7 @@ Examples:
   squitter show 8D40621D58C382D690C8AC2863A7
   squitter check < frames.txt
   squitter track --lat=52.31 --lon=4.76 < flights.log
+  nc localhost 30005 | squitter feed | squitter track
   squitter track --help",
 };
 
@@ -308,6 +319,47 @@ fn track_request<'a>(values: &ArgMatches<'a>) -> Request<'a>
     })
 }
 
+const FEED: CommandHelp = CommandHelp {
+    about: "Reads a receiver's bytes from standard input, and prints a log for 'squitter track'",
+    usage: "squitter feed [--format=<auto|beast|avr|csv|log>] < BYTES
+       it waits for standard input; 'nc' reads a receiver's port",
+    after: "Prints 'MILLISECONDS FRAME' for each extended squitter (DF17). Its time is that of the receiver's
+clock (Beast, AVR with a clock), its own (CSV, log), or that of its arrival, if the input is a pipe.
+The input is one of these; without --format, its first bytes show which one:
+  beast   binary messages, as from port 30005 of a dump1090
+  avr     frames as '*8D..;', as from its port 30002, bare, or with a clock after '@' or '<'
+  csv     rows of time (s), icao24, rawmsg; a first row may name the columns in another order
+  log     lines that 'squitter track' reads
+An input without frames, such as SBS text or a compressed file, is named on standard error, and the
+status is 1. Otherwise the frames are counted there at the end; counts of 0 are left out:
+  N written                    lines that were printed
+  N of other downlink formats  messages but DF17, and how many there are of each format
+  N of Mode A/C                replies to Mode A and Mode C
+  N multilaterated             frames with a position that a server computed
+  N set aside                  frames with a time that jumps
+  N damaged                    bytes that are no message, or messages of a wrong length
+If the output is closed, as 'head' does, 'write failed' is reported and the status is 3.
+
+Examples:
+  nc localhost 30005 | squitter feed | squitter track
+  squitter feed < states.csv > states.log",
+};
+
+fn feed_command<'a>(alloc: Global) -> Result<Command<'a>, AllocError>
+    ensures app { IfOk result (λ c. app_of c ≡ feed) }
+    ensures own { IfOk result (λ c. (fields_of c).has_globals ≡ false) }
+{
+    command(alloc, "feed", FEED).arg(option(alloc, "format", "FORMAT", SOURCE))
+}
+
+fn feed_request<'a>(values: &ArgMatches<'a>) -> Request<'a>
+    ensures { IsAsked (codes "feed") (rows_of (found_of values.now)) (asked_by result) }
+{
+    Request::Feed(FeedWords {
+        format: values.get_str("format"),
+    })
+}
+
 // What help says of arguments and options, some of which commands share.
 const FRAME: &str = "28 hexadecimal digits, bare or between '*' and ';'";
 
@@ -340,6 +392,8 @@ const SITE_LON: &str = "The receiver's longitude in degrees, from -180 to 180; w
 Give both or neither";
 
 const FORMAT: &str = "The output format: lines, csv, or json (an object a line) [default: lines]";
+
+const SOURCE: &str = "The input format: auto, beast, avr, csv, or log [default: auto]";
 
 const LIMIT: &str = "The most aircraft at once, from 1 to 4294967295 [default: 1000]";
 

@@ -3,8 +3,10 @@
 
 ghost use Rattle.std.specs.Prelude.{◌≡◌, IfOk};
 
-use sq_console::{PromptInput, PromptOutput, SharedOutput, Trouble, arguments};
-use sq_tool::{Sink, Source, Writing, run};
+use sq_console::{
+    ConsoleClock, PromptInput, PromptOutput, SharedOutput, Trouble, arguments, is_input_live,
+};
+use sq_tool::{Sink, Source, Writing, run_live};
 use std::alloc::{AllocError, Global};
 use std::io::{Read, Write};
 use std::process::ExitCode;
@@ -29,7 +31,15 @@ fn start<F: Sink>(rt: &HostRuntime, faults: &mut F) -> Result<u8, Trouble> {
     let shared = SharedOutput::new(alloc, rt.stdout())?;
     let mut input = input_of(alloc, rt.stdin(), &shared)?;
     let mut output = PromptOutput::new(&shared);
-    Ok(run(alloc, words.as_slice(), &mut input, &mut output, faults))
+    let mut clock = ConsoleClock::new(rt, is_input_live(rt));
+    Ok(run_live(
+        alloc,
+        words.as_slice(),
+        &mut clock,
+        &mut input,
+        &mut output,
+        faults,
+    ))
 }
 
 // The input, of which as many gets are made as any source may answer.

@@ -5,7 +5,7 @@ use crate::runs::{Ran, Row, run_into};
 use std::alloc::Global;
 use std::process::Abort;
 
-const COMMANDS: [Row; 6] = [
+const COMMANDS: [Row; 7] = [
     Row {
         name: "show of an even airborne frame",
         words: &["squitter", "show", "8D40621D58C382D690C8AC2863A7"],
@@ -85,6 +85,14 @@ const COMMANDS: [Row; 6] = [
         status: 1,
         written: "1 waiting 40621D\n2 waiting 40621D\n3 fix 40621D 52.2657802 3.9389125\n4 moment back 15000\n",
         reported: "",
+    },
+    Row {
+        name: "feed of text without a clock",
+        words: &["squitter", "feed", "--format=avr"],
+        input: b"*8D40621D58C382D690C8AC2863A7;\n*2040;\n",
+        status: 0,
+        written: "0 8D40621D58C382D690C8AC2863A7\n",
+        reported: "1 written, 1 of Mode A/C\n",
     },
 ];
 

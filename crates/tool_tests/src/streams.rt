@@ -5,7 +5,7 @@ use std::io;
 use std::io::Read;
 use std::process::Abort;
 
-const IN_PIECES: [Row; 7] = [
+const IN_PIECES: [Row; 9] = [
     Row {
         name: "check of ten lines",
         words: &["squitter", "check"],
@@ -61,6 +61,22 @@ const IN_PIECES: [Row; 7] = [
         status: 1,
         written: "1 waiting 40621D\n2 table full\n3 waiting 484175\n4 no site 484175\n",
         reported: "",
+    },
+    Row {
+        name: "feed of text without a clock",
+        words: &["squitter", "feed", "--format=avr"],
+        input: b"*8D40621D58C382D690C8AC2863A7;\n*5D40621D000000;\n*8D40621D58C386435CC412692AD6;\n",
+        status: 0,
+        written: "0 8D40621D58C382D690C8AC2863A7\n0 8D40621D58C386435CC412692AD6\n",
+        reported: "2 written, 1 of other downlink formats (DF11 1)\n",
+    },
+    Row {
+        name: "feed of a log",
+        words: &["squitter", "feed", "--format", "log"],
+        input: b"7 8D40621D58C382D690C8AC2863A7\n8 *8D40621D58C386435CC412692AD6;",
+        status: 0,
+        written: "7 8D40621D58C382D690C8AC2863A7\n8 8D40621D58C386435CC412692AD6\n",
+        reported: "2 written\n",
     },
 ];
 

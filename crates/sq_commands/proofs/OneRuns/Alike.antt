@@ -21,7 +21,7 @@ abbrev pub HaveOne : (a b : Status) → (o p : Outputs) → Type 0
 HaveOne a b o p = (a ≡ b) × WroteAlike o.output p.output × WroteAlike o.reports p.reports
 
 -- on a sink that has not failed the text was written whole
-wrote_whole : (w : Written) (text : List ℕ) → w.failed ≡ false → WroteOrFailed w text → WroteLast w text
+pub wrote_whole : (w : Written) (text : List ℕ) → w.failed ≡ false → WroteOrFailed w text → WroteLast w text
 wrote_whole w text whole (inl wrote) = wrote
 wrote_whole w text whole (inr failed) = absurd (false≢true (sym whole ∙ failed.0))
 

@@ -16,3 +16,6 @@ returns-in-pair-clause-none c = rw c.in-pair.is c.pair_request.ensures.none
 
 pub returns-in-track-clause-some : goal.returns-in-track-clause-some
 returns-in-track-clause-some c = rw c.in-track.is (search rules)
+
+pub returns-in-feed-clause-some : goal.returns-in-feed-clause-some
+returns-in-feed-clause-some c = rw c.in-feed.is (search rules)

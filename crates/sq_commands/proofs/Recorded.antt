@@ -1,0 +1,182 @@
+-- A recorded input: what a clock told of it does not matter.
+use Rattle.std.proofs.Common.{◌≡◌, ◌∙◌, ◌++◌, ℕ, List, [], ◌∷◌, Option, Result, Ok, Err, ap, ap₂, false, inl, inr, refl, subst, sym}
+use Rattle.std.specs.List.{All}
+use Rattle.std.proofs.lemmas.List.Elements.{All-cons, All-head, All-nil, All-tail}
+use Rattle.sq_devices.specs.Changes.{Sent, Taken, Written, Wrote}
+use Rattle.sq_devices.specs.Clocks.{Times, recorded}
+use Rattle.sq_devices.specs.Device.{WroteFront}
+use Rattle.sq_commands.specs.declared.feed.FeedEnd.{FeedEnd}
+use Rattle.sq_feed.specs.Ears.{Hears, ear_after_all, told_of_all}
+use Rattle.sq_feed.specs.Feeds.{AreFed, Fed, Feeding, bytes_in, last_fed, lines_of, nothing_fed}
+use Rattle.sq_feed.specs.Follows.{Follows}
+use Rattle.sq_feed.specs.Readers.{Reads, awaited}
+use Rattle.sq_feed.specs.declared.machine.Format.{Format}
+use Rattle.sq_lines.specs.declared.faults.RunFault.{RunFault}
+use Rattle.sq_lines.specs.declared.faults.RunFault.TheVariants.{Read, Write, Memory}
+use Rattle.sq_requests.specs.Requests.{Asked, Show, Encode, Local, Pair, Check, Track, Feed}
+use Rattle.sq_commands.specs.declared.status.Status.{Status}
+use Rattle.sq_commands.specs.Feed.{FedIn, FedWhole, IsFed, all_lines, arrivals_in}
+use Rattle.sq_commands.specs.Feed.{end_by, end_of, lines_in, manner_of, start_of}
+use Rattle.sq_commands.specs.Outputs.{Effects}
+use Rattle.sq_commands.specs.Runs.{IsRun, IsTimedRun}
+use Rattle.sq_commands.proofs.Arrivals.{AreAlike, all_ears_alike, all_told_alike, quiet}
+
+abbrev IsZero : ℕ → Type 0
+IsZero moment = moment ≡ 0
+
+-- two feeds that differ in arrivals alone
+record AreNear (f g : Feeding) : Type 0 where
+  reader : f.reader ≡ g.reader
+  ear : AreAlike f.ear g.ear
+
+-- calls that took the same bytes and made the same lines, each with an arrival of 0
+record Untimed (before other : Feeding) (calls : List Fed) : Type 0 where
+  others : List Fed
+  fed : AreFed other others
+  bytes : bytes_in others ≡ bytes_in calls
+  zero : All IsZero (arrivals_in others)
+  lines : lines_in before calls ≡ lines_in other others
+  near : AreNear (last_fed before calls) (last_fed other others)
+
+untimed : (calls : List Fed) (before other : Feeding) → AreFed before calls → AreNear before other
+    → Untimed before other calls
+unfolding lines_in
+untimed [] before other fed near = record {
+  others = [];
+  fed = tt;
+  bytes = refl;
+  zero = All-nil IsZero;
+  lines = refl;
+  near = near;
+}
+untimed (one ∷ more) before other (fed, feds) near =
+    let reader : Reads = one.after.reader in
+    let after : Feeding = record { reader = reader; ear = ear_after_all 0 other.ear one.found } in
+    let next : Fed = record { arrival = 0; bytes = one.bytes; found = one.found; after = after } in
+    let heard : AreAlike (ear_after_all one.arrival before.ear one.found) (ear_after_all 0 other.ear one.found) =
+    all_ears_alike one.arrival 0 one.found before.ear other.ear near.ear in
+    let near_now : AreNear one.after after = record {
+      reader = refl;
+      ear = subst (λ (k : Hears). AreAlike k after.ear) (sym fed.heard) heard;
+    } in
+    let rest = untimed more one.after after feds near_now in
+    record {
+      others = next ∷ rest.others;
+      fed = (
+        record {
+          same = fed.same ∙ ap (λ (m : Reads). m.asked) near.reader;
+          follows = subst (λ (m : Reads). Follows (awaited m) one.bytes one.found (awaited reader)) near.reader
+              fed.follows;
+          heard = refl;
+        },
+        rest.fed,
+      );
+      bytes = ap (λ l. one.bytes ++ l) rest.bytes;
+      zero = All-cons IsZero 0 (arrivals_in rest.others) refl rest.zero;
+      lines = ap₂ (λ (l m : List ℕ). l ++ m)
+          (ap lines_of (all_told_alike one.arrival 0 one.found before.ear other.ear near.ear)) rest.lines;
+      near = rest.near;
+    }
+
+zero_and : (xs : List ℕ) → All IsZero xs → All IsZero (xs ++ 0 ∷ [])
+zero_and [] zero = All-cons IsZero 0 [] refl (All-nil IsZero)
+zero_and (x ∷ xs) zero =
+    All-cons IsZero x (xs ++ 0 ∷ []) (All-head IsZero x xs zero) (zero_and xs (All-tail IsZero x xs zero))
+
+module _ (clock : Times) (recorded_is : clock.is_live ≡ false) (format : Option Format) where
+  abbrev from : Feeding
+  from = start_of format clock
+
+  abbrev to : Feeding
+  to = start_of format recorded
+
+  near_start : AreNear from to
+  near_start = record {
+    reader = refl;
+    ear = record {
+      same = ap (λ b. quiet (nothing_fed format (manner_of b)).ear) recorded_is;
+      unlive = recorded_is;
+    };
+  }
+
+  fed_in : (bytes : List ℕ) (Of : List ℕ → Type 0) → FedIn format clock bytes (λ calls. Of (lines_in from calls))
+      → FedIn format recorded bytes (λ calls. Of (lines_in to calls))
+  fed_in bytes Of (calls, fed, whole, told, of) =
+      let u = untimed calls from to fed near_start in
+      (u.others, u.fed, u.bytes ∙ whole, u.zero, subst Of u.lines of)
+
+  fed_whole : (bytes : List ℕ) (Of : List ℕ → FeedEnd → Type 0)
+      → FedWhole format clock bytes (λ calls arrival. Of (all_lines from calls arrival)
+      (end_of arrival (last_fed from calls)))
+      → FedWhole format recorded bytes (λ calls arrival. Of (all_lines to calls arrival)
+      (end_of arrival (last_fed to calls)))
+  fed_whole bytes Of (calls, arrival, fed, whole, told, of) =
+      let u = untimed calls from to fed near_start in
+      let end = last_fed from calls in
+      let end' = last_fed to u.others in
+      let left = λ (m : Reads). awaited m [] in
+      let last : told_of_all arrival end.ear (left end.reader) ≡ told_of_all 0 end'.ear (left end'.reader) =
+      ap (λ (m : Reads). told_of_all arrival end.ear (left m)) u.near.reader
+      ∙ all_told_alike arrival 0 (left end'.reader) end.ear end'.ear u.near.ear in
+      let ears = all_ears_alike arrival 0 (left end'.reader) end.ear end'.ear u.near.ear in
+      let lines : all_lines from calls arrival ≡ all_lines to u.others 0 =
+      ap₂ (λ (l m : List ℕ). l ++ m) u.lines (ap lines_of last) in
+      let counts : end_of arrival end ≡ end_of 0 end' =
+      ap (λ (m : Reads). end_by (ear_after_all arrival end.ear (left m))) u.near.reader
+      ∙ ap end_by ears.same in (
+        u.others,
+        0,
+        u.fed,
+        u.bytes ∙ whole,
+        zero_and (arrivals_in u.others) u.zero,
+        subst (Of (all_lines to u.others 0)) counts
+            (subst (λ l. Of l (end_of arrival end)) lines of),
+      )
+
+  fed_recorded : (answer : Result FeedEnd RunFault) (input : Taken) (output : Written)
+      → IsFed format clock answer input output → IsFed format recorded answer input output
+  fed_recorded (Ok tally) input output (once, (pieces, got, consumed, end, of)) =
+      (once, (pieces, got, consumed, end, fed_whole _ (λ lines counts. Sent output lines × (tally ≡ counts)) of))
+  fed_recorded (Err Read) input output (same, (failed, (bytes, consumed, few, of))) =
+      (same, (failed, (bytes, consumed, few, fed_in bytes (Wrote output) of)))
+  fed_recorded (Err Write) input output (failed, same, (bytes, consumed, few, inl (front, first, of))) = (
+    failed,
+    same,
+    (
+      bytes,
+      consumed,
+      few,
+      inl (
+        front,
+        first,
+        fed_in front (WroteFront output.before output.after) of,
+      ),
+    ),
+  )
+  fed_recorded (Err Write) input output (failed, same, (bytes, consumed, few, inr (end, of))) = (
+    failed,
+    same,
+    (
+      bytes,
+      consumed,
+      few,
+      inr (
+        end,
+        fed_whole bytes (λ lines counts. WroteFront output.before output.after lines) of,
+      ),
+    ),
+  )
+  fed_recorded (Err Memory) input output none = absurd none
+
+-- a run on an input that is not live is one on a recorded input
+pub run_recorded : (clock : Times) → clock.is_live ≡ false → (asked : Asked) (status : Status) (e : Effects)
+    → IsTimedRun clock asked status e → IsRun asked status e
+run_recorded clock is (Show frame) status e run = run
+run_recorded clock is (Encode words) status e run = run
+run_recorded clock is (Local frame lat lon) status e run = run
+run_recorded clock is (Pair older newer lat lon) status e run = run
+run_recorded clock is (Check format) status e run = run
+run_recorded clock is (Track words) status e run = run
+run_recorded clock is (Feed words) status e (inl (format, named, (answer, fed, ended))) =
+    inl (format, named, (answer, fed_recorded clock is format answer e.input e.outputs.output fed, ended))
+run_recorded clock is (Feed words) status e (inr none) = inr none

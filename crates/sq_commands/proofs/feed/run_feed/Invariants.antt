@@ -1,0 +1,13 @@
+use Rattle.std.proofs.Common.{◌≡◌, length}
+use Rattle.sq_commands.proofs.FeedRuns.{IsGoing}
+use Rattle.sq_commands.proofs.feed.run_feed.Given as goal
+
+abbrev pub invariant-loop-count : goal.invariant-loop-count
+invariant-loop-count g l = record {
+  room : length l.piece ≡ 4096;
+  going : IsGoing l.fn.format g.C.Clock g.S.Source g.K.Sink l.initial.clock l.initial.source l.initial.sink l.clock
+      l.source l.sink l.feed;
+}
+
+abbrev pub decreases-loop-count : goal.decreases-loop-count
+decreases-loop-count g l = g.S.Source.gets_left l.source

@@ -1,0 +1,59 @@
+-- The summary of a feed: how many items were written, and what became of the others.
+use Rattle.std.specs.Prelude.{◌==◌, ◌+◌, ◌++◌, ℕ, Bool, List, [], ◌∷◌, codes, decimal, false, sum, true, if◌then◌else◌}
+use Rattle.std.specs.List.{flat_map}
+use Rattle.sq_feed.specs.Counts.{Tally}
+use Rattle.sq_feed.specs.declared.message.Stranger.{Stranger}
+use Rattle.sq_feed.specs.declared.message.Stranger.TheVariants as strangers
+
+-- these texts, each behind a comma
+unfoldable pub followed : List (List ℕ) → List ℕ
+followed texts = flat_map (λ text. codes ", " ++ text) texts
+
+-- these texts, with commas between them
+unfoldable pub joined : List (List ℕ) → List ℕ
+joined [] = []
+joined (text ∷ texts) = text ++ followed texts
+
+-- texts, behind others or not
+unfoldable pub rest_of : (is_first : Bool) → List (List ℕ) → List ℕ
+rest_of true texts = joined texts
+rest_of false texts = followed texts
+
+-- the comma before a text, unless it is the first
+unfoldable pub comma_of : (is_first : Bool) → List ℕ
+comma_of true = []
+comma_of false = codes ", "
+
+-- a downlink format and how many frames it has, if any
+unfoldable pub format_text : ℕ → ℕ → List (List ℕ)
+format_text format count =
+    if count == 0 then [] else ((codes "DF" ++ decimal format ++ codes " " ++ decimal count) ∷ [])
+
+-- the downlink formats from this one on that have frames
+unfoldable pub format_texts : ℕ → List ℕ → List (List ℕ)
+format_texts format [] = []
+format_texts format (count ∷ counts) = format_text format count ++ format_texts (format + 1) counts
+
+-- a count and its name, or nothing if the count is 0
+unfoldable pub part : ℕ → List ℕ → List ℕ
+part count name = if count == 0 then [] else (codes ", " ++ decimal count ++ name)
+
+-- the number of frames of other downlink formats, and of each format
+abbrev pub other_formats : List ℕ → List ℕ
+other_formats counts =
+    part (sum counts) (codes " of other downlink formats (" ++ joined (format_texts 0 counts) ++ codes ")")
+
+-- the summary: how many frames were written, and the counts of other items that are not 0
+unfoldable pub summary_text : Tally → List ℕ
+summary_text tally = decimal tally.written ++ codes " written" ++ other_formats tally.formats
+    ++ part tally.mode_ac (codes " of Mode A/C") ++ part tally.multilaterated (codes " multilaterated")
+    ++ part tally.aside (codes " set aside") ++ part tally.damaged (codes " damaged")
+
+-- what a source without frames is, and what to do
+abbrev pub stranger_text : Stranger → List ℕ
+stranger_text strangers.Sbs = codes "the input is SBS (BaseStation) text, which has no frames: read port 30005 or 30002"
+stranger_text strangers.Tar = codes "the input is a tar archive: try tar -xOf FILE | squitter feed"
+stranger_text strangers.Packed = codes "the input is compressed: try gzip -dc FILE | squitter feed"
+stranger_text strangers.Utf16 = codes "the input is UTF-16: try iconv -f UTF-16 -t UTF-8 FILE | squitter feed"
+stranger_text strangers.Json = codes "the input is lines of JSON, which have no frames"
+stranger_text strangers.NoFrame = codes "no frame is in the first 16384 bytes: try --format=beast, avr, csv or log"

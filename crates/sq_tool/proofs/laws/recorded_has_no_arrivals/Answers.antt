@@ -1,0 +1,7 @@
+use Rattle.sq_devices.specs.Clocks.{times_of}
+use Rattle.sq_tool.proofs.OneRuns.{program_recorded}
+use Rattle.sq_tool.proofs.laws.recorded_has_no_arrivals.Goals as goal
+
+pub returns : goal.returns
+returns g c words status first last from to old new before after is =
+    program_recorded (times_of g.C.Clock first last) is words status _
