@@ -1,3 +1,4 @@
 pub mod Values
 pub mod FeedValues
 pub mod OneSizes
+pub mod OrderValues

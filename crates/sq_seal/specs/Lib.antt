@@ -1,3 +1,4 @@
 pub mod Seal
 pub mod Sizes
 pub mod FeedSeal
+pub mod OrderSeal

@@ -5,12 +5,12 @@ ghost use Rattle.sq_seal.specs.Seal.{flag};
 
 use crate::feed_seal::FeedSeal;
 use crate::parts::Parts;
-use sq_feed::{Feed, Format};
+use sq_feed::{Feed, Format, Manner};
 use sq_lent::{Lent, Room};
 use std::mem::replace;
 
 /// The bytes of a block for a feed.
-pub const FEED_BYTES: usize = 1536;
+pub const FEED_BYTES: usize = 3072;
 
 /// A feed, or none. All zero is none. C lends these 16 bytes, and neither writes to them nor copies them.
 #[repr(C)]
@@ -20,11 +20,11 @@ pub struct FeedSlot {
     ghost tied: { full ≡ flag seal.held },
 }
 
-/// Returns a feed at the start of a source, in a box over this memory, or `None` if the room has fewer than
-/// `FEED_BYTES` bytes.
-pub fn feed_in(room: Room, format: Format, leap: u64, is_live: bool) -> Option<Box<Feed, Lent>>
-    ensures new { IfSome result (λ b. b.value ≡ nothing_fed format leap is_live) }
-    ensures room { IfSome result (λ b. 1536 ≤ room.size) }
+/// Returns a feed at the start of a source of this format, or of a source whose first bytes show it, in a box over
+/// this memory; `None` if the room has fewer than `FEED_BYTES` bytes.
+pub fn feed_in(room: Room, format: Option<Format>, manner: &Manner) -> Option<Box<Feed, Lent>>
+    ensures new { IfSome result (λ b. b.value ≡ nothing_fed format manner.now) }
+    ensures room { IfSome result (λ b. 3072 ≤ room.size) }
 {
     if room.len() < FEED_BYTES {
         return None;
@@ -32,10 +32,7 @@ pub fn feed_in(room: Room, format: Format, leap: u64, is_live: bool) -> Option<B
     let Ok((home, _)) = room.take(FEED_BYTES) else {
         return None;
     };
-    match Box::new(
-        Lent::over(FEED_BYTES, home),
-        Feed::new(format, leap, is_live),
-    ) {
+    match Box::new(Lent::over(FEED_BYTES, home), Feed::new(format, manner)) {
         Ok(made) => Some(made),
         Err(_) => None,
     }

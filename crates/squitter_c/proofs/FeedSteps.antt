@@ -68,7 +68,7 @@ has_first count some = grind (arith, nat_tests, some)
 pub all_given : AllGiven
 all_given arrival k new piece moments_were moments frames_were frames before after fault (next, is, taken, good) room
     slot =
-    let all = taken.all room slot in (
+    let all = (taken.all room slot).0 in (
       next,
       is,
       all,
@@ -79,7 +79,7 @@ all_given arrival k new piece moments_were moments frames_were frames before aft
 
 pub all_written : AllWritten
 all_written arrival k new piece was is before after fault (next, same, taken, good) room =
-    let all = taken.all room in (
+    let all = (taken.all room).0 in (
       next,
       same,
       all,

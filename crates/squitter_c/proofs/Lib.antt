@@ -14,3 +14,4 @@ pub mod OneTrackers
 pub mod LogSteps
 pub mod LogAll
 pub mod FeedSteps
+pub mod OrderSteps

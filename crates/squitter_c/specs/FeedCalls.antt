@@ -1,11 +1,13 @@
 -- What calls of a feed answer.
-use Rattle.std.specs.Prelude.{◌≡◌, ◌==◌, ◌≤◌, ◌<◌, ◌+◌, ◌⊎◌, ℕ, not, List, [], Option, None, Some, drop, length, take}
+use Rattle.std.specs.Prelude.{◌≡◌, ◌==◌, ◌≤◌, ◌<◌, ◌+◌, ◌/◌, ◌%◌, ◌⊎◌, ℕ, List, [], Option, None, Some, drop, length, take}
 use Rattle.sq_feed.specs.declared.machine.Format.{Format}
 use Rattle.sq_feed.specs.declared.machine.Format.TheVariants as formats
+use Rattle.sq_feed.specs.declared.manner.Manner.{Manner}
 use Rattle.sq_feed.specs.Counts.{Tally}
-use Rattle.sq_feed.specs.Ears.{frames_of, moments_of}
-use Rattle.sq_feed.specs.Feeds.{Feeding, HasEnded, HasGiven, HasLost, HasWritten, lines_of, nothing_fed, told_at_end}
-use Rattle.sq_feed.specs.Sniffing.{first_shown}
+use Rattle.sq_feed.specs.Feeds.{Feeding, HasClosedFeed, HasGiven, HasLost, HasWritten, format_of_source, nothing_fed}
+use Rattle.sq_feed.specs.Readers.{calls_left}
+use Rattle.sq_feed.specs.declared.message.Stranger.{Stranger}
+use Rattle.sq_feed.specs.declared.message.Stranger.TheVariants as strangers
 use Rattle.sq_plain.specs.declared.faults.Fault.{Fault}
 use Rattle.sq_plain.specs.declared.faults.Refusal.TheVariants as refusals
 use Rattle.sq_plain.specs.Faults.{fault_of, none}
@@ -14,21 +16,36 @@ use Rattle.squitter_c.specs.declared.feed_new.PlainCounts.{PlainCounts}
 use Rattle.squitter_c.specs.declared.log_take.Done.{Done}
 
 -- 0 for Beast, 1 for AVR, 2 for CSV, 3 for a log
-abbrev pub feed_number : Format → ℕ
-feed_number formats.Beast = 0
-feed_number formats.Avr = 1
-feed_number formats.Csv = 2
-feed_number formats.Log = 3
+abbrev pub format_number : Format → ℕ
+format_number formats.Beast = 0
+format_number formats.Avr = 1
+format_number formats.Csv = 2
+format_number formats.Log = 3
 
-abbrev pub IsFeedFormat : ℕ → Format → Type 0
+-- 4 for a source that shows its format by its first bytes
+abbrev pub feed_number : Option Format → ℕ
+feed_number (Some format) = format_number format
+feed_number None = 4
+
+abbrev pub IsFeedFormat : ℕ → Option Format → Type 0
 IsFeedFormat number format = number ≡ feed_number format
 
+-- the flags: 1 for a live source, 2 to ignore its clock, 4 for frames of all downlink formats
+abbrev pub manner_of : ℕ → ℕ → ℕ → Manner
+manner_of leap late flags = record {
+  leap = leap;
+  late = late;
+  is_live = flags % 2 == 1;
+  ignores_clock = flags / 2 % 2 == 1;
+  all_formats = flags / 4 % 2 == 1;
+}
+
 -- a feed at the start of a source, or the fault: no format has the number, or the block is too small
-abbrev pub IsFeedMade : (number leap is_live size : ℕ) → (made : Option KeptFeed) → Fault → Type 0
-IsFeedMade number leap is_live size (Some feed) fault = (format : Format) × IsFeedFormat number format
-    × (feed ≡ nothing_fed format leap (not (is_live == 0))) × (1536 ≤ size) × (fault ≡ none)
-IsFeedMade number leap is_live size None fault = ((3 < number) × (fault ≡ fault_of refusals.NoFormat))
-    ⊎ ((number ≤ 3) × (fault ≡ fault_of refusals.Memory))
+abbrev pub IsFeedMade : (number leap late flags size : ℕ) → (made : Option KeptFeed) → Fault → Type 0
+IsFeedMade number leap late flags size (Some feed) fault = (format : Option Format) × IsFeedFormat number format
+    × (feed ≡ nothing_fed format (manner_of leap late flags)) × (3072 ≤ size) × (fault ≡ none)
+IsFeedMade number leap late flags size None fault = ((4 < number) × (fault ≡ fault_of refusals.NoFormat))
+    ⊎ ((number ≤ 4) × (fault ≡ fault_of refusals.Memory))
 
 -- The first elements of an array were written, so many; the others are unchanged.
 pub record IsFilled {X : Type 0} (was is : List X) (count : ℕ) : Type 0 where
@@ -39,32 +56,24 @@ pub record IsFilled {X : Type 0} (was is : List X) (count : ℕ) : Type 0 where
 -- ---- squitters in arrays
 
 -- The feed went on with the bytes that were taken, and their squitters were stored. Where both arrays have room for one
--- more, all bytes were taken.
+-- more, all bytes were taken, and no squitter waits.
 pub record HasTakenFrames (arrival : ℕ) (old new : Feeding) (piece moments_were moments : List ℕ)
     (frames_were frames : List (List ℕ)) (done : Done) : Type 0 where
   pub taken : done.taken ≤ length piece
   pub given : HasGiven arrival old (take done.taken piece) [] [] (take done.written moments)
       (take done.written frames) new
-  pub some : 0 < length piece → 0 < length moments → 0 < length frames → 0 < done.taken
-  pub all : done.written < length moments → done.written < length frames → done.taken ≡ length piece
+  pub some : 0 < length piece → 0 < length moments → 0 < length frames → (0 < done.taken) ⊎ (0 < done.written)
+  pub all : done.written < length moments → done.written < length frames
+      → (done.taken ≡ length piece) × (calls_left new.reader ≡ 0)
   pub moments_filled : IsFilled moments_were moments done.written
   pub frames_filled : IsFilled frames_were frames done.written
 
--- the last squitter of a source was stored, if it has one
-pub record HasStoredLast (arrival : ℕ) (old new : Feeding) (moments : List ℕ) (frames : List (List ℕ)) (done : Done)
-    : Type 0 where
-  pub ended : HasEnded arrival old new
-  pub moments_are : take done.written moments ≡ moments_of (told_at_end arrival old)
-  pub frames_are : take done.written frames ≡ frames_of (told_at_end arrival old)
-
--- Nothing was done for want of room, or the source ended.
+-- The source ended, and its last squitters were stored. Where both arrays have room for one more, none waits.
 pub record HasEndedInFrames (arrival : ℕ) (old new : Feeding) (moments_were moments : List ℕ)
     (frames_were frames : List (List ℕ)) (done : Done) : Type 0 where
-  pub taken : done.taken ≡ 0
-  pub ends : (((length moments ≡ 0) ⊎ (length frames ≡ 0)) × (new ≡ old) × (done.written ≡ 0))
-      ⊎ HasStoredLast arrival old new moments frames done
-  pub moments_filled : IsFilled moments_were moments done.written
-  pub frames_filled : IsFilled frames_were frames done.written
+  pub closed : Feeding
+  pub ended : HasClosedFeed old closed
+  pub gives : HasTakenFrames arrival closed new [] moments_were moments frames_were frames done
 
 -- the result of taking a piece, if there is a feed, and else the fault
 abbrev pub IsFeedTaken : (arrival : ℕ) → (old new : Option KeptFeed) → (piece moments_were moments : List ℕ)
@@ -89,24 +98,19 @@ IsFeedFinished arrival None new moments_were moments frames_were frames before a
 -- ---- lines in a buffer
 
 -- The feed went on with the bytes that were taken, and the lines of their squitters were written. Where there is room
--- for a line more, all bytes were taken.
+-- for a line more, all bytes were taken, and no line waits.
 pub record HasTakenText (arrival : ℕ) (old new : Feeding) (piece was is : List ℕ) (done : Done) : Type 0 where
   pub taken : done.taken ≤ length piece
   pub written : HasWritten arrival old (take done.taken piece) [] (take done.written is) new
-  pub some : 0 < length piece → 50 ≤ length is → 0 < done.taken
-  pub all : done.written + 50 ≤ length is → done.taken ≡ length piece
+  pub some : 0 < length piece → 50 ≤ length is → (0 < done.taken) ⊎ (0 < done.written)
+  pub all : done.written + 50 ≤ length is → (done.taken ≡ length piece) × (calls_left new.reader ≡ 0)
   pub filled : IsFilled was is done.written
 
--- the line of the last squitter of a source was written, if it has one
-pub record HasWrittenLast (arrival : ℕ) (old new : Feeding) (is : List ℕ) (done : Done) : Type 0 where
-  pub ended : HasEnded arrival old new
-  pub text : take done.written is ≡ lines_of (told_at_end arrival old)
-
--- Nothing was done for want of room, or the source ended.
+-- The source ended, and its last lines were written. Where there is room for a line more, none waits.
 pub record HasEndedInText (arrival : ℕ) (old new : Feeding) (was is : List ℕ) (done : Done) : Type 0 where
-  pub taken : done.taken ≡ 0
-  pub ends : ((length is < 50) × (new ≡ old) × (done.written ≡ 0)) ⊎ HasWrittenLast arrival old new is done
-  pub filled : IsFilled was is done.written
+  pub closed : Feeding
+  pub ended : HasClosedFeed old closed
+  pub gives : HasTakenText arrival closed new [] was is done
 
 -- the result of taking a piece, if there is a feed, and else the fault
 abbrev pub IsFeedTextTaken : (arrival : ℕ) → (old new : Option KeptFeed) → (piece was is : List ℕ)
@@ -148,10 +152,22 @@ IsFeedCounted None was is fault = (is ≡ was) × (fault ≡ fault_of refusals.N
 
 -- ---- the format of a source
 
-abbrev pub IsShownAs : Option Format → (was is : ℕ) → Fault → Type 0
-IsShownAs (Some format) was is fault = (is ≡ feed_number format) × (fault ≡ none)
-IsShownAs None was is fault = (is ≡ was) × (fault ≡ fault_of refusals.NoFormat)
+abbrev pub stranger_number : Stranger → ℕ
+stranger_number strangers.Sbs = 5
+stranger_number strangers.Tar = 6
+stranger_number strangers.Packed = 7
+stranger_number strangers.Utf16 = 8
+stranger_number strangers.Json = 9
+stranger_number strangers.NoFrame = 10
 
--- the number of the format that the first bytes of a source show first, or the fault if they show no format
-abbrev pub IsSniffed : List ℕ → (was is : ℕ) → Fault → Type 0
-IsSniffed bytes was is fault = IsShownAs (first_shown [] bytes) was is fault
+-- the number of a format, or of what a source without one is, or 4 while neither is known
+abbrev pub source_number : Option Format → Option Stranger → ℕ
+source_number (Some format) stranger = format_number format
+source_number None (Some stranger) = stranger_number stranger
+source_number None None = 4
+
+-- what the source of a feed is, as far as it is known, if there is a feed, and else the fault
+abbrev pub IsSourceNumber : Option KeptFeed → (was is : ℕ) → Fault → Type 0
+IsSourceNumber (Some k) was is fault =
+    (is ≡ source_number (format_of_source k) k.ear.stranger) × (fault ≡ none)
+IsSourceNumber None was is fault = (is ≡ was) × (fault ≡ fault_of refusals.NoTracker)

@@ -21,3 +21,5 @@ pub mod LogTexts
 pub mod OneTrackers
 pub mod FeedCalls
 pub mod FeedLaws
+pub mod OrderCalls
+pub mod OrderLaws

@@ -1,23 +1,19 @@
 //! Laws of the feeds that C holds: the complete result of each call.
-ghost use Rattle.std.specs.Prelude.{◌≡◌, ◌==◌, ◌↔◌, ◌⊎◌, ◌+◌, ◌<◌, ◌≤◌, [], List, ℕ, Option, Some, None, drop, length, not, take};
+ghost use Rattle.std.specs.Prelude.{◌≡◌, ◌==◌, ◌↔◌, ◌+◌, ◌<◌, ◌≤◌, [], ◌∷◌, List, ℕ, Option, Some, None, drop, false, length, map, true};
 ghost use Rattle.sq_feed.specs.Counts.{Tally};
-ghost use Rattle.sq_feed.specs.Ears.{frames_of, moments_of};
-ghost use Rattle.sq_feed.specs.Feeds.{Feeding, HasEnded, HasFed, HasGiven, HasLost, HasWritten, lines_of, nothing_fed};
-ghost use Rattle.sq_feed.specs.Feeds.{told_at_end};
+ghost use Rattle.sq_feed.specs.Feeds.{Feeding, HasClosedFeed, HasLost, format_of_source, nothing_fed};
 ghost use Rattle.sq_plain.specs.declared.faults.Fault.{Fault};
-ghost use Rattle.sq_plain.specs.Faults.{fault_of, none};
+ghost use Rattle.sq_plain.specs.Faults.{none};
 ghost use Rattle.sq_seal.specs.FeedSeal.{KeptFeed};
 ghost use Rattle.squitter_c.specs.declared.feed_new.PlainCounts.{PlainCounts};
 ghost use Rattle.squitter_c.specs.declared.log_take.Done.{Done};
-ghost use Rattle.squitter_c.specs.FeedCalls.{AreCounts, HasEndedInFrames, HasEndedInText, HasStoredLast, HasTakenFrames};
-ghost use Rattle.squitter_c.specs.FeedCalls.{HasTakenText, HasWrittenLast, IsFeedCounted, IsFeedFinished, IsFeedFormat};
+ghost use Rattle.squitter_c.specs.FeedCalls.{AreCounts, HasEndedInFrames, HasEndedInText, HasTakenFrames};
+ghost use Rattle.squitter_c.specs.FeedCalls.{HasTakenText, IsFeedCounted, IsFeedFinished, IsFeedFormat};
 ghost use Rattle.squitter_c.specs.FeedCalls.{IsFeedLost, IsFeedMade, IsFeedTaken, IsFeedTextFinished, IsFeedTextTaken};
-ghost use Rattle.squitter_c.specs.FeedCalls.{IsFilled, IsSniffed};
-ghost use Rattle.sq_feed.specs.Sniffing.{first_shown};
+ghost use Rattle.squitter_c.specs.FeedCalls.{IsFilled, IsSourceNumber, feed_number, manner_of, source_number};
 ghost use Rattle.squitter_c.specs.FeedLaws.{AllGiven, AllWritten};
 
-use sq_feed::Format;
-use sq_plain::Refusal;
+use sq_feed::{Format, Stranger};
 
 /// A call of a feed with code 0 has fed the bytes that it took. If it left room, these are all bytes of the piece. So
 /// the calls of a source meet `FeedsTheWhole`.
@@ -28,14 +24,51 @@ pub fn all_given()
 
 /// A new feed, and the numbers of the formats.
 pub fn made_feeds_exactly()
-    ensures made { (number leap is_live size : ℕ) (k : KeptFeed) (fault : Fault)
-        → IsFeedMade number leap is_live size (Some k) fault ↔ ((format : Format) × IsFeedFormat number format
-        × (k ≡ nothing_fed format leap (not (is_live == 0))) × (1536 ≤ size) × (fault ≡ none)) }
-    ensures few { (number : ℕ) (format : Format) → IsFeedFormat number format → number ≤ 3 }
-    ensures room { (number leap is_live size : ℕ) (k : KeptFeed) (fault : Fault)
-        → IsFeedMade number leap is_live size (Some k) fault → (number ≤ 3) × (1536 ≤ size) }
-    ensures numbers { IsFeedFormat 0 Format.Beast × IsFeedFormat 1 Format.Avr × IsFeedFormat 2 Format.Csv
-        × IsFeedFormat 3 Format.Log }
+    ensures made { (number leap late flags size : ℕ) (k : KeptFeed) (fault : Fault)
+        → IsFeedMade number leap late flags size (Some k) fault
+        ↔ ((format : Option Format) × IsFeedFormat number format
+        × (k ≡ nothing_fed format (manner_of leap late flags)) × (3072 ≤ size) × (fault ≡ none)) }
+    ensures few { (number : ℕ) (format : Option Format) → IsFeedFormat number format → number ≤ 4 }
+    ensures room { (number leap late flags size : ℕ) (k : KeptFeed) (fault : Fault)
+        → IsFeedMade number leap late flags size (Some k) fault → (number ≤ 4) × (3072 ≤ size) }
+    ensures flags { (leap late : ℕ)
+        → (manner_of leap late 0 ≡ record {
+          leap = leap;
+          late = late;
+          is_live = false;
+          ignores_clock = false;
+          all_formats = false;
+        })
+        × (manner_of leap late 1 ≡ record {
+          leap = leap;
+          late = late;
+          is_live = true;
+          ignores_clock = false;
+          all_formats = false;
+        })
+        × (manner_of leap late 2 ≡ record {
+          leap = leap;
+          late = late;
+          is_live = false;
+          ignores_clock = true;
+          all_formats = false;
+        })
+        × (manner_of leap late 4 ≡ record {
+          leap = leap;
+          late = late;
+          is_live = false;
+          ignores_clock = false;
+          all_formats = true;
+        })
+        × (manner_of leap late 15 ≡ record {
+          leap = leap;
+          late = late;
+          is_live = true;
+          ignores_clock = true;
+          all_formats = true;
+        }) }
+    ensures numbers { IsFeedFormat 0 (Some Format.Beast) × IsFeedFormat 1 (Some Format.Avr)
+        × IsFeedFormat 2 (Some Format.Csv) × IsFeedFormat 3 (Some Format.Log) × IsFeedFormat 4 None }
 {}
 
 /// An array after a call wrote its first elements.
@@ -46,23 +79,14 @@ pub fn filled_exactly()
 
 /// The end of a source, in arrays and in a text.
 pub fn ends_exactly()
-    ensures stored { (arrival : ℕ) (old new : Feeding) (moments : List ℕ) (frames : List (List ℕ)) (done : Done)
-        → HasStoredLast arrival old new moments frames done ↔ (HasEnded arrival old new
-        × (take done.written moments ≡ moments_of (told_at_end arrival old))
-        × (take done.written frames ≡ frames_of (told_at_end arrival old))) }
-    ensures written { (arrival : ℕ) (old new : Feeding) (is : List ℕ) (done : Done)
-        → HasWrittenLast arrival old new is done
-        ↔ (HasEnded arrival old new × (take done.written is ≡ lines_of (told_at_end arrival old))) }
     ensures arrays { (arrival : ℕ) (old new : Feeding) (moments_were moments : List ℕ)
         (frames_were frames : List (List ℕ)) (done : Done)
-        → HasEndedInFrames arrival old new moments_were moments frames_were frames done ↔ ((done.taken ≡ 0)
-        × ((((length moments ≡ 0) ⊎ (length frames ≡ 0)) × (new ≡ old) × (done.written ≡ 0))
-        ⊎ HasStoredLast arrival old new moments frames done)
-        × IsFilled moments_were moments done.written × IsFilled frames_were frames done.written) }
+        → HasEndedInFrames arrival old new moments_were moments frames_were frames done ↔ ((closed : Feeding)
+        × HasClosedFeed old closed
+        × HasTakenFrames arrival closed new [] moments_were moments frames_were frames done) }
     ensures text { (arrival : ℕ) (old new : Feeding) (was is : List ℕ) (done : Done)
-        → HasEndedInText arrival old new was is done ↔ ((done.taken ≡ 0)
-        × (((length is < 50) × (new ≡ old) × (done.written ≡ 0)) ⊎ HasWrittenLast arrival old new is done)
-        × IsFilled was is done.written) }
+        → HasEndedInText arrival old new was is done ↔ ((closed : Feeding) × HasClosedFeed old closed
+        × HasTakenText arrival closed new [] was is done) }
     ensures finished { (arrival : ℕ) (k : KeptFeed) (new : Option KeptFeed) (moments_were moments : List ℕ)
         (frames_were frames : List (List ℕ)) (before after : Done) (fault : Fault)
         → IsFeedFinished arrival (Some k) new moments_were moments frames_were frames before after fault
@@ -84,10 +108,13 @@ pub fn counts_exactly()
         × (is.damaged ≡ tally.damaged) × (is.aside ≡ tally.aside) × (is.formats ≡ tally.formats)) }
 {}
 
-/// The format that the first bytes of a source show, and the error if they show none.
-pub fn shown_exactly()
-    ensures some { (bytes : List ℕ) (format : Format) (was is : ℕ) (fault : Fault) → first_shown [] bytes ≡ Some format
-        → IsSniffed bytes was is fault → IsFeedFormat is format × (fault ≡ none) }
-    ensures none { (bytes : List ℕ) (was is : ℕ) (fault : Fault) → first_shown [] bytes ≡ None
-        → IsSniffed bytes was is fault → (is ≡ was) × (fault ≡ fault_of Refusal.NoFormat) }
+/// What the source of a feed is, if there is a feed, and the numbers of sources.
+pub fn sources_exactly()
+    ensures number { (k : KeptFeed) (was is : ℕ) (fault : Fault) → IsSourceNumber (Some k) was is fault
+        ↔ ((is ≡ source_number (format_of_source k) k.ear.stranger) × (fault ≡ none)) }
+    ensures formats { (format : Format) (other : Option Stranger)
+        → source_number (Some format) other ≡ feed_number (Some format) }
+    ensures strangers { map (λ stranger. source_number None (Some stranger)) (Stranger.Sbs ∷ Stranger.Tar
+        ∷ Stranger.Packed ∷ Stranger.Utf16 ∷ Stranger.Json ∷ Stranger.NoFrame ∷ []) ≡ 5 ∷ 6 ∷ 7 ∷ 8 ∷ 9 ∷ 10 ∷ [] }
+    ensures none { source_number None None ≡ 4 }
 {}

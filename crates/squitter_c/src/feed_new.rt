@@ -1,8 +1,9 @@
 //! Making, counting and freeing a feed.
 ghost use Rattle.std.specs.Prelude.{◌≡◌, IfNone, IfSome, None, ◌<◌};
-ghost use Rattle.squitter_c.specs.FeedCalls.{IsFeedCounted, IsFeedFormat, IsFeedLost, IsFeedMade, AreCounts};
+ghost use Rattle.squitter_c.specs.FeedCalls.{AreCounts, IsFeedCounted, IsFeedFormat, IsFeedLost, IsFeedMade};
+ghost use Rattle.squitter_c.specs.FeedCalls.{IsSourceNumber, manner_of, source_number};
 
-use sq_feed::{Counts, Format};
+use sq_feed::{Counts, Format, Manner, Stranger};
 use sq_lent::Room;
 use sq_plain::{Fault, NONE, Refusal};
 use sq_seal::{FEED_BYTES, FeedSlot, feed_in};
@@ -26,15 +27,17 @@ pub struct PlainCounts {
 /// Returns the size of a feed in bytes.
 #[unsafe(no_mangle)]
 pub extern "C" fn squitter_feed_size() -> usize
-    ensures { result ≡ 1536 }
+    ensures { result ≡ 3072 }
 {
     FEED_BYTES
 }
 
 /// Makes a feed at the start of a source. The block belongs to the feed until the feed is freed. An existing feed is
-/// freed first. Formats are 0 for Beast, 1 for AVR, 2 for CSV and 3 for a log. A gap above `leap` milliseconds is a
-/// jump of the source's clock. `is_live` is 0 for a recorded source, without arrivals; with any other value the source
-/// is live.
+/// freed first. Formats are 0 for Beast, 1 for AVR, 2 for CSV, 3 for a log, and 4 for a source whose first bytes show
+/// the format. A gap above `leap` milliseconds is a jump of the source's clock. A timestamp may be before the latest
+/// one by `late` milliseconds; with 0, timestamps never go back. `flags` is a sum: 1 for a live source, otherwise
+/// arrivals are ignored; 2 to ignore the receiver's clock; 4 for frames of all downlink formats, otherwise those of
+/// format 17. Its other bits are ignored.
 ///
 /// The faults are, in this order: `NoFormat` if the number is no format's; `Memory` if the block is smaller than
 /// [`squitter_feed_size`]. After a fault there is no feed.
@@ -44,20 +47,34 @@ pub extern "C" fn squitter_feed_new(
     block: Room,
     format: u32,
     leap: u64,
-    is_live: u32,
+    late: u64,
+    flags: u32,
 ) -> Fault
-    ensures { IsFeedMade format leap is_live block.size feed.new.seal.held result }
+    ensures { IsFeedMade format leap late flags block.size feed.new.seal.held result }
 {
     squitter_feed_free(feed);
     let Some(format) = feed_format(format) else {
         return Fault::of(Refusal::NoFormat);
     };
-    match feed_in(block, format, leap, is_live != 0) {
+    match feed_in(block, format, &manner_of(leap, late, flags)) {
         Some(made) => {
             feed.put(made);
             NONE
         }
         None => Fault::of(Refusal::Memory),
+    }
+}
+
+// Returns how a feed with these flags hears its source.
+fn manner_of(leap: u64, late: u64, flags: u32) -> Manner
+    ensures { result ≡ manner_of leap late flags }
+{
+    Manner {
+        leap,
+        late,
+        is_live: flags % 2 == 1,
+        ignores_clock: flags / 2 % 2 == 1,
+        all_formats: flags / 4 % 2 == 1,
     }
 }
 
@@ -117,16 +134,57 @@ fn plain_counts(counts: &Counts) -> PlainCounts
     }
 }
 
-// Returns the format with this number.
-fn feed_format(number: u32) -> Option<Format>
+/// Returns what the source is: 0 to 3 for its format; 5 for SBS text, 6 for a tar archive, 7 for a packed file, 8 for
+/// UTF-16, 9 for lines of JSON, 10 for bytes without frames; and 4 while none of these is known. At the end of a source
+/// it is known, if any byte came. The fault is `NoTracker` if there is no feed.
+#[unsafe(no_mangle)]
+pub extern "C" fn squitter_feed_format(feed: &mut FeedSlot, out: &mut u32) -> Fault
+    ensures number { IsSourceNumber feed.old.seal.held out.old out.new result }
+    ensures same { feed.new.seal.held ≡ feed.old.seal.held }
+{
+    match feed.take() {
+        Some(taken) => {
+            let number = source_number(taken.format(), taken.stranger());
+            feed.put(taken);
+            *out = number;
+            NONE
+        }
+        None => Fault::of(Refusal::NoTracker),
+    }
+}
+
+// Returns the number of a source.
+fn source_number(format: Option<Format>, stranger: Option<Stranger>) -> u32
+    ensures { result ≡ source_number format stranger }
+{
+    match format {
+        Some(Format::Beast) => 0,
+        Some(Format::Avr) => 1,
+        Some(Format::Csv) => 2,
+        Some(Format::Log) => 3,
+        None => match stranger {
+            None => 4,
+            Some(Stranger::Sbs) => 5,
+            Some(Stranger::Tar) => 6,
+            Some(Stranger::Packed) => 7,
+            Some(Stranger::Utf16) => 8,
+            Some(Stranger::Json) => 9,
+            Some(Stranger::NoFrame) => 10,
+        },
+    }
+}
+
+// Returns the format with this number: `None` within `Some` is for a source whose first bytes show the format.
+fn feed_format(number: u32) -> Option<Option<Format>>
     ensures some { IfSome result (IsFeedFormat number) }
-    ensures none { IfNone result (3 < number) }
+    ensures none { IfNone result (4 < number) }
 {
     match number {
-        0 => Some(Format::Beast),
-        1 => Some(Format::Avr),
-        2 => Some(Format::Csv),
-        3 => Some(Format::Log),
+        0 => Some(Some(Format::Beast)),
+        1 => Some(Some(Format::Avr)),
+        2 => Some(Some(Format::Csv)),
+        3 => Some(Some(Format::Log)),
+        4 => Some(None),
         _ => None,
     }
 }

@@ -9,7 +9,8 @@ use sq_seal::FeedSlot;
 
 /// Gives a feed the next bytes of its source, received at `arrival` (ms). Stores the timestamps (ms) and the frames of
 /// their squitters, as many as fit both arrays. `done` has the number of bytes taken, and of squitters stored. If both
-/// arrays have room for one more, the whole piece was taken. The arrival of a recorded source is ignored.
+/// arrays have room for one more, the whole piece was taken, and no squitter waits. The arrival of a recorded source is
+/// ignored.
 ///
 /// The fault is `NoTracker` if there is no feed; nothing is changed then.
 #[unsafe(no_mangle)]
@@ -34,9 +35,9 @@ pub extern "C" fn squitter_feed_take(
     }
 }
 
-/// Ends the source: stores its last squitter with its timestamp, if the last frame is complete and is a squitter.
-/// `done` has the number stored: 0 or 1. The next bytes are of another source. Without room for a squitter nothing is
-/// changed, and `done` has 0.
+/// Ends the source, and stores its last squitters with their timestamps, as many as fit both arrays. `done` has the
+/// number stored. If both arrays have room for one more, these are all, and the next bytes are of another source.
+/// Otherwise the others come with further calls, which may have no bytes. There are five at most.
 ///
 /// The fault is `NoTracker` if there is no feed; nothing is changed then.
 #[unsafe(no_mangle)]
@@ -74,33 +75,10 @@ fn take_by(
     Done { taken, written }
 }
 
-// Ends a source, if there is room for a squitter.
+// Ends a source.
 fn finish_by(feed: &mut Feed, arrival: u64, moments: &mut [u64], frames: &mut [[u8; 14]]) -> Done
     ensures { HasEndedInFrames arrival feed.old feed.new moments.old moments.new frames.old frames.new result }
 {
-    if moments.is_empty() || frames.is_empty() {
-        return nothing_done();
-    }
-    match feed.finish_frame(arrival) {
-        Some(last) => {
-            let (moment, frame) = &last;
-            moments[0] = *moment;
-            frames[0] = *frame;
-            Done {
-                taken: 0,
-                written: 1,
-            }
-        }
-        None => nothing_done(),
-    }
-}
-
-// Nothing was taken or written.
-pub(crate) fn nothing_done() -> Done
-    ensures { result ≡ record { taken = 0; written = 0 } }
-{
-    Done {
-        taken: 0,
-        written: 0,
-    }
+    feed.close();
+    take_by(feed, b"", arrival, moments, frames)
 }

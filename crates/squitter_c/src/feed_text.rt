@@ -1,10 +1,10 @@
 //! The lines of a source's squitters, pushed in pieces: as many as fit a buffer.
-ghost use Rattle.std.specs.Prelude.{◌≡◌, ◌+◌, ◌++◌, ◌<◌, ◌≤◌, drop, length, take};
+ghost use Rattle.std.specs.Prelude.{◌≡◌, ◌⊎◌, ◌*◌, ◌+◌, ◌++◌, ◌<◌, ◌≤◌, drop, length, take};
 ghost use Rattle.sq_feed.specs.Feeds.{HasWritten};
 ghost use Rattle.sq_feed.specs.Lines.{log_line};
+ghost use Rattle.sq_feed.specs.Readers.{calls_left};
 ghost use Rattle.squitter_c.specs.FeedCalls.{HasEndedInText, HasTakenText, IsFeedTextFinished, IsFeedTextTaken};
 
-use crate::feed_take::nothing_done;
 use crate::log_take::Done;
 use crate::log_text::put_at;
 use sq_feed::{Feed, LINE_LIMIT, TextBuffer, push_log_line};
@@ -19,7 +19,7 @@ const SEVERAL: usize = 256;
 
 /// Gives a feed the next bytes of its source, received at `arrival` (ms). Writes its squitters as lines of a log. A
 /// line has up to 50 bytes, and is begun only if 50 bytes are free. `done` has the number of bytes taken from the
-/// piece, and of bytes written. If 50 bytes are free afterwards, the whole piece was taken.
+/// piece, and of bytes written. If 50 bytes are free afterwards, the whole piece was taken, and no line waits.
 ///
 /// The fault is `NoTracker` if there is no feed; nothing is changed then.
 #[unsafe(no_mangle)]
@@ -43,8 +43,9 @@ pub extern "C" fn squitter_feed_take_text(
     }
 }
 
-/// Ends the source: writes the line of its last squitter, if the last frame is complete and is a squitter. The next
-/// bytes are of another source. If fewer than 50 bytes are free, nothing is changed, and `done` has 0.
+/// Ends the source, and writes the lines of its last squitters, as long as 50 bytes are free. `done` has the number of
+/// bytes written. If 50 bytes are free afterwards, these are all, and the next bytes are of another source. Otherwise
+/// the others come with further calls, which may have no bytes. There are five at most.
 ///
 /// The fault is `NoTracker` if there is no feed; nothing is changed then.
 #[unsafe(no_mangle)]
@@ -73,7 +74,7 @@ fn take_by(feed: &mut Feed, piece: &[u8], arrival: u64, out: &mut [u8]) -> Done
 {
     let mut taken = 0;
     let mut written = 0;
-    while taken < piece.len() && out.len() - written >= LINE_LIMIT {
+    while feed.goes_on(piece.len() - taken) && out.len() - written >= LINE_LIMIT {
         let (count, end) = take_some(feed, &piece[taken..], arrival, out, written);
         taken += count;
         written = end;
@@ -90,10 +91,11 @@ fn take_some(
     out: &mut [u8],
     at: usize,
 ) -> (usize, usize)
-    requires some { 0 < length piece.now }
+    requires some { (0 < length piece.now) ⊎ (0 < calls_left feed.old.reader) }
     requires room { at + 50 ≤ length out.old }
     ensures fits { result.0 ≤ length piece.now }
-    ensures some { 0 < result.0 }
+    ensures goes_on { calls_left feed.new.reader < calls_left feed.old.reader + 7 * result.0 }
+    ensures some { 0 < length piece.now → (0 < result.0) ⊎ (at < result.1) }
     ensures written { HasWritten arrival feed.old (take result.0 piece.now) (take at out.old) (take result.1 out.new)
         feed.new }
     ensures end { (at ≤ result.1) × (result.1 ≤ length out.new) }
@@ -115,10 +117,11 @@ fn take_lines(
     out: &mut [u8],
     at: usize,
 ) -> (usize, usize)
-    requires some { 0 < length piece.now }
+    requires some { (0 < length piece.now) ⊎ (0 < calls_left feed.old.reader) }
     requires room { at + 1024 ≤ length out.old }
     ensures fits { result.0 ≤ length piece.now }
-    ensures some { 0 < result.0 }
+    ensures goes_on { calls_left feed.new.reader < calls_left feed.old.reader + 7 * result.0 }
+    ensures some { 0 < length piece.now → (0 < result.0) ⊎ (at < result.1) }
     ensures written { HasWritten arrival feed.old (take result.0 piece.now) (take at out.old) (take result.1 out.new)
         feed.new }
     ensures end { (at ≤ result.1) × (result.1 ≤ length out.new) }
@@ -140,10 +143,11 @@ fn take_line(
     out: &mut [u8],
     at: usize,
 ) -> (usize, usize)
-    requires some { 0 < length piece.now }
+    requires some { (0 < length piece.now) ⊎ (0 < calls_left feed.old.reader) }
     requires room { at + 50 ≤ length out.old }
     ensures fits { result.0 ≤ length piece.now }
-    ensures some { 0 < result.0 }
+    ensures goes_on { calls_left feed.new.reader < calls_left feed.old.reader + 7 * result.0 }
+    ensures some { 0 < length piece.now → (0 < result.0) ⊎ (at < result.1) }
     ensures written { HasWritten arrival feed.old (take result.0 piece.now) (take at out.old) (take result.1 out.new)
         feed.new }
     ensures end { (at ≤ result.1) × (result.1 ≤ length out.new) }
@@ -163,7 +167,7 @@ fn take_line(
 fn put_line(out: &mut [u8], at: usize, moment: u64, frame: &[u8; 14]) -> usize
     requires { at + 50 ≤ length out.old }
     ensures line { take result out.new ≡ take at out.old ++ log_line moment frame.now }
-    ensures end { (at ≤ result) × (result ≤ length out.new) }
+    ensures end { (at < result) × (result ≤ length out.new) }
     ensures rest { drop result out.new ≡ drop result out.old }
     ensures long { length out.new ≡ length out.old }
 {
@@ -173,21 +177,10 @@ fn put_line(out: &mut [u8], at: usize, moment: u64, frame: &[u8; 14]) -> usize
     at + text.len()
 }
 
-// Ends a source, if there is room for a line.
+// Ends a source.
 fn finish_by(feed: &mut Feed, arrival: u64, out: &mut [u8]) -> Done
     ensures { HasEndedInText arrival feed.old feed.new out.old out.new result }
 {
-    if out.len() < LINE_LIMIT {
-        return nothing_done();
-    }
-    match feed.finish_frame(arrival) {
-        Some(last) => {
-            let (moment, frame) = &last;
-            Done {
-                taken: 0,
-                written: put_line(out, 0, *moment, frame),
-            }
-        }
-        None => nothing_done(),
-    }
+    feed.close();
+    take_by(feed, b"", arrival, out)
 }

@@ -2,9 +2,9 @@
 //!
 //! A frame is passed as its 14 bytes; any 14 bytes are allowed. Angles are exact fractions, and all other numbers are
 //! plain or fields of plain structs. Every value is allowed: an invalid position or head is refused with a code. So a
-//! caller only has to keep its pointers valid. No call allocates, and every call returns. A tracker, a log or a feed
-//! uses a block that the caller lends. A call that writes to `out` returns code 0; with any other code `out` is
-//! unchanged.
+//! caller only has to keep its pointers valid. No call allocates, and every call returns. A tracker, a log, a feed or
+//! an order uses a block that the caller lends. A call that writes to `out` returns code 0; with any other code `out`
+//! is unchanged.
 #![tactic(auto)]
 
 mod altitudes;
@@ -14,7 +14,6 @@ mod e7;
 mod entry;
 pub mod feed_laws;
 mod feed_new;
-mod feed_sniff;
 mod feed_take;
 mod feed_text;
 mod fields;
@@ -26,6 +25,8 @@ mod log_new;
 mod log_take;
 mod log_text;
 mod many;
+mod order;
+pub mod order_laws;
 mod read;
 mod send;
 mod texts;

@@ -4,21 +4,20 @@ use Rattle.sq_feed.specs.Feeds.{HasWritten}
 use Rattle.sq_feed.proofs.Feeding.{rest_further, written_nothing, written_piece}
 use Rattle.squitter_c.proofs.feed_text.take_by.Goals as goal
 
-pub loop-taken-init : goal.loop-taken-init
-loop-taken-init c = record {
+pub loop-feed-init : goal.loop-feed-init
+loop-feed-init c = record {
   taken = omega arith;
   fits = omega arith;
-  some = λ _. refl;
   gone = written_nothing c.args.arrival c.args.feed.now [];
   rest = refl;
   long = refl;
 }
 
-pub loop-taken-preserved : goal.loop-taken-preserved
-loop-taken-preserved c =
-    let i = c.loop-taken.invariant in
+pub loop-feed-preserved : goal.loop-feed-preserved
+loop-feed-preserved c =
+    let i = c.loop-feed.invariant in
     let piece = c.args.piece.now in
-    let at = c.loop-taken.taken in
+    let at = c.loop-feed.taken in
     let count = c.take_some-count.result.0 in
     let end = c.take_some-count.result.1 in
     let out = c.take_some-count.new.out in
@@ -28,14 +27,13 @@ loop-taken-preserved c =
     record {
       taken = omega (arith, few, length-drop at piece, i.taken);
       fits = c.take_some-count.ensures.end.1;
-      some = λ none. absurd (omega (arith, none, c.take_some-count.ensures.some));
-      gone = written_piece c.args.arrival c.args.feed.now c.loop-taken.feed c.take_some-count.new.feed piece []
-          (take c.loop-taken.written c.loop-taken.out) (take end out) at count i.taken i.gone
-          (subst (λ l. HasWritten c.args.arrival c.loop-taken.feed (take count l)
-          (take c.loop-taken.written c.loop-taken.out) (take end out) c.take_some-count.new.feed) rest
+      gone = written_piece c.args.arrival c.args.feed.now c.loop-feed.feed c.take_some-count.new.feed piece []
+          (take c.loop-feed.written c.loop-feed.out) (take end out) at count i.taken i.gone
+          (subst (λ l. HasWritten c.args.arrival c.loop-feed.feed (take count l)
+          (take c.loop-feed.written c.loop-feed.out) (take end out) c.take_some-count.new.feed) rest
           c.take_some-count.ensures.written);
       rest = c.take_some-count.ensures.rest
-          ∙ rest_further c.loop-taken.out c.args.out.now c.loop-taken.written end c.take_some-count.ensures.end.0
+          ∙ rest_further c.loop-feed.out c.args.out.now c.loop-feed.written end c.take_some-count.ensures.end.0
           i.rest;
       long = c.take_some-count.ensures.long ∙ i.long;
     }

@@ -1,0 +1,65 @@
+-- What calls of an order answer.
+use Rattle.std.specs.Prelude.{◌≡◌, ◌≤◌, ◌<◌, ◌⊎◌, ℕ, false, List, [], Option, None, Some, length, take}
+use Rattle.sq_feed.specs.Orders.{HasFlushed, HasSorted, Sorting, is_due, nothing_sorted, squitters_of}
+use Rattle.sq_plain.specs.declared.faults.Fault.{Fault}
+use Rattle.sq_plain.specs.declared.faults.Refusal.TheVariants as refusals
+use Rattle.sq_plain.specs.Faults.{fault_of, none}
+use Rattle.sq_seal.specs.OrderSeal.{KeptOrder}
+use Rattle.squitter_c.specs.declared.log_take.Done.{Done}
+use Rattle.squitter_c.specs.FeedCalls.{IsFilled}
+
+-- an order that holds nothing, or the fault: the block is too small
+abbrev pub IsOrderMade : (reorder size : ℕ) → (made : Option KeptOrder) → Fault → Type 0
+IsOrderMade reorder size (Some order) fault =
+    (order ≡ nothing_sorted reorder) × (148480 ≤ size) × (fault ≡ none)
+IsOrderMade reorder size None fault = fault ≡ fault_of refusals.Memory
+
+-- The order took squitters, and those that were due were stored. Where both arrays have room for one more, all were
+-- taken, and none is due.
+pub record HasTakenInOrder (old new : Sorting) (moments : List ℕ) (frames : List (List ℕ))
+    (moments_were stored : List ℕ) (frames_were stored_frames : List (List ℕ)) (done : Done) : Type 0 where
+  pub taken : (done.taken ≤ length moments) × (done.taken ≤ length frames)
+  pub given : HasSorted 4096 old (squitters_of (take done.taken moments) (take done.taken frames))
+      (squitters_of (take done.written stored) (take done.written stored_frames)) new
+  pub some : 0 < length moments → 0 < length frames → 0 < length stored → 0 < length stored_frames
+      → (0 < done.taken) ⊎ (0 < done.written)
+  pub all : done.written < length stored → done.written < length stored_frames
+      → ((done.taken ≡ length moments) ⊎ (done.taken ≡ length frames))
+      × (is_due 4096 new.reorder new.latest new.held ≡ false)
+  pub moments_filled : IsFilled moments_were stored done.written
+  pub frames_filled : IsFilled frames_were stored_frames done.written
+
+-- The first squitters that were held were stored. Where both arrays have room for one more, none is held.
+pub record HasGivenHeld (old new : Sorting) (moments_were stored : List ℕ) (frames_were stored_frames : List (List ℕ))
+    (done : Done) : Type 0 where
+  pub none_taken : done.taken ≡ 0
+  pub given : HasFlushed old (squitters_of (take done.written stored) (take done.written stored_frames)) new
+  pub all : done.written < length stored → done.written < length stored_frames → new.held ≡ []
+  pub moments_filled : IsFilled moments_were stored done.written
+  pub frames_filled : IsFilled frames_were stored_frames done.written
+
+-- the result of taking squitters, if there is an order, and else the fault
+abbrev pub IsOrderTaken : (old new : Option KeptOrder) → (moments : List ℕ) → (frames : List (List ℕ))
+    → (moments_were stored : List ℕ) → (frames_were stored_frames : List (List ℕ)) → (before after : Done) → Fault
+    → Type 0
+IsOrderTaken (Some k) new moments frames moments_were stored frames_were stored_frames before after fault =
+    (next : KeptOrder) × (new ≡ Some next)
+    × HasTakenInOrder k next moments frames moments_were stored frames_were stored_frames after × (fault ≡ none)
+IsOrderTaken None new moments frames moments_were stored frames_were stored_frames before after fault =
+    (new ≡ None) × (stored ≡ moments_were) × (stored_frames ≡ frames_were) × (after ≡ before)
+    × (fault ≡ fault_of refusals.NoTracker)
+
+-- the result of giving what is held, if there is an order, and else the fault
+abbrev pub IsOrderFlushed : (old new : Option KeptOrder) → (moments_were stored : List ℕ)
+    → (frames_were stored_frames : List (List ℕ)) → (before after : Done) → Fault → Type 0
+IsOrderFlushed (Some k) new moments_were stored frames_were stored_frames before after fault =
+    (next : KeptOrder) × (new ≡ Some next)
+    × HasGivenHeld k next moments_were stored frames_were stored_frames after × (fault ≡ none)
+IsOrderFlushed None new moments_were stored frames_were stored_frames before after fault =
+    (new ≡ None) × (stored ≡ moments_were) × (stored_frames ≡ frames_were) × (after ≡ before)
+    × (fault ≡ fault_of refusals.NoTracker)
+
+-- how many squitters an order holds, if there is one, and else the fault
+abbrev pub IsOrderCounted : Option KeptOrder → (was is : ℕ) → Fault → Type 0
+IsOrderCounted (Some k) was is fault = (is ≡ length k.held) × (fault ≡ none)
+IsOrderCounted None was is fault = (is ≡ was) × (fault ≡ fault_of refusals.NoTracker)

@@ -1,0 +1,27 @@
+-- What was stored where a call of an order left room.
+use Rattle.std.specs.Prelude.{◌≡◌, ◌<◌, ℕ, List, [], Option, Some, length, take}
+use Rattle.sq_feed.specs.Orders.{HasSorted, squitters_of}
+use Rattle.sq_plain.specs.declared.faults.Fault.{Fault}
+use Rattle.sq_plain.specs.Faults.{none}
+use Rattle.sq_seal.specs.OrderSeal.{KeptOrder}
+use Rattle.squitter_c.specs.declared.log_take.Done.{Done}
+use Rattle.squitter_c.specs.OrderCalls.{IsOrderFlushed, IsOrderTaken}
+
+-- All squitters were taken, and those that were due were stored, in arrays that have room for one more.
+abbrev pub AllSorted : Type 0
+AllSorted = (k : KeptOrder) (new : Option KeptOrder) (moments moments_were stored : List ℕ)
+    (frames frames_were stored_frames : List (List ℕ)) (before after : Done) (fault : Fault)
+    → IsOrderTaken (Some k) new moments frames moments_were stored frames_were stored_frames before after fault
+    → length moments ≡ length frames → after.written < length stored → after.written < length stored_frames
+    → (next : KeptOrder) × (new ≡ Some next) × (fault ≡ none)
+    × HasSorted 4096 k (squitters_of moments frames)
+    (squitters_of (take after.written stored) (take after.written stored_frames)) next
+
+-- All squitters that were held were stored, in arrays that have room for one more.
+abbrev pub AllFlushed : Type 0
+AllFlushed = (k : KeptOrder) (new : Option KeptOrder) (moments_were stored : List ℕ)
+    (frames_were stored_frames : List (List ℕ)) (before after : Done) (fault : Fault)
+    → IsOrderFlushed (Some k) new moments_were stored frames_were stored_frames before after fault
+    → after.written < length stored → after.written < length stored_frames
+    → (next : KeptOrder) × (new ≡ Some next) × (fault ≡ none) × (next.held ≡ [])
+    × (squitters_of (take after.written stored) (take after.written stored_frames) ≡ k.held)

@@ -1,0 +1,133 @@
+//! Sorting squitters by timestamp: an order, made and freed, and what it takes and gives.
+ghost use Rattle.std.specs.Prelude.{◌≡◌, None};
+ghost use Rattle.squitter_c.specs.OrderCalls.{HasGivenHeld, HasTakenInOrder, IsOrderCounted, IsOrderFlushed, IsOrderMade};
+ghost use Rattle.squitter_c.specs.OrderCalls.{IsOrderTaken};
+
+use crate::log_take::Done;
+use sq_lent::Room;
+use sq_plain::{Fault, NONE, Refusal};
+use sq_seal::{ORDER_BYTES, Order, OrderSlot, order_in};
+
+/// Returns the size of an order in bytes.
+#[unsafe(no_mangle)]
+pub extern "C" fn squitter_order_size() -> usize
+    ensures { result ≡ 148480 }
+{
+    ORDER_BYTES
+}
+
+/// Makes an order that holds nothing. Squitters may come late by `reorder` milliseconds. The block belongs to the order
+/// until the order is freed. An existing order is freed first. The fault is `Memory` if the block is smaller than
+/// [`squitter_order_size`]; then there is no order.
+#[unsafe(no_mangle)]
+pub extern "C" fn squitter_order_new(order: &mut OrderSlot, block: Room, reorder: u64) -> Fault
+    ensures { IsOrderMade reorder block.size order.new.seal.held result }
+{
+    squitter_order_free(order);
+    match order_in(block, reorder) {
+        Some(made) => {
+            order.put(made);
+            NONE
+        }
+        None => Fault::of(Refusal::Memory),
+    }
+}
+
+/// Frees the order. Its block is the caller's again. Safe to call twice, and on an order that was never created.
+#[unsafe(no_mangle)]
+pub extern "C" fn squitter_order_free(order: &mut OrderSlot)
+    ensures { order.new.seal.held ≡ None }
+{
+    drop(order.take());
+}
+
+/// Takes squitters, by their timestamps (ms) and frames, and stores those that are due in the order of time, as many as
+/// fit both arrays. `done` has the number of squitters taken, and of those stored. If both arrays have room for one
+/// more, all were taken, and none is due.
+///
+/// The fault is `NoTracker` if there is no order; nothing is changed then.
+#[unsafe(no_mangle)]
+pub extern "C" fn squitter_order_take(
+    order: &mut OrderSlot,
+    moments: &[u64],
+    frames: &[[u8; 14]],
+    out_moments: &mut [u64],
+    out_frames: &mut [[u8; 14]],
+    done: &mut Done,
+) -> Fault
+    ensures { IsOrderTaken order.old.seal.held order.new.seal.held moments.now frames.now out_moments.old
+        out_moments.new out_frames.old out_frames.new done.old done.new result }
+{
+    match order.take() {
+        Some(mut taken) => {
+            *done = take_by(&mut taken, moments, frames, out_moments, out_frames);
+            order.put(taken);
+            NONE
+        }
+        None => Fault::of(Refusal::NoTracker),
+    }
+}
+
+/// Stores the squitters that are held in the order of time, as many as fit both arrays. `done` has the number stored.
+/// If both arrays have room for one more, none is held any more.
+///
+/// The fault is `NoTracker` if there is no order; nothing is changed then.
+#[unsafe(no_mangle)]
+pub extern "C" fn squitter_order_flush(
+    order: &mut OrderSlot,
+    out_moments: &mut [u64],
+    out_frames: &mut [[u8; 14]],
+    done: &mut Done,
+) -> Fault
+    ensures { IsOrderFlushed order.old.seal.held order.new.seal.held out_moments.old out_moments.new out_frames.old
+        out_frames.new done.old done.new result }
+{
+    match order.take() {
+        Some(mut taken) => {
+            *done = flush_by(&mut taken, out_moments, out_frames);
+            order.put(taken);
+            NONE
+        }
+        None => Fault::of(Refusal::NoTracker),
+    }
+}
+
+/// Returns how many squitters are held: at most 4096. The fault is `NoTracker` if there is no order.
+#[unsafe(no_mangle)]
+pub extern "C" fn squitter_order_held(order: &mut OrderSlot, out: &mut u64) -> Fault
+    ensures counted { IsOrderCounted order.old.seal.held out.old out.new result }
+    ensures same { order.new.seal.held ≡ order.old.seal.held }
+{
+    match order.take() {
+        Some(taken) => {
+            let held = taken.held();
+            order.put(taken);
+            *out = held as u64;
+            NONE
+        }
+        None => Fault::of(Refusal::NoTracker),
+    }
+}
+
+// Takes squitters.
+fn take_by(
+    order: &mut Order,
+    moments: &[u64],
+    frames: &[[u8; 14]],
+    out_moments: &mut [u64],
+    out_frames: &mut [[u8; 14]],
+) -> Done
+    ensures { HasTakenInOrder order.old order.new moments.now frames.now out_moments.old out_moments.new out_frames.old
+        out_frames.new result }
+{
+    let (taken, written) = order.take(moments, frames, out_moments, out_frames);
+    Done { taken, written }
+}
+
+// Gives what is held.
+fn flush_by(order: &mut Order, out_moments: &mut [u64], out_frames: &mut [[u8; 14]]) -> Done
+    ensures { HasGivenHeld order.old order.new out_moments.old out_moments.new out_frames.old out_frames.new result }
+{
+    let written = order.flush(out_moments, out_frames);
+    Done { taken: 0, written }
+}
