@@ -21,7 +21,7 @@
  *
  * No call allocates memory, blocks, has static state or touches errno. Only the _new and _new_at calls keep a pointer:
  * the one to the block. Calls may run in parallel on threads and in signal handlers, but never two on the same tracker,
- * log or feed. Structs are laid out as written; padding bytes have no meaning. */
+ * log, feed or order. Structs are laid out as written; padding bytes have no meaning. */
 #ifndef SQUITTER_H
 #define SQUITTER_H
 
@@ -101,11 +101,11 @@ enum {
   /* of the lines of a log; these come before the faults of frames and of timestamps */
   SQUITTER_LONG_LINE = 40,       /* a line has more than 64 bytes */
   SQUITTER_BAD_MOMENT = 41,      /* a line does not begin with a timestamp */
-  /* of trackers, logs and feeds */
+  /* of trackers, logs, feeds and orders */
   SQUITTER_TABLE_FULL = 43,      /* as many other addresses as the limit are present */
   SQUITTER_NO_MEMORY = 44,       /* the block is too small */
   SQUITTER_NO_LIMIT = 45,        /* the limit is 0 */
-  SQUITTER_NO_TRACKER = 46,      /* there is no tracker, no log, or no feed */
+  SQUITTER_NO_TRACKER = 46,      /* there is no tracker, log, feed or order */
   SQUITTER_NO_ADDRESS = 47,      /* no address is at the index */
   SQUITTER_LONG_LOG = 48,        /* a log has 2^63 lines, or a piece more than 2^61 bytes */
   SQUITTER_BAD_FORMAT = 49,      /* no format has this number, or the bytes show no format */
@@ -301,6 +301,12 @@ typedef struct squitter_feed {
   void *at;
 } squitter_feed;
 
+/* An order sorts squitters by timestamp. The rules for squitter_tracker apply. */
+typedef struct squitter_order {
+  uint64_t full;
+  void *at;
+} squitter_order;
+
 /* Counts of the items of a source. `found` is the sum of all other counts; at 2^64 - 1 all counts stop. */
 typedef struct squitter_counts {
   uint64_t found;
@@ -483,32 +489,51 @@ enum {
   SQUITTER_FEED_BEAST = 0, /* Beast binary */
   SQUITTER_FEED_AVR = 1,   /* AVR text, with clocks or without */
   SQUITTER_FEED_CSV = 2,   /* CSV: columns `time` (s) and `rawmsg`; if no header names them, columns 1 and 3 */
-  SQUITTER_FEED_LOG = 3    /* a log: a timestamp (ms), a space and a frame on each line */
+  SQUITTER_FEED_LOG = 3,   /* a log: a timestamp (ms), a space and a frame on each line */
+  SQUITTER_FEED_AUTO = 4   /* the first bytes show the format; not known yet */
+};
+
+/* Sources without frames, as squitter_feed_format tells them apart. */
+enum {
+  SQUITTER_FEED_SBS = 5,      /* SBS (BaseStation) text: it has positions and no frames */
+  SQUITTER_FEED_TAR = 6,      /* a tar archive */
+  SQUITTER_FEED_PACKED = 7,   /* compressed by gzip, bzip2, xz or zstd, or a zip archive */
+  SQUITTER_FEED_UTF16 = 8,    /* text in UTF-16 */
+  SQUITTER_FEED_JSON = 9,     /* lines of JSON */
+  SQUITTER_FEED_NO_FRAME = 10 /* bytes without frames */
+};
+
+/* How a feed hears its source: a sum of these flags. */
+enum {
+  SQUITTER_FEED_LIVE = 1,        /* arrivals say when the bytes were received; otherwise they have no effect */
+  SQUITTER_FEED_BY_ARRIVAL = 2,  /* the receiver's clock is ignored, so that its frames have their arrivals */
+  SQUITTER_FEED_ALL_FORMATS = 4  /* frames of all downlink formats are written; otherwise those of format 17 */
 };
 
 #define SQUITTER_LINE_BYTES 50 /* the most that one line of a log takes */
 
-/* Detects the format of a source from its first bytes. Three consecutive messages without damage between them show
- * Beast. The end of a line shows a text format, if this or an earlier line has a frame. The first byte that shows a
- * format decides. Fault: BAD_FORMAT (the bytes show no format). */
-squitter_fault squitter_feed_format(const char *bytes, size_t length, uint32_t *SQUITTER_RESTRICT out) SQUITTER_CALL;
-
 /* Returns the size in bytes of the block for a feed. */
 size_t squitter_feed_size(void) SQUITTER_PURE;
 
-/* Creates a feed in the block, at the start of a source. A gap above `leap` milliseconds is a jump of the source's
- * clock. `is_live` is 0 for a recorded source; `arrival` has no effect then. For a live source, `arrival` is the time
- * (ms) when the bytes were received, and the timestamp of frames without a clock. An existing feed is freed first.
- * After a fault there is no feed, and the block is the caller's. Faults: BAD_FORMAT, NO_MEMORY (the block is smaller
- * than squitter_feed_size returns). squitter-feed uses a leap of 10000. */
+/* Creates a feed in the block, at the start of a source. With SQUITTER_FEED_AUTO, the first bytes show the format:
+ * three Beast messages in a row; a line of a log, a row of a table or its header; a frame at the start of a line of AVR
+ * text. The first byte that shows a format decides, however the source is cut into pieces. The bytes before the first
+ * message count as one damage. A source without any sign in its first 16384 bytes has no frames. A gap above `leap`
+ * milliseconds is a jump of the source's clock. A timestamp may be before the latest one by `late` milliseconds; with
+ * 0, timestamps never go back. `flags` is a sum of SQUITTER_FEED_LIVE, SQUITTER_FEED_BY_ARRIVAL and
+ * SQUITTER_FEED_ALL_FORMATS; its other bits are ignored. For a live source, `arrival` is the time (ms) when the bytes
+ * were received, and the timestamp of frames without a clock. An existing feed is freed first. After a fault there is
+ * no feed, and the block is the caller's. Faults: BAD_FORMAT, NO_MEMORY (the block is smaller than squitter_feed_size
+ * returns). squitter feed and squitter-feed use a leap of 600000. */
 squitter_fault squitter_feed_new(squitter_feed *feed, squitter_block block, uint32_t format, uint64_t leap,
-                                 uint32_t is_live) SQUITTER_CALL;
+                                 uint64_t late, uint32_t flags) SQUITTER_CALL;
 
 /* Frees the feed; its block is the caller's again. Safe to call twice, and on a feed that was never created. */
 void squitter_feed_free(squitter_feed *feed) SQUITTER_WRITE;
 
 /* Takes the next bytes of the source, of any number. Writes the timestamps (ms) and frames of their squitters, as many
- * as fit both arrays. The arrays can go straight to squitter_tracker_hear_many. Timestamps never go back.
+ * as fit both arrays. The arrays can go straight to squitter_tracker_hear_many. No timestamp is before the latest one
+ * by more than `late`. A frame of a downlink format below 16 has seven bytes, and seven zeros follow.
  * done->taken counts the bytes that were taken, done->written the squitters. If done->written is below both array
  * lengths, all bytes were taken. Otherwise call again with the bytes that were not taken. The squitters do not depend
  * on how the source is cut into pieces. Fault: NO_TRACKER if there is no feed; nothing is changed then. */
@@ -517,8 +542,9 @@ squitter_fault squitter_feed_take(squitter_feed *SQUITTER_RESTRICT feed, const c
                                   uint8_t (*SQUITTER_RESTRICT frames)[14], size_t frames_count,
                                   squitter_done *SQUITTER_RESTRICT done) SQUITTER_CALL;
 
-/* Ends the source. If the last frame is complete and a squitter, the call writes it; done->written is 0 or 1. The next
- * bytes belong to another source. Without room for a squitter, nothing is changed. Fault: NO_TRACKER. */
+/* Ends the source, and writes its last squitters, as many as fit both arrays. If done->written is below both array
+ * lengths, these are all: five at most. Otherwise the others come with further calls of squitter_feed_take, which may
+ * have no bytes. The next bytes belong to another source. Fault: NO_TRACKER. */
 squitter_fault squitter_feed_finish(squitter_feed *SQUITTER_RESTRICT feed, uint64_t arrival,
                                     uint64_t *SQUITTER_RESTRICT moments, size_t moments_count,
                                     uint8_t (*SQUITTER_RESTRICT frames)[14], size_t frames_count,
@@ -531,8 +557,8 @@ squitter_fault squitter_feed_take_text(squitter_feed *SQUITTER_RESTRICT feed, co
                                        uint64_t arrival, char *SQUITTER_RESTRICT out, size_t out_count,
                                        squitter_done *SQUITTER_RESTRICT done) SQUITTER_CALL;
 
-/* Like squitter_feed_finish, but writes the squitter as a line. With less room than SQUITTER_LINE_BYTES, nothing is
- * changed. Fault: NO_TRACKER. */
+/* Like squitter_feed_finish, but writes the squitters as lines. If done->written + 50 <= out_count, these are all.
+ * Fault: NO_TRACKER. */
 squitter_fault squitter_feed_finish_text(squitter_feed *SQUITTER_RESTRICT feed, uint64_t arrival,
                                          char *SQUITTER_RESTRICT out, size_t out_count,
                                          squitter_done *SQUITTER_RESTRICT done) SQUITTER_CALL;
@@ -541,9 +567,49 @@ squitter_fault squitter_feed_finish_text(squitter_feed *SQUITTER_RESTRICT feed, 
  * connection: its clock starts afresh, and timestamps do not go back. Fault: NO_TRACKER. */
 squitter_fault squitter_feed_disconnected(squitter_feed *feed) SQUITTER_CALL;
 
+/* Writes what the source is: its format (0 to 3), 5 to 10 for a source without frames, or SQUITTER_FEED_AUTO while this
+ * is not known. At the end of a source that has bytes but no format, it is known. Fault: NO_TRACKER. */
+squitter_fault squitter_feed_format(squitter_feed *SQUITTER_RESTRICT feed,
+                                    uint32_t *SQUITTER_RESTRICT out) SQUITTER_CALL;
+
 /* Writes the counts of the items so far. Fault: NO_TRACKER. */
 squitter_fault squitter_feed_counts(squitter_feed *SQUITTER_RESTRICT feed,
                                     squitter_counts *SQUITTER_RESTRICT out) SQUITTER_CALL;
+
+/* ---- An order ---- */
+
+/* Returns the size in bytes of the block for an order. */
+size_t squitter_order_size(void) SQUITTER_PURE;
+
+/* Creates an order in the block. It holds each squitter until one has come that is `reorder` milliseconds later. Once
+ * it holds 4096, it gives the earliest. An existing order is freed first. After a fault there is no order, and the
+ * block is the caller's. Fault: NO_MEMORY (the block is smaller than squitter_order_size returns). */
+squitter_fault squitter_order_new(squitter_order *order, squitter_block block, uint64_t reorder) SQUITTER_CALL;
+
+/* Frees the order; its block is the caller's again. Safe to call twice, and on an order that was never created. */
+void squitter_order_free(squitter_order *order) SQUITTER_WRITE;
+
+/* Takes squitters, by their timestamps (ms) and frames, in the order of arrival. Writes those that are due, in the
+ * order of their timestamps, as many as fit both output arrays. Equal timestamps keep the order of arrival. A squitter
+ * that is late by more than `reorder` is written at once. done->taken counts the squitters that were taken,
+ * done->written those that were written. If done->written is below both output lengths, all were taken. Otherwise call
+ * again with the squitters that were not taken. Fault: NO_TRACKER if there is no order; nothing is changed then. */
+squitter_fault squitter_order_take(squitter_order *SQUITTER_RESTRICT order, const uint64_t *moments,
+                                   size_t moments_count, const uint8_t (*frames)[14], size_t frames_count,
+                                   uint64_t *SQUITTER_RESTRICT out_moments, size_t out_moments_count,
+                                   uint8_t (*SQUITTER_RESTRICT out_frames)[14], size_t out_frames_count,
+                                   squitter_done *SQUITTER_RESTRICT done) SQUITTER_CALL;
+
+/* Writes the squitters that are held, in the order of their timestamps, as many as fit both arrays. If done->written is
+ * below both lengths, none is held any more. The order keeps the latest timestamp, so a squitter of an earlier source
+ * comes late: use a new order for it. Fault: NO_TRACKER. */
+squitter_fault squitter_order_flush(squitter_order *SQUITTER_RESTRICT order, uint64_t *SQUITTER_RESTRICT out_moments,
+                                    size_t out_moments_count, uint8_t (*SQUITTER_RESTRICT out_frames)[14],
+                                    size_t out_frames_count, squitter_done *SQUITTER_RESTRICT done) SQUITTER_CALL;
+
+/* Writes how many squitters are held: at most 4096. Fault: NO_TRACKER. */
+squitter_fault squitter_order_held(squitter_order *SQUITTER_RESTRICT order,
+                                   uint64_t *SQUITTER_RESTRICT out) SQUITTER_CALL;
 
 /* ---- Arrays ---- */
 
@@ -657,6 +723,7 @@ SQUITTER_SIZE(squitter_log, 16);
 SQUITTER_SIZE(squitter_answer, 96);
 SQUITTER_SIZE(squitter_tally, 16);
 SQUITTER_SIZE(squitter_feed, 16);
+SQUITTER_SIZE(squitter_order, 16);
 SQUITTER_SIZE(squitter_counts, 248);
 
 #ifdef __cplusplus

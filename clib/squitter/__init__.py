@@ -2,9 +2,11 @@
 
 Angles are ``fractions.Fraction`` in degrees, so nothing is rounded. Whole numbers, ``decimal.Decimal``, texts such as
 ``"52.25"`` and floats are taken too. A float counts as its shortest text, which is how it was written: 52.31 is
-5231/100. A frame is 14 bytes, or its text of 28 hexadecimal digits, bare or between ``*`` and ``;``. A call without a
-result raises a :class:`Fault` with the library's text. A value that does not fit its field in C raises the fault of
-that field.
+5231/100, and 1e-07 is 1/10**7. Fractions and texts stay exact. An angle has a denominator of at most 10**12, so a
+computed float may need ``round(degrees, 12)``. A frame is 14 bytes, or its text of 28 hexadecimal digits, bare or
+between ``*`` and ``;``. A call without a result raises a :class:`Fault` with the library's text; for an angle out of
+range it also says what was given and what is wanted. A value that does not fit its field in C raises the fault of that
+field.
 
 >>> import squitter
 >>> squitter.read("8D40621D58C382D690C8AC2863A7").feet
@@ -18,21 +20,22 @@ from __future__ import annotations
 import ctypes
 import enum
 import operator
+import struct
 from dataclasses import dataclass
 from decimal import Decimal
 from fractions import Fraction
 from numbers import Rational
-from typing import Iterable, Iterator, List, NamedTuple, Optional, Sequence, Tuple, Type, TypeVar, Union
+from typing import Any, Callable, List, NamedTuple, Optional, Sequence, Tuple, TypeVar, Union
 
 from squitter._library import (
     _FRAME, _AirHead, _Altitude, _Angle, _DegreesE7, _Fault, _Fields, _GroundHead, _Heard, _Position, _Zones,
-    _fits, _frames, _layout, _lib, _read_angle, _text,
+    _fits, _frames, _layout, _lib, _lowest, _quick, _read_angle, _text,
 )
 
 __all__ = [
     "AirHead", "Altitude", "AltitudeForm", "Code", "Contact", "Counts", "Fault", "Feed", "FeedFormat", "Fields",
-    "Format", "Frame", "GroundHead", "Heard", "Kind", "Log", "Position", "Present", "Tally", "Tracker", "What",
-    "Zones", "angle", "angle_e7", "angle_text", "encode", "fault_text", "feed_format", "feet_of_field",
+    "Format", "Frame", "GroundHead", "Heard", "Kind", "Log", "Order", "Position", "Present", "Tally", "Tracker",
+    "WINDOW", "What", "Zones", "angle", "angle_e7", "angle_text", "encode", "fault_text", "feet_of_field",
     "field_of_feet", "frame", "frame_text", "local", "local_many", "local_zones", "pair", "pair_many", "position_e7",
     "read", "read_many", "send_again", "version", "zone_count",
 ]
@@ -44,7 +47,14 @@ Frames = Union[bytes, bytearray, memoryview]
 """Frames one after the other, 14 bytes each."""
 
 Degrees = Union[int, Rational, Decimal, str, float]
-"""A number of degrees: an int, a Fraction, a Decimal, a text or a float. The float 52.31 counts as the text "52.31"."""
+"""A number of degrees: an int, a Fraction, a Decimal, a text or a float. The float 52.31 counts as the text "52.31".
+The denominator is at most 10**12, so decimals and floats have at most 12 decimals."""
+
+Point = Tuple[Degrees, Degrees]
+"""A latitude and a longitude: a :class:`Position`, or any pair, such as (52.25, 3.92), which is ("52.25", "3.92")."""
+
+WINDOW = 10_000
+"""The default window of trackers, contacts and logs, in milliseconds: 10 seconds, as that of ``squitter track``."""
 
 
 class Code(enum.IntEnum):
@@ -130,7 +140,7 @@ class Fault(ValueError):
 
 
 class Position(NamedTuple):
-    """A latitude, north positive, and a longitude, east positive, in degrees."""
+    """A latitude, north positive, from -90 to 90 degrees, and a longitude, east positive, from -180 to 180."""
 
     lat: Degrees
     lon: Degrees
@@ -237,44 +247,73 @@ class Present(NamedTuple):
 # ---- from C and to C ----
 
 
-def _done(fault: _Fault) -> None:
-    """Raises the fault, unless its code is OK."""
+_FINEST = 10**12  # the largest denominator of an angle
+_MOST = {"latitude": 90, "longitude": 180, "angle": 360}  # degrees, on both sides
+
+# The angles that a fault of this code is about.
+_ABOUT = {Code.BAD_POSITION: ("latitude", "longitude"), Code.BAD_LATITUDE: ("latitude",), Code.BAD_ANGLE: ("angle",)}
+
+
+def _done(fault: _Fault, *given: Degrees) -> None:
+    """Raises the fault, unless its code is OK. `given` are the degrees that the call got, for the hint."""
     if fault.code:
-        raise Fault(fault.code, fault.first, fault.second)
+        raise Fault(fault.code, fault.first, fault.second, _hint(fault.code, given))
 
 
-def _exact(degrees: Degrees, code: Code) -> Rational:
-    """Returns an exact number as a fraction. Raises a Fault with this code if it is not finite or far too large."""
+def _hint(code: int, given: Sequence[Degrees]) -> str:
+    """Returns what is wanted in place of the first invalid angle, or an empty text if the fault is about another
+    value."""
+    about = zip(_ABOUT.get(Code(code), ()), given)
+    return next((_wanted(name, degrees) for name, degrees in about if not _is_valid(name, degrees)), "")
+
+
+def _wanted(name: str, degrees: Degrees) -> str:
+    most, article = _MOST[name], "an" if name == "angle" else "a"
+    finest = "a denominator of at most 10**12" if isinstance(degrees, Rational) else "at most 12 decimals"
+    return f"{article} {name} is from -{most} to {most} degrees with {finest}, not {degrees!r:.60}"
+
+
+def _is_valid(name: str, degrees: Degrees) -> bool:
+    exact = _exact(degrees)
+    return exact is not None and abs(exact) <= _MOST[name] and exact.denominator <= _FINEST
+
+
+def _exact(degrees: Degrees) -> Optional[Rational]:
+    """Returns degrees as a fraction, or None if they are not finite, or far too large or too small for C. Raises the
+    Faults of a text that is no angle."""
     if isinstance(degrees, str):
         return angle(degrees)
-    if isinstance(degrees, Decimal):
-        if not degrees.is_finite() or degrees.adjusted() > 20 or int(degrees.as_tuple().exponent) < -400:
-            raise Fault(code)
-        return Fraction(degrees)
     if isinstance(degrees, float):
         # A subclass of float may have its own repr, as NumPy's has.
-        return _exact(Decimal(float.__repr__(degrees)), code)
+        degrees = Decimal(float.__repr__(degrees))
+    if isinstance(degrees, Decimal):
+        if not degrees.is_finite() or degrees.adjusted() > 20 or int(degrees.as_tuple().exponent) < -400:
+            return None
+        return Fraction(degrees)
     if not isinstance(degrees, Rational):
         raise TypeError("degrees are an int, a Fraction, a Decimal, a float or a text, not "
                         f"{type(degrees).__name__}")
     return degrees
 
 
-def _angle(degrees: Degrees, code: Code) -> _Angle:
-    """Returns an exact number as C takes it. Raises a Fault with this code if numerator or denominator is too large."""
-    degrees = _exact(degrees, code)
-    num, den = int(degrees.numerator), int(degrees.denominator)
-    if not -1 << 63 <= num < 1 << 63 or not _fits(den, 64):
-        raise Fault(code)
-    return _Angle(num, den)
+def _angle(degrees: Degrees, name: str, code: Code) -> _Angle:
+    """Returns degrees as C takes them. Raises a Fault with this code if numerator or denominator do not fit."""
+    exact = _exact(degrees)
+    if exact is not None:
+        num, den = int(exact.numerator), int(exact.denominator)
+        if -1 << 63 <= num < 1 << 63 and _fits(den, 64):
+            return _Angle(num, den)
+    raise Fault(code, hint=_wanted(name, degrees))
 
 
-def _position(position: Position) -> _Position:
+def _position(position: Point) -> _Position:
     try:
         lat, lon = position
     except (TypeError, ValueError):
         raise TypeError(f"a position is a Position, or a latitude and a longitude, not {position!r:.60}") from None
-    return _Position(_angle(lat, Code.BAD_POSITION), _angle(lon, Code.BAD_POSITION))
+    here = _Position(_angle(lat, "latitude", Code.BAD_POSITION), _angle(lon, "longitude", Code.BAD_POSITION))
+    here.given = lat, lon
+    return here
 
 
 def _look(here: Optional[_Position]) -> None:
@@ -282,7 +321,7 @@ def _look(here: Optional[_Position]) -> None:
     if here is not None:
         fault = _lib.squitter_local(bytes(14), ctypes.byref(here), ctypes.byref(_Position()))
         if fault.code == Code.BAD_POSITION:
-            _done(fault)
+            _done(fault, *here.given)
 
 
 def _frame_near(source: Frame, here: Optional[_Position]) -> bytes:
@@ -312,38 +351,67 @@ def _read_position(position: _Position) -> Position:
 
 # Members by their values: an enum looks them up in three times the time.
 _KINDS, _FORMS, _WHATS = ({int(member): member for member in kind} for kind in (Kind, AltitudeForm, What))
-_FIELDS, _HEARD = _layout(_Fields), _layout(_Heard)
+# All members of a structure are read at once, because each attribute takes a call.
+_FIELDS, _HEARD, _PLACE, _FAULT = map(_layout, (_Fields, _Heard, _Position, _Fault))
+_LAST_PLACED = int(What.FOLLOWED)  # FIX and FOLLOWED have positions
+_Members = Tuple[int, ...]
+
+# A named tuple is made of a tuple, because its own constructor takes four times as long.
+_tuple: Any = tuple.__new__
 
 
-def _read_fields(out: _Fields) -> Fields:
-    # All members are read at once, because each attribute of a ctypes structure takes a call.
+def _fields_of(members: _Members) -> Fields:
     (raw, address, lat, lon, feet, altitude, form, kind, ca, type_code, odd, time, status, flag, movement, track_status,
-     track) = _FIELDS.unpack_from(out)
-    return Fields(_KINDS[kind], address, ca, type_code, odd, lat, lon, time, status, flag, altitude, _FORMS[form], feet,
-                  movement, track_status, track, raw)
+     track) = members
+    made: Fields = _tuple(Fields, (
+        _KINDS[kind], address, ca, type_code, odd, lat, lon, time, status, flag, altitude, _FORMS[form], feet, movement,
+        track_status, track, raw))
+    return made
 
 
-def _read_heard(out: _Heard) -> Heard:
-    lat_num, lat_den, lon_num, lon_den, number, even, odd = _HEARD.unpack_from(out)
-    what = _WHATS[number]
-    if what is not What.FIX and what is not What.FOLLOWED:
-        return Heard(what, None, even, odd)
-    return Heard(what, Position(Fraction(lat_num, lat_den), Fraction(lon_num, lon_den)), even, odd)
+def _position_of(members: _Members) -> Position:
+    lat_num, lat_den, lon_num, lon_den = members
+    made: Position = _tuple(Position, (_lowest(lat_num, lat_den), _lowest(lon_num, lon_den)))
+    return made
 
 
-def _places(answers: Iterable[Tuple[_Position, Optional[Fault]]]) -> List[Union[Position, Fault]]:
-    return [fault or _read_position(out) for out, fault in answers]
+def _heard_of(members: _Members) -> Heard:
+    lat_num, lat_den, lon_num, lon_den, number, even, odd = members
+    place = None
+    if number <= _LAST_PLACED:
+        place = _tuple(Position, (_lowest(lat_num, lat_den), _lowest(lon_num, lon_den)))
+    made: Heard = _tuple(Heard, (_WHATS[number], place, even, odd))
+    return made
 
 
-_Kind = TypeVar("_Kind", bound=ctypes.Structure)
+_Result = TypeVar("_Result")
 
 
-def _many(name: str, kind: Type[_Kind], count: int, *before: object) -> Iterator[Tuple[_Kind, Optional[Fault]]]:
-    """Yields what a call of arrays wrote for each element, with the fault or None."""
-    out, faults = (kind * count)(), (_Fault * count)()
-    getattr(_lib, f"squitter_{name}")(*before, ctypes.addressof(out), count, ctypes.addressof(faults), count)
-    for one, fault in zip(out, faults):
-        yield one, Fault(fault.code, fault.first, fault.second) if fault.code else None
+def _many(
+    name: str, layout: struct.Struct, made: Callable[[_Members], _Result], count: int, *before: object
+) -> List[Union[_Result, Fault]]:
+    """Makes a call of arrays. Returns for each element the result that `made` makes of its members, or the fault."""
+    if not count:
+        return []
+    out, faults = bytearray(layout.size * count), bytearray(_FAULT.size * count)
+    out_at, faults_at = (ctypes.addressof(ctypes.c_char.from_buffer(room)) for room in (out, faults))
+    getattr(_lib, f"squitter_{name}")(*before, out_at, count, faults_at, count)
+    if faults == bytes(len(faults)):
+        return list(map(made, layout.iter_unpack(out)))
+    return [Fault(code, first, second) if code else made(members)
+            for (code, second, first), members in zip(_FAULT.iter_unpack(faults), layout.iter_unpack(out))]
+
+
+_frame_of_text, _read_text, _read_frame = map(_quick, ("frame_of_text", "read_text", "read_frame"))
+_Room = Tuple[Any, Any]
+_FRAME_ROOMS: List[_Room] = []
+_FIELDS_ROOMS: List[_Room] = []
+
+
+def _room(out: Any) -> _Room:
+    """Returns a room for the result of a call, and its address. A call takes a room out of a list, or makes one, so it
+    has the room for itself, whatever threads and signal handlers call meanwhile."""
+    return out, ctypes.byref(out)
 
 
 # ---- texts and frames ----
@@ -355,9 +423,17 @@ def frame(source: Frame) -> bytes:
     if type(source) is bytes and len(source) == 14:
         return source
     if isinstance(source, str):
-        out, text = _FRAME(), _text(source)
-        _done(_lib.squitter_frame_of_text(text, len(text), ctypes.byref(out)))
-        return bytes(out)
+        text = _text(source)
+        try:
+            room = _FRAME_ROOMS.pop()
+        except IndexError:
+            room = _room(ctypes.create_string_buffer(14))
+        fault = _frame_of_text(text, ctypes.c_size_t(len(text)), room[1])
+        found: bytes = room[0].raw
+        _FRAME_ROOMS.append(room)
+        if fault.code:
+            _done(fault)
+        return found
     wanted = "a frame is 14 bytes or a text of 28 hexadecimal digits"
     try:
         view = memoryview(source)
@@ -377,40 +453,50 @@ def frame_text(source: Frame) -> str:
 
 def read(source: Frame) -> Fields:
     """Returns the fields of the squitter in a frame or a frame text."""
-    out = _Fields()
+    text = None
     if isinstance(source, str):
         text = _text(source)
-        _done(_lib.squitter_read_text(text, len(text), ctypes.byref(out)))
-    else:
-        _done(_lib.squitter_read_frame(frame(source), ctypes.byref(out)))
-    return _read_fields(out)
+    elif type(source) is not bytes or len(source) != 14:
+        source = frame(source)
+    try:
+        room = _FIELDS_ROOMS.pop()
+    except IndexError:
+        room = _room(_Fields())
+    out, at = room
+    fault = _read_frame(source, at) if text is None else _read_text(text, ctypes.c_size_t(len(text)), at)
+    members = _FIELDS.unpack_from(out)
+    _FIELDS_ROOMS.append(room)
+    if fault.code:
+        _done(fault)
+    return _fields_of(members)
 
 
 # ---- places ----
 
 
-def local(source: Frame, reference: Position) -> Position:
+def local(source: Frame, reference: Point) -> Position:
     """Returns the exact position of a frame near a reference."""
     here, out = _position(reference), _Position()
-    _done(_lib.squitter_local(_frame_near(source, here), ctypes.byref(here), ctypes.byref(out)))
+    _done(_lib.squitter_local(_frame_near(source, here), ctypes.byref(here), ctypes.byref(out)),
+          *here.given)
     return _read_position(out)
 
 
-def local_zones(source: Frame, reference: Position) -> Zones:
+def local_zones(source: Frame, reference: Point) -> Zones:
     """Returns the zones that the position of a frame near a reference lies in."""
     here, out = _position(reference), _Zones()
-    _done(_lib.squitter_local_zones(_frame_near(source, here), ctypes.byref(here), ctypes.byref(out)))
+    _done(_lib.squitter_local_zones(_frame_near(source, here), ctypes.byref(here), ctypes.byref(out)), *here.given)
     return Zones(*(getattr(out, name) for name in Zones._fields))
 
 
-def pair(older: Frame, newer: Frame, site: Optional[Position] = None) -> Position:
+def pair(older: Frame, newer: Frame, site: Optional[Point] = None) -> Position:
     """Returns the exact position of the newer of an even and an odd frame of one address. Surface pairs need a site."""
     here, out = None if site is None else _position(site), _Position()
     first, second = _two_frames(older, newer, here)
     if here is None:
         _done(_lib.squitter_pair(first, second, ctypes.byref(out)))
     else:
-        _done(_lib.squitter_pair_at(first, second, ctypes.byref(here), ctypes.byref(out)))
+        _done(_lib.squitter_pair_at(first, second, ctypes.byref(here), ctypes.byref(out)), *here.given)
     return _read_position(out)
 
 
@@ -420,35 +506,35 @@ def pair(older: Frame, newer: Frame, site: Optional[Position] = None) -> Positio
 def read_many(frames: Frames) -> List[Union[Fields, Fault]]:
     """Returns the fields or the fault of each frame; it raises no Fault."""
     source, count = _frames(frames)
-    return [fault or _read_fields(out) for out, fault in _many("read_many", _Fields, count, source, count)]
+    return _many("read_many", _FIELDS, _fields_of, count, source, count)
 
 
-def local_many(frames: Frames, references: Sequence[Position]) -> List[Union[Position, Fault]]:
+def local_many(frames: Frames, references: Sequence[Point]) -> List[Union[Position, Fault]]:
     """Returns the position of each frame near its reference, or its fault. Raises ValueError unless there is one
     reference for each frame."""
     source, count = _frames(frames)
     if len(references) != count:
         raise ValueError(f"{count} frames and {len(references)} references")
     here = (_Position * count)(*map(_position, references))
-    return _places(_many("local_many", _Position, count, source, count, ctypes.addressof(here), count))
+    return _many("local_many", _PLACE, _position_of, count, source, count, ctypes.addressof(here), count)
 
 
-def pair_many(older: Frames, newer: Frames, site: Optional[Position] = None) -> List[Union[Position, Fault]]:
+def pair_many(older: Frames, newer: Frames, site: Optional[Point] = None) -> List[Union[Position, Fault]]:
     """Returns the position of each pair of frames, or its fault; surface pairs need the site. Raises ValueError unless
     there is one newer frame for each older one."""
     (first, count), (second, other) = _frames(older), _frames(newer)
     if count != other:
         raise ValueError(f"{count} older frames and {other} newer ones")
+    arrays = first, count, second, count
     if site is None:
-        return _places(_many("pair_many", _Position, count, first, count, second, count))
-    here = ctypes.byref(_position(site))
-    return _places(_many("pair_at_many", _Position, count, first, count, second, count, here))
+        return _many("pair_many", _PLACE, _position_of, count, *arrays)
+    return _many("pair_at_many", _PLACE, _position_of, count, *arrays, ctypes.byref(_position(site)))
 
 
 # ---- sending ----
 
 
-def encode(head: Union[AirHead, GroundHead], position: Position) -> bytes:
+def encode(head: Union[AirHead, GroundHead], position: Point) -> bytes:
     """Returns the frame for a position, with this head."""
     kind = _AirHead if isinstance(head, AirHead) else _GroundHead
     plain = kind()
@@ -468,16 +554,17 @@ def encode(head: Union[AirHead, GroundHead], position: Position) -> bytes:
         # Faults of the head come first, as in the library's call.
         _done(call(ctypes.byref(plain), ctypes.byref(_position(Position(0, 0))), ctypes.byref(out)))
         raise
-    _done(call(ctypes.byref(plain), ctypes.byref(here), ctypes.byref(out)))
+    _done(call(ctypes.byref(plain), ctypes.byref(here), ctypes.byref(out)), *here.given)
     return bytes(out)
 
 
-def send_again(source: Frame, odd: int, position: Position) -> bytes:
+def send_again(source: Frame, odd: int, position: Point) -> bytes:
     """Returns the frame with this parity (0 even, 1 odd) and the code of this position. Its other fields stay."""
     if odd not in (0, 1):
         raise Fault(Code.BAD_PARITY)
     here, out = _position(position), _FRAME()
-    _done(_lib.squitter_send_again(_frame_near(source, here), odd, ctypes.byref(here), ctypes.byref(out)))
+    again = _lib.squitter_send_again(_frame_near(source, here), odd, ctypes.byref(here), ctypes.byref(out))
+    _done(again, *here.given)
     return bytes(out)
 
 
@@ -486,29 +573,29 @@ def send_again(source: Frame, odd: int, position: Position) -> bytes:
 
 def zone_count(lat: Degrees) -> int:
     """Returns the number of longitude zones at a latitude (NL), from 1 to 59."""
-    plain, out = _angle(lat, Code.BAD_LATITUDE), ctypes.c_uint8()
-    _done(_lib.squitter_zone_count(ctypes.byref(plain), ctypes.byref(out)))
+    plain, out = _angle(lat, "latitude", Code.BAD_LATITUDE), ctypes.c_uint8()
+    _done(_lib.squitter_zone_count(ctypes.byref(plain), ctypes.byref(out)), lat)
     return out.value
 
 
 def angle_text(degrees: Degrees) -> str:
     """Returns an angle with seven decimals, rounded half away from zero."""
-    plain, out = _angle(degrees, Code.BAD_ANGLE), ctypes.create_string_buffer(16)
-    _done(_lib.squitter_text_of_angle(ctypes.byref(plain), out))
+    plain, out = _angle(degrees, "angle", Code.BAD_ANGLE), ctypes.create_string_buffer(16)
+    _done(_lib.squitter_text_of_angle(ctypes.byref(plain), out), degrees)
     return out.value.decode("ascii")
 
 
 def angle_e7(degrees: Degrees) -> int:
     """Returns the angle in units of 10^-7 degree, rounded half away from zero."""
-    plain, out = _angle(degrees, Code.BAD_ANGLE), ctypes.c_int64()
-    _done(_lib.squitter_angle_e7(ctypes.byref(plain), ctypes.byref(out)))
+    plain, out = _angle(degrees, "angle", Code.BAD_ANGLE), ctypes.c_int64()
+    _done(_lib.squitter_angle_e7(ctypes.byref(plain), ctypes.byref(out)), degrees)
     return out.value
 
 
-def position_e7(position: Position) -> Tuple[int, int]:
+def position_e7(position: Point) -> Tuple[int, int]:
     """Returns latitude and longitude in units of 10^-7 degree, rounded half away from zero."""
     here, out = _position(position), _DegreesE7()
-    _done(_lib.squitter_position_e7(ctypes.byref(here), ctypes.byref(out)))
+    _done(_lib.squitter_position_e7(ctypes.byref(here), ctypes.byref(out)), *here.given)
     return out.lat, out.lon
 
 
@@ -561,4 +648,5 @@ __version__ = version()
 
 # These modules import the names above.
 from squitter._hearing import Contact, Format, Log, Tally, Tracker  # noqa: E402
-from squitter._feed import Counts, Feed, FeedFormat, feed_format  # noqa: E402
+from squitter._feed import Counts, Feed, FeedFormat, Stranger  # noqa: E402
+from squitter._order import Order  # noqa: E402

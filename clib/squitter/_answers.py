@@ -10,7 +10,7 @@ import numpy as np
 import numpy.typing as npt
 
 import squitter
-from squitter import AltitudeForm, Position, What
+from squitter import WINDOW, AltitudeForm, Point, Position, What
 from squitter._library import _Answer
 from squitter._records import FAULT, POSITION, TRACKED, Records, _limit, _moments
 from squitter._source import Source, bytes_of, refuse_other, squitters_of
@@ -255,7 +255,7 @@ ANSWER = np.dtype(_Answer)
 
 
 def dataframe(
-    log: Union[Source, Any], window: int = 10_000, site: Optional[Position] = None, limit: Optional[int] = 1000,
+    log: Union[Source, Any], window: int = WINDOW, site: Optional[Point] = None, limit: Optional[int] = 1000,
     exact: bool = False,
 ) -> pandas.DataFrame:
     """Decodes a log as `squitter track` does. Returns a pandas data frame with a row for each line that is not empty.
@@ -293,7 +293,7 @@ _LINE_OF_FRAME = 30  # bytes of the shortest line with a frame
 
 
 def _columns_of_squitters(
-    moments: npt.ArrayLike, frames: npt.ArrayLike, window: int, site: Optional[Position], limit: Optional[int],
+    moments: npt.ArrayLike, frames: npt.ArrayLike, window: int, site: Optional[Point], limit: Optional[int],
 ) -> Tuple[Dict[str, np.ma.MaskedArray[Any, Any]], Records]:
     """Decodes timestamps and frames. Returns the columns of their results, and the positions. Raises the Faults
     BAD_POSITION (the site), NO_MEMORY."""
@@ -304,7 +304,7 @@ def _columns_of_squitters(
 
 
 def _columns_of_log(
-    data: npt.NDArray[np.uint8], log: Source, window: int, site: Optional[Position], limit: Optional[int], exact: bool,
+    data: npt.NDArray[np.uint8], log: Source, window: int, site: Optional[Point], limit: Optional[int], exact: bool,
 ) -> Tuple[Dict[str, np.ma.MaskedArray[Any, Any]], Records]:
     """Decodes a log. Returns the columns of its results, and with `exact` the positions (POSITION). There are at most
     as many addresses as lines that fit a frame. Raises the Faults BAD_POSITION (the site), NO_MEMORY."""

@@ -8,7 +8,7 @@ import enum
 import threading
 from typing import NamedTuple, Optional, Tuple, Union
 
-from squitter import Code, _done
+from squitter import _done
 from squitter._hearing import _Lent, _bytes
 from squitter._library import _Counts, _Done, _Slot, _fits, _lend, _lib
 
@@ -16,23 +16,29 @@ _LINE = 50  # the most bytes that a line takes
 _ROOM = 1 << 16  # bytes of lines that a call writes at once
 _COUNT = 1 << 12  # squitters that a call writes at once
 _FRAME_BYTES = 14
+_LIVE, _BY_ARRIVAL, _ALL_FORMATS = 1, 2, 4  # the flags SQUITTER_FEED_LIVE and so on of squitter.h
 
 
 class FeedFormat(enum.IntEnum):
-    """The formats of a receiver's bytes."""
+    """The formats of a receiver's bytes. With AUTO, the first bytes show the format."""
 
     BEAST = 0
     AVR = 1
     CSV = 2
     LOG = 3
+    AUTO = 4
 
 
-def feed_format(first: Union[bytes, bytearray, memoryview]) -> Optional[FeedFormat]:
-    """Detects the format of a source from its first bytes. Returns None if the bytes do not show a format yet. Three
-    messages show Beast, and a line with a frame shows a text format. The first byte that shows a format decides."""
-    out, data = ctypes.c_uint32(), _bytes(first)
-    fault = _lib.squitter_feed_format(data, len(data), ctypes.byref(out))
-    return FeedFormat(out.value) if fault.code == Code.OK else None
+class Stranger(enum.IntEnum):
+    """Sources without frames of a known format: SBS (BaseStation) text, a tar archive, a packed file (gzip, bzip2, xz,
+    zstd or zip), text in UTF-16, lines of JSON, and bytes without frames."""
+
+    SBS = 5
+    TAR = 6
+    PACKED = 7
+    UTF16 = 8
+    JSON = 9
+    NO_FRAME = 10
 
 
 class Counts(NamedTuple):
@@ -54,7 +60,7 @@ class Feed(_Lent):
 
     :meth:`take` and :meth:`finish` return lines for ``squitter track`` and :class:`Log`. :meth:`take_frames` and
     :meth:`finish_frames` return timestamps and frames for :meth:`Tracker.hear_many`. The results do not depend on how
-    the source is cut into pieces, and timestamps never go back. After :meth:`close`, or at the end of a ``with``, each
+    the source is cut into pieces. After :meth:`close`, or at the end of a ``with``, each
     call except :meth:`close` raises the Fault NO_TRACKER. Calls from several threads wait for one another.
 
     >>> with Feed("avr") as feed:
@@ -69,19 +75,26 @@ class Feed(_Lent):
     __slots__ = ("__weakref__",)
 
     def __init__(
-        self, format: Union[FeedFormat, str] = FeedFormat.BEAST, leap: int = 10_000, live: bool = False,
+        self, format: Union[FeedFormat, str] = FeedFormat.AUTO, leap: int = 600_000, live: bool = False,
+        *, late: int = 0, all_formats: bool = False, by_arrival: bool = False,
     ) -> None:
         """Creates a feed at the start of a source. The format is one of :class:`FeedFormat`, or its name in lower case
-        ("beast", "avr", "csv", "log"). A gap above `leap` milliseconds is a jump of the source's clock. Arrival times
-        count only for a live source. Raises ValueError for any other format, and unless the leap is a whole number
-        below 2**64."""
+        ("beast", "avr", "csv", "log", "auto"). If it is AUTO, the first bytes show it: three Beast messages in a row,
+        or a line with a frame. A gap above `leap` milliseconds is a jump of the source's clock. Arrival times
+        count only for a live source. A timestamp may be before the latest one by `late` milliseconds; with 0,
+        timestamps never go back. With `all_formats`, frames of all downlink formats are written, those below 16 as
+        seven bytes and seven zeros; otherwise those of format 17. With `by_arrival`, the receiver's clock is ignored.
+        Raises ValueError for any other format, and unless `leap` and `late` are whole numbers below 2**64."""
         names = {form.name.lower(): form for form in FeedFormat}
         form = names[format] if isinstance(format, str) and format in names else FeedFormat(format)
         if not _fits(leap, 64):
             raise ValueError("a leap is a whole number below 2**64")
+        if not _fits(late, 64):
+            raise ValueError("late is a whole number of milliseconds below 2**64")
+        flags = _LIVE * bool(live) + _BY_ARRIVAL * bool(by_arrival) + _ALL_FORMATS * bool(all_formats)
         self._kind, self._lock, self._slot = "feed", threading.RLock(), _Slot()
         block, self._memory = _lend(_lib.squitter_feed_size())
-        _done(_lib.squitter_feed_new(ctypes.byref(self._slot), block, form, leap, bool(live)))
+        _done(_lib.squitter_feed_new(ctypes.byref(self._slot), block, form, leap, late, flags))
 
     def __enter__(self) -> Feed:
         self._look_open()
@@ -95,8 +108,8 @@ class Feed(_Lent):
             return self._texts(_bytes(piece), arrival)
 
     def finish(self, arrival: int = 0) -> bytes:
-        """Ends the source. Returns the line of its last squitter if the end completes one, as it does for the last line
-        of a text. The next piece belongs to another source."""
+        """Ends the source. Returns the lines of its last squitters, such as that of a last line without a line feed.
+        The next piece belongs to another source."""
         with self._lock:
             self._look_open()
             return self._texts(None, arrival)
@@ -111,7 +124,7 @@ class Feed(_Lent):
             return self._squitters(_bytes(piece), arrival)
 
     def finish_frames(self, arrival: int = 0) -> Tuple[array.array[int], bytes]:
-        """Ends the source. Returns the timestamp and the frame of its last squitter if the end completes one."""
+        """Ends the source. Returns the timestamps and the frames of its last squitters, as :meth:`take_frames` does."""
         with self._lock:
             self._look_open()
             return self._squitters(None, arrival)
@@ -122,6 +135,26 @@ class Feed(_Lent):
         with self._lock:
             self._look_open()
             _done(_lib.squitter_feed_disconnected(ctypes.byref(self._slot)))
+
+    @property
+    def format(self) -> Optional[FeedFormat]:
+        """The format of the source, or None if its bytes so far do not show one."""
+        number = self._source()
+        return FeedFormat(number) if number < FeedFormat.AUTO else None
+
+    @property
+    def stranger(self) -> Optional[Stranger]:
+        """What the source is if it holds no frames of a known format, or None. Its first bytes or lines tell, or
+        :meth:`finish`."""
+        number = self._source()
+        return Stranger(number) if number > FeedFormat.AUTO else None
+
+    def _source(self) -> int:
+        with self._lock:
+            self._look_open()
+            out = ctypes.c_uint32()
+            _done(_lib.squitter_feed_format(ctypes.byref(self._slot), ctypes.byref(out)))
+        return out.value
 
     @property
     def counts(self) -> Counts:

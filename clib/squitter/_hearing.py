@@ -8,9 +8,11 @@ import operator
 import threading
 from typing import Any, Iterator, List, NamedTuple, Optional, Sequence, SupportsIndex, Tuple, Union
 
-from squitter import Code, Fault, Frame, Frames, Heard, Position, Present, _done, _many, _position, _read_heard, frame
+from squitter import (
+    _HEARD, WINDOW, Code, Fault, Frame, Frames, Heard, Point, Present, _done, _heard_of, _many, _position, frame,
+)
 from squitter._library import _Done, _Entry, _Heard, _Last, _Present, _Slot, _Tally
-from squitter._library import _fits, _frames, _lend, _lib, _moment, _times
+from squitter._library import _fits, _frames, _lend, _lib, _moment, _quick, _times
 
 
 class _Lent:
@@ -42,9 +44,9 @@ class _Lent:
 class _Listener(_Lent):
     """A tracker or a log of the library."""
 
-    __slots__ = ("_settings",)
+    __slots__ = ("_at", "_settings")
 
-    def __init__(self, kind: str, window: int, site: Optional[Position], limit: int) -> None:
+    def __init__(self, kind: str, window: int, site: Optional[Point], limit: int) -> None:
         if not _fits(window, 64):
             raise ValueError("a window is a whole number below 2**64")
         if not _fits(limit, 32):
@@ -52,12 +54,30 @@ class _Listener(_Lent):
         self._kind, self._lock, self._slot = kind, threading.RLock(), _Slot()
         self._settings = operator.index(window), site, operator.index(limit)
         block, self._memory = _lend(getattr(_lib, f"squitter_{kind}_size")(limit))
-        slot = ctypes.byref(self._slot)
+        slot = self._at = ctypes.byref(self._slot)
         if site is None:
             _done(getattr(_lib, f"squitter_{kind}_new")(slot, block, limit, window))
         else:
-            here = ctypes.byref(_position(site))
-            _done(getattr(_lib, f"squitter_{kind}_new_at")(slot, block, limit, window, here))
+            here = _position(site)
+            new = getattr(_lib, f"squitter_{kind}_new_at")(slot, block, limit, window, ctypes.byref(here))
+            _done(new, *here.given)
+
+
+_tracker_hear = _quick("tracker_hear")
+_TOO_LATE = 1 << 64  # timestamps are below
+
+
+class _HeardRoom:
+    """The timestamp of a frame, and room for its result."""
+
+    __slots__ = ("at", "out", "time")
+
+    def __init__(self) -> None:
+        self.time, self.out = ctypes.c_uint64(), _Heard()
+        self.at = ctypes.byref(self.out)
+
+
+_ROOMS: List[_HeardRoom] = []
 
 
 class Tracker(_Listener):
@@ -68,7 +88,7 @@ class Tracker(_Listener):
     handler may call too. A copy starts with the same state. So does an unpickled tracker, on a machine of the same byte
     order.
 
-    >>> with Tracker(window=10_000) as tracker:
+    >>> with Tracker() as tracker:
     ...     tracker.hear(0, "8D40621D58C386435CC412692AD6").what.name
     ...     tracker.hear(400, "8D40621D58C382D690C8AC2863A7").position
     ...     len(tracker), tracker[0]
@@ -80,10 +100,11 @@ class Tracker(_Listener):
     __module__ = "squitter"  # where pickles look for it
     __slots__ = ("__weakref__",)
 
-    def __init__(self, window: int = 10_000, site: Optional[Position] = None, limit: int = 1000) -> None:
-        """Creates a tracker without frames. The window is in milliseconds. The site is the receiver position, which
-        surface pairs need. An address is present while its newest position is at most the window older than the last
-        accepted frame; at most `limit` can be. Raises the Faults BAD_POSITION (the site), NO_LIMIT, NO_MEMORY."""
+    def __init__(self, window: int = WINDOW, site: Optional[Point] = None, limit: int = 1000) -> None:
+        """Creates a tracker without frames. The window is in milliseconds, by default :data:`WINDOW`. The site is the
+        receiver position, such as (52.25, 3.92), which surface pairs need; a float counts as its shortest text. An
+        address is present while its newest position is at most the window older than the last accepted frame; at most
+        `limit` can be. Raises the Faults of a text in the site, BAD_POSITION (the site), NO_LIMIT, NO_MEMORY."""
         super().__init__("tracker", window, site, limit)
 
     def __enter__(self) -> Tracker:
@@ -139,10 +160,23 @@ class Tracker(_Listener):
         """Adds a frame with its timestamp in milliseconds, and returns the result. Raises the Faults of a frame text,
         NO_TRACKER, NOT_DF17, PARITY, MOMENT_BACK, TABLE_FULL. After a Fault the tracker is unchanged."""
         with self._lock:
-            self._look_open()
-            time, bytes_of, out = _moment(moment), frame(source), _Heard()
-            _done(_lib.squitter_tracker_hear(ctypes.byref(self._slot), time, bytes_of, ctypes.byref(out)))
-        return _read_heard(out)
+            if self._memory is None:
+                self._look_open()
+            if type(moment) is not int or not 0 <= moment < _TOO_LATE:
+                moment = _moment(moment)
+            if type(source) is not bytes or len(source) != 14:
+                source = frame(source)
+            try:
+                room = _ROOMS.pop()
+            except IndexError:
+                room = _HeardRoom()
+            room.time.value = moment
+            fault = _tracker_hear(self._at, room.time, source, room.at)
+            members = _HEARD.unpack_from(room.out)
+            _ROOMS.append(room)
+        if fault.code:
+            _done(fault)
+        return _heard_of(members)
 
     def hear_many(self, moments: Sequence[int], frames: Frames) -> List[Union[Heard, Fault]]:
         """Adds frames one after the other, and returns a list of results, with a Fault for each refused frame. Raises
@@ -151,9 +185,8 @@ class Tracker(_Listener):
             self._look_open()
             source, count = _frames(frames)
             times = _times(moments, count)
-            arrays = (ctypes.addressof(times), count, source, count)
-            answers = list(_many("tracker_hear_many", _Heard, count, ctypes.byref(self._slot), *arrays))
-        return [fault or _read_heard(out) for out, fault in answers]
+            arrays = times.buffer_info()[0], count, source, count
+            return _many("tracker_hear_many", _HEARD, _heard_of, count, self._at, *arrays)
 
     def __len__(self) -> int:
         """Returns the number of present addresses, at most the limit."""
@@ -180,8 +213,8 @@ class Contact(Tracker):
     __module__ = "squitter"
     __slots__ = ()
 
-    def __init__(self, window: int = 10_000, site: Optional[Position] = None) -> None:
-        """Creates a contact without frames; window and site as for :class:`Tracker`."""
+    def __init__(self, window: int = WINDOW, site: Optional[Point] = None) -> None:
+        """Creates a contact without frames; window and site as for :class:`Tracker`, with the same default window."""
         super().__init__(window, site, 1)
 
     @property
@@ -235,7 +268,7 @@ class Log(_Listener):
     __slots__ = ("_ahead", "_format", "__weakref__")
 
     def __init__(
-        self, window: int = 10_000, site: Optional[Position] = None, limit: int = 1000,
+        self, window: int = WINDOW, site: Optional[Point] = None, limit: int = 1000,
         format: Union[Format, str] = Format.LINES,
     ) -> None:
         """Creates a log without lines; window, site and limit as for :class:`Tracker`. The format is one of

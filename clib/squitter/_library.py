@@ -2,6 +2,7 @@
 
 from __future__ import annotations
 
+import array
 import ctypes
 import mmap
 import operator
@@ -24,6 +25,7 @@ class _Angle(ctypes.Structure):
 
 class _Position(ctypes.Structure):
     _fields_ = [("lat", _Angle), ("lon", _Angle)]
+    given: Tuple[Any, ...] = ()  # the degrees that a caller gave, for the hint of a fault
 
 
 class _Fields(ctypes.Structure):
@@ -101,7 +103,7 @@ class _Block(ctypes.Structure):
     _fields_ = [("size", ctypes.c_size_t), ("memory", ctypes.c_void_p)]
 
 
-class _Slot(ctypes.Structure):  # squitter_tracker, squitter_log and squitter_feed
+class _Slot(ctypes.Structure):  # squitter_tracker, squitter_log, squitter_feed and squitter_order
     _fields_ = [("full", ctypes.c_uint64), ("at", ctypes.c_void_p)]
 
 
@@ -170,8 +172,8 @@ _CALLS = {
     ],
     "log_finish_text": [_P(_Slot), ctypes.c_uint32, ctypes.c_void_p, ctypes.c_size_t, _P(_Done)],
     "log_tally": [_P(_Slot), _P(_Tally)],
-    "feed_format": [ctypes.c_char_p, ctypes.c_size_t, _P(ctypes.c_uint32)],
-    "feed_new": [_P(_Slot), _Block, ctypes.c_uint32, ctypes.c_uint64, ctypes.c_uint32],
+    "feed_format": [_P(_Slot), _P(ctypes.c_uint32)],
+    "feed_new": [_P(_Slot), _Block, ctypes.c_uint32, ctypes.c_uint64, ctypes.c_uint64, ctypes.c_uint32],
     "feed_take": [
         _P(_Slot), ctypes.c_void_p, ctypes.c_size_t, ctypes.c_uint64, ctypes.c_void_p, ctypes.c_size_t,
         ctypes.c_void_p, ctypes.c_size_t, _P(_Done),
@@ -185,6 +187,10 @@ _CALLS = {
     "feed_finish_text": [_P(_Slot), ctypes.c_uint64, ctypes.c_void_p, ctypes.c_size_t, _P(_Done)],
     "feed_disconnected": [_P(_Slot)],
     "feed_counts": [_P(_Slot), _P(_Counts)],
+    "order_new": [_P(_Slot), _Block, ctypes.c_uint64],
+    "order_take": [_P(_Slot), *(4 * [ctypes.c_void_p, ctypes.c_size_t]), _P(_Done)],
+    "order_flush": [_P(_Slot), *(2 * [ctypes.c_void_p, ctypes.c_size_t]), _P(_Done)],
+    "order_held": [_P(_Slot), _P(ctypes.c_uint64)],
 }
 
 # And each call of arrays, which are handed over as an address and a number of elements.
@@ -211,6 +217,8 @@ _SURE = {
     "log_header": ([ctypes.c_uint32, ctypes.c_char_p], None),
     "feed_size": ([], ctypes.c_size_t),
     "feed_free": ([_P(_Slot)], None),
+    "order_size": ([], ctypes.c_size_t),
+    "order_free": ([_P(_Slot)], None),
     "version": ([], ctypes.c_uint32),
 }
 
@@ -242,6 +250,16 @@ def _load() -> ctypes.CDLL:
 
 _lib = _load()
 
+_QUICK = ctypes.PyDLL(_lib._name, handle=_lib._handle)
+
+
+def _quick(name: str) -> Any:
+    """Returns a call of the library that converts no arguments and keeps the interpreter's lock, in half the time of
+    `_lib`. Its arguments are bytes and ctypes objects of the types in `_CALLS`: a plain int would be cut to 32 bits."""
+    call = _QUICK[f"squitter_{name}"]
+    call.restype = _Fault
+    return call
+
 
 # ---- memory ----
 
@@ -267,6 +285,10 @@ def _fits(value: int, bits: int) -> bool:
 def _text(text: str) -> bytes:
     """The bytes of a text, as the operating system hands them over: what is no UTF-8 comes as it was. Of other halves
     of surrogate pairs, which no text has, the bytes are three that no frame and no angle has."""
+    try:
+        return text.encode()
+    except UnicodeEncodeError:
+        pass
     try:
         return text.encode("utf-8", "surrogateescape")
     except UnicodeEncodeError:
@@ -300,11 +322,19 @@ def _binary(name: str, source: Union[bytes, bytearray, memoryview]) -> memoryvie
     return view
 
 
-def _times(moments: Sequence[int], count: int) -> ctypes.Array[ctypes.c_uint64]:
+def _times(moments: Sequence[int], count: int) -> array.array[int]:
     """Returns the timestamps of this many frames, as C takes them."""
     if len(moments) != count:
         raise ValueError(f"{count} frames and {len(moments)} moments")
-    return (ctypes.c_uint64 * count)(*map(_moment, moments))
+    times = array.array("Q")
+    try:
+        times.extend(moments)
+    except (OverflowError, TypeError):
+        # One by one, for the error of the first that is wrong, or because this is an array of another type.
+        times = array.array("Q", [_moment(moment) for moment in moments])
+    if len(times) != count:
+        raise ValueError(f"{count} frames and {len(times)} moments")
+    return times
 
 
 def _moment(moment: int) -> int:
@@ -315,14 +345,26 @@ def _moment(moment: int) -> int:
 
 
 def _layout(kind: Type[ctypes.Structure]) -> struct.Struct:
-    """Returns the members of a structure, and of those in it, as the module struct unpacks them."""
+    """Returns the members of a structure, and of those in it, as the module struct unpacks them from an array."""
     codes = {ctypes.c_uint64: "Q", ctypes.c_int64: "q", ctypes.c_uint32: "I", ctypes.c_int32: "i", ctypes.c_uint16: "H",
              ctypes.c_uint8: "B"}
 
     def spelled(part: Any) -> str:
         return codes.get(part) or "".join(spelled(member) for _, member in part._fields_)
-    return struct.Struct("@" + spelled(kind))
+    members = "@" + spelled(kind)
+    return struct.Struct(f"{members}{ctypes.sizeof(kind) - struct.calcsize(members)}x")
+
+
+def _slotted(num: int, den: int) -> Fraction:
+    """Returns the fraction of two numbers in lowest terms, as calls of the library write them."""
+    made: Any = object.__new__(Fraction)
+    made._numerator, made._denominator = num, den
+    return made  # type: ignore[no-any-return]
+
+
+# Fraction() finds the lowest terms again, and takes ten times as long.
+_lowest = _slotted if Fraction.__slots__ == ("_numerator", "_denominator") else Fraction
 
 
 def _read_angle(angle: _Angle) -> Fraction:
-    return Fraction(angle.num, angle.den)
+    return _lowest(angle.num, angle.den)

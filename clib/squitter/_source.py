@@ -18,7 +18,7 @@ Source = Union[str, "os.PathLike[str]", Any]
 Squitters = Tuple[npt.NDArray[np.uint64], npt.NDArray[np.uint8]]
 """Timestamps in milliseconds, and frames of shape (n, 14)."""
 
-_FIRST = 1 << 16  # bytes by which the format of a source is found
+_FIRST = 1 << 14  # bytes by which the library finds the format of a source
 _PIECE = 1 << 20  # bytes that a feed takes at once
 _WITH_CLOCK = (FeedFormat.BEAST, FeedFormat.AVR, "beast", "avr")
 _OTHERS = (
@@ -29,7 +29,7 @@ _OTHERS = (
 )
 
 
-def feed(source: Source, format: Union[FeedFormat, str, None] = None, leap: int = 10_000) -> Squitters:
+def feed(source: Source, format: Union[FeedFormat, str, None] = None, leap: int = 600_000) -> Squitters:
     """Returns the timestamps (ms) and the frames, (n, 14) uint8, of a receiver's recording, for :func:`track`.
 
     The source is a file, by its name or open for bytes, or bytes. It is Beast, AVR with a clock, CSV with the columns
@@ -54,7 +54,7 @@ def squitters_of(data: npt.NDArray[np.uint8], source: Source) -> Optional[Squitt
     form = _format_of(data)
     if form is None or form == FeedFormat.LOG:
         return None
-    squitters = _squitters(data, form, 10_000)
+    squitters = _squitters(data, form, 600_000)
     if form not in _WITH_CLOCK or squitters[0].any():
         return squitters
     if form == FeedFormat.BEAST:
@@ -63,7 +63,9 @@ def squitters_of(data: npt.NDArray[np.uint8], source: Source) -> Optional[Squitt
 
 
 def _format_of(data: npt.NDArray[np.uint8]) -> Optional[FeedFormat]:
-    return squitter.feed_format(data[:_FIRST].tobytes())
+    with squitter.Feed() as source:
+        source.take_frames(data[:_FIRST].tobytes())
+        return source.format
 
 
 def _squitters(data: npt.NDArray[np.uint8], form: Union[FeedFormat, str], leap: int) -> Squitters:

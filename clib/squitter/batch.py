@@ -32,7 +32,7 @@ import numpy as np
 import numpy.typing as npt
 
 import squitter
-from squitter import Code, Position, _parts
+from squitter import WINDOW, Code, Point, Position, _parts
 from squitter._answers import ANSWER, columns, csv_rows, dataframe, fractions, lines
 from squitter._library import _FRAME, _binary, _lib, _text
 from squitter._parts import DEGREES_E7, Room, first_words
@@ -294,7 +294,7 @@ def pair(
 
 
 def pair_at(
-    older: npt.ArrayLike, newer: npt.ArrayLike, site: Position, out: Optional[Records] = None,
+    older: npt.ArrayLike, newer: npt.ArrayLike, site: Point, out: Optional[Records] = None,
     faults: Optional[Records] = None,
 ) -> Tuple[Records, Records]:
     """The same with one receiver position (the site), which surface pairs need. With an invalid site each fault is
@@ -337,7 +337,7 @@ def _tell(source: _Frames, faults: Records) -> None:
 
 
 def track(
-    moments: npt.ArrayLike, frames: npt.ArrayLike, window: int = 10_000, site: Optional[Position] = None,
+    moments: npt.ArrayLike, frames: npt.ArrayLike, window: int = WINDOW, site: Optional[Point] = None,
     limit: Optional[int] = 1000, out: Optional[Records] = None, faults: Optional[Records] = None,
 ) -> Tuple[Records, Records]:
     """Returns the results of `squitter track` for the lines of a log (TRACKED), each a timestamp in milliseconds and a
@@ -380,7 +380,7 @@ class Tracker:
     __slots__ = ("_most", "_rooms", "_tracker")
 
     def __init__(
-        self, window: int = 10_000, site: Optional[Position] = None, limit: Optional[int] = 1000
+        self, window: int = WINDOW, site: Optional[Point] = None, limit: Optional[int] = 1000
     ) -> None:
         """Creates a tracker without lines; window, site and limit as for :func:`track`."""
         self._most = _limit(window, limit, _ADDRESSES)

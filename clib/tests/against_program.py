@@ -115,7 +115,8 @@ def place_lines(call, *arguments):
     try:
         place = call(*arguments)
     except Fault as fault:
-        return str(fault)
+        # The program prints no hint.
+        return squitter.fault_text(fault.code, fault.first, fault.second)
     fractions = " ".join(f"{part.numerator}/{part.denominator}" for part in place)
     return " ".join(map(squitter.angle_text, place)) + "\n" + fractions + "\n"
 

@@ -345,11 +345,11 @@ static void try_a_feed(void) {
   filled(&done, sizeof done), filled(&counts, sizeof counts), filled(frame, sizeof frame);
   IS(is_fault(squitter_feed_take(&feed, log, 32, 0, &moment, 1, &frame, 1, &done), SQUITTER_NO_TRACKER, 0));
   IS(is_fault(squitter_feed_counts(&feed, &counts), SQUITTER_NO_TRACKER, 0));
-  IS(is_fault(squitter_feed_new(&feed, block, 4, 10000, 0), SQUITTER_BAD_FORMAT, 0));
-  IS(is_fault(squitter_feed_format(log, 32, &format), SQUITTER_BAD_FORMAT, 0) && format == 9);
-  IS(is_ok(squitter_feed_format("7 *2040;\n", 9, &format)) && format == SQUITTER_FEED_LOG);
+  IS(is_fault(squitter_feed_new(&feed, block, 5, 10000, 0, 0), SQUITTER_BAD_FORMAT, 0));
+  IS(is_fault(squitter_feed_format(&feed, &format), SQUITTER_NO_TRACKER, 0) && format == 9);
   IS(is_filled(&done, sizeof done) && is_filled(&counts, sizeof counts) && is_filled(frame, sizeof frame));
-  IS(squitter_feed_size() <= block.size && is_ok(squitter_feed_new(&feed, block, SQUITTER_FEED_LOG, 10000, 0)));
+  IS(squitter_feed_size() <= block.size && is_ok(squitter_feed_new(&feed, block, SQUITTER_FEED_LOG, 10000, 0, 0)));
+  IS(is_ok(squitter_feed_format(&feed, &format)) && format == SQUITTER_FEED_LOG);
   IS(is_ok(squitter_feed_take(&feed, log, 32, 0, &moment, 1, &frame, 1, &done)) && done.taken == 32);
   IS(done.written == 0 && moment == 9);
   IS(is_ok(squitter_feed_finish(&feed, 0, &moment, 1, &frame, 1, &done)) && done.written == 1 && moment == 400);
@@ -361,6 +361,31 @@ static void try_a_feed(void) {
   IS(is_ok(squitter_feed_disconnected(&feed)));
   IS(is_ok(squitter_feed_counts(&feed, &counts)) && counts.found == 3 && counts.written == 2 && counts.damaged == 1);
   squitter_feed_free(&feed);
+}
+
+/* Tests the calls of an order; tests/order.c tests each border. */
+static void try_an_order(void) {
+  _Alignas(32) static unsigned char memory[1 << 18];
+  const squitter_block whole = {sizeof memory, memory}, small = {squitter_order_size() - 1, memory};
+  const uint64_t moments[2] = {30, 10};
+  const frame_bytes frames[2] = {{1}, {2}};
+  squitter_order order = {0, 0};
+  squitter_done done;
+  uint64_t moment = 9, held = 9;
+  frame_bytes frame;
+  filled(&done, sizeof done), filled(frame, sizeof frame);
+  IS(is_fault(squitter_order_take(&order, moments, 2, frames, 2, &moment, 1, &frame, 1, &done),
+              SQUITTER_NO_TRACKER, 0));
+  IS(is_fault(squitter_order_flush(&order, &moment, 1, &frame, 1, &done), SQUITTER_NO_TRACKER, 0));
+  IS(is_fault(squitter_order_held(&order, &held), SQUITTER_NO_TRACKER, 0) && held == 9 && moment == 9);
+  IS(is_filled(&done, sizeof done) && is_filled(frame, sizeof frame));
+  IS(is_fault(squitter_order_new(&order, small, 20), SQUITTER_NO_MEMORY, 0));
+  IS(is_ok(squitter_order_new(&order, whole, 20)));
+  IS(is_ok(squitter_order_take(&order, moments, 2, frames, 2, &moment, 1, &frame, 1, &done)));
+  IS(done.taken == 2 && done.written == 1 && moment == 10 && frame[0] == 2);
+  IS(is_ok(squitter_order_held(&order, &held)) && held == 1);
+  IS(is_ok(squitter_order_flush(&order, &moment, 1, &frame, 1, &done)) && done.written == 1 && moment == 30);
+  squitter_order_free(&order);
 }
 
 int main(void) {
@@ -381,6 +406,7 @@ int main(void) {
   try_a_tracker_near_a_site();
   try_saving();
   try_a_feed();
+  try_an_order();
   printf("exports: %d of %d wrong\n", wrong, tried);
   return wrong != 0;
 }

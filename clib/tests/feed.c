@@ -107,8 +107,8 @@ static bool is_guarded(size_t size) {
   return true;
 }
 
-static void begin(squitter_feed *feed, uint32_t format, uint32_t is_live) {
-  if (squitter_feed_new(feed, lend(squitter_feed_size()), format, LEAP, is_live).code) exit(2);
+static void begin(squitter_feed *feed, uint32_t format, uint32_t flags) {
+  if (squitter_feed_new(feed, lend(squitter_feed_size()), format, LEAP, 0, flags).code) exit(2);
 }
 
 static bool are_counts(squitter_feed *feed, const source *of) {
@@ -129,14 +129,14 @@ static bool are_wanted(const uint64_t *moments, frame_bytes *frames, size_t coun
 }
 
 /* Reads all squitters, with pieces and arrays of these sizes. */
-static void try_frames(uint32_t format, size_t piece, size_t moments_room, size_t frames_room) {
+static void try_frames(uint32_t format, int is_auto, size_t piece, size_t moments_room, size_t frames_room) {
   const source *of = &sources[format];
   size_t room = moments_room < frames_room ? moments_room : frames_room, count = 0;
   uint64_t moments[128];
   frame_bytes frames[128];
   squitter_feed feed = {0, 0};
   squitter_done done;
-  begin(&feed, format, 0);
+  begin(&feed, is_auto ? SQUITTER_FEED_AUTO : format, 0);
   for (size_t from = 0; from < of->length; from += piece) {
     size_t end = from + piece < of->length ? from + piece : of->length, at = from;
     do {
@@ -156,13 +156,13 @@ static void try_frames(uint32_t format, size_t piece, size_t moments_room, size_
   IS(is_guarded(squitter_feed_size()));
 }
 
-static void try_text(uint32_t format, size_t piece, size_t room) {
+static void try_text(uint32_t format, int is_auto, size_t piece, size_t room) {
   const source *of = &sources[format];
   char text[MOST];
   size_t count = 0;
   squitter_feed feed = {0, 0};
   squitter_done done;
-  begin(&feed, format, 0);
+  begin(&feed, is_auto ? SQUITTER_FEED_AUTO : format, 0);
   for (size_t from = 0; from < of->length; from += piece) {
     size_t end = from + piece < of->length ? from + piece : of->length, at = from;
     do {
@@ -182,12 +182,16 @@ static void try_text(uint32_t format, size_t piece, size_t room) {
 static void try_cuts(void) {
   static const size_t pieces[] = {1, 2, 7, 21, 22, 23, MOST}, rooms[] = {1, 2, 4, 5, 64};
   static const size_t texts[] = {50, 51, 99, 100, 1024};
-  for (uint32_t format = 0; format < FORMATS; format++)
+  for (uint32_t k = 0; k < 2 * FORMATS; k++)
     for (size_t p = 0; p < sizeof pieces / sizeof *pieces; p++) {
-      for (size_t r = 0; r < sizeof rooms / sizeof *rooms; r++)
-        try_frames(format, pieces[p], rooms[r], rooms[r]), try_frames(format, pieces[p], rooms[r], 64);
-      try_frames(format, pieces[p], 64, 3);
-      for (size_t t = 0; t < sizeof texts / sizeof *texts; t++) try_text(format, pieces[p], texts[t]);
+      uint32_t format = k / 2;
+      int is_auto = k % 2;
+      for (size_t r = 0; r < sizeof rooms / sizeof *rooms; r++) {
+        try_frames(format, is_auto, pieces[p], rooms[r], rooms[r]);
+        try_frames(format, is_auto, pieces[p], rooms[r], 64);
+      }
+      try_frames(format, is_auto, pieces[p], 64, 3);
+      for (size_t t = 0; t < sizeof texts / sizeof *texts; t++) try_text(format, is_auto, pieces[p], texts[t]);
     }
 }
 
@@ -251,18 +255,82 @@ static void try_connections(void) {
 
 /* A frame without a clock has its arrival as timestamp if the source is live; a recorded source ignores arrivals. */
 static void try_arrivals(void) {
-  for (uint32_t is_live = 0; is_live < 3; is_live++) {
+  for (uint32_t flags = 0; flags < 16; flags++) {
+    int is_live = flags & SQUITTER_FEED_LIVE;
     squitter_feed feed = {0, 0};
     squitter_done done;
     uint64_t moments[1];
     frame_bytes frames[1];
     char text[50];
-    begin(&feed, SQUITTER_FEED_AVR, is_live);
+    begin(&feed, SQUITTER_FEED_AVR, flags);
     IS(squitter_feed_take(&feed, "*" EVEN ";", 30, 123456789, moments, 1, frames, 1, &done).code == 0);
     IS(done.written == 1 && moments[0] == (is_live ? 123456789 : 0));
     IS(squitter_feed_take_text(&feed, EVEN, 28, 123456790, text, 50, &done).code == 0 && done.written == 0);
     IS(squitter_feed_finish_text(&feed, 123456791, text, 50, &done).code == 0);
     IS(!memcmp(text, is_live ? "123456791 8D" : "0 8D40621D58", 12));
+    squitter_feed_free(&feed);
+  }
+}
+
+/* The clock of a live source is ignored where that is wanted. */
+static void try_flags(void) {
+  for (uint32_t flags = 0; flags < 16; flags++) {
+    static const char *texts[] = {"500 8D", "77 8D", "0 8D"};
+    int is_ignored = flags & SQUITTER_FEED_BY_ARRIVAL, is_live = flags & SQUITTER_FEED_LIVE;
+    const char *wanted = texts[is_live ? 1 : is_ignored ? 2 : 0];
+    squitter_feed feed = {0, 0};
+    squitter_done done;
+    char text[100];
+    begin(&feed, SQUITTER_FEED_AVR, flags);
+    IS(squitter_feed_take_text(&feed, "@0000005B8D80" EVEN ";", 42, 77, text, 100, &done).code == 0);
+    IS(!memcmp(text, wanted, strlen(wanted)) && done.written == strlen(wanted) + 27);
+    /* a clock a second later */
+    IS(squitter_feed_take_text(&feed, "@00000112A880" EVEN ";", 42, 78, text, 100, &done).code == 0);
+    IS(!memcmp(text, is_ignored ? is_live ? "78 8D" : "0 8D" : is_live ? "1077 8D" : "1500 8D", 4));
+    squitter_feed_free(&feed);
+  }
+}
+
+/* Frames of other downlink formats are written where that is wanted, short ones with zeros behind them. */
+static void try_other_formats(void) {
+  static const uint8_t padded[14] = {0x5D, 0x48, 0x40, 0xD6, 0xF8, 0x3D, 0x31};
+  for (uint32_t flags = 0; flags < 16; flags++) {
+    int is_all = flags & SQUITTER_FEED_ALL_FORMATS;
+    squitter_feed feed = {0, 0};
+    squitter_done done;
+    squitter_counts counts;
+    uint64_t moments[2];
+    frame_bytes frames[2];
+    char text[50];
+    begin(&feed, SQUITTER_FEED_AVR, flags);
+    IS(squitter_feed_take(&feed, "*5D4840D6F83D31;", 16, 0, moments, 2, frames, 2, &done).code == 0);
+    IS(done.written == (is_all ? 1 : 0) && (!is_all || !memcmp(frames[0], padded, 14)));
+    IS(squitter_feed_take_text(&feed, "*5D4840D6F83D31;", 16, 0, text, 50, &done).code == 0);
+    IS(done.written == (is_all ? 17 : 0) && (!is_all || !memcmp(text, "0 5D4840D6F83D31\n", 17)));
+    IS(squitter_feed_counts(&feed, &counts).code == 0 && counts.found == 2);
+    IS(counts.written == (is_all ? 2 : 0) && counts.formats[11] == (is_all ? 0 : 2));
+    squitter_feed_free(&feed);
+  }
+}
+
+/* A timestamp may be before the latest one by `late`; rows within a second are moved, others are set aside. */
+static void try_late(void) {
+  static const struct { uint64_t late, row, moment; } rows[] = {
+    {0, 5000, 5000}, {0, 4999, 5000}, {0, 4000, 5000}, {0, 3999, 0},
+    {300, 4700, 4700}, {300, 4699, 4700}, {300, 4000, 4700}, {300, 3999, 0},
+    {2000, 4999, 4999}, {2000, 3000, 3000}, {2000, 2999, 0}, {UINT64_MAX, 1, 1},
+  };
+  for (size_t i = 0; i < sizeof rows / sizeof *rows; i++) {
+    squitter_feed feed = {0, 0};
+    squitter_done done;
+    uint64_t moments[3];
+    frame_bytes frames[3];
+    char source[100];
+    int length = sprintf(source, "5000 " EVEN "\n%d " EVEN "\n", (int)rows[i].row);
+    IS(squitter_feed_new(&feed, lend(squitter_feed_size()), SQUITTER_FEED_LOG, LEAP, rows[i].late, 0).code == 0);
+    IS(squitter_feed_take(&feed, source, (size_t)length, 0, moments, 3, frames, 3, &done).code == 0);
+    IS(done.written == (rows[i].moment ? 2 : 1) && moments[0] == 5000);
+    IS(!rows[i].moment || moments[1] == rows[i].moment);
     squitter_feed_free(&feed);
   }
 }
@@ -300,31 +368,49 @@ static void try_blocks(void) {
       squitter_counts counts;
       memset(&counts, FILLED, sizeof counts);
       block.memory = block_bytes + GUARD + shift;
-      IS(squitter_feed_new(&feed, block, 4, LEAP, 0).code == SQUITTER_BAD_FORMAT);
-      IS(squitter_feed_new(&feed, block, UINT32_MAX, LEAP, 0).code == SQUITTER_BAD_FORMAT && !feed.full);
-      IS(squitter_feed_new(&feed, block, 3, LEAP, 0).code == (sizes[i] < size ? SQUITTER_NO_MEMORY : SQUITTER_OK));
+      IS(squitter_feed_new(&feed, block, 5, LEAP, 0, 0).code == SQUITTER_BAD_FORMAT);
+      IS(squitter_feed_new(&feed, block, UINT32_MAX, LEAP, 0, 0).code == SQUITTER_BAD_FORMAT && !feed.full);
+      IS(squitter_feed_new(&feed, block, 3, LEAP, 0, 0).code == (sizes[i] < size ? SQUITTER_NO_MEMORY : SQUITTER_OK));
       IS(squitter_feed_counts(&feed, &counts).code == (sizes[i] < size ? SQUITTER_NO_TRACKER : SQUITTER_OK));
       IS(counts.found == (sizes[i] < size ? 0xA5A5A5A5A5A5A5A5 : 0) && is_guarded(sizes[i] + shift));
       squitter_feed_free(&feed);
     }
 }
 
-/* The first bytes show the format, whatever follows them; fewer bytes show none. */
+/* The first bytes show the format, and fewer bytes do not. Some other sources are known as well. */
+static uint32_t format_of(const char *bytes, size_t length, int is_whole) {
+  uint32_t number = 77;
+  uint64_t moments[8];
+  frame_bytes frames[8];
+  squitter_feed feed = {0, 0};
+  squitter_done done;
+  begin(&feed, SQUITTER_FEED_AUTO, 0);
+  IS(squitter_feed_take(&feed, bytes, length, 0, moments, 8, frames, 8, &done).code == 0 && done.taken == length);
+  if (is_whole) IS(squitter_feed_finish(&feed, 0, moments, 8, frames, 8, &done).code == 0);
+  IS(squitter_feed_format(&feed, &number).code == SQUITTER_OK);
+  squitter_feed_free(&feed);
+  return number;
+}
+
 static void try_formats(void) {
-  uint32_t format = 7;
   for (uint32_t k = 0; k < FORMATS; k++) {
-    IS(squitter_feed_format(sources[k].bytes, sources[k].length, &format).code == SQUITTER_OK && format == k);
-    format = 7;
-    IS(squitter_feed_format(sources[k].bytes, 0, &format).code == SQUITTER_BAD_FORMAT && format == 7);
+    IS(format_of(sources[k].bytes, sources[k].length, 0) == k);
+    IS(format_of(sources[k].bytes, 0, 0) == SQUITTER_FEED_AUTO);
+    IS(format_of(sources[k].bytes, 0, 1) == SQUITTER_FEED_AUTO);
   }
-  IS(squitter_feed_format("*2040;\n", 6, &format).code == SQUITTER_BAD_FORMAT && format == 7);
-  IS(squitter_feed_format("*2040;\n", 7, &format).code == SQUITTER_OK && format == SQUITTER_FEED_AVR);
-  IS(squitter_feed_format("7 *2040;\n", 9, &format).code == SQUITTER_OK && format == SQUITTER_FEED_LOG);
-  IS(squitter_feed_format("MSG,3,1,1,4840D6\n", 17, &format).code == SQUITTER_BAD_FORMAT);
+  IS(format_of("*2040;", 5, 0) == SQUITTER_FEED_AUTO && format_of("*2040;", 6, 0) == SQUITTER_FEED_AVR);
+  IS(format_of("7 *2040;\n", 8, 0) == SQUITTER_FEED_AUTO && format_of("7 *2040;\n", 9, 0) == SQUITTER_FEED_LOG);
+  IS(format_of("MSG,3,1,1,4840D6\n", 16, 0) == SQUITTER_FEED_AUTO);
+  IS(format_of("MSG,3,1,1,4840D6\n", 17, 0) == SQUITTER_FEED_SBS);
+  IS(format_of("\x1f\x8b\x08", 3, 0) == SQUITTER_FEED_PACKED);
+  IS(format_of("\xff\xfe" "7\0", 4, 0) == SQUITTER_FEED_UTF16);
+  IS(format_of("{}\n", 3, 0) == SQUITTER_FEED_JSON && format_of("2040\n", 5, 0) == SQUITTER_FEED_AUTO);
+  IS(format_of("2040\n", 5, 1) == SQUITTER_FEED_NO_FRAME);
 }
 
 static void try_none(squitter_feed *feed) {
   squitter_done done = {7, 7};
+  uint32_t number = 7;
   squitter_counts counts = {7, 0, 0, 0, 0, 0, {0}};
   uint64_t moments[1] = {7};
   frame_bytes frames[1] = {{7}};
@@ -334,6 +420,7 @@ static void try_none(squitter_feed *feed) {
   IS(squitter_feed_take_text(feed, "", 0, 0, text, 50, &done).code == SQUITTER_NO_TRACKER);
   IS(squitter_feed_finish_text(feed, 0, text, 50, &done).code == SQUITTER_NO_TRACKER);
   IS(squitter_feed_disconnected(feed).code == SQUITTER_NO_TRACKER);
+  IS(squitter_feed_format(feed, &number).code == SQUITTER_NO_TRACKER && number == 7);
   IS(squitter_feed_counts(feed, &counts).code == SQUITTER_NO_TRACKER);
   IS(done.taken == 7 && done.written == 7 && counts.found == 7 && moments[0] == 7 && frames[0][0] == 7);
   IS(text[0] == '7' && !feed->full && !feed->at);
@@ -356,10 +443,10 @@ static void try_lives(void) {
   IS(squitter_feed_take(&feed, "9\n", 2, 0, moments, 1, frames, 0, &done).code == 0 && !done.taken && !done.written);
   begin(&feed, SQUITTER_FEED_LOG, 0);
   IS(squitter_feed_counts(&feed, &counts).code == 0 && counts.found == 0);
-  IS(squitter_feed_new(&feed, lend(squitter_feed_size()), 4, LEAP, 0).code == SQUITTER_BAD_FORMAT);
+  IS(squitter_feed_new(&feed, lend(squitter_feed_size()), 5, LEAP, 0, 0).code == SQUITTER_BAD_FORMAT);
   try_none(&feed);
   begin(&feed, SQUITTER_FEED_LOG, 0);
-  IS(squitter_feed_new(&feed, lend(16), SQUITTER_FEED_LOG, LEAP, 0).code == SQUITTER_NO_MEMORY);
+  IS(squitter_feed_new(&feed, lend(16), SQUITTER_FEED_LOG, LEAP, 0, 0).code == SQUITTER_NO_MEMORY);
   try_none(&feed);
   begin(&feed, SQUITTER_FEED_LOG, 0);
   squitter_feed_free(&feed), squitter_feed_free(&feed);
@@ -375,6 +462,9 @@ int main(void) {
   try_ends();
   try_connections();
   try_arrivals();
+  try_flags();
+  try_other_formats();
+  try_late();
   try_tracker();
   try_blocks();
   try_formats();

@@ -18,7 +18,7 @@ CRATES = [os.path.join(os.path.dirname(CLIB), "crates", name)
 sys.path.insert(0, CLIB)
 os.environ.setdefault("LIBSQUITTER", os.path.join(CLIB, "libsquitter.so.0"))
 import squitter  # noqa: E402
-from squitter import _library  # noqa: E402
+from squitter import _feed, _library  # noqa: E402
 
 CC = os.environ.get("CC", "cc")
 NUMBERS = {"u8": "uint8_t", "u16": "uint16_t", "u32": "uint32_t", "u64": "uint64_t", "i32": "int32_t", "i64": "int64_t",
@@ -37,6 +37,7 @@ STRUCTS = {
     "Done": ("squitter_done", "_Done"), "PlainTally": ("squitter_tally", "_Tally"),
     "PlainLast": ("squitter_last", "_Last"),
     "FeedSlot": ("squitter_feed", "_Slot"), "PlainCounts": ("squitter_counts", "_Counts"),
+    "OrderSlot": ("squitter_order", "_Slot"),
 }
 # Reasons whose code has another name in C.
 RENAMED = {
@@ -84,7 +85,8 @@ def fields_of(crate, name, file):
 def structs():
     """Yields each #[repr(C)] struct with its fields, in order. Seals and memories are replaced by their own fields."""
     for slot, file, seal, sealed in (("Slot", "slot", "Seal", "seal"),
-                                     ("FeedSlot", "feed_slot", "FeedSeal", "feed_seal")):
+                                     ("FeedSlot", "feed_slot", "FeedSeal", "feed_seal"),
+                                     ("OrderSlot", "order_slot", "OrderSeal", "order_seal")):
         yield slot, [field for name, kind in fields_of("sq_seal", slot, file)
                      for field in (fields_of("sq_seal", seal, sealed) if kind == seal else [(name, kind)])]
     memory = [kind for _, kind in fields_of("sq_lent", "Memory", "memory")]
@@ -221,13 +223,35 @@ def definitions(crate, file, pattern):
         return {name: int(number) for name, number in re.findall(pattern, text.read(), re.M)}
 
 
+def check_flags():
+    """Compares the flags of a feed in the header, in the module and in JavaScript with their definition: each is where
+    its number, a power of two, stands in a sum."""
+    stated = definitions("squitter_c", "FeedCalls.antt", r"^  (\w+) = flags / (\d+) % 2 == 1;$")
+    stated |= definitions("squitter_c", "FeedCalls.antt", r"^  (\w+) = flags % (2) == 1;$")
+    named = {"is_live": "LIVE", "ignores_clock": "BY_ARRIVAL", "all_formats": "ALL_FORMATS"}
+    with open(os.path.join(os.path.dirname(CLIB), "web", "squitter_feed.js"), encoding="utf-8") as text:
+        script = text.read()
+    if stated.pop("is_live", 0) != 2 or set(stated) | {"is_live"} != set(named):
+        differ("the definition of a feed's flags")
+    for field, number in {"is_live": 1, **stated}.items():
+        name = named.get(field, field)
+        if not re.search(rf"^  SQUITTER_FEED_{name} = {number}\b", header(), re.M):
+            differ(f"SQUITTER_FEED_{name} of squitter.h and of the definition")
+        if getattr(_feed, f"_{name}", None) != number:
+            differ(f"_{name} of the module and of the definition")
+        if not re.search(rf"^const .*\b{name} = {number}[,;]", script, re.M):
+            differ(f"{name} of squitter_feed.js and of the definition")
+
+
 def check_enums():
     """Compares the other enums with their definitions: kinds, altitude forms, results and formats have the same numbers
     in the header and in the module."""
     kinds = definitions("squitter_c", "Fields.antt", r"^pub record IsPlain(\w+) .*\n  pub kind : plain\.kind ≡ (\d+)$")
     forms = definitions("squitter_c", "Fields.antt", r"^IsPlainAltitude \(?altitudes\.(\w+)[^=]*= \(form ≡ (\d+)\)")
     heard = definitions("sq_plain", "Heard.antt", r"^IsPlainHeard \(?(\w+)[^=]*= IsHeardAs (\d+) ")
-    feeds = definitions("squitter_c", "FeedCalls.antt", r"^feed_number formats\.(\w+) = (\d+)$")
+    feeds = definitions("squitter_c", "FeedCalls.antt", r"^format_number formats\.(\w+) = (\d+)$")
+    feeds |= definitions("squitter_c", "FeedCalls.antt", r"^feed_number (None) = (\d+)$")
+    strangers = definitions("squitter_c", "FeedCalls.antt", r"^stranger_number strangers\.(\w+) = (\d+)$")
     # the enum of the module, what the definitions say, and the names of the cases in the module and in the header
     rows = (
         (squitter.Kind, kinds, {"Other": "OTHER OTHER", "Airborne": "AIR AIR", "Surface": "GROUND GROUND"}),
@@ -237,7 +261,11 @@ def check_enums():
             "Fix": "FIX FIX", "Followed": "FOLLOWED FOLLOWED", "Waiting": "WAITING WAITING", "Split": "SPLIT SPLIT",
             "Far": "FAR FAR", "NoSite": "WITHOUT_SITE WITHOUT_SITE", "NotPosition": "NO_PLACE NO_PLACE"}),
         (squitter.FeedFormat, feeds, {
-            "Beast": "BEAST FEED_BEAST", "Avr": "AVR FEED_AVR", "Csv": "CSV FEED_CSV", "Log": "LOG FEED_LOG"}),
+            "Beast": "BEAST FEED_BEAST", "Avr": "AVR FEED_AVR", "Csv": "CSV FEED_CSV", "Log": "LOG FEED_LOG",
+            "None": "AUTO FEED_AUTO"}),
+        (squitter.Stranger, strangers, {
+            "Sbs": "SBS FEED_SBS", "Tar": "TAR FEED_TAR", "Packed": "PACKED FEED_PACKED", "Utf16": "UTF16 FEED_UTF16",
+            "Json": "JSON FEED_JSON", "NoFrame": "NO_FRAME FEED_NO_FRAME"}),
     )
     blocks = [{name: int(number) for name, number in re.findall(r"SQUITTER_(\w+) = (\d+)", block)}
               for block in re.findall(r"^enum \{\n(.*?)^\};", header(), re.M | re.S)]

@@ -7,6 +7,7 @@ import bz2
 import ctypes
 import doctest
 import gzip
+import inspect
 import io
 import json
 import lzma
@@ -346,6 +347,15 @@ class Track(unittest.TestCase):
 
         with mock.patch.object(_parts._Turn, "hear", hear):
             self.assertRaises(MemoryError, batch.track, [0, 1], [ODD, EVEN])
+
+    def test_default_window(self) -> None:
+        """Without a window, arrays and data frames have that of squitter.Tracker."""
+        for call in (batch.track, batch.Tracker, batch.dataframe):
+            self.assertIs(inspect.signature(call).parameters["window"].default, squitter.WINDOW)
+        for between, what in ((squitter.WINDOW, What.FIX), (squitter.WINDOW + 1, What.WAITING)):
+            moments, frames = [5, 5 + between], [ODD, EVEN]
+            for hear in (batch.track, batch.Tracker().hear):
+                self.assertEqual(hear(moments, frames)[0]["what"].tolist(), [What.WAITING, what])
 
     def test_at_the_window(self) -> None:
         """What is as old as the window is kept between pieces, and what is older is not."""

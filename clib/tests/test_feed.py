@@ -13,7 +13,7 @@ import unittest
 
 sys.path.insert(0, os.path.join(os.path.dirname(os.path.abspath(__file__)), ".."))
 import squitter  # noqa: E402
-from squitter import Code, Counts, Fault, Feed, FeedFormat, Log, Tracker, What  # noqa: E402
+from squitter import Code, Counts, Fault, Feed, FeedFormat, Log, Stranger, Tracker, What  # noqa: E402
 
 EVEN = "8D40621D58C382D690C8AC2863A7"
 ODD = "8D40621D58C386435CC412692AD6"
@@ -58,11 +58,10 @@ class Feeds(unittest.TestCase):
 
     def test_lines(self):
         """The lines of each format do not depend on the cut."""
-        for form in FeedFormat:
-            name = form.name.lower()
+        for name, asked in [(name, asked) for name in SOURCES for asked in (name, FeedFormat[name.upper()], "auto")]:
             source = SOURCES[name]
             for size in (1, 2, 7, 64, len(source)):
-                with Feed(form) as feed:
+                with Feed(asked) as feed:
                     told = b"".join(feed.take(source[at:at + size]) for at in range(0, len(source), size))
                     self.assertEqual(told + feed.finish(), LINES, (name, size))
                     self.assertEqual(feed.counts, found(name), (name, size))
@@ -123,10 +122,46 @@ class Feeds(unittest.TestCase):
                 feed.take(b"", wrong)
         self.assertEqual(feed.counts.found, 2)
 
+    def test_late(self):
+        """A timestamp may be before the latest one by `late`; rows within a second are moved, others are set aside."""
+        for late, row, moment in ((0, 4999, 5000), (0, 4000, 5000), (0, 3999, None), (300, 4700, 4700),
+                                  (300, 4699, 4700), (300, 4000, 4700), (300, 3999, None), (2000, 3000, 3000),
+                                  (2000, 2999, None), (2**64 - 1, 1, 1)):
+            told = f"{moment} {ODD}\n" if moment else ""
+            lines = f"5000 {EVEN}\n{row} {ODD}\n".encode()
+            self.assertEqual(Feed("log", late=late).take(lines), f"5000 {EVEN}\n{told}".encode())
+        for wrong in (-1, 2**64):
+            with self.assertRaises(ValueError):
+                Feed(late=wrong)
+        for wrong in (1.0, "1", None):
+            with self.assertRaises(TypeError):
+                Feed(late=wrong)
+        with self.assertRaises(TypeError):
+            Feed("log", 600_000, False, 0)
+
+    def test_other_formats(self):
+        """Frames of other downlink formats are written where that is wanted, short ones with zeros behind them."""
+        for wanted, lines, counts in ((True, b"0 5D4840D6F83D31\n", (2, 2, 0)), (False, b"", (2, 0, 2))):
+            feed = Feed("avr", all_formats=wanted)
+            self.assertEqual(feed.take(b"*5D4840D6F83D31;"), lines)
+            frames = feed.take_frames(b"*5D4840D6F83D31;")[1]
+            self.assertEqual(bytes(frames), bytes.fromhex("5D4840D6F83D31") + bytes(7) if wanted else b"")
+            told = feed.counts
+            self.assertEqual((told.found, told.written, told.formats[11]), counts)
+
+    def test_ignored_clock(self):
+        """The clock of a live source is ignored where that is wanted."""
+        one = message(b"3", 12_000_000, EVEN)
+        for live, ignored, moment in ((True, True, 77), (True, False, 77), (False, True, 0), (False, False, 1000)):
+            feed = Feed("beast", live=live, by_arrival=ignored)
+            self.assertEqual(feed.take(one, 77), f"{moment} {EVEN}\n".encode())
+            later = 78 if live and ignored else moment
+            self.assertEqual(feed.take(one, 78), f"{later} {EVEN}\n".encode())
+
     def test_connections(self):
         """A frame that a lost connection cut off is damaged, and the next clock starts a leap later."""
         for leap in (10_000, 0, 20_000):
-            feed, one = Feed(leap=leap), message(b"3", 12_000_000, EVEN)
+            feed, one = Feed("beast", leap), message(b"3", 12_000_000, EVEN)
             self.assertEqual(feed.take(one + one[:9]), f"1000 {EVEN}\n".encode())
             feed.disconnected()
             feed.disconnected()
@@ -134,7 +169,7 @@ class Feeds(unittest.TestCase):
             self.assertEqual(feed.take(one), f"{1000 + leap} {EVEN}\n".encode())
 
     def test_formats(self):
-        for wrong in ("BEAST", "beast ", "", 4, -1, None, 1.5):
+        for wrong in ("BEAST", "beast ", "", 5, -1, None, 1.5):
             with self.assertRaises(ValueError):
                 Feed(wrong)
         for wrong in (-1, 2**64):
@@ -145,25 +180,45 @@ class Feeds(unittest.TestCase):
         for wrong in ("text", 3, None):
             with self.assertRaises(TypeError):
                 Feed().take(wrong)
-        self.assertEqual([form.value for form in FeedFormat], [0, 1, 2, 3])
+        self.assertEqual([form.value for form in (*FeedFormat, *Stranger)], list(range(11)))
         far = f"0 {EVEN}\n{2**64 - 1} {ODD}\n".encode()
         self.assertEqual(Feed("log", leap=2**64 - 1).take(far), far)
         self.assertEqual(Feed("log", leap=2**64 - 2).take(far), far[:31])
 
     def test_format_of_a_source(self):
-        """The first bytes show the format, once a line ends or three Beast messages are complete."""
+        """The first bytes show the format: a line with a frame, or three Beast messages."""
         for name, source in SOURCES.items():
-            first = next(count for count in range(len(source) + 1) if squitter.feed_format(source[:count]) is not None)
-            for count in (first, first + 1, len(source)):
-                self.assertEqual(squitter.feed_format(memoryview(source)[:count]), FeedFormat[name.upper()])
-            if name != "beast":
-                self.assertEqual(source[first - 1:first], b"\n")
-        three = message(b"1", 1, "2040") * 3
-        self.assertEqual(squitter.feed_format(bytearray(three)), FeedFormat.BEAST)
-        for nothing in (b"", three[:-1], b"*2040;", b"MSG,3,1,1,4840D6\n", bytes(1000)):
-            self.assertIsNone(squitter.feed_format(nothing))
-        with self.assertRaises(TypeError):
-            squitter.feed_format("text")
+            feed, shown = Feed(), []
+            for at in range(len(source)):
+                feed.take(source[at:at + 1])
+                shown.append(feed.format)
+            first = next(at for at, form in enumerate(shown) if form is not None)
+            self.assertEqual(set(shown[first:]), {FeedFormat[name.upper()]})
+            self.assertEqual(source[first:first + 1] in (b"\n", b";"), name != "beast")
+            self.assertIsNone(feed.stranger)
+        feed = Feed()
+        feed.take(message(b"1", 1, "2040") * 3)
+        self.assertEqual(feed.format, FeedFormat.BEAST)
+        self.assertEqual(Feed("csv").format, FeedFormat.CSV)
+
+    def test_strangers(self):
+        """Sources without frames are told by their first bytes, or at their end."""
+        for source, stranger, is_soon in (
+            (b"MSG,3,1,1,4840D6\n", Stranger.SBS, True), (bytes(257) + b"ustar", Stranger.TAR, True),
+            (b"\x1f\x8b\x08", Stranger.PACKED, True), (b"PK\x03\x04", Stranger.PACKED, True),
+            ("7".encode("utf-16"), Stranger.UTF16, True), (b'{"now": 1}\n', Stranger.JSON, True),
+            (b"x", Stranger.NO_FRAME, False), (b"2040\n", Stranger.NO_FRAME, False),
+            (bytes(16_384), Stranger.NO_FRAME, True), (bytes(16_383), Stranger.NO_FRAME, False),
+        ):
+            feed = Feed()
+            self.assertEqual(feed.take(source), b"")
+            self.assertEqual(feed.stranger, stranger if is_soon else None, source[:20])
+            self.assertEqual(feed.finish(), b"")
+            self.assertEqual((feed.stranger, feed.format, feed.counts.damaged), (stranger, None, 1))
+            self.assertEqual(feed.take(f"7 {EVEN}\n".encode()), f"7 {EVEN}\n".encode())
+            self.assertEqual(feed.format, FeedFormat.LOG)
+        with Feed() as feed:
+            self.assertEqual((feed.finish(), feed.format, feed.stranger), (b"", None, None))
 
     def test_rooms(self):
         """All lines and squitters are returned, however many calls of the library they take."""
@@ -223,6 +278,7 @@ class Feeds(unittest.TestCase):
         for _ in range(2):
             feed.close()
             for call in (lambda it: it.take(b""), lambda it: it.take(3), lambda it: it.finish(), lambda it: it.counts,
+                         lambda it: it.format, lambda it: it.stranger,
                          lambda it: it.take_frames(b""), lambda it: it.finish_frames(), lambda it: it.disconnected(),
                          lambda it: it.__enter__()):
                 self.refused(Code.NO_TRACKER, call, feed)

@@ -95,11 +95,11 @@ class Recordings(unittest.TestCase):
                 batch.feed(data)
         with self.assertRaisesRegex(ValueError, "^this is gzip"):
             batch.feed(gzip.compress(LINES))
-        late = b"x\n" * (1 << 15)  # as long as the bytes that may show a format
+        late = b"x\n" * (1 << 13)  # as long as the bytes that may show a format
         with self.assertRaisesRegex(ValueError, "has no frame"):
             batch.feed(late + SOURCES["log"])
         self.same(batch.feed(late[:-len(f"6682 {EVEN}\n") - 1] + b"\n" + SOURCES["log"]))
-        for form in ("xml", 4, -1):
+        for form in ("xml", 5, -1):
             with self.assertRaises(ValueError):
                 batch.feed(SOURCES["log"], form)
         with self.assertRaises(ValueError):

@@ -4,6 +4,7 @@ import array
 import copy
 import doctest
 import gc
+import inspect
 import os
 import pickle
 import resource
@@ -70,7 +71,10 @@ class Calls(unittest.TestCase):
             call(*arguments, **named)
         fault = raised.exception
         self.assertEqual((fault.code, fault.first, fault.second), (code, first, second))
-        self.assertEqual(str(fault), squitter.fault_text(code, first, second))
+        text = squitter.fault_text(code, first, second)
+        self.assertEqual(str(fault), f"{text}: {fault.hint}" if fault.hint else text)
+        self.assertEqual(bool(fault.hint), code in (Code.BAD_POSITION, Code.BAD_LATITUDE, Code.BAD_ANGLE))
+        self.assertNotIn("\n", str(fault))
 
     def test_each_field(self):
         """Each field of a squitter in its place, each with a value of its own, in the air and on the ground."""
@@ -131,6 +135,120 @@ class Calls(unittest.TestCase):
             with self.assertRaises(ValueError):
                 call(*arguments)
 
+    def test_moments_of_many(self):
+        """Any sequence of whole numbers gives timestamps, and each border and error is that of single calls."""
+        frames = bytes.fromhex(ODD + EVEN)
+        wanted = [Tracker().hear(5, ODD), PLACE]
+        for moments in ([5, 6], (5, 6), range(5, 7), b"\5\6", bytearray(b"\5\6"), array.array("Q", [5, 6]),
+                        array.array("i", [5, 6]), array.array("B", [5, 6]), [5, True + 5]):
+            waiting, fix = Tracker().hear_many(moments, frames)
+            self.assertEqual([waiting, fix.position], wanted, moments)
+        late = (1 << 64) - 1
+        whats = [heard.what for heard in Tracker().hear_many([late - 1, late], frames)]
+        self.assertEqual(whats, [What.WAITING, What.FIX])
+        self.assertEqual(Tracker().hear(late, ODD).what, What.WAITING)
+        for moments in ([5, -1], [5, 1 << 64], [-1, 5], [5], [5, 6, 7]):
+            with self.assertRaises(ValueError):
+                Tracker().hear_many(moments, frames)
+        for moments in ([5, 6.0], [5, "6"], [5, None], "56"):
+            with self.assertRaises(TypeError):
+                Tracker().hear_many(moments, frames)
+
+        class Short(list):
+            def __iter__(self):
+                return iter([5])
+
+        with self.assertRaises(ValueError):
+            Tracker().hear_many(Short([5, 6]), frames)
+
+    def test_sizes_of_frames(self):
+        """The library gets 14 bytes, whatever a caller passes, and the timestamp that it means."""
+        class Index:
+            def __index__(self):
+                return 7
+
+        frame = bytes.fromhex(ODD)
+        for wrong in (b"", frame[:13], frame + b"\0", frame * 2, bytearray(13), memoryview(frame)[:13]):
+            for call in (squitter.frame, squitter.read, lambda source: Tracker().hear(1, source)):
+                with self.assertRaisesRegex(ValueError, f"^a frame is 14 bytes .*, not {len(wrong)} bytes"):
+                    call(wrong)
+        for right in (frame, bytearray(frame), memoryview(frame), ODD, f"*{ODD};"):
+            self.assertEqual(squitter.read(right), squitter.read(ODD))
+            for moment in (7, Index(), True):
+                tracker = Tracker()
+                self.assertEqual(tracker.hear(moment, right).what, What.WAITING)
+                self.assertEqual(tracker.last, int(moment) if moment is True else 7)
+        tracker = Tracker(window=10)
+        heard = tracker.hear_many([0, 1, 11, 12, 12, 40], bytes.fromhex(ODD + EVEN + EVEN + EVEN + OTHER + EVEN))
+        self.assertEqual([(one.what, one.position) for one in heard], [
+            (What.WAITING, None), (What.FIX, PLACE), (What.FOLLOWED, PLACE), (What.FOLLOWED, PLACE),
+            (What.NO_PLACE, None), (What.WAITING, None)])
+
+    def test_results_are_fractions(self):
+        """The fractions of results are those that Fraction makes, in lowest terms, for all that a caller may do."""
+        places = [squitter.local(EVEN, Position(52, 4)), squitter.pair(ODD, EVEN)]
+        places += squitter.local_many(bytes.fromhex(EVEN), [Position(52, 4)])
+        tracker = Tracker()
+        tracker.hear(0, ODD)
+        places += [tracker.hear(1, EVEN).position, Tracker().hear_many([0, 1], bytes.fromhex(ODD + EVEN))[1].position]
+        for place in places:
+            self.assertIs(type(place), Position)
+            self.assertEqual((place, repr(place), hash(place)), (PLACE, repr(PLACE), hash(PLACE)))
+            for part, wanted in zip(place, PLACE):
+                self.assertIs(type(part), Fraction)
+                self.assertEqual((part.numerator, part.denominator), (wanted.numerator, wanted.denominator))
+                self.assertEqual((part + 1, part / 3, -part), (wanted + 1, wanted / 3, -wanted))
+                self.assertEqual((float(part), round(part, 3)), (float(wanted), round(wanted, 3)))
+                self.assertEqual(pickle.loads(pickle.dumps(part)), wanted)
+        self.assertEqual(squitter.angle("-0.50"), Fraction(-1, 2))
+        self.assertEqual(squitter.angle("0"), Fraction(0))
+        self.assertEqual([type(one) for one in (squitter.read(EVEN), squitter.read_many(bytes.fromhex(EVEN))[0],
+                                                tracker.hear(2, ODD), tracker.hear_many([3], bytes.fromhex(ODD))[0])],
+                         [squitter.Fields, squitter.Fields, squitter.Heard, squitter.Heard])
+        self.assertEqual(squitter._library._lowest(3, 4), Fraction(3, 4))
+
+    def test_rooms_of_calls(self):
+        """Threads that read and hear at once get their own results, and a call may interrupt another one."""
+        told, wanted = [], [(squitter.read(text), squitter.frame(text)) for text in (ODD, EVEN, GROUND_OLDER, OTHER)]
+
+        def work(which):
+            text = (ODD, EVEN, GROUND_OLDER, OTHER)[which]
+            tracker = Tracker()
+            for moment in range(400):
+                got = squitter.read(text), squitter.frame(text)
+                got_too = squitter.read(got[1]), squitter.frame(f"*{text};")
+                what = tracker.hear(moment, text).what
+                if got != wanted[which] or got_too != got or (which < 3) != (what is What.WAITING):
+                    told.append((which, got, what))
+
+        was = sys.getswitchinterval()
+        self.addCleanup(sys.setswitchinterval, was)
+        sys.setswitchinterval(1e-6)
+        threads = [threading.Thread(target=work, args=(number % 4,)) for number in range(8)]
+        for thread in threads:
+            thread.start()
+        for thread in threads:
+            thread.join()
+        self.assertEqual(told, [])
+        # A call has its room for itself: one that is made in the middle of another does not write to it.
+        for rooms, call in ((squitter._FIELDS_ROOMS, squitter.read), (squitter._FRAME_ROOMS, squitter.frame),
+                            (squitter._hearing._ROOMS, lambda text: Tracker().hear(1, text))):
+            rooms.clear()
+            call(ODD)
+            (mine,) = rooms
+            taken = rooms.pop()
+            call(EVEN)
+            self.assertEqual((taken is mine, len(rooms), rooms[0] is mine), (True, 1, False))
+            (mine,) = rooms
+            call(EVEN)
+            self.assertTrue(len(rooms) == 1 and rooms[0] is mine)
+        for _ in range(3):
+            with self.assertRaises(Fault):
+                squitter.read(EVEN[:-1] + "6")
+            with self.assertRaises(Fault):
+                squitter.frame("*")
+        self.assertEqual([len(rooms) for rooms in (squitter._FIELDS_ROOMS, squitter._FRAME_ROOMS)], [1, 1])
+
     def test_whole_numbers(self):
         self.assertEqual(squitter.position_e7(PLACE), (522572021, 39193726))
         self.assertEqual(squitter.angle_e7(360), 3600000000)
@@ -185,6 +303,89 @@ class Calls(unittest.TestCase):
         for wrong in (None, b"52", 1j, [52]):
             with self.assertRaisesRegex(TypeError, "are an int, a Fraction, a Decimal, a float or a text, not "):
                 squitter.local(EVEN, Position(wrong, 4))
+
+    def test_float_sites(self):
+        """A site in floats is the site of their texts, for each class and call that takes one."""
+        heard = [(1, GROUND_OLDER), (2, GROUND_NEWER)]
+        for floats, texts in (((51.99, 4.375), ("51.99", "4.375")), ((1e-07, -1e-07), ("0.0000001", "-0.0000001")),
+                              ((-90.0, 180.0), ("-90", "180")), ((90.0, -180.0), ("90", "-180")),
+                              ((1e-12, -0.0), ("0.000000000001", "0")), ((52.25, 3.92), ("52.25", "3.92"))):
+            self.assertEqual(bytes(squitter._position(floats)), bytes(squitter._position(texts)))
+            self.assertEqual(squitter.position_e7(floats), squitter.position_e7(texts))
+            for kind in (Contact, Tracker):
+                given, wanted = kind(site=floats), kind(site=Position(*texts))
+                for moment, frame in heard:
+                    answer = wanted.hear(moment, frame)
+                    self.assertEqual(given.hear(moment, frame), answer)
+                    self.assertEqual(copy.copy(given).hear(moment, frame), copy.copy(wanted).hear(moment, frame))
+            lines = "".join(f"{moment} {frame}\n" for moment, frame in heard).encode()
+            self.assertEqual(Log(site=floats).take(lines), Log(site=texts).take(lines))
+            pairs = [squitter.pair_many(*map(bytes.fromhex, (GROUND_OLDER, GROUND_NEWER)), site)[0]
+                     for site in (floats, texts)]
+            self.assertEqual(*(pair.code if isinstance(pair, Fault) else pair for pair in pairs))
+            frames = [squitter.send_again(EVEN, 0, place) for place in (floats, texts)]
+            self.assertEqual(*frames)
+            self.assertEqual(*(squitter.local(frames[0], place) for place in (floats, texts)))
+            self.assertEqual(*(squitter.local_zones(frames[0], place) for place in (floats, texts)))
+            self.assertEqual(*(squitter.encode(AirHead(1), place) for place in (floats, texts)))
+        self.assertEqual(squitter.pair(GROUND_OLDER, GROUND_NEWER, (51.99, 4.375)), GROUND_PLACE)
+
+    def test_hints(self):
+        """A fault for degrees says in one line what is wanted and what was given, wherever they are taken."""
+        latitude, longitude, angle = ("a latitude is from -90 to 90 degrees", "a longitude is from -180 to 180 degrees",
+                                      "an angle is from -360 to 360 degrees")
+        decimals, denominator = "with at most 12 decimals, not ", "with a denominator of at most 10**12, not "
+        nan, inf = float("nan"), float("inf")
+        sites = (
+            ((nan, 4), f"{latitude} {decimals}nan"), ((4.0, nan), f"{longitude} {decimals}nan"),
+            ((inf, 4), f"{latitude} {decimals}inf"), ((4, -inf), f"{longitude} {decimals}-inf"),
+            ((90.00000000000001, 4), f"{latitude} {decimals}90.00000000000001"),
+            ((-90.00000000000001, 4), f"{latitude} {decimals}-90.00000000000001"),
+            ((90.1, 4), f"{latitude} {decimals}90.1"), ((-90.1, 4), f"{latitude} {decimals}-90.1"),
+            ((4, 180.1), f"{longitude} {decimals}180.1"), ((4, -180.1), f"{longitude} {decimals}-180.1"),
+            ((4, 180.00000000000003), f"{longitude} {decimals}180.00000000000003"),
+            ((91, 181), f"{latitude} {denominator}91"), ((90, 181), f"{longitude} {denominator}181"),
+            (("91", 4), f"{latitude} {decimals}'91'"),
+            ((4, Decimal("180.5")), f"{longitude} {decimals}Decimal('180.5')"),
+            ((1e300, 4), f"{latitude} {decimals}1e+300"), ((4, 5e-324), f"{longitude} {decimals}5e-324"),
+            ((1e-13, 4), f"{latitude} {decimals}1e-13"), ((4, 52.300000000000004), f"{longitude} {decimals}52.3000"),
+            ((Fraction(1, 10**12 + 1), 4), f"{latitude} {denominator}Fraction(1, 1000000000001)"),
+            ((4, 1 << 64), f"{longitude} {denominator}18446744073709551616"),
+        )
+        calls = (
+            lambda site: Tracker(site=site), lambda site: Contact(site=site), lambda site: Log(site=site),
+            squitter.position_e7, lambda site: squitter.pair(GROUND_OLDER, GROUND_NEWER, site),
+            lambda site: squitter.local(EVEN, site), lambda site: squitter.local("", site),
+            lambda site: squitter.local_zones(EVEN, site), lambda site: squitter.encode(AirHead(1), site),
+            lambda site: squitter.send_again(EVEN, 0, site), lambda site: squitter.pair("", EVEN, site),
+        )
+        for site, hint in sites:
+            for call in calls:
+                with self.assertRaises(Fault) as told:
+                    call(site)
+                self.assertEqual(told.exception.code, Code.BAD_POSITION)
+                self.assertTrue(str(told.exception).startswith(f"bad position: {hint}"), told.exception)
+        for call, code, wanted, most in (
+            (squitter.zone_count, Code.BAD_LATITUDE, latitude, 90), (squitter.angle_text, Code.BAD_ANGLE, angle, 360),
+            (squitter.angle_e7, Code.BAD_ANGLE, angle, 360),
+        ):
+            for right in (float(most), -float(most), most, f"-{most}", 1e-12, Fraction(1, 10**12), Decimal("1E-12")):
+                call(right)
+            for wrong in (nan, inf, most + 0.1, -most - 0.1, 1e-13, Decimal("NaN"), Decimal("1E-500"), 1e30):
+                self.refused(code, call, wrong)
+                with self.assertRaisesRegex(Fault, f"^bad [a-z]*: {wanted} with at most 12 decimals, not {wrong!r:.6}"
+                                            .replace("(", r"\(").replace("+", r"\+")):
+                    call(wrong)
+            with self.assertRaisesRegex(Fault, f"{wanted} with a denominator of at most 10..12, not {most + 1}$"):
+                call(most + 1)
+        self.assertLess(len(str(self.told(squitter.angle_e7, Fraction(1, 3**200)))), 160)
+        self.assertEqual(squitter.angle_e7(round(51.56620156177409, 12)), 515662016)
+
+    def told(self, call, *arguments):
+        """Returns the Fault that a call raises."""
+        with self.assertRaises(Fault) as raised:
+            call(*arguments)
+        return raised.exception
 
     def test_told(self):
         """An error says in one line which value is wanted, and which one was given."""
@@ -300,6 +501,20 @@ class Calls(unittest.TestCase):
         for window, moment in ((-1, 1), (1 << 64, 1), (10, -1), (10, 1 << 64)):
             with self.assertRaises(ValueError):
                 Contact(window).hear(moment, EVEN)
+
+    def test_default_window(self):
+        """Trackers, contacts and logs have one default window. A pair has at most the window between its frames."""
+        self.assertEqual(squitter.WINDOW, 10_000)
+        self.assertIn("WINDOW", squitter.__all__)
+        for kind in (Tracker, Contact, Log):
+            self.assertIs(inspect.signature(kind).parameters["window"].default, squitter.WINDOW)
+        for between, what in ((0, What.FIX), (squitter.WINDOW, What.FIX), (squitter.WINDOW + 1, What.WAITING)):
+            for kind in (Tracker, Contact):
+                for tracker in (kind(), kind(squitter.WINDOW), kind(window=squitter.WINDOW)):
+                    tracker.hear(5, ODD)
+                    self.assertEqual(tracker.hear(5 + between, EVEN).what, what)
+            lines = Log().take(f"5 {ODD}\n{5 + between} {EVEN}\n".encode()).splitlines()
+            self.assertEqual(lines[1].split()[1].decode(), what.name.lower())
 
     def test_tracker(self):
         with Tracker(10_000, SITE) as tracker:

@@ -1,0 +1,106 @@
+"""Orders of libsquitter in Python's memory: they sort squitters by timestamp."""
+
+from __future__ import annotations
+
+import array
+import ctypes
+import threading
+from typing import Any, Iterable, Tuple, Union
+
+from squitter import _done
+from squitter._hearing import _Lent, _bytes
+from squitter._library import _Done, _Slot, _fits, _lend, _lib
+
+_COUNT = 1 << 12  # squitters that a call writes at once
+_FRAME_BYTES = 14
+
+
+class Order(_Lent):
+    r"""Sorts squitters by timestamp that come late by at most a delay, as from several receivers.
+
+    It holds each squitter until one has come that is `reorder` milliseconds later. Once it holds 4096, it gives the
+    earliest. Equal timestamps keep the order of arrival, and a squitter that is late by more is given at once. The
+    results do not depend on how the squitters are cut into calls. After :meth:`close`, or at the end of a ``with``,
+    each call except :meth:`close` raises the Fault NO_TRACKER. Calls from several threads wait for one another.
+
+    >>> with Order(200) as order:
+    ...     moments, frames = order.take([500, 400, 650], bytes(14) + bytes([1] * 14) + bytes([2] * 14))
+    ...     moments.tolist(), frames[0], order.held
+    ...     order.flush()[0].tolist()
+    ([400], 1, 2)
+    [500, 650]
+    """
+
+    __slots__ = ("__weakref__",)
+
+    def __init__(self, reorder: int) -> None:
+        """Creates an order without squitters. `reorder` is the delay in milliseconds. Raises ValueError unless it is a
+        whole number below 2**64, and the Fault NO_MEMORY."""
+        if not _fits(reorder, 64):
+            raise ValueError("a delay is a whole number below 2**64")
+        self._kind, self._lock, self._slot = "order", threading.RLock(), _Slot()
+        block, self._memory = _lend(_lib.squitter_order_size())
+        _done(_lib.squitter_order_new(ctypes.byref(self._slot), block, reorder))
+
+    def __enter__(self) -> Order:
+        self._look_open()
+        return self
+
+    def take(
+        self, moments: Union[array.array[int], Iterable[int]], frames: Union[bytes, bytearray, memoryview],
+    ) -> Tuple[array.array[int], bytes]:
+        """Takes squitters: their timestamps (ms), and their frames, 14 bytes each, one after the other. Returns the
+        timestamps of those that are due, an array of type "Q", and their frames, as :meth:`Feed.take_frames` does.
+        Raises ValueError, and takes nothing, unless there are as many timestamps as frames, and each is a whole number
+        below 2**64."""
+        came, data = _moments(moments), _bytes(frames)
+        if len(data) != _FRAME_BYTES * len(came):
+            raise ValueError(f"{len(came)} timestamps go with {_FRAME_BYTES * len(came)} bytes of frames")
+        with self._lock:
+            self._look_open()
+            return self._squitters(came, data)
+
+    def flush(self) -> Tuple[array.array[int], bytes]:
+        """Returns the timestamps and the frames of the squitters that are held, as :meth:`take` does, and holds none
+        any more. The order keeps the latest timestamp: an earlier source needs a new order."""
+        with self._lock:
+            self._look_open()
+            return self._squitters(None, b"")
+
+    @property
+    def held(self) -> int:
+        """How many squitters are held: at most 4096."""
+        with self._lock:
+            self._look_open()
+            out = ctypes.c_uint64()
+            _done(_lib.squitter_order_held(ctypes.byref(self._slot), ctypes.byref(out)))
+        return out.value
+
+    def _squitters(self, came: Any, data: bytes) -> Tuple[array.array[int], bytes]:
+        """Calls the library until it leaves room, and returns the timestamps and frames of the squitters."""
+        # Each call has arrays of its own, because a signal handler may use the order between two calls.
+        moments, frames = (ctypes.c_uint64 * _COUNT)(), ctypes.create_string_buffer(_FRAME_BYTES * _COUNT)
+        arrays = ctypes.addressof(moments), _COUNT, ctypes.addressof(frames), _COUNT
+        done, at, times, told = _Done(0, _COUNT), 0, array.array("Q"), []
+        given = ctypes.cast(data, ctypes.c_void_p).value or 0
+        while done.written == _COUNT:
+            if came is None:
+                _done(_lib.squitter_order_flush(ctypes.byref(self._slot), *arrays, ctypes.byref(done)))
+            else:
+                rest = len(came) - at
+                _done(_lib.squitter_order_take(
+                    ctypes.byref(self._slot), ctypes.addressof(came) + 8 * at, rest, given + _FRAME_BYTES * at, rest,
+                    *arrays, ctypes.byref(done),
+                ))
+            times.frombytes(ctypes.string_at(moments, 8 * done.written))
+            told.append(ctypes.string_at(frames, _FRAME_BYTES * done.written))
+            at += done.taken
+        return times, b"".join(told)
+
+
+def _moments(moments: Union[array.array[int], Iterable[int]]) -> Any:
+    """Returns timestamps as an array for C."""
+    all_moments = list(moments)
+    if not all(_fits(moment, 64) for moment in all_moments):
+        raise ValueError("a timestamp is a whole number below 2**64")
+    return (ctypes.c_uint64 * len(all_moments))(*all_moments)
