@@ -4,40 +4,50 @@
 /** @typedef {{window: bigint, limit: number, site: Position | null}} HearingSettings */
 /** @typedef {ReturnType<import("./squitter.js").Log["take"]>} Answers */
 
+/** Returns a file, unpacked if it is compressed with gzip. Refuses other archives. @param {Blob} file */
+async function squitterUnpacked(file) {
+  const first = new Uint8Array(await file.slice(0, 6).arrayBuffer());
+  const isOf = (...magic) => magic.every((byte, at) => first[at] === byte);
+  if (isOf(0x42, 0x5a, 0x68) || isOf(0xfd, 0x37, 0x7a, 0x58, 0x5a, 0) || isOf(0x50, 0x4b, 3, 4)) {
+    throw new Error("unpack it first: only gzip is unpacked here");
+  }
+  return isOf(0x1f, 0x8b) ? new Response(file.stream().pipeThrough(new DecompressionStream("gzip"))).blob() : file;
+}
+
+/** Returns the feed that turns a receiver's bytes into a log, or null for a log. Text without times counts as a log
+ * too: there each line is refused, while a feed would give all its frames one time. */
+function squitterFeedOf({ Feed, FeedFormat }, library, first) {
+  const trial = new Feed(library), isTimed = /^[1-9]/m.test(trial.takeText(first)), { format } = trial;
+  trial.close();
+  if (format === null || format === FeedFormat.LOG) return null;
+  if (!isTimed && format === FeedFormat.BEAST) throw new Error("its frames have no times");
+  return isTimed ? new Feed(library) : null;
+}
+
 /** The worker of a log, or of a receiver's bytes (Beast, AVR with times, CSV), which it turns into a log first. It
- * posts the results as columns, or as lines if `asText`. Its source text is joined with the library's and started from
- * a blob: a page opened from a folder may not start a worker from a file. */
+ * posts the results as columns, or as text if the task has a format. Its source text is joined with the library's and
+ * started from a blob: a page opened from a folder may not start a worker from a file. */
 function squitterHearingWorker() {
-  const PIECE_BYTES = 1 << 20, encoder = new TextEncoder();
-  const { Feed, FeedFormat, Log, load } = squitterModule();
+  const PIECE_BYTES = 1 << 20, encoder = new TextEncoder(), squitter = squitterModule();
   // Columns are transferred, not copied.
   const tell = (answers) => postMessage({ answers }, Object.values(answers).map(({ buffer }) => buffer));
   const pieceOf = async (file, from) => new Uint8Array(await file.slice(from, from + PIECE_BYTES).arrayBuffer());
 
-  /** Returns the feed that turns a file into a log, or null for a log. Text without times counts as a log too: there
-   * each line is refused, while a feed would give all its frames one time. */
-  const feedOf = (library, first) => {
-    const format = library.feedFormat(first);
-    if (format === null || format === FeedFormat.LOG) return null;
-    const trial = new Feed(library, { format }), isTimed = /^[1-9]/m.test(trial.takeText(first));
-    trial.close();
-    if (!isTimed && format === FeedFormat.BEAST) throw new Error("its frames have no times");
-    return isTimed ? new Feed(library, { format }) : null;
-  };
-
-  onmessage = async ({ data: { wasm, file, settings, asText } }) => {
+  onmessage = async ({ data: { wasm, file: packed, settings, format = null } }) => {
     try {
-      const library = await load(wasm), log = new Log(library, settings);
-      const hear = (piece) => asText ? postMessage({ text: log.takeText(piece) }) : tell(log.take(piece));
+      const file = await squitterUnpacked(packed), library = await squitter.load(wasm), isText = format !== null;
+      const log = new squitter.Log(library, settings);
+      const hear = (piece) => isText ? postMessage({ text: log.takeText(piece, format) }) : tell(log.take(piece));
+      if (isText) postMessage({ text: log.header(format) });
       let feed = null;
       for (let from = 0; from < file.size; from += PIECE_BYTES) {
         const piece = await pieceOf(file, from);
-        if (from === 0) feed = feedOf(library, piece);
+        if (from === 0) feed = squitterFeedOf(squitter, library, piece);
         hear(feed ? encoder.encode(feed.takeText(piece)) : piece);
-        postMessage({ done: Math.min(from + PIECE_BYTES, file.size) });
+        postMessage({ done: Math.min((from + PIECE_BYTES) / file.size, 1) });
       }
       if (feed) hear(encoder.encode(feed.finishText()));
-      if (asText) postMessage({ text: log.finishText() });
+      if (isText) postMessage({ text: log.finishText(format) });
       else tell(log.finish());
       postMessage({ finished: true, feed: feed && feed.counts });
     } catch (error) {
@@ -48,7 +58,8 @@ function squitterHearingWorker() {
 
 /** Starts a worker of a log. @param {any} task @param {(said: any) => void} told @returns {Worker} */
 function startHearing(task, told) {
-  const text = `"use strict";\n${squitterModule}\n(${squitterHearingWorker})();`;
+  const parts = [squitterModule, squitterUnpacked, squitterFeedOf, `(${squitterHearingWorker})();`];
+  const text = ['"use strict";', ...parts].join("\n");
   const address = URL.createObjectURL(new Blob([text], { type: "text/javascript" }));
   const worker = new Worker(WORKER_POLICY.createScriptURL(address));
   URL.revokeObjectURL(address);

@@ -15,7 +15,9 @@ const What = Object.freeze({
   FIX: 1, FOLLOWED: 2, WAITING: 3, SPLIT: 4, FAR: 5, WITHOUT_SITE: 6, NO_PLACE: 7,
 });
 const Format = Object.freeze({ LINES: 0, CSV: 1, JSON: 2 });
-const FeedFormat = Object.freeze({ BEAST: 0, AVR: 1, CSV: 2, LOG: 3 });
+const FeedFormat = Object.freeze({ BEAST: 0, AVR: 1, CSV: 2, LOG: 3, AUTO: 4 });
+const WINDOW = 10_000n;
+const Stranger = Object.freeze({ SBS: 5, TAR: 6, PACKED: 7, UTF16: 8, JSON: 9, NO_FRAME: 10 });
 class Fault extends Error {
   constructor(message, code, first = 0n, second = 0) {
     super(message);
@@ -30,8 +32,24 @@ class Fault extends Error {
   }
 }
 class Fields {
-  constructor(fields) {
-    Object.assign(this, fields);
+  constructor(view, at) {
+    this.raw = view.getBigUint64(at, true);
+    this.address = view.getUint32(at + 8, true);
+    this.lat = view.getUint32(at + 12, true);
+    this.lon = view.getUint32(at + 16, true);
+    this.feet = view.getInt32(at + 20, true);
+    this.altitude = view.getUint16(at + 24, true);
+    this.altitudeForm = view.getUint8(at + 26);
+    this.kind = view.getUint8(at + 27);
+    this.ca = view.getUint8(at + 28);
+    this.typeCode = view.getUint8(at + 29);
+    this.odd = view.getUint8(at + 30);
+    this.time = view.getUint8(at + 31);
+    this.status = view.getUint8(at + 32);
+    this.flag = view.getUint8(at + 33);
+    this.movement = view.getUint8(at + 34);
+    this.trackStatus = view.getUint8(at + 35);
+    this.track = view.getUint8(at + 36);
   }
   toJSON() {
     return { ...this, raw: String(this.raw) };
@@ -79,8 +97,6 @@ const AIR_LAYOUT = [["address", 4], ["altitude", 2], ["ca", 1], ["typeCode", 1],
   ["time", 1], ["odd", 1]];
 const GROUND_LAYOUT = [["address", 4], ["ca", 1], ["typeCode", 1], ["movement", 1], ["trackStatus", 1],
   ["track", 1], ["time", 1], ["odd", 1]];
-const SMALL_FIELDS = ["altitudeForm", "kind", "ca", "typeCode", "odd", "time", "status", "flag", "movement",
-  "trackStatus", "track"];
 const FRAME_BYTES = 14, ENTRY_BYTES = 192, PAGE_BYTES = 65536;
 function whole(value) {
   if (typeof value === "bigint") return value;
@@ -193,13 +209,7 @@ class Memory {
     return text;
   }
   getFields(at) {
-    const view = this.view();
-    const small = Object.fromEntries(SMALL_FIELDS.map((name, index) => [name, view.getUint8(at + 26 + index)]));
-    return new Fields({
-      raw: view.getBigUint64(at, true), address: view.getUint32(at + 8, true), lat: view.getUint32(at + 12, true),
-      lon: view.getUint32(at + 16, true), feet: view.getInt32(at + 20, true), altitude: view.getUint16(at + 24, true),
-      ...small,
-    });
+    return new Fields(this.view(), at);
   }
   getZones(at) {
     const view = this.view(), [latZones, zoneCount, lonZones, odd] = this.bytesAt(at + 12, 4);
@@ -262,7 +272,7 @@ function bytesOf(piece) {
   throw new TypeError("a piece is an ArrayBuffer or a view of one");
 }
 const MOST_ADDRESSES = 1 << 20;
-function settingsOf({ window = 10_000n, limit = 1000, site = null }) {
+function settingsOf({ window = WINDOW, limit = 1000, site = null }) {
   const number = Number(whole(limit));
   if (number < 0 || number > MOST_ADDRESSES) throw new RangeError(`a limit is at most ${MOST_ADDRESSES}`);
   return { window: moment(window), limit: number, site };
@@ -479,7 +489,7 @@ class Contact extends Tracker {
   #library;
   #window;
   #site;
-  constructor(library, window = 10_000n, site = null) {
+  constructor(library, window = WINDOW, site = null) {
     super(library, { window, site, limit: 1 });
     this.#library = library;
     this.#window = moment(window);
@@ -495,14 +505,18 @@ class Contact extends Tracker {
   }
 }
 const SQUITTERS_AT_ONCE = 1024, LINES_ROOM = 1 << 16, LINE_BYTES = 50, FORMATS = 25;
+const LIVE = 1, BY_ARRIVAL = 2, ALL_FORMATS = 4;
 class Feed {
   #lent;
   #library;
-  constructor(library, { format = FeedFormat.BEAST, leap = 10_000n, live = false } = {}) {
-    const { memory } = library, number = fitted(format, 32), longest = moment(leap);
+  constructor(library, {
+    format = FeedFormat.AUTO, leap = 600_000n, live = false, late = 0n, allFormats = false, byArrival = false,
+  } = {}) {
+    const { memory } = library, number = fitted(format, 32), longest = moment(leap), latest = moment(late);
+    const flags = (live ? LIVE : 0) + (byArrival ? BY_ARRIVAL : 0) + (allFormats ? ALL_FORMATS : 0);
     this.#library = library;
     this.#lent = new Lent(this, library, "feed", Number(memory.exports.squitter_feed_size()),
-      (slot, block) => ask(library, "feed_new", slot, block, number, longest, live ? 1 : 0));
+      (slot, block) => ask(library, "feed_new", slot, block, number, longest, latest, flags));
     this.#lent.rooms = {
       done: memory.claim(16), piece: memory.claim(PIECE_BYTES), moments: memory.claim(8 * SQUITTERS_AT_ONCE),
       out: memory.claim(LINES_ROOM),
@@ -522,6 +536,19 @@ class Feed {
   }
   disconnected() {
     ask(this.#library, "feed_disconnected", this.#lent.slot);
+  }
+  get format() {
+    const number = this.#source();
+    return number < FeedFormat.AUTO ? number : null;
+  }
+  get stranger() {
+    const number = this.#source();
+    return number > FeedFormat.AUTO ? number : null;
+  }
+  #source() {
+    const { memory } = this.#library;
+    ask(this.#library, "feed_format", this.#lent.slot, BigInt(memory.outAt));
+    return memory.view().getUint32(memory.outAt, true);
   }
   get counts() {
     const { memory } = this.#library, { outAt } = memory;
@@ -569,18 +596,6 @@ class Feed {
       (written) => { text += decoder.decode(memory.bytesAt(out, written)); });
     return text;
   }
-}
-function feedFormat(library, first) {
-  const { memory } = library, bytes = bytesOf(first), room = memory.claim(Math.max(bytes.length, 1));
-  memory.putBytes(room.at, bytes);
-  memory.release(room);
-  try {
-    ask(library, "feed_format", BigInt(room.at), BigInt(bytes.length), BigInt(memory.outAt));
-  } catch (error) {
-    if (error instanceof Fault && error.code === Code.BAD_FORMAT) return null;
-    throw error;
-  }
-  return memory.view().getUint32(memory.outAt, true);
 }
 function joinedSquitters(parts) {
   const count = parts.reduce((sum, part) => sum + part.moments.length, 0);
@@ -750,9 +765,6 @@ class Squitter {
     exports.squitter_text_of_fault(BigInt(faultAt), BigInt(outAt));
     return this.memory.getText(outAt, 64);
   }
-  feedFormat(first) {
-    return feedFormat(this, first);
-  }
   version() {
     const number = this.memory.exports.squitter_version();
     return `${number >> 16}.${(number >> 8) & 255}.${number & 255}`;
@@ -780,6 +792,6 @@ async function load(source) {
 }
 return {
   AirHead, AltitudeForm, Angle, Code, Contact, Fault, Feed, FeedFormat, Format, GroundHead, Kind, Log, Squitter,
-  Tracker, What, load,
+  Stranger, Tracker, WINDOW, What, load,
 };
 }

@@ -1,12 +1,15 @@
 /* log.js: decodes a log in a worker, and shows its results in a table, on the map and as files. */
 "use strict";
 
-/** @typedef {Answers & {first: number}} Chunk  some results, with the number of results before them */
-
 const ROWS_SHOWN = 100;
 
-/** The receiver position of the example; no other log uses it. */
-const EXAMPLE_SITE = ["52.31", "4.76"];
+/** The receiver position of the example, which no other log uses, and the flight that it opens on: a take-off. */
+const EXAMPLE_SITE = ["52.31", "4.76"], EXAMPLE_FLIGHT = 0x484004;
+
+const NO_SPOT = "Click or tap on a track to read a position.";
+
+/** The cells of a row, for a narrow page without the heads of the columns. */
+const CELL_NAMES = ["line", "time", "answer", "address", "lat", "lon", "feet"];
 
 /** Only a text that the page itself has put together may become a script, and only the script of a worker. */
 const WORKER_POLICY = /** @type {any} */ (window).trustedTypes?.createPolicy("squitter-worker", {
@@ -16,84 +19,19 @@ const WORKER_POLICY = /** @type {any} */ (window).trustedTypes?.createPolicy("sq
   },
 }) ?? { createScriptURL: (address) => address };
 
-const HEARD = ["refused", "fix", "followed", "waiting", "split", "far", "no site", "no position"];
-
-/** The results of a log so far, and the ones that pass the filter. */
-class LogAnswers {
-  /** @param {Library} library */
-  constructor(library) {
-    this.library = library;
-    /** @type {Chunk[]} */
-    this.chunks = [];
-    this.count = 0;
-    this.places = 0;
-    this.refused = 0;
-    this.withoutSite = 0;
-    /** @type {(what: number, address: number) => boolean} */
-    this.wanted = () => true;
-    /** @type {number[]} */
-    this.left = [];
-  }
-
-  /** @param {Answers} answers */
-  add(answers) {
-    if (!answers.numbers.length) return;
-    const chunk = { ...answers, first: this.count };
-    this.chunks.push(chunk);
-    this.count += answers.numbers.length;
-    const { whats } = answers;
-    for (let at = 0; at < whats.length; at++) {
-      if (whats[at] === 1 || whats[at] === 2) this.places++;
-      if (whats[at] === 0) this.refused++;
-      if (whats[at] === 6) this.withoutSite++;
-    }
-    this.sift(chunk);
-  }
-
-  /** @param {Chunk} chunk */
-  sift({ whats, addresses, first }) {
-    const { wanted, left } = this;
-    for (let at = 0; at < whats.length; at++) if (wanted(whats[at], addresses[at])) left.push(first + at);
-  }
-
-  /** @param {(what: number, address: number) => boolean} wanted */
-  filter(wanted) {
-    this.wanted = wanted;
-    this.left = [];
-    for (const chunk of this.chunks) this.sift(chunk);
-  }
-
-  /** Returns the cells of a result. @param {number} index @returns {string[]} */
-  row(index) {
-    let low = 0, high = this.chunks.length - 1;
-    while (low < high) {
-      const middle = (low + high + 1) >> 1;
-      if (this.chunks[middle].first <= index) low = middle;
-      else high = middle - 1;
-    }
-    const chunk = this.chunks[low], at = index - chunk.first, what = chunk.whats[at];
-    const number = String(chunk.numbers[at]);
-    if (what === 0) {
-      const words = this.library.faultText(chunk.codes[at], chunk.firsts[at]);
-      return [number, "", `refused: ${words}`, "", "", ""];
-    }
-    const isPlace = what === 1 || what === 2;
-    const heard = what === 4 ? `split ${chunk.evens[at]} ${chunk.odds[at]}` : HEARD[what];
-    const place = isPlace ? [chunk.lats[at].toFixed(7), chunk.lons[at].toFixed(7)] : ["", ""];
-    return [number, String(chunk.moments[at]), heard, hexadecimal(chunk.addresses[at], 6), ...place];
-  }
-}
-
 /** The panel of the log. */
 class LogPanel {
   /** @param {Library} library */
   constructor(library) {
     this.library = library;
-    const saying = (name) => (text) => { byId(name).textContent = text; };
-    this.map = new TrackMap(byId("map"), saying("map-state"), saying("map-spot"));
-    this.playback = new Playback(this.map);
     this.answers = new LogAnswers(library);
     this.tracks = new Tracks(0);
+    this.map = new TrackMap(byId("map"), {
+      say: (text) => { byId("map-state").textContent = text; },
+      tell: (spot) => { byId("map-spot").textContent = spot ? this.spotText(spot) : NO_SPOT; },
+      select: (address) => { byId("map-address").value = Number.isNaN(address) ? "" : hexadecimal(address, 6); },
+    });
+    this.playback = new Playback(this.map);
     /** @type {Worker | null} */
     this.worker = null;
     /** @type {(() => void) | null} */
@@ -123,14 +61,22 @@ class LogPanel {
     return { window, limit, site };
   }
 
-  /** Decodes a log from its beginning, with the site `where` if given.
-   * @param {Blob} file @param {string} name @param {string[]} [where] */
-  hear(file, name, where) {
+  /** Decodes a log from its beginning, with the site `where` if given, and shows it at the end with the aircraft
+   * `selected`. Brings the map into view, but leaves the focus where it is.
+   * @param {Blob} file @param {string} name @param {{where?: string[], selected?: number}} [options] */
+  hear(file, name, options = {}) {
+    this.open(file, name, options);
+    byId("log-heard").scrollIntoView();
+  }
+
+  /** Starts to decode a log. @param {Blob} file @param {string} name
+   * @param {{where?: string[], selected?: number}} options */
+  open(file, name, options) {
     this.stop();
-    this.again = () => this.hear(file, name, where);
+    this.again = () => this.open(file, name, options);
     let settings;
     try {
-      settings = this.settings(where);
+      settings = this.settings(options.where);
     } catch (error) {
       return this.say(`Refused: ${error.message}`);
     }
@@ -139,12 +85,12 @@ class LogPanel {
     this.tracks = new Tracks(Number(settings.window));
     this.map.show(this.tracks);
     this.playback.take(new Tracks(0));
+    this.selected = options.selected ?? NaN;
     this.name = name;
-    this.size = file.size;
     this.started = performance.now();
     this.task = { file, settings };
     this.worker = startHearing(this.task, (said) => this.told(said));
-    this.say(`Hearing ${name}.`);
+    this.say(`Decoding ${name}.`);
     this.able();
   }
 
@@ -164,37 +110,57 @@ class LogPanel {
       this.map.follow();
     }
     if (done !== undefined) {
-      byId("log-progress").value = this.size ? done / this.size : 1;
-      this.say(`Hearing ${this.name}: ${this.answers.count} answers.`);
+      byId("log-progress").value = done;
+      this.say(`Decoding ${this.name}: ${this.answers.count} results.`);
     }
-    if (finished) this.end("heard", feed);
-    if (failed) this.end(`not heard to its end (${failed})`);
+    if (finished) this.end("decoded", feed);
+    if (failed) this.end(`not decoded to its end (${failed})`);
   }
 
   /** Ends the log, at its end or because it was left. `feed` has the counts of a receiver's file. */
   end(how, feed = null) {
     this.stop();
-    const { count, places, refused, withoutSite } = this.answers;
     this.seconds = (performance.now() - this.started) / 1000;
-    byId("log-progress").value = how === "heard" ? 1 : byId("log-progress").value;
-    const counts = `${count} answers, ${places} places, ${refused} refused`;
-    const ground = withoutSite
-      ? ` Frames from the ground without a place: ${withoutSite}. Type where your receiver is.` : "";
-    const found = feed ? ` The file has ${feed.found} frames: ${feed.written} squitters, ${feed.damaged} damaged.` : "";
-    this.say(`${this.name}: ${how}. ${counts}, in ${this.seconds.toFixed(1)} seconds.${found}${ground}`);
+    if (how === "decoded") byId("log-progress").value = 1;
+    this.say(this.summary(how, feed));
     this.showRows();
     this.nameTracks();
-    if (!this.map.moved) this.map.fit();
-    this.playback.take(this.tracks);
+    if (!this.map.moved) this.map.fit(this.tracks.all.has(this.selected) ? this.selected : this.map.address);
+    this.playback.take(this.tracks, this.answers.clock);
     this.able();
   }
 
-  /** Decodes the log once more. Returns what `squitter track` prints for it. @returns {Promise<string[]>} */
-  texts() {
+  /** Returns what the page says of a log that has ended. */
+  summary(how, feed) {
+    const { count, places, refused, withoutSite, withoutTime } = this.answers;
+    const lines = count === 1 ? "1 line" : `${count} lines`;
+    const parts = [`${this.name}: ${how}. ${lines}, ${places} positions, ${refused} refused, ` +
+      `in ${this.seconds.toFixed(1)} s.`];
+    if (feed) parts.push(`The file has ${feed.found} frames: ${feed.written} squitters, ${feed.damaged} damaged.`);
+    if (withoutSite) {
+      const what = withoutSite === 1 ? "1 frame from the ground has" : `${withoutSite} frames from the ground have`;
+      parts.push(`${what} no position: type the position of your receiver.`);
+    }
+    if (withoutTime && withoutTime === count) {
+      parts.push("No line has a timestamp. Put a time in milliseconds and a space before each frame.");
+    }
+    return parts.join(" ");
+  }
+
+  /** Returns a position of the map as text. @param {Spot} spot */
+  spotText({ address, lat, lon, moment, line }) {
+    const time = this.answers.clock.named(BigInt(moment)), feet = feetText(this.answers.feetOfLine(line));
+    const parts = [`${hexadecimal(address, 6)} at ${lat.toFixed(7)} ${lon.toFixed(7)}`, feet, time, `line ${line}`];
+    return `${parts.filter(Boolean).join(", ")}.`;
+  }
+
+  /** Decodes the log once more. Returns what `squitter track` prints for it in a format.
+   * @returns {Promise<string[]>} */
+  texts(format = Format.LINES) {
     return new Promise((resolve, reject) => {
       /** @type {string[]} */
       const texts = [];
-      const worker = startHearing({ ...this.task, asText: true }, ({ text, finished, failed }) => {
+      const worker = startHearing({ ...this.task, format }, ({ text, finished, failed }) => {
         if (text !== undefined) texts.push(text);
         if (!finished && !failed) return;
         worker.terminate();
@@ -204,12 +170,12 @@ class LogPanel {
     });
   }
 
-  /** Saves the results as a file. */
-  async saveText() {
+  /** Saves the results as a file in a format. */
+  async saveText(name, type, format) {
     try {
-      save("answers.txt", "text/plain", await this.texts());
+      save(name, type, await this.texts(format));
     } catch (error) {
-      this.say(`The answers were not written (${error.message}).`);
+      this.say(`The results were not saved (${error.message}).`);
     }
   }
 
@@ -219,6 +185,7 @@ class LogPanel {
     const addresses = [...this.tracks.all.keys()].sort((a, b) => a - b).slice(0, 5000);
     const names = addresses.map((address) => hexadecimal(address, 6));
     byId("map-address").replaceChildren(option("", "all"), ...names.map((name) => option(name, name)));
+    this.map.select(this.map.address);
   }
 
   /** Shows the track that is chosen. */
@@ -237,7 +204,8 @@ class LogPanel {
 
   able() {
     byId("log-cancel").disabled = !this.worker;
-    for (const name of ["log-text", "log-geojson"]) byId(name).disabled = Boolean(this.worker) || !this.answers.count;
+    const isSaved = !this.worker && this.answers.count > 0;
+    for (const name of ["log-csv", "log-text", "log-geojson"]) byId(name).disabled = !isSaved;
   }
 
   setFilter() {
@@ -252,11 +220,13 @@ class LogPanel {
   /** Shows the rows from `at` on. */
   showRows() {
     const { left } = this.answers, shown = left.slice(this.at, this.at + ROWS_SHOWN);
-    const cells = (index) => this.answers.row(index).map((cell) => element("td", {}, cell));
-    const rows = shown.map((index) => element("tr", {}, ...cells(index)));
+    const cellOf = (cell, at) => element("td", { class: `cell-${CELL_NAMES[at]}` }, cell);
+    const rows = shown.map((index) => element("tr", {}, ...this.answers.row(index).map(cellOf)));
     document.querySelector("#log-table tbody").replaceChildren(...rows);
-    const which = `Answers ${this.at + 1} to ${this.at + shown.length} of ${left.length}.`;
-    byId("log-rows").textContent = left.length ? which : "No answers.";
+    byId("log-rows-box").scrollTop = 0;
+    byId("log-time").textContent = this.answers.clock.title;
+    const which = `Results ${this.at + 1} to ${this.at + shown.length} of ${left.length}.`;
+    byId("log-rows").textContent = left.length ? which : "No results.";
     byId("log-back").disabled = this.at === 0;
     byId("log-on").disabled = this.at + ROWS_SHOWN >= left.length;
   }
@@ -279,36 +249,62 @@ class LogPanel {
       const [file] = byId("log-file").files;
       if (file) this.hear(file, file.name);
     });
+    const near = `examples/flights.log, near ${EXAMPLE_SITE.join(", ")}`;
     byId("log-example").addEventListener("click", () =>
-      this.hear(exampleLog(), `examples/flights.log, near ${EXAMPLE_SITE.join(", ")}`, EXAMPLE_SITE));
+      this.hear(exampleLog(), near, { where: EXAMPLE_SITE, selected: EXAMPLE_FLIGHT }));
     byId("log-cancel").addEventListener("click", () => this.end("cancelled"));
-    byId("log-text").addEventListener("click", () => this.saveText());
-    byId("log-geojson").addEventListener("click", () =>
-      save("tracks.geojson", "application/geo+json", [JSON.stringify(this.tracks.geojson()), "\n"]));
     byId("log-back").addEventListener("click", () => this.turn(-ROWS_SHOWN));
     byId("log-on").addEventListener("click", () => this.turn(ROWS_SHOWN));
+    this.listenToSaves();
+    this.listenToMap();
+    this.listenToDrops();
+    this.listenToPastes();
+  }
+
+  listenToSaves() {
+    byId("log-csv").addEventListener("click", () => this.saveText("answers.csv", "text/csv", Format.CSV));
+    byId("log-text").addEventListener("click", () => this.saveText("answers.txt", "text/plain", Format.LINES));
+    byId("log-geojson").addEventListener("click", () =>
+      save("tracks.geojson", "application/geo+json", [JSON.stringify(this.tracks.geojson()), "\n"]));
+  }
+
+  listenToMap() {
     for (const button of document.querySelectorAll("[data-map]")) {
       const does = { in: () => this.map.zoom(1.5), out: () => this.map.zoom(1 / 1.5), fit: () => this.fitChosen() };
       button.addEventListener("click", does[/** @type {HTMLElement} */ (button).dataset.map]);
     }
     byId("map-address").addEventListener("change", () => this.fitChosen());
     byId("map-view").addEventListener("change", () => this.map.want(byId("map-view").value));
-    this.listenToDrops();
   }
 
-  /** A file may be dropped anywhere on the panel. */
+  /** A file may be dropped anywhere on the page. */
   listenToDrops() {
-    const panel = byId("panel-log"), drop = byId("log-drop");
     for (const name of ["dragover", "dragleave", "drop"]) {
-      panel.addEventListener(name, (event) => {
+      document.addEventListener(name, (event) => {
+        if (!event.dataTransfer?.types.includes("Files")) return; // a text may be dropped into a field
         event.preventDefault();
-        drop.classList.toggle("over", name === "dragover");
+        byId("log-drop").classList.toggle("over", name === "dragover");
       });
     }
-    panel.addEventListener("drop", (event) => {
-      const [file] = event.dataTransfer.files;
-      if (file) this.hear(file, file.name);
+    document.addEventListener("drop", (event) => {
+      const [file] = event.dataTransfer?.files ?? [];
+      if (!file) return;
+      byId("tab-log").click();
+      this.hear(file, file.name);
     });
+  }
+
+  /** Text that is pasted is decoded at once, and text that is typed once its field is left. */
+  listenToPastes() {
+    const field = byId("log-paste");
+    let heard = "";
+    const hearText = () => {
+      heard = field.value;
+      if (heard.trim()) this.hear(new Blob([heard]), "pasted text");
+    };
+    field.addEventListener("change", () => field.value === heard || hearText());
+    // The field has the pasted text only after the event.
+    field.addEventListener("paste", () => setTimeout(hearText));
   }
 }
 

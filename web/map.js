@@ -1,29 +1,44 @@
-/* map.js: tracks on a canvas, over a graticule of degrees. */
+/* map.js: the map of a log: what it shows, and how it is moved. */
 "use strict";
 
-const DASHES = [[], [8, 4], [2, 3], [10, 3, 2, 3], [5, 5], [14, 4]];
-
-/** How near to a place, in points of the page, it is meant. */
+/** A click this near to a position (in CSS pixels) selects it. */
 const MEANT_WITHIN = 16;
 
+/** The share of the map that tracks fill. A single track has land around it. */
+const ROOM_OF_ALL = 0.85, ROOM_OF_ONE = 0.4;
+
+/** The fewest degrees that a map shows when it is fitted to a track. */
+const FIT_LEAST = 0.02;
+
 class TrackMap {
-  /** @param {HTMLCanvasElement} canvas @param {(text: string) => void} say @param {(text: string) => void} tell */
-  constructor(canvas, say, tell) {
+  /** @param {HTMLCanvasElement} canvas
+   * @param {{say: (text: string) => void, tell: (spot: Spot | null) => void, select: (address: number) => void}} told
+   * called with what the map shows, with the chosen position and with the selected aircraft */
+  constructor(canvas, told) {
     this.canvas = canvas;
-    this.say = say;
-    this.tell = tell;
+    this.told = told;
+    this.said = "";
+    this.land = new Layer();
+    this.lines = new Layer();
+    this.sprites = new LabelSprites();
+    /** The labels that are drawn. */
+    /** @type {MapLabel[]} */
+    this.labels = [];
     this.tracks = new Tracks(0);
-    /** The name of a projection, or "" for the one that suits. */
+    /** The name of the projection that the reader chose, or "". */
     this.wanted = "";
     this.projection = PROJECTIONS.plain;
-    /** The point of the plane in the middle, and how many points of the page a step of the plane has. */
+    /** The point of the plane in the middle, and the CSS pixels for a step of the plane. */
     this.center = { x: 0, y: 0 };
     this.scale = 1;
     this.waiting = false;
-    /** Whether the reader has moved the map: then it stays where it is while more is heard. */
+    /** The size of the canvas when it was last measured. */
+    this.measured = { width: 1, height: 1 };
+    /** Whether the reader has moved the map. Then it stays where it is while a log is decoded. */
     this.moved = false;
+    /** The selected aircraft. */
     this.address = NaN;
-    /** The moment up to which places are drawn. */
+    /** Positions are drawn up to this moment. */
     this.until = Infinity;
     /** @type {Spot | null} */
     this.chosen = null;
@@ -32,40 +47,54 @@ class TrackMap {
     this.listen();
   }
 
-  /** Shows other tracks, all of them. @param {Tracks} tracks */
+  /** Shows the tracks of another log. @param {Tracks} tracks */
   show(tracks) {
     this.tracks = tracks;
     this.until = Infinity;
     this.choose(null);
+    this.select(NaN);
     this.fit();
   }
 
-  /** How wide and high the canvas is, in the page's own points. */
-  get size() {
-    return { width: this.canvas.clientWidth || 1, height: this.canvas.clientHeight || 1 };
+  /** Selects an aircraft, or none. */
+  select(address) {
+    this.address = address;
+    this.told.select(address);
+    this.redraw();
   }
 
-  /** Wants a projection by its name, or with "" the one that suits. */
+  say(text) {
+    if (text !== this.said) this.told.say(text);
+    this.said = text;
+  }
+
+  /** Returns the size of the canvas in CSS pixels. Each call may lay out the page, so a drawing measures once. */
+  get size() {
+    this.measured = { width: this.canvas.clientWidth || 1, height: this.canvas.clientHeight || 1 };
+    return this.measured;
+  }
+
+  /** Sets the projection by its name; "" chooses one that suits the tracks. */
   want(name) {
     this.wanted = name;
     this.fit(this.address);
   }
 
-  /** Shows one track, or all of them. */
+  /** Shows one track and selects it, or shows all of them. */
   fit(address = NaN) {
-    const { width, height } = this.size, { tracks } = this;
-    this.address = address;
+    const { width, height } = this.size, { tracks } = this, isOne = tracks.all.has(address);
+    if (!Object.is(address, this.address)) this.select(address);
     this.moved = false;
     this.projection = PROJECTIONS[this.wanted] ?? suitingProjection(tracks.latitudes(address));
     const box = this.projection.box(tracks, address);
     const isEmpty = box.left > box.right, { left, right, low, high } = isEmpty ? this.projection.world : box;
-    const room = isEmpty ? 1 : 0.85;
+    const room = isEmpty ? 1 : isOne ? ROOM_OF_ONE : ROOM_OF_ALL, least = FIT_LEAST;
     this.center = { x: (left + right) / 2, y: (low + high) / 2 };
-    this.scale = room * Math.min(width / Math.max(right - left, 0.01), height / Math.max(high - low, 0.01));
+    this.scale = room * Math.min(width / Math.max(right - left, least), height / Math.max(high - low, least));
     this.redraw();
   }
 
-  /** More was heard: the map is drawn again, but takes no more than a tenth of the time. */
+  /** Draws the map while a log is decoded, in at most a tenth of the time. */
   follow() {
     const start = performance.now();
     if (start - this.drawn < 10 * this.took) return;
@@ -74,8 +103,9 @@ class TrackMap {
     this.took = Math.max(this.took, performance.now() - start);
   }
 
-  /** Comes closer by a factor, so that the point under x and y stays where it is. */
+  /** Zooms by a factor, around a point of the canvas. */
   zoom(factor, x = this.size.width / 2, y = this.size.height / 2) {
+    this.measured = this.size;
     const before = this.pointAt(x, y);
     this.moved = true;
     this.scale = Math.min(Math.max(this.scale * factor, 0.5), 2_000_000);
@@ -93,68 +123,75 @@ class TrackMap {
     this.redraw();
   }
 
-  /** The point of the plane that is drawn at a point of the canvas. */
+  /** Returns the point of the plane at a point of the canvas. */
   pointAt(x, y) {
-    const { width, height } = this.size, { center, scale } = this;
+    const { center, scale, measured: { width, height } } = this;
     return { x: center.x + (x - width / 2) / scale, y: center.y - (y - height / 2) / scale };
+  }
+
+  /** Returns the visible part of the plane, with a margin in CSS pixels. @returns {Box} */
+  view(margin) {
+    const { width, height } = this.measured;
+    const from = this.pointAt(-margin.x, height + margin.y), to = this.pointAt(width + margin.x, -margin.y);
+    return { left: from.x, right: to.x, low: from.y, high: to.y };
   }
 
   degreesAt(x, y) {
     return this.projection.degrees(this.pointAt(x, y));
   }
 
-  /** Where a point of the plane is drawn. */
+  /** Returns the x of the canvas at which an x of the plane is drawn. */
   left(x) {
-    return this.size.width / 2 + (x - this.center.x) * this.scale;
+    return this.measured.width / 2 + (x - this.center.x) * this.scale;
   }
 
   top(y) {
-    return this.size.height / 2 - (y - this.center.y) * this.scale;
+    return this.measured.height / 2 - (y - this.center.y) * this.scale;
   }
 
-  /** Where a place is drawn. */
+  /** Returns the point of the canvas at which a position is drawn. */
   spot({ lon, lat }) {
     return { x: this.left(this.projection.x(lon, lat)), y: this.top(this.projection.y(lon, lat)) };
   }
 
-  /** The drawn place that is nearest to a point of the canvas, and not farther than this. @returns {Spot | null} */
+  /** Returns the drawn position nearest to a point of the canvas, or null if all are farther than `within`.
+   * @returns {Spot | null} */
   nearest(x, y, within = MEANT_WITHIN) {
+    this.measured = this.size;
     let best = within, found = null;
     for (const [address, { pieces }] of this.tracks.all) {
       for (const piece of pieces) {
         const [at, away] = this.nearestOf(piece, x, y);
         if (at < 0 || away > best) continue;
-        const { lons, lats, moments, lines } = piece;
         best = away;
-        found = { address, lon: lons[at], lat: lats[at], moment: moments[at], line: lines[at] };
+        found = spotOf(address, piece, at);
       }
     }
     return found;
   }
 
-  /** Which place of a piece is nearest to a point of the canvas, and how far it is. @param {Piece} piece */
+  /** Returns the index of the position of a piece nearest to a point of the canvas, and its distance.
+   * @param {Piece} piece */
   nearestOf(piece, x, y) {
-    const { lons, lats } = piece, { projection } = this, count = heardBy(piece, this.until);
-    const { width, height } = this.size;
+    const { lons, lats } = piece, count = heardBy(piece, this.until), { projection, scale } = this;
+    const left = this.left(0) - x, top = this.top(0) - y;
     let best = Infinity, found = -1;
     for (let at = 0; at < count; at++) {
       if (!projection.shows(lats[at])) continue;
-      const right = width / 2 + (projection.x(lons[at], lats[at]) - this.center.x) * this.scale - x;
-      const down = height / 2 - (projection.y(lons[at], lats[at]) - this.center.y) * this.scale - y;
-      const away = Math.hypot(right, down);
+      const right = left + projection.x(lons[at], lats[at]) * scale;
+      const down = top - projection.y(lons[at], lats[at]) * scale, away = right * right + down * down;
       if (away >= best) continue;
       best = away;
       found = at;
     }
-    return [found, best];
+    return [found, Math.sqrt(best)];
   }
 
-  /** Says which place is meant, and marks it. @param {Spot | null} spot */
+  /** Marks a position and selects its aircraft. @param {Spot | null} spot */
   choose(spot) {
     this.chosen = spot;
-    const words = (one) => `${hexadecimal(one.address, 6)} at ${one.lat.toFixed(7)} ${one.lon.toFixed(7)}, ` +
-      `moment ${one.moment}, line ${one.line}.`;
-    this.tell(spot ? words(spot) : "");
+    this.told.tell(spot);
+    if (spot) this.select(spot.address);
     this.redraw();
   }
 
@@ -171,122 +208,16 @@ class TrackMap {
   }
 
   draw() {
-    const { width, height } = this.size, ratio = window.devicePixelRatio || 1;
+    const { width, height } = this.size, ratio = window.devicePixelRatio || 1, { canvas } = this;
+    const wide = Math.round(width * ratio), high = Math.round(height * ratio);
     if (width < 2) return;
-    this.canvas.width = Math.round(width * ratio);
-    this.canvas.height = Math.round(height * ratio);
-    const pen = this.canvas.getContext("2d");
+    if (canvas.width !== wide) canvas.width = wide;
+    if (canvas.height !== high) canvas.height = high;
+    const pen = canvas.getContext("2d");
     if (!pen) return;
     pen.setTransform(ratio, 0, 0, ratio, 0, 0);
-    const style = getComputedStyle(this.canvas);
-    const color = (name) => style.getPropertyValue(name).trim();
-    pen.font = "12px system-ui, sans-serif";
-    this.drawGraticule(pen, color);
-    this.drawTracks(pen, color);
-    if (this.chosen) this.drawChosen(pen, color, this.chosen);
-  }
-
-  drawGraticule(pen, color) {
-    const { width, height } = this.size, from = this.pointAt(0, height), to = this.pointAt(width, 0);
-    const view = { left: from.x, right: to.x, low: from.y, high: to.y };
-    const { lines, labels, step } = this.projection.graticule(view, this.scale);
-    pen.lineWidth = 1;
-    pen.strokeStyle = color("--line");
-    pen.beginPath();
-    for (const line of lines) {
-      pen.moveTo(this.left(line[0].x), this.top(line[0].y));
-      for (const { x, y } of line.slice(1)) pen.lineTo(this.left(x), this.top(y));
-    }
-    pen.stroke();
-    pen.fillStyle = color("--dim");
-    for (const { x, y, text } of labels) pen.fillText(text, this.left(x), this.top(y));
-    this.say(`Shown: ${this.projection.title}, lines each ${step} degrees.`);
-  }
-
-  drawTracks(pen, color) {
-    let index = 0;
-    for (const [address, { pieces }] of this.tracks.all) {
-      pen.strokeStyle = pen.fillStyle = color(`--track${index % 6}`);
-      pen.lineWidth = 2;
-      pen.setLineDash(DASHES[index % DASHES.length]);
-      pieces.forEach((piece, at) => this.drawPiece(pen, piece, piece.joined ? pieces[at - 1] : null));
-      pen.setLineDash([]);
-      const newest = this.tracks.newest(address, this.until);
-      const isNamed = newest && this.tracks.all.size <= 200 && this.projection.shows(newest.lat);
-      if (isNamed) this.drawName(pen, color, newest);
-      index++;
-    }
-  }
-
-  /** Draws a piece; points that fall on nearly the same spot are left out.
-   * @param {Piece} piece @param {Piece | null} [before] what goes over into it at 180 degrees */
-  drawPiece(pen, piece, before) {
-    const { lons, lats } = piece, { projection, scale } = this, last = heardBy(piece, this.until) - 1;
-    if (last < 0) return;
-    const left = this.left(0), top = this.top(0);
-    if (before) this.drawSeam(pen, before, piece);
-    let x0 = Infinity, y0 = Infinity, isDown = false;
-    pen.beginPath();
-    for (let at = 0; at <= last; at++) {
-      const x = left + projection.x(lons[at], lats[at]) * scale, y = top - projection.y(lons[at], lats[at]) * scale;
-      const isShown = projection.shows(lats[at]);
-      if (isDown && isShown && at < last && Math.abs(x - x0) < 1 && Math.abs(y - y0) < 1) continue;
-      if (isShown && isDown) pen.lineTo(x, y);
-      else if (isShown) pen.moveTo(x, y);
-      isDown = isShown;
-      x0 = x;
-      y0 = y;
-    }
-    pen.stroke();
-    if (!last && isDown) pen.fillRect(x0 - 2, y0 - 2, 4, 4);
-  }
-
-  /** The line over 180 degrees: around a pole at once, else to the one side and from the other.
-   * @param {Piece} before @param {Piece} after */
-  drawSeam(pen, before, after) {
-    const end = before.lons.length - 1, { projection } = this, lon0 = before.lons[end], lat0 = before.lats[end];
-    const lon1 = after.lons[0], lat1 = after.lats[0], turn = lon0 > 0 ? 360 : -360;
-    if (!projection.shows(lat0) || !projection.shows(lat1)) return;
-    const edge = Math.sign(turn) * 180, part = (edge - lon0) / (lon1 + turn - lon0), at = lat0 + part * (lat1 - lat0);
-    const pairs = projection.isRound ? [[lon0, lat0, lon1, lat1]] : [[lon0, lat0, edge, at], [-edge, at, lon1, lat1]];
-    pen.beginPath();
-    for (const [fromLon, fromLat, toLon, toLat] of pairs) {
-      const from = this.spot({ lon: fromLon, lat: fromLat }), to = this.spot({ lon: toLon, lat: toLat });
-      pen.moveTo(from.x, from.y);
-      pen.lineTo(to.x, to.y);
-    }
-    pen.stroke();
-  }
-
-  /** Writes the address of a track at its newest place, within the canvas. While a log is played, the mark of an
-   * address that is silent for longer than the window is hollow. @param {Spot} newest */
-  drawName(pen, color, newest) {
-    const name = hexadecimal(newest.address, 6), wide = pen.measureText(name).width, { width } = this.size;
-    const { x, y } = this.spot(newest), isPlayed = this.until < Infinity;
-    pen.beginPath();
-    pen.arc(x, y, isPlayed ? 5 : 3, 0, 7);
-    if (isPlayed && this.until - newest.moment > this.tracks.window) pen.stroke();
-    else pen.fill();
-    const at = x + 9 + wide > width ? x - 9 - wide : x + 9;
-    pen.lineWidth = 4;
-    pen.strokeStyle = color("--ground");
-    pen.strokeText(name, at, y + 4);
-    pen.fillStyle = color("--ink");
-    pen.fillText(name, at, y + 4);
-  }
-
-  /** A cross around the place that is meant. @param {Spot} spot */
-  drawChosen(pen, color, spot) {
-    if (!this.projection.shows(spot.lat)) return;
-    const { x, y } = this.spot(spot);
-    pen.strokeStyle = color("--ink");
-    pen.lineWidth = 2;
-    pen.beginPath();
-    for (const [right, down] of [[-1, 0], [1, 0], [0, -1], [0, 1]]) {
-      pen.moveTo(x + 5 * right, y + 5 * down);
-      pen.lineTo(x + 12 * right, y + 12 * down);
-    }
-    pen.stroke();
+    pen.clearRect(0, 0, width, height);
+    new Chart(this, pen, ratio).draw();
   }
 
   listen() {
@@ -317,7 +248,7 @@ class TrackMap {
     matchMedia("(prefers-color-scheme: dark)").addEventListener("change", () => this.redraw());
   }
 
-  /** One finger or the mouse moves the map; two fingers come closer. */
+  /** Moves the map by one finger or the mouse, and zooms by two fingers. */
   drag(held, event) {
     const was = held.get(event.pointerId);
     if (!was) return;

@@ -7,9 +7,9 @@
 /** @typedef {import("./squitter.js").Position} Position */
 /** @typedef {import("./squitter.js").Place} Place */
 
-const { load, AirHead, GroundHead, Code, Kind } = squitterModule();
+const { load, AirHead, GroundHead, Code, Format, Kind } = squitterModule();
 
-/** The element of a name. @returns {any} */
+/** Returns the element with an id. @returns {any} */
 const byId = (id) => document.getElementById(id);
 
 /**
@@ -25,30 +25,33 @@ function element(name, attributes = {}, ...children) {
   return made;
 }
 
-/** A cell of a table: the first of a row is its head, and numbers stand in digits of one width. */
-function cellOf(cell, index) {
+/** Returns a cell of a table. The first of a row is its head, and numbers have digits of one width. A narrow page shows
+ * the head of the column beside the cell. */
+function cellOf(cell, index, head) {
   if (!index) return element("th", { scope: "row" }, cell);
-  return element("td", typeof cell === "string" && /^[-0-9A-F/. ]+$/.test(cell) ? { class: "number" } : {}, cell);
+  const isNumber = typeof cell === "string" && /^[-0-9A-F/. ]+$/.test(cell);
+  return element("td", { ...(isNumber ? { class: "number" } : {}), "data-head": head }, cell);
 }
 
-/** A table: a caption, the heads of its columns, and rows of cells. */
+/** Returns a table with a caption, the heads of its columns, and rows of cells. On a narrow page, rows of more than two
+ * cells are cards. */
 function tableOf(caption, heads, rows) {
   const head = element("tr", {}, ...heads.map((text) => element("th", { scope: "col" }, text)));
-  const body = rows.map((row) => element("tr", {}, ...row.map(cellOf)));
+  const body = rows.map((row) => element("tr", {}, ...row.map((cell, at) => cellOf(cell, at, heads[at]))));
   const parts = [element("caption", {}, caption), element("thead", {}, head), element("tbody", {}, ...body)];
-  const table = element("table", {}, ...parts);
+  const table = element("table", { class: heads.length > 2 ? "cards" : "rows" }, ...parts);
   return element("div", { class: "scroll", tabindex: 0, role: "region", "aria-label": caption }, table);
 }
 
 const hexadecimal = (number, digits) => number.toString(16).toUpperCase().padStart(digits, "0");
 
-/** A fraction as it is written, or a whole number. */
+/** Returns a fraction as text. */
 const fractionText = ({ num, den }) => `${num}/${den}`;
 
-/** A refusal, in a paragraph that says so in words and not by its colour alone. */
+/** Returns a paragraph with an error. It says so in words, because not all readers see its colour. */
 const refusal = (what, error) => element("p", { class: "refusal" }, element("strong", {}, `${what}: `), error.message);
 
-/** The position that two texts spell. A fault says which of them it is of. */
+/** Parses a position from two texts. An error names the text with it. */
 function positionOf(library, latText, lonText) {
   const part = (name, text) => {
     try {
@@ -60,7 +63,7 @@ function positionOf(library, latText, lonText) {
   return { lat: part("latitude", latText), lon: part("longitude", lonText) };
 }
 
-/** Hands a text or its parts to be saved as a file. */
+/** Saves the parts of a text as a file. */
 function save(name, type, parts) {
   const address = URL.createObjectURL(new Blob(parts, { type }));
   const link = element("a", { href: address, download: name });
@@ -70,7 +73,7 @@ function save(name, type, parts) {
   setTimeout(() => URL.revokeObjectURL(address), 60_000);
 }
 
-/** Runs an answer at each change of a form, and at once. */
+/** Calls a function at each change of a form, and at once. */
 function answerWith(form, answer) {
   form.addEventListener("submit", (event) => event.preventDefault());
   form.addEventListener("input", answer);
@@ -86,7 +89,7 @@ function moduleBytes() {
   return moduleRead;
 }
 
-/** The tabs: arrows, Home and End move among them, and the address of the page keeps which is open. */
+/** Starts the tabs. Arrows, Home and End move among them, and the address of the page keeps the open one. */
 function startTabs() {
   const tabs = [...document.querySelectorAll("[role=tab]")];
   const choose = (chosen, focus) => {
@@ -109,10 +112,10 @@ function startTabs() {
   choose(tabs.find((tab) => `#${tab.id.slice(4)}` === location.hash) ?? tabs[0], false);
 }
 
-/** Says in the place of the panels why there are none. */
+/** Hides the panels, and says why. */
 function refuseBrowser(error) {
-  byId("notice").textContent = "This browser cannot run the library: it has no WebAssembly with 64-bit memory. " +
-    `Newer ones of Chromium and Firefox have it. (${error.message})`;
+  byId("notice").textContent = "This browser has no WebAssembly with 64-bit memory, which the library needs. " +
+    `Newer versions of Chromium and Firefox have it. (${error.message})`;
   byId("notice").hidden = false;
   document.querySelector("main").hidden = true;
   byId("tabs").hidden = true;

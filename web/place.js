@@ -1,21 +1,22 @@
-/* place.js: the place of a frame near a reference, or of two frames, and how it comes about. */
+/* place.js: decodes a frame near a reference, or a pair of frames, and shows the steps. */
 "use strict";
 
 const PARITIES = ["even", "odd"];
 
-/** The two lines of a place: seven decimals, and the exact fractions. */
-function placeShown(place) {
+/** Returns a position beside its picture: with seven decimals, and as exact fractions. */
+function placeShown(place, picture) {
   const row = (name, angle) => [name, String(angle), fractionText(angle)];
-  return tableOf("The place, in degrees", ["", "Seven decimals", "Exactly"],
+  const table = tableOf("The position in degrees", ["", "Decimal", "Exact"],
     [row("latitude", place.lat), row("longitude", place.lon)]);
+  return element("div", { class: "side" }, ...picture, table);
 }
 
-/** The site that is typed; null where both fields are empty. */
+/** Returns the receiver position that is typed, or null if both fields are empty. */
 function siteTyped(library, latText, lonText) {
   return latText.trim() || lonText.trim() ? positionOf(library, latText, lonText) : null;
 }
 
-/** A number that a call answers, or the words of its fault. */
+/** Returns the result of a call as text, or the text of its error. */
 function orFault(call) {
   try {
     return String(call());
@@ -24,8 +25,8 @@ function orFault(call) {
   }
 }
 
-/** What the library says of each of two frames: its code, the place as if it were the newer, and the zone count
- * there. */
+/** Returns what the library computes for each of two frames: its code, the position if it were the newer one, and the
+ * number of zones (NL) there. */
 function pairSteps(library, older, newer, site) {
   const column = (frame, other) => {
     const fields = library.read(frame);
@@ -40,15 +41,14 @@ function pairSteps(library, older, newer, site) {
       return [...code, "", "", "", counts, "", "", ""];
     }
   };
-  const names = ["parity of the code", "latitude code", "longitude code", "index of the zone of latitude (j)",
-    "latitude, exactly", "latitude", "zone count (NL) there", "index of the zone of longitude (m)",
-    "longitude, exactly", "longitude"];
+  const names = ["parity", "latitude code", "longitude code", "latitude zone (j)", "latitude, exact", "latitude",
+    "longitude zones (NL)", "longitude zone (m)", "longitude, exact", "longitude"];
   const first = column(older, newer), second = column(newer, older);
-  const rows = names.map((name, at) => [name, first[at], second[at]]);
-  return tableOf("How it comes about", ["", "Older frame", "Newer frame"], rows);
+  const rows = names.map((name, at) => [name, first[at], second[at]]).filter((row) => row[1] || row[2]);
+  return tableOf("Step by step", ["", "Older frame", "Newer frame"], rows);
 }
 
-/** On the ground: what the answer would be with the site in each quarter of the circle. */
+/** Returns the positions of a pair on the ground for a receiver in each quarter of the circle. */
 function quarters(library, older, newer, site) {
   const rows = ["-135", "-45", "45", "135"].map((text) => {
     const asked = { lat: site.lat, lon: library.angle(text) };
@@ -59,57 +59,66 @@ function quarters(library, older, newer, site) {
       return [text, error.message, ""];
     }
   });
-  return tableOf("The same frames, with the site at another longitude", ["Site", "Latitude", "Longitude"], rows);
+  const heads = ["Receiver longitude", "Latitude", "Longitude"];
+  return tableOf("The same frames with a receiver elsewhere", heads, rows);
 }
 
-/** The answer to two frames. */
+/** Returns what is shown of a pair without a position. */
+function pairRefused(library, older, newer, site, error) {
+  const shown = [refusal("No position", error)];
+  if (error.code === Code.NO_SITE) {
+    shown.push(element("p", {}, "Frames from the ground fit four positions. Type the position of your receiver."));
+  }
+  if (error.code === Code.ZONE_COUNTS) {
+    shown.push(element("p", {}, `The latitude of the even frame has ${error.first} longitude zones, and that of the ` +
+      `odd frame has ${error.second}. The aircraft crossed a zone border between them, so the pair has no longitude.`));
+  }
+  return error.code < Code.NO_SITE ? shown : [...shown, pairSteps(library, older, newer, site)];
+}
+
+/** Returns what is shown of two frames. */
 function pairShown(library, olderText, newerText, site) {
   const older = library.frame(olderText), newer = library.frame(newerText);
-  const shown = [];
-  let place = null;
+  let place;
   try {
     place = library.pair(older, newer, site);
-    shown.push(placeShown(place));
   } catch (error) {
-    shown.push(refusal("No place", error));
-    if (error.code === 16) {
-      shown.push(element("p", {}, `The latitude of the even frame has ${error.first} zones of longitude and that of ` +
-        `the odd one ${error.second}: they come from both sides of a border, and the longitude cannot be told.`));
-    }
-    if (error.code < 14) return shown;
+    return pairRefused(library, older, newer, site, error);
   }
-  shown.push(pairSteps(library, older, newer, site));
-  if (!place) return shown;
   const isGround = library.read(newer).kind === Kind.GROUND;
-  if (!isGround) shown.push(...pairPicture(library, older, newer, place));
-  else shown.push(groundPicture(library, older, newer, site, place), quarters(library, older, newer, site));
-  return [...shown, tableOf("The zone of the newer frame", ["", "Value"], zoneRows(library, newer, place))];
+  const picture = isGround ? [groundPicture(library, older, newer, site, place)]
+    : pairPicture(library, older, newer, place);
+  return [placeShown(place, picture), pairSteps(library, older, newer, site),
+    ...(isGround ? [quarters(library, older, newer, site)] : []),
+    tableOf("The zone of the newer frame", ["", "Value"], zoneRows(library, newer, place))];
 }
 
-/** The answer to one frame and a reference. */
+/** Returns what is shown of one frame and a reference. */
 function localShown(library, text, reference) {
   const frame = library.frame(text);
   const place = library.local(frame, reference), fields = library.read(frame);
   const rows = [
-    ["parity of the code", PARITIES[fields.odd]],
+    ["parity", PARITIES[fields.odd]],
     ["latitude code", String(fields.lat)],
     ["longitude code", String(fields.lon)],
-    ["zone count (NL) at the reference", orFault(() => library.zoneCount(reference.lat))],
+    ["longitude zones (NL) at the reference", orFault(() => library.zoneCount(reference.lat))],
     ...zoneRows(library, frame, place),
   ];
-  return [placeShown(place), tableOf("How it comes about", ["", "Value"], rows), element("p", {},
-    "It is the one point with this code whose latitude lies within half a zone of the reference's, and whose " +
-    "longitude lies within half a zone of the reference's, by the zones at the place."),
-  localPicture(library, frame, place, reference)];
+  return [placeShown(place, [localPicture(library, frame, place, reference)]),
+    tableOf("Step by step", ["", "Value"], rows)];
 }
 
-/** What is shown of the panel's fields. */
+/** Returns what is shown of the panel's fields. */
 function placeAnswer(library) {
   const one = document.querySelector("[name=place-from]:checked");
   const isPair = /** @type {HTMLInputElement} */ (one).value === "pair";
   byId("place-older-field").hidden = !isPair;
-  byId("place-lat-label").textContent = isPair ? "Latitude of the site (on the ground)" : "Latitude of the reference";
-  byId("place-lon-label").textContent = isPair ? "Longitude of the site" : "Longitude of the reference";
+  const whose = isPair ? "your receiver" : "the reference";
+  byId("place-newer-label").textContent = isPair ? "Newer frame" : "Frame";
+  byId("place-lat-label").textContent = `Latitude of ${whose}`;
+  byId("place-lon-label").textContent = `Longitude of ${whose}`;
+  byId("place-hint").textContent = isPair ? "Only a pair on the ground needs the position of your receiver."
+    : "The reference must be within half a zone: 3 degrees of latitude in the air, 0.75 on the ground.";
   const newer = byId("place-newer").value.trim(), older = byId("place-older").value.trim();
   const lat = byId("place-lat").value, lon = byId("place-lon").value;
   try {

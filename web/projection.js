@@ -1,5 +1,6 @@
-/* projection.js: how degrees are laid on a plane, in which one step is a degree of latitude: as they are, or around a
- * pole, each place as far from it as it is on the Earth (azimuthal and equidistant). */
+/* projection.js: how degrees become points of a plane: as they are, in the Mercator projection, or around a pole, each
+ * position as far from it as on the Earth (azimuthal and equidistant). A step of the plane is a degree, in Mercator a
+ * degree of longitude. */
 "use strict";
 
 /** @typedef {{lon: number, lat: number}} Degree */
@@ -8,40 +9,50 @@
 /** @typedef {{x: number, y: number, text: string}} Label */
 /** @typedef {{lines: Point[][], labels: Label[], step: number}} Graticule */
 
-/** The steps of a graticule, in degrees: the first that leaves its lines far enough apart is taken. */
+/** The steps of a graticule, in degrees. The first one with lines far enough apart is used. */
 const STEPS = [0.001, 0.002, 0.005, 0.01, 0.02, 0.05, 0.1, 0.2, 0.5, 1, 2, 5, 10, 30, 45];
 
 const RADIAN = Math.PI / 180, LINES_APART = 70;
 
-/** The first step of which one is so wide. */
+const noBox = () => ({ left: Infinity, right: -Infinity, low: Infinity, high: -Infinity });
+
+/** Returns the first step that is wide enough. */
 const stepOf = (isWide) => STEPS.find(isWide) ?? 90;
 
-/** Degrees with as many decimals as their step wants, and the side of the zero on which they are. */
+/** Returns degrees as text, with the decimals of their step, and with a letter for the hemisphere. */
 function degreesLabel(degrees, step, below, above) {
   const decimals = Math.max(0, Math.ceil(-Math.log10(step)));
   const side = degrees === 0 || Math.abs(degrees) === 180 ? "" : degrees < 0 ? below : above;
   return `${Math.abs(degrees).toFixed(decimals)}${side}`;
 }
 
-/** The multiples of a step from one number to another. */
+/** Returns the multiples of a step from one number to another. */
 function multiples(step, from, to) {
   const first = Math.ceil(from / step - 1e-9), count = Math.max(0, Math.floor(to / step + 1e-9) - first + 1);
   return Array.from({ length: Math.min(count, 2000) }, (_, at) => (first + at) * step);
 }
 
+/** The latitude up to which Mercator maps go. */
+const MERCATOR_MOST = 85;
+
+/** A log has a Mercator map if all its latitudes are below this one. */
+const MERCATOR_SUITS = 80;
+
 /** Degrees as they are: longitudes to the right and latitudes up. */
 class Plain {
   constructor() {
-    this.title = "degrees as they are";
+    this.title = "equal degrees";
     this.world = { left: -180, right: 180, low: -90, high: 90 };
-    /** How far the middle of a map may go. */
+    /** The farthest point to which the middle of a map can be moved. */
     this.reach = { x: 200, y: 95 };
     /** Whether a track goes on over 180 degrees. */
     this.isRound = false;
+    /** The latitude at which the map ends. */
+    this.most = 90;
   }
 
-  shows() {
-    return true;
+  shows(lat) {
+    return Math.abs(lat) <= this.most;
   }
 
   x(lon) {
@@ -52,32 +63,74 @@ class Plain {
     return lat;
   }
 
-  /** @param {Point} point @returns {Degree} */
-  degrees({ x, y }) {
-    return { lon: x, lat: y };
+  /** Returns the latitude at a height of the plane. */
+  latitude(y) {
+    return y;
   }
 
-  /** The box of the places of a track, or of all. @param {Tracks} tracks @returns {Box} */
+  /** Returns an upper bound of the distance in the plane between positions a degree apart, up to a latitude. */
+  stretch(lat) {
+    return 1;
+  }
+
+  /** Returns a box with all positions of a piece. @param {Piece} piece @returns {Box} */
+  around({ west, east, south, north }) {
+    return { left: west, right: east, low: this.y(west, south), high: this.y(west, north) };
+  }
+
+  /** @param {Point} point @returns {Degree} */
+  degrees({ x, y }) {
+    return { lon: x, lat: this.latitude(y) };
+  }
+
+  /** Returns the box of the positions of a track, or of all tracks. @param {Tracks} tracks @returns {Box} */
   box(tracks, address) {
     const { west, east, south, north } = tracks.bounds(address);
-    return { left: west, right: east, low: south, high: north };
+    return { left: west, right: east, low: this.y(west, south), high: this.y(west, north) };
   }
 
   /** @param {Box} view @returns {Graticule} */
   graticule(view, scale) {
     const step = stepOf((degrees) => degrees * scale > LINES_APART), space = 1 / scale;
     const left = Math.max(view.left, -180), right = Math.min(view.right, 180);
-    const low = Math.max(view.low, -90), high = Math.min(view.high, 90);
-    const lons = multiples(step, left, right), lats = multiples(step, low, high);
+    const low = Math.max(view.low, this.world.low), high = Math.min(view.high, this.world.high);
+    const lons = multiples(step, left, right), up = (lat) => this.y(0, lat);
+    const lats = multiples(step, Math.max(-this.most, this.latitude(low)), Math.min(this.most, this.latitude(high)));
     const lines = [
       ...lons.map((lon) => [{ x: lon, y: low }, { x: lon, y: high }]),
-      ...lats.map((lat) => [{ x: left, y: lat }, { x: right, y: lat }]),
+      ...lats.map((lat) => [{ x: left, y: up(lat) }, { x: right, y: up(lat) }]),
     ];
+    const bottom = view.low + 5 * space, side = view.left + 3 * space;
     const labels = [
-      ...lons.map((lon) => ({ x: lon + 3 * space, y: view.low + 5 * space, text: degreesLabel(lon, step, "W", "E") })),
-      ...lats.map((lat) => ({ x: view.left + 3 * space, y: lat + 3 * space, text: degreesLabel(lat, step, "S", "N") })),
+      ...lons.map((lon) => ({ x: lon + 3 * space, y: bottom, text: degreesLabel(lon, step, "W", "E") })),
+      ...lats.map((lat) => ({ x: side, y: up(lat) + 3 * space, text: degreesLabel(lat, step, "S", "N") })),
     ];
     return { lines, labels, step };
+  }
+}
+
+/** The Mercator projection: angles are those on the Earth. */
+class Mercator extends Plain {
+  constructor() {
+    super();
+    this.title = "Mercator";
+    this.most = MERCATOR_MOST;
+    const high = this.y(0, MERCATOR_MOST);
+    this.world = { left: -180, right: 180, low: -high, high };
+    this.reach = { x: 200, y: high };
+  }
+
+  y(lon, lat) {
+    const within = Math.min(Math.max(lat, -MERCATOR_MOST), MERCATOR_MOST);
+    return Math.asinh(Math.tan(within * RADIAN)) / RADIAN;
+  }
+
+  latitude(y) {
+    return Math.atan(Math.sinh(y * RADIAN)) / RADIAN;
+  }
+
+  stretch(lat) {
+    return 1 / Math.cos(Math.min(lat, MERCATOR_MOST) * RADIAN);
   }
 }
 
@@ -117,7 +170,7 @@ class Polar {
 
   /** @param {Tracks} tracks @returns {Box} */
   box(tracks, address) {
-    const box = { left: Infinity, right: -Infinity, low: Infinity, high: -Infinity };
+    const box = noBox();
     for (const { lons, lats } of tracks.pieces(address)) {
       lats.forEach((lat, at) => {
         if (!this.shows(lat)) return;
@@ -131,7 +184,15 @@ class Polar {
     return box;
   }
 
-  /** What is seen of the pole's surroundings: the nearest and the farthest step from it, the longitude of the middle,
+  stretch() {
+    return Math.PI / 2;
+  }
+
+  around() {
+    return this.world;
+  }
+
+  /** Returns what is seen around the pole: the nearest and the farthest step from it, the longitude of the middle,
    * and how far to both sides of it longitudes are seen. @param {Box} view */
   seen({ left, right, low, high }) {
     const isIn = left <= 0 && right >= 0 && low <= 0 && high >= 0;
@@ -168,10 +229,12 @@ class Polar {
   }
 }
 
-const PROJECTIONS = { plain: new Plain(), north: new Polar(1), south: new Polar(-1) };
+const PROJECTIONS = { plain: new Plain(), mercator: new Mercator(), north: new Polar(1), south: new Polar(-1) };
 
-/** The projection that suits what is shown: around a pole where all of it lies above 70 degrees. */
+/** Returns a projection for latitudes: around a pole if all are above 70 degrees, Mercator if none is near a pole. */
 function suitingProjection({ south, north }) {
-  if (south > 70 && south <= north) return PROJECTIONS.north;
-  return north < -70 && south <= north ? PROJECTIONS.south : PROJECTIONS.plain;
+  if (south > north) return PROJECTIONS.plain;
+  if (south > 70) return PROJECTIONS.north;
+  if (north < -70) return PROJECTIONS.south;
+  return Math.max(-south, north) < MERCATOR_SUITS ? PROJECTIONS.mercator : PROJECTIONS.plain;
 }

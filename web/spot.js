@@ -1,7 +1,7 @@
-/* spot.js: a small map on which the position to be sent is dragged, or moved by keys. */
+/* spot.js: a small map to choose a position by dragging or with the arrow keys. */
 "use strict";
 
-const SPOT_WIDE = 480, SPOT_HIGH = 240;
+const SPOT_WIDE = 400, SPOT_HIGH = 200, SPOT_REACH = 12;
 
 class SpotMap {
   /** @param {any} holder @param {(lat: string, lon: string) => void} moved */
@@ -11,7 +11,10 @@ class SpotMap {
     this.middle = { lon: 0, lat: 0 };
     /** How many degrees of latitude are shown. */
     this.span = 180;
-    const label = "The position; arrows move it, with Shift farther";
+    this.landKey = "";
+    /** @type {SVGElement[]} */
+    this.landParts = [];
+    const label = "The position. The arrow keys move it, with Shift further.";
     this.picture = drawn("svg", {
       viewBox: `0 0 ${SPOT_WIDE} ${SPOT_HIGH}`, role: "application", tabindex: 0, class: "way spot",
       "aria-label": label,
@@ -49,18 +52,29 @@ class SpotMap {
     const wide = SPOT_WIDE / 2 / scale, high = SPOT_HIGH / 2 / scale;
     const view = { left: middle.lon - wide, right: middle.lon + wide, low: middle.lat - high, high: middle.lat + high };
     const { lines, labels } = projection.graticule(view, scale), at = ({ x, y }) => this.point({ lon: x, lat: y });
-    const parts = lines.map(([from, to]) => {
+    const parts = [...this.land(view), ...lines.map(([from, to]) => {
       const start = at(from), end = at(to);
       return drawn("path", { d: `M${start.x} ${start.y}L${end.x} ${end.y}`, class: "way-line" });
-    });
-    for (const one of labels) parts.push(drawn("text", { ...at(one), class: "way-label" }, one.text));
+    })];
     const { x, y } = this.point(this.place);
-    parts.push(drawn("path", { d: `M${x - 12} ${y}h24M${x} ${y - 12}v24`, class: "way-given" }),
+    const mark = { x, y, text: "", reach: SPOT_REACH };
+    parts.push(...pictureLabels([mark], labels.map((one) => ({ ...at(one), text: one.text })), SPOT_WIDE, SPOT_HIGH));
+    const cross = `M${x - SPOT_REACH} ${y}h${2 * SPOT_REACH}M${x} ${y - SPOT_REACH}v${2 * SPOT_REACH}`;
+    parts.push(drawn("path", { d: cross, class: "way-given" }),
       drawn("circle", { cx: x, cy: y, r: 6, class: "way-place" }));
     this.picture.replaceChildren(...parts);
   }
 
-  /** Moves the position, within what a position may be. */
+  /** Returns the land of a view. It is kept, because the view stays while the position is dragged. @param {Box} view */
+  land(view) {
+    const { middle, scale } = this, key = `${middle.lon} ${middle.lat} ${scale}`;
+    const { x, y } = this.point({ lon: 0, lat: 0 });
+    if (this.landKey !== key) this.landParts = landPicture({ x, y, right: scale, up: scale }, view);
+    this.landKey = key;
+    return this.landParts;
+  }
+
+  /** Moves the position, within -90 to 90 and -180 to 180 degrees. */
   put(lon, lat) {
     const within = (value, most) => Math.min(Math.max(value, -most), most).toFixed(7);
     this.moved(within(lat, 90), within(lon, 180));
@@ -90,7 +104,7 @@ class SpotMap {
 }
 SpotMap.projection = PROJECTIONS.plain;
 
-/** The position and the points of its even and of its odd frame, as near as they are. */
+/** Returns a picture of a position and of the points of its even and its odd frame. */
 function closePicture(library, kind, head, position) {
   const number = ({ num, den }) => Number(num) / Number(den);
   const here = { lon: number(position.lon), lat: number(position.lat) }, Head = kind === "air" ? AirHead : GroundHead;
@@ -103,7 +117,8 @@ function closePicture(library, kind, head, position) {
   const narrow = Math.max(Math.cos(here.lat * RADIAN), 1e-9), sides = VIEW_WIDE / VIEW_HIGH;
   const high = Math.max(...away("lat"), Math.max(...away("lon")) * narrow / sides, 1e-6) * 1.6;
   const wide = Math.min(high * sides / narrow, 180);
-  const title = "The position (circle), and the points to which it rounds in the even frame (square) and in the odd " +
-    `one (cross). The picture is ${aboutMetres({ num: BigInt(Math.round(high * 2e12)), den: 10n ** 12n }, 1)} high.`;
+  const tall = aboutMetres({ num: BigInt(Math.round(high * 2e12)), den: 10n ** 12n }, 1);
+  const title = "Circle: the position. Square: the point to which the even frame rounds it. Cross: that of the odd " +
+    `frame. The picture is ${tall} high.`;
   return wayPicture(title, [...points, { ...here, shape: "place", text: "" }], { middle: here, wide, high });
 }

@@ -53,8 +53,26 @@ export declare const FeedFormat: {
   readonly AVR: 1;
   readonly CSV: 2;
   readonly LOG: 3;
+  /** The first bytes show the format. */
+  readonly AUTO: 4;
 };
 export type FeedFormat = (typeof FeedFormat)[keyof typeof FeedFormat];
+
+/** The default window of trackers, contacts and logs, in milliseconds: 10 seconds, as that of `squitter track`. */
+export declare const WINDOW: bigint;
+
+/** Sources without frames of a known format. */
+export declare const Stranger: {
+  /** SBS (BaseStation) text, which has positions and no frames. */
+  readonly SBS: 5;
+  readonly TAR: 6;
+  /** Compressed by gzip, bzip2, xz or zstd, or a zip archive. */
+  readonly PACKED: 7;
+  readonly UTF16: 8;
+  readonly JSON: 9;
+  readonly NO_FRAME: 10;
+};
+export type Stranger = (typeof Stranger)[keyof typeof Stranger];
 
 /** The kind of a squitter, by its type code. */
 export declare const Kind: {
@@ -270,14 +288,11 @@ export declare class Squitter {
   /** Returns the words of a fault, those of the program if it has any. Throws a RangeError for numbers that are too
    * large. */
   faultText(code: Whole, first?: Whole, second?: Whole): string;
-  /** Detects the format of a source from its first bytes. Returns null if the bytes do not show a format yet. Three
-   * messages show Beast, and a line with a frame shows a text format. The first byte that shows a format decides. */
-  feedFormat(first: BufferSource): FeedFormat | null;
   /** Returns the version of the library. */
   version(): string;
 }
 
-/** The settings of a log or a tracker. `window` is in milliseconds (10000 by default). `limit` is the most aircraft at
+/** The settings of a log or a tracker. `window` is in milliseconds (WINDOW by default). `limit` is the most aircraft at
  * once (1000 by default; above 2^20 throws a RangeError). `site` is the receiver position, which surface pairs need. */
 export interface Settings {
   window?: Whole;
@@ -368,7 +383,7 @@ export interface Saved {
 
 /** A tracker of one address. A second address throws TABLE_FULL while the first is present. */
 export declare class Contact extends Tracker {
-  /** Creates a contact without frames. Fault: BAD_POSITION (the site). */
+  /** Creates a contact without frames. `window` is in milliseconds, WINDOW by default. Fault: BAD_POSITION (the site). */
   constructor(library: Squitter, window?: Whole, site?: Position | null);
   /** The timestamp of the newest position; 0n if there is none. */
   get newest(): bigint;
@@ -376,12 +391,17 @@ export declare class Contact extends Tracker {
   copy(): Contact;
 }
 
-/** The settings of a feed. `format` is BEAST by default. A gap above `leap` milliseconds (10000 by default) is a jump
- * of the source's clock. Arrival times count only if the source is `live`. */
+/** The settings of a feed. `format` is AUTO by default. A gap above `leap` milliseconds (600000 by default) is a jump
+ * of the source's clock. Arrival times count only if the source is `live`. A timestamp may be before the latest one by
+ * `late` milliseconds (0 by default). With `allFormats`, frames of all downlink formats are written; with `byArrival`,
+ * the receiver's clock is ignored. */
 export interface FeedSettings {
   format?: FeedFormat;
   leap?: Whole;
   live?: boolean;
+  late?: Whole;
+  allFormats?: boolean;
+  byArrival?: boolean;
 }
 
 /** Squitters: their timestamps in milliseconds, and their frames, 14 bytes each, one after the other. */
@@ -411,12 +431,17 @@ export declare class Feed {
   constructor(library: Squitter, settings?: FeedSettings);
   /** Returns the squitters in a piece. An unfinished message waits for the next piece. Fault: NO_TRACKER. */
   take(piece: BufferSource, arrival?: Whole): Squitters;
-  /** Ends the source, and returns its last squitter, if the end completes one. Fault: NO_TRACKER. */
+  /** Ends the source, and returns its last squitters. Fault: NO_TRACKER. */
   finish(arrival?: Whole): Squitters;
   /** Returns the squitters in a piece as lines for a Log. Fault: NO_TRACKER. */
   takeText(piece: BufferSource, arrival?: Whole): string;
-  /** Ends the source, and returns the line of its last squitter, if the end completes one. Fault: NO_TRACKER. */
+  /** Ends the source, and returns the lines of its last squitters. Fault: NO_TRACKER. */
   finishText(arrival?: Whole): string;
+  /** The format of the source, or null if its bytes so far do not show one. Fault: NO_TRACKER. */
+  readonly format: FeedFormat | null;
+  /** What the source is if it holds no frames of a known format, or null. Its first bytes or lines tell, or `finish`.
+   * Fault: NO_TRACKER. */
+  readonly stranger: Stranger | null;
   /** Drops an unfinished frame after a lost connection. The next piece belongs to a new one. Fault: NO_TRACKER. */
   disconnected(): void;
   /** The counts so far. Fault: NO_TRACKER. */

@@ -20,10 +20,9 @@ import {
   Code, Fault, AirHead, GroundHead, AIR_LAYOUT, GROUND_LAYOUT, FRAME_BYTES, whole, fitted, fraction,
   frameBytes,
 } from "./squitter_values.js";
-import { feedFormat } from "./squitter_feed.js";
 
 export {
-  Code, Kind, AltitudeForm, What, Format, FeedFormat, Fault, Angle, AirHead, GroundHead,
+  Code, Kind, AltitudeForm, What, Format, FeedFormat, Stranger, WINDOW, Fault, Angle, AirHead, GroundHead,
 } from "./squitter_values.js";
 export { Contact, Log, Tracker } from "./squitter_tracking.js";
 export { Feed } from "./squitter_feed.js";
@@ -235,12 +234,6 @@ export class Squitter {
     view.setBigUint64(faultAt + 8, BigInt(first), true);
     exports.squitter_text_of_fault(BigInt(faultAt), BigInt(outAt));
     return this.memory.getText(outAt, 64);
-  }
-
-  /** Detects the format of a source from its first bytes. Returns null if the bytes do not show a format yet. Three
-   * messages show Beast, and a line with a frame shows a text format. The first byte that shows a format decides. */
-  feedFormat(first) {
-    return feedFormat(this, first);
   }
 
   /** Returns the version of the library. */

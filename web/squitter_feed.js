@@ -1,22 +1,32 @@
 /* squitter_feed.js: the feeds of squitter.js. */
 
 import { Lent, PIECE_BYTES, ask, bytesOf } from "./squitter_memory.js";
-import { Code, FRAME_BYTES, Fault, FeedFormat, fitted, moment } from "./squitter_values.js";
+import { FRAME_BYTES, FeedFormat, fitted, moment } from "./squitter_values.js";
 
 const SQUITTERS_AT_ONCE = 1024, LINES_ROOM = 1 << 16, LINE_BYTES = 50, FORMATS = 25;
+
+// How a feed hears its source: the flags of SQUITTER_FEED in squitter.h.
+const LIVE = 1, BY_ARRIVAL = 2, ALL_FORMATS = 4;
 
 /** Finds the squitters in a receiver's bytes, in pieces of any length, with their timestamps in milliseconds. */
 export class Feed {
   #lent;
   #library;
 
-  /** Creates a feed at the start of a source. `format` is one of FeedFormat. A gap above `leap` milliseconds is a jump
-   * of the source's clock. Arrival times count only if the source is `live`. Fault: BAD_FORMAT. */
-  constructor(library, { format = FeedFormat.BEAST, leap = 10_000n, live = false } = {}) {
-    const { memory } = library, number = fitted(format, 32), longest = moment(leap);
+  /** Creates a feed at the start of a source. `format` is one of FeedFormat. If it is AUTO, the first bytes show it:
+   * three Beast messages in a row, or a line with a frame. A gap above `leap` milliseconds is a jump of the source's
+   * clock. Arrival times count only if the source is `live`. A timestamp may be before the latest one by `late`
+   * milliseconds; with 0, timestamps never go back. With `allFormats`, frames of all downlink formats are written,
+   * those below 16 as seven bytes and seven zeros; otherwise those of format 17. With `byArrival`, the receiver's
+   * clock is ignored. Fault: BAD_FORMAT. */
+  constructor(library, {
+    format = FeedFormat.AUTO, leap = 600_000n, live = false, late = 0n, allFormats = false, byArrival = false,
+  } = {}) {
+    const { memory } = library, number = fitted(format, 32), longest = moment(leap), latest = moment(late);
+    const flags = (live ? LIVE : 0) + (byArrival ? BY_ARRIVAL : 0) + (allFormats ? ALL_FORMATS : 0);
     this.#library = library;
     this.#lent = new Lent(this, library, "feed", Number(memory.exports.squitter_feed_size()),
-      (slot, block) => ask(library, "feed_new", slot, block, number, longest, live ? 1 : 0));
+      (slot, block) => ask(library, "feed_new", slot, block, number, longest, latest, flags));
     this.#lent.rooms = {
       done: memory.claim(16), piece: memory.claim(PIECE_BYTES), moments: memory.claim(8 * SQUITTERS_AT_ONCE),
       out: memory.claim(LINES_ROOM),
@@ -30,7 +40,7 @@ export class Feed {
     return this.#squitters("feed_take", bytesOf(piece), moment(arrival));
   }
 
-  /** Ends the source. Returns its last squitter, as `take` does, if the end completes one: the last line of a text. The
+  /** Ends the source. Returns its last squitters, as `take` does, such as that of a last line without a line feed. The
    * next piece belongs to another source. Fault: NO_TRACKER. */
   finish(arrival = 0n) {
     return this.#squitters("feed_finish", null, moment(arrival));
@@ -41,7 +51,7 @@ export class Feed {
     return this.#text("feed_take_text", bytesOf(piece), moment(arrival));
   }
 
-  /** Ends the source. Returns the line of its last squitter if the end completes one. Fault: NO_TRACKER. */
+  /** Ends the source. Returns the lines of its last squitters. Fault: NO_TRACKER. */
   finishText(arrival = 0n) {
     return this.#text("feed_finish_text", null, moment(arrival));
   }
@@ -50,6 +60,25 @@ export class Feed {
    * connection, and its clock starts afresh. Fault: NO_TRACKER. */
   disconnected() {
     ask(this.#library, "feed_disconnected", this.#lent.slot);
+  }
+
+  /** The format of the source, or null if its bytes so far do not show one. Fault: NO_TRACKER. */
+  get format() {
+    const number = this.#source();
+    return number < FeedFormat.AUTO ? number : null;
+  }
+
+  /** What the source is (Stranger) if it holds no frames of a known format, or null. Its first bytes or lines tell, or
+   * `finish`. Fault: NO_TRACKER. */
+  get stranger() {
+    const number = this.#source();
+    return number > FeedFormat.AUTO ? number : null;
+  }
+
+  #source() {
+    const { memory } = this.#library;
+    ask(this.#library, "feed_format", this.#lent.slot, BigInt(memory.outAt));
+    return memory.view().getUint32(memory.outAt, true);
   }
 
   /** The counts of the items so far: `found` is the sum of all others. `formats` counts the frames of each downlink
@@ -107,20 +136,6 @@ export class Feed {
       (written) => { text += decoder.decode(memory.bytesAt(out, written)); });
     return text;
   }
-}
-
-/** Detects the format of a source from its first bytes. Returns null if the bytes do not show a format yet. */
-export function feedFormat(library, first) {
-  const { memory } = library, bytes = bytesOf(first), room = memory.claim(Math.max(bytes.length, 1));
-  memory.putBytes(room.at, bytes);
-  memory.release(room);
-  try {
-    ask(library, "feed_format", BigInt(room.at), BigInt(bytes.length), BigInt(memory.outAt));
-  } catch (error) {
-    if (error instanceof Fault && error.code === Code.BAD_FORMAT) return null;
-    throw error;
-  }
-  return memory.view().getUint32(memory.outAt, true);
 }
 
 /** Joins the squitters of several calls. */

@@ -1,6 +1,6 @@
 /* squitter_memory.js: the memory of the module of squitter.js, and how calls find their arguments and results there. */
 
-import { What, Fault, Fields, Angle, SMALL_FIELDS, PAGE_BYTES, fitted, fraction } from "./squitter_values.js";
+import { What, Fault, Fields, Angle, PAGE_BYTES, fitted, fraction } from "./squitter_values.js";
 
 /** The memory of the module, and the addresses of arguments and results, above the memory that the module uses. */
 export class Memory {
@@ -108,13 +108,7 @@ export class Memory {
   }
 
   getFields(at) {
-    const view = this.view();
-    const small = Object.fromEntries(SMALL_FIELDS.map((name, index) => [name, view.getUint8(at + 26 + index)]));
-    return new Fields({
-      raw: view.getBigUint64(at, true), address: view.getUint32(at + 8, true), lat: view.getUint32(at + 12, true),
-      lon: view.getUint32(at + 16, true), feet: view.getInt32(at + 20, true), altitude: view.getUint16(at + 24, true),
-      ...small,
-    });
+    return new Fields(this.view(), at);
   }
 
   getZones(at) {

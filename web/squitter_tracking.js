@@ -1,13 +1,13 @@
 /* squitter_tracking.js: the logs and trackers of squitter.js. */
 
 import { Lent, PIECE_BYTES, ask, bytesOf, heardAt } from "./squitter_memory.js";
-import { AltitudeForm, What, Format, ENTRY_BYTES, fraction, whole, moment } from "./squitter_values.js";
+import { AltitudeForm, What, Format, ENTRY_BYTES, WINDOW, fraction, whole, moment } from "./squitter_values.js";
 
 /** The most addresses of a log or a tracker: some 800 megabytes. */
 const MOST_ADDRESSES = 1 << 20;
 
 /** Returns the settings of a log or a tracker, with the defaults. */
-function settingsOf({ window = 10_000n, limit = 1000, site = null }) {
+function settingsOf({ window = WINDOW, limit = 1000, site = null }) {
   const number = Number(whole(limit));
   if (number < 0 || number > MOST_ADDRESSES) throw new RangeError(`a limit is at most ${MOST_ADDRESSES}`);
   return { window: moment(window), limit: number, site };
@@ -90,8 +90,8 @@ export class Log {
   #library;
   #columnRoom;
 
-  /** Creates a log without lines. `window` is in milliseconds, `limit` is the most aircraft at once, and `site` is the
-   * receiver position, which surface pairs need. Throws a RangeError for a limit above 2^20.
+  /** Creates a log without lines. `window` is in milliseconds, WINDOW by default. `limit` is the most aircraft at once.
+   * `site` is the receiver position, which surface pairs need. Throws a RangeError for a limit above 2^20.
    * Faults: BAD_POSITION (the site), NO_LIMIT. */
   constructor(library, settings = {}) {
     this.#library = library;
@@ -206,8 +206,8 @@ export class Tracker {
   #library;
   #settings;
 
-  /** Creates an empty tracker. `window` is in milliseconds, `limit` is the most aircraft at once, and `site` is the
-   * receiver position, which surface pairs need. Throws a RangeError for a limit above 2^20.
+  /** Creates an empty tracker. `window` is in milliseconds, WINDOW by default. `limit` is the most aircraft at once.
+   * `site` is the receiver position, which surface pairs need. Throws a RangeError for a limit above 2^20.
    * Faults: BAD_POSITION (the site), NO_LIMIT. */
   constructor(library, settings = {}) {
     this.#library = library;
@@ -302,8 +302,8 @@ export class Contact extends Tracker {
   #window;
   #site;
 
-  /** Creates a contact without frames; window and site as for Tracker. */
-  constructor(library, window = 10_000n, site = null) {
+  /** Creates a contact without frames; window and site as for Tracker, with the same default window. */
+  constructor(library, window = WINDOW, site = null) {
     super(library, { window, site, limit: 1 });
     this.#library = library;
     this.#window = moment(window);

@@ -25,7 +25,13 @@ export const What = Object.freeze({
 export const Format = Object.freeze({ LINES: 0, CSV: 1, JSON: 2 });
 
 /** The formats of a receiver's bytes. */
-export const FeedFormat = Object.freeze({ BEAST: 0, AVR: 1, CSV: 2, LOG: 3 });
+export const FeedFormat = Object.freeze({ BEAST: 0, AVR: 1, CSV: 2, LOG: 3, AUTO: 4 });
+
+/** The default window of trackers, contacts and logs, in milliseconds: 10 seconds, as that of `squitter track`. */
+export const WINDOW = 10_000n;
+
+/** Sources without frames of a known format. */
+export const Stranger = Object.freeze({ SBS: 5, TAR: 6, PACKED: 7, UTF16: 8, JSON: 9, NO_FRAME: 10 });
 
 /** The first error of a call. Its message is the library's text. */
 export class Fault extends Error {
@@ -46,8 +52,25 @@ export class Fault extends Error {
 
 /** A squitter, field by field. */
 export class Fields {
-  constructor(fields) {
-    Object.assign(this, fields);
+  /** Reads the fields at an address, member by member: an engine makes such a record at once, as an object literal. */
+  constructor(view, at) {
+    this.raw = view.getBigUint64(at, true);
+    this.address = view.getUint32(at + 8, true);
+    this.lat = view.getUint32(at + 12, true);
+    this.lon = view.getUint32(at + 16, true);
+    this.feet = view.getInt32(at + 20, true);
+    this.altitude = view.getUint16(at + 24, true);
+    this.altitudeForm = view.getUint8(at + 26);
+    this.kind = view.getUint8(at + 27);
+    this.ca = view.getUint8(at + 28);
+    this.typeCode = view.getUint8(at + 29);
+    this.odd = view.getUint8(at + 30);
+    this.time = view.getUint8(at + 31);
+    this.status = view.getUint8(at + 32);
+    this.flag = view.getUint8(at + 33);
+    this.movement = view.getUint8(at + 34);
+    this.trackStatus = view.getUint8(at + 35);
+    this.track = view.getUint8(at + 36);
   }
 
   /** Returns the fields with `raw` as decimal digits, because JSON has no BigInt. */
@@ -114,10 +137,6 @@ export const AIR_LAYOUT = [["address", 4], ["altitude", 2], ["ca", 1], ["typeCod
   ["time", 1], ["odd", 1]];
 export const GROUND_LAYOUT = [["address", 4], ["ca", 1], ["typeCode", 1], ["movement", 1], ["trackStatus", 1],
   ["track", 1], ["time", 1], ["odd", 1]];
-
-/** The fields of one byte at the end of a squitter's fields, from byte 26 on. */
-export const SMALL_FIELDS = ["altitudeForm", "kind", "ca", "typeCode", "odd", "time", "status", "flag", "movement",
-  "trackStatus", "track"];
 
 export const FRAME_BYTES = 14, ENTRY_BYTES = 192, PAGE_BYTES = 65536;
 

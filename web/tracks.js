@@ -1,15 +1,19 @@
-/* tracks.js: the places of a log by their addresses, in pieces, with their moments and lines. */
+/* tracks.js: the positions of a log by their addresses, in pieces, with their moments and lines. */
 "use strict";
 
-/** @typedef {{pieces: Piece[], moment: number, lon: number}} Track */
-/** @typedef {{address: number, lon: number, lat: number, moment: number, line: number}} Spot  a place of a track */
+/** @typedef {{pieces: Piece[], piece: Piece | null, moment: number, lon: number}} Track
+ * The last piece, moment and longitude stand beside the pieces. */
+/** @typedef {{address: number, lon: number, lat: number, moment: number, line: number, kind: number}} Spot
+ * A position of a track. */
 
-/** Positions of one address, in order, each with its timestamp and line. They share one block that doubles as it fills.
- * Four arrays of numbers took most of the time, because each garbage collection copied them. */
+/** Positions of one address and kind, in order, each with its timestamp and line. They share one block that doubles as
+ * it fills. Four arrays of numbers took most of the time, because each garbage collection copied them. */
 class Piece {
-  /** @param {boolean} joined whether only the cut at 180 degrees separates it from the piece before it */
-  constructor(joined) {
+  /** @param {boolean} joined whether the track goes on from the piece before: only 180 degrees or the kind cuts it
+   * @param {number} kind */
+  constructor(joined, kind) {
     this.joined = joined;
+    this.kind = kind;
     this.count = 0;
     this.room = 8;
     this.block = new Float64Array(4 * this.room);
@@ -59,8 +63,10 @@ class Piece {
   }
 }
 
-/** How many of a piece's places were heard up to a moment. @param {Piece} piece */
-function heardBy({ moments }, until) {
+/** Returns how many positions of a piece are at or before a moment. @param {Piece} piece */
+function heardBy(piece, until) {
+  if (until === Infinity) return piece.count;
+  const { moments } = piece;
   let low = 0, high = moments.length;
   while (low < high) {
     const middle = (low + high) >> 1;
@@ -70,7 +76,8 @@ function heardBy({ moments }, until) {
   return low;
 }
 
-/** The tracks of a log, cut at 180 degrees and where an address was silent for longer than the window. */
+/** The tracks of a log, cut at 180 degrees, at take-off and landing, and where an address was silent for longer than
+ * the window. */
 class Tracks {
   constructor(windowMilliseconds) {
     this.window = windowMilliseconds;
@@ -78,52 +85,64 @@ class Tracks {
     this.all = new Map();
     this.first = Infinity;
     this.last = -Infinity;
+    this.change();
   }
 
-  /** Adds the places of some answers. @param {Answers} answers */
-  add({ whats, addresses, lons, lats, moments, numbers }) {
+  /** Takes a new version number. No other tracks ever have the same, because the map keeps its drawing of a version. */
+  change() {
+    this.version = Tracks.versions++;
+  }
+
+  /** Adds the positions of some answers. @param {Answers} answers */
+  add({ whats, addresses, kinds, lons, lats, moments, numbers }) {
     // A BigInt for each timestamp would take longer than everything else. Browsers put the lower half first.
     const halves = new Uint32Array(moments.buffer);
+    this.change();
     for (let at = 0; at < whats.length; at++) {
       if (whats[at] !== 1 && whats[at] !== 2) continue;
-      this.addPlace(addresses[at], lons[at], lats[at], halves[2 * at] + 2 ** 32 * halves[2 * at + 1], numbers[at]);
+      const moment = halves[2 * at] + 2 ** 32 * halves[2 * at + 1];
+      this.addPlace(addresses[at], lons[at], lats[at], moment, numbers[at], kinds[at]);
     }
   }
 
-  addPlace(address, lon, lat, moment, line) {
+  addPlace(address, lon, lat, moment, line, kind) {
     let track = this.all.get(address);
-    if (!track) this.all.set(address, (track = { pieces: [], moment: -Infinity, lon: 0 }));
-    const { pieces } = track, isSilent = moment - track.moment > this.window;
-    if (isSilent || Math.abs(lon - track.lon) > 180) pieces.push(new Piece(!isSilent));
-    pieces[pieces.length - 1].add(lon, lat, moment, line);
+    if (!track) this.all.set(address, (track = { pieces: [], piece: null, moment: -Infinity, lon: 0 }));
+    const isSilent = moment - track.moment > this.window;
+    let { piece } = track;
+    if (!piece || isSilent || Math.abs(lon - track.lon) > 180 || piece.kind !== kind) {
+      piece = track.piece = new Piece(!isSilent, kind);
+      track.pieces.push(piece);
+    }
+    piece.add(lon, lat, moment, line);
     track.moment = moment;
     track.lon = lon;
     if (moment < this.first) this.first = moment;
     if (moment > this.last) this.last = moment;
   }
 
-  /** The pieces of one track, or of all. */
+  /** Returns the pieces of one track, or of all. */
   pieces(address = NaN) {
     if (this.all.has(address)) return this.all.get(address)?.pieces ?? [];
     return [...this.all.values()].flatMap(({ pieces }) => pieces);
   }
 
-  /** How many places were heard up to a moment. */
+  /** Returns how many positions are at or before a moment. */
   count(until = Infinity) {
     return this.pieces().reduce((sum, piece) => sum + heardBy(piece, until), 0);
   }
 
-  /** The newest place of a track up to a moment, or null. @returns {Spot | null} */
+  /** Returns the latest position of a track up to a moment, or null. @returns {Spot | null} */
   newest(address, until = Infinity) {
     const pieces = this.pieces(address);
     for (let at = pieces.length - 1; at >= 0; at--) {
-      const { lons, lats, moments, lines } = pieces[at], last = heardBy(pieces[at], until) - 1;
-      if (last >= 0) return { address, lon: lons[last], lat: lats[last], moment: moments[last], line: lines[last] };
+      const last = heardBy(pieces[at], until) - 1;
+      if (last >= 0) return spotOf(address, pieces[at], last);
     }
     return null;
   }
 
-  /** The sides of the places of a track, or of all; of one that is cut at 180 degrees those of its longest piece. */
+  /** Returns the bounds of a track, or of all. For a track that is cut at 180 degrees, those of its longest piece. */
   bounds(address = NaN) {
     const of = (pieces) => {
       const sides = { west: Infinity, east: -Infinity, south: Infinity, north: -Infinity };
@@ -140,7 +159,7 @@ class Tracks {
     return of([pieces.reduce((longest, piece) => (piece.count > longest.count ? piece : longest))]);
   }
 
-  /** The latitudes between which a track lies, or all do, with every piece of them. */
+  /** Returns the least and the greatest latitude of a track, or of all, with every piece. */
   latitudes(address = NaN) {
     let south = Infinity, north = -Infinity;
     for (const piece of this.pieces(address)) {
@@ -150,20 +169,43 @@ class Tracks {
     return { south, north };
   }
 
-  /** The tracks as GeoJSON (RFC 7946): each piece a line, or a point where it has one place. */
+  /** Returns the tracks as GeoJSON (RFC 7946). Each run of pieces is a line, or a point if it has one position. */
   geojson() {
     const features = [];
     for (const [address, { pieces }] of this.all) {
-      for (const { lons, lats, moments, lines } of pieces) {
-        const places = Array.from(lons, (lon, at) => [lon, lats[at]]);
-        const isLine = places.length > 1, coordinates = isLine ? places : places[0];
+      for (const run of runsOf(pieces)) {
+        const all = (column) => run.flatMap((piece) => Array.from(piece[column]));
+        const lons = all("lons"), lats = all("lats"), lines = all("lines"), moments = all("moments");
+        const places = lons.map((lon, at) => [lon, lats[at]]), isLine = places.length > 1;
         // (named and in the order as the columns of track are)
-        const [line, moment] = isLine ? [Array.from(lines), Array.from(moments)] : [lines[0], moments[0]];
-        const properties = { line, moment, address: hexadecimal(address, 6) };
-        const geometry = { type: isLine ? "LineString" : "Point", coordinates };
-        features.push({ type: "Feature", properties, geometry });
+        const [line, moment] = isLine ? [lines, moments] : [lines[0], moments[0]];
+        const geometry = { type: isLine ? "LineString" : "Point", coordinates: isLine ? places : places[0] };
+        features.push({ type: "Feature", properties: { line, moment, address: hexadecimal(address, 6) }, geometry });
       }
     }
     return { type: "FeatureCollection", features };
   }
+}
+
+Tracks.versions = 0;
+
+/** Returns a position of a piece. @param {Piece} piece @returns {Spot} */
+function spotOf(address, { lons, lats, moments, lines, kind }, at) {
+  return { address, lon: lons[at], lat: lats[at], moment: moments[at], line: lines[at], kind };
+}
+
+/** Whether a track goes on into a piece without a cut at 180 degrees. @param {Piece} before @param {Piece} piece */
+function goesOn(before, piece) {
+  return piece.joined && Math.abs(piece.lons[0] - before.lons[before.count - 1]) <= 180;
+}
+
+/** Returns the pieces in runs, each of which is one line. @param {Piece[]} pieces */
+function runsOf(pieces) {
+  /** @type {Piece[][]} */
+  const runs = [];
+  pieces.forEach((piece, at) => {
+    if (at && goesOn(pieces[at - 1], piece)) runs[runs.length - 1].push(piece);
+    else runs.push([piece]);
+  });
+  return runs;
 }

@@ -69,7 +69,7 @@ def places(tries: Tries) -> str:
     ][:3]
     for row in rows:
         answer = answer_beside_program(tries, *row)
-    expect("How it comes about" in answer, answer)
+    expect("Step by step" in answer, answer)
     pictures = pictures_of_zones(browser)
     silent(browser)
     return f"{len(rows)} places, {pictures} pictures"
@@ -140,12 +140,12 @@ def sent_beside_program(tries: Tries, kind: str, lat: str, lon: str) -> int:
     browser, parities = tries.browser, ("even", "odd")
     typed(browser, send_lat=lat, send_lon=lon, send_address="40621d", send_feet="38000")
     for number, parity in enumerate(parities):
-        answer = browser.evaluate(f"[...document.querySelectorAll('#send-answer table')][{number}].textContent")
+        answer = browser.evaluate(f"[...document.querySelectorAll('#send-answer .card')][{number}].textContent")
         words = ["encode", f"--kind={kind}", f"--parity={parity}", "--address=40621d", f"--lat={lat}", f"--lon={lon}"]
         words += ["--feet=38000"] if kind == "air" else []
         done = subprocess.run([tries.program, *words], capture_output=True, text=True, check=True)
         frame = done.stdout.strip()
-        expect(f"Sent {parity}" in answer and frame in answer, words, frame, answer)
+        expect(f"{parity.capitalize()} frame" in answer and frame in answer, words, frame, answer)
     return len(parities)
 
 
@@ -164,5 +164,5 @@ def moved_on_picture(browser: Chromium) -> None:
     pressed(browser, "ArrowUp")
     north = float(browser.evaluate("document.getElementById('send-lat').value"))
     expect(abs(north - lat - 1) < 1e-6, "the arrow moves from", lat, "to", north)
-    marks = browser.evaluate("document.querySelectorAll('#send-answer figure [class^=way-]').length")
+    marks = browser.evaluate("document.querySelectorAll('#send-near [class^=way-]').length")
     expect(marks >= 3, "the picture has", marks, "marks")

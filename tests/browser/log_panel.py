@@ -1,5 +1,8 @@
 """Parts of tests/page about its panel of a log: what it hears, and the tracks on its map."""
+import bz2
+import gzip
 import json
+import lzma
 import os
 import re
 import subprocess
@@ -47,7 +50,7 @@ def example(tries: Tries) -> str:
     )
     expect(len(rows) == 100 and set(rows) == {"7C0003"}, rows)
     places = len(re.findall(rb"^\d+ (?:fix|followed) 7C0003 ", wanted, re.M))
-    expect(shown(browser, "#log-rows") == f"Answers 1 to 100 of {places}.", shown(browser, "#log-rows"), places)
+    expect(shown(browser, "#log-rows") == f"Results 1 to 100 of {places}.", shown(browser, "#log-rows"), places)
     silent(browser)
     return f"{len(wanted.splitlines())} answers, {len(features)} pieces of tracks"
 
@@ -118,10 +121,23 @@ def receiver_files(tries: Tries) -> str:
     given_file(browser, f"{path}.raw", untimed)
     got, state = heard(browser), shown(browser, "#log-state")
     expect(got == tracked(tries.program, untimed, settings) and "The file has" not in state, got, state)
+    packed_files(browser, path, files["beast"], wanted)
     given_file(browser, f"{path}.zero", b"".join(map(beast, frames[:100])))
     expect("(its frames have no times)" in shown(browser, "#log-state"), shown(browser, "#log-state"))
     silent(browser)
     return f"{len(timed)} frames in {len(files)} formats"
+
+
+def packed_files(browser: Chromium, path: str, data: bytes, wanted: bytes) -> None:
+    """A file that is compressed with gzip is unpacked, and refused if it is cut; other archives are refused."""
+    packed = gzip.compress(data)
+    given_file(browser, f"{path}.gz", packed)
+    expect(heard(browser) == wanted, "Beast, compressed with gzip")
+    for name, archive in (("bz2", bz2.compress(data)), ("xz", lzma.compress(data)), ("zip", b"PK\3\4" + data)):
+        given_file(browser, f"{path}.{name}", archive)
+        expect("only gzip is unpacked here" in shown(browser, "#log-state"), name, shown(browser, "#log-state"))
+    given_file(browser, f"{path}.cut", packed[:-9])
+    expect("not decoded to its end" in shown(browser, "#log-state"), shown(browser, "#log-state"))
 
 
 def given_file(browser: Chromium, path: str, data: bytes) -> None:
@@ -161,14 +177,12 @@ def own_site(tries: Tries) -> str:
             clicked(browser, "#log-example")
             expect(heard(browser) == tracked(tries.program, flights(), (10_000, 1000, SITE)), "the example")
             expect("near 52.31, 4.76" in shown(browser, "#log-state"), shown(browser, "#log-state"))
-            expect("without a place" not in shown(browser, "#log-state"), shown(browser, "#log-state"))
+            expect("from the ground" not in shown(browser, "#log-state"), shown(browser, "#log-state"))
         given_log(browser, tries, pair)
         got = heard(browser)
         expect(got == tracked(tries.program, pair, USUAL) and got.endswith(b"no site 7C1234\n"), before, got)
-        expect(
-            "Frames from the ground without a place: 1. Type where" in shown(browser, "#log-state"),
-            shown(browser, "#log-state"),
-        )
+        said = shown(browser, "#log-state")
+        expect("1 frame from the ground has no position: type the position of your receiver." in said, said)
     typed(browser, log_lat=sydney[0], log_lon=sydney[1])
     given_log(browser, tries, pair)
     got = heard(browser)
@@ -214,10 +228,10 @@ def heard_again(tries: Tries) -> str:
     changed(browser, log_lat="", log_lon="")
     got = chosen_again(browser, path)
     expect(got == tracked(tries.program, log, USUAL), "the first time")
-    expect("Type where your receiver is" in shown(browser, "#log-state"), shown(browser, "#log-state"))
+    expect("type the position of your receiver" in shown(browser, "#log-state"), shown(browser, "#log-state"))
     changed(browser, log_lat=SITE[0])
     expect(browser.evaluate("squitterLog.worker === null"), "half a site")
-    expect(shown(browser, "#log-state").startswith("again.log: heard"), shown(browser, "#log-state"))
+    expect(shown(browser, "#log-state").startswith("again.log: decoded"), shown(browser, "#log-state"))
     changed(browser, log_lon=SITE[1])
     got, near = heard(browser), tracked(tries.program, log, (10_000, 1000, SITE))
     expect(got == near, "another site:", first_difference(got, near))
@@ -306,7 +320,8 @@ PLANES = """Object.values(PROJECTIONS).map((one) => {
 DRAWN = """((lon, lat) => {
   squitterLog.map.draw();
   const { x, y } = squitterLog.map.spot({ lon, lat }), canvas = document.getElementById("map");
-  const color = getComputedStyle(canvas).getPropertyValue("--track0").trim().slice(1);
+  const index = [...squitterLog.tracks.all.keys()].indexOf(squitterLog.map.address);
+  const color = getComputedStyle(canvas).getPropertyValue(`--track${Math.max(index, 0)}`).trim().slice(1);
   const wanted = [0, 2, 4].map((from) => parseInt(color.slice(from, from + 2), 16));
   const copy = Object.assign(document.createElement("canvas"), { width: canvas.width, height: canvas.height });
   const pen = copy.getContext("2d", { willReadFrequently: true });
@@ -325,7 +340,7 @@ def maps(tries: Tries) -> str:
     expect(max(worst) < 1e-9, "there and back:", worst)
     south = of_address(flights(), "A00002").decode().splitlines()
     count = 0
-    for address, title in (("A00002", "around the north pole"), ("7C0003", "degrees as they are")):
+    for address, title in (("A00002", "around the north pole"), ("7C0003", "Mercator")):
         given_log(browser, tries, of_address(flights(), address))
         browser.wait(f"document.getElementById('map-state').innerText.includes('{title}')")
         spots = browser.evaluate(
@@ -338,7 +353,8 @@ def maps(tries: Tries) -> str:
             count += 1
     clicked(browser, "#log-example")
     heard(browser)
-    expect("degrees as they are" in shown(browser, "#map-state"), shown(browser, "#map-state"))
+    typed_choice(browser, "map-address", "")
+    expect("equal degrees" in shown(browser, "#map-state"), shown(browser, "#map-state"))
     count += zoomed_views(browser)
     clicked(browser, "[data-map=fit]")
     chosen_spot(tries)
@@ -348,13 +364,20 @@ def maps(tries: Tries) -> str:
     return f"{count} views and places, {len(south)} lines near the pole"
 
 
+def typed_choice(browser: Chromium, field: str, value: str) -> None:
+    """Chooses an option of a field, and waits until the map is drawn."""
+    named = f"document.getElementById('{field}')"
+    browser.evaluate(f"{named}.value = '{value}'; {named}.dispatchEvent(new Event('change'))")
+    browser.evaluate("new Promise((done) => requestAnimationFrame(() => requestAnimationFrame(done)))")
+
+
 def zoomed_views(browser: Chromium) -> int:
     """The point under the pointer stays there in each view, from far and from near; how many views there are."""
     count = 0
-    for view, title in (("north", "north pole"), ("south", "south pole"), ("plain", "as they are")):
-        field = "document.getElementById('map-view')"
-        browser.evaluate(f"{field}.value = '{view}'; {field}.dispatchEvent(new Event('change'))")
-        browser.wait(f"document.getElementById('map-state').innerText.includes('{title}')")
+    views = (("north", "north pole"), ("south", "south pole"), ("mercator", "Mercator"), ("plain", "equal degrees"))
+    for view, title in views:
+        typed_choice(browser, "map-view", view)
+        expect(title in shown(browser, "#map-state"), view, shown(browser, "#map-state"))
         for factor in (1, 40, 4000, 1 / 1e6):
             browser.evaluate(f"squitterLog.map.zoom({factor}); squitterLog.map.draw()")
             moved = browser.evaluate(
@@ -377,7 +400,7 @@ def chosen_spot(tries: Tries) -> None:
     answers = tracked(tries.program, flights(), (10_000, 1000, SITE)).decode().splitlines()
     newest = [line for line in answers if "A00002" in line][-1]
     number, _, address, lat, lon = newest.split(" ")
-    expect(told.startswith(f"{address} at {lat} {lon}, moment ") and told.endswith(f"line {number}."), told, newest)
+    expect(told.startswith(f"{address} at {lat} {lon}, 41000 ft, 0:03:") and told.endswith(f", line {number}."), told)
     expect(browser.evaluate("squitterLog.map.nearest(-500, -500)") is None, "a place far away is chosen")
 
 

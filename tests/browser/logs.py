@@ -76,10 +76,11 @@ def hostile_logs() -> Iterator[Tuple[str, bytes, Settings]]:
     yield "lengths", "\r\n".join([*lengths, ""]).encode() + "\n".join(lengths).encode(), USUAL
 
 
-def tracked(program: str, log: bytes, settings: Settings) -> bytes:
-    """What `squitter track` answers."""
+def tracked(program: str, log: bytes, settings: Settings, form: str = "lines") -> bytes:
+    """What `squitter track` answers, in a format."""
     window, limit, site = settings
     words = [
+        f"--format={form}",
         f"--window={window}",
         f"--limit={limit}",
         *(f"--{name}={text}" for name, text in zip(("lat", "lon"), site or ())),

@@ -8,7 +8,8 @@ import { runInNewContext } from "node:vm";
 import * as squitter from "../../web/squitter.js";
 
 const {
-  load, AirHead, Angle, Code, Contact, Fault, Feed, FeedFormat, GroundHead, Kind, Log, Tracker, What,
+  load, AirHead, AltitudeForm, Angle, Code, Contact, Fault, Feed, FeedFormat, GroundHead, Kind, Log, Stranger, Tracker,
+  WINDOW, What,
 } = squitter;
 const MODULE = readFileSync(new URL("../../dist/squitter.wasm", import.meta.url)), library = await load(MODULE);
 const FRAME = "8D40621D58C382D690C8AC2863A7";
@@ -68,7 +69,7 @@ function names() {
   const members = ({ prototype }) => Object.getOwnPropertyNames(prototype).filter((name) => name !== "constructor")
     .map((name) => [name, Object.getOwnPropertyDescriptor(prototype, name).value?.length ?? null]);
   const told = Object.entries(squitter).map(([name, one]) => [name, name in made ? Object.fromEntries(members(one))
-    : typeof one === "function" ? one.length : one]);
+    : typeof one === "function" ? one.length : typeof one === "object" ? one : { of: typeof one }]);
   const keys = Object.entries(made).map(([name, one]) => [name, Object.keys(one).filter((key) => key !== "name")]);
   console.log(JSON.stringify({ exports: Object.fromEntries(told), keys: Object.fromEntries(keys) }));
 }
@@ -108,15 +109,18 @@ const REFUSED = [
   [Code.NO_TRACKER, () => over.finishText()],
   [Code.NO_TRACKER, () => over.disconnected()],
   [Code.NO_TRACKER, () => over.counts],
-  [Code.BAD_FORMAT, () => new Feed(library, { format: 4 })],
+  [Code.NO_TRACKER, () => over.format],
+  [Code.NO_TRACKER, () => over.stranger],
+  [Code.BAD_FORMAT, () => new Feed(library, { format: 5 })],
   [Code.BAD_FORMAT, () => new Feed(library, { format: -1 })],
   [Code.BAD_FORMAT, () => new Feed(library, { format: 2 ** 32 })],
   [TypeError, () => new Feed(library, { format: "beast" })],
   [TypeError, () => new Feed(library, { leap: 1.5 })],
   [RangeError, () => new Feed(library, { leap: 1n << 64n })],
+  [TypeError, () => new Feed(library, { late: 1.5 })],
+  [RangeError, () => new Feed(library, { late: 1n << 64n })],
   [RangeError, () => new Feed(library).take(new Uint8Array(1), -1)],
   [RangeError, () => new Feed(library).finishText(1n << 64n)],
-  [TypeError, () => library.feedFormat("x")],
   [TypeError, () => new Feed(library).take("x")],
   [TypeError, () => new Feed(library).takeText([1])],
   [TypeError, () => new Log(library).take("5 x")],
@@ -237,7 +241,6 @@ function usedAgain() {
   round();
   const before = library.memory.exports.memory.buffer.byteLength;
   for (let turn = 0; turn < 50; turn++) round();
-  for (let turn = 0; turn < 50; turn++) library.feedFormat(new Uint8Array(100_000));
   const one = new Tracker(library), other = new Tracker(library);
   const after = library.memory.exports.memory.buffer.byteLength;
   one.hear(5, FRAME);
@@ -323,6 +326,24 @@ function copiesOfSettings() {
   if (contact.newest !== 0n || contact.last !== 3n) throw new Error(`${contact.newest} of ${contact.last}`);
 }
 
+/** Tests that trackers, contacts and logs have one default window, also in copies. */
+function defaultWindows() {
+  if (WINDOW !== 10_000n) throw new Error(`the window is ${WINDOW}`);
+  const older = "8D40621D58C386435CC412692AD6";
+  for (const [between, what] of [[0n, What.FIX], [WINDOW, What.FIX], [WINDOW + 1n, What.WAITING]]) {
+    const made = [new Tracker(library), new Contact(library), new Tracker(library, { site: zero }),
+      new Contact(library, WINDOW), new Tracker(library, { window: WINDOW })];
+    for (const tracker of [...made, ...made.map((one) => one.copy())]) {
+      tracker.hear(5, older);
+      const heard = tracker.hear(5n + between, FRAME).what;
+      if (heard !== what) throw new Error(`${heard} after ${between} ms`);
+    }
+    const log = new Log(library);
+    const { whats } = log.take(new TextEncoder().encode(`5 ${older}\n${5n + between} ${FRAME}\n`));
+    if (whats[1] !== what) throw new Error(`${whats[1]} after ${between} ms in a log`);
+  }
+}
+
 /** Tests a piece with more results than the columns hold at once, and with nearly as many. */
 function manyAnswers() {
   for (const count of [0, 1, 4095, 4096, 4097, 32767, 32768, 32769, 100_000]) {
@@ -334,6 +355,64 @@ function manyAnswers() {
     if (![...lats, ...lons, ...feet].every(Number.isNaN)) throw new Error("a refused line has a place");
     log.close();
   }
+}
+
+/** Tests each field of a record, in its place and with a value of its own, in the air and on the ground. */
+function eachField() {
+  const altitude = library.fieldOfFeet(-300), place = { lat: 1, lon: 2 };
+  const air = { address: 0x123456, ca: 3, typeCode: 18, status: 2, flag: 1, time: 0, odd: 1, altitude };
+  const ground = { address: 0xABCDEF, ca: 6, typeCode: 7, movement: 100, trackStatus: 1, track: 90, time: 1, odd: 0 };
+  const none = { raw: 0n, feet: 0, altitude: 0, altitudeForm: AltitudeForm.NONE, time: 0, status: 0, flag: 0,
+    movement: 0, trackStatus: 0, track: 0 };
+  const wanted = [{ ...none, ...air, kind: Kind.AIR, feet: -300, altitudeForm: AltitudeForm.FEET },
+    { ...none, ...ground, kind: Kind.GROUND }];
+  [new AirHead(air), new GroundHead(ground)].forEach((head, at) => {
+    const fields = library.read(library.encode(head, place));
+    const { latCode, lonCode } = { latCode: fields.lat, lonCode: fields.lon };
+    if (!(latCode > 0 && latCode < 131072 && lonCode > 0 && lonCode < 131072 && latCode !== lonCode)) {
+      throw new Error(`the code is ${latCode} ${lonCode}`);
+    }
+    const all = { ...wanted[at], lat: latCode, lon: lonCode }, names = Object.keys(fields);
+    if (names.length !== Object.keys(all).length) throw new Error(names.join());
+    const other = names.find((name) => fields[name] !== all[name]);
+    if (other) throw new Error(`${other} is ${fields[other]}`);
+  });
+  const { lat, lon, altitude: field } = library.read(FRAME);
+  if (lat !== 93000 || lon !== 51372 || field !== 0xC38) throw new Error(`${lat} ${lon} ${field}`);
+  const order = "raw,address,lat,lon,feet,altitude,altitudeForm,kind,ca,typeCode,odd,time,status,flag,movement,"
+    + "trackStatus,track";
+  if (Object.keys(library.read(FRAME)).join() !== order) throw new Error(Object.keys(library.read(FRAME)).join());
+  // A record is the caller's own: the next call does not change it.
+  const first = library.read(FRAME), before = JSON.stringify(first);
+  library.read(library.encode(new GroundHead(ground), place));
+  if (JSON.stringify(first) !== before) throw new Error("a record changed");
+}
+
+/** Tests that each head refuses the fields that it lacks by name, and takes each that it has. */
+function fieldsOfHeads() {
+  const told = (make) => {
+    try {
+      make();
+    } catch (error) {
+      return error instanceof TypeError ? error.message : String(error);
+    }
+    return "taken";
+  };
+  const hint = ": give altitude, a field of 12 bits, which fieldOfFeet(feet) returns";
+  for (const [kind, name, others] of [[AirHead, "AirHead", ["feet", "movement", "track", "kind", "raw"]],
+    [GroundHead, "GroundHead", ["feet", "altitude", "status", "flag", "lat"]]]) {
+    for (const other of others) {
+      for (const value of [38000, 0, undefined, null]) {
+        const message = told(() => new kind({ address: 1, [other]: value }));
+        const wanted = `${name} has no field ${other}${other === "feet" ? hint : ""}`;
+        if (message !== wanted) throw new Error(`${other}: ${message}`);
+      }
+    }
+    const own = Object.keys(new kind({ address: 1 }));
+    for (const field of own) if (told(() => new kind({ address: 1, [field]: 1 })) !== "taken") throw new Error(field);
+  }
+  const altitude = library.fieldOfFeet(38000), { feet } = library.read(library.encode(head({ altitude }), zero));
+  if (feet !== 38000) throw new Error(`${feet} feet`);
 }
 
 /** Tests the JSON of fields and of a fault: numbers of 64 bits are texts. */
@@ -352,6 +431,12 @@ function asJson() {
   }
   const wanted = { name: "Fault", message: "parity 000001", code: Code.PARITY, first: "1", second: 0 };
   if (JSON.stringify(fault) !== JSON.stringify(wanted)) throw new Error(JSON.stringify(fault));
+  // A result of a tracker too, and records within arrays.
+  const tracker = new Tracker(library);
+  tracker.hear(0, "8D40621D58C386435CC412692AD6");
+  const heard = JSON.stringify([tracker.hear(1, FRAME), fields]);
+  const text = '[{"what":1,"position":{"lat":"428091/8192","lon":"64215/16384"},"even":0,"odd":0},{"raw":"0",';
+  if (!heard.startsWith(text)) throw new Error(heard);
   try {
     head({ feet: 38000 });
   } catch ({ message }) {
@@ -403,21 +488,31 @@ function linesOf({ moments, frames }) {
   return [...moments].map((at, index) => `${at} ${frame(index)}\n`).join("");
 }
 
-/** Tests the format that the first bytes of a source show. */
+/** Tests the format that the first bytes of a source show, and sources without frames. */
 function formatsOfSources() {
   for (const [name, source] of Object.entries(SOURCES)) {
-    if (library.feedFormat(source) !== FeedFormat[name]) throw new Error(`${name} is ${library.feedFormat(source)}`);
+    const feed = new Feed(library);
+    if (feed.format !== null) throw new Error("a feed without a byte has a format");
+    feed.take(source);
+    if (feed.format !== FeedFormat[name] || feed.stranger !== null) throw new Error(`${name} is ${feed.format}`);
+    feed.close();
   }
-  for (const none of [new Uint8Array(0), text("*2040;"), text("MSG,3,1\n"), new Uint8Array(100_000)])
-    if (library.feedFormat(none) !== null) throw new Error(`${none.length} bytes show a format`);
-  if (library.feedFormat(text("*2040;\n").buffer) !== FeedFormat.AVR) throw new Error("a line of AVR shows none");
+  const strangers = { SBS: "MSG,3,1\n", JSON: "{}\n", PACKED: "BZh9", NO_FRAME: "2040\n" };
+  for (const [name, source] of Object.entries(strangers)) {
+    const feed = new Feed(library, { format: FeedFormat.AUTO });
+    feed.take(text(source));
+    if ((feed.stranger === null) !== (name === "NO_FRAME")) throw new Error(`${name} is known too late or too soon`);
+    feed.finish();
+    if (feed.stranger !== Stranger[name] || feed.format !== null) throw new Error(`${name} is ${feed.stranger}`);
+    feed.close();
+  }
 }
 
 /** Tests a source of each format: squitters, as arrays and as text, and counts do not depend on the cut. */
 function feedsInPieces() {
   for (const [name, source] of Object.entries(SOURCES)) {
     for (const size of [1, 2, 7, 22, source.length]) {
-      const format = FeedFormat[name], one = new Feed(library, { format }), other = new Feed(library, { format });
+      const format = FeedFormat[name], one = new Feed(library, { format }), other = new Feed(library);
       let lines = "", texts = "";
       for (let at = 0; at < source.length; at += size) {
         lines += linesOf(one.take(source.subarray(at, at + size)));
@@ -460,7 +555,7 @@ function largeFeeds() {
 
 /** Tests arrivals of a live source, the end of a text, and a lost connection. */
 function liveFeeds() {
-  const live = new Feed(library, { format: FeedFormat.AVR, live: true }), dead = new Feed(library, { leap: 500 });
+  const live = new Feed(library, { format: FeedFormat.AVR, live: true }), dead = new Feed(library, { format: FeedFormat.BEAST, leap: 500 });
   const told = [live.takeText(text(`*${EVEN};${ODD}`), 1_700_000_000_000), live.finishText(1_700_000_000_500n)];
   if (told.join("") !== `1700000000000 ${EVEN}\n1700000000500 ${ODD}\n`) throw new Error(`arrivals ${told}`);
   const last = [live.takeText(text(EVEN), 1_700_000_000_600), linesOf(live.finish(1_700_000_000_700))];
@@ -472,6 +567,37 @@ function liveFeeds() {
   const recorded = new Feed(library, { format: FeedFormat.AVR });
   if (recorded.takeText(text(`*${EVEN};`), 5) !== `0 ${EVEN}\n`) throw new Error("an arrival of a recorded source");
   for (const feed of [live, dead, recorded]) feed.close();
+}
+
+/** Tests each setting of a feed beside its default: late rows, other downlink formats, and an ignored clock. */
+function feedSettings() {
+  const answers = (settings, source, arrival) => {
+    const feed = new Feed(library, settings), lines = feed.takeText(text(source), arrival);
+    feed.close();
+    return lines;
+  };
+  const clocked = `@0000005B8D80${EVEN};`, other = "*5D4840D6F83D31;", row = (at) => `5000 ${EVEN}\n${at} ${ODD}\n`;
+  for (const [wanted, settings, source] of [
+    [`500 ${EVEN}\n`, { format: FeedFormat.AVR }, clocked],
+    [`77 ${EVEN}\n`, { format: FeedFormat.AVR, live: true }, clocked],
+    [`0 ${EVEN}\n`, { format: FeedFormat.AVR, byArrival: true }, clocked],
+    ["", { format: FeedFormat.AVR }, other],
+    ["0 5D4840D6F83D31\n", { format: FeedFormat.AVR, allFormats: true }, other],
+    [row(5000), { format: FeedFormat.LOG }, row(4999)],
+    [row(4999), { format: FeedFormat.LOG, late: 1 }, row(4999)],
+    [row(3000), { format: FeedFormat.LOG, late: 2000n }, row(3000)],
+    [`5000 ${EVEN}\n`, { format: FeedFormat.LOG, late: 2000n }, row(2999)],
+  ]) {
+    const got = answers(settings, source, 77);
+    if (got !== wanted) throw new Error(`a feed of ${Object.keys(settings)}: ${got}`);
+  }
+  const ignoring = new Feed(library, { format: FeedFormat.AVR, live: true, byArrival: true });
+  const told = ignoring.takeText(text(clocked), 77) + ignoring.takeText(text(clocked), 78);
+  if (told !== `77 ${EVEN}\n78 ${EVEN}\n`) throw new Error(`an ignored clock: ${told}`);
+  const short = new Feed(library, { format: FeedFormat.AVR, allFormats: true }), { frames } = short.take(text(other));
+  const shown = [...frames].map((byte) => hexadecimal(byte, 2)).join("");
+  if (shown !== `5D4840D6F83D31${"0".repeat(14)}`) throw new Error(`a short frame: ${shown}`);
+  for (const feed of [ignoring, short]) feed.close();
 }
 
 /** Tries each refusal, and that one leaves nothing behind for the next call. */
@@ -488,6 +614,9 @@ async function refusals() {
     if (checked(FRAME) !== "ok 40621D air even 93000 51372") throw new Error(`${call} has damaged the next call`);
   }
   asJson();
+  eachField();
+  fieldsOfHeads();
+  defaultWindows();
   manyAnswers();
   foreignBytes();
   keptWhole();
@@ -501,6 +630,7 @@ async function refusals() {
   feedsInPieces();
   largeFeeds();
   liveFeeds();
+  feedSettings();
   const bytes = library.frame(FRAME), copy = contact.copy();
   const kinds = [bytes, bytes.buffer, new DataView(bytes.buffer), new Uint8ClampedArray(bytes)];
   if (!kinds.every((one) => library.frameText(one) === FRAME)) throw new Error("bytes of another kind");

@@ -69,8 +69,9 @@ def without_flag(tries: Tries) -> str:
     return f"{count} modules"
 
 
-# What Python has and JavaScript has not: calls of arrays, where a call of Python costs more than what it asks for.
-OF_PYTHON_ALONE = {"local_many", "pair_many", "read_many", "Present"}
+# What Python has and JavaScript has not: orders, which no page needs yet, and calls of arrays, where a call of Python
+# costs more than what it asks for.
+OF_PYTHON_ALONE = {"local_many", "pair_many", "read_many", "Order", "Present"}
 
 
 def camel(name: str) -> str:
@@ -82,9 +83,11 @@ def declared(tries: Tries) -> str:
     """web/squitter.d.ts names what web/squitter.js has, with as many arguments, and the names are those of Python."""
     told = json.loads(of_module(tries, "names"))
     text = re.sub(r"/\*.*?\*/", "", bytes_of(f"{TOP}/web/squitter.d.ts").decode(), flags=re.S)
-    blocks = re.findall(r"^export (?:declare (?:class|const)|interface) (\w+)[^{]*\{\n(.*?)^\};?$", text, re.M | re.S)
+    blocks = re.findall(r"^export (?:declare (?:class|const)|interface) (\w+)[^{;]*\{\n(.*?)^\};?$", text, re.M | re.S)
     functions = dict(re.findall(r"^export declare function (\w+)\((.*?)\): ", text, re.M | re.S))
-    names = {name for name, _ in blocks if name in told["exports"]} | functions.keys()
+    numbers = {name for name, kind in re.findall(r"^export declare const (\w+): (\w+);$", text, re.M)
+               if told["exports"].get(name) == {"of": kind}}
+    names = {name for name, _ in blocks if name in told["exports"]} | functions.keys() | numbers
     expect(names == told["exports"].keys(), "exports:", names ^ told["exports"].keys())
     count = len(names)
     for name, body in blocks:
@@ -102,7 +105,8 @@ def declared(tries: Tries) -> str:
         count += len(fields) + len(calls)
     package = read_text("clib/squitter/__init__.py")
     every = re.findall(r'"(\w+)"', re.findall(r"__all__ = \[(.*?)\]", package, re.S)[0])
-    ours = {name for name, _ in blocks} | {call for _, body in blocks for call in re.findall(r"^  (\w+)\(", body, re.M)}
+    calls = {call for _, body in blocks for call in re.findall(r"^  (\w+)\(", body, re.M)}
+    ours = {name for name, _ in blocks} | numbers | calls
     missing = {name for name in every if camel(name) not in ours | {"Frame"}}
     expect(missing == OF_PYTHON_ALONE, "names of Python:", missing ^ OF_PYTHON_ALONE)
     return f"{count} names, and those of Python but {len(missing)}"

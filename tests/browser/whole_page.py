@@ -30,10 +30,13 @@ for (const name of Object.keys(parts)) {
 
 
 def embedded(tries: Tries) -> str:
-    """The files that web/embed writes are up to date, and library.js has the code of squitter.js."""
-    done = subprocess.run([f"{TOP}/web/embed", "--check"], capture_output=True, text=True)
-    expect(done.returncode == 0, done.stdout, done.stderr)
-    count = len(done.stdout.splitlines())
+    """The files that web/embed and web/coastlines/make write are up to date, and library.js has the code of
+    squitter.js."""
+    count = 0
+    for script in ("embed", "coastlines/make"):
+        done = subprocess.run([f"{TOP}/web/{script}", "--check"], capture_output=True, text=True)
+        expect(done.returncode == 0, script, done.stdout, done.stderr)
+        count += len(done.stdout.splitlines())
     if shutil.which("node"):
         same = ["node", "--input-type=module", "-e", SAME_CODE]
         done = subprocess.run(same, cwd=f"{TOP}/web", capture_output=True, text=True)
@@ -64,7 +67,9 @@ def contrast(tries: Tries) -> str:
             ("wrong", "ground", 4.5),
             ("accent", "ground", 4.5),
             *(("ink", f"tint{n}", 4.5) for n in range(8)),
-            *((f"track{n}", "ground", 3) for n in range(6)),
+            *((name, below, 4.5) for name in ("ink", "dim") for below in ("sea", "land")),
+            *((f"track{n}", below, 3) for n in range(6) for below in ("ground", "sea", "land")),
+            *((name, below, 3) for name in ("accent", "wrong") for below in ("sea", "land")),
         ]
         for one, other, least in pairs:
             low, high = sorted((light(theme[one]), light(theme[other])))
@@ -217,7 +222,7 @@ def in_firefox(tries: Tries) -> str:
         said = browser.evaluate("document.getElementById('notice').textContent")
         if not said:
             browser.evaluate("document.getElementById('log-example').click()")
-            browser.wait("document.getElementById('log-state').textContent.includes('heard. ')")
+            browser.wait("document.getElementById('log-state').textContent.includes('decoded. ')")
             got, wanted = browser.evaluate(TEXT).encode(), tracked(tries.program, flights(), (10_000, 1000, SITE))
             expect(got == wanted, first_difference(got, wanted))
             frame = browser.evaluate("document.getElementById('frame-answer').textContent")

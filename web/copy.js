@@ -1,0 +1,44 @@
+/* copy.js: buttons that copy a text. */
+"use strict";
+
+/** How long a button says that its text is copied (ms). */
+const COPIED_FOR = 2000;
+
+/** Copies a text. If the browser refuses the clipboard, a selection is copied, as by hand. Returns whether it worked.
+ * @returns {Promise<boolean>} */
+async function copyText(text) {
+  try {
+    await navigator.clipboard.writeText(text);
+    return true;
+  } catch {
+    const field = element("textarea", { readonly: "", class: "away", "aria-hidden": "true", tabindex: -1 });
+    const focused = /** @type {HTMLElement | null} */ (document.activeElement);
+    field.value = text;
+    document.body.append(field);
+    field.select();
+    const isCopied = document.execCommand("copy");
+    field.remove();
+    focused?.focus();
+    return isCopied;
+  }
+}
+
+/** Selects the text of an element, for the reader to copy. */
+function selectText(node) {
+  const range = document.createRange();
+  range.selectNodeContents(node);
+  getSelection()?.removeAllRanges();
+  getSelection()?.addRange(range);
+}
+
+/** Returns a button that copies the text of an element. If the browser refuses, the button selects the text. */
+function copyButton(node, what) {
+  const button = element("button", { type: "button", class: "copy", "aria-label": `Copy ${what}` }, "Copy");
+  button.addEventListener("click", async () => {
+    const isCopied = await copyText(node.textContent);
+    if (!isCopied) selectText(node);
+    button.textContent = isCopied ? "Copied" : "Press Ctrl+C";
+    setTimeout(() => { button.textContent = "Copy"; }, COPIED_FOR);
+  });
+  return button;
+}
