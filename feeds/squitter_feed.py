@@ -17,6 +17,7 @@ CLOCK_TURN = 1 << 48  # ticks after which that clock starts again
 MULTILATERATED = 0xFF004D4C4154  # what stands for the clock in frames that a server computed: FF 00 and "MLAT"
 CLOCK_JITTER = 1000  # milliseconds that a clock may go back without having started again
 AGREEING = 3  # moments in a row by which a leap is for good
+PLENTY = 2000  # milliseconds for which holding frames is advised, where some come late
 TOLD = 10  # how many faults of one kind are told before the rest are only counted
 
 SQUITTER = 17  # the downlink format of extended squitters
@@ -646,6 +647,8 @@ class Feed:
         """What was printed and what was left out, in a line; of these lines the output took fewer, and the file."""
         others = ", ".join(f"DF{number} {count}" for number, count in sorted(self.others.items()))
         among = " among them" if self.options.all_formats else ""
+        late = self.order.late + self.moments.late
+        advice = f"; try --reorder={PLENTY}" if late and self.options.reorder < PLENTY else ""
         parts = [
             (unwritten, "not written"),
             (unsaved, "not saved"),
@@ -653,12 +656,12 @@ class Feed:
             (self.mode_ac, "of Mode A/C"),
             (self.multilaterated, "multilaterated"),
             (self.moments.leaps, "that leap in time"),
-            (self.order.late + self.moments.late, "late"),
+            (late, "late"),
             (self.damaged + (self.format.damaged if self.format else 0), "damaged"),
             (self.moments.begun_anew, "jumps of the clock"),
         ]
         counted = [f"{count} {what}" for count, what in parts if count]
-        return ", ".join([f"{self.printed - unwritten} printed", *counted])
+        return ", ".join([f"{self.printed - unwritten} printed", *counted]) + advice
 
     def _begun(self, found: Type[Format]) -> List[str]:
         """The lines of the pieces by which the format was found, each with its own arrival."""

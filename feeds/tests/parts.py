@@ -275,7 +275,7 @@ def no_clock() -> None:
     rows, feed, told = fed(late, True)
     same(
         ([moment for moment, _ in rows], told, feed.summary()),
-        ([10_000, 11_000, 12_000], [], "3 printed, 1 late"),
+        ([10_000, 11_000, 12_000], [], "3 printed, 1 late; try --reorder=2000"),
     )
 
 
@@ -385,6 +385,14 @@ def order() -> None:
     same(tried(100, 1000, 900, 1050, 950, 1200, 1100), ([900, 950, 1000, 1050, 1100, 1200], 0), "late by 100")
     same(tried(100, 1000, 1200, 1150, 1100, 1300), ([1000, 1100, 1150, 1200, 1300], 0), "late by less")
     same(tried(100, 1000, 1101, 999, 1300), ([1000, 1101, 1300], 1), "late by more")
+    lines = b"".join(b"%d %s\n" % (m, AIR_EVEN.encode()) for m in (1000, 2000, 1999))
+    same(fed([(lines, 0)], False)[1].summary(), "2 printed, 1 late; try --reorder=2000")
+    same(fed([(lines, 0)], False, reorder=1)[1].summary(), "3 printed")
+    for reorder, advice in ((1999, "; try --reorder=2000"), (2000, "")):
+        feed = Feed(Options(reorder=reorder), False, print)
+        same(feed.summary(), "0 printed")
+        feed.order.late = 1
+        same(feed.summary(), f"0 printed, 1 late{advice}")
     held = Order(500, live=True)
     same(held.put(1000, 1000, "A") + held.put(900, 1010, "B"), [])
     same((held.wait(1200), held.due(1200), held.wait(1600)), (310, [], 0))

@@ -156,7 +156,7 @@ def counted_once() -> None:
     same((sum(map(len, given)), printed, told), (100, 100, []))  # type: ignore[call-overload]
     same(summary, "100 printed, 100 of other downlink formats (DF11 100), 100 damaged")
     late = b"".join(csv_row(k) for k in (5000, 5001, 5002, 5001, 5003))
-    same(both([late])[4], "4 printed, 1 late")
+    same(both([late])[4], "4 printed, 1 late; try --reorder=2000")
 
 
 def fast() -> None:
