@@ -46,7 +46,7 @@ int main(int argc, char **argv) {
   squitter_counts counts;
   ssize_t length;
   int wrong;
-  if (argc != 3 || !block.memory || squitter_feed_new(&feed, block, format_of(argv[1]), LEAP, 0).code) return 2;
+  if (argc != 3 || !block.memory || squitter_feed_new(&feed, block, format_of(argv[1]), LEAP, 0, 0).code) return 2;
   for (wrong = 0; !wrong && (length = read(0, piece, PIECE)) > 0;)
     wrong = feed_piece(&feed, argv[2], (size_t)length, 0);
   wrong = wrong || feed_piece(&feed, argv[2], 0, 1) || squitter_feed_counts(&feed, &counts).code;

@@ -3,19 +3,21 @@
 frames, Python, Node and the page, and feeds by their format.
 
 The log has a million LINES of 900 aircraft (bench/gen.c). Each row has the least time and the least processor time of
-five ROUNDS, in nanoseconds a line. Rows of Python count the calls alone; all others count their whole process. Calls
-for one frame, `squitter-feed` and `squitter-geojson` get the first twentieth of the log. The answers of the program,
-Python, Node and the page are compared. Needs NumPy, pandas and a C compiler; skips Node and Chromium if missing."""
+five ROUNDS, in nanoseconds a line. Rows of Python count the calls alone; all others count their whole process, and a
+pipe counts both of its programs. Calls for one frame, `squitter-feed` and `squitter-geojson` get the first twentieth of
+the log. The answers of the program, also behind `squitter feed`, of Python, Node and the page are compared, and the
+logs of the feeds too. Needs NumPy, pandas and a C compiler; skips Node and Chromium if missing."""
 import contextlib
 import hashlib
 import os
+import shlex
 import subprocess
 import sys
 import tempfile
 import time
 from fractions import Fraction
 from pathlib import Path
-from typing import Any, Callable, Dict, NamedTuple, Optional, Sequence, Tuple
+from typing import Any, Callable, Dict, Mapping, NamedTuple, Optional, Sequence, Tuple
 
 TOP = Path(__file__).resolve().parent.parent
 CLIB = TOP / "clib"
@@ -86,6 +88,12 @@ def avr(moment: int, frame: bytes) -> bytes:
 def csv(moment: int, frame: bytes) -> bytes:
     millis = EPOCH + moment
     return f"{millis // 1000}.{millis % 1000:03},{frame[1:4].hex()},{frame.hex()}\n".encode()
+
+
+def of_pipe(first: Sequence[str], second: Sequence[str], path: Path) -> Callable[[], Took]:
+    """A run of two programs, with a file as the input of the first and a pipe between them."""
+    # The shell waits for both, so its processor time has theirs.
+    return of_process(["sh", "-c", f"{shlex.join(first)} | {shlex.join(second)}"], path)
 
 
 def of_process(words: Sequence[str], path: Optional[Path]) -> Callable[[], Took]:
@@ -183,11 +191,23 @@ def ways_of_programs(inputs: Inputs, program: str) -> Dict[str, Way]:
     }
     rows.update({f"squitter_feed_take_text of {name}, C": Way(count, of_process([feed, name, "text"], path))
                  for name, path in inputs.feeds.items()})
+    for name, path in inputs.feeds.items():
+        feeding = [program, "feed", f"--format={name}"]
+        rows[feed_row(name)] = Way(count, of_process(feeding, path))
+        rows[pipe_row(name)] = Way(count, of_pipe(feeding, [program, "track", *site], path))
     scripts = {"squitter-feed of beast": ("squitter-feed", inputs.short_feed),
                "squitter-geojson": ("squitter-geojson", inputs.short, answers)}
     rows.update({name: Way(inputs.part, of_process([f"{TOP}/feeds/{script}", *map(str, paths)], None))
                  for name, (script, *paths) in scripts.items()})
     return rows
+
+
+def feed_row(name: str) -> str:
+    return f"squitter feed --format={name}"
+
+
+def pipe_row(name: str) -> str:
+    return f"{feed_row(name)} \\| squitter track"
 
 
 def ways_of_browsers(inputs: Inputs, program: str, closing: contextlib.ExitStack) -> Dict[str, Way]:
@@ -213,6 +233,14 @@ def digest(text: str) -> str:
     return hashlib.sha256(text.encode()).hexdigest()
 
 
+def feeds_differ(inputs: Inputs, runs: Mapping[str, Sequence[Took]]) -> bool:
+    """Whether a feed's log is not the log that its source was made of. The times of CSV are those since 1970."""
+    late = b"".join(b"%d %s\n" % (EPOCH + moment, frame.hex().upper().encode()) for moment, frame in inputs.squitters)
+    logs = {name: late if name == "csv" else b"".join(inputs.lines) for name in inputs.feeds}
+    sums = {feed_row(name): hashlib.sha256(log).hexdigest() for name, log in logs.items()}
+    return any(run.answers != wanted for row, wanted in sums.items() for run in runs[row])
+
+
 def least(runs: Sequence[Took], count: int) -> Tuple[float, float]:
     """Returns the least time and processor time of some runs, in nanoseconds a line."""
     return tuple(1e9 * min(some) / count for some in list(zip(*runs))[:2])  # type: ignore[return-value]
@@ -229,10 +257,12 @@ def main() -> None:
                 **ways_of_browsers(inputs, program, closing)}
         turns = [[way.run() for way in ways.values()] for _ in range(rounds)]
     runs = dict(zip(ways, zip(*turns)))
-    compared = ("squitter track", "squitter.Log", "Node, texts", "the page")
+    compared = ("squitter track", *map(pipe_row, inputs.feeds), "squitter.Log", "Node, texts", "the page")
     counted = {run.answers for run in runs.get("Node, columns", [])}
     if len({run.answers for name in compared for run in runs.get(name, [])}) != 1 or counted - {digest(f"{count}\n")}:
         sys.exit("surfaces.py: the answers differ")
+    if feeds_differ(inputs, runs):
+        sys.exit("surfaces.py: the log of a feed differs")
     print(f"{count} lines of {AIRCRAFT} aircraft, the least of {rounds} rounds")
     print("| | ns a line | beside `track` | processor ns a line | beside `track` |\n|---|---|---|---|---|")
     beside = least(runs["squitter track"], count)
