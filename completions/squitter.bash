@@ -13,7 +13,10 @@ _squitter() {
         *[\<\>]) COMPREPLY=(); return ;;
         --kind) names="air ground" ;;
         --parity) names="even odd" ;;
-        --format) names="lines csv json" ;;
+        --format)
+            names="lines csv json"
+            if [ "${COMP_WORDS[1]}" = feed ]; then names="auto beast avr csv log"; fi
+            ;;
         --address | --feet | --lat | --lon | --limit | --window) compopt +o default 2>/dev/null ;;
         *)
             case ${COMP_WORDS[1]} in
@@ -23,9 +26,10 @@ _squitter() {
                 pair) names="--lat --lon --help" ;;
                 check) names="--format --help" ;;
                 track) names="--format --limit --window --lat --lon --help" ;;
+                feed) names="--format --help" ;;
             esac
             if [ "$COMP_CWORD" = 1 ]; then
-                names="show encode local pair check track help --help --version"
+                names="show encode local pair check track feed help --help --version"
             fi
             ;;
     esac

@@ -9,6 +9,7 @@ complete -c squitter -n __fish_use_subcommand -a local -d 'Decode the position o
 complete -c squitter -n __fish_use_subcommand -a pair -d 'Decode the position of the newer of two frames'
 complete -c squitter -n __fish_use_subcommand -a check -d 'Answer each frame of standard input'
 complete -c squitter -n __fish_use_subcommand -a track -d 'Print the position of each line of a log'
+complete -c squitter -n __fish_use_subcommand -a feed -d 'Print the frames of a receiver as a log'
 complete -c squitter -n __fish_use_subcommand -a help -d 'Print help'
 
 complete -c squitter -n '__fish_seen_subcommand_from show' -l help -d 'Print help'
@@ -38,3 +39,6 @@ complete -c squitter -n '__fish_seen_subcommand_from track' -l window -x -d 'How
 complete -c squitter -n '__fish_seen_subcommand_from track' -l lat -x -d 'The latitude of the receiver in degrees'
 complete -c squitter -n '__fish_seen_subcommand_from track' -l lon -x -d 'The longitude of the receiver in degrees'
 complete -c squitter -n '__fish_seen_subcommand_from track' -l help -d 'Print help'
+
+complete -c squitter -n '__fish_seen_subcommand_from feed' -l format -x -a 'auto beast avr csv log' -d 'The input format'
+complete -c squitter -n '__fish_seen_subcommand_from feed' -l help -d 'Print help'
