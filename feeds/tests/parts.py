@@ -1,12 +1,13 @@
-"""The parts of squitter-feed, by hostile input: formats, moments, leaps, order."""
+"""The feed of squitter-feed by hostile input: formats, timestamps, leaps, order."""
 from __future__ import annotations
 
 import random
 import re
-from typing import List, Sequence, Tuple, Type
+from typing import List, Sequence, Tuple
 
+import squitter
 import squitter_feed
-from squitter_feed import AvrText, BeastBinary, CsvText, Feed, Format, Heard, LogText, Options, Order
+from squitter_feed import Feed, Options
 from trying import (
     AIR_EVEN,
     AIR_ODD,
@@ -23,21 +24,33 @@ from trying import (
     same,
 )
 
-
-def split(kind: Type[Format], *pieces: bytes) -> Tuple[List[str], int]:
-    """The frames of a format, and how many pieces were damaged."""
-    tried = kind()
-    frames = [heard.frame for piece in pieces for heard in tried.split(piece)]
-    frames += [heard.frame for heard in tried.last()]
-    return frames, tried.damaged
+FAR = (1 << 64) - 1  # milliseconds: no time jumps, and none is late
 
 
-def cut_anywhere(kind: Type[Format], data: bytes, wanted: Tuple[List[str], int]) -> None:
-    """The same frames come of the whole, of any two pieces, and byte by byte."""
-    same(split(kind, data), wanted, kind.name)
+def split(form: str, *pieces: bytes) -> Tuple[List[str], int]:
+    """The frames of a source of this format, except Mode A/C, and how many pieces were damaged."""
+    feed = squitter.Feed(form, FAR, late=FAR, all_formats=True, by_arrival=True)
+    lines = b"".join(map(feed.take, pieces)) + feed.finish()
+    return [line.split()[1] for line in lines.decode().splitlines()], feed.counts.damaged
+
+
+def times(form: str, data: bytes) -> List[int]:
+    """The timestamps of a source of this format."""
+    feed = squitter.Feed(form, FAR, late=FAR)
+    return feed.take_frames(data)[0].tolist() + feed.finish_frames()[0].tolist()
+
+
+def cut_anywhere(form: str, data: bytes, wanted: Tuple[List[str], int]) -> None:
+    """The same frames and damages come of the whole, of any two pieces, and byte by byte."""
+    same(split(form, data), wanted, form)
     for place in range(len(data)):
-        same(split(kind, data[:place], data[place:])[0], wanted[0], kind.name, "cut at", place)
-    same(split(kind, *(data[place : place + 1] for place in range(len(data))))[0], wanted[0], kind.name, "byte by byte")
+        same(split(form, data[:place], data[place:]), wanted, form, "cut at", place)
+    same(split(form, *(data[place : place + 1] for place in range(len(data)))), wanted, form, "byte by byte")
+
+
+def rows_of(lines: bytes) -> List[Tuple[int, str]]:
+    """The timestamps and frames of lines."""
+    return [(int(moment), frame) for moment, frame in (line.split() for line in lines.decode().splitlines())]
 
 
 def fed(
@@ -46,10 +59,9 @@ def fed(
     """What a feed prints of pieces, each with its arrival; the feed, and what it tells."""
     told: List[str] = []
     feed = Feed(Options(**options), live, told.append)  # type: ignore[arg-type]
-    lines = [line for piece, arrival in data for line in feed.hear(piece, arrival)]
+    lines = b"".join(feed.hear(piece, arrival) for piece, arrival in data)
     lines += feed.end(data[-1][1] if data else 0)
-    rows = [line.split() for line in lines]
-    return [(int(moment), frame) for moment, frame in rows], feed, told
+    return rows_of(lines), feed, told
 
 
 def moments(data: Sequence[Tuple[bytes, int]], live: bool, **options: object) -> List[int]:
@@ -72,22 +84,20 @@ def avr() -> None:
         o,
         e,
     )
-    cut_anywhere(AvrText, data, ([AIR_EVEN, AIR_ODD] * 3 + [AIR_EVEN], 0))
+    cut_anywhere("avr", data, ([AIR_EVEN, AIR_ODD] * 3 + [AIR_EVEN], 0))
     cut_anywhere(
-        AvrText,
+        "avr",
         b"xx*%s;yy\n*8D40621D*%s;\n*%s\n%s;\n\xff\x00\n*%s;" % (e, o, e, o, o),
-        ([AIR_EVEN, AIR_ODD, AIR_ODD], 5),
+        # What stands before a mark and what stands behind a semicolon are two damages.
+        ([AIR_EVEN, AIR_ODD, AIR_ODD], 6),
     )
     long = b"*" + b"8" * 100_000
     same(
-        split(AvrText, b"*%s;\n" % e, long, long, b";\n*%s;\n" % o, long + b"\n*%s;\n" % e),
-        ([AIR_EVEN, AIR_ODD, AIR_EVEN], 2),
+        split("avr", b"*%s;\n" % e, long, long, b";\n*%s;\n" % o, long + b"\n*%s;\n" % e),
+        ([AIR_EVEN, AIR_ODD, AIR_EVEN], 3),  # each mark begins anew
     )
-    tried = AvrText()
-    list(tried.split(long * 20))
-    expect(len(tried.lines.rest) <= 4096, "a long line is kept")
-    ticks = [heard.ticks for heard in AvrText().split(data)]
-    same(ticks, [None, None, 0xABCD, 0xABCE, None, 0xABCF, None])
+    by_clock = b"@%012X%s;%%%012x%s;\n<%012X80%s;\n" % (60_000, e, 72_000, o, 84_000, e)
+    same(times("avr", by_clock), [5, 6, 7])
     for wrong in (
         b"@0000ABCD%s;" % e,
         b"*%s;" % e[:-1],
@@ -98,19 +108,20 @@ def avr() -> None:
         b"@",
         b"%s %s" % (e[:14], e[14:]),
     ):
-        same(split(AvrText, wrong + b"\n")[0], [], wrong)
+        same(split("avr", wrong + b"\n")[0], [], wrong)
 
 
 def beast_binary() -> None:
     """Beast: escapes in clock, signal and frame, in any pieces; half an escape at the end; other kinds of message."""
     ticks = 0x1A1A331A321A
     data = b"".join(beast(frame, ticks, 0x1A) for frame in FRAMES)
-    cut_anywhere(BeastBinary, data, (FRAMES, 0))
-    same([heard.ticks for heard in BeastBinary().split(data)], [ticks] * len(FRAMES))
-    same(split(BeastBinary, data + b"\x1a"), (FRAMES, 1), "half an escape")
-    same(split(BeastBinary, data + beast(LATER)[:-1]), (FRAMES, 1), "half an escape in a frame")
+    cut_anywhere("beast", data, (FRAMES, 0))
+    same(times("beast", data), [ticks // 12_000] * len(FRAMES))
+    # (a lone escape at the very end may begin a message, and is no damage)
+    same(split("beast", data + b"\x1a"), (FRAMES, 0), "half an escape")
+    same(split("beast", data + beast(LATER)[:-1]), (FRAMES, 1), "half an escape in a frame")
     status = b"\x1a4" + bytes(range(1, 22))
-    same(split(BeastBinary, status + data + status + beast(AIR_ODD) + status), (FRAMES + [AIR_ODD], 0), "status")
+    same(split("beast", status + data + status + beast(AIR_ODD) + status), (FRAMES + [AIR_ODD], 0), "status")
     mixed = (
         beast(REPLY)
         + b"\x1ax\x00\x01"
@@ -120,16 +131,13 @@ def beast_binary() -> None:
         + b"\x00" * 100_000
         + beast(AIR_ODD)
     )
-    same(split(BeastBinary, mixed)[0], [REPLY, "0000", COMM_B, AIR_ODD])
+    same(split("beast", mixed), ([REPLY, COMM_B, AIR_ODD], 3))
 
 
-def beast_kept_small() -> None:
-    """What follows an unknown kind of message, and no escape ends, is not kept."""
-    tried = BeastBinary()
-    for _ in range(10):
-        same(list(tried.split(b"\x1ax" + b"\x00" * 100_000)), [])
-        expect(len(tried.rest) < 64, "garbage is kept:", len(tried.rest))
-    same([heard.frame for heard in tried.split(beast(AIR_ODD))], [AIR_ODD])
+def beast_after_garbage() -> None:
+    """What follows an unknown kind of message, and no escape ends, is one damage, however long it is."""
+    garbage = [b"\x1ax" + b"\x00" * 100_000] + [b"\x00" * 100_000] * 10
+    same(split("beast", *garbage, beast(AIR_ODD)), ([AIR_ODD], 1))
 
 
 def byte_lost() -> None:
@@ -146,7 +154,7 @@ def byte_lost() -> None:
             ("twice", data[place : place + 1] * 2),
             ("other", bytes([data[place] ^ 0x55])),
         ):
-            got, damaged = split(BeastBinary, data[:place] + with_it + data[place + 1 :])
+            got, damaged = split("beast", data[:place] + with_it + data[place + 1 :])
             left = iter(got)
             expect(all(frame in left for frame in kept), f"byte {place} {harm}:", got, "lacks one of", kept)
             expect(len(got) <= len(sent) + 1, f"byte {place} {harm}: there are more frames than were sent")
@@ -160,14 +168,14 @@ def garbage() -> None:
     """Beast with garbage after each frame: no frame is lost."""
     sent = [AIR_EVEN, AIR_ODD, ESCAPES, GROUND]
     data = b"".join(beast(frame, 7) + b"\x00\xff garbage \x1a\x1a\x1a9" for frame in sent)
-    same(split(BeastBinary, data), (sent, 2 * len(sent)))
-    same(split(BeastBinary, b"garbage" + data), (sent, 2 * len(sent) + 1))
+    same(split("beast", data), (sent, 2 * len(sent)))
+    same(split("beast", b"garbage" + data), (sent, 2 * len(sent) + 1))
 
 
 def csv_rows() -> None:
     """CSV: seconds by their digits, columns by their names, quotes, CRLF; rows that are none."""
     e = AIR_EVEN
-    times = [
+    read = [
         ("1", 1000),
         ("0.0", 0),
         ("1495231231.9999", 1495231231999),
@@ -175,15 +183,15 @@ def csv_rows() -> None:
         ("5.", 5000),
         ("7.5", 7500),
     ]
-    for text, wanted in times:
-        same([heard.millis for heard in CsvText().split(row(text))], [wanted], text)
+    for text, wanted in read:
+        same(times("csv", row(text)), [wanted], text)
     for text in ("", "-1", "1e9", "nan", "inf", "1,5", "1.2.3", "0x10", "1 2", "9999999999999", "１", ".5"):
-        same(split(CsvText, row(text)), ([], 1), text)
+        same(split("csv", row(text)), ([], 1), text)
     named = b'icao24;\n"rawmsg",x,"Time"\r\n"%s",,"12.5"\r\n\r\n%s,,13\r\n' % (e.encode(), AIR_ODD.encode())
-    same(split(CsvText, named), ([e, AIR_ODD], 1))
-    same([heard.millis for heard in CsvText().split(named)], [12500, 13000])
+    same(split("csv", named), ([e, AIR_ODD], 1))
+    same(times("csv", named), [12500, 13000])
     cut_anywhere(
-        CsvText, b"time,icao24,rawmsg\n" + row("1.25") + row("2", AIR_ODD) + row("3", "8D") + b"4,x", ([e, AIR_ODD], 2)
+        "csv", b"time,icao24,rawmsg\n" + row("1.25") + row("2", AIR_ODD) + row("3", "8D") + b"4,x", ([e, AIR_ODD], 2)
     )
     hostile = (
         b'"' * 3000
@@ -196,13 +204,14 @@ def csv_rows() -> None:
         + e.encode()
         + b"\n"
     )
-    same(split(CsvText, hostile + row("9")), ([e], 5))
+    # (bytes that are not ASCII do no harm in a column that is not read)
+    same(split("csv", hostile + row("9")), ([e, e], 4))
 
 
 def log_lines() -> None:
     """A log of track comes out as it is, but for the lines that track refuses for their moments."""
     data = b"18446744073709551615 %s\n18446744073709551616 %s\n5  %s\nx %s\n7 *%s;\r\n\n" % ((AIR_EVEN.encode(),) * 5)
-    cut_anywhere(LogText, data, ([AIR_EVEN, AIR_EVEN], 3))
+    cut_anywhere("log", data, ([AIR_EVEN, AIR_EVEN], 3))
 
 
 SECOND = 12_000_000  # ticks
@@ -218,7 +227,8 @@ def clock() -> None:
     # a jump back in a file: as much later as a leap; once: left out
     same(
         of_file(*(clocked(AIR_EVEN, k * second) for k in (500, 501, 3, 4, 5)), leap=60_000),
-        [500_000, 501_000, 561_000, 562_000, 563_000],
+        # (the first two that agree with a jump are dropped)
+        [500_000, 501_000, 561_000],
     )
     same(
         of_file(*(clocked(AIR_EVEN, k * second) for k in (500, 501, 3, 502, 503))), [500_000, 501_000, 502_000, 503_000]
@@ -226,7 +236,8 @@ def clock() -> None:
     same(of_file(*(clocked(AIR_EVEN, k * second) for k in (1, 2, 9000, 3, 4))), [1000, 2000, 3000, 4000], "once")
     same(
         of_file(*(clocked(AIR_EVEN, k * second) for k in (1, 2, 9000, 9001, 9002))),
-        [1000, 2000, 9_000_000, 9_001_000, 9_002_000],
+        # (a jump ahead goes on a leap later too, so that nothing pairs over the break)
+        [1000, 2000, 602_000],
     )
 
 
@@ -247,20 +258,21 @@ def live_clock() -> None:
             (5, 1_027_000),
         )
     ]
-    same(moments(live, True), [1_000_000, 1_001_000, 1_002_000, 1_003_000, 1_005_000, 1_006_000, 1_007_000, 1_008_000])
+    # (the first two after the jump are dropped)
+    same(moments(live, True), [1_000_000, 1_001_000, 1_002_000, 1_003_000, 1_007_000, 1_008_000])
     # a quiet night is no leap, since the arrivals saw it too; a wild clock is
     quiet = [(clocked(AIR_EVEN, k * second), 1000 * k) for k in (1, 2, 20_000, 20_001)]
     same(moments(quiet, True), [1000, 2000, 20_000_000, 20_001_000])
     feed = Feed(Options(), True, print)
-    same([len(feed.hear(data, arrival)) for data, arrival in quiet], [1, 1, 1, 1], "at once")
+    same([feed.hear(data, arrival).count(b"\n") for data, arrival in quiet], [1, 1, 1, 1], "at once")
     wild = [(clocked(AIR_EVEN, k * second), arrival) for k, arrival in ((1, 1000), (20_000, 1500), (2, 2000))]
     same(moments(wild, True), [1000, 2000])
 
 
 def no_clock() -> None:
     """Clocks that are none: of 0, of a server's, one to take no notice of, and a frame that comes late."""
-    none = [(beast(AIR_EVEN, 0), arrival) for arrival in (1000, 1000, 4500)]
-    same(moments(none, True), [1000, 1000, 4500], "a clock of 0")
+    none = [(beast(AIR_EVEN, 0), arrival) for arrival in (1000, 1000, 1000, 4500)]
+    same(moments(none, True), [1000, 1000, 1000, 4500], "a clock of 0")
     rows, feed, _ = fed([(beast(AIR_EVEN, 0xFF004D4C4154) + beast(AIR_ODD, 7), 1000)], True)
     same(rows, [(1000, AIR_ODD)])
     expect("1 multilaterated" in feed.summary(), feed.summary())
@@ -270,69 +282,75 @@ def no_clock() -> None:
         ),
         [7, 8, 9],
     )
-    # one that comes late is no jump, and is not told
+    # one that comes late is set aside
     late = [(clocked(AIR_EVEN, k * SECOND), 1000 * k) for k in (10, 11, 3, 12)]
     rows, feed, told = fed(late, True)
     same(
         ([moment for moment, _ in rows], told, feed.summary()),
-        ([10_000, 11_000, 12_000], [], "3 printed, 1 late; try --reorder=2000"),
+        ([10_000, 11_000, 12_000], [], "3 printed, 1 set aside; try --reorder=2000"),
     )
 
 
 def lost_connection() -> None:
-    """A connection that was lost: half a frame is counted, the clock is begun anew, and the format is told again."""
+    """A connection that was lost: half a frame is counted, the clock is begun anew, and the format is found again."""
     feed = Feed(Options(), True, print)
-    lines = feed.hear(beast(AIR_EVEN, 12_000_000) + beast(AIR_ODD, 24_000_000) + beast(AIR_ODD)[:9], 5000)
-    lines += feed.disconnected()
+    sent = beast(AIR_EVEN, 12_000_000) + beast(AIR_ODD, 24_000_000) + beast(AIR_EVEN, 36_000_000)
+    lines = feed.hear(sent + beast(AIR_ODD)[:9], 5000)
+    feed.disconnected()
+    same((feed.feed.format, feed.feed.stranger), (None, None))
     lines += feed.hear(clocked(AIR_ODD, 96_000), 9000) + feed.hear(clocked(AIR_EVEN, 108_000), 9900)
-    same([int(line.split()[0]) for line in lines], [5000, 6000, 10_000, 10_001])
-    expect(", 1 damaged" in feed.summary(), feed.summary())
-    expect(feed.format is not None and feed.refusal is None, feed.refusal)
+    same([moment for moment, _ in rows_of(lines)], [5000, 6000, 7000, 11_000, 11_001])
+    same((feed.summary(), feed.refusal), ("5 printed, 1 damaged", None))
     half = Feed(Options(), True, print)
-    lines = half.hear(b"nonsense", 0) + half.disconnected() + half.hear(b"*%s;\n" % AIR_ODD.encode(), 7)
-    same((lines, half.refusal, half.summary()), ([f"7 {AIR_ODD}\n"], None, "1 printed, 1 damaged"))
+    lines = half.hear(b"nonsense", 0)
+    half.disconnected()
+    lines += half.hear(b"*%s;\n" % AIR_ODD.encode(), 7)
+    same((lines, half.refusal, half.summary()), (b"7 %s\n" % AIR_ODD.encode(), None, "1 printed, 1 damaged"))
 
 
 def cut_off() -> None:
     """A frame that a lost connection cut off is left out and counted, and not stamped when the next one is there."""
     e, o = AIR_EVEN.encode(), AIR_ODD.encode()
     csv = b"time,icao24,rawmsg\n" + row("1") * 3
+    # Bytes, lines, damages, and the timestamp of a frame that comes 30 seconds later. A marked frame is whole at its
+    # semicolon. Before the third message of Beast the format is not known, and all is one damage.
     rows = [
-        (b"*%s;\n*%s;" % (e, o), 1),
-        (b"*%s;\n*%s" % (e, o[:9]), 1),
-        (b"*%s;\n%s" % (e, o), 1),
-        (b"*%s;\n  " % e, 0),
-        (beast(AIR_EVEN) * 3 + beast(AIR_ODD)[:-1], 1),
-        (beast(AIR_EVEN) * 2 + beast(AIR_ODD)[:-1], 1),
-        (beast(AIR_EVEN), 0),
-        (beast(AIR_EVEN)[:-1], 1),
-        (csv + row("2", AIR_ODD).strip(), 1),
-        (b"5 %s\n6 %s" % (e, o), 1),
-        (b"*%s;" % o, 1),
-        (b"", 0),
+        (b"*%s;\n*%s;" % (e, o), 2, 0, 31_000),
+        (b"*%s;\n*%s" % (e, o[:9]), 1, 1, 31_000),
+        (b"*%s;\n%s" % (e, o), 1, 1, 31_000),
+        (beast(AIR_EVEN) * 3 + beast(AIR_ODD)[:-1], 3, 1, 31_000),
+        (beast(AIR_EVEN) * 2 + beast(AIR_ODD)[:-1], 0, 1, 31_000),
+        (beast(AIR_EVEN), 0, 1, 31_000),
+        (beast(AIR_EVEN)[:-1], 0, 1, 31_000),
+        (csv + row("2", AIR_ODD).strip(), 3, 1, 31_000),
+        (b"5 %s\n6 %s" % (e, o), 1, 1, 30_005),
+        (b"*%s;" % e, 1, 0, 31_000),
+        (b"", 0, 0, 31_000),
     ]
-    for data, damaged in rows:
+    for data, count, damaged, moment in rows:
         feed = Feed(Options(), True, print)
-        lines = feed.hear(data, 1000) + feed.disconnected()
-        expect(all(AIR_ODD not in line for line in lines), data, lines)
-        same((feed.damaged, feed.refusal, feed.format), (damaged, None, None), data)
+        lines = feed.hear(data, 1000)
+        feed.disconnected()
+        same((lines.count(b"\n"), feed.feed.counts.damaged), (count, damaged), data)
+        same((feed.refusal, feed.feed.format), (None, None), data)
         lines = feed.hear(b"*%s;\n" % o, 31_000)
-        same(lines[-1:], [f"31000 {AIR_ODD}\n"], data)
+        same(lines, b"%d %s\n" % (moment, o), data)
 
 
 def own_arrivals() -> None:
-    """Frames have the arrival of the piece they came with: while the format is not known, and at the end."""
+    """Frames have the arrival of the piece they end in. The first three messages of Beast, which show the format, have
+    that of the third one, and a last line has that of its piece."""
     feed = Feed(Options(), True, print)
     odd = beast(AIR_ODD)
-    pieces = [(beast(AIR_EVEN), 1000), (odd[:9], 2000), (odd[9:], 31_000), (beast(GROUND), 62_000)]
-    lines = [line for piece, arrival in pieces for line in feed.hear(piece, arrival)]
-    same(lines, [f"1000 {AIR_EVEN}\n", f"31000 {AIR_ODD}\n", f"62000 {GROUND}\n"])
+    pieces = [(beast(AIR_EVEN), 1000), (odd[:9], 2000), (odd[9:], 31_000), (beast(GROUND), 62_000), (odd, 63_000)]
+    lines = b"".join(feed.hear(piece, arrival) for piece, arrival in pieces)
+    same(rows_of(lines), [(62_000, AIR_EVEN), (62_000, AIR_ODD), (62_000, GROUND), (63_000, AIR_ODD)])
     feed = Feed(Options(), True, print)
-    lines = feed.hear(b"*%s;\n*%s;" % (AIR_EVEN.encode(), AIR_ODD.encode()), 1000) + feed.end(31_000)
-    same(lines, [f"1000 {AIR_EVEN}\n", f"1000 {AIR_ODD}\n"], "a last line")
+    lines = feed.hear(b"*%s;\n%s" % (AIR_EVEN.encode(), AIR_ODD.encode()), 1000) + feed.end(31_000)
+    same(rows_of(lines), [(1000, AIR_EVEN), (1000, AIR_ODD)], "a last line")
     feed = Feed(Options(), True, print)
     lines = feed.hear(beast(AIR_EVEN), 1000) + feed.hear(beast(AIR_ODD), 2000) + feed.end(31_000)
-    same(lines, [f"1000 {AIR_EVEN}\n", f"2000 {AIR_ODD}\n"], "a short source")
+    same(rows_of(lines), [(2000, AIR_EVEN), (2000, AIR_ODD)], "a short source")
 
 
 def other_clock_again() -> None:
@@ -341,67 +359,86 @@ def other_clock_again() -> None:
     feed.hear(clocked(AIR_EVEN, 12_000_000), 5000)
     feed.disconnected()
     lines = feed.hear(b"".join(b"%d %s\n" % (k, AIR_ODD.encode()) for k in (7000, 7001, 7002)), 6000)
-    same(lines, [f"{k} {AIR_ODD}\n" for k in (7000, 7001, 7002)])
+    same(rows_of(lines), [(k, AIR_ODD) for k in (7000, 7001, 7002)])
 
 
 def leaps() -> None:
-    """Times that leap: once, for good, at the start, at the end; and each is told."""
+    """Times that leap: once, for good, at the start, at the end. The first time is taken as it is; one that leaps ahead
+    is set aside and dropped, until three in turn have come, each at or after the one before."""
 
     def tried(*seconds: int, **options: object) -> Tuple[List[int], int]:
         data = b"".join(row(str(second)) for second in seconds)
         rows, feed, told = fed([(data, 0)], False, **options)
-        same(len(told), min(feed.moments.leaps, squitter_feed.TOLD), seconds, "told")
-        return [moment // 1000 for moment, _ in rows], feed.moments.leaps
+        same(told, [], seconds, "told")
+        return [moment // 1000 for moment, _ in rows], feed.feed.counts.aside
 
     same(tried(0, 1, 99_999, 2, 3), ([0, 1, 2, 3], 1))
-    same(tried(99_999, 0, 1, 2, 3), ([0, 1, 2, 3], 1), "the first")
+    same(tried(99_999, 0, 1, 2, 3), ([99_999], 4), "the first")
     same(tried(0, 99_999, 1, 2, 3), ([0, 1, 2, 3], 1), "the second")
     same(tried(0, 1, 2, 99_999), ([0, 1, 2], 1), "the last")
-    same(tried(0, 1, 2, 9000, 9001), ([0, 1, 2, 9000, 9001], 0), "the last two")
-    same(tried(0, 1, 2, 9000, 9001, 9002, 9003), ([0, 1, 2, 9000, 9001, 9002, 9003], 0), "for good")
+    same(tried(0, 1, 2, 9000, 9001), ([0, 1, 2], 2), "the last two")
+    same(tried(0, 1, 2, 9000, 9001, 9002, 9003), ([0, 1, 2, 9002, 9003], 2), "for good")
     same(tried(0, 1, 9000, 99_000, 2, 3), ([0, 1, 2, 3], 2), "two of them")
-    same(tried(0, 1, 9000, 99_000, 9001, 9002), ([0, 1, 9000, 9001, 9002], 1), "one in a leap for good")
-    same(tried(0, 9000, 9001, 9002), ([0, 9000, 9001, 9002], 0), "one line, and then a leap for good")
+    same(tried(0, 1, 9000, 99_000, 9001, 9002), ([0, 1], 4), "one in a leap for good")
+    same(tried(0, 9000, 9001, 9002), ([0, 9002], 2), "one line, and then a leap for good")
     same(tried(5), ([5], 0), "one line")
     same(tried(0, 99_999), ([0], 1), "two lines")
-    same(tried(0, 700, 1400, 2100, 2800, 3500), ([0, 700, 1400, 2100, 2800], 1), "all far between")
-    same(tried(0, 1, 2, 1, 0, 3), ([0, 1, 2, 3], 0), "late ones are no leaps")
+    same(tried(0, 700, 1400, 2100, 2800, 3500), ([0, 2100, 2800, 3500], 2), "all far between")
+    same(tried(0, 1, 2, 1, 0, 3), ([0, 1, 2, 2, 3], 1), "late by a second, and by more")
     same(tried(0, 600, 1200), ([0, 600, 1200], 0), "no leap yet")
     same(tried(0, 1, 2, 12, 3, leap=9999), ([0, 1, 2, 3], 1), "--leap")
     same(tried(0, 1, 2, 12, 13, leap=10_000), ([0, 1, 2, 12, 13], 0), "--leap")
     same(tried(*range(2000), 10**11, *range(2000, 2023)), (list(range(2023)), 1), "one of 2,024 lines")
 
 
+def log(*millis: int) -> bytes:
+    return b"".join(b"%d %s\n" % (moment, AIR_EVEN.encode()) for moment in millis)
+
+
 def order() -> None:
-    """What comes late is sorted in up to --reorder, and left out beyond; equal moments keep their order."""
+    """What comes late is sorted in up to --reorder. A frame that is late by more has the earliest timestamp that can be
+    sorted in, and one that is late by more than a second too is set aside. Equal timestamps keep their order."""
 
     def tried(reorder: int, *millis: int) -> Tuple[List[int], int]:
-        rows, feed, _ = fed(
-            [(b"".join(b"%d %s\n" % (m, AIR_EVEN.encode()) for m in millis), 0)], False, reorder=reorder
-        )
-        return [moment for moment, _ in rows], feed.order.late
+        rows, feed, _ = fed([(log(*millis), 0)], False, reorder=reorder)
+        return [moment for moment, _ in rows], feed.feed.counts.aside
 
-    same(tried(0, 10, 20, 19, 20, 30), ([10, 20, 20, 30], 1))
+    same(tried(0, 10, 20, 19, 20, 30), ([10, 20, 20, 20, 30], 0))
+    same(tried(0, 10, 2000, 1000, 999, 2001), ([10, 2000, 2000, 2001], 1))
     same(tried(100, 1000, 900, 1050, 950, 1200, 1100), ([900, 950, 1000, 1050, 1100, 1200], 0), "late by 100")
     same(tried(100, 1000, 1200, 1150, 1100, 1300), ([1000, 1100, 1150, 1200, 1300], 0), "late by less")
-    same(tried(100, 1000, 1101, 999, 1300), ([1000, 1101, 1300], 1), "late by more")
-    lines = b"".join(b"%d %s\n" % (m, AIR_EVEN.encode()) for m in (1000, 2000, 1999))
-    same(fed([(lines, 0)], False)[1].summary(), "2 printed, 1 late; try --reorder=2000")
-    same(fed([(lines, 0)], False, reorder=1)[1].summary(), "3 printed")
-    for reorder, advice in ((1999, "; try --reorder=2000"), (2000, "")):
-        feed = Feed(Options(reorder=reorder), False, print)
-        same(feed.summary(), "0 printed")
-        feed.order.late = 1
-        same(feed.summary(), f"0 printed, 1 late{advice}")
-    held = Order(500, live=True)
-    same(held.put(1000, 1000, "A") + held.put(900, 1010, "B"), [])
-    same((held.wait(1200), held.due(1200), held.wait(1600)), (310, [], 0))
-    same(held.due(1510), ["900 B\n", "1000 A\n"])
-    same((held.put(950, 1520, "C"), held.late, held.wait(1520)), ([], 1, None))
-    equal = Order(10, live=False)
-    for name in "ABC":
-        equal.put(7, 0, name)
-    same(equal.end(), ["7 A\n", "7 B\n", "7 C\n"])
+    same(tried(100, 1000, 1101, 999, 1300), ([1000, 1001, 1101, 1300], 0), "late by more")
+    same(tried(1500, 1000, 3000, 1500, 1499, 3100), ([1000, 1500, 3000, 3100], 1), "late by more than --reorder")
+    equal = b"".join(b"7 %s\n" % frame.encode() for frame in FRAMES)
+    same(fed([(equal + log(1), 0)], False, reorder=10)[0], [(1, AIR_EVEN), *((7, frame) for frame in FRAMES)])
+    for reorder, advice in ((0, "; try --reorder=2000"), (1999, "; try --reorder=2000"), (2000, "")):
+        same(fed([(log(1000, 10**9), 0)], False, reorder=reorder)[1].summary(), f"1 printed, 1 set aside{advice}")
+        same(fed([(log(1000, 1001), 0)], False, reorder=reorder)[1].summary(), "2 printed")
+
+
+def full_order() -> None:
+    """An order that holds 4096 frames gives the first of them, and one that comes before it is late."""
+    for count, late in ((4095, 0), (4096, 1)):
+        for reorder, advice in ((1999, "; try --reorder=2000"), (2000, "")):
+            rows, feed, _ = fed([(log(*[6000] * count, 5500), 0)], False, reorder=reorder)
+            same(len(rows), count + 1 - late, count)
+            same(rows, sorted(rows), count)
+            same(feed.summary(), f"{count + 1 - late} printed" + (f", 1 late{advice}" if late else ""), count)
+
+
+def silence() -> None:
+    """What is held is printed once no frame has come for --reorder milliseconds, live; and what comes before it then is
+    late."""
+    feed = Feed(Options(500), True, print)
+    same(feed.wait(0), None, "nothing is held")
+    same(feed.hear(log(1000), 1000) + feed.hear(log(900), 1010), b"")
+    same((feed.wait(1200), feed.due(1200), feed.wait(1600)), (310, b"", 0))
+    same(feed.hear(b"junk\n", 1300) + feed.due(1509), b"", "bytes without a frame are none that come")
+    same((feed.due(1510), feed.wait(1510)), (log(900, 1000), None))
+    same((feed.hear(log(950), 1520), feed.wait(1520), feed.due(2020), feed.late), (b"", 500, b"", 1))
+    same(feed.summary(), "2 printed, 1 late, 1 damaged; try --reorder=2000")
+    file = Feed(Options(500), False, print)
+    same((file.hear(log(1000), 1000), file.wait(9999), file.due(9999)), (b"", None, b""))
 
 
 def other_formats() -> None:
@@ -413,7 +450,13 @@ def other_formats() -> None:
         same(feed.summary(), "2 printed, 3 of other downlink formats (DF11 2, DF20 1), 1 of Mode A/C, 2 damaged")
         rows, feed, _ = fed([(data, 5)], True, all_formats=True)
         same([frame for _, frame in rows], [AIR_EVEN, REPLY, COMM_B, REPLY, AIR_ODD])
-    same(Heard("FF" * 14).downlink_format(), 24)
+        others = "3 of other downlink formats (DF11 2, DF20 1) among them"
+        same(feed.summary(), f"5 printed, {others}, 1 of Mode A/C, 2 damaged")
+    last = b"*%s;*%s;*%s;" % (b"FF" * 14, b"C0" * 14, b"B8" * 14)
+    for all_formats, wanted in ((False, "0 printed, 3 of other downlink formats (DF23 1, DF24 2)"),
+                                (True, "3 printed, 3 of other downlink formats (DF23 1, DF24 2) among them")):
+        same(fed([(last, 0)], True, all_formats=all_formats)[1].summary(), wanted)
+        same(fed([(last, 0)], True, all_formats=all_formats, reorder=5)[1].summary(), wanted)
 
 
 def hostile() -> None:
@@ -443,4 +486,4 @@ def hostile() -> None:
             all(re.fullmatch("[0-9A-F]{28}", frame) and 0 <= moment < 1 << 64 for moment, frame in rows), number, rows
         )
         expect([moment for moment, _ in rows] == sorted(moment for moment, _ in rows), number, "moments fall")
-        same(feed.printed, len(rows), number)
+        same(int(feed.summary().split()[0]), len(rows), number)

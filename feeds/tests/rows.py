@@ -1,52 +1,28 @@
-"""Rows with times: the short way of squitter-feed gives what the long one gives, and is fast."""
+"""Rows with times: the same results however they are cut, each row by hand, and fast."""
 from __future__ import annotations
 
 import os
 import random
-import re
 import resource
 import subprocess
 import tempfile
-from contextlib import contextmanager
-from typing import Iterator, List, Sequence, Tuple
+from typing import List, Sequence, Tuple
 
-import squitter_feed
+from parts import fed, log, split
 from process import FEED
-from squitter_feed import LONGEST_LINE, PLAIN_COLUMNS, CsvText, Feed, LogText, Options, TimedText
+from squitter_feed import Feed, Options
 from trying import AIR_EVEN, AIR_ODD, COMM_B, REPLY, expect, same
 
-ENOUGH = 150_000  # rows in a second of processor time, on a busy machine; alone it is more than twice as many
-
-
-@contextmanager
-def the_long_way() -> Iterator[None]:
-    """No row is plain, so that each line is read as one that is none."""
-    kept = TimedText.rows, CsvText.rows
-    longer = re.compile(f"(?!)()()(){'|'}{squitter_feed.OTHER_LINE}")
-    TimedText.rows = CsvText.rows = lambda self, text: longer.findall(text)  # type: ignore[method-assign]
-    try:
-        yield
-    finally:
-        TimedText.rows, CsvText.rows = kept  # type: ignore[method-assign]
+ENOUGH = 1_000_000  # rows in a second of processor time, on a busy machine; alone it is several times as many
+LONGEST_LINE = 512
 
 
 def heard(pieces: Sequence[bytes], options: Options, live: bool) -> Tuple[object, ...]:
-    """All that can be seen of a feed: its lines, its counts, what it told, and where it stands."""
+    """All that can be seen of a feed: its lines, its summary, and what it told."""
     told: List[str] = []
     feed = Feed(options, live, told.append)
-    given = [feed.hear(piece, 1000 * number) for number, piece in enumerate(pieces)]
-    last = feed.moments.last
-    stands = (last and (last.millis, last.arrival), feed.moments.moment, feed.moments.arrival, feed.moments.offset)
-    order = (feed.order.newest, feed.order.printed, feed.order.held and feed.order.held[0][0])
-    return given, stands, order, feed.end(10**6), feed.summary(), told, feed.printed
-
-
-def both(pieces: Sequence[bytes], options: Options = Options(), live: bool = False) -> Tuple[object, ...]:
-    """The same by both ways."""
-    short = heard(pieces, options, live)
-    with the_long_way():
-        same(heard(pieces, options, live), short, pieces[:3])
-    return short
+    lines = b"".join(feed.hear(piece, 1000) for piece in pieces) + feed.end(2000)
+    return lines, feed.summary(), told
 
 
 def number_of(chance: random.Random, millis: int) -> str:
@@ -78,7 +54,7 @@ def rows_by_chance(chance: random.Random, names: List[str], log: bool, count: in
     return "".join(f"{line}\n" for line in lines).encode()
 
 
-def same_by_both_ways() -> None:
+def same_in_pieces() -> None:
     """Random rows in several orders of columns, in pieces of any size, with every option."""
     chance = random.Random(48)
     orders = [["time", "icao24", "rawmsg"], ["rawmsg", "time"], ["x", "rawmsg", "y", "time", "z"],
@@ -96,67 +72,57 @@ def same_by_both_ways() -> None:
         pieces = [data[start:end] for start, end in zip([0, *cuts], [*cuts, len(data)])]
         leap, is_all = chance.choice((0, 4999, 600_000)), chance.randrange(2) == 0
         options = Options(chance.choice((0, 0, 0, 50)), leap, False, is_all)
-        both(pieces, options, chance.randrange(2) == 0)
+        live = chance.randrange(2) == 0
+        same(heard(pieces, options, live), heard([data], options, live), number)
 
 
 def csv_row(millis: int, frame: str = AIR_EVEN) -> bytes:
     return f"{millis // 1000}.{millis % 1000:03d},40621d,{frame}\n".encode()
 
 
-def is_plain(kind: TimedText, line: bytes) -> bool:
-    """Whether a line goes the short way."""
-    return bool(kind.rows(line.upper().decode("latin-1"))[0][2])
-
-
 def borders() -> None:
-    """Rows at a moment, just before it and just after; at a leap; and where the number of digits changes."""
-    start = [csv_row(k) for k in (5000, 5001, 5002)]
-    for moment, kept in ((5001, 0), (5002, 1), (5003, 1)):
-        printed = both([b"".join(start), csv_row(moment)])[6]
-        same(printed, 3 + kept, moment)
-    for ahead, kept in ((600_000, 2), (600_001, 0)):
-        given = both([b"".join(start), csv_row(5002 + ahead) + csv_row(5002)])[0]
-        same(str(given).count(AIR_EVEN), 3 + (kept or 1) - (kept == 2), ahead)
+    """Rows at a timestamp, just before it and just after; late by a second; at a leap; and where the number of digits
+    changes."""
+    start = [5000, 5001, 5002]
+    rows = [(5001, 5002), (5002, 5002), (5003, 5003), (4002, 5002), (4001, None), (605_002, 605_002), (605_003, None)]
+    for moment, printed in rows:
+        wanted = [*start] + [printed] * (printed is not None)
+        for data in (b"".join(map(csv_row, [*start, moment])), log(*start, moment)):
+            same([number for number, _ in fed([(data, 0)], False)[0]], wanted, moment)
     for edge in (10, 100, 1000, 10_000, 10**9, 10**12):
         moments = [edge - 3, edge - 2, edge - 1, edge, edge + 1, edge - 1]
-        got = both([b"".join(csv_row(moment) for moment in moments)])
-        same(got[6], 5, edge)
-        log = both([b"".join(b"%d %s\n" % (moment, AIR_EVEN.encode()) for moment in moments)])
-        same((got[0], got[4]), (log[0], log[4]), edge)
+        wanted = [*moments[:5], edge + 1]
+        for data in (b"".join(map(csv_row, moments)), log(*moments)):
+            same([number for number, _ in fed([(data, 0)], False)[0]], wanted, edge)
 
 
-def which_way() -> None:
-    """Rows as they are common go the short way, whatever stands in their other columns; what is odd does not."""
-    kind = CsvText()
+def which_rows() -> None:
+    """Rows as they are common are read, whatever is in their other columns; what is odd is damage."""
     frame = AIR_EVEN.encode()
-    for line in (csv_row(5), csv_row(5).lower(), b"1,,%s\n" % frame, b"1.5,x,%s,9,y z\r\n" % frame):
-        expect(is_plain(kind, line), line)
-    for line in (b' 1,x,%s\n', b'1,"x",%s\n', b"1,\xb5,%s\n", b".5,x,%s\n", b"1e5,x,%s\n", b"1,x, %s\n", b"1,x\n",
-                 b"\n", b"1234567890123,x,%s\n", b"1,x,90%s\n"):
-        data = line % AIR_EVEN.encode() if b"%s" in line else line
-        expect(not is_plain(kind, data), data)
-    for size in (64, 65):
-        same(is_plain(kind, b"1,%s,%s\n" % (b"x" * size, AIR_EVEN.encode())), size == 64, size)
-    for column in (PLAIN_COLUMNS - 1, PLAIN_COLUMNS):
-        kind = CsvText()
+    for line in (csv_row(5), csv_row(5).lower(), b"1,,%s\n" % frame, b"1.5,x,%s,9,y z\r\n" % frame,
+                 b'1,"x",%s\n' % frame, b"1,\xb5,%s\n" % frame, b'"1",x,"%s"\n' % frame,
+                 b"1,%s,%s\n" % (b"x" * 65, frame)):
+        same(split("csv", line), ([AIR_EVEN], 0), line)
+    # (spaces belong to a cell)
+    for line in (b" 1,x,%s\n", b".5,x,%s\n", b"1e5,x,%s\n", b"1,x, %s\n", b"1,x\n", b"1234567890123,x,%s\n",
+                 b"1,x,9%s\n", b'1,"x,y",%s\n'):
+        data = line % frame if b"%s" in line else line
+        same(split("csv", data), ([], 1), data)
+    for column in (15, 16, 100):
         names = b",".join([b"time"] + [b"x"] * (column - 1) + [b"rawmsg"]) + b"\n"
-        list(kind.frames(names.strip()))
-        line = b"1" + b"," * column + AIR_EVEN.encode() + b"\n"
-        same(is_plain(kind, line), column < PLAIN_COLUMNS, column)
-        same(both([names + line * 3])[6], 3, column)
+        same(split("csv", names + (b"1" + b"," * column + frame + b"\n") * 3), ([AIR_EVEN] * 3, 0), column)
     for line in (b"5000 %s\n", b"999 %s\n", b"12345678901234567890 %s\n", b"1234567890123456789 *%s;\r\n"):
-        wanted = 4 <= len(line.split()[0]) <= 19
-        same(is_plain(LogText(), line % AIR_EVEN.encode()), wanted, line)
+        same(split("log", line % frame), ([AIR_EVEN], 0), line)
 
 
 def counted_once() -> None:
-    """Rows by both ways are counted once each, and what is left out of them too."""
+    """Rows are counted once each, and what is left out of them too."""
     mixed = b"".join(csv_row(k) + csv_row(k, REPLY) + b"x\n" for k in range(5000, 5100))
-    given, *_, summary, told, printed = both([mixed])
-    same((sum(map(len, given)), printed, told), (100, 100, []))  # type: ignore[call-overload]
-    same(summary, "100 printed, 100 of other downlink formats (DF11 100), 100 damaged")
+    rows, feed, told = fed([(mixed, 0)], False)
+    same((len(rows), told), (100, []))
+    same(feed.summary(), "100 printed, 100 of other downlink formats (DF11 100), 100 damaged")
     late = b"".join(csv_row(k) for k in (5000, 5001, 5002, 5001, 5003))
-    same(both([late])[4], "4 printed, 1 late; try --reorder=2000")
+    same(fed([(late, 0)], False)[1].summary(), "5 printed")
 
 
 def fast() -> None:

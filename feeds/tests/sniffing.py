@@ -14,40 +14,36 @@ from typing import Callable, Dict, Iterable, List, Optional, Tuple
 
 import squitter_unpack
 from process import line_of, listening, ran, started
-from squitter_feed import (
-    LONGEST_LINE,
-    UNDECIDED,
-    AvrText,
-    BeastBinary,
-    CsvText,
-    Feed,
-    LogText,
-    Options,
-    Refused,
-    Sniffer,
-)
+from squitter_feed import Feed, Options, Refused
 from squitter_unpack import Unpacking
-from trying import AIR_EVEN, AIR_ODD, GROUND, REPLY, Failed, beast, clocked, expect, row, same
+from trying import AIR_EVEN, AIR_ODD, GROUND, REPLY, beast, clocked, expect, row, same
 
 E = AIR_EVEN.encode()
 GARBAGE = b"\x00\xff\x1a9 garbage 12\n1234\n"
 LINE = b"*%s;\n" % E
+UNDECIDED = 16_384  # bytes within which a source has to show its format
+LONGEST_LINE = 512
+AVR, BEAST, CSV, LOG = "AVR", "BEAST", "CSV", "LOG"
 STATUS = b"\x1a4" + bytes(range(1, 22))
 
 
-def decided(pieces: Iterable[bytes], ends: bool = False, lost: bool = False) -> Tuple[object, int]:
-    """What pieces are taken for, a format's name or the words of a refusal; and after how many bytes."""
-    sniffer, count = Sniffer(), 0
+def decided(pieces: Iterable[bytes], ends: bool = False) -> Tuple[object, int]:
+    """What pieces are taken for, a format's name or the words of a refusal; and after how many bytes. At the end of a
+    source that shows no format, how many frames were found."""
+    feed, count = Feed(Options(), True, lambda _: None), 0
     try:
         for piece in pieces:
             count += len(piece)
-            found = sniffer.hear(piece, 0)
-            if found:
-                return found.name, count
-        found = sniffer.end(lost) if ends else None
-        return found.name if found else None, count
+            feed.hear(piece, 0)
+            if feed.feed.format is not None:
+                return feed.feed.format.name, count
     except Refused as why:
         return str(why), count
+    if not ends:
+        return None, count
+    feed.end(0)
+    counts = feed.feed.counts
+    return str(feed.refusal) if feed.refusal else counts.found - counts.damaged, count
 
 
 def byte_by_byte(data: bytes) -> List[bytes]:
@@ -65,28 +61,28 @@ def cut_anywhere(data: bytes) -> Tuple[object, int]:
 
 def told_apart() -> None:
     """Formats are told apart after garbage too, by the last byte of the line or of the third message."""
-    rows = [
-        (LINE, AvrText),
-        (clocked(AIR_EVEN, 1), AvrText),
-        (E + b"\n", AvrText),
-        (b"%s\n" % E[:14], AvrText),
-        (b"*0000;\n", AvrText),
-        (beast(AIR_EVEN) + beast(REPLY) + beast("0000"), BeastBinary),
-        (beast(AIR_EVEN) + STATUS + beast(AIR_EVEN, 0x1A1A), BeastBinary),
-        (beast("1A" * 14, 0x1A1A1A1A1A1A, 0x1A) * 3, BeastBinary),
-        (row("1.5"), CsvText),
-        (b"time,icao24,rawmsg\n", CsvText),
-        (b"5 %s\n" % E, LogText),
-        (b"5 *%s;\r\n" % E, LogText),
-    ]
-    for data, wanted in rows:
+    # Bytes, their format, and how many of them show it: a marked frame is whole at its semicolon.
+    avr = [LINE, clocked(AIR_EVEN, 1), b"*0000;\n", b"\xef\xbb\xbf" + LINE]
+    rows = [(data, AVR, len(data) - 1) for data in avr]
+    rows += [(data, name, len(data)) for data, name in (
+        (E + b"\n", AVR),
+        (b"%s\n" % E[:14], AVR),
+        (beast(AIR_EVEN) + beast(REPLY) + beast("0000"), BEAST),
+        (beast(AIR_EVEN) + STATUS + beast(AIR_EVEN, 0x1A1A) + beast(REPLY), BEAST),
+        (beast("1A" * 14, 0x1A1A1A1A1A1A, 0x1A) * 3, BEAST),
+        (row("1.5"), CSV),
+        (b"time,icao24,rawmsg\n", CSV),
+        (b"\xef\xbb\xbftime,icao24,rawmsg\n", CSV),
+        (b"5 %s\n" % E, LOG),
+        (b"5 *%s;\r\n" % E, LOG),
+    )]
+    for data, wanted, size in rows:
         for front in (b"", GARBAGE):
             for after in (b"", LINE, b"5 %s\n" % E, beast(AIR_ODD) * 3, LINE + beast(AIR_ODD) * 3):
-                same(cut_anywhere(front + data + after), (wanted.name, len(front + data)), front + data)
-        if data.endswith(b"\n"):
-            same(decided([data.rstrip(b"\n")]), (None, len(data) - 1), data)
-            same(decided([data.rstrip(b"\n")], ends=True)[0], wanted.name, data, "at the end")
-            expect(decided([data.rstrip(b"\n")], ends=True, lost=True)[0] != wanted.name, data, "lost")
+                same(cut_anywhere(front + data + after), (wanted, len(front) + size), front + data)
+        if size == len(data) and data.endswith(b"\n"):
+            same(decided([data[:-1]]), (None, len(data) - 1), data)
+            expect(isinstance(decided([data[:-1]], ends=True)[0], int), data, "at the end")
 
 
 def not_yet() -> None:
@@ -99,6 +95,8 @@ def not_yet() -> None:
         one * 2 + one[:-1],
         one * 2 + b"\x1a5" + one[2:],
         one * 2 + b"\x1a\x1a" + one,
+        one + STATUS + one,  # (a status is no message)
+        b"xx *%s;\n" % E,  # (a marked frame shows AVR text at the start of a line)
         b"garbage \x1a1123456789 and more\n",
         b"\x00*%s;\n" % E,
         b"1234\n",
@@ -107,44 +105,45 @@ def not_yet() -> None:
     ]
     for data in rows:
         same(cut_anywhere(data), (None, len(data)), data)
-        same(cut_anywhere(data + LINE)[0], AvrText.name, data) if data.endswith(b"\n") else None
+        same(cut_anywhere(data + LINE)[0], AVR, data) if data.endswith(b"\n") else None
     text = b"garbage \x1a1123456789 and more\n" + LINE
-    same(cut_anywhere(text), (AvrText.name, len(text)), "an escape in text")
+    same(cut_anywhere(text), (AVR, len(text) - 1), "an escape in text")
 
 
 def short_sources() -> None:
-    """A source that ends with one or two messages is Beast, with one that is cut off too; with anything else it is
-    refused."""
+    """A source that ends with one or two messages is Beast; after a cut one, or garbage, it is refused, and so is one
+    without any message."""
     one, odd = beast(AIR_EVEN, 5), beast(AIR_ODD, 0x1A1A1A)
-    cut = (one + odd[:-1], one + b"\x1a", one + odd[:5], odd + odd[:6])
-    for data in (one, one + odd, beast("0000"), STATUS + one, *cut):
-        for lost in (False, True):
-            same(decided([data], ends=True, lost=lost)[0], BeastBinary.name, data, lost)
-    for data in (b"x" + one, one + b"x", one[:-1], b"\x1a", one + b"\x1a9", one + b"\x1a1" + bytes(10), b"x", b"\n"):
+    rows = [(one, 1), (one + odd, 2), (beast("0000"), 1), (STATUS + one, 1), (one + b"\x1a", 1), (b"x" + one, 1)]
+    for data, found in rows:
+        same(decided([data], ends=True)[0], found, data)
+    # Damage begins the count of messages anew, so these show no format.
+    for data in (one + odd[:-1], one + odd[:5], odd + odd[:6], one + b"x", one + b"\x1a9"):
         expect("no frame" in str(decided([data], ends=True)[0]), data)
-    same(decided([], ends=True), (None, 0), "nothing")
+    for data in (one[:-1], b"\x1a", b"x", b"\n", b"\x1a1" + bytes(8), STATUS):
+        expect("no frame" in str(decided([data], ends=True)[0]), data)
+    same(decided([], ends=True), (0, 0), "nothing")
 
 
 def borders() -> None:
-    """The first 16 KiB decide, to the byte; a line of more than 4096 bytes does not."""
-    same(UNDECIDED, 16_384)
+    """The first 16 KiB decide, to the byte; a row of more than 512 bytes does not."""
     for size in (UNDECIDED - 1, UNDECIDED, UNDECIDED + 1):
         front = b"x" * (LONGEST_LINE + 1) + b"\n"
-        data = front + b"x" * (size - len(front) - len(LINE) - 1) + b"\n" + LINE
-        wanted = AvrText.name if size <= UNDECIDED else "refused"
-        for pieces in ([data], byte_by_byte(data), [data[:-1], data[-1:]], [data[:UNDECIDED], data[UNDECIDED:]]):
-            got, count = decided(pieces)
-            same(got if got == AvrText.name else "refused" if "no frame" in str(got) else got, wanted, size)
-            same(count, size, "bytes")
+        text = front + b"x" * (size - len(front) - len(LINE)) + b"\n" + LINE.strip()
         beasts = b"x" * (size - 3 * len(beast(AIR_EVEN))) + beast(AIR_EVEN) * 3
-        for pieces in ([beasts], byte_by_byte(beasts)):
-            expect((decided(pieces)[0] == BeastBinary.name) == (size <= UNDECIDED), size)
-    expect("no frame" in str(decided([b"x" * (UNDECIDED + 1)])[0]), "too many")
-    same(decided([b"x" * UNDECIDED])[0], None, "not too many")
+        for data, name in ((text, AVR), (beasts, BEAST)):
+            for pieces in ([data], byte_by_byte(data), [data[:-1], data[-1:]], [data[:UNDECIDED], data[UNDECIDED:]]):
+                got, count = decided(pieces)
+                same(got if got == name else "refused" if "no frame" in str(got) else got,
+                     name if size <= UNDECIDED else "refused", size)
+                same(len(data), size)
+                expect(count == min(size, UNDECIDED) or len(pieces) < 3 and count == size, size, count)
+    expect("no frame" in str(decided([b"x" * UNDECIDED])[0]), "too many")
+    same(decided([b"x" * (UNDECIDED - 1)])[0], None, "not too many")
     for size in (LONGEST_LINE - 1, LONGEST_LINE, LONGEST_LINE + 1):
-        line = b"*%s;" % E + b" " * (size - len(LINE)) + b"x"
-        got, count = decided([line + b"\n" + LINE])
-        same(cut_anywhere(line + b"\n" + LINE)[1], size + 1 + len(LINE) * (size > LONGEST_LINE), size)
+        line = b"5.000,x,%s," % E
+        line += b"y" * (size - len(line)) + b"\n"
+        same(cut_anywhere(line + row("6")), (CSV, size + 1 + len(row("6")) * (size > LONGEST_LINE)), size)
 
 
 def fast() -> None:
@@ -152,21 +151,8 @@ def fast() -> None:
     for data in (b"\n", b"\x1a", b"\x1a1", b"\x1a1\x00\x00\x00\x00\x00\x00\x00\x00\x00", b"x", b"1234\n"):
         whole = (data * UNDECIDED)[: UNDECIDED - 200]
         begun = time.process_time()
-        same(decided(byte_by_byte(whole))[0], BeastBinary.name if len(data) == 11 else None, data)
+        same(decided(byte_by_byte(whole))[0], BEAST if len(data) == 11 else None, data)
         expect(time.process_time() - begun < 3, data, "took", time.process_time() - begun)
-
-
-def kept_small() -> None:
-    """A source without a format is not kept: after it is refused nothing is."""
-    feed = Feed(Options(), True, print)
-    for size in (UNDECIDED, 5 * UNDECIDED):
-        try:
-            feed.hear(b"x" * UNDECIDED, 0)
-            feed.hear(b"x" * size, 0)
-        except Refused:
-            same((feed.sniffer.data, feed.sniffer.pieces), (b"", []))
-        else:
-            raise Failed("it is not refused")
 
 
 def refused_by_name() -> None:
@@ -178,19 +164,20 @@ def refused_by_name() -> None:
         archive.addfile(member, BytesIO(row("1") * 50))
     rows = [(magic + bytes(30), text) for magic, text in squitter_unpack.REFUSED.items()]
     rows += [(tar.getvalue(), "a tar archive"), (b"MSG,3,1,1,4B1001,1,2026/11/23\n", "SBS"), (b"STA,,1\n", "SBS")]
+    rows += [(b'{"hex":"40621d"}\n', "JSON"), ("5 8D".encode("utf-16"), "UTF-16")]
     for data, text in rows:
         for pieces in ([data], byte_by_byte(data)):
-            same(heard(pieces)[:1], ([],), text)
+            same(heard(pieces)[0], b"", text)
             expect(text in str(heard(pieces)[1]), text, heard(pieces)[1])
     status, printed, said = ran(["-"], b"PK\x03\x04" + bytes(100))
     expect((status, printed) == (1, "") and "a zip archive" in said, said)
     same(decided([tar.getvalue()[:257] + b"ustaR"])[0], None)
 
 
-def heard(pieces: Iterable[bytes], live: bool = True) -> Tuple[List[str], Optional[str]]:
+def heard(pieces: Iterable[bytes], live: bool = True) -> Tuple[bytes, Optional[str]]:
     """The lines of a source in pieces, through unpacking and a feed; and the words by which it is refused."""
     feed, unpacking = Feed(Options(), live, lambda _: None), Unpacking()
-    lines: List[str] = []
+    lines = b""
     refusal = None
     try:
         for data in pieces:
@@ -233,8 +220,8 @@ def archives() -> None:
                 if len(archive) < 5000:
                     same(heard(byte_by_byte(archive)), wanted, name, "byte by byte")
     twice = gzip.compress(gzip.compress(LINE))
-    same(heard([twice])[0], [], "packed twice")
-    expect("no frame" in str(heard([twice])[1]), "packed twice")
+    same(heard([twice])[0], b"", "packed twice")
+    expect("compressed twice" in str(heard([twice])[1]), "packed twice")
     for name, pack in ARCHIVES.items():
         expect("no frame" in str(heard([pack(b"x" * 100_000)])[1]), name)
 
@@ -291,7 +278,7 @@ def damaged() -> None:
         for place in (12, len(packed) // 2):
             harmed = packed[:place] + bytes(40) + packed[place + 40 :]
             expect(heard([harmed])[1] is not None, name, place)
-    same(heard([b"\x1f\x8b" + bytes(30)]), ([], "the gzip archive is damaged"))
+    same(heard([b"\x1f\x8b" + bytes(30)]), (b"", "the gzip archive is damaged"))
     same(heard([b"\x1f"])[1], heard([b"x"])[1], "one byte")
 
 
@@ -303,7 +290,7 @@ def too_large() -> None:
     place = packed.index(b"\x21\x01", head) + 2
     packed[place] = 39  # 3 GiB
     packed[head + size - 4 : head + size] = struct.pack("<I", zlib.crc32(packed[head : head + size - 4]))
-    same(heard([bytes(packed)]), ([], "the xz archive wants too much memory"))
+    same(heard([bytes(packed)]), (b"", "the xz archive wants too much memory"))
     same(squitter_unpack.ROOM, 65_536)
     for name, pack in ARCHIVES.items():
         packed_zeros = pack(b"\n" * 50_000_000)
