@@ -1,8 +1,10 @@
 """squitter-feed as a process: what it prints, saves, refuses, how it ends, and how it connects again."""
 from __future__ import annotations
 
+import gzip
 import os
 import re
+import shutil
 import signal
 import socket
 import subprocess
@@ -10,7 +12,7 @@ import tempfile
 import threading
 import time
 from contextlib import contextmanager
-from typing import Iterator, List, Sequence, Tuple
+from typing import Dict, Iterator, List, Sequence, Tuple
 
 from trying import AIR_EVEN, AIR_ODD, beast, clocked, expect, row, same
 
@@ -120,6 +122,55 @@ def refusals() -> None:
     for closed, wanted in ((">&-", 3), ("<&-", 3), ("2>&-", 0), ("2>/dev/full", 0)):
         done = subprocess.run(["sh", "-c", f'"$0" - {closed}', FEED], input=frame, capture_output=True)
         expect(done.returncode == wanted and done.stdout.count(b"\n") == (wanted == 0), closed, done)
+
+
+def without_library() -> None:
+    """Without the library, a plain file and standard input go to `squitter feed`, and all else is status 3, with what
+    is missing and how to install it."""
+    log = log_of(flights()[:50])
+    with tempfile.TemporaryDirectory() as work:
+        for folder in ("bin", "share/squitter", "stub", "programs"):
+            os.makedirs(f"{work}/{folder}")
+        shutil.copy(FEED, f"{work}/bin")
+        for name in ("squitter_feed.py", "squitter_unpack.py", "squitter_words.py"):
+            shutil.copy(f"{TOP}/feeds/{name}", f"{work}/share/squitter")
+        with open(f"{work}/stub/squitter.py", "w") as stub:
+            stub.write("raise ImportError('no such module')\n")
+        os.symlink(program(), f"{work}/programs/squitter")
+        with open(f"{work}/log", "w") as plain:
+            plain.write(log)
+        with open(f"{work}/log.gz", "wb") as packed:
+            packed.write(gzip.compress(log.encode()))
+        installed = {**os.environ, "PYTHONPATH": f"{work}/stub", "PATH": f"{work}/programs:/usr/bin:/bin"}
+        bare = {**installed, "PATH": f"{os.path.dirname(shutil.which('python3') or '')}:/usr/bin:/bin"}
+        checkout = {**os.environ, "LIBSQUITTER": "/nonesuch"}
+
+        def tried(feed: str, environment: Dict[str, str], *words: str, path: str = os.devnull) -> Tuple[int, str, str]:
+            with open(path, "rb") as given:
+                done = subprocess.run([feed, *words], stdin=given, capture_output=True, text=True, env=environment)
+            return done.returncode, done.stdout, done.stderr
+
+        for feed, environment in ((f"{work}/bin/squitter-feed", installed), (FEED, checkout)):
+            same(tried(feed, environment, f"{work}/log"), (0, log, "50 written\n"))
+            same(tried(feed, environment, "-", path=f"{work}/log"), (0, log, "50 written\n"))
+            same(tried(feed, environment, "-"), (0, "", "0 written\n"))
+            for words, what in ((["--save=x"], "--save"), (["--leap=5"], "--leap"), (["--arrival"], "--arrival"),
+                                (["--reorder=5"], "--reorder"), (["--all", "--save=x"], "--all, --save")):
+                status, printed, said = tried(feed, environment, f"{work}/log", *words)
+                expect((status, printed) == (3, "") and said.startswith(f"squitter-feed: {what} needs "), said)
+                expect("python3-squitter" in said and "make -C clib" in said and said.count("\n") == 1, said)
+            for words, path, what in ((["localhost:30005"], os.devnull, "a port"),
+                                      (["-"], f"{work}/log.gz", "an archive"),
+                                      ([f"{work}/log.gz"], os.devnull, "an archive")):
+                status, printed, said = tried(feed, environment, *words, path=path)
+                expect((status, printed) == (3, "") and said.startswith(f"squitter-feed: {what} needs"), said)
+            status, printed, said = tried(feed, environment, "/nonesuch")
+            same((status, printed, said), (3, "", "squitter-feed: cannot read /nonesuch: No such file or directory\n"))
+            same(tried(feed, environment, "--version")[0], 0)
+            same(tried(feed, environment, "-", "--nonesuch")[0], 2)
+        if shutil.which("squitter", path=bare["PATH"]) is None:
+            status, printed, said = tried(f"{work}/bin/squitter-feed", bare, "-", path=f"{work}/log")
+            expect((status, printed) == (3, "") and said.startswith("squitter-feed: this needs libsquitter"), said)
 
 
 @contextmanager
@@ -236,6 +287,29 @@ def listening(port: int = 0) -> socket.socket:
     listener.bind(("127.0.0.1", port))
     listener.listen()
     return listener
+
+
+def cut_off() -> None:
+    """A connection that is lost in a message of Beast or of AVR text: the message is left out and counted once, and the
+    next connection's frames are printed, whatever their format."""
+    avr = b"*%s;\n" % AIR_EVEN.encode()
+    rows = [(beast(AIR_EVEN, 12_000_000) * 3, beast(AIR_ODD, 24_000_000)), (avr * 3, b"*%s;" % AIR_ODD.encode())]
+    for whole, half in rows:
+        with listening() as listener, started([f"127.0.0.1:{listener.getsockname()[1]}"]) as run:
+            listener.settimeout(20)
+            for again in (avr, beast(AIR_EVEN) * 3):
+                link, _ = listener.accept()
+                link.sendall(whole + half[: len(half) // 2])
+                printed = [line_of(run) for _ in range(3)]
+                link.close()
+                link, _ = listener.accept()
+                link.sendall(again)
+                printed += [line_of(run) for _ in range(again.count(bytes.fromhex(AIR_EVEN)) or 1)]
+                expect(all(line.endswith(b" %s\n" % AIR_EVEN.encode()) for line in printed), printed)
+                link.close()
+            run.send_signal(signal.SIGINT)
+            rest, said = run.communicate(timeout=10)
+        expect(said.endswith(b"squitter-feed: 10 printed, 2 damaged\n") and not rest, said)
 
 
 def connects_again() -> None:
