@@ -4,9 +4,9 @@ frames, Python, Node and the page, and feeds by their format.
 
 The log has a million LINES of 900 aircraft (bench/gen.c). Each row has the least time and the least processor time of
 five ROUNDS, in nanoseconds a line. Rows of Python count the calls alone; all others count their whole process, and a
-pipe counts both of its programs. Calls for one frame, `squitter-feed` and `squitter-geojson` get the first twentieth of
-the log. The answers of the program, also behind `squitter feed`, of Python, Node and the page are compared, and the
-logs of the feeds too. Needs NumPy, pandas and a C compiler; skips Node and Chromium if missing."""
+pipe counts both of its programs. Calls for one frame and `squitter-geojson` get the first twentieth of the log. The
+answers of the program, also behind `squitter feed` and `squitter-feed`, of Python, Node and the page are compared, and
+the logs of the feeds too. Needs NumPy, pandas and a C compiler; skips Node and Chromium if missing."""
 import contextlib
 import hashlib
 import os
@@ -62,7 +62,6 @@ class Inputs:
         self.short = self.written("short.log", b"".join(self.lines[:self.part]))
         self.feeds = {name: self.written(name, b"".join(spelled(*one) for one in self.squitters))
                       for name, spelled in (("beast", beast), ("avr", avr), ("csv", csv))}
-        self.short_feed = self.written("short", b"".join(beast(*one) for one in self.squitters[:self.part]))
 
     def written(self, name: str, data: bytes) -> Path:
         path = self.folder / name
@@ -195,15 +194,24 @@ def ways_of_programs(inputs: Inputs, program: str) -> Dict[str, Way]:
         feeding = [program, "feed", f"--format={name}"]
         rows[feed_row(name)] = Way(count, of_process(feeding, path))
         rows[pipe_row(name)] = Way(count, of_pipe(feeding, [program, "track", *site], path))
-    scripts = {"squitter-feed of beast": ("squitter-feed", inputs.short_feed),
-               "squitter-geojson": ("squitter-geojson", inputs.short, answers)}
-    rows.update({name: Way(inputs.part, of_process([f"{TOP}/feeds/{script}", *map(str, paths)], None))
-                 for name, (script, *paths) in scripts.items()})
+        script = [f"{TOP}/feeds/squitter-feed", str(path)]
+        rows[script_row(name)] = Way(count, of_process(script, None))
+        rows[behind_script(name)] = Way(count, of_pipe(script, [program, "track", *site], Path(os.devnull)))
+    paths = [f"{TOP}/feeds/squitter-geojson", str(inputs.short), str(answers)]
+    rows["squitter-geojson"] = Way(inputs.part, of_process(paths, None))
     return rows
 
 
 def feed_row(name: str) -> str:
     return f"squitter feed --format={name}"
+
+
+def script_row(name: str) -> str:
+    return f"squitter-feed of {name}"
+
+
+def behind_script(name: str) -> str:
+    return f"{script_row(name)} \\| squitter track"
 
 
 def pipe_row(name: str) -> str:
@@ -237,7 +245,7 @@ def feeds_differ(inputs: Inputs, runs: Mapping[str, Sequence[Took]]) -> bool:
     """Whether a feed's log is not the log that its source was made of. The times of CSV are those since 1970."""
     late = b"".join(b"%d %s\n" % (EPOCH + moment, frame.hex().upper().encode()) for moment, frame in inputs.squitters)
     logs = {name: late if name == "csv" else b"".join(inputs.lines) for name in inputs.feeds}
-    sums = {feed_row(name): hashlib.sha256(log).hexdigest() for name, log in logs.items()}
+    sums = {row(name): hashlib.sha256(log).hexdigest() for name, log in logs.items() for row in (feed_row, script_row)}
     return any(run.answers != wanted for row, wanted in sums.items() for run in runs[row])
 
 
@@ -257,7 +265,8 @@ def main() -> None:
                 **ways_of_browsers(inputs, program, closing)}
         turns = [[way.run() for way in ways.values()] for _ in range(rounds)]
     runs = dict(zip(ways, zip(*turns)))
-    compared = ("squitter track", *map(pipe_row, inputs.feeds), "squitter.Log", "Node, texts", "the page")
+    pipes = [row(name) for name in inputs.feeds for row in (pipe_row, behind_script)]
+    compared = ("squitter track", *pipes, "squitter.Log", "Node, texts", "the page")
     counted = {run.answers for run in runs.get("Node, columns", [])}
     if len({run.answers for name in compared for run in runs.get(name, [])}) != 1 or counted - {digest(f"{count}\n")}:
         sys.exit("surfaces.py: the answers differ")

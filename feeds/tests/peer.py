@@ -178,6 +178,28 @@ def clock() -> None:
         same(track(log), wanted, name)
 
 
+def hour() -> None:
+    """An hour of frames, ten thousand a second, by the raw port and by the Beast port: none is lost, and each has its
+    time."""
+    once = whole_flights()
+    span = once[-1][0] - once[0][0] + 1000
+    rows = [(moment + turn * span, frame) for turn in range(3_600_000 // span + 1) for moment, frame in once]
+    expect(rows[-1][0] - rows[0][0] >= 3_600_000 and len(rows) > 28_000, len(rows))
+    pieces = binary_rows(rows)
+    for name in ("ro", "bo"):
+        with daemon("--mlat") as one, started([one.place(name), HOLD]) as run:
+            one.wait_for_feed(name)
+            printed = Printed(run)
+            send(one.binary, pieces)
+            printed.wait(len(rows) - 1)
+            log = printed.end()
+            said = reported(run)
+        same(frames_of(log), [frame for _, frame in rows], name)
+        first = int(log.split()[0])
+        same([int(line.split()[0]) - first for line in log.splitlines()], [moment - rows[0][0] for moment, _ in rows])
+        same(said, f"squitter-feed: {len(rows)} printed\n", name)
+
+
 def restarted() -> None:
     """The daemon is stopped and started again in the run, its clock too: all frames, and the same places."""
     rows = whole_flights()
