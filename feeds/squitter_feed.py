@@ -85,7 +85,7 @@ class Feed:
         if stranger is not None and known is None:
             self.refusal = Refused(STRANGERS[stranger])
         if not self.live and self.feed.counts.written > 1 and not self.printed:
-            self.tell("all frames of this file have the timestamp 0, as in a file without times: old ones pair with new")
+            self.tell("all frames of this file have the timestamp 0, as without times: old ones pair with new")
         return lines
 
     def due(self, now: int) -> bytes:

@@ -29,7 +29,8 @@ ARRIVAL = 1_000_000  # milliseconds
 KINDS = {"beast": model.BeastBinary, "avr": model.AvrText, "csv": model.CsvText, "log": model.LogText}
 SENT = [*FRAMES, AIR_EVEN, AIR_ODD, REPLY, COMM_B, "2041"]
 WILD = (0, 1, 0xFF004D4C4154, (1 << 48) - 1, 1 << 47, 12_000 * 700_000, 12_000 * 10**9)  # ticks
-GARBAGE = (b"\x1a", b"\x1a1", b"\x1a4", b"\x1a9", b"*", b";", b"@", b"\r", b"\n", b" ", b'"', b",", b"\xb5", b"\x00", b"8D")
+GARBAGE = (b"\x1a", b"\x1a1", b"\x1a4", b"\x1a9", b"*", b";", b"@", b"\r", b"\n", b" ", b'"', b",", b"\xb5", b"\x00",
+           b"8D")
 
 
 # ---- streams

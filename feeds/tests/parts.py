@@ -450,6 +450,7 @@ def other_formats() -> None:
         same(feed.summary(), "2 printed, 3 of other downlink formats (DF11 2, DF20 1), 1 of Mode A/C, 2 damaged")
         rows, feed, _ = fed([(data, 5)], True, all_formats=True)
         same([frame for _, frame in rows], [AIR_EVEN, REPLY, COMM_B, REPLY, AIR_ODD])
+        same(fed([(data, 5)], True, all_formats=True, reorder=5)[0], rows, "by the order")
         others = "3 of other downlink formats (DF11 2, DF20 1) among them"
         same(feed.summary(), f"5 printed, {others}, 1 of Mode A/C, 2 damaged")
     last = b"*%s;*%s;*%s;" % (b"FF" * 14, b"C0" * 14, b"B8" * 14)
