@@ -32,7 +32,7 @@ class Refused(Exception):
 
 
 class Options(NamedTuple):
-    """The options of the command line that change what is printed."""
+    """The options of the command line that change the printed lines."""
 
     reorder: int = 0
     leap: int = 600_000

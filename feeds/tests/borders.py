@@ -75,7 +75,7 @@ def agreeing() -> None:
 
 
 def counted() -> None:
-    """Each frame that leaps is counted, and nothing is told of it."""
+    """Each frame that leaps is counted, and none is reported."""
     for count in (9, 10, 11):
         seconds = [0, 1, 2]
         for number in range(count):
@@ -86,7 +86,7 @@ def counted() -> None:
 
 
 def newest() -> None:
-    """What comes late does not take the front back: what is held goes by the newest timestamp of all."""
+    """A late frame does not move the front back: held frames are due by the newest timestamp of all."""
     feed = feed_of(False, reorder=100)
     given = [[moment for moment, _ in rows_of(feed.hear(log(moment), 0))]
              for moment in (1000, 950, 1060, 1000, 1099, 1010, 1100, 1000, 1001)]
@@ -133,7 +133,7 @@ def moments_of_arrival() -> None:
 
 
 def no_times() -> None:
-    """A file without times is told once at its end, and a live source is not. Its frames have the timestamp 0."""
+    """A file without times is reported once at its end, and a live source is not. Its frames have the timestamp 0."""
     for live, count, moment in ((False, 1, 0), (True, 0, 5)):
         rows, _, said = fed([(b"*%s;\n" % E * 3, 5)], live=live)
         same((rows, len(said)), ([(moment, AIR_EVEN)] * 3, count), live)

@@ -1,4 +1,6 @@
-"""What squitter-feed is made of, apart from its files and sockets: the formats of feeds, moments, and order.
+"""The model of a feed that feeds/tests/damaged.py compares with: formats, timestamps and order in Python alone.
+
+It is not installed.
 
 Bytes go in as they come, in whatever pieces. A format splits them into frames, `Moments` gives each frame its moment,
 and `Order` sorts what comes late. `Feed` joins the three and counts what was left out."""
@@ -14,7 +16,7 @@ LONGEST_LINE = 4096  # bytes
 UNDECIDED = 16_384  # bytes within which a format has to show itself
 CLOCK_RATE = 12_000  # ticks of a receiver's clock in a millisecond
 CLOCK_TURN = 1 << 48  # ticks after which that clock starts again
-MULTILATERATED = 0xFF004D4C4154  # what stands for the clock in frames that a server computed: FF 00 and "MLAT"
+MULTILATERATED = 0xFF004D4C4154  # the clock of frames that a server computed: FF 00 and "MLAT"
 CLOCK_JITTER = 1000  # milliseconds that a clock may go back without having started again
 AGREEING = 3  # moments in a row by which a leap is for good
 PLENTY = 2000  # milliseconds for which holding frames is advised, where some come late
@@ -37,7 +39,7 @@ OTHER_LINE = r"([^\n]*)\n"
 # A line of a log with a squitter: the moment, its last three digits apart, and the frame. Else the whole line.
 PLAIN_LOG = re.compile(rf"([0-9]{{1,16}})([0-9]{{3}}) \*?({SQUITTER_DIGITS});?\r?\n|{OTHER_LINE}")
 CELL = r"[ !#-+\--~]{0,64}"  # a cell of CSV without quotes
-PLAIN_COLUMNS = 16  # a table whose time or frame stands further behind is read row by row
+PLAIN_COLUMNS = 16  # a table with its time or frame further behind is read row by row
 PRINTABLE = re.compile(rb"[\t -~]*")  # bytes by chance are no line that shows a format
 SBS = re.compile(rb"(?:MSG|SEL|ID|AIR|STA|CLK),\d*,")
 
@@ -112,13 +114,13 @@ class Lines:
         return kept
 
     def last(self) -> List[bytes]:
-        """The line that no line feed ends, once no more comes."""
+        """The line that no line feed ends, at the end of the source."""
         last, self.rest = self.rest, b""
         return [last] if last else []
 
 
 class Format:
-    """A format of feeds: `split` gives the frames of a piece of bytes, and `last` what is left once no more comes."""
+    """A format of feeds: `split` gives the frames of a piece of bytes, and `last` those at the end."""
 
     name = ""
 
@@ -132,7 +134,7 @@ class Format:
         raise NotImplementedError
 
     def drop(self) -> None:
-        """Drops what is unfinished, and counts it as damaged: its source was lost."""
+        """Drops an unfinished frame, and counts it as damaged: its source was lost."""
         raise NotImplementedError
 
 
@@ -161,7 +163,7 @@ class TextFormat(Format):
 
 
 class TimedText(TextFormat):
-    """A format whose lines have times of their own. Plain rows, as most are, are read many at a time."""
+    """A format of lines that have times of their own. Plain rows, as most are, are read many at a time."""
 
     plain: re.Pattern[str]
 
@@ -174,7 +176,7 @@ class TimedText(TextFormat):
 
     def rows(self, text: str) -> List[Tuple[str, str, str, str]]:
         """Returns the digits of the seconds, up to three of the decimals, and the squitter of each plain row; or four
-        texts of which the last alone is not empty, a line that is no such row."""
+        texts, and the last alone is not empty: a line that is no such row."""
         return self.plain.findall(text)
 
     def line(self, text: str) -> Iterator[Heard]:
@@ -339,7 +341,7 @@ class Sniffer:
     """Finds the format of a source by its first bytes, and at the same byte whatever pieces these come in.
 
     The first of these decides: a line of a text format, three messages of Beast that follow each other directly, or a
-    sign of what is refused."""
+    sign of a source that is refused."""
 
     def __init__(self) -> None:
         self.pieces: List[Tuple[bytes, int]] = []  # with their arrivals: heard again once the format is known
@@ -444,7 +446,7 @@ class Moments:
             self.last, self.aside = None, []
 
     def end(self) -> List[Tuple[int, Heard]]:
-        """No more comes: what is aside is accepted but for a last frame with which none can agree any more."""
+        """The source ends: readings set aside are accepted but for a last frame with which none can agree any more."""
         groups, self.aside = self.aside, []
         if groups and len(groups[-1]) == 1 and (len(groups) > 1 or self.last is not None):
             self._drop([groups.pop()])
@@ -633,7 +635,7 @@ class Feed:
         return lines
 
     def end(self, now: int) -> List[str]:
-        """No more comes: all lines that are left. `refusal` says whether the source was of no format that is read."""
+        """The source ends: all lines that are left. `refusal` says whether the source was of no format that is read."""
         lines = self._ended(lost=False)
         for moment, heard in self.moments.end():
             lines += self._put(moment, now, heard)

@@ -88,7 +88,7 @@ def avr() -> None:
     cut_anywhere(
         "avr",
         b"xx*%s;yy\n*8D40621D*%s;\n*%s\n%s;\n\xff\x00\n*%s;" % (e, o, e, o, o),
-        # What stands before a mark and what stands behind a semicolon are two damages.
+        # The bytes before a mark and those after a semicolon are two damages.
         ([AIR_EVEN, AIR_ODD, AIR_ODD], 6),
     )
     long = b"*" + b"8" * 100_000
@@ -427,8 +427,8 @@ def full_order() -> None:
 
 
 def silence() -> None:
-    """What is held is printed once no frame has come for --reorder milliseconds, live; and what comes before it then is
-    late."""
+    """Live, held frames are printed once no frame has come for --reorder milliseconds. A frame that comes then, with an
+    earlier timestamp, is late."""
     feed = Feed(Options(500), True, print)
     same(feed.wait(0), None, "nothing is held")
     same(feed.hear(log(1000), 1000) + feed.hear(log(900), 1010), b"")

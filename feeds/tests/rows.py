@@ -97,7 +97,7 @@ def borders() -> None:
 
 
 def which_rows() -> None:
-    """Rows as they are common are read, whatever is in their other columns; what is odd is damage."""
+    """Rows as they are common are read, whatever their other columns hold; odd ones are damage."""
     frame = AIR_EVEN.encode()
     for line in (csv_row(5), csv_row(5).lower(), b"1,,%s\n" % frame, b"1.5,x,%s,9,y z\r\n" % frame,
                  b'1,"x",%s\n' % frame, b"1,\xb5,%s\n" % frame, b'"1",x,"%s"\n' % frame,
@@ -116,7 +116,7 @@ def which_rows() -> None:
 
 
 def counted_once() -> None:
-    """Rows are counted once each, and what is left out of them too."""
+    """Rows are counted once each, and so are rows that are left out."""
     mixed = b"".join(csv_row(k) + csv_row(k, REPLY) + b"x\n" for k in range(5000, 5100))
     rows, feed, told = fed([(mixed, 0)], False)
     same((len(rows), told), (100, []))
