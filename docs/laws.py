@@ -1,8 +1,10 @@
 #!/usr/bin/env python3
-"""laws.py > LAWS.md: the lemma files that each law rests on, read from the imports of the proofs.
+"""Prints the laws, what pins them, or what is wrong with them; nothing is written to a file.
 
-laws.py --pins > PINS.md: what pins each premise, read from the contracts and definitions by pins.py.
-laws.py --check: whether each premise is pinned; else their names, and status 1."""
+docs/laws.py          prints each law with the lemma files that its proof cites, read from the imports of the proofs.
+docs/laws.py --pins   prints what pins each premise, read from the contracts and definitions by pins.py.
+docs/laws.py --check  names each premise without a pin and each answer from which nothing is concluded; the status is
+                      1 if there is any."""
 import glob
 import os
 import re
@@ -14,10 +16,10 @@ import pins
 TOP = os.path.dirname(os.path.dirname(os.path.abspath(__file__)))
 HEAD = """# The laws and their lemmas
 
-A law is a public function of `src/laws.rt` whose contract is the statement. For each crate: the laws by the lemma
-file that their proof cites, and then each folder and each lemma file of `proofs/`, with what it says of itself and,
-after the arrow, the files that it cites; one of another crate has that crate's name. The proof of a law with no file
-cites none. `docs/laws.py > docs/LAWS.md` writes this page."""
+A law is a public function of `src/laws.rt`. Its contract is the statement. For each crate, this list has the laws,
+grouped by the lemma files that their proofs cite. Then it has each lemma file of `proofs/` with its first comment and,
+after the arrow, the files that it cites. A file of another crate is written with the crate's name. A law under "no
+file" has a proof that cites no lemma file."""
 
 
 def imports(path: str) -> list[tuple[str, str]]:
@@ -59,9 +61,11 @@ def files_of(crate: str) -> Iterator[str]:
 
 
 def main() -> None:
-    if "--pins" in sys.argv:
+    if sys.argv[1:] == ["--pins"]:
         print(pins.page(pins.Book()))
         return
+    if sys.argv[1:] not in ([], ["--check"]):
+        sys.exit(__doc__)
     if "--check" in sys.argv:
         found = pins.faults(pins.Book())
         sys.exit("\n".join(found) if found else 0)

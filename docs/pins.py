@@ -3,7 +3,7 @@
 A contract is worth what its definitions say. A definition that stands left of an arrow, a premise, must not shrink
 unseen: it is pinned where something concludes it, from premises that are themselves pinned. One that stands as an
 answer must not grow unseen: it is read where something is concluded from it. Both are found here from the text of
-the contracts and of the definitions; `laws.py` writes the page and makes the check.
+the contracts and of the definitions; `laws.py` prints the table and makes the check.
 
 An arrow, `¬` and `requires` turn left and right; `↔` has both sides on both. What stands in brackets, as an argument
 or as a part of `×` and `⊎`, counts as what it stands in."""
@@ -471,21 +471,20 @@ def add_clauses(one: Contract, clauses: list[tuple[str, list[str]]], known: dict
 
 HEAD_OF_PAGE = """# What pins each premise
 
-A law that says 'where this holds, that does' says nothing where its premise is never met, and a premise that is made
-narrower is met less often, while each proof still passes. So each definition of `specs/` that stands left of an arrow,
-in a public contract or within what one names, is pinned: something concludes it, from premises that are themselves
-pinned. That may be a call, which promises it of what it answers, or a law that says when it holds: of a definition that
-was emptied, it would still have to be proved. How much narrower it may be made unseen is for the statement of the pin
-to say: [THEOREMS.md](THEOREMS.md#what-stands-left-of-an-arrow) names for the premises of the laws those that say it
-whole.
+A law says "where the premise holds, the conclusion does". It says nothing if its premise never holds, and a narrower
+premise holds less often, while each proof still passes. So each definition of `specs/` that stands left of an arrow,
+in a public contract or in a definition that one names, is pinned: something concludes it from premises that are
+themselves pinned. The pin is a call that promises it of its result, or a law that says when it holds. If the
+definition were emptied, that promise or law would have no proof. docs/THEOREMS.md, "What stands left of an arrow",
+names the pins that say a premise whole.
 
-This is read from the text of contracts and definitions, and nothing is proved here. An arrow, `¬` and `requires` turn
-left and right, and `↔` has both sides on both; what stands in brackets, as an argument or as a part of `×` and `⊎`
-counts as what it stands in; and a premise that is an equation or an order of numbers counts as one that is met.
-A definition that stands as an answer could say less, and each proof of a contract that names it would still pass, so
-from each of these something is concluded too.
-`docs/laws.py --pins > docs/PINS.md` writes this page, and `docs/laws.py --check` refuses a premise without a pin, and
-an answer from which nothing is concluded."""
+The table is read from the text of contracts and definitions; nothing is proved. An arrow, `¬` and `requires` turn left
+and right, and `↔` has both sides on both. What stands in brackets, as an argument or as a part of `×` and `⊎`, counts
+as what it stands in. A premise that is an equation or an order of numbers counts as one that is met.
+
+A definition that stands as an answer could say less, and each proof of a contract that names it would still pass. So
+something is concluded from each answer too. `docs/laws.py --check` refuses a premise without a pin, and an answer from
+which nothing is concluded."""
 
 
 def title(name: Name) -> str:
