@@ -68,6 +68,7 @@ typedef struct squitter_fault {
   uint64_t first;
 } squitter_fault;
 
+/* The codes of faults. */
 enum {
   SQUITTER_OK = 0,
   /* of frame texts and frames */
@@ -493,7 +494,7 @@ enum {
   SQUITTER_FEED_AUTO = 4   /* the first bytes show the format; not known yet */
 };
 
-/* Sources without frames, as squitter_feed_format tells them apart. */
+/* Sources without frames of a known format. */
 enum {
   SQUITTER_FEED_SBS = 5,      /* SBS (BaseStation) text: it has positions and no frames */
   SQUITTER_FEED_TAR = 6,      /* a tar archive */
@@ -710,6 +711,7 @@ SQUITTER_SIZE(squitter_fields, 40);
 SQUITTER_SIZE(squitter_air_head, 12);
 SQUITTER_SIZE(squitter_ground_head, 12);
 SQUITTER_SIZE(squitter_altitude, 8);
+SQUITTER_SIZE(squitter_zones, 16);
 SQUITTER_SIZE(squitter_received, 24);
 SQUITTER_SIZE(squitter_last_fix, 40);
 SQUITTER_SIZE(squitter_side, 88);
@@ -717,10 +719,12 @@ SQUITTER_SIZE(squitter_entry, 192);
 SQUITTER_SIZE(squitter_last, 16);
 SQUITTER_SIZE(squitter_heard, 40);
 SQUITTER_SIZE(squitter_degrees_e7, 8);
+SQUITTER_SIZE(squitter_block, 16);
 SQUITTER_SIZE(squitter_tracker, 16);
 SQUITTER_SIZE(squitter_present, 16);
 SQUITTER_SIZE(squitter_log, 16);
 SQUITTER_SIZE(squitter_answer, 96);
+SQUITTER_SIZE(squitter_done, 16);
 SQUITTER_SIZE(squitter_tally, 16);
 SQUITTER_SIZE(squitter_feed, 16);
 SQUITTER_SIZE(squitter_order, 16);

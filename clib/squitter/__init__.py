@@ -18,7 +18,6 @@ Position(lat=Fraction(428091, 8192), lon=Fraction(64215, 16384))
 from __future__ import annotations
 
 import ctypes
-import enum
 import operator
 import struct
 from dataclasses import dataclass
@@ -28,8 +27,11 @@ from numbers import Rational
 from typing import Any, Callable, List, NamedTuple, Optional, Sequence, Tuple, TypeVar, Union
 
 from squitter._library import (
-    _FRAME, _AirHead, _Altitude, _Angle, _DegreesE7, _Fault, _Fields, _GroundHead, _Heard, _Position, _Zones,
-    _fits, _frames, _layout, _lib, _lowest, _quick, _read_angle, _text,
+    _FRAME, _Position, _fits, _frames, _layout, _lib, _lowest, _quick, _read_angle, _text,
+)
+from squitter._made import (
+    ANGLE_TEXT_BYTES, FAULT_TEXT_BYTES, FRAME_DIGITS, AltitudeForm, Code, FeedFormat, Format, Kind, Stranger, What,
+    _AirHead, _Altitude, _Angle, _DegreesE7, _Fault, _Fields, _GroundHead, _Heard, _Zones,
 )
 
 __all__ = [
@@ -55,73 +57,6 @@ Point = Tuple[Degrees, Degrees]
 
 WINDOW = 10_000
 """The default window of trackers, contacts and logs, in milliseconds: 10 seconds, as that of ``squitter track``."""
-
-
-class Code(enum.IntEnum):
-    """The codes of faults, as ``squitter.h`` names them."""
-
-    OK = 0
-    WRAP = 1
-    SHORT = 2
-    LENGTH = 3
-    DIGIT = 4
-    NOT_DF17 = 5
-    PARITY = 6
-    NOT_POSITION = 10
-    OTHER_ADDRESS = 11
-    OTHER_KIND = 12
-    SAME_PARITY = 13
-    NO_SITE = 14
-    OUT_OF_RANGE = 15
-    ZONE_COUNTS = 16
-    BAD_POSITION = 20
-    BAD_FIELDS = 21
-    BAD_ANGLE = 22
-    BAD_LATITUDE = 23
-    BAD_FEET = 24
-    BAD_PARITY = 25
-    NOT_A_NUMBER = 30
-    TOO_MANY_DECIMALS = 31
-    ANGLE_RANGE = 32
-    MOMENT_BACK = 42
-    LONG_LINE = 40
-    BAD_MOMENT = 41
-    TABLE_FULL = 43
-    NO_MEMORY = 44
-    NO_LIMIT = 45
-    NO_TRACKER = 46
-    NO_ADDRESS = 47
-    LONG_LOG = 48
-    BAD_FORMAT = 49
-    BAD_ENTRY = 50
-
-
-class Kind(enum.IntEnum):
-    """The kind of a squitter, by its type code."""
-
-    OTHER = 0
-    AIR = 1
-    GROUND = 2
-
-
-class AltitudeForm(enum.IntEnum):
-    """The meaning of an altitude field: nothing sent, feet, or another form."""
-
-    NONE = 0
-    FEET = 1
-    OTHER = 2
-
-
-class What(enum.IntEnum):
-    """The result for a frame: the first of these that applies."""
-
-    FIX = 1
-    FOLLOWED = 2
-    WAITING = 3
-    SPLIT = 4
-    FAR = 5
-    WITHOUT_SITE = 6
-    NO_PLACE = 7
 
 
 class Fault(ValueError):
@@ -446,7 +381,7 @@ def frame(source: Frame) -> bytes:
 
 def frame_text(source: Frame) -> str:
     """Returns the frame as 28 upper-case hexadecimal digits."""
-    out = ctypes.create_string_buffer(28)
+    out = ctypes.create_string_buffer(FRAME_DIGITS)
     _lib.squitter_text_of_frame(frame(source), out)
     return out.raw.decode("ascii")
 
@@ -580,7 +515,7 @@ def zone_count(lat: Degrees) -> int:
 
 def angle_text(degrees: Degrees) -> str:
     """Returns an angle with seven decimals, rounded half away from zero."""
-    plain, out = _angle(degrees, "angle", Code.BAD_ANGLE), ctypes.create_string_buffer(16)
+    plain, out = _angle(degrees, "angle", Code.BAD_ANGLE), ctypes.create_string_buffer(ANGLE_TEXT_BYTES)
     _done(_lib.squitter_text_of_angle(ctypes.byref(plain), out), degrees)
     return out.value.decode("ascii")
 
@@ -632,7 +567,7 @@ def fault_text(code: int, first: int = 0, second: int = 0) -> str:
     that is too large for C."""
     if not (_fits(code, 32) and _fits(first, 64) and _fits(second, 32)):
         raise ValueError("a fault has a code below 2**32, a first number below 2**64 and a second below 2**32")
-    plain, out = _Fault(code, second, first), ctypes.create_string_buffer(64)
+    plain, out = _Fault(code, second, first), ctypes.create_string_buffer(FAULT_TEXT_BYTES)
     _lib.squitter_text_of_fault(ctypes.byref(plain), out)
     return out.value.decode("ascii")
 
@@ -647,6 +582,6 @@ __version__ = version()
 
 
 # These modules import the names above.
-from squitter._hearing import Contact, Format, Log, Tally, Tracker  # noqa: E402
-from squitter._feed import Counts, Feed, FeedFormat, Stranger  # noqa: E402
+from squitter._hearing import Contact, Log, Tally, Tracker  # noqa: E402
+from squitter._feed import Counts, Feed  # noqa: E402
 from squitter._order import Order  # noqa: E402

@@ -11,7 +11,7 @@ import numpy.typing as npt
 
 import squitter
 from squitter import WINDOW, AltitudeForm, Point, Position, What
-from squitter._library import _Answer
+from squitter._made import _Answer
 from squitter._records import FAULT, POSITION, TRACKED, Records, _limit, _moments
 from squitter._source import Source, bytes_of, refuse_other, squitters_of
 

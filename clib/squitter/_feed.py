@@ -4,41 +4,18 @@ from __future__ import annotations
 
 import array
 import ctypes
-import enum
 import threading
 from typing import NamedTuple, Optional, Tuple, Union
 
 from squitter import _done
 from squitter._hearing import _Lent, _bytes
-from squitter._library import _Counts, _Done, _Slot, _fits, _lend, _lib
+from squitter._library import _fits, _lend, _lib
+from squitter._made import (
+    FEED_ALL_FORMATS, FEED_BY_ARRIVAL, FEED_LIVE, FRAME_BYTES, LINE_BYTES, FeedFormat, Stranger, _Counts, _Done, _Feed,
+)
 
-_LINE = 50  # the most bytes that a line takes
 _ROOM = 1 << 16  # bytes of lines that a call writes at once
 _COUNT = 1 << 12  # squitters that a call writes at once
-_FRAME_BYTES = 14
-_LIVE, _BY_ARRIVAL, _ALL_FORMATS = 1, 2, 4  # the flags SQUITTER_FEED_LIVE and so on of squitter.h
-
-
-class FeedFormat(enum.IntEnum):
-    """The formats of a receiver's bytes. With AUTO, the first bytes show the format."""
-
-    BEAST = 0
-    AVR = 1
-    CSV = 2
-    LOG = 3
-    AUTO = 4
-
-
-class Stranger(enum.IntEnum):
-    """Sources without frames of a known format: SBS (BaseStation) text, a tar archive, a packed file (gzip, bzip2, xz,
-    zstd or zip), text in UTF-16, lines of JSON, and bytes without frames."""
-
-    SBS = 5
-    TAR = 6
-    PACKED = 7
-    UTF16 = 8
-    JSON = 9
-    NO_FRAME = 10
 
 
 class Counts(NamedTuple):
@@ -91,8 +68,8 @@ class Feed(_Lent):
             raise ValueError("a leap is a whole number below 2**64")
         if not _fits(late, 64):
             raise ValueError("late is a whole number of milliseconds below 2**64")
-        flags = _LIVE * bool(live) + _BY_ARRIVAL * bool(by_arrival) + _ALL_FORMATS * bool(all_formats)
-        self._kind, self._lock, self._slot = "feed", threading.RLock(), _Slot()
+        flags = FEED_LIVE * bool(live) | FEED_BY_ARRIVAL * bool(by_arrival) | FEED_ALL_FORMATS * bool(all_formats)
+        self._kind, self._lock, self._slot = "feed", threading.RLock(), _Feed()
         block, self._memory = _lend(_lib.squitter_feed_size())
         _done(_lib.squitter_feed_new(ctypes.byref(self._slot), block, form, leap, late, flags))
 
@@ -172,7 +149,7 @@ class Feed(_Lent):
         # Each call has a buffer of its own, because a signal handler may use the feed between two calls.
         room, done, at, told = ctypes.create_string_buffer(_ROOM), _Done(0, _ROOM), 0, []
         call = _lib.squitter_feed_finish_text if data is None else _lib.squitter_feed_take_text
-        while done.written + _LINE > _ROOM:
+        while done.written + LINE_BYTES > _ROOM:
             given = _given(data, at, arrival)
             _done(call(ctypes.byref(self._slot), *given, ctypes.addressof(room), _ROOM, ctypes.byref(done)))
             told.append(ctypes.string_at(room, done.written))
@@ -181,7 +158,7 @@ class Feed(_Lent):
 
     def _squitters(self, data: Optional[bytes], arrival: int) -> Tuple[array.array[int], bytes]:
         """Calls the library until it leaves room, and returns the timestamps and frames of the squitters."""
-        moments, frames = (ctypes.c_uint64 * _COUNT)(), ctypes.create_string_buffer(_FRAME_BYTES * _COUNT)
+        moments, frames = (ctypes.c_uint64 * _COUNT)(), ctypes.create_string_buffer(FRAME_BYTES * _COUNT)
         arrays = ctypes.addressof(moments), _COUNT, ctypes.addressof(frames), _COUNT
         call = _lib.squitter_feed_finish if data is None else _lib.squitter_feed_take
         done, at, times, told = _Done(0, _COUNT), 0, array.array("Q"), []
@@ -189,7 +166,7 @@ class Feed(_Lent):
             given = _given(data, at, arrival)
             _done(call(ctypes.byref(self._slot), *given, *arrays, ctypes.byref(done)))
             times.frombytes(ctypes.string_at(moments, 8 * done.written))
-            told.append(ctypes.string_at(frames, _FRAME_BYTES * done.written))
+            told.append(ctypes.string_at(frames, FRAME_BYTES * done.written))
             at += done.taken
         return times, b"".join(told)
 

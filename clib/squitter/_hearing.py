@@ -3,7 +3,6 @@
 from __future__ import annotations
 
 import ctypes
-import enum
 import operator
 import threading
 from typing import Any, Iterator, List, NamedTuple, Optional, Sequence, SupportsIndex, Tuple, Union
@@ -11,8 +10,10 @@ from typing import Any, Iterator, List, NamedTuple, Optional, Sequence, Supports
 from squitter import (
     _HEARD, WINDOW, Code, Fault, Frame, Frames, Heard, Point, Present, _done, _heard_of, _many, _position, frame,
 )
-from squitter._library import _Done, _Entry, _Heard, _Last, _Present, _Slot, _Tally
 from squitter._library import _fits, _frames, _lend, _lib, _moment, _quick, _times
+from squitter._made import (
+    ANSWER_TEXT_BYTES, HEADER_BYTES, Format, _Done, _Entry, _Heard, _Last, _Log, _Present, _Tally, _Tracker,
+)
 
 
 class _Lent:
@@ -41,6 +42,9 @@ class _Lent:
         raise TypeError(f"a {self._kind} cannot be copied or pickled")
 
 
+_SLOTS = {"tracker": _Tracker, "log": _Log}
+
+
 class _Listener(_Lent):
     """A tracker or a log of the library."""
 
@@ -51,7 +55,7 @@ class _Listener(_Lent):
             raise ValueError("a window is a whole number below 2**64")
         if not _fits(limit, 32):
             raise ValueError("a limit is a whole number below 2**32")
-        self._kind, self._lock, self._slot = kind, threading.RLock(), _Slot()
+        self._kind, self._lock, self._slot = kind, threading.RLock(), _SLOTS[kind]()
         self._settings = operator.index(window), site, operator.index(limit)
         block, self._memory = _lend(getattr(_lib, f"squitter_{kind}_size")(limit))
         slot = self._at = ctypes.byref(self._slot)
@@ -224,14 +228,6 @@ class Contact(Tracker):
             return self[0].moment if len(self) else 0
 
 
-class Format(enum.IntEnum):
-    """The formats of ``squitter track --format``."""
-
-    LINES = 0
-    CSV = 1
-    JSON = 2
-
-
 class Tally(NamedTuple):
     """The numbers of good lines and of refused lines."""
 
@@ -239,9 +235,7 @@ class Tally(NamedTuple):
     refused: int
 
 
-_LEAST_ROOM = 512  # the most bytes that one line of output takes
 _ROOM = 1 << 16  # bytes of text that a call writes at once
-_HEADER = 64  # bytes for the header of a format
 
 
 def _bytes(piece: Union[bytes, bytearray, memoryview]) -> bytes:
@@ -276,7 +270,7 @@ class Log(_Listener):
         names = {form.name.lower(): form for form in Format}
         self._format = names[format] if isinstance(format, str) and format in names else Format(format)
         super().__init__("log", window, site, limit)
-        header = ctypes.create_string_buffer(_HEADER)
+        header = ctypes.create_string_buffer(HEADER_BYTES)
         _lib.squitter_log_header(self._format, header)
         self._ahead = header.value
 
@@ -304,7 +298,7 @@ class Log(_Listener):
         # Each call has a buffer of its own, because a signal handler may use the log between two calls.
         room, done, at = ctypes.create_string_buffer(_ROOM), _Done(0, _ROOM), 0
         start = ctypes.cast(data, ctypes.c_void_p).value or 0
-        while done.written + _LEAST_ROOM > _ROOM:
+        while done.written + ANSWER_TEXT_BYTES > _ROOM:
             given = () if data is None else (start + at, len(data) - at)
             out = ctypes.addressof(room), _ROOM, ctypes.byref(done)
             _done(call(ctypes.byref(self._slot), self._format, *given, *out))

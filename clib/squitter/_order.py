@@ -9,10 +9,10 @@ from typing import Any, Iterable, Tuple, Union
 
 from squitter import _done
 from squitter._hearing import _Lent, _bytes
-from squitter._library import _Done, _Slot, _fits, _lend, _lib
+from squitter._library import _fits, _lend, _lib
+from squitter._made import FRAME_BYTES, _Done, _Order
 
 _COUNT = 1 << 12  # squitters that a call writes at once
-_FRAME_BYTES = 14
 
 
 class Order(_Lent):
@@ -38,7 +38,7 @@ class Order(_Lent):
         whole number below 2**64, and the Fault NO_MEMORY."""
         if not _fits(reorder, 64):
             raise ValueError("a delay is a whole number below 2**64")
-        self._kind, self._lock, self._slot = "order", threading.RLock(), _Slot()
+        self._kind, self._lock, self._slot = "order", threading.RLock(), _Order()
         block, self._memory = _lend(_lib.squitter_order_size())
         _done(_lib.squitter_order_new(ctypes.byref(self._slot), block, reorder))
 
@@ -54,8 +54,8 @@ class Order(_Lent):
         Raises ValueError, and takes nothing, unless there are as many timestamps as frames, and each is a whole number
         below 2**64."""
         came, data = _moments(moments), _bytes(frames)
-        if len(data) != _FRAME_BYTES * len(came):
-            raise ValueError(f"{len(came)} timestamps go with {_FRAME_BYTES * len(came)} bytes of frames")
+        if len(data) != FRAME_BYTES * len(came):
+            raise ValueError(f"{len(came)} timestamps go with {FRAME_BYTES * len(came)} bytes of frames")
         with self._lock:
             self._look_open()
             return self._squitters(came, data)
@@ -79,7 +79,7 @@ class Order(_Lent):
     def _squitters(self, came: Any, data: bytes) -> Tuple[array.array[int], bytes]:
         """Calls the library until it leaves room, and returns the timestamps and frames of the squitters."""
         # Each call has arrays of its own, because a signal handler may use the order between two calls.
-        moments, frames = (ctypes.c_uint64 * _COUNT)(), ctypes.create_string_buffer(_FRAME_BYTES * _COUNT)
+        moments, frames = (ctypes.c_uint64 * _COUNT)(), ctypes.create_string_buffer(FRAME_BYTES * _COUNT)
         arrays = ctypes.addressof(moments), _COUNT, ctypes.addressof(frames), _COUNT
         done, at, times, told = _Done(0, _COUNT), 0, array.array("Q"), []
         given = ctypes.cast(data, ctypes.c_void_p).value or 0
@@ -89,11 +89,11 @@ class Order(_Lent):
             else:
                 rest = len(came) - at
                 _done(_lib.squitter_order_take(
-                    ctypes.byref(self._slot), ctypes.addressof(came) + 8 * at, rest, given + _FRAME_BYTES * at, rest,
+                    ctypes.byref(self._slot), ctypes.addressof(came) + 8 * at, rest, given + FRAME_BYTES * at, rest,
                     *arrays, ctypes.byref(done),
                 ))
             times.frombytes(ctypes.string_at(moments, 8 * done.written))
-            told.append(ctypes.string_at(frames, _FRAME_BYTES * done.written))
+            told.append(ctypes.string_at(frames, FRAME_BYTES * done.written))
             at += done.taken
         return times, b"".join(told)
 

@@ -13,11 +13,12 @@ import numpy.typing as npt
 import squitter
 from squitter import Code
 from squitter._library import _lib
+from squitter._made import RECORDS
 from squitter._records import FAULT, FIELDS, POSITION, TRACKED, Records
 
 PART = 1 << 14  # the most lines of a part
-HEARD = np.dtype([*POSITION.descr, ("what", "u1"), ("even", "u1"), ("odd", "u1")], align=True)
-DEGREES_E7 = np.dtype([("lat", "i4"), ("lon", "i4")], align=True)
+HEARD = np.dtype(RECORDS["heard"], align=True)
+DEGREES_E7 = np.dtype(RECORDS["degrees_e7"], align=True)
 _ADDRESS = np.uint32(0xFFFFFF)
 
 

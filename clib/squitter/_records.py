@@ -9,6 +9,7 @@ import numpy as np
 import numpy.typing as npt
 
 from squitter._library import _fits
+from squitter._made import RECORDS
 
 COLUMNS = ("line", "moment", "answer", "address", "kind", "lat", "lon", "feet")
 """The columns of `squitter track --format=csv`, which rows and data frames have, in this order."""
@@ -16,17 +17,13 @@ COLUMNS = ("line", "moment", "answer", "address", "kind", "lat", "lon", "feet")
 Records = npt.NDArray[np.void]
 """A structured array of one dimension."""
 
-FAULT = np.dtype([("code", "u4"), ("second", "u4"), ("first", "u8")], align=True)
+FAULT = np.dtype(RECORDS["fault"], align=True)
 """A fault: `code` is one of :class:`squitter.Code`, or 0 for a result, with the numbers of that code."""
 
-FIELDS = np.dtype([
-    ("raw", "u8"), ("address", "u4"), ("lat", "u4"), ("lon", "u4"), ("feet", "i4"), ("altitude", "u2"),
-    ("altitude_form", "u1"), ("kind", "u1"), ("ca", "u1"), ("type_code", "u1"), ("odd", "u1"), ("time", "u1"),
-    ("status", "u1"), ("flag", "u1"), ("movement", "u1"), ("track_status", "u1"), ("track", "u1"),
-], align=True)
+FIELDS = np.dtype(RECORDS["fields"], align=True)
 """A squitter, field by field: ``squitter_fields`` of squitter.h. `lat` and `lon` are the CPR code of the position."""
 
-POSITION = np.dtype([("lat_num", "i8"), ("lat_den", "u8"), ("lon_num", "i8"), ("lon_den", "u8")], align=True)
+POSITION = np.dtype(RECORDS["position"], align=True)
 """A latitude, north positive, and a longitude, east positive: lat_num / lat_den and lon_num / lon_den degrees,
 exactly. Results are in lowest terms; a denominator of 0 means no position."""
 

@@ -1,10 +1,10 @@
 #!/usr/bin/env python3
-"""same.py: holds squitter.h, the module squitter and that of the page to the crates.
+"""same.py: compares squitter.h with the crates.
 
-The structs of the crates' sources, with the sizes and offsets that C gives them; the types of the exports; the codes of
-faults as the specs state them; and the symbols that the archive and the shared object export and want. Wants a C
-compiler and nm; says what differs, and ends with status 1."""
-import ctypes
+It compares the structs of the crates' sources, with the sizes and offsets that C gives them; the types of the exports;
+the enums and flags as the specs state them; and the symbols that the archive and the shared object export and need. It
+needs a C compiler and nm. It prints each difference, and then has status 1. `clib/bindings` makes the tables of Python
+and JavaScript from the header, so they are not compared here; the order in which Python takes a struct apart is."""
 import os
 import re
 import subprocess
@@ -18,26 +18,20 @@ CRATES = [os.path.join(os.path.dirname(CLIB), "crates", name)
 sys.path.insert(0, CLIB)
 os.environ.setdefault("LIBSQUITTER", os.path.join(CLIB, "libsquitter.so.0"))
 import squitter  # noqa: E402
-from squitter import _feed, _library  # noqa: E402
 
 CC = os.environ.get("CC", "cc")
 NUMBERS = {"u8": "uint8_t", "u16": "uint16_t", "u32": "uint32_t", "u64": "uint64_t", "i32": "int32_t", "i64": "int64_t",
            "usize": "size_t", "*mut u8": "void *"}
-# The crates' structs, as C and Python name them.
+# The crates' structs, as C names them.
 STRUCTS = {
-    "Fault": ("squitter_fault", "_Fault"), "PlainAngle": ("squitter_angle", "_Angle"),
-    "PlainPosition": ("squitter_position", "_Position"), "PlainSquitter": ("squitter_fields", "_Fields"),
-    "PlainAirHead": ("squitter_air_head", "_AirHead"), "PlainGroundHead": ("squitter_ground_head", "_GroundHead"),
-    "PlainAltitude": ("squitter_altitude", "_Altitude"), "PlainReceived": ("squitter_received", "_Received"),
-    "PlainFix": ("squitter_last_fix", "_LastFix"), "PlainSide": ("squitter_side", "_Side"),
-    "PlainEntry": ("squitter_entry", "_Entry"), "PlainHeard": ("squitter_heard", "_Heard"),
-    "DegreesE7": ("squitter_degrees_e7", "_DegreesE7"), "PlainZones": ("squitter_zones", "_Zones"),
-    "PlainPresent": ("squitter_present", "_Present"), "Slot": ("squitter_tracker", "_Slot"),
-    "Room": ("squitter_block", "_Block"), "PlainAnswer": ("squitter_answer", "_Answer"),
-    "Done": ("squitter_done", "_Done"), "PlainTally": ("squitter_tally", "_Tally"),
-    "PlainLast": ("squitter_last", "_Last"),
-    "FeedSlot": ("squitter_feed", "_Slot"), "PlainCounts": ("squitter_counts", "_Counts"),
-    "OrderSlot": ("squitter_order", "_Slot"),
+    "Fault": "squitter_fault", "PlainAngle": "squitter_angle", "PlainPosition": "squitter_position",
+    "PlainSquitter": "squitter_fields", "PlainAirHead": "squitter_air_head", "PlainGroundHead": "squitter_ground_head",
+    "PlainAltitude": "squitter_altitude", "PlainReceived": "squitter_received", "PlainFix": "squitter_last_fix",
+    "PlainSide": "squitter_side", "PlainEntry": "squitter_entry", "PlainHeard": "squitter_heard",
+    "DegreesE7": "squitter_degrees_e7", "PlainZones": "squitter_zones", "PlainPresent": "squitter_present",
+    "Slot": "squitter_tracker", "Room": "squitter_block", "PlainAnswer": "squitter_answer", "Done": "squitter_done",
+    "PlainTally": "squitter_tally", "PlainLast": "squitter_last", "FeedSlot": "squitter_feed",
+    "PlainCounts": "squitter_counts", "OrderSlot": "squitter_order",
 }
 # Reasons whose code has another name in C.
 RENAMED = {
@@ -71,7 +65,7 @@ def c_type(rust):
     array = re.fullmatch(r"\[(u8|u64); (\d+)\]", rust)
     if array:
         return NUMBERS[array[1]], f"[{array[2]}]"
-    return (NUMBERS[rust] if rust in NUMBERS else STRUCTS[rust][0]), ""
+    return (NUMBERS[rust] if rust in NUMBERS else STRUCTS[rust]), ""
 
 
 def fields_of(crate, name, file):
@@ -134,7 +128,7 @@ def c_checks():
     seen = set()
     for name, fields in structs():
         seen.add(name)
-        here = STRUCTS[name][0]
+        here = STRUCTS[name]
         if name == "Slot":
             yield f'_Static_assert(sizeof(squitter_log) == sizeof({here}), "size of squitter_log");'
             yield f'_Static_assert(offsetof(squitter_log, at) == offsetof({here}, at), "at of squitter_log");'
@@ -168,15 +162,17 @@ def check_c():
             differ(done.stderr)
 
 
-def check_python_structs():
-    for name, fields in structs():
-        here = getattr(_library, STRUCTS[name][1])
-        if [n for n, _ in here._fields_] != [n for n, _ in fields]:
-            differ(f"fields of {here.__name__} in the module")
-        for (field, rust), (_, kind) in zip(fields, here._fields_):
-            plain = {"*mut u8": "c_void_p", "usize": "c_size_t"}.get(rust, "c_" + NUMBERS.get(rust, "")[:-2])
-            if rust in NUMBERS and kind is not getattr(ctypes, plain):
-                differ(f"type of {field} of {here.__name__} in the module")
+def check_taken_apart():
+    """Gives each member of a struct a number of its own, and compares what the module makes of them by name."""
+    members = [name for name, _ in squitter._Fields._fields_]
+    given = {name: 100 + number for number, name in enumerate(members)}
+    given.update(kind=squitter.Kind.GROUND, altitude_form=squitter.AltitudeForm.FEET)
+    if squitter._fields_of(tuple(given[name] for name in members))._asdict() != given:
+        differ("fields that the module takes apart in another order")
+    if [name for name, _ in squitter._Heard._fields_] != ["position", "what", "even", "odd"]:
+        differ("results that the module takes apart in another order")
+    if squitter._heard_of((1, 2, 3, 4, 1, 5, 6))[1:] != (squitter._position_of((1, 2, 3, 4)), 5, 6):
+        differ("results that the module takes apart in another way")
 
 
 def header():
@@ -185,7 +181,7 @@ def header():
 
 
 def check_codes():
-    """The codes: those of the specs, each once, in the header and in the module."""
+    """Compares the codes of the header with those of the specs, where each has one reason."""
     with open(os.path.join(CRATES[0], "specs", "Faults.antt"), encoding="utf-8") as file:
         stated = re.findall(r"^fault_of\w* \(?([\w.]+)[^=]*= told (\d+) ", file.read(), re.M)
     codes = {"OK": 0}
@@ -201,20 +197,6 @@ def check_codes():
     named = {name: int(code) for name, code in re.findall(r"SQUITTER_(\w+) = (\d+)", block)}
     if named != codes:
         differ(f"codes of squitter.h: {sorted(set(named.items()) ^ set(codes.items()))}")
-    if {code.name: code.value for code in squitter.Code} != codes:
-        differ("codes of the module")
-    for file, told in in_page("Code"):
-        if told != codes:
-            differ(f"codes of {file}: {sorted(set(told.items()) ^ set(codes.items()))}")
-
-
-def in_page(enum):
-    """What the module for JavaScript and its types say of an enum, by the names of the files."""
-    for file, start, number in (("squitter_values.js", rf"export const {enum} = ", r"(\w+): (\d+)"),
-                                ("squitter.d.ts", rf"export declare const {enum}: ", r"readonly (\w+): (\d+);")):
-        with open(os.path.join(os.path.dirname(CLIB), "web", file), encoding="utf-8") as text:
-            block = re.search(start + r".*?\}", text.read(), re.S)
-        yield file, {name: int(code) for name, code in re.findall(number, block[0])} if block else {}
 
 
 def definitions(crate, file, pattern):
@@ -224,62 +206,43 @@ def definitions(crate, file, pattern):
 
 
 def check_flags():
-    """Compares the flags of a feed in the header, in the module and in JavaScript with their definition: each is where
-    its number, a power of two, stands in a sum."""
+    """Compares the flags of a feed in the header with their definition, which takes them out of a sum."""
     stated = definitions("squitter_c", "FeedCalls.antt", r"^  (\w+) = flags / (\d+) % 2 == 1;$")
     stated |= definitions("squitter_c", "FeedCalls.antt", r"^  (\w+) = flags % (2) == 1;$")
     named = {"is_live": "LIVE", "ignores_clock": "BY_ARRIVAL", "all_formats": "ALL_FORMATS"}
-    with open(os.path.join(os.path.dirname(CLIB), "web", "squitter_feed.js"), encoding="utf-8") as text:
-        script = text.read()
     if stated.pop("is_live", 0) != 2 or set(stated) | {"is_live"} != set(named):
         differ("the definition of a feed's flags")
     for field, number in {"is_live": 1, **stated}.items():
         name = named.get(field, field)
         if not re.search(rf"^  SQUITTER_FEED_{name} = {number}\b", header(), re.M):
             differ(f"SQUITTER_FEED_{name} of squitter.h and of the definition")
-        if getattr(_feed, f"_{name}", None) != number:
-            differ(f"_{name} of the module and of the definition")
-        if not re.search(rf"^const .*\b{name} = {number}[,;]", script, re.M):
-            differ(f"{name} of squitter_feed.js and of the definition")
 
 
 def check_enums():
-    """Compares the other enums with their definitions: kinds, altitude forms, results and formats have the same numbers
-    in the header and in the module."""
+    """Compares the other enums of the header with their definitions: kinds, altitude forms, results and formats."""
     kinds = definitions("squitter_c", "Fields.antt", r"^pub record IsPlain(\w+) .*\n  pub kind : plain\.kind ≡ (\d+)$")
     forms = definitions("squitter_c", "Fields.antt", r"^IsPlainAltitude \(?altitudes\.(\w+)[^=]*= \(form ≡ (\d+)\)")
     heard = definitions("sq_plain", "Heard.antt", r"^IsPlainHeard \(?(\w+)[^=]*= IsHeardAs (\d+) ")
     feeds = definitions("squitter_c", "FeedCalls.antt", r"^format_number formats\.(\w+) = (\d+)$")
     feeds |= definitions("squitter_c", "FeedCalls.antt", r"^feed_number (None) = (\d+)$")
     strangers = definitions("squitter_c", "FeedCalls.antt", r"^stranger_number strangers\.(\w+) = (\d+)$")
-    # the enum of the module, what the definitions say, and the names of the cases in the module and in the header
+    # the definitions, and the names of their cases in the header
     rows = (
-        (squitter.Kind, kinds, {"Other": "OTHER OTHER", "Airborne": "AIR AIR", "Surface": "GROUND GROUND"}),
-        (squitter.AltitudeForm, forms, {
-            "Missing": "NONE NO_ALTITUDE", "Feet": "FEET FEET", "Raw": "OTHER OTHER_ALTITUDE"}),
-        (squitter.What, heard, {
-            "Fix": "FIX FIX", "Followed": "FOLLOWED FOLLOWED", "Waiting": "WAITING WAITING", "Split": "SPLIT SPLIT",
-            "Far": "FAR FAR", "NoSite": "WITHOUT_SITE WITHOUT_SITE", "NotPosition": "NO_PLACE NO_PLACE"}),
-        (squitter.FeedFormat, feeds, {
-            "Beast": "BEAST FEED_BEAST", "Avr": "AVR FEED_AVR", "Csv": "CSV FEED_CSV", "Log": "LOG FEED_LOG",
-            "None": "AUTO FEED_AUTO"}),
-        (squitter.Stranger, strangers, {
-            "Sbs": "SBS FEED_SBS", "Tar": "TAR FEED_TAR", "Packed": "PACKED FEED_PACKED", "Utf16": "UTF16 FEED_UTF16",
-            "Json": "JSON FEED_JSON", "NoFrame": "NO_FRAME FEED_NO_FRAME"}),
+        (kinds, {"Other": "OTHER", "Airborne": "AIR", "Surface": "GROUND"}),
+        (forms, {"Missing": "NO_ALTITUDE", "Feet": "FEET", "Raw": "OTHER_ALTITUDE"}),
+        (heard, {"Fix": "FIX", "Followed": "FOLLOWED", "Waiting": "WAITING", "Split": "SPLIT", "Far": "FAR",
+                 "NoSite": "WITHOUT_SITE", "NotPosition": "NO_PLACE"}),
+        (feeds, {"Beast": "FEED_BEAST", "Avr": "FEED_AVR", "Csv": "FEED_CSV", "Log": "FEED_LOG", "None": "FEED_AUTO"}),
+        (strangers, {"Sbs": "FEED_SBS", "Tar": "FEED_TAR", "Packed": "FEED_PACKED", "Utf16": "FEED_UTF16",
+                     "Json": "FEED_JSON", "NoFrame": "FEED_NO_FRAME"}),
     )
     blocks = [{name: int(number) for name, number in re.findall(r"SQUITTER_(\w+) = (\d+)", block)}
               for block in re.findall(r"^enum \{\n(.*?)^\};", header(), re.M | re.S)]
-    for kind, stated, named in rows:
+    for stated, named in rows:
         if set(stated) != set(named):
-            differ(f"the definitions of {kind.__name__} have {sorted(stated)}")
-            continue
-        if {one.name: one.value for one in kind} != {names.split()[0]: stated[case] for case, names in named.items()}:
-            differ(f"{kind.__name__} of the module and of the definitions")
-        for file, told in in_page(kind.__name__):
-            if told != {one.name: one.value for one in kind}:
-                differ(f"{kind.__name__} of {file} and of the definitions")
-        if {names.split()[1]: stated[case] for case, names in named.items()} not in blocks:
-            differ(f"{kind.__name__} of squitter.h and of the definitions")
+            differ(f"the definitions have {sorted(stated)}, not {sorted(named)}")
+        elif {name: stated[case] for case, name in named.items()} not in blocks:
+            differ(f"the enum of SQUITTER_{list(named.values())[0]} in squitter.h and its definition")
 
 
 def symbols(*words):
@@ -300,9 +263,6 @@ def check_symbols():
         wanted = {row[-1].split("@")[0] for row in symbols(*words, "--undefined-only", path)}
         if wanted - WANTED:
             differ(f"{file} wants {sorted(wanted - WANTED)}")
-    called = {f"squitter_{name}" for name in {**_library._CALLS, **_library._MANY, **_library._SURE}}
-    if called != names:
-        differ(f"calls of the module: {sorted(called ^ names)}")
 
 
 def check_tests():

@@ -34,7 +34,7 @@ TOP = os.path.join(HERE, "..", "..")
 sys.path.insert(0, os.path.join(HERE, ".."))
 import squitter  # noqa: E402
 from squitter import AirHead, Code, Contact, Fault, GroundHead, Kind, Position, What  # noqa: E402
-from squitter import _library, _parts, batch  # noqa: E402
+from squitter import _library, _made, _parts, batch  # noqa: E402
 
 try:
     import pandas
@@ -187,7 +187,7 @@ class Batch(unittest.TestCase):
         kinds = {batch.FAULT: "_Fault", batch.FIELDS: "_Fields", batch.POSITION: "_Position", _parts.HEARD: "_Heard",
                  _parts.DEGREES_E7: "_DegreesE7"}
         for dtype, name in kinds.items():
-            self.assertEqual((list(flat(getattr(_library, name))), ctypes.sizeof(getattr(_library, name))), (
+            self.assertEqual((list(flat(getattr(_made, name))), ctypes.sizeof(getattr(_made, name))), (
                 [(dtype.fields[one][1], dtype.fields[one][0].itemsize, one) for one in dtype.names], dtype.itemsize))
 
     def test_doctests(self) -> None:
