@@ -1,36 +1,77 @@
 /* squitter.js as a classic script, for a page opened from a folder; web/embed writes this file. */
 "use strict";
 function squitterModule() {
+const VERSION = 256;
+const FRAME_BYTES = 14; // of a frame
+const FRAME_DIGITS = 28; // of a frame's text, without a zero at its end
+const ANGLE_TEXT_BYTES = 16; // room for an angle's text and the zeros after it
+const FAULT_TEXT_BYTES = 64; // room for a fault's text and the zeros after it
+const HEADER_BYTES = 64; // room for the header of a format and the zeros after it
+const ANSWER_TEXT_BYTES = 512; // the most that the text of one line takes
+const FEED_LIVE = 1; // arrivals say when the bytes were received; otherwise they have no effect
+const FEED_BY_ARRIVAL = 2; // the receiver's clock is ignored, so that its frames have their arrivals
+const FEED_ALL_FORMATS = 4; // frames of all downlink formats are written; otherwise those of format 17
+const LINE_BYTES = 50; // the most that one line of a log takes
 const Code = Object.freeze({
-  OK: 0, WRAP: 1, SHORT: 2, LENGTH: 3, DIGIT: 4, NOT_DF17: 5, PARITY: 6,
-  NOT_POSITION: 10, OTHER_ADDRESS: 11, OTHER_KIND: 12, SAME_PARITY: 13, NO_SITE: 14, OUT_OF_RANGE: 15, ZONE_COUNTS: 16,
-  BAD_POSITION: 20, BAD_FIELDS: 21, BAD_ANGLE: 22, BAD_LATITUDE: 23, BAD_FEET: 24, BAD_PARITY: 25,
-  NOT_A_NUMBER: 30, TOO_MANY_DECIMALS: 31, ANGLE_RANGE: 32,
-  LONG_LINE: 40, BAD_MOMENT: 41, MOMENT_BACK: 42, TABLE_FULL: 43, NO_MEMORY: 44, NO_LIMIT: 45, NO_TRACKER: 46,
-  NO_ADDRESS: 47, LONG_LOG: 48, BAD_FORMAT: 49, BAD_ENTRY: 50,
+  OK: 0, WRAP: 1, SHORT: 2, LENGTH: 3, DIGIT: 4, NOT_DF17: 5, PARITY: 6, NOT_POSITION: 10, OTHER_ADDRESS: 11,
+  OTHER_KIND: 12, SAME_PARITY: 13, NO_SITE: 14, OUT_OF_RANGE: 15, ZONE_COUNTS: 16, BAD_POSITION: 20, BAD_FIELDS: 21,
+  BAD_ANGLE: 22, BAD_LATITUDE: 23, BAD_FEET: 24, BAD_PARITY: 25, NOT_A_NUMBER: 30, TOO_MANY_DECIMALS: 31,
+  ANGLE_RANGE: 32, LONG_LINE: 40, BAD_MOMENT: 41, MOMENT_BACK: 42, TABLE_FULL: 43, NO_MEMORY: 44, NO_LIMIT: 45,
+  NO_TRACKER: 46, NO_ADDRESS: 47, LONG_LOG: 48, BAD_FORMAT: 49, BAD_ENTRY: 50,
 });
 const Kind = Object.freeze({ OTHER: 0, AIR: 1, GROUND: 2 });
 const AltitudeForm = Object.freeze({ NONE: 0, FEET: 1, OTHER: 2 });
-const What = Object.freeze({
-  FIX: 1, FOLLOWED: 2, WAITING: 3, SPLIT: 4, FAR: 5, WITHOUT_SITE: 6, NO_PLACE: 7,
-});
+const What = Object.freeze({ FIX: 1, FOLLOWED: 2, WAITING: 3, SPLIT: 4, FAR: 5, WITHOUT_SITE: 6, NO_PLACE: 7 });
 const Format = Object.freeze({ LINES: 0, CSV: 1, JSON: 2 });
 const FeedFormat = Object.freeze({ BEAST: 0, AVR: 1, CSV: 2, LOG: 3, AUTO: 4 });
-const WINDOW = 10_000n;
 const Stranger = Object.freeze({ SBS: 5, TAR: 6, PACKED: 7, UTF16: 8, JSON: 9, NO_FRAME: 10 });
-class Fault extends Error {
-  constructor(message, code, first = 0n, second = 0) {
-    super(message);
-    this.name = "Fault";
-    this.code = code;
-    this.first = first;
-    this.second = second;
-  }
-  toJSON() {
-    const { name, message, code, first, second } = this;
-    return { name, message, code, first: String(first), second };
-  }
-}
+const BYTES = Object.freeze({
+  fault: 16, angle: 16, position: 32, degreesE7: 8, fields: 40, airHead: 12, groundHead: 12, altitude: 8, zones: 16,
+  received: 24, lastFix: 40, side: 88, entry: 192, last: 16, heard: 40, block: 16, tracker: 16, present: 16, log: 16,
+  answer: 96, done: 16, tally: 16, feed: 16, order: 16, counts: 248,
+});
+const AT = Object.freeze({
+  fault: Object.freeze({ code: 0, second: 4, first: 8 }),
+  angle: Object.freeze({ num: 0, den: 8 }),
+  position: Object.freeze({ lat: 0, lon: 16 }),
+  degreesE7: Object.freeze({ lat: 0, lon: 4 }),
+  fields: Object.freeze({
+    raw: 0, address: 8, lat: 12, lon: 16, feet: 20, altitude: 24, altitudeForm: 26, kind: 27, ca: 28, typeCode: 29,
+    odd: 30, time: 31, status: 32, flag: 33, movement: 34, trackStatus: 35, track: 36,
+  }),
+  airHead: Object.freeze({ address: 0, altitude: 4, ca: 6, typeCode: 7, status: 8, flag: 9, time: 10, odd: 11 }),
+  groundHead: Object.freeze({
+    address: 0, ca: 4, typeCode: 5, movement: 6, trackStatus: 7, track: 8, time: 9, odd: 10,
+  }),
+  altitude: Object.freeze({ feet: 0, form: 4 }),
+  zones: Object.freeze({ latZone: 0, lonZone: 4, degrees: 8, latZones: 12, zoneCount: 13, lonZones: 14, odd: 15 }),
+  received: Object.freeze({ moment: 0, frame: 8 }),
+  lastFix: Object.freeze({ moment: 0, position: 8 }),
+  side: Object.freeze({ even: 0, odd: 24, fix: 48 }),
+  entry: Object.freeze({ moment: 0, address: 8, airborne: 16, surface: 104 }),
+  last: Object.freeze({ moment: 0, heard: 8 }),
+  heard: Object.freeze({ position: 0, what: 32, even: 33, odd: 34 }),
+  block: Object.freeze({ size: 0, memory: 8 }),
+  tracker: Object.freeze({ full: 0, at: 8 }),
+  present: Object.freeze({ moment: 0, address: 8 }),
+  log: Object.freeze({ full: 0, at: 8 }),
+  answer: Object.freeze({
+    number: 0, moment: 8, heard: 16, fault: 56, degrees: 72, address: 80, feet: 84, kind: 88, altitudeForm: 89,
+  }),
+  done: Object.freeze({ taken: 0, written: 8 }),
+  tally: Object.freeze({ good: 0, refused: 8 }),
+  feed: Object.freeze({ full: 0, at: 8 }),
+  order: Object.freeze({ full: 0, at: 8 }),
+  counts: Object.freeze({ found: 0, written: 8, modeAc: 16, multilaterated: 24, damaged: 32, aside: 40, formats: 48 }),
+});
+const AIR_HEAD_MEMBERS = [
+  ["address", 0, 4], ["altitude", 4, 2], ["ca", 6, 1], ["typeCode", 7, 1], ["status", 8, 1], ["flag", 9, 1],
+  ["time", 10, 1], ["odd", 11, 1],
+];
+const GROUND_HEAD_MEMBERS = [
+  ["address", 0, 4], ["ca", 4, 1], ["typeCode", 5, 1], ["movement", 6, 1], ["trackStatus", 7, 1], ["track", 8, 1],
+  ["time", 9, 1], ["odd", 10, 1],
+];
 class Fields {
   constructor(view, at) {
     this.raw = view.getBigUint64(at, true);
@@ -53,6 +94,108 @@ class Fields {
   }
   toJSON() {
     return { ...this, raw: String(this.raw) };
+  }
+}
+function readFault(view, at) {
+  return {
+    code: view.getUint32(at, true),
+    second: view.getUint32(at + 4, true),
+    first: view.getBigUint64(at + 8, true),
+  };
+}
+function readAngle(view, at) {
+  return {
+    num: view.getBigInt64(at, true),
+    den: view.getBigUint64(at + 8, true),
+  };
+}
+function readZones(view, at) {
+  return {
+    latZone: view.getInt32(at, true),
+    lonZone: view.getUint32(at + 4, true),
+    degrees: view.getUint32(at + 8, true),
+    latZones: view.getUint8(at + 12),
+    zoneCount: view.getUint8(at + 13),
+    lonZones: view.getUint8(at + 14),
+    odd: view.getUint8(at + 15),
+  };
+}
+function readDegreesE7(view, at) {
+  return {
+    lat: view.getInt32(at, true),
+    lon: view.getInt32(at + 4, true),
+  };
+}
+function readAltitude(view, at) {
+  return {
+    feet: view.getInt32(at, true),
+    form: view.getUint8(at + 4),
+  };
+}
+function readDone(view, at) {
+  return {
+    taken: view.getBigUint64(at, true),
+    written: view.getBigUint64(at + 8, true),
+  };
+}
+function readTally(view, at) {
+  return {
+    good: view.getBigUint64(at, true),
+    refused: view.getBigUint64(at + 8, true),
+  };
+}
+function readPresent(view, at) {
+  return {
+    moment: view.getBigUint64(at, true),
+    address: view.getUint32(at + 8, true),
+  };
+}
+function readLast(view, at) {
+  return {
+    moment: view.getBigUint64(at, true),
+    heard: view.getBigUint64(at + 8, true),
+  };
+}
+function readCounts(view, at) {
+  return {
+    found: view.getBigUint64(at, true),
+    written: view.getBigUint64(at + 8, true),
+    modeAc: view.getBigUint64(at + 16, true),
+    multilaterated: view.getBigUint64(at + 24, true),
+    damaged: view.getBigUint64(at + 32, true),
+    aside: view.getBigUint64(at + 40, true),
+    formats: Array.from({ length: 25 }, (_, index) => view.getBigUint64(at + 48 + 8 * index, true)),
+  };
+}
+function writeFault(view, at, value) {
+  view.setUint32(at, value.code, true);
+  view.setUint32(at + 4, value.second, true);
+  view.setBigUint64(at + 8, value.first, true);
+}
+function writeAngle(view, at, value) {
+  view.setBigInt64(at, value.num, true);
+  view.setBigUint64(at + 8, value.den, true);
+}
+function writeBlock(view, at, value) {
+  view.setBigUint64(at, value.size, true);
+  view.setBigUint64(at + 8, value.memory, true);
+}
+function writeLast(view, at, value) {
+  view.setBigUint64(at, value.moment, true);
+  view.setBigUint64(at + 8, value.heard, true);
+}
+const WINDOW = 10_000n;
+class Fault extends Error {
+  constructor(message, code, first = 0n, second = 0) {
+    super(message);
+    this.name = "Fault";
+    this.code = code;
+    this.first = first;
+    this.second = second;
+  }
+  toJSON() {
+    const { name, message, code, first, second } = this;
+    return { name, message, code, first: String(first), second };
   }
 }
 class Angle {
@@ -93,11 +236,7 @@ class GroundHead {
     Object.assign(this, { address, ca, typeCode, movement, trackStatus, track, time, odd });
   }
 }
-const AIR_LAYOUT = [["address", 4], ["altitude", 2], ["ca", 1], ["typeCode", 1], ["status", 1], ["flag", 1],
-  ["time", 1], ["odd", 1]];
-const GROUND_LAYOUT = [["address", 4], ["ca", 1], ["typeCode", 1], ["movement", 1], ["trackStatus", 1],
-  ["track", 1], ["time", 1], ["odd", 1]];
-const FRAME_BYTES = 14, ENTRY_BYTES = 192, PAGE_BYTES = 65536;
+const PAGE_BYTES = 65536;
 function whole(value) {
   if (typeof value === "bigint") return value;
   if (Number.isSafeInteger(value)) return BigInt(value);
@@ -184,22 +323,18 @@ class Memory {
     return BigInt(spelled.length);
   }
   putAngle(at, degrees) {
-    const { num, den } = fraction(degrees);
-    this.view().setBigInt64(at, num, true);
-    this.view().setBigUint64(at + 8, den, true);
+    writeAngle(this.view(), at, fraction(degrees));
   }
   putPosition(at, { lat, lon }) {
-    this.putAngle(at, lat);
-    this.putAngle(at + 16, lon);
+    this.putAngle(at + AT.position.lat, lat);
+    this.putAngle(at + AT.position.lon, lon);
   }
-  putHead(at, layout, head) {
-    let next = at;
-    for (const [name, count] of layout) {
+  putHead(at, members, head) {
+    for (const [name, offset, count] of members) {
       const value = fitted(head[name], 8 * count), view = this.view();
-      if (count === 4) view.setUint32(next, value, true);
-      else if (count === 2) view.setUint16(next, value, true);
-      else view.setUint8(next, value);
-      next += count;
+      if (count === 4) view.setUint32(at + offset, value, true);
+      else if (count === 2) view.setUint16(at + offset, value, true);
+      else view.setUint8(at + offset, value);
     }
   }
   getText(at, room) {
@@ -212,32 +347,29 @@ class Memory {
     return new Fields(this.view(), at);
   }
   getZones(at) {
-    const view = this.view(), [latZones, zoneCount, lonZones, odd] = this.bytesAt(at + 12, 4);
-    return {
-      latZone: view.getInt32(at, true), lonZone: view.getUint32(at + 4, true), degrees: view.getUint32(at + 8, true),
-      latZones, zoneCount, lonZones, odd,
-    };
+    return readZones(this.view(), at);
   }
 }
 function ask(library, name, ...words) {
   const { exports, faultAt } = library.memory;
   exports[`squitter_${name}`](BigInt(faultAt), ...words);
-  const view = library.memory.view(), code = view.getUint32(faultAt, true);
-  if (!code) return;
-  const second = view.getUint32(faultAt + 4, true), first = view.getBigUint64(faultAt + 8, true);
+  const view = library.memory.view();
+  if (!view.getUint32(faultAt + AT.fault.code, true)) return;
+  const { code, first, second } = readFault(view, faultAt);
   throw new Fault(library.faultText(code, first, second), code, first, second);
 }
 function angleAt(library, at) {
-  const view = library.memory.view();
-  return new Angle(library, view.getBigInt64(at, true), view.getBigUint64(at + 8, true));
+  const { num, den } = readAngle(library.memory.view(), at);
+  return new Angle(library, num, den);
 }
 function positionAt(library, at) {
-  return Object.freeze({ lat: angleAt(library, at), lon: angleAt(library, at + 16) });
+  return Object.freeze({ lat: angleAt(library, at + AT.position.lat), lon: angleAt(library, at + AT.position.lon) });
 }
 function heardAt(library, at) {
-  const view = library.memory.view(), what = view.getUint8(at + 32);
-  const position = what === What.FIX || what === What.FOLLOWED ? positionAt(library, at) : null;
-  return { what, position, even: view.getUint8(at + 33), odd: view.getUint8(at + 34) };
+  const view = library.memory.view(), what = view.getUint8(at + AT.heard.what);
+  const isPlaced = what === What.FIX || what === What.FOLLOWED;
+  const position = isPlaced ? positionAt(library, at + AT.heard.position) : null;
+  return { what, position, even: view.getUint8(at + AT.heard.even), odd: view.getUint8(at + AT.heard.odd) };
 }
 const unused = new FinalizationRegistry((lent) => lent.close());
 class Lent {
@@ -247,8 +379,7 @@ class Lent {
     Object.assign(this, { library, name, block: memory.claim(16 + size), rooms: {} });
     this.slot = BigInt(this.block.at);
     memory.bytesAt(this.block.at, 16).fill(0);
-    memory.view().setBigUint64(memory.outAt, BigInt(size), true);
-    memory.view().setBigUint64(memory.outAt + 8, this.slot + 16n, true);
+    writeBlock(memory.view(), memory.outAt, { size: BigInt(size), memory: this.slot + 16n });
     try {
       make(this.slot, BigInt(memory.outAt));
     } catch (error) {
@@ -285,8 +416,13 @@ function listenerOf(owner, library, name, settings) {
     ask(library, `${name}_new${site ? "_at" : ""}`, ...words);
   });
 }
-const LAST_BYTES = 16, ANSWER_BYTES = 96, ANSWERS_AT_ONCE = 4096, TEXT_ROOM = 1 << 18, ANSWER_TEXT = 512;
-const E7 = 10_000_000;
+const ANSWERS_AT_ONCE = 4096, TEXT_ROOM = 1 << 18, E7 = 10_000_000;
+const LAST_BYTES = BYTES.last, ENTRY_BYTES = BYTES.entry, ANSWER_BYTES = BYTES.answer;
+const { number: NUMBER, moment: MOMENT, address: ADDRESS, feet: FEET, kind: KIND, altitudeForm: FORM } = AT.answer;
+const WHAT = AT.answer.heard + AT.heard.what, EVEN = AT.answer.heard + AT.heard.even;
+const ODD = AT.answer.heard + AT.heard.odd, CODE = AT.answer.fault + AT.fault.code;
+const FIRST = AT.answer.fault + AT.fault.first, LAT = AT.answer.degrees + AT.degreesE7.lat;
+const LON = AT.answer.degrees + AT.degreesE7.lon;
 const COLUMN_ROOM = 1 << 15;
 const LOWER = 1 - new Uint8Array(Uint32Array.of(1).buffer)[0];
 function columnsOf(count) {
@@ -314,22 +450,22 @@ function putAnswers(view, from, count, columns, first) {
   const { numbers, moments, whats, addresses, kinds, lats, lons, feet, evens, odds, codes, firsts } = columns;
   const times = new Uint32Array(moments.buffer), details = new Uint32Array(firsts.buffer);
   for (let index = first, at = from; index < first + count; index++, at += ANSWER_BYTES) {
-    const what = view.getUint8(at + 48), isPlace = what === What.FIX || what === What.FOLLOWED;
+    const what = view.getUint8(at + WHAT), isPlace = what === What.FIX || what === What.FOLLOWED;
     const lower = 2 * index + LOWER, upper = 2 * index + 1 - LOWER;
-    numbers[index] = view.getUint32(at, true) + 2 ** 32 * view.getUint32(at + 4, true);
-    times[lower] = view.getUint32(at + 8, true);
-    times[upper] = view.getUint32(at + 12, true);
+    numbers[index] = view.getUint32(at + NUMBER, true) + 2 ** 32 * view.getUint32(at + NUMBER + 4, true);
+    times[lower] = view.getUint32(at + MOMENT, true);
+    times[upper] = view.getUint32(at + MOMENT + 4, true);
     whats[index] = what;
-    evens[index] = view.getUint8(at + 49);
-    odds[index] = view.getUint8(at + 50);
-    codes[index] = view.getUint32(at + 56, true);
-    details[lower] = view.getUint32(at + 64, true);
-    details[upper] = view.getUint32(at + 68, true);
-    addresses[index] = what ? view.getUint32(at + 80, true) : -1;
-    kinds[index] = view.getUint8(at + 88);
-    lats[index] = isPlace ? view.getInt32(at + 72, true) / E7 : NaN;
-    lons[index] = isPlace ? view.getInt32(at + 76, true) / E7 : NaN;
-    feet[index] = view.getUint8(at + 89) === AltitudeForm.FEET ? view.getInt32(at + 84, true) : NaN;
+    evens[index] = view.getUint8(at + EVEN);
+    odds[index] = view.getUint8(at + ODD);
+    codes[index] = view.getUint32(at + CODE, true);
+    details[lower] = view.getUint32(at + FIRST, true);
+    details[upper] = view.getUint32(at + FIRST + 4, true);
+    addresses[index] = what ? view.getUint32(at + ADDRESS, true) : -1;
+    kinds[index] = view.getUint8(at + KIND);
+    lats[index] = isPlace ? view.getInt32(at + LAT, true) / E7 : NaN;
+    lons[index] = isPlace ? view.getInt32(at + LON, true) / E7 : NaN;
+    feet[index] = view.getUint8(at + FORM) === AltitudeForm.FEET ? view.getInt32(at + FEET, true) : NaN;
   }
 }
 class Log {
@@ -340,7 +476,7 @@ class Log {
     this.#library = library;
     this.#listener = listenerOf(this, library, "log", settings);
     this.#listener.rooms = {
-      done: library.memory.claim(16), piece: library.memory.claim(PIECE_BYTES),
+      done: library.memory.claim(BYTES.done), piece: library.memory.claim(PIECE_BYTES),
       out: library.memory.claim(Math.max(TEXT_ROOM, ANSWERS_AT_ONCE * ANSWER_BYTES)),
     };
   }
@@ -359,13 +495,12 @@ class Log {
   header(format = Format.LINES) {
     const { exports, outAt } = this.#library.memory;
     exports.squitter_log_header(format, BigInt(outAt));
-    return this.#library.memory.getText(outAt, 64);
+    return this.#library.memory.getText(outAt, HEADER_BYTES);
   }
   get tally() {
     const { outAt } = this.#library.memory;
     ask(this.#library, "log_tally", this.#listener.slot, BigInt(outAt));
-    const view = this.#library.memory.view();
-    return { good: view.getBigUint64(outAt, true), refused: view.getBigUint64(outAt + 8, true) };
+    return readTally(this.#library.memory.view(), outAt);
   }
   close() {
     this.#listener.close();
@@ -388,9 +523,9 @@ class Log {
       const words = [...(format === undefined ? [] : [format]),
         ...(at === undefined ? [] : [BigInt(at + taken), BigInt(count - taken)])];
       ask(this.#library, name, this.#listener.slot, ...words, BigInt(out), BigInt(room), BigInt(done));
-      const view = memory.view();
-      taken += Number(view.getBigUint64(done, true));
-      written = Number(view.getBigUint64(done + 8, true));
+      const progress = readDone(memory.view(), done);
+      taken += Number(progress.taken);
+      written = Number(progress.written);
       use(out, written);
     } while (written > full);
   }
@@ -413,7 +548,7 @@ class Log {
   #text(run) {
     const decoder = new TextDecoder();
     let text = "";
-    run((name, format, at, count) => this.#call(TEXT_ROOM, TEXT_ROOM - ANSWER_TEXT, name, at, count, format,
+    run((name, format, at, count) => this.#call(TEXT_ROOM, TEXT_ROOM - ANSWER_TEXT_BYTES, name, at, count, format,
       (out, written) => { text += decoder.decode(this.#library.memory.bytesAt(out, written)); }));
     return text;
   }
@@ -440,8 +575,8 @@ class Tracker {
   present(index) {
     const { outAt } = this.#library.memory;
     ask(this.#library, "tracker_get", this.#listener.slot, whole(index), BigInt(outAt));
-    const view = this.#library.memory.view();
-    return { address: view.getUint32(outAt + 8, true), moment: view.getBigUint64(outAt, true) };
+    const { address, moment: newest } = readPresent(this.#library.memory.view(), outAt);
+    return { address, moment: newest };
   }
   get last() {
     return this.#state(0).last ?? 0n;
@@ -455,8 +590,7 @@ class Tracker {
     memory.bytesAt(room.at, LAST_BYTES).fill(0);
     const at = BigInt(room.at), entries = at + BigInt(LAST_BYTES);
     memory.exports.squitter_tracker_save(this.#listener.slot, at, entries, BigInt(count));
-    const view = memory.view();
-    const last = view.getBigUint64(room.at + 8, true) ? view.getBigUint64(room.at, true) : null;
+    const { moment: latest, heard } = readLast(memory.view(), room.at), last = heard ? latest : null;
     const saved = { last, entries: memory.bytesAt(room.at + LAST_BYTES, ENTRY_BYTES * count).slice() };
     memory.release(room);
     return saved;
@@ -467,8 +601,7 @@ class Tracker {
     const isHeard = last !== null && last !== undefined, time = isHeard ? moment(last) : 0n;
     const room = memory.claim(LAST_BYTES + bytes.length);
     try {
-      memory.view().setBigUint64(room.at, time, true);
-      memory.view().setBigUint64(room.at + 8, isHeard ? 1n : 0n, true);
+      writeLast(memory.view(), room.at, { moment: time, heard: isHeard ? 1n : 0n });
       memory.putBytes(room.at + LAST_BYTES, bytes);
       const at = BigInt(room.at), count = BigInt(bytes.length / ENTRY_BYTES);
       ask(this.#library, "tracker_restore", this.#listener.slot, at, at + BigInt(LAST_BYTES), count);
@@ -504,8 +637,7 @@ class Contact extends Tracker {
     return other;
   }
 }
-const SQUITTERS_AT_ONCE = 1024, LINES_ROOM = 1 << 16, LINE_BYTES = 50, FORMATS = 25;
-const LIVE = 1, BY_ARRIVAL = 2, ALL_FORMATS = 4;
+const SQUITTERS_AT_ONCE = 1024, LINES_ROOM = 1 << 16;
 class Feed {
   #lent;
   #library;
@@ -513,12 +645,12 @@ class Feed {
     format = FeedFormat.AUTO, leap = 600_000n, live = false, late = 0n, allFormats = false, byArrival = false,
   } = {}) {
     const { memory } = library, number = fitted(format, 32), longest = moment(leap), latest = moment(late);
-    const flags = (live ? LIVE : 0) + (byArrival ? BY_ARRIVAL : 0) + (allFormats ? ALL_FORMATS : 0);
+    const flags = (live ? FEED_LIVE : 0) + (byArrival ? FEED_BY_ARRIVAL : 0) + (allFormats ? FEED_ALL_FORMATS : 0);
     this.#library = library;
     this.#lent = new Lent(this, library, "feed", Number(memory.exports.squitter_feed_size()),
       (slot, block) => ask(library, "feed_new", slot, block, number, longest, latest, flags));
     this.#lent.rooms = {
-      done: memory.claim(16), piece: memory.claim(PIECE_BYTES), moments: memory.claim(8 * SQUITTERS_AT_ONCE),
+      done: memory.claim(BYTES.done), piece: memory.claim(PIECE_BYTES), moments: memory.claim(8 * SQUITTERS_AT_ONCE),
       out: memory.claim(LINES_ROOM),
     };
   }
@@ -553,9 +685,7 @@ class Feed {
   get counts() {
     const { memory } = this.#library, { outAt } = memory;
     ask(this.#library, "feed_counts", this.#lent.slot, BigInt(outAt));
-    const numbers = Array.from({ length: 6 + FORMATS }, (_, at) => memory.view().getBigUint64(outAt + 8 * at, true));
-    const [found, written, modeAc, multilaterated, damaged, aside, ...formats] = numbers;
-    return { found, written, modeAc, multilaterated, damaged, aside, formats };
+    return readCounts(memory.view(), outAt);
   }
   close() {
     this.#lent.close();
@@ -571,9 +701,9 @@ class Feed {
       do {
         const given = bytes ? [BigInt(at + taken), BigInt(part.length - taken)] : [];
         ask(this.#library, name, this.#lent.slot, ...given, arrival, ...rest);
-        const view = memory.view();
-        taken += Number(view.getBigUint64(done, true));
-        written = Number(view.getBigUint64(done + 8, true));
+        const progress = readDone(memory.view(), done);
+        taken += Number(progress.taken);
+        written = Number(progress.written);
         use(written);
       } while (written > full);
       from += PIECE_BYTES;
@@ -663,7 +793,7 @@ class Squitter {
     const { exports, firstAt, outAt } = this.memory;
     this.memory.putBytes(firstAt, this.frame(source));
     exports.squitter_text_of_frame(BigInt(firstAt), BigInt(outAt));
-    return this.memory.getText(outAt, 28);
+    return this.memory.getText(outAt, FRAME_DIGITS);
   }
   read(source) {
     const { firstAt, outAt } = this.memory;
@@ -699,7 +829,7 @@ class Squitter {
     const isAir = head instanceof AirHead;
     if (!isAir && !(head instanceof GroundHead)) throw new TypeError("a head is an AirHead or a GroundHead");
     const { firstAt, placeAt, outAt } = this.memory;
-    this.memory.putHead(firstAt, isAir ? AIR_LAYOUT : GROUND_LAYOUT, head);
+    this.memory.putHead(firstAt, isAir ? AIR_HEAD_MEMBERS : GROUND_HEAD_MEMBERS, head);
     this.memory.putPosition(placeAt, position);
     this.#ask(isAir ? "encode_air" : "encode_ground", BigInt(firstAt), BigInt(placeAt), BigInt(outAt));
     return this.#frameAt(outAt);
@@ -728,7 +858,7 @@ class Squitter {
     const { placeAt, outAt } = this.memory;
     this.memory.putAngle(placeAt, degrees);
     this.#ask("text_of_angle", BigInt(placeAt), BigInt(outAt));
-    return this.memory.getText(outAt, 16);
+    return this.memory.getText(outAt, ANGLE_TEXT_BYTES);
   }
   angleE7(degrees) {
     const { placeAt, outAt } = this.memory;
@@ -740,13 +870,13 @@ class Squitter {
     const { placeAt, outAt } = this.memory;
     this.memory.putPosition(placeAt, position);
     this.#ask("position_e7", BigInt(placeAt), BigInt(outAt));
-    const view = this.memory.view();
-    return { lat: view.getInt32(outAt, true), lon: view.getInt32(outAt + 4, true) };
+    return readDegreesE7(this.memory.view(), outAt);
   }
   feetOfField(typeCode, field) {
     const { outAt } = this.memory;
     this.#ask("feet_of_field", fitted(typeCode, 8), fitted(field, 16), BigInt(outAt));
-    return { form: this.memory.view().getUint8(outAt + 4), feet: this.memory.view().getInt32(outAt, true) };
+    const { form, feet } = readAltitude(this.memory.view(), outAt);
+    return { form, feet };
   }
   fieldOfFeet(feet) {
     const { outAt } = this.memory, number = whole(feet);
@@ -759,11 +889,9 @@ class Squitter {
     const numbers = [[code, 32], [first, 64], [second, 32]].map(([value, bits]) => [whole(value), bits]);
     const fit = numbers.every(([value, bits]) => BigInt.asUintN(bits, value) === value);
     if (!fit) throw new RangeError("a fault has a code and a second number below 2^32 and a first below 2^64");
-    view.setUint32(faultAt, Number(code), true);
-    view.setUint32(faultAt + 4, Number(second), true);
-    view.setBigUint64(faultAt + 8, BigInt(first), true);
+    writeFault(view, faultAt, { code: Number(code), first: BigInt(first), second: Number(second) });
     exports.squitter_text_of_fault(BigInt(faultAt), BigInt(outAt));
-    return this.memory.getText(outAt, 64);
+    return this.memory.getText(outAt, FAULT_TEXT_BYTES);
   }
   version() {
     const number = this.memory.exports.squitter_version();

@@ -1,106 +1,11 @@
 /* squitter.d.ts: the types of squitter.js. tests/page holds the names here to what the module exports. */
 
-/** The codes of faults, as squitter.h names them. */
-export declare const Code: {
-  readonly OK: 0;
-  readonly WRAP: 1;
-  readonly SHORT: 2;
-  readonly LENGTH: 3;
-  readonly DIGIT: 4;
-  readonly NOT_DF17: 5;
-  readonly PARITY: 6;
-  readonly NOT_POSITION: 10;
-  readonly OTHER_ADDRESS: 11;
-  readonly OTHER_KIND: 12;
-  readonly SAME_PARITY: 13;
-  readonly NO_SITE: 14;
-  readonly OUT_OF_RANGE: 15;
-  readonly ZONE_COUNTS: 16;
-  readonly BAD_POSITION: 20;
-  readonly BAD_FIELDS: 21;
-  readonly BAD_ANGLE: 22;
-  readonly BAD_LATITUDE: 23;
-  readonly BAD_FEET: 24;
-  readonly BAD_PARITY: 25;
-  readonly NOT_A_NUMBER: 30;
-  readonly TOO_MANY_DECIMALS: 31;
-  readonly ANGLE_RANGE: 32;
-  readonly LONG_LINE: 40;
-  readonly BAD_MOMENT: 41;
-  readonly MOMENT_BACK: 42;
-  readonly TABLE_FULL: 43;
-  readonly NO_MEMORY: 44;
-  readonly NO_LIMIT: 45;
-  readonly NO_TRACKER: 46;
-  readonly NO_ADDRESS: 47;
-  readonly LONG_LOG: 48;
-  readonly BAD_FORMAT: 49;
-  readonly BAD_ENTRY: 50;
-};
-export type Code = (typeof Code)[keyof typeof Code];
+import { AltitudeForm, Code, FeedFormat, Format, Kind, Stranger, What } from "./squitter_layout.js";
 
-/** The output formats of a log, those of `squitter track --format`. */
-export declare const Format: {
-  readonly LINES: 0;
-  readonly CSV: 1;
-  readonly JSON: 2;
-};
-export type Format = (typeof Format)[keyof typeof Format];
-
-/** The formats of a receiver's bytes. */
-export declare const FeedFormat: {
-  readonly BEAST: 0;
-  readonly AVR: 1;
-  readonly CSV: 2;
-  readonly LOG: 3;
-  /** The first bytes show the format. */
-  readonly AUTO: 4;
-};
-export type FeedFormat = (typeof FeedFormat)[keyof typeof FeedFormat];
+export { AltitudeForm, Code, FeedFormat, Format, Kind, Stranger, What } from "./squitter_layout.js";
 
 /** The default window of trackers, contacts and logs, in milliseconds: 10 seconds, as that of `squitter track`. */
 export declare const WINDOW: bigint;
-
-/** Sources without frames of a known format. */
-export declare const Stranger: {
-  /** SBS (BaseStation) text, which has positions and no frames. */
-  readonly SBS: 5;
-  readonly TAR: 6;
-  /** Compressed by gzip, bzip2, xz or zstd, or a zip archive. */
-  readonly PACKED: 7;
-  readonly UTF16: 8;
-  readonly JSON: 9;
-  readonly NO_FRAME: 10;
-};
-export type Stranger = (typeof Stranger)[keyof typeof Stranger];
-
-/** The kind of a squitter, by its type code. */
-export declare const Kind: {
-  readonly OTHER: 0;
-  readonly AIR: 1;
-  readonly GROUND: 2;
-};
-export type Kind = (typeof Kind)[keyof typeof Kind];
-
-/** The meaning of an altitude field: nothing sent, feet, or another form. */
-export declare const AltitudeForm: {
-  readonly NONE: 0;
-  readonly FEET: 1;
-  readonly OTHER: 2;
-};
-export type AltitudeForm = (typeof AltitudeForm)[keyof typeof AltitudeForm];
-
-/** The result for a frame: the first of these that applies. */
-export declare const What: {
-  readonly FIX: 1;
-  readonly FOLLOWED: 2;
-  readonly WAITING: 3;
-  readonly SPLIT: 4;
-  readonly FAR: 5;
-  readonly WITHOUT_SITE: 6;
-  readonly NO_PLACE: 7;
-};
-export type What = (typeof What)[keyof typeof What];
 
 /** A whole number. A number that is not whole, or too large to be exact, is a TypeError. */
 export type Whole = number | bigint;

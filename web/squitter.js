@@ -15,15 +15,15 @@
  * result throws a Fault: the first error in the order of squitter.h. A whole number that does not fit its field in C
  * throws the fault of that field. Any other value in place of a whole number throws a TypeError. */
 
-import { Memory, ask, angleAt, positionAt } from "./squitter_memory.js";
 import {
-  Code, Fault, AirHead, GroundHead, AIR_LAYOUT, GROUND_LAYOUT, FRAME_BYTES, whole, fitted, fraction,
-  frameBytes,
-} from "./squitter_values.js";
+  AIR_HEAD_MEMBERS, ANGLE_TEXT_BYTES, Code, FAULT_TEXT_BYTES, FRAME_BYTES, FRAME_DIGITS, GROUND_HEAD_MEMBERS,
+  readAltitude, readDegreesE7, writeFault,
+} from "./squitter_layout.js";
+import { Memory, ask, angleAt, positionAt } from "./squitter_memory.js";
+import { AirHead, Fault, GroundHead, fitted, frameBytes, whole } from "./squitter_values.js";
 
-export {
-  Code, Kind, AltitudeForm, What, Format, FeedFormat, Stranger, WINDOW, Fault, Angle, AirHead, GroundHead,
-} from "./squitter_values.js";
+export { Code, Kind, AltitudeForm, What, Format, FeedFormat, Stranger } from "./squitter_layout.js";
+export { WINDOW, Fault, Angle, AirHead, GroundHead } from "./squitter_values.js";
 export { Contact, Log, Tracker } from "./squitter_tracking.js";
 export { Feed } from "./squitter_feed.js";
 
@@ -98,7 +98,7 @@ export class Squitter {
     const { exports, firstAt, outAt } = this.memory;
     this.memory.putBytes(firstAt, this.frame(source));
     exports.squitter_text_of_frame(BigInt(firstAt), BigInt(outAt));
-    return this.memory.getText(outAt, 28);
+    return this.memory.getText(outAt, FRAME_DIGITS);
   }
 
   /** Returns the fields of the squitter in a frame. Faults: those of `frame`, then NOT_DF17, PARITY. */
@@ -147,7 +147,7 @@ export class Squitter {
     const isAir = head instanceof AirHead;
     if (!isAir && !(head instanceof GroundHead)) throw new TypeError("a head is an AirHead or a GroundHead");
     const { firstAt, placeAt, outAt } = this.memory;
-    this.memory.putHead(firstAt, isAir ? AIR_LAYOUT : GROUND_LAYOUT, head);
+    this.memory.putHead(firstAt, isAir ? AIR_HEAD_MEMBERS : GROUND_HEAD_MEMBERS, head);
     this.memory.putPosition(placeAt, position);
     this.#ask(isAir ? "encode_air" : "encode_ground", BigInt(firstAt), BigInt(placeAt), BigInt(outAt));
     return this.#frameAt(outAt);
@@ -187,7 +187,7 @@ export class Squitter {
     const { placeAt, outAt } = this.memory;
     this.memory.putAngle(placeAt, degrees);
     this.#ask("text_of_angle", BigInt(placeAt), BigInt(outAt));
-    return this.memory.getText(outAt, 16);
+    return this.memory.getText(outAt, ANGLE_TEXT_BYTES);
   }
 
   /** Returns the angle in units of 10^-7 degree, rounded half away from zero. Fault: BAD_ANGLE. */
@@ -203,8 +203,7 @@ export class Squitter {
     const { placeAt, outAt } = this.memory;
     this.memory.putPosition(placeAt, position);
     this.#ask("position_e7", BigInt(placeAt), BigInt(outAt));
-    const view = this.memory.view();
-    return { lat: view.getInt32(outAt, true), lon: view.getInt32(outAt + 4, true) };
+    return readDegreesE7(this.memory.view(), outAt);
   }
 
   /** Decodes an altitude field of 12 bits in an airborne position of this type code: its form, and feet or 0.
@@ -212,7 +211,8 @@ export class Squitter {
   feetOfField(typeCode, field) {
     const { outAt } = this.memory;
     this.#ask("feet_of_field", fitted(typeCode, 8), fitted(field, 16), BigInt(outAt));
-    return { form: this.memory.view().getUint8(outAt + 4), feet: this.memory.view().getInt32(outAt, true) };
+    const { form, feet } = readAltitude(this.memory.view(), outAt);
+    return { form, feet };
   }
 
   /** Returns the altitude field for these feet, a multiple of 25 from -1000 to 50175. Fault: BAD_FEET. */
@@ -229,11 +229,9 @@ export class Squitter {
     const numbers = [[code, 32], [first, 64], [second, 32]].map(([value, bits]) => [whole(value), bits]);
     const fit = numbers.every(([value, bits]) => BigInt.asUintN(bits, value) === value);
     if (!fit) throw new RangeError("a fault has a code and a second number below 2^32 and a first below 2^64");
-    view.setUint32(faultAt, Number(code), true);
-    view.setUint32(faultAt + 4, Number(second), true);
-    view.setBigUint64(faultAt + 8, BigInt(first), true);
+    writeFault(view, faultAt, { code: Number(code), first: BigInt(first), second: Number(second) });
     exports.squitter_text_of_fault(BigInt(faultAt), BigInt(outAt));
-    return this.memory.getText(outAt, 64);
+    return this.memory.getText(outAt, FAULT_TEXT_BYTES);
   }
 
   /** Returns the version of the library. */

@@ -1,12 +1,12 @@
 /* squitter_feed.js: the feeds of squitter.js. */
 
+import {
+  BYTES, FEED_ALL_FORMATS, FEED_BY_ARRIVAL, FEED_LIVE, FRAME_BYTES, FeedFormat, LINE_BYTES, readCounts, readDone,
+} from "./squitter_layout.js";
 import { Lent, PIECE_BYTES, ask, bytesOf } from "./squitter_memory.js";
-import { FRAME_BYTES, FeedFormat, fitted, moment } from "./squitter_values.js";
+import { fitted, moment } from "./squitter_values.js";
 
-const SQUITTERS_AT_ONCE = 1024, LINES_ROOM = 1 << 16, LINE_BYTES = 50, FORMATS = 25;
-
-// How a feed hears its source: the flags of SQUITTER_FEED in squitter.h.
-const LIVE = 1, BY_ARRIVAL = 2, ALL_FORMATS = 4;
+const SQUITTERS_AT_ONCE = 1024, LINES_ROOM = 1 << 16;
 
 /** Finds the squitters in a receiver's bytes, in pieces of any length, with their timestamps in milliseconds. */
 export class Feed {
@@ -23,12 +23,12 @@ export class Feed {
     format = FeedFormat.AUTO, leap = 600_000n, live = false, late = 0n, allFormats = false, byArrival = false,
   } = {}) {
     const { memory } = library, number = fitted(format, 32), longest = moment(leap), latest = moment(late);
-    const flags = (live ? LIVE : 0) + (byArrival ? BY_ARRIVAL : 0) + (allFormats ? ALL_FORMATS : 0);
+    const flags = (live ? FEED_LIVE : 0) + (byArrival ? FEED_BY_ARRIVAL : 0) + (allFormats ? FEED_ALL_FORMATS : 0);
     this.#library = library;
     this.#lent = new Lent(this, library, "feed", Number(memory.exports.squitter_feed_size()),
       (slot, block) => ask(library, "feed_new", slot, block, number, longest, latest, flags));
     this.#lent.rooms = {
-      done: memory.claim(16), piece: memory.claim(PIECE_BYTES), moments: memory.claim(8 * SQUITTERS_AT_ONCE),
+      done: memory.claim(BYTES.done), piece: memory.claim(PIECE_BYTES), moments: memory.claim(8 * SQUITTERS_AT_ONCE),
       out: memory.claim(LINES_ROOM),
     };
   }
@@ -86,9 +86,7 @@ export class Feed {
   get counts() {
     const { memory } = this.#library, { outAt } = memory;
     ask(this.#library, "feed_counts", this.#lent.slot, BigInt(outAt));
-    const numbers = Array.from({ length: 6 + FORMATS }, (_, at) => memory.view().getBigUint64(outAt + 8 * at, true));
-    const [found, written, modeAc, multilaterated, damaged, aside, ...formats] = numbers;
-    return { found, written, modeAc, multilaterated, damaged, aside, formats };
+    return readCounts(memory.view(), outAt);
   }
 
   /** Frees the memory. Safe to call twice. */
@@ -109,9 +107,9 @@ export class Feed {
       do {
         const given = bytes ? [BigInt(at + taken), BigInt(part.length - taken)] : [];
         ask(this.#library, name, this.#lent.slot, ...given, arrival, ...rest);
-        const view = memory.view();
-        taken += Number(view.getBigUint64(done, true));
-        written = Number(view.getBigUint64(done + 8, true));
+        const progress = readDone(memory.view(), done);
+        taken += Number(progress.taken);
+        written = Number(progress.written);
         use(written);
       } while (written > full);
       from += PIECE_BYTES;

@@ -1,6 +1,9 @@
 /* squitter_memory.js: the memory of the module of squitter.js, and how calls find their arguments and results there. */
 
-import { What, Fault, Fields, Angle, PAGE_BYTES, fitted, fraction } from "./squitter_values.js";
+import {
+  AT, Fields, What, readAngle, readFault, readZones, writeAngle, writeBlock,
+} from "./squitter_layout.js";
+import { Angle, Fault, PAGE_BYTES, fitted, fraction } from "./squitter_values.js";
 
 /** The memory of the module, and the addresses of arguments and results, above the memory that the module uses. */
 export class Memory {
@@ -78,24 +81,21 @@ export class Memory {
   }
 
   putAngle(at, degrees) {
-    const { num, den } = fraction(degrees);
-    this.view().setBigInt64(at, num, true);
-    this.view().setBigUint64(at + 8, den, true);
+    writeAngle(this.view(), at, fraction(degrees));
   }
 
   putPosition(at, { lat, lon }) {
-    this.putAngle(at, lat);
-    this.putAngle(at + 16, lon);
+    this.putAngle(at + AT.position.lat, lat);
+    this.putAngle(at + AT.position.lon, lon);
   }
 
-  putHead(at, layout, head) {
-    let next = at;
-    for (const [name, count] of layout) {
+  /** Writes a head; `members` has the name, offset and size of each field. */
+  putHead(at, members, head) {
+    for (const [name, offset, count] of members) {
       const value = fitted(head[name], 8 * count), view = this.view();
-      if (count === 4) view.setUint32(next, value, true);
-      else if (count === 2) view.setUint16(next, value, true);
-      else view.setUint8(next, value);
-      next += count;
+      if (count === 4) view.setUint32(at + offset, value, true);
+      else if (count === 2) view.setUint16(at + offset, value, true);
+      else view.setUint8(at + offset, value);
     }
   }
 
@@ -112,11 +112,7 @@ export class Memory {
   }
 
   getZones(at) {
-    const view = this.view(), [latZones, zoneCount, lonZones, odd] = this.bytesAt(at + 12, 4);
-    return {
-      latZone: view.getInt32(at, true), lonZone: view.getUint32(at + 4, true), degrees: view.getUint32(at + 8, true),
-      latZones, zoneCount, lonZones, odd,
-    };
+    return readZones(this.view(), at);
   }
 }
 
@@ -124,26 +120,28 @@ export class Memory {
 export function ask(library, name, ...words) {
   const { exports, faultAt } = library.memory;
   exports[`squitter_${name}`](BigInt(faultAt), ...words);
-  const view = library.memory.view(), code = view.getUint32(faultAt, true);
-  if (!code) return;
-  const second = view.getUint32(faultAt + 4, true), first = view.getBigUint64(faultAt + 8, true);
+  const view = library.memory.view();
+  // Only a fault is read as a whole, because a BigInt takes longer than the rest.
+  if (!view.getUint32(faultAt + AT.fault.code, true)) return;
+  const { code, first, second } = readFault(view, faultAt);
   throw new Fault(library.faultText(code, first, second), code, first, second);
 }
 
 export function angleAt(library, at) {
-  const view = library.memory.view();
-  return new Angle(library, view.getBigInt64(at, true), view.getBigUint64(at + 8, true));
+  const { num, den } = readAngle(library.memory.view(), at);
+  return new Angle(library, num, den);
 }
 
 export function positionAt(library, at) {
-  return Object.freeze({ lat: angleAt(library, at), lon: angleAt(library, at + 16) });
+  return Object.freeze({ lat: angleAt(library, at + AT.position.lat), lon: angleAt(library, at + AT.position.lon) });
 }
 
 /** Returns the result for a frame, from an address. */
 export function heardAt(library, at) {
-  const view = library.memory.view(), what = view.getUint8(at + 32);
-  const position = what === What.FIX || what === What.FOLLOWED ? positionAt(library, at) : null;
-  return { what, position, even: view.getUint8(at + 33), odd: view.getUint8(at + 34) };
+  const view = library.memory.view(), what = view.getUint8(at + AT.heard.what);
+  const isPlaced = what === What.FIX || what === What.FOLLOWED;
+  const position = isPlaced ? positionAt(library, at + AT.heard.position) : null;
+  return { what, position, even: view.getUint8(at + AT.heard.even), odd: view.getUint8(at + AT.heard.odd) };
 }
 
 /** Frees the memory of logs, trackers and feeds that are no longer used. */
@@ -159,8 +157,7 @@ export class Lent {
     Object.assign(this, { library, name, block: memory.claim(16 + size), rooms: {} });
     this.slot = BigInt(this.block.at);
     memory.bytesAt(this.block.at, 16).fill(0);
-    memory.view().setBigUint64(memory.outAt, BigInt(size), true);
-    memory.view().setBigUint64(memory.outAt + 8, this.slot + 16n, true);
+    writeBlock(memory.view(), memory.outAt, { size: BigInt(size), memory: this.slot + 16n });
     try {
       make(this.slot, BigInt(memory.outAt));
     } catch (error) {

@@ -1,7 +1,11 @@
 /* squitter_tracking.js: the logs and trackers of squitter.js. */
 
+import {
+  ANSWER_TEXT_BYTES, AT, AltitudeForm, BYTES, Format, HEADER_BYTES, What, readDone, readLast, readPresent, readTally,
+  writeLast,
+} from "./squitter_layout.js";
 import { Lent, PIECE_BYTES, ask, bytesOf, heardAt } from "./squitter_memory.js";
-import { AltitudeForm, What, Format, ENTRY_BYTES, WINDOW, fraction, whole, moment } from "./squitter_values.js";
+import { WINDOW, fraction, whole, moment } from "./squitter_values.js";
 
 /** The most addresses of a log or a tracker: some 800 megabytes. */
 const MOST_ADDRESSES = 1 << 20;
@@ -23,8 +27,15 @@ function listenerOf(owner, library, name, settings) {
   });
 }
 
-const LAST_BYTES = 16, ANSWER_BYTES = 96, ANSWERS_AT_ONCE = 4096, TEXT_ROOM = 1 << 18, ANSWER_TEXT = 512;
-const E7 = 10_000_000;
+const ANSWERS_AT_ONCE = 4096, TEXT_ROOM = 1 << 18, E7 = 10_000_000;
+
+// Sizes and offsets in bytes. As constants of their own they cost nothing for each line.
+const LAST_BYTES = BYTES.last, ENTRY_BYTES = BYTES.entry, ANSWER_BYTES = BYTES.answer;
+const { number: NUMBER, moment: MOMENT, address: ADDRESS, feet: FEET, kind: KIND, altitudeForm: FORM } = AT.answer;
+const WHAT = AT.answer.heard + AT.heard.what, EVEN = AT.answer.heard + AT.heard.even;
+const ODD = AT.answer.heard + AT.heard.odd, CODE = AT.answer.fault + AT.fault.code;
+const FIRST = AT.answer.fault + AT.fault.first, LAT = AT.answer.degrees + AT.degreesE7.lat;
+const LON = AT.answer.degrees + AT.degreesE7.lon;
 
 /** Columns are filled with up to this many results, and then copied at their length. 1 MB of a log has fewer lines. */
 const COLUMN_ROOM = 1 << 15;
@@ -65,22 +76,22 @@ function putAnswers(view, from, count, columns, first) {
   const { numbers, moments, whats, addresses, kinds, lats, lons, feet, evens, odds, codes, firsts } = columns;
   const times = new Uint32Array(moments.buffer), details = new Uint32Array(firsts.buffer);
   for (let index = first, at = from; index < first + count; index++, at += ANSWER_BYTES) {
-    const what = view.getUint8(at + 48), isPlace = what === What.FIX || what === What.FOLLOWED;
+    const what = view.getUint8(at + WHAT), isPlace = what === What.FIX || what === What.FOLLOWED;
     const lower = 2 * index + LOWER, upper = 2 * index + 1 - LOWER;
-    numbers[index] = view.getUint32(at, true) + 2 ** 32 * view.getUint32(at + 4, true);
-    times[lower] = view.getUint32(at + 8, true);
-    times[upper] = view.getUint32(at + 12, true);
+    numbers[index] = view.getUint32(at + NUMBER, true) + 2 ** 32 * view.getUint32(at + NUMBER + 4, true);
+    times[lower] = view.getUint32(at + MOMENT, true);
+    times[upper] = view.getUint32(at + MOMENT + 4, true);
     whats[index] = what;
-    evens[index] = view.getUint8(at + 49);
-    odds[index] = view.getUint8(at + 50);
-    codes[index] = view.getUint32(at + 56, true);
-    details[lower] = view.getUint32(at + 64, true);
-    details[upper] = view.getUint32(at + 68, true);
-    addresses[index] = what ? view.getUint32(at + 80, true) : -1;
-    kinds[index] = view.getUint8(at + 88);
-    lats[index] = isPlace ? view.getInt32(at + 72, true) / E7 : NaN;
-    lons[index] = isPlace ? view.getInt32(at + 76, true) / E7 : NaN;
-    feet[index] = view.getUint8(at + 89) === AltitudeForm.FEET ? view.getInt32(at + 84, true) : NaN;
+    evens[index] = view.getUint8(at + EVEN);
+    odds[index] = view.getUint8(at + ODD);
+    codes[index] = view.getUint32(at + CODE, true);
+    details[lower] = view.getUint32(at + FIRST, true);
+    details[upper] = view.getUint32(at + FIRST + 4, true);
+    addresses[index] = what ? view.getUint32(at + ADDRESS, true) : -1;
+    kinds[index] = view.getUint8(at + KIND);
+    lats[index] = isPlace ? view.getInt32(at + LAT, true) / E7 : NaN;
+    lons[index] = isPlace ? view.getInt32(at + LON, true) / E7 : NaN;
+    feet[index] = view.getUint8(at + FORM) === AltitudeForm.FEET ? view.getInt32(at + FEET, true) : NaN;
   }
 }
 
@@ -97,7 +108,7 @@ export class Log {
     this.#library = library;
     this.#listener = listenerOf(this, library, "log", settings);
     this.#listener.rooms = {
-      done: library.memory.claim(16), piece: library.memory.claim(PIECE_BYTES),
+      done: library.memory.claim(BYTES.done), piece: library.memory.claim(PIECE_BYTES),
       out: library.memory.claim(Math.max(TEXT_ROOM, ANSWERS_AT_ONCE * ANSWER_BYTES)),
     };
   }
@@ -130,15 +141,14 @@ export class Log {
   header(format = Format.LINES) {
     const { exports, outAt } = this.#library.memory;
     exports.squitter_log_header(format, BigInt(outAt));
-    return this.#library.memory.getText(outAt, 64);
+    return this.#library.memory.getText(outAt, HEADER_BYTES);
   }
 
   /** The numbers of good lines and of refused lines so far. Fault: NO_TRACKER. */
   get tally() {
     const { outAt } = this.#library.memory;
     ask(this.#library, "log_tally", this.#listener.slot, BigInt(outAt));
-    const view = this.#library.memory.view();
-    return { good: view.getBigUint64(outAt, true), refused: view.getBigUint64(outAt + 8, true) };
+    return readTally(this.#library.memory.view(), outAt);
   }
 
   /** Frees the memory. Safe to call twice. */
@@ -167,9 +177,9 @@ export class Log {
       const words = [...(format === undefined ? [] : [format]),
         ...(at === undefined ? [] : [BigInt(at + taken), BigInt(count - taken)])];
       ask(this.#library, name, this.#listener.slot, ...words, BigInt(out), BigInt(room), BigInt(done));
-      const view = memory.view();
-      taken += Number(view.getBigUint64(done, true));
-      written = Number(view.getBigUint64(done + 8, true));
+      const progress = readDone(memory.view(), done);
+      taken += Number(progress.taken);
+      written = Number(progress.written);
       use(out, written);
     } while (written > full);
   }
@@ -194,7 +204,7 @@ export class Log {
   #text(run) {
     const decoder = new TextDecoder();
     let text = "";
-    run((name, format, at, count) => this.#call(TEXT_ROOM, TEXT_ROOM - ANSWER_TEXT, name, at, count, format,
+    run((name, format, at, count) => this.#call(TEXT_ROOM, TEXT_ROOM - ANSWER_TEXT_BYTES, name, at, count, format,
       (out, written) => { text += decoder.decode(this.#library.memory.bytesAt(out, written)); }));
     return text;
   }
@@ -235,8 +245,8 @@ export class Tracker {
   present(index) {
     const { outAt } = this.#library.memory;
     ask(this.#library, "tracker_get", this.#listener.slot, whole(index), BigInt(outAt));
-    const view = this.#library.memory.view();
-    return { address: view.getUint32(outAt + 8, true), moment: view.getBigUint64(outAt, true) };
+    const { address, moment: newest } = readPresent(this.#library.memory.view(), outAt);
+    return { address, moment: newest };
   }
 
   /** The timestamp of the last accepted frame; 0n if none was accepted. */
@@ -257,8 +267,7 @@ export class Tracker {
     memory.bytesAt(room.at, LAST_BYTES).fill(0);
     const at = BigInt(room.at), entries = at + BigInt(LAST_BYTES);
     memory.exports.squitter_tracker_save(this.#listener.slot, at, entries, BigInt(count));
-    const view = memory.view();
-    const last = view.getBigUint64(room.at + 8, true) ? view.getBigUint64(room.at, true) : null;
+    const { moment: latest, heard } = readLast(memory.view(), room.at), last = heard ? latest : null;
     const saved = { last, entries: memory.bytesAt(room.at + LAST_BYTES, ENTRY_BYTES * count).slice() };
     memory.release(room);
     return saved;
@@ -273,8 +282,7 @@ export class Tracker {
     const isHeard = last !== null && last !== undefined, time = isHeard ? moment(last) : 0n;
     const room = memory.claim(LAST_BYTES + bytes.length);
     try {
-      memory.view().setBigUint64(room.at, time, true);
-      memory.view().setBigUint64(room.at + 8, isHeard ? 1n : 0n, true);
+      writeLast(memory.view(), room.at, { moment: time, heard: isHeard ? 1n : 0n });
       memory.putBytes(room.at + LAST_BYTES, bytes);
       const at = BigInt(room.at), count = BigInt(bytes.length / ENTRY_BYTES);
       ask(this.#library, "tracker_restore", this.#listener.slot, at, at + BigInt(LAST_BYTES), count);

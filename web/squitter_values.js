@@ -1,37 +1,9 @@
-/* squitter_values.js: the enums, faults, angles and heads of squitter.js, and the checks of what a caller passes. */
+/* squitter_values.js: the faults, angles and heads of squitter.js, and the checks of what a caller passes. */
 
-/** The codes of faults, as squitter.h names them. */
-export const Code = Object.freeze({
-  OK: 0, WRAP: 1, SHORT: 2, LENGTH: 3, DIGIT: 4, NOT_DF17: 5, PARITY: 6,
-  NOT_POSITION: 10, OTHER_ADDRESS: 11, OTHER_KIND: 12, SAME_PARITY: 13, NO_SITE: 14, OUT_OF_RANGE: 15, ZONE_COUNTS: 16,
-  BAD_POSITION: 20, BAD_FIELDS: 21, BAD_ANGLE: 22, BAD_LATITUDE: 23, BAD_FEET: 24, BAD_PARITY: 25,
-  NOT_A_NUMBER: 30, TOO_MANY_DECIMALS: 31, ANGLE_RANGE: 32,
-  LONG_LINE: 40, BAD_MOMENT: 41, MOMENT_BACK: 42, TABLE_FULL: 43, NO_MEMORY: 44, NO_LIMIT: 45, NO_TRACKER: 46,
-  NO_ADDRESS: 47, LONG_LOG: 48, BAD_FORMAT: 49, BAD_ENTRY: 50,
-});
-
-/** The kind of a squitter, by its type code. */
-export const Kind = Object.freeze({ OTHER: 0, AIR: 1, GROUND: 2 });
-
-/** The meaning of an altitude field: nothing sent, feet, or another form. */
-export const AltitudeForm = Object.freeze({ NONE: 0, FEET: 1, OTHER: 2 });
-
-/** The result for a frame: the first of these that applies. */
-export const What = Object.freeze({
-  FIX: 1, FOLLOWED: 2, WAITING: 3, SPLIT: 4, FAR: 5, WITHOUT_SITE: 6, NO_PLACE: 7,
-});
-
-/** The output formats of a log, those of `squitter track --format`. */
-export const Format = Object.freeze({ LINES: 0, CSV: 1, JSON: 2 });
-
-/** The formats of a receiver's bytes. */
-export const FeedFormat = Object.freeze({ BEAST: 0, AVR: 1, CSV: 2, LOG: 3, AUTO: 4 });
+import { FRAME_BYTES } from "./squitter_layout.js";
 
 /** The default window of trackers, contacts and logs, in milliseconds: 10 seconds, as that of `squitter track`. */
 export const WINDOW = 10_000n;
-
-/** Sources without frames of a known format. */
-export const Stranger = Object.freeze({ SBS: 5, TAR: 6, PACKED: 7, UTF16: 8, JSON: 9, NO_FRAME: 10 });
 
 /** The first error of a call. Its message is the library's text. */
 export class Fault extends Error {
@@ -47,35 +19,6 @@ export class Fault extends Error {
   toJSON() {
     const { name, message, code, first, second } = this;
     return { name, message, code, first: String(first), second };
-  }
-}
-
-/** A squitter, field by field. */
-export class Fields {
-  /** Reads the fields at an address, member by member: an engine makes such a record at once, as an object literal. */
-  constructor(view, at) {
-    this.raw = view.getBigUint64(at, true);
-    this.address = view.getUint32(at + 8, true);
-    this.lat = view.getUint32(at + 12, true);
-    this.lon = view.getUint32(at + 16, true);
-    this.feet = view.getInt32(at + 20, true);
-    this.altitude = view.getUint16(at + 24, true);
-    this.altitudeForm = view.getUint8(at + 26);
-    this.kind = view.getUint8(at + 27);
-    this.ca = view.getUint8(at + 28);
-    this.typeCode = view.getUint8(at + 29);
-    this.odd = view.getUint8(at + 30);
-    this.time = view.getUint8(at + 31);
-    this.status = view.getUint8(at + 32);
-    this.flag = view.getUint8(at + 33);
-    this.movement = view.getUint8(at + 34);
-    this.trackStatus = view.getUint8(at + 35);
-    this.track = view.getUint8(at + 36);
-  }
-
-  /** Returns the fields with `raw` as decimal digits, because JSON has no BigInt. */
-  toJSON() {
-    return { ...this, raw: String(this.raw) };
   }
 }
 
@@ -132,13 +75,7 @@ export class GroundHead {
   }
 }
 
-/** The fields of each head in memory, with their sizes in bytes. */
-export const AIR_LAYOUT = [["address", 4], ["altitude", 2], ["ca", 1], ["typeCode", 1], ["status", 1], ["flag", 1],
-  ["time", 1], ["odd", 1]];
-export const GROUND_LAYOUT = [["address", 4], ["ca", 1], ["typeCode", 1], ["movement", 1], ["trackStatus", 1],
-  ["track", 1], ["time", 1], ["odd", 1]];
-
-export const FRAME_BYTES = 14, ENTRY_BYTES = 192, PAGE_BYTES = 65536;
+export const PAGE_BYTES = 65536;
 
 /** Returns a whole number as a BigInt. */
 export function whole(value) {

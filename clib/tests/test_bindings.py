@@ -233,7 +233,7 @@ class OfAnEdit(unittest.TestCase):
     def test_constants(self) -> None:
         line = "#define SQUITTER_LINE_BYTES 50"
         for new in ("0x32", "(SQUITTER_HEADER_BYTES - 14)"):
-            self.refused(line, f"#define SQUITTER_LINE_BYTES {new}", "#define SQUITTER_LINE_BYTES", "not a whole number")
+            self.refused(line, f"#define SQUITTER_LINE_BYTES {new}", "#define SQUITTER_LINE_BYTES", "not a whole")
         self.refused(line, "#define SQUITTER_HEADER_BYTES 50", "#define SQUITTER_HEADER_BYTES 50", "defined twice")
 
     def test_calls(self) -> None:
@@ -244,7 +244,8 @@ class OfAnEdit(unittest.TestCase):
             ("uint32_t squitter_version(uint32_t (*made)(void)) SQUITTER_PURE;", "a parameter in another form"),
             ("uint32_t squitter_version(const uint8_t (*frames)[14]) SQUITTER_PURE;", "in another form"),
             ("uint32_t squitter_version(uint8_t SQUITTER_CONST_BYTES(a, 14)) SQUITTER_PURE;", "in another form"),
-            ("uint32_t squitter_version(void);", "neither a struct"), ("uint32_t squitter_version;", "neither a struct"),
+            ("uint32_t squitter_version(void);", "neither a struct"),
+            ("uint32_t squitter_version;", "neither a struct"),
             ("uint32_t squitter_pair(void) SQUITTER_PURE;", "not a new name"),
             ("uint32_t another_version(void) SQUITTER_PURE;", "not a new name"),
         ):

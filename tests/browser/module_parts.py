@@ -80,9 +80,11 @@ def camel(name: str) -> str:
 
 
 def declared(tries: Tries) -> str:
-    """web/squitter.d.ts names what web/squitter.js has, with as many arguments, and the names are those of Python."""
+    """web/squitter.d.ts, with the enums of squitter_layout.d.ts, names what web/squitter.js has, with as many arguments;
+    the names are those of Python."""
     told = json.loads(of_module(tries, "names"))
-    text = re.sub(r"/\*.*?\*/", "", bytes_of(f"{TOP}/web/squitter.d.ts").decode(), flags=re.S)
+    both = (bytes_of(f"{TOP}/web/{name}.d.ts").decode() for name in ("squitter_layout", "squitter"))
+    text = re.sub(r"/\*.*?\*/", "", "".join(both), flags=re.S)
     blocks = re.findall(r"^export (?:declare (?:class|const)|interface) (\w+)[^{;]*\{\n(.*?)^\};?$", text, re.M | re.S)
     functions = dict(re.findall(r"^export declare function (\w+)\((.*?)\): ", text, re.M | re.S))
     numbers = {name for name, kind in re.findall(r"^export declare const (\w+): (\w+);$", text, re.M)
