@@ -43,11 +43,8 @@ def read_bytes(path: str) -> bytes:
 
 
 def version() -> str:
-    """Returns the version, which the Makefile states."""
-    found = re.search(rb"^VERSION = (\S+)$", read_bytes("Makefile"), re.M)
-    if not found:
-        raise RuntimeError("clib/Makefile states no VERSION")
-    return found[1].decode()
+    """Returns the version: the text of the file VERSION."""
+    return read_bytes("../VERSION").decode().strip()
 
 
 def record(files: Dict[str, bytes], name: str) -> bytes:

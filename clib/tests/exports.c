@@ -180,7 +180,7 @@ static void try_texts_of_faults(void) {
   IS(strcmp(text, "unknown fault") == 0);
   squitter_text_of_fault(&entry, text);
   IS(strcmp(text, "bad entry 18446744073709551615") == 0);
-  IS(squitter_version() == 256);
+  IS(squitter_version() == SQUITTER_VERSION);
 }
 
 static void try_reading_many(void) {

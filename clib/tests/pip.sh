@@ -14,14 +14,14 @@ unset PYTHONPATH LIBSQUITTER MAKEFLAGS MFLAGS MAKELEVEL DESTDIR PYTHONHOME PIP_T
 mkdir "$work/tree"
 (cd "$clib/.." && tar -cf - \
   --exclude=out --exclude=build --exclude='libsquitter.*' --exclude=__pycache__ \
-  pyproject.toml clib dist crates.txt crates/*/src crates/*/specs crates/*/proofs) | tar -C "$work/tree" -xf -
+  VERSION pyproject.toml clib dist crates.txt crates/*/src crates/*/specs crates/*/proofs) | tar -C "$work/tree" -xf -
 cp "$clib/libsquitter.map" "$work/tree/clib/"
 "$python" -m venv --without-pip "$work/fresh"
 fresh=$work/fresh/bin/python
 "$fresh" -c 'from importlib.util import find_spec; assert not find_spec("setuptools") and not find_spec("wheel")'
 "$python" -m pip -q --python "$fresh" install --no-index --disable-pip-version-check "$work/tree" \
   > "$work/said" 2>&1 || { cat "$work/said"; exit 1; }
-version=$(sed -n 's/^VERSION = //p' "$clib/Makefile")
+version=$(cat "$clib/../VERSION")
 test "$(cd / && "$fresh" -c 'import squitter; print(squitter.version())')" = "$version"
 # If the library cannot be built there is no package; and a source package is refused.
 if CC=false "$python" -m pip -q --python "$fresh" install --no-index --force-reinstall "$work/tree" > "$work/said" 2>&1

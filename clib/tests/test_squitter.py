@@ -471,7 +471,8 @@ class Calls(unittest.TestCase):
         self.assertEqual(squitter.angle("-0.50"), Fraction(-1, 2))
         self.assertEqual(squitter.feet_of_field(11, 0xC38), (AltitudeForm.FEET, 38000))
         self.assertEqual(squitter.feet_of_field(20, 5), (AltitudeForm.OTHER, 0))
-        self.assertEqual(squitter.version(), "0.1.0")
+        with open(os.path.join(os.path.dirname(__file__), "..", "..", "VERSION"), encoding="utf-8") as file:
+            self.assertEqual(squitter.version(), file.read().strip())
         self.refused(Code.BAD_LATITUDE, squitter.zone_count, 91)
         self.refused(Code.BAD_ANGLE, squitter.angle_text, 361)
         self.refused(Code.NOT_A_NUMBER, squitter.angle, "1e3")

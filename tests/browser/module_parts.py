@@ -80,8 +80,8 @@ def camel(name: str) -> str:
 
 
 def declared(tries: Tries) -> str:
-    """web/squitter.d.ts, with the enums of squitter_layout.d.ts, names what web/squitter.js has, with as many arguments;
-    the names are those of Python."""
+    """web/squitter.d.ts and squitter_layout.d.ts name what web/squitter.js has, with as many arguments, and the names
+    are those of Python."""
     told = json.loads(of_module(tries, "names"))
     both = (bytes_of(f"{TOP}/web/{name}.d.ts").decode() for name in ("squitter_layout", "squitter"))
     text = re.sub(r"/\*.*?\*/", "", "".join(both), flags=re.S)
