@@ -1,23 +1,29 @@
-# Completion of squitter for bash.
+# Completion of squitter for bash. completions/make writes this file from the help texts.
 
 _squitter() {
     local word=${COMP_WORDS[COMP_CWORD]} before=${COMP_WORDS[COMP_CWORD-1]} names=
-    # bash takes the equals sign of --name=VALUE for a word of its own
+    # bash takes the equals sign of --name=VALUE as a word of its own
     if [ "$word" = = ]; then
         word=
     elif [ "$before" = = ]; then
         before=${COMP_WORDS[COMP_CWORD-2]}
     fi
-    case $before in
-        # a file, which bash completes where this answers nothing
+    case "${COMP_WORDS[1]} $before" in
+        # bash completes a file after < and >
         *[\<\>]) COMPREPLY=(); return ;;
-        --kind) names="air ground" ;;
-        --parity) names="even odd" ;;
-        --format)
-            names="lines csv json"
-            if [ "${COMP_WORDS[1]}" = feed ]; then names="auto beast avr csv log"; fi
-            ;;
-        --address | --feet | --lat | --lon | --limit | --window) compopt +o default 2>/dev/null ;;
+        "encode --kind") names="air ground" ;;
+        "encode --parity") names="even odd" ;;
+        "encode --address" | "encode --feet" | "encode --lat" | "encode --lon")
+            compopt +o default 2>/dev/null ;;
+        "local --lat" | "local --lon")
+            compopt +o default 2>/dev/null ;;
+        "pair --lat" | "pair --lon")
+            compopt +o default 2>/dev/null ;;
+        "check --format") names="lines csv json" ;;
+        "track --format") names="lines csv json" ;;
+        "track --limit" | "track --window" | "track --lat" | "track --lon")
+            compopt +o default 2>/dev/null ;;
+        "feed --format") names="auto beast avr csv log" ;;
         *)
             case ${COMP_WORDS[1]} in
                 show) names="--help" ;;
@@ -29,7 +35,7 @@ _squitter() {
                 feed) names="--format --help" ;;
             esac
             if [ "$COMP_CWORD" = 1 ]; then
-                names="show encode local pair check track feed help --help --version"
+                names="show encode local pair check track feed help --version --help"
             fi
             ;;
     esac

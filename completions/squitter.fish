@@ -1,15 +1,15 @@
-# Completion of squitter for fish.
+# Completion of squitter for fish. completions/make writes this file from the help texts.
 
 complete -c squitter -f
+complete -c squitter -n __fish_use_subcommand -l version -d 'Print version'
 complete -c squitter -n __fish_use_subcommand -l help -d 'Print help'
-complete -c squitter -n __fish_use_subcommand -l version -d 'Print the version'
-complete -c squitter -n __fish_use_subcommand -a show -d 'Show the fields of one frame'
-complete -c squitter -n __fish_use_subcommand -a encode -d 'Write the frame of a position'
-complete -c squitter -n __fish_use_subcommand -a local -d 'Decode the position of one frame near a reference'
-complete -c squitter -n __fish_use_subcommand -a pair -d 'Decode the position of the newer of two frames'
-complete -c squitter -n __fish_use_subcommand -a check -d 'Answer each frame of standard input'
-complete -c squitter -n __fish_use_subcommand -a track -d 'Print the position of each line of a log'
-complete -c squitter -n __fish_use_subcommand -a feed -d 'Print the frames of a receiver as a log'
+complete -c squitter -n __fish_use_subcommand -a show -d 'Shows the fields of one frame, one on each line'
+complete -c squitter -n __fish_use_subcommand -a encode -d 'Encodes a position as a frame, rounded as the standard\'s encoder rounds it'
+complete -c squitter -n __fish_use_subcommand -a local -d 'Decodes the position of one frame near a reference position'
+complete -c squitter -n __fish_use_subcommand -a pair -d 'Decodes the position of the newer of two frames, one even and one odd'
+complete -c squitter -n __fish_use_subcommand -a check -d 'Reads frames from standard input, one on each line, and prints each frame\'s fields or its error'
+complete -c squitter -n __fish_use_subcommand -a track -d 'Reads a log from standard input, \'MILLISECONDS FRAME\' on each line, and prints each position'
+complete -c squitter -n __fish_use_subcommand -a feed -d 'Reads a receiver\'s bytes from standard input, and prints a log for \'squitter track\''
 complete -c squitter -n __fish_use_subcommand -a help -d 'Print help'
 
 complete -c squitter -n '__fish_seen_subcommand_from show' -l help -d 'Print help'
@@ -22,12 +22,12 @@ complete -c squitter -n '__fish_seen_subcommand_from encode' -l lat -x -d 'The l
 complete -c squitter -n '__fish_seen_subcommand_from encode' -l lon -x -d 'The longitude in degrees'
 complete -c squitter -n '__fish_seen_subcommand_from encode' -l help -d 'Print help'
 
-complete -c squitter -n '__fish_seen_subcommand_from local' -l lat -x -d 'The latitude of the reference in degrees'
-complete -c squitter -n '__fish_seen_subcommand_from local' -l lon -x -d 'The longitude of the reference in degrees'
+complete -c squitter -n '__fish_seen_subcommand_from local' -l lat -x -d 'The reference\'s latitude in degrees'
+complete -c squitter -n '__fish_seen_subcommand_from local' -l lon -x -d 'The reference\'s longitude in degrees'
 complete -c squitter -n '__fish_seen_subcommand_from local' -l help -d 'Print help'
 
-complete -c squitter -n '__fish_seen_subcommand_from pair' -l lat -x -d 'The latitude of the receiver in degrees'
-complete -c squitter -n '__fish_seen_subcommand_from pair' -l lon -x -d 'The longitude of the receiver in degrees'
+complete -c squitter -n '__fish_seen_subcommand_from pair' -l lat -x -d 'The receiver\'s latitude in degrees'
+complete -c squitter -n '__fish_seen_subcommand_from pair' -l lon -x -d 'The receiver\'s longitude in degrees'
 complete -c squitter -n '__fish_seen_subcommand_from pair' -l help -d 'Print help'
 
 complete -c squitter -n '__fish_seen_subcommand_from check' -l format -x -a 'lines csv json' -d 'The output format'
@@ -35,9 +35,9 @@ complete -c squitter -n '__fish_seen_subcommand_from check' -l help -d 'Print he
 
 complete -c squitter -n '__fish_seen_subcommand_from track' -l format -x -a 'lines csv json' -d 'The output format'
 complete -c squitter -n '__fish_seen_subcommand_from track' -l limit -x -d 'The most aircraft at once'
-complete -c squitter -n '__fish_seen_subcommand_from track' -l window -x -d 'How old a frame may be, in milliseconds'
-complete -c squitter -n '__fish_seen_subcommand_from track' -l lat -x -d 'The latitude of the receiver in degrees'
-complete -c squitter -n '__fish_seen_subcommand_from track' -l lon -x -d 'The longitude of the receiver in degrees'
+complete -c squitter -n '__fish_seen_subcommand_from track' -l window -x -d 'The greatest age in milliseconds of a frame to pair or a fix to follow'
+complete -c squitter -n '__fish_seen_subcommand_from track' -l lat -x -d 'The receiver\'s latitude in degrees'
+complete -c squitter -n '__fish_seen_subcommand_from track' -l lon -x -d 'The receiver\'s longitude in degrees'
 complete -c squitter -n '__fish_seen_subcommand_from track' -l help -d 'Print help'
 
 complete -c squitter -n '__fish_seen_subcommand_from feed' -l format -x -a 'auto beast avr csv log' -d 'The input format'
