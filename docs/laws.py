@@ -8,6 +8,7 @@ docs/laws.py --check  names each premise without a pin and each answer from whic
 import glob
 import os
 import re
+import signal
 import sys
 from collections.abc import Iterator
 
@@ -61,6 +62,7 @@ def files_of(crate: str) -> Iterator[str]:
 
 
 def main() -> None:
+    signal.signal(signal.SIGPIPE, signal.SIG_DFL)  # `| head` ends the output without a traceback
     if sys.argv[1:] == ["--pins"]:
         print(pins.page(pins.Book()))
         return

@@ -472,17 +472,17 @@ def add_clauses(one: Contract, clauses: list[tuple[str, list[str]]], known: dict
 HEAD_OF_PAGE = """# What pins each premise
 
 A law says "where the premise holds, the conclusion does". It says nothing if its premise never holds, and a narrower
-premise holds less often, while each proof still passes. So each definition of `specs/` that stands left of an arrow,
-in a public contract or in a definition that one names, is pinned: something concludes it from premises that are
-themselves pinned. The pin is a call that promises it of its result, or a law that says when it holds. If the
-definition were emptied, that promise or law would have no proof. docs/THEOREMS.md, "What stands left of an arrow",
-names the pins that say a premise whole.
+premise holds less often, while each proof still passes. So each definition of `specs/` left of an arrow, in a public
+contract or in a definition that one names, is pinned: something concludes it from premises that are themselves pinned.
+The pin is a call that promises it of its result, or a law that says when it holds. If the definition were emptied, this
+promise or law would have no proof. docs/THEOREMS.md, "What stands left of an arrow", names the pins that say a premise
+whole.
 
 The table is read from the text of contracts and definitions; nothing is proved. An arrow, `¬` and `requires` turn left
-and right, and `↔` has both sides on both. What stands in brackets, as an argument or as a part of `×` and `⊎`, counts
-as what it stands in. A premise that is an equation or an order of numbers counts as one that is met.
+and right, and `↔` has both sides on both. A part in brackets, an argument, and a part of `×` or `⊎` count as the term
+around them. A premise that is an equation or an order of numbers counts as one that is met.
 
-A definition that stands as an answer could say less, and each proof of a contract that names it would still pass. So
+A definition in the place of an answer could say less, and each proof of a contract that names it would still pass. So
 something is concluded from each answer too. `docs/laws.py --check` refuses a premise without a pin, and an answer from
 which nothing is concluded."""
 

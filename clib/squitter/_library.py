@@ -76,8 +76,8 @@ def _fits(value: int, bits: int) -> bool:
 
 
 def _text(text: str) -> bytes:
-    """The bytes of a text, as the operating system hands them over: what is no UTF-8 comes as it was. Of other halves
-    of surrogate pairs, which no text has, the bytes are three that no frame and no angle has."""
+    """Returns the bytes of a text. Bytes from the operating system that are not UTF-8 come back unchanged. Any other
+    half of a surrogate pair becomes three bytes that no frame and no angle has."""
     try:
         return text.encode()
     except UnicodeEncodeError:

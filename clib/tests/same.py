@@ -33,7 +33,7 @@ STRUCTS = {
     "PlainTally": "squitter_tally", "PlainLast": "squitter_last", "FeedSlot": "squitter_feed",
     "PlainCounts": "squitter_counts", "OrderSlot": "squitter_order",
 }
-# Reasons whose code has another name in C.
+# Reasons that have another name in C.
 RENAMED = {
     "NoPosition": "BAD_POSITION", "NoHead": "BAD_FIELDS", "NoAngle": "BAD_ANGLE", "NoLatitude": "BAD_LATITUDE",
     "NoFeet": "BAD_FEET", "NoParity": "BAD_PARITY", "angles.OutOfRange": "ANGLE_RANGE", "lines.Moment": "BAD_MOMENT",

@@ -228,7 +228,7 @@ class OfAnEdit(unittest.TestCase):
         self.refused(enum, enum.replace("LINES", "LINE"), "enum {\n  SQUITTER_LINE =", "no name for this enum")
         self.refused(enum, enum.partition("\n")[2], "enum {\n  SQUITTER_LINES", "no comment above it")
         for new in ("SQUITTER_CSV = 0", "SQUITTER_LINES = 1"):
-            self.refused("  SQUITTER_CSV = 1", f"  {new}", "enum {\n  SQUITTER_LINES", "stands there twice")
+            self.refused("  SQUITTER_CSV = 1", f"  {new}", "enum {\n  SQUITTER_LINES", "a name or a number twice")
 
     def test_constants(self) -> None:
         line = "#define SQUITTER_LINE_BYTES 50"
