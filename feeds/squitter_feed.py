@@ -6,14 +6,24 @@ from __future__ import annotations
 
 import re
 from collections import Counter
-from typing import Callable, Dict, NamedTuple, Optional, Sequence
+from typing import Callable, Dict, NamedTuple, Optional, Sequence, Tuple
 
 import squitter
-from squitter import Stranger
+from squitter import FeedFormat, Stranger
 
 PLENTY = 2000  # the --reorder (ms) to try if frames were late or set aside
 SQUITTER = 17  # the downlink format of extended squitters
 LONG, SHORT = 28, 14  # digits of a frame
+SAMPLE = 65_536  # bytes of lines that show the unit of their timestamps
+SOME = 8  # different frames of an aircraft that show it
+DENSE, SPARSE = 20, 100_000  # mean milliseconds between these that no receiver hears: one lies far below, one far above
+
+# Sources with times of their own, and the unit that these have, if they are too dense or too sparse.
+UNITS: Dict[Tuple[Optional[FeedFormat], Optional[int]], str] = {
+    (FeedFormat.LOG, DENSE): "the timestamps of this log seem to be seconds; they have to be milliseconds",
+    (FeedFormat.LOG, SPARSE): "the timestamps of this log seem to be microseconds; they have to be milliseconds",
+    (FeedFormat.CSV, SPARSE): "the times of this table seem to be milliseconds; they have to be seconds",
+}
 
 # Sources without frames, and what to do with them.
 STRANGERS = {
@@ -56,15 +66,19 @@ class Feed:
         self.late = 0  # frames that came after a later one was printed
         self.others: Dict[int, int] = Counter()  # printed frames of other downlink formats
         self.refusal: Optional[Refused] = None  # why the source was refused at its end
+        self.format: Optional[FeedFormat] = None  # of the source, which the library forgets at its end
+        self.sample: Optional[bytes] = b""  # the first lines, until they are looked at
 
     def hear(self, data: bytes, arrival: int) -> bytes:
         """Returns the lines of a piece of the source. Raises `Refused` if the source has no format that is read."""
         self.arrival = arrival
         lines = self._counted(self.feed.take(data, arrival)) if self.order is None else self._sorted(
             *self.feed.take_frames(data, arrival), arrival)
-        stranger = self.feed.stranger
+        self.format, stranger = self.feed.format, self.feed.stranger
         if stranger is not None:
             raise Refused(STRANGERS[stranger])
+        if len(self.sample or b"") >= SAMPLE:
+            self._look_at_unit()
         return lines
 
     def disconnected(self) -> None:
@@ -73,8 +87,7 @@ class Feed:
         self.feed.disconnected()
 
     def end(self, now: int) -> bytes:
-        """Ends the source. Returns all lines that are left. If the source has no format that is read, `refusal` says
-        so."""
+        """Ends the source. Returns all lines that are left. `refusal` says if the source has no format that is read."""
         known = self.feed.stranger
         # A last line without a line feed arrived with the last piece.
         if self.order is None:
@@ -84,13 +97,13 @@ class Feed:
         stranger = self.feed.stranger
         if stranger is not None and known is None:
             self.refusal = Refused(STRANGERS[stranger])
+        self._look_at_unit()
         if not self.live and self.feed.counts.written > 1 and not self.printed:
             self.tell("all frames of this file have the timestamp 0, as without times: old ones pair with new")
         return lines
 
     def due(self, now: int) -> bytes:
-        """Returns the lines of the held frames, if the source is live and no frame has come for `reorder`
-        milliseconds."""
+        """Returns the lines of held frames if the source is live and no frame has come for `reorder` milliseconds."""
         return self._lines(*self.order.flush()) if self.order is not None and self.wait(now) == 0 else b""
 
     def wait(self, now: int) -> Optional[int]:
@@ -145,9 +158,29 @@ class Feed:
         """Notes the last timestamp of lines, and counts frames of other downlink formats."""
         if lines:
             self.printed = int(lines[lines.rfind(b"\n", 0, -1) + 1 :].split()[0])
+        if self.sample is not None:
+            self.sample += lines[:SAMPLE]
         if self.options.all_formats:
             for start, count in Counter(re.findall(rb" (..)", lines)).items():
                 number = min(int(start, 16) >> 3, 24)
                 if number != SQUITTER:
                     self.others[number] += count
         return lines
+
+    def _look_at_unit(self) -> None:
+        """Reports once if the timestamps of a source seem to have another unit."""
+        lines, self.sample = self.sample, None
+        sign = (self.format, sign_of_unit(lines[:SAMPLE]) if lines else None)
+        if sign in UNITS:
+            self.tell(UNITS[sign])
+
+
+def sign_of_unit(lines: bytes) -> Optional[int]:
+    """Returns `DENSE` or `SPARSE` if most aircraft send their frames that much closer together, or farther apart, than
+    any does in milliseconds. A frame that several receivers heard counts once."""
+    heard: Dict[bytes, Dict[bytes, int]] = {}
+    for time, frame in re.findall(rb"([0-9]+) ([0-9A-F]{%d})\n" % LONG, lines):
+        heard.setdefault(frame[2:8], {}).setdefault(frame, int(time))
+    gaps = sorted((max(of.values()) - min(of.values())) / (len(of) - 1) for of in heard.values() if len(of) >= SOME)
+    gap = gaps[len(gaps) // 2] if gaps else DENSE
+    return DENSE if gap < DENSE else SPARSE if gap > SPARSE else None

@@ -488,3 +488,50 @@ def hostile() -> None:
         )
         expect([moment for moment, _ in rows] == sorted(moment for moment, _ in rows), number, "moments fall")
         same(int(feed.summary().split()[0]), len(rows), number)
+
+
+def spaced(gap: int, count: int = 8, address: str = "40621D", twice: bool = False) -> List[str]:
+    """Lines of a log with frames of one aircraft, all at this distance. If two receivers heard them, a second line of
+    each is one millisecond later."""
+    return [f"{100_000 + gap * number + copy} 8D{address}58C382D690C8AC{number:06X}\n"
+            for number in range(count) for copy in range(1 + twice)]
+
+
+def told_of(lines: Sequence[str], form: str = "log", **options: object) -> List[str]:
+    """What a feed tells of these lines, as a log or as a table with the same numbers."""
+    rows = [f"{time},,{frame}" for time, frame in map(str.split, lines)]
+    text = "".join(lines) if form == "log" else "\n".join(["time,icao24,rawmsg", *rows, ""])
+    return fed([(text.encode(), 5)], False, leap=FAR, **options)[2]
+
+
+def units() -> None:
+    """Timestamps that are 1,000 times too dense or too sparse are reported once, and those of milliseconds never."""
+    seconds = ["the timestamps of this log seem to be seconds; they have to be milliseconds"]
+    micros = ["the timestamps of this log seem to be microseconds; they have to be milliseconds"]
+    table = ["the times of this table seem to be milliseconds; they have to be seconds"]
+    for gap, said in ((0, seconds), (19, seconds), (20, []), (500, []), (100_000, []), (100_001, micros)):
+        same(told_of(spaced(gap)), said, gap)
+    # (in a table the numbers are seconds)
+    for gap, said in ((0, []), (1, []), (100, []), (101, table), (500, table)):
+        same(told_of(spaced(gap), "csv"), said, "a table", gap)
+    same(told_of(spaced(1, 7)), [], "seven frames of an aircraft show nothing")
+    same(told_of(spaced(1, 8, twice=True)), seconds, "what two receivers heard")
+    same(told_of(spaced(30, 8, twice=True)), [], "what two receivers heard, in milliseconds")
+    others = spaced(500, address="40621E") + spaced(500, address="40621F")
+    both = sorted(spaced(1) + others, key=lambda line: int(line.split()[0]))
+    same(told_of(both), [], "one aircraft of three")
+    same(told_of(spaced(1), reorder=1000), seconds, "sorted")
+    long = spaced(1, 2000)
+    same(told_of(long), seconds, "once, in a long log")
+    # The first 65,536 bytes show it: with the first pieces, and not at the end.
+    told: List[str] = []
+    feed = Feed(Options(leap=FAR), False, told.append)
+    same(len(long[0]) * 1820 < squitter_feed.SAMPLE <= len(long[0]) * 1821, True, "lines of 36 bytes")
+    feed.hear("".join(long[:1820]).encode(), 5)
+    same(told, [], "before the sample is full")
+    feed.hear(long[1820].encode(), 5)
+    same(told, seconds, "once the sample is full")
+    feed.end(5)
+    same(told, seconds, "at the end")
+    same(fed([(b"".join(beast(line.split()[1], 12_000 * n) for n, line in enumerate(spaced(1))), 5)], False)[2], [],
+         "a clock has one unit")
