@@ -14,7 +14,7 @@ from squitter import FeedFormat, Stranger
 PLENTY = 2000  # the --reorder (ms) to try if frames were late or set aside
 SQUITTER = 17  # the downlink format of extended squitters
 LONG, SHORT = 28, 14  # digits of a frame
-SAMPLE = 65_536  # bytes of lines that show the unit of their timestamps
+SAMPLE = 1 << 20  # bytes of lines that show the unit of their timestamps
 SOME = 8  # different frames of an aircraft that show it
 DENSE, SPARSE = 20, 100_000  # mean milliseconds between these that no receiver hears: one lies far below, one far above
 
@@ -67,7 +67,7 @@ class Feed:
         self.others: Dict[int, int] = Counter()  # printed frames of other downlink formats
         self.refusal: Optional[Refused] = None  # why the source was refused at its end
         self.format: Optional[FeedFormat] = None  # of the source, which the library forgets at its end
-        self.sample: Optional[bytes] = b""  # the first lines, until they are looked at
+        self.sample: Optional[bytearray] = bytearray()  # the first lines, until they are looked at
 
     def hear(self, data: bytes, arrival: int) -> bytes:
         """Returns the lines of a piece of the source. Raises `Refused` if the source has no format that is read."""
@@ -97,6 +97,8 @@ class Feed:
         stranger = self.feed.stranger
         if stranger is not None and known is None:
             self.refusal = Refused(STRANGERS[stranger])
+        elif self.format is FeedFormat.CSV and 0 < self.feed.counts.found == self.feed.counts.damaged:
+            self.refusal = Refused("no row of this table has a frame, and a time in seconds of at most 12 digits")
         self._look_at_unit()
         if not self.live and self.feed.counts.written > 1 and not self.printed:
             self.tell("all frames of this file have the timestamp 0, as without times: old ones pair with new")
@@ -118,12 +120,11 @@ class Feed:
         counts = self.feed.counts
         formats = self.others if self.options.all_formats else dict(enumerate(counts.formats))
         others = ", ".join(f"DF{number} {count}" for number, count in sorted(formats.items()) if count)
-        among = " among them" if self.options.all_formats else ""
         is_late = (self.late or counts.aside) and self.options.reorder < PLENTY
         parts = [
             (unwritten, "not written"),
             (unsaved, "not saved"),
-            (sum(formats.values()), f"of other downlink formats ({others}){among}"),
+            (sum(formats.values()), f"of other downlink formats ({others})" + " among them" * self.options.all_formats),
             (counts.mode_ac, "of Mode A/C"),
             (counts.multilaterated, "multilaterated"),
             (counts.aside, "set aside"),
@@ -159,7 +160,7 @@ class Feed:
         if lines:
             self.printed = int(lines[lines.rfind(b"\n", 0, -1) + 1 :].split()[0])
         if self.sample is not None:
-            self.sample += lines[:SAMPLE]
+            self.sample += lines
         if self.options.all_formats:
             for start, count in Counter(re.findall(rb" (..)", lines)).items():
                 number = min(int(start, 16) >> 3, 24)
@@ -170,7 +171,7 @@ class Feed:
     def _look_at_unit(self) -> None:
         """Reports once if the timestamps of a source seem to have another unit."""
         lines, self.sample = self.sample, None
-        sign = (self.format, sign_of_unit(lines[:SAMPLE]) if lines else None)
+        sign = (self.format, sign_of_unit(bytes(lines[:SAMPLE])) if lines else None)
         if sign in UNITS:
             self.tell(UNITS[sign])
 

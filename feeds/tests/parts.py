@@ -521,17 +521,32 @@ def units() -> None:
     both = sorted(spaced(1) + others, key=lambda line: int(line.split()[0]))
     same(told_of(both), [], "one aircraft of three")
     same(told_of(spaced(1), reorder=1000), seconds, "sorted")
-    long = spaced(1, 2000)
+    long = spaced(1, 30_000)
     same(told_of(long), seconds, "once, in a long log")
-    # The first 65,536 bytes show it: with the first pieces, and not at the end.
+    # The first MiB shows it: with the piece that fills it, and not at the end.
     told: List[str] = []
     feed = Feed(Options(leap=FAR), False, told.append)
-    same(len(long[0]) * 1820 < squitter_feed.SAMPLE <= len(long[0]) * 1821, True, "lines of 36 bytes")
-    feed.hear("".join(long[:1820]).encode(), 5)
+    whole = "".join(long).encode()
+    full = whole.rindex(b"\n", 0, (1 << 20) - 1) + 1
+    feed.hear(whole[:full], 5)
     same(told, [], "before the sample is full")
-    feed.hear(long[1820].encode(), 5)
+    feed.hear(whole[full:full + 40], 5)
     same(told, seconds, "once the sample is full")
     feed.end(5)
     same(told, seconds, "at the end")
     same(fed([(b"".join(beast(line.split()[1], 12_000 * n) for n, line in enumerate(spaced(1))), 5)], False)[2], [],
          "a clock has one unit")
+
+
+def tables_without_rows() -> None:
+    """A table of milliseconds since 1970 has no row that can be read. It is refused, and one with a row is not."""
+    good, bad = f"1700000000.000,,{AIR_EVEN}\n", f"1700000000000,,{AIR_EVEN}\n"
+    said = "no row of this table has a frame, and a time in seconds of at most 12 digits"
+    for rows, refusal in ((bad, said), (bad * 3, said), (bad + good, None), (good + bad, None), (good, None)):
+        lines, feed, _ = fed([(f"time,icao24,rawmsg\n{rows}".encode(), 5)], False)
+        same([str(feed.refusal) if feed.refusal else None, len(lines)], [refusal, rows.count(".000")], rows)
+    same(str(fed([(b"time,icao24,rawmsg\n1,,\n", 5)], False)[1].refusal), said, "an empty cell")
+    same(fed([(b"time,icao24,rawmsg\n", 5)], False)[1].refusal, None, "a table without rows")
+    # (a short frame of a downlink format of long ones)
+    _, feed, _ = fed([(f"*{AIR_EVEN[:14]};\n".encode(), 5)], False)
+    same((feed.feed.counts.found, feed.feed.counts.damaged, feed.refusal), (1, 1, None), "another format")
