@@ -241,13 +241,14 @@ def small() -> None:
     """A position takes some 40 bytes, and a row without a position takes none."""
     rows = 100_000
     usual = "".join(f"{n},{n},fix,{n % 50:06X},air,52.0000000,4.{n % 10**7:07d},-25\n" for n in range(rows))
-    waiting = "".join(f"{n},{n},waiting,{n % 50:06X},air,,,-25\n" for n in range(rows))
+    waiting = "".join(f"{n},{n},waiting,{n % 50:06X},air,,,-25\n" for n in range(2 * rows))
     took = []
     for text in (GOOD, waiting, usual):
         words = ["/usr/bin/env", "python3", "-c", MEASURED, MAPS]
         done = subprocess.run(words, input=(HEADER + text).encode(), stdout=subprocess.PIPE, check=True)
         took.append(int(done.stdout))
-    expect(took[1] - took[0] < 2_000, "kilobytes of rows without a place:", took)
+    # Buffers take up to 2,300 kilobytes more, as runs beside other work have shown; the rows have 5,600.
+    expect(took[1] - took[0] < 4_000, "kilobytes of rows without a place:", took)
     expect(took[2] - took[0] < 12_000, "kilobytes of places:", took)
 
 
