@@ -713,11 +713,9 @@ class Feed {
     const { memory } = this.#library, moments = this.#lent.rooms.moments?.at ?? memory.zerosAt;
     const out = this.#lent.rooms.out?.at ?? memory.zerosAt, parts = [];
     const outputs = [moments, SQUITTERS_AT_ONCE, out, SQUITTERS_AT_ONCE];
-    this.#call(name, bytes, arrival, outputs, SQUITTERS_AT_ONCE - 1, (count) => parts.push({
-      moments: new BigUint64Array(memory.exports.memory.buffer, moments, count).slice(),
-      frames: memory.bytesAt(out, FRAME_BYTES * count).slice(),
-    }));
-    return parts.length === 1 ? parts[0] : joinedSquitters(parts);
+    this.#call(name, bytes, arrival, outputs, SQUITTERS_AT_ONCE - 1,
+      (count) => parts.push(squittersAt(memory, moments, out, count)));
+    return joinedSquitters(parts);
   }
   #text(name, bytes, arrival) {
     const { memory } = this.#library, out = this.#lent.rooms.out?.at ?? memory.zerosAt, decoder = new TextDecoder();
@@ -727,7 +725,14 @@ class Feed {
     return text;
   }
 }
+function squittersAt(memory, moments, frames, count) {
+  return {
+    moments: new BigUint64Array(memory.exports.memory.buffer, moments, count).slice(),
+    frames: memory.bytesAt(frames, FRAME_BYTES * count).slice(),
+  };
+}
 function joinedSquitters(parts) {
+  if (parts.length === 1) return parts[0];
   const count = parts.reduce((sum, part) => sum + part.moments.length, 0);
   const moments = new BigUint64Array(count), frames = new Uint8Array(FRAME_BYTES * count);
   let from = 0;
@@ -737,6 +742,66 @@ function joinedSquitters(parts) {
     from += part.moments.length;
   }
   return { moments, frames };
+}
+const SORTED_AT_ONCE = 1024;
+class Order {
+  #lent;
+  #library;
+  constructor(library, reorder) {
+    const { memory } = library, delay = moment(reorder);
+    this.#library = library;
+    this.#lent = new Lent(this, library, "order", Number(memory.exports.squitter_order_size()),
+      (slot, block) => ask(library, "order_new", slot, block, delay));
+    const [came, data, moments, frames] = [8, FRAME_BYTES, 8, FRAME_BYTES].map((size) =>
+      memory.claim(size * SORTED_AT_ONCE));
+    this.#lent.rooms = { done: memory.claim(BYTES.done), came, data, moments, frames };
+  }
+  take(moments, frames) {
+    const came = BigUint64Array.from(moments, moment), bytes = bytesOf(frames), parts = [];
+    if (bytes.length !== FRAME_BYTES * came.length)
+      throw new RangeError(`${came.length} timestamps go with ${FRAME_BYTES * came.length} bytes of frames`);
+    let from = 0;
+    do {
+      const next = from + SORTED_AT_ONCE;
+      this.#take(came.subarray(from, next), bytes.subarray(FRAME_BYTES * from, FRAME_BYTES * next), parts);
+      from = next;
+    } while (from < came.length);
+    return joinedSquitters(parts);
+  }
+  flush() {
+    const parts = [];
+    this.#call("order_flush", () => [], parts);
+    return joinedSquitters(parts);
+  }
+  get held() {
+    const { memory } = this.#library;
+    ask(this.#library, "order_held", this.#lent.slot, BigInt(memory.outAt));
+    return Number(memory.view().getBigUint64(memory.outAt, true));
+  }
+  close() {
+    this.#lent.close();
+  }
+  #take(came, bytes, parts) {
+    const { memory } = this.#library, { rooms } = this.#lent, count = rooms.came ? came.length : 0;
+    const cameAt = rooms.came?.at ?? memory.zerosAt, dataAt = rooms.data?.at ?? memory.zerosAt;
+    new BigUint64Array(memory.exports.memory.buffer, cameAt, count).set(came.subarray(0, count));
+    memory.putBytes(dataAt, bytes.subarray(0, FRAME_BYTES * count));
+    const rest = (taken) => [cameAt + 8 * taken, count - taken, dataAt + FRAME_BYTES * taken, count - taken];
+    this.#call("order_take", (taken) => rest(taken).map(BigInt), parts);
+  }
+  #call(name, given, parts) {
+    const { memory } = this.#library, { rooms } = this.#lent, { zerosAt } = memory;
+    const [moments, frames, done] = [rooms.moments, rooms.frames, rooms.done].map((room) => room?.at ?? zerosAt);
+    const outputs = [moments, SORTED_AT_ONCE, frames, SORTED_AT_ONCE, done].map(BigInt);
+    let taken = 0, written = 0;
+    do {
+      ask(this.#library, name, this.#lent.slot, ...given(taken), ...outputs);
+      const progress = readDone(memory.view(), done);
+      taken += Number(progress.taken);
+      written = Number(progress.written);
+      parts.push(squittersAt(memory, moments, frames, written));
+    } while (written === SORTED_AT_ONCE);
+  }
 }
 class Squitter {
   constructor(instance) {
@@ -919,7 +984,7 @@ async function load(source) {
   return new Squitter(made instanceof WebAssembly.Instance ? made : made.instance);
 }
 return {
-  AirHead, AltitudeForm, Angle, Code, Contact, Fault, Feed, FeedFormat, Format, GroundHead, Kind, Log, Squitter,
-  Stranger, Tracker, WINDOW, What, load,
+  AirHead, AltitudeForm, Angle, Code, Contact, Fault, Feed, FeedFormat, Format, GroundHead, Kind, Log, Order,
+  Squitter, Stranger, Tracker, WINDOW, What, load,
 };
 }

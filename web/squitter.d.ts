@@ -355,6 +355,22 @@ export declare class Feed {
   close(): void;
 }
 
+/** Sorts squitters by their timestamps. It holds each squitter until one has come that is `reorder` milliseconds later.
+ * Once it holds 4096, it gives the earliest. Equal timestamps keep the order of arrival. */
+export declare class Order {
+  /** Creates an order without squitters. */
+  constructor(library: Squitter, reorder: Whole);
+  /** Takes squitters, by their timestamps (ms) and their frames, 14 bytes each. Returns those that are due. Throws a
+   * RangeError unless there are as many timestamps as frames. Fault: NO_TRACKER. */
+  take(moments: Iterable<Whole>, frames: BufferSource): Squitters;
+  /** Returns the squitters that are held, and holds none afterwards. Fault: NO_TRACKER. */
+  flush(): Squitters;
+  /** How many squitters are held: at most 4096. Fault: NO_TRACKER. */
+  get held(): number;
+  /** Frees the memory. Safe to call twice. */
+  close(): void;
+}
+
 /** Loads the library from dist/squitter.wasm: its bytes, the Response of fetch, a compiled module, or a promise of one
  * of these. Rejects with a WebAssembly.CompileError if the engine has no 64-bit memory; Node 20 has it if it is started
  * as `node --experimental-wasm-memory64`. */

@@ -26,6 +26,7 @@ export { Code, Kind, AltitudeForm, What, Format, FeedFormat, Stranger } from "./
 export { WINDOW, Fault, Angle, AirHead, GroundHead } from "./squitter_values.js";
 export { Contact, Log, Tracker } from "./squitter_tracking.js";
 export { Feed } from "./squitter_feed.js";
+export { Order } from "./squitter_order.js";
 
 /** The loaded library. One is enough for all calls of a thread. */
 export class Squitter {

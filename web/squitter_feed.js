@@ -120,11 +120,9 @@ export class Feed {
     const { memory } = this.#library, moments = this.#lent.rooms.moments?.at ?? memory.zerosAt;
     const out = this.#lent.rooms.out?.at ?? memory.zerosAt, parts = [];
     const outputs = [moments, SQUITTERS_AT_ONCE, out, SQUITTERS_AT_ONCE];
-    this.#call(name, bytes, arrival, outputs, SQUITTERS_AT_ONCE - 1, (count) => parts.push({
-      moments: new BigUint64Array(memory.exports.memory.buffer, moments, count).slice(),
-      frames: memory.bytesAt(out, FRAME_BYTES * count).slice(),
-    }));
-    return parts.length === 1 ? parts[0] : joinedSquitters(parts);
+    this.#call(name, bytes, arrival, outputs, SQUITTERS_AT_ONCE - 1,
+      (count) => parts.push(squittersAt(memory, moments, out, count)));
+    return joinedSquitters(parts);
   }
 
   #text(name, bytes, arrival) {
@@ -136,8 +134,17 @@ export class Feed {
   }
 }
 
+/** Returns the squitters that a call has written: timestamps and frames, at these addresses. */
+export function squittersAt(memory, moments, frames, count) {
+  return {
+    moments: new BigUint64Array(memory.exports.memory.buffer, moments, count).slice(),
+    frames: memory.bytesAt(frames, FRAME_BYTES * count).slice(),
+  };
+}
+
 /** Joins the squitters of several calls. */
-function joinedSquitters(parts) {
+export function joinedSquitters(parts) {
+  if (parts.length === 1) return parts[0];
   const count = parts.reduce((sum, part) => sum + part.moments.length, 0);
   const moments = new BigUint64Array(count), frames = new Uint8Array(FRAME_BYTES * count);
   let from = 0;

@@ -8,8 +8,8 @@ import { runInNewContext } from "node:vm";
 import * as squitter from "../../web/squitter.js";
 
 const {
-  load, AirHead, AltitudeForm, Angle, Code, Contact, Fault, Feed, FeedFormat, GroundHead, Kind, Log, Stranger, Tracker,
-  WINDOW, What,
+  load, AirHead, AltitudeForm, Angle, Code, Contact, Fault, Feed, FeedFormat, GroundHead, Kind, Log, Order, Stranger,
+  Tracker, WINDOW, What,
 } = squitter;
 const MODULE = readFileSync(new URL("../../dist/squitter.wasm", import.meta.url)), library = await load(MODULE);
 const FRAME = "8D40621D58C382D690C8AC2863A7";
@@ -65,7 +65,7 @@ function names() {
     GroundHead: new GroundHead({ address: 0 }), Squitter: library, Contact: new Contact(library, 0),
     Fields: library.read(FRAME), Altitude: library.feetOfField(11, 0), Heard: new Contact(library, 0).hear(0, FRAME),
     Place: place, Zones: library.localZones(FRAME, place), Log: new Log(library), Tracker: new Tracker(library),
-    Feed: new Feed(library) };
+    Feed: new Feed(library), Order: new Order(library, 0) };
   const members = ({ prototype }) => Object.getOwnPropertyNames(prototype).filter((name) => name !== "constructor")
     .map((name) => [name, Object.getOwnPropertyDescriptor(prototype, name).value?.length ?? null]);
   const told = Object.entries(squitter).map(([name, one]) => [name, name in made ? Object.fromEntries(members(one))
@@ -78,11 +78,11 @@ const zero = { lat: 0, lon: 0 }, bad = { lat: 91, lon: 0 }, head = (given) => ne
 const huge = { num: 1n << 63n, den: 1n }, contact = new Contact(library, 10), wrong = `${FRAME.slice(0, -1)}6`;
 contact.hear(5, FRAME);
 const tracker = new Tracker(library, { limit: 1 }), closed = new Tracker(library), ended = new Log(library);
-const over = new Feed(library);
+const over = new Feed(library), gone = new Order(library, 0);
 tracker.hear(5, FRAME);
 const saved = tracker.save();
-for (const one of [closed, ended, over]) one.close();
-for (const one of [closed, ended, over]) one.close();
+for (const one of [closed, ended, over, gone]) one.close();
+for (const one of [closed, ended, over, gone]) one.close();
 
 /** Calls, each with the code of its fault or the error that it throws. */
 const REFUSED = [
@@ -103,6 +103,18 @@ const REFUSED = [
   [Code.NO_TRACKER, () => ended.tally],
   [Code.BAD_FORMAT, () => new Log(library).takeText(new Uint8Array(1), 3)],
   [Code.BAD_FORMAT, () => new Log(library).finishText(3)],
+  [Code.NO_TRACKER, () => gone.take([1n], new Uint8Array(14))],
+  [Code.NO_TRACKER, () => gone.take([], new Uint8Array(0))],
+  [Code.NO_TRACKER, () => gone.flush()],
+  [Code.NO_TRACKER, () => gone.held],
+  [RangeError, () => new Order(library, -1)],
+  [RangeError, () => new Order(library, 1n << 64n)],
+  [TypeError, () => new Order(library, 1.5)],
+  [TypeError, () => new Order(library)],
+  [RangeError, () => new Order(library, 0).take([1n], new Uint8Array(13))],
+  [RangeError, () => new Order(library, 0).take([1n], new Uint8Array(28))],
+  [RangeError, () => new Order(library, 0).take([-1], new Uint8Array(14))],
+  [TypeError, () => new Order(library, 0).take([1n], "x")],
   [Code.NO_TRACKER, () => over.take(new Uint8Array(1))],
   [Code.NO_TRACKER, () => over.finish()],
   [Code.NO_TRACKER, () => over.takeText(new Uint8Array(1))],
@@ -234,7 +246,8 @@ function keptWhole() {
 function usedAgain() {
   const round = () => {
     for (const limit of [1000, 10, 300]) {
-      const made = [new Log(library, { limit }), new Tracker(library, { limit }), new Feed(library)];
+      const made = [new Log(library, { limit }), new Tracker(library, { limit }), new Feed(library),
+        new Order(library, 9)];
       for (const one of [...made, ...made]) one.close();
     }
   };
@@ -600,6 +613,53 @@ function feedSettings() {
   for (const feed of [ignoring, short]) feed.close();
 }
 
+/** Returns frames that begin with these numbers. */
+function numbered(numbers) {
+  return Uint8Array.from(numbers.flatMap((number) => [number & 255, number >> 8, ...new Array(12).fill(0)]));
+}
+
+/** Returns the timestamps of squitters, each with the number that its frame begins with. */
+function numbersOf({ moments, frames }) {
+  return [...moments].map((at, index) => `${at}:${frames[14 * index] + 256 * frames[14 * index + 1]}`).join(" ");
+}
+
+/** Tests an order: squitters that are due, equal and late ones, a flush, and one that holds all it can. */
+function orders() {
+  const order = new Order(library, 200), told = [];
+  const calls = [[[500, 400, 650], [1, 2, 3]], [[], []], [[500n, 699], [4, 5]], [[700], [6]], [[100], [7]]];
+  for (const [moments, numbers] of calls)
+    told.push(`${numbersOf(order.take(moments, numbered(numbers)))} ${order.held}`);
+  told.push(`${numbersOf(order.flush())} ${order.held}`, numbersOf(order.flush()));
+  const wanted = ["400:2 2", " 2", " 4", "500:1 500:4 3", "100:7 3", "650:3 699:5 700:6 0", ""];
+  if (told.join("|") !== wanted.join("|")) throw new Error(`an order: ${told.join("|")}`);
+  order.close();
+  // The first of three squitters makes 3000 due, which fill the outputs before the other two are taken.
+  const filled = new Order(library, 100), early = Array.from({ length: 3000 }, (_, at) => at);
+  filled.take(new Array(3000).fill(0), numbered(early));
+  const due = [numbersOf(filled.take([1000, 1002, 1001], numbered([3000, 3002, 3001]))), numbersOf(filled.flush())];
+  if (due.join("|") !== `${early.map((at) => `0:${at}`).join(" ")}|1000:3000 1001:3001 1002:3002`)
+    throw new Error(`outputs that fill up: ${due[1]}`);
+  filled.close();
+  try {
+    filled.take([2n ** 64n - 1n], new Uint8Array(14).fill(255));
+  } catch (error) {
+    if (!(error instanceof Fault)) throw error;
+  }
+  const { memory } = library;
+  if (memory.bytesAt(memory.zerosAt, 64).some(Boolean)) throw new Error("a closed order has written");
+  for (const count of [1, 1023, 1024, 1025, 2048, 4095, 4096, 4097, 6144, 9000]) {
+    const full = new Order(library, 2n ** 64n - 1n), numbers = Array.from({ length: count }, (_, at) => at);
+    const moments = numbers.map((at) => (at ^ 1) + 7);
+    const sorted = [...numbers].sort((one, other) => (one ^ 1) - (other ^ 1));
+    const given = full.take(moments, numbered(numbers)), rest = full.flush();
+    const held = Math.min(count, 4095), all = [numbersOf(given), numbersOf(rest)].filter(Boolean).join(" ");
+    if (rest.moments.length !== held || given.moments.length !== count - held)
+      throw new Error(`${count} are in an order, and it holds ${rest.moments.length}`);
+    if (all !== sorted.map((at) => `${(at ^ 1) + 7}:${at}`).join(" ")) throw new Error(`${count} are not in order`);
+    full.close();
+  }
+}
+
 /** Tries each refusal, and that one leaves nothing behind for the next call. */
 async function refusals() {
   for (const [wanted, call] of REFUSED) {
@@ -631,6 +691,7 @@ async function refusals() {
   largeFeeds();
   liveFeeds();
   feedSettings();
+  orders();
   const bytes = library.frame(FRAME), copy = contact.copy();
   const kinds = [bytes, bytes.buffer, new DataView(bytes.buffer), new Uint8ClampedArray(bytes)];
   if (!kinds.every((one) => library.frameText(one) === FRAME)) throw new Error("bytes of another kind");

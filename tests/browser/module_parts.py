@@ -69,9 +69,8 @@ def without_flag(tries: Tries) -> str:
     return f"{count} modules"
 
 
-# What Python has and JavaScript has not: orders, which no page needs yet, and calls of arrays, where a call of Python
-# costs more than what it asks for.
-OF_PYTHON_ALONE = {"local_many", "pair_many", "read_many", "Order", "Present"}
+# Only Python has calls of arrays: there, a call costs more than the work it asks for.
+OF_PYTHON_ALONE = {"local_many", "pair_many", "read_many", "Present"}
 
 
 def camel(name: str) -> str:
