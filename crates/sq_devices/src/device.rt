@@ -97,8 +97,8 @@ pub trait Clock {
     /// Whether the input is received while it is read. A recorded input has no arrivals.
     ghost live: { Self → Bool };
 
-    /// Whether one reading told this time, of a clock as it was before it and as it is after it. What that tells is the
-    /// clock's to say; that a reading told it, none but a reading can show of any clock.
+    /// One reading returned this time: the clock is in the first state before it, and in the second one after it. Each
+    /// clock defines this relation. Only a reading can show that it holds.
     ghost Told: { Self → ℕ → Self → Type 0 };
 
     /// Returns whether the input is received while it is read.

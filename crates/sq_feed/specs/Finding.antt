@@ -91,7 +91,7 @@ sign_of_row (One (Foreign stranger)) = Unclear
 sign_of_row Blank = Unclear
 sign_of_row (Names columns) = Shows Csv (CsvLayout columns) None
 
--- a frame of its own, other than a reply of Mode A/C, whose four digits may be any number
+-- a bare frame shows AVR text, unless it is a reply of Mode A/C: four digits may be any number
 abbrev pub sign_of_frame : Option RawFrame → Sign
 sign_of_frame None = Unclear
 sign_of_frame (Some (ModeAc frame)) = Unclear
@@ -194,7 +194,7 @@ text_sign text byte = first_sign (byte_sign text byte) (limit_sign text.count)
 
 -- ---- the items of a source
 
--- the items of a source of a format, whose rows have this layout
+-- the items of a source of a format, with rows of this layout
 abbrev pub items_from : Format → Layout → List ℕ → List Found
 items_from Beast layout bytes = found_in bytes
 items_from Avr layout bytes = avr_found bytes
@@ -269,7 +269,7 @@ fresh Nothing bytes = []
 
 -- ---- examples
 
--- replies of Mode A/C whose last byte is this, with a timestamp (ms) and without
+-- replies of Mode A/C with this last byte, with a timestamp (ms) and without
 abbrev pub millis_item : ℕ → ℕ → Found
 millis_item moment byte = Whole (record { time = Millis moment; frame = ModeAc (32 ∷ byte ∷ []) })
 

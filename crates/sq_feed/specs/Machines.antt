@@ -24,7 +24,7 @@ layout_of Avr = LogLayout
 layout_of Csv = csv_start
 layout_of Log = LogLayout
 
--- the machine at the start of a source, whose rows have this layout
+-- the machine at the start of a source, with rows of this layout
 abbrev pub machine_with : Format → Layout → Begins
 machine_with format layout = record {
   format = format;

@@ -182,8 +182,8 @@ abbrev pub SortsStably : Type 0
 SortsStably = (came : List Timed)
     → RiseFrom 0 (sorted came) × ((moment : ℕ) → only moment (sorted came) ≡ only moment came)
 
--- The cut into calls does not matter: the squitters that are given by all calls, and by a flush after them, are those
--- that are given and held where all come at once.
+-- The cut into calls does not matter: all calls, and a flush after them, give the squitters that one call of all of
+-- them gives and holds.
 abbrev pub SortsTheWhole : Type 0
 SortsTheWhole = (room : ℕ) (before : Sorting) (calls : List Sorted) → AreSorted room before calls
     → given_in calls ++ (last_sorted before calls).held
