@@ -10,8 +10,7 @@ use Rattle.sq_message.specs.declared.place.Place.{Place}
 use Rattle.sq_message.specs.declared.place.Place.TheVariants.{Air, Ground}
 use Rattle.sq_message.specs.declared.place.PlaceFault.{PlaceFault}
 use Rattle.sq_message.specs.declared.squitter.Squitter.{Squitter}
-use Rattle.sq_message.specs.Kinds.{InAir, OnGround}
-use Rattle.sq_message.specs.Heads.{AirHeadParts, GroundHeadParts}
+use Rattle.sq_message.specs.Kinds.{InAir, OnGround, HeadParts}
 use Rattle.sq_message.specs.Parts.{squitter_parts}
 use Rattle.sq_message.specs.Places.{IsLocalPlace, IsPairPlace}
 use Rattle.sq_message.specs.Sending.{IsSent}
@@ -63,7 +62,7 @@ IsPairOfTexts older newer site answer =
 -- near it
 abbrev pub IsTrueInAir : List ℕ → Position → Result Place Fault → Type 0
 IsTrueInAir text reference answer =
-    (head : AirHeadParts) (parity : Parity) (position : Position) (point : Point) (frame : Frame)
+    (head : HeadParts InAir) (parity : Parity) (position : Position) (point : Point) (frame : Frame)
     → IsFrameText text frame → IsSent InAir head parity position point frame
     → IsStrictlyNearPosition air reference point
     → answer ≡ Ok (Air point)
@@ -72,7 +71,7 @@ IsTrueInAir text reference answer =
 -- is near it
 abbrev pub IsTrueOnGround : List ℕ → Position → Result Place Fault → Type 0
 IsTrueOnGround text reference answer =
-    (head : GroundHeadParts) (parity : Parity) (position : Position) (point : Point) (frame : Frame)
+    (head : HeadParts OnGround) (parity : Parity) (position : Position) (point : Point) (frame : Frame)
     → IsFrameText text frame → IsSent OnGround head parity position point frame
     → IsStrictlyNearPosition ground reference point
     → answer ≡ Ok (Ground point)

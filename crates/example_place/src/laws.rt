@@ -16,7 +16,7 @@ pub fn one_true_answer()
     ensures on_ground { OneTrueAnswerOnGround }
 {}
 
-/// Whether two faults are equal by `==`: exactly if they are one.
+/// Compares two faults by `==`, which is true exactly if they are the same.
 pub fn equal_faults(fault: &Fault, other: &Fault) -> bool
     ensures { IsTrue result ↔ (fault.now ≡ other.now) }
 {

@@ -19,7 +19,7 @@ pub use sq_angle::Position;
 pub use sq_message::Place;
 use sq_message::laws::headline;
 use sq_message::{Squitter, place_local, place_pair};
-use sq_text::laws::one_squitter_reading;
+use sq_text::pins::one_squitter_reading;
 use sq_text::{LineFault, read_squitter};
 
 /// The place of the frame that a text spells, near a reference; else the first fault, of the text or of its place.

@@ -5,7 +5,7 @@ use crate::samples::{AIR_EVEN, AIR_ODD, GROUND_EVEN, GROUND_ODD, IDENTITY, read}
 use sq_bits::remainder;
 use sq_message::{
     AirFields, Airborne, Altitude, Code, Frame, FrameFault, GroundFields, Me, Other, Parity,
-    Squitter, Surface, altitude, field_of_feet, laws, read_frame, write_frame,
+    Squitter, Surface, altitude, field_of_feet, laws, pins, read_frame, write_frame,
 };
 use std::process::Abort;
 
@@ -247,15 +247,15 @@ fn means_altitudes(rt: HostRuntime) {
     ];
     for (type_code, field, want) in rows {
         assert!(rt;
-            laws::equal_altitudes(&altitude_of(&rt, type_code, field), &want),
+            pins::equal_altitudes(&altitude_of(&rt, type_code, field), &want),
             "field {field}"
         );
     }
-    laws::altitude_exactly();
-    laws::squitter_of_exactly();
-    laws::pair_place_exactly();
-    assert!(rt; !laws::equal_altitudes(&Altitude::Feet(25), &Altitude::Feet(50)));
-    assert!(rt; !laws::equal_altitudes(&Altitude::Missing, &Altitude::Raw(0)));
+    pins::altitude_exactly();
+    pins::squitter_of_exactly();
+    pins::pair_place_exactly();
+    assert!(rt; !pins::equal_altitudes(&Altitude::Feet(25), &Altitude::Feet(50)));
+    assert!(rt; !pins::equal_altitudes(&Altitude::Missing, &Altitude::Raw(0)));
 }
 
 // Feet and their field.

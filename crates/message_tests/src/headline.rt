@@ -14,18 +14,13 @@ const GROUND_WITHOUT_MOVEMENT: Frame = Frame([
 fn reads_near_a_reference_what_was_sent(rt: HostRuntime) {
     let here = position(&rt, (522_572_021, 10_000_000), (39_193_726, 10_000_000));
     let near = position(&rt, (52_258, 1000), (3918, 1000));
-    let (frame, place) = laws::read_near_of_sent_in_air(air_head(&rt), Parity::Even, &here, &near);
+    let (frame, place) = laws::read_near_of_sent(air_head(&rt), Parity::Even, &here, &near);
     assert!(rt; frame == AIR_EVEN);
     let point = position(&rt, (428_091, 8192), (64_215, 16_384));
     assert!(rt; place.expect(&rt, "a place").position() == point);
     let here = position(&rt, (523_230_400, 10_000_000), (47_304_726, 10_000_000));
     let near = position(&rt, (5199, 100), (4375, 1000));
-    let (frame, place) = laws::read_near_of_sent_on_ground(
-        ground_head(&rt),
-        Parity::Even,
-        &here,
-        &near,
-    );
+    let (frame, place) = laws::read_near_of_sent(ground_head(&rt), Parity::Even, &here, &near);
     assert!(rt; frame == GROUND_WITHOUT_MOVEMENT);
     let point = position(&rt, (13_716_171, 262_144), (1_240_065, 262_144));
     assert!(rt; place.expect(&rt, "a place").position() == point);
@@ -37,9 +32,7 @@ fn reads_pairs_that_were_sent(rt: HostRuntime) {
     let even = position(&rt, (428_091, 8192), (64_215, 16_384));
     let odd = position(&rt, (25_261_515, 483_328), (225_873, 57_344));
     for (newest, point) in [(Parity::Even, even), (Parity::Odd, odd)] {
-        let (first, second, place) = laws::read_pair_of_sent_in_air(
-            head, &even, head, &odd, newest, None,
-        );
+        let (first, second, place) = laws::read_pair_of_sent(head, &even, head, &odd, newest, None);
         assert!(rt; first == AIR_EVEN && second == AIR_ODD);
         assert!(rt; place.expect(&rt, "a place").position() == point);
     }
@@ -48,8 +41,13 @@ fn reads_pairs_that_were_sent(rt: HostRuntime) {
     let even = position(&rt, (13_716_171, 262_144), (1_240_065, 262_144));
     let odd = position(&rt, (202_304_115, 3_866_624), (2_172_069, 458_752));
     for (newest, point) in [(Parity::Even, even), (Parity::Odd, odd)] {
-        let (first, _, place) = laws::read_pair_of_sent_on_ground(
-            head, &even, head, &odd, newest, &site,
+        let (first, _, place) = laws::read_pair_of_sent(
+            head,
+            &even,
+            head,
+            &odd,
+            newest,
+            Some(&site),
         );
         assert!(rt; first == GROUND_WITHOUT_MOVEMENT);
         assert!(rt; place.expect(&rt, "a place").position() == point);

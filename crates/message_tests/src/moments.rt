@@ -1,5 +1,5 @@
 //! Squitters with their moments.
-use sq_message::laws::equal_received;
+use sq_message::pins::equal_received;
 use sq_text::{LineFault, read_squitter, read_timed};
 
 const FRAME: &[u8] = b"8D40621D58C382D690C8AC2863A7";

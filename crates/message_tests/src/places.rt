@@ -4,8 +4,8 @@ use crate::samples::{
     AIR_EVEN, AIR_ODD, GROUND_EVEN, GROUND_ODD, IDENTITY, airborne, other, position, read, surface,
 };
 use sq_message::{
-    Angle, Frame, GridPoint, Parity, Place, PlaceFault, Position, Squitter, laws, place_local,
-    place_pair, send_point, write_frame,
+    Angle, Frame, GridPoint, Parity, Place, PlaceFault, Position, Squitter, laws, pins,
+    place_local, place_pair, send_point, write_frame,
 };
 use std::process::Abort;
 
@@ -136,8 +136,8 @@ fn sends_nothing_again_where_there_is_no_place(rt: HostRuntime) {
 #[test]
 fn laws_of_places(rt: HostRuntime) {
     laws::headline();
-    laws::one_local_place();
-    laws::one_pair_place();
+    pins::one_local_place();
+    pins::one_pair_place();
 }
 
 // The head stays, the parity and the code are the point's.

@@ -86,7 +86,7 @@ fn writes_one_frame_however_a_position_is_given(rt: HostRuntime) {
         (52_257_202_100_000, 1_000_000_000_000),
         (3_919_372_600_000, 1_000_000_000_000),
     );
-    let (first, second) = laws::frames_in_air(air_head(&rt), Parity::Even, &short, &long);
+    let (first, second) = laws::frames(air_head(&rt), Parity::Even, &short, &long);
     assert!(rt; first == frame);
     assert!(rt; second == frame);
 }
@@ -108,18 +108,18 @@ fn tells_points_apart_within_zones(rt: HostRuntime) {
     let beside = position(&rt, (1, 1_000_000), (0, 1));
     let north = position(&rt, (1, 2), (0, 1));
     let head = air_head(&rt);
-    let (first, second) = laws::frames_in_air(head, Parity::Even, &here, &beside);
+    let (first, second) = laws::frames(head, Parity::Even, &here, &beside);
     assert!(rt; first == second);
-    let (first, second) = laws::frames_in_air(head, Parity::Even, &here, &north);
+    let (first, second) = laws::frames(head, Parity::Even, &here, &north);
     assert!(rt; first != second);
     let zone_further = position(&rt, (6, 1), (0, 1));
-    let (first, second) = laws::frames_in_air(head, Parity::Even, &here, &zone_further);
+    let (first, second) = laws::frames(head, Parity::Even, &here, &zone_further);
     assert!(rt; first == second);
     let head = ground_head(&rt);
-    let (first, second) = laws::frames_on_ground(head, Parity::Odd, &here, &here);
+    let (first, second) = laws::frames(head, Parity::Odd, &here, &here);
     assert!(rt; first == second);
-    let (first, second) = laws::frames_on_ground(head, Parity::Odd, &here, &north);
+    let (first, second) = laws::frames(head, Parity::Odd, &here, &north);
     assert!(rt; first != second);
-    laws::same_zones_in_air();
-    laws::same_zones_on_ground();
+    laws::same_zones::<AirFields>();
+    laws::same_zones::<GroundFields>();
 }

@@ -2,7 +2,7 @@
 use sq_angle::{Angle, Position};
 use sq_message::{AirFields, Airborne, Code, Frame, FrameFault, Me, Parity, Squitter, write_frame};
 use sq_text::{
-    LineFault, ShowText, TextBuffer, TextFault, laws, place_text, push_decimal, push_hexadecimal,
+    LineFault, ShowText, TextBuffer, TextFault, pins, place_text, push_decimal, push_hexadecimal,
     push_summary, read_squitter, read_text, show_text,
 };
 use std::process::Abort;
@@ -297,8 +297,8 @@ fn shows_squitters(rt: HostRuntime) {
 
 #[test]
 fn compares_faults(rt: HostRuntime) {
-    assert!(rt; laws::equal_text_faults(&TextFault::Digit(3), &TextFault::Digit(3)));
-    assert!(rt; !laws::equal_text_faults(&TextFault::Digit(3), &TextFault::Length(3)));
-    assert!(rt; laws::equal_line_faults(&LineFault::Parity(1), &LineFault::Parity(1)));
-    assert!(rt; !laws::equal_line_faults(&LineFault::Parity(1), &LineFault::Parity(2)));
+    assert!(rt; pins::equal_text_faults(&TextFault::Digit(3), &TextFault::Digit(3)));
+    assert!(rt; !pins::equal_text_faults(&TextFault::Digit(3), &TextFault::Length(3)));
+    assert!(rt; pins::equal_line_faults(&LineFault::Parity(1), &LineFault::Parity(1)));
+    assert!(rt; !pins::equal_line_faults(&LineFault::Parity(1), &LineFault::Parity(2)));
 }

@@ -1,5 +1,5 @@
 -- Squitters, and squitters with their moments, are equal by `==` exactly if they are one.
-use Rattle.std.proofs.Common.{◌≡◌, ◌↔◌, IsTrue, Bool, true, false, ap, refl, rules, subst}
+use Rattle.std.proofs.Common.{◌≡◌, ◌↔◌, ◌&&◌, IsTrue, Bool, true, false, ap, refl, rules, subst}
 use Rattle.std.proofs.Math.Bool.{beq}
 use Rattle.std.proofs.lemmas.Bool.{and_from, and_parts, eq-eqb, eqb-true}
 use Rattle.std.specs.Cmp.Rules.{comparing}
@@ -10,17 +10,14 @@ use Rattle.sq_cpr.specs.declared.code.Code.{Code}
 use Rattle.sq_cpr.specs.contracts.code.CodePartialEq.TheImpl.{ghosts as codes}
 use Rattle.sq_cpr.proofs.Grids.SameCode.{same_code}
 use Rattle.sq_message.specs.declared.air.AirFields.{AirFields}
-use Rattle.sq_message.specs.declared.air.Airborne.{Airborne}
+use Rattle.sq_message.specs.declared.message.PositionMessage.{PositionMessage}
 use Rattle.sq_message.specs.declared.ground.GroundFields.{GroundFields}
-use Rattle.sq_message.specs.declared.ground.Surface.{Surface}
 use Rattle.sq_message.specs.declared.received.Received.{Received}
 use Rattle.sq_message.specs.declared.squitter.Me.{Me}
 use Rattle.sq_message.specs.declared.squitter.Me.TheVariants as kinds
 use Rattle.sq_message.specs.declared.squitter.Squitter.{Squitter}
 use Rattle.sq_message.specs.contracts.air.AirFieldsPartialEq.TheImpl.{ghosts as air_fields}
-use Rattle.sq_message.specs.contracts.air.AirbornePartialEq.TheImpl.{ghosts as airborne}
 use Rattle.sq_message.specs.contracts.ground.GroundFieldsPartialEq.TheImpl.{ghosts as ground_fields}
-use Rattle.sq_message.specs.contracts.ground.SurfacePartialEq.TheImpl.{ghosts as surface}
 use Rattle.sq_message.specs.contracts.received.ReceivedPartialEq.TheImpl.{ghosts as moments}
 use Rattle.sq_message.specs.contracts.squitter.MePartialEq.TheImpl.{ghosts as mes}
 use Rattle.sq_message.specs.contracts.squitter.SquitterPartialEq.TheImpl.{ghosts as squitters}
@@ -76,40 +73,38 @@ one_ground_fields a b h =
 ground_fields_itself : (a : GroundFields) → ground_fields.eq a a ≡ true
 ground_fields_itself a = search (comparing, rules)
 
-one_airborne : (a b : Airborne) → airborne.eq a b ≡ true → a ≡ b
-one_airborne a b h =
-    let p = and_parts (parities.eq a.parity b.parity) _ h in
-    let q = and_parts (codes.eq a.code b.code) (air_fields.eq a.fields b.fields) p.1 in
-    let parity = one_parity a.parity b.parity p.0 in
-    let code = one_code a.code b.code q.0 in
-    let fields = one_air_fields a.fields b.fields q.1 in
-    λ i. record { parity = parity i; code = code i; fields = fields i }
+-- if `==` is exact for fields, it is exact for positions
+module _ {Fields : Type 0} (eq : Fields → Fields → Bool) where
+  abbrev same : (a b : PositionMessage Fields) → Bool
+  same a b = parities.eq a.parity b.parity && (codes.eq a.code b.code && eq a.fields b.fields)
 
-one_surface : (a b : Surface) → surface.eq a b ≡ true → a ≡ b
-one_surface a b h =
-    let p = and_parts (parities.eq a.parity b.parity) _ h in
-    let q = and_parts (codes.eq a.code b.code) (ground_fields.eq a.fields b.fields) p.1 in
-    let parity = one_parity a.parity b.parity p.0 in
-    let code = one_code a.code b.code q.0 in
-    let fields = one_ground_fields a.fields b.fields q.1 in
-    λ i. record { parity = parity i; code = code i; fields = fields i }
+  one_position : ((x y : Fields) → eq x y ≡ true → x ≡ y) → (a b : PositionMessage Fields) → same a b ≡ true → a ≡ b
+  one_position one a b h =
+      let p = and_parts (parities.eq a.parity b.parity) _ h in
+      let q = and_parts (codes.eq a.code b.code) (eq a.fields b.fields) p.1 in
+      let parity = one_parity a.parity b.parity p.0 in
+      let code = one_code a.code b.code q.0 in
+      let fields = one a.fields b.fields q.1 in
+      λ i. record { parity = parity i; code = code i; fields = fields i }
+
+  position_itself : ((x : Fields) → eq x x ≡ true) → (a : PositionMessage Fields) → same a a ≡ true
+  position_itself itself a =
+      and_from _ _ (parity_itself a.parity) (and_from _ _ (code_itself a.code) (itself a.fields))
 
 one_me : (a b : Me) → mes.eq a b ≡ true → a ≡ b
-one_me (kinds.Airborne a) (kinds.Airborne b) h = ap kinds.Airborne (one_airborne a b h)
+one_me (kinds.Airborne a) (kinds.Airborne b) h = ap kinds.Airborne (one_position air_fields.eq one_air_fields a b h)
 one_me (kinds.Airborne a) (kinds.Surface b) h = absurd (cc h)
 one_me (kinds.Airborne a) (kinds.Other b) h = absurd (cc h)
 one_me (kinds.Surface a) (kinds.Airborne b) h = absurd (cc h)
-one_me (kinds.Surface a) (kinds.Surface b) h = ap kinds.Surface (one_surface a b h)
+one_me (kinds.Surface a) (kinds.Surface b) h = ap kinds.Surface (one_position ground_fields.eq one_ground_fields a b h)
 one_me (kinds.Surface a) (kinds.Other b) h = absurd (cc h)
 one_me (kinds.Other a) (kinds.Airborne b) h = absurd (cc h)
 one_me (kinds.Other a) (kinds.Surface b) h = absurd (cc h)
 one_me (kinds.Other a) (kinds.Other b) h = ap kinds.Other (same_other a b (eqb-true a.raw b.raw h))
 
 me_itself : (a : Me) → mes.eq a a ≡ true
-me_itself (kinds.Airborne a) =
-    and_from _ _ (parity_itself a.parity) (and_from _ _ (code_itself a.code) (air_fields_itself a.fields))
-me_itself (kinds.Surface a) =
-    and_from _ _ (parity_itself a.parity) (and_from _ _ (code_itself a.code) (ground_fields_itself a.fields))
+me_itself (kinds.Airborne a) = position_itself air_fields.eq air_fields_itself a
+me_itself (kinds.Surface a) = position_itself ground_fields.eq ground_fields_itself a
 me_itself (kinds.Other a) = eq-eqb a.raw a.raw refl
 
 one_squitter : (a b : Squitter) → squitters.eq a b ≡ true → a ≡ b

@@ -1,10 +1,33 @@
--- What altitudes, the places of pairs and what is sent are, and no more.
-use Rattle.std.proofs.Common.{◌≡◌, ◌≤◌, ℕ, inl, inr, arith, ap, refl, sym, subst}
+-- Proofs of the exact conditions.
+use Rattle.std.proofs.Common.{◌≡◌, ◌≤◌, ℕ, inl, inr, arith, ap, refl, sym, subst, Option, Result, Ok}
+use Rattle.sq_bits.specs.declared.frame.Frame.{Frame}
+use Rattle.sq_bits.specs.Frames.{IsFrame}
+use Rattle.sq_angle.specs.Angle.{degrees}
+use Rattle.sq_angle.specs.Position.{lat_of, lon_of}
+use Rattle.sq_angle.specs.declared.position.Position.{Position}
+use Rattle.sq_zones.specs.declared.parity.Parity.TheVariants.{Even, Odd}
+use Rattle.sq_cpr.proofs.Grids.Codes.{one_pair_of_zones}
 use Rattle.sq_message.specs.declared.air.Altitude.{Altitude}
 use Rattle.sq_message.specs.declared.air.Altitude.TheVariants.{Missing, Feet, Raw}
 use Rattle.sq_message.specs.Altitudes.{IsAltitude, IsOtherForm}
-use Rattle.sq_message.specs.Parts.{SquitterParts}
-use Rattle.sq_message.specs.Exactly.{AltitudeExactly, PairPlaceExactly, SquitterOfExactly}
+use Rattle.sq_message.specs.Parts.{SquitterParts, squitter_parts}
+use Rattle.sq_message.specs.Exactly.{AltitudeExactly, PairPlaceExactly, SquitterOfExactly, DecodedByCalls}
+use Rattle.sq_message.specs.Exactly.{EachHasItsZones, NearReferenceExactly, LieAtExactly, NoPlaceExactly}
+use Rattle.sq_message.specs.Exactly.{NoPlaceNearExactly, OneAnswerNear, OneAnswerOfPair, OnePlaceOfNewer}
+use Rattle.sq_message.specs.Exactly.{ReadAsPairExactly, ReadNearExactly, SentAgainExactly}
+use Rattle.sq_message.specs.Kinds.{Kind, span_of}
+use Rattle.sq_message.specs.declared.squitter.Squitter.{Squitter}
+use Rattle.sq_message.specs.declared.place.Place.{Place}
+use Rattle.sq_message.specs.declared.place.PlaceFault.{PlaceFault}
+use Rattle.sq_message.specs.Calls.{IsPlaceOfPair}
+use Rattle.sq_message.specs.Headline.{IsReadAsPair}
+use Rattle.sq_message.specs.Places.{IsLocalPlace}
+use Rattle.sq_message.specs.Spelling.{IsReading}
+use Rattle.sq_message.proofs.SameZones.{fits}
+use Rattle.sq_message.proofs.One.{one_reading, one_squitter}
+use Rattle.sq_message.proofs.OnePlace.{one_local_place, one_pair_place, some_local_place, some_pair_place}
+use Rattle.sq_message.proofs.SentFrames.{moved}
+use Rattle.sq_message.proofs.SomeReading.{some_reading}
 
 is_missing : (code : ℕ) (meaning : Altitude) → code ≤ 18 → IsAltitude code 0 meaning → meaning ≡ Missing
 is_missing code Missing low h = refl
@@ -65,3 +88,124 @@ pair_place_exactly = record {
     λ e. record { other = λ n. absurd (n both); strangers = λ b n. absurd (n same); kindred = λ b n. e },
   );
 }
+
+-- ---- the premises of the headline
+
+pub decoded_by_calls : DecodedByCalls
+decoded_by_calls = record {
+  near = λ squitter reference place h. inl (reference, h);
+  pair = λ older newer site place h. inr (older, site, h);
+}
+
+pub each_has_its_zones : (kind : Kind) → EachHasItsZones kind
+each_has_its_zones kind parity x = one_pair_of_zones (span_of kind) (fits kind) parity (degrees (lat_of x))
+    (degrees (lon_of x)) x.lat.in_range.positive x.lon.in_range.positive x.in_range
+
+pub near_reference_exactly : (kind : Kind) → NearReferenceExactly kind
+near_reference_exactly kind reference point = (λ h. h, λ h. h)
+
+pub lie_at_exactly : LieAtExactly
+lie_at_exactly = record { in_air = λ site a b. tt; on_ground = λ site a b. (λ h. h, λ h. h) }
+
+-- ---- what calls in turn answer
+
+pub one_answer_near : OneAnswerNear
+one_answer_near f r answer other (p, read, placed) (q, again, decoded) =
+    one_local_place p r answer other placed
+    (subst (λ (s : Squitter). IsLocalPlace (squitter_parts s).me r other) (one_squitter f q p again read) decoded)
+
+pub one_answer_of_pair : OneAnswerOfPair
+one_answer_of_pair Even even odd site answer other (p, q, first, second, placed) (x, y, third, fourth, decoded) =
+    one_pair_place q p site answer other placed
+    (moved y x q p site other (one_squitter odd y q fourth second) (one_squitter even x p third first) decoded)
+one_answer_of_pair Odd even odd site answer other (p, q, first, second, placed) (x, y, third, fourth, decoded) =
+    one_pair_place p q site answer other placed
+    (moved x y p q site other (one_squitter even x p third first) (one_squitter odd y q fourth second) decoded)
+
+pub read_near_exactly : ReadNearExactly
+read_near_exactly f r place is = (
+  λ near.
+      let reading = some_reading f is in
+      let (q, same, answers) = near reading.0 reading.1 in
+      let answer = some_local_place q r in (
+        q,
+        subst (IsReading f) same reading.1,
+        subst (IsLocalPlace (squitter_parts q).me r) (answers answer.0 answer.1) answer.1,
+      ),
+  λ read reading h.
+      let (q, own, placed) = read in
+      (q, one_reading f reading (Ok q) h own, λ answer k. one_local_place q r answer (Ok place) k placed),
+)
+
+-- the places of two frames by one reading of each, and by every one
+AreReadAs : (older newer : Frame) → Option Position → Place → Type 0
+AreReadAs older newer site place =
+    (p q : Squitter) × IsReading older (Ok p) × IsReading newer (Ok q) × IsPlaceOfPair p q site (Ok place)
+
+read_as : (older newer : Frame) (site : Option Position) (place : Place) → IsFrame older → IsFrame newer
+    → IsReadAsPair older newer site place → AreReadAs older newer site place
+unfolding AreReadAs
+read_as older newer site place is be pair =
+    let first = some_reading older is in
+    let second = some_reading newer be in
+    let (p, q, was, same, answers) = pair first.0 second.0 first.1 second.1 in
+    let answer = some_pair_place p q site in (
+      p,
+      q,
+      subst (IsReading older) was first.1,
+      subst (IsReading newer) same second.1,
+      subst (IsPlaceOfPair p q site) (answers answer.0 answer.1) answer.1,
+    )
+
+as_read : (older newer : Frame) (site : Option Position) (place : Place) → AreReadAs older newer site place
+    → IsReadAsPair older newer site place
+unfolding AreReadAs
+as_read older newer site place (p, q, first, second, placed) = λ earlier later h k. (
+  p,
+  q,
+  one_reading older earlier (Ok p) h first,
+  one_reading newer later (Ok q) k second,
+  λ answer decoded. one_pair_place p q site answer (Ok place) decoded placed,
+)
+
+pub read_as_pair_exactly : ReadAsPairExactly
+unfolding AreReadAs
+read_as_pair_exactly Even even odd site place is be = (
+  λ h. let (p, q, first, second, placed) = read_as odd even site place be is h in (q, p, second, first, placed),
+  λ h. let (p, q, first, second, placed) = h in as_read odd even site place (q, p, second, first, placed),
+)
+read_as_pair_exactly Odd even odd site place is be = (
+  λ h. read_as even odd site place is be h,
+  λ h. as_read even odd site place h,
+)
+
+pub one_place_of_newer : OnePlaceOfNewer
+one_place_of_newer older newer site p q (x, read, placed) (y, other, decoded) =
+    let there = moved y newer x newer site (Ok q) (one_squitter older y x other read) refl decoded in
+    let same : ◌≡◌ {A = Result Place PlaceFault} (Ok p) (Ok q) =
+    one_pair_place x newer site (Ok p) (Ok q) placed there in
+    cc same
+
+pub no_place_near_exactly : NoPlaceNearExactly
+no_place_near_exactly f r = (
+  λ none place h. none h.0 place h.1 h.2,
+  λ none q place read placed. none place (q, read, placed),
+)
+
+pub no_place_exactly : NoPlaceExactly
+no_place_exactly older newer site = (
+  λ none q place read h. none h.0 q place h.1 read h.2,
+  λ none p q place first second placed. none q place second (p, first, placed),
+)
+
+pub sent_again_exactly : SentAgainExactly
+sent_again_exactly f g q place = (
+  λ h. (h.read, h.same, (h.sent, h.of_place, h.written)),
+  λ (read, same, (sent, of_place, written)). record {
+    read = read;
+    sent = sent;
+    of_place = of_place;
+    written = written;
+    same = same;
+  },
+)

@@ -5,10 +5,9 @@ use Rattle.sq_bits.specs.Frames.{field_of, frame_number, IsFrame}
 use Rattle.sq_bits.proofs.Spelled.{leading_field, join_fields}
 use Rattle.sq_bits.proofs.Multiples.{remainder_of_multiple, IsRemainder-unique}
 use Rattle.sq_bits.proofs.Spelled.{same_sealed}
+use Rattle.sq_message.specs.Kinds.{Kind, FieldsOf, InAir, OnGround, PositionOf}
 use Rattle.sq_message.specs.declared.squitter.FrameFault.{FrameFault}
 use Rattle.sq_message.specs.declared.squitter.FrameFault.TheVariants as faults
-use Rattle.sq_message.specs.declared.air.Airborne.{Airborne}
-use Rattle.sq_message.specs.declared.ground.Surface.{Surface}
 use Rattle.sq_message.specs.declared.other.Other.{Other}
 use Rattle.sq_message.specs.declared.squitter.Me.{Me}
 use Rattle.sq_message.specs.declared.squitter.Me.TheVariants as kinds
@@ -18,7 +17,7 @@ use Rattle.sq_zones.specs.declared.parity.Parity.{Parity}
 use Rattle.sq_cpr.specs.declared.code.Code.{Code}
 use Rattle.sq_cpr.specs.Code.{CodeNumbers, numbers_of}
 use Rattle.sq_cpr.proofs.Grids.SameCode.{same_code}
-use Rattle.sq_message.specs.Spelling.{IsFault, IsReading, Spells, SpellsMe, SpellsAirborne, SpellsSurface, SpellsPlace}
+use Rattle.sq_message.specs.Spelling.{IsFault, IsReading, Spells, SpellsFields, SpellsMe, SpellsPlace, SpellsPosition}
 use Rattle.sq_message.proofs.Same.{same_bit, same_parity, same_air_fields, same_ground_fields, same_other}
 use Rattle.sq_message.proofs.Same.{same_squitter}
 
@@ -30,23 +29,20 @@ same_place f p q a b x y = (
   same_code a b (sym x.lat ∙ y.lat) (sym x.lon ∙ y.lon),
 )
 
-same_airborne : (f : Frame) (a b : Airborne) → SpellsAirborne f a → SpellsAirborne f b → a ≡ b
-same_airborne f a b x y =
-    let m = x.fields in
-    let n = y.fields in
-    let fields = same_air_fields a.fields b.fields (sym m.type_code ∙ n.type_code) (sym m.status ∙ n.status)
-    (same_bit a.fields.flag b.fields.flag (sym m.flag ∙ n.flag)) (sym m.altitude ∙ n.altitude)
-    (same_bit a.fields.time b.fields.time (sym m.time ∙ n.time)) in
-    let place = same_place f a.parity b.parity a.code b.code x.place y.place in
-    λ i. record { fields = fields i; parity = place.0 i; code = place.1 i }
+same_fields : (kind : Kind) (f : Frame) (a b : FieldsOf kind) → SpellsFields kind f a → SpellsFields kind f b → a ≡ b
+same_fields InAir f a b m n =
+    same_air_fields a b (sym m.type_code ∙ n.type_code) (sym m.status ∙ n.status)
+    (same_bit a.flag b.flag (sym m.flag ∙ n.flag)) (sym m.altitude ∙ n.altitude)
+    (same_bit a.time b.time (sym m.time ∙ n.time))
+same_fields OnGround f a b m n =
+    same_ground_fields a b (sym m.type_code ∙ n.type_code) (sym m.movement ∙ n.movement)
+    (same_bit a.track_status b.track_status (sym m.track_status ∙ n.track_status)) (sym m.track ∙ n.track)
+    (same_bit a.time b.time (sym m.time ∙ n.time))
 
-same_surface : (f : Frame) (a b : Surface) → SpellsSurface f a → SpellsSurface f b → a ≡ b
-same_surface f a b x y =
-    let m = x.fields in
-    let n = y.fields in
-    let fields = same_ground_fields a.fields b.fields (sym m.type_code ∙ n.type_code) (sym m.movement ∙ n.movement)
-    (same_bit a.fields.track_status b.fields.track_status (sym m.track_status ∙ n.track_status)) (sym m.track ∙ n.track)
-    (same_bit a.fields.time b.fields.time (sym m.time ∙ n.time)) in
+same_position : (kind : Kind) (f : Frame) (a b : PositionOf kind) → SpellsPosition kind f a → SpellsPosition kind f b
+    → a ≡ b
+same_position kind f a b x y =
+    let fields = same_fields kind f a.fields b.fields x.fields y.fields in
     let place = same_place f a.parity b.parity a.code b.code x.place y.place in
     λ i. record { fields = fields i; parity = place.0 i; code = place.1 i }
 
@@ -56,14 +52,14 @@ other_code f o raw =
     rw code at o.type_code_in
 
 same_me : (f : Frame) (m n : Me) → SpellsMe f m → SpellsMe f n → m ≡ n
-same_me f (kinds.Airborne a) (kinds.Airborne b) x y = ap kinds.Airborne (same_airborne f a b x y)
+same_me f (kinds.Airborne a) (kinds.Airborne b) x y = ap kinds.Airborne (same_position InAir f a b x y)
 same_me f (kinds.Airborne a) (kinds.Surface b) x y =
     absurd (omega (arith, a.fields.type_code_in, b.fields.type_code_in, x.fields.type_code, y.fields.type_code))
 same_me f (kinds.Airborne a) (kinds.Other b) x y =
     absurd ((other_code f b y).0 (rw x.fields.type_code a.fields.type_code_in))
 same_me f (kinds.Surface a) (kinds.Airborne b) x y =
     absurd (omega (arith, a.fields.type_code_in, b.fields.type_code_in, x.fields.type_code, y.fields.type_code))
-same_me f (kinds.Surface a) (kinds.Surface b) x y = ap kinds.Surface (same_surface f a b x y)
+same_me f (kinds.Surface a) (kinds.Surface b) x y = ap kinds.Surface (same_position OnGround f a b x y)
 same_me f (kinds.Surface a) (kinds.Other b) x y =
     absurd ((other_code f b y).1 (rw x.fields.type_code a.fields.type_code_in))
 same_me f (kinds.Other a) (kinds.Airborne b) x y =

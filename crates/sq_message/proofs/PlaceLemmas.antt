@@ -1,33 +1,28 @@
 -- What places and their faults say of the decoders' answers.
-use Rattle.std.proofs.Common.{◌≡◌, ◌⊎◌, Option, Some, None, Result, Ok, Err, inl, inr, refl, sym, ap, subst}
+use Rattle.std.proofs.Common.{◌≡◌, ◌≢◌, ◌⊎◌, Option, Some, None, Result, Ok, Err, inl, inr, refl, sym, ap, subst}
 use Rattle.std.proofs.lemmas.Bool.Decides.{eqb_tells}
 use Rattle.sq_angle.specs.declared.position.Position.{Position}
 use Rattle.sq_angle.specs.Angle.{degrees}
 use Rattle.sq_angle.specs.Position.{lat_of, lon_of}
-use Rattle.sq_angle.specs.Fraction.{Fraction}
 use Rattle.sq_zones.specs.declared.parity.Parity.{Parity}
 use Rattle.sq_zones.specs.declared.parity.Parity.TheVariants.{Even, Odd}
 use Rattle.sq_cpr.specs.declared.code.Code.{Code}
-use Rattle.sq_cpr.specs.declared.faults.LocalFault.{LocalFault}
-use Rattle.sq_cpr.specs.declared.faults.PairFault.{PairFault}
 use Rattle.sq_cpr.specs.Code.{CodeNumbers, numbers_of}
-use Rattle.sq_cpr.specs.Span.{Span, air, ground}
+use Rattle.sq_cpr.specs.Span.{Span, ground}
 use Rattle.sq_cpr.specs.Grid.{Point, IsGridPoint, HasCode, code_of}
-use Rattle.sq_cpr.specs.Local.{LocalAnswer}
-use Rattle.sq_cpr.specs.Pair.{of_parity, AirPairAnswer, PairAnswer}
+use Rattle.sq_cpr.specs.Local.{LocalAnswerNear}
+use Rattle.sq_cpr.specs.Pair.{of_parity, AirPairAnswer, PairAnswerAt}
 use Rattle.sq_cpr.proofs.Grids.Codes.{one_code}
 use Rattle.sq_cpr.proofs.Decoding.PairPoints.{pair_keeps_code, air_pair_keeps_code}
-use Rattle.sq_message.specs.declared.air.Airborne.{Airborne}
-use Rattle.sq_message.specs.declared.ground.Surface.{Surface}
 use Rattle.sq_message.specs.declared.squitter.Me.{Me}
 use Rattle.sq_message.specs.declared.squitter.Me.TheVariants as kinds
 use Rattle.sq_message.specs.declared.place.Place.{Place}
 use Rattle.sq_message.specs.declared.place.Place.TheVariants.{Air, Ground}
 use Rattle.sq_message.specs.declared.place.PlaceFault.{PlaceFault}
+use Rattle.sq_message.specs.Kinds.{Kind, InAir, OnGround, PositionOf, me_at, place_at, span_of}
 use Rattle.sq_message.specs.Parts.{SquitterParts}
-use Rattle.sq_message.specs.Places.{place_of, of_local, of_pair, pair_by_parity, IsPosition, IsLocalPlace}
-use Rattle.sq_message.specs.Places.{IsAirPairPlace, IsGroundPairPlace, NeedsTwoParities, IsPlaceOfOneAddress}
-use Rattle.sq_message.specs.Places.{IsPairPlace, IsDecoded}
+use Rattle.sq_message.specs.Places.{place_of, of_local, of_pair, pair_by_parity, IsDecoded, IsPosition, IsLocalPlace}
+use Rattle.sq_message.specs.Places.{IsLocalPlaceOf, IsPairPlace, IsPairPlaceOf, IsPlaceOfOneAddress, IsPlaceOfOneKind}
 
 -- ---- places and points
 
@@ -36,29 +31,13 @@ pub no_fault : {X : Type 0} (place : Place) (fault : PlaceFault)
     → ◌≡◌ {A = Result Place PlaceFault} (Ok place) (Err fault) → X
 no_fault place fault e = absurd (cc e)
 
--- the point of a place in the air
-pub placed_in_air : {F : Type 0} (named : F → PlaceFault) (found : Result Point F) (point : Point)
-    → ◌≡◌ {A = Result Place PlaceFault} (Ok (Air point)) (place_of Air named found) → found ≡ Ok point
-placed_in_air named (Ok q) p e = let same : q ≡ p = cc (sym e) in ap Ok same
-placed_in_air named (Err f) p e = no_fault (Air p) (named f) e
-
--- the point of a place on the ground
-pub placed_on_ground : {F : Type 0} (named : F → PlaceFault) (found : Result Point F) (point : Point)
-    → ◌≡◌ {A = Result Place PlaceFault} (Ok (Ground point)) (place_of Ground named found) → found ≡ Ok point
-placed_on_ground named (Ok q) p e = let same : q ≡ p = cc (sym e) in ap Ok same
-placed_on_ground named (Err f) p e = no_fault (Ground p) (named f) e
-
--- no point of the air's grid is a place on the ground
-not_on_ground : {F X : Type 0} (named : F → PlaceFault) (found : Result Point F) (point : Point)
-    → ◌≡◌ {A = Result Place PlaceFault} (Ok (Ground point)) (place_of Air named found) → X
-not_on_ground named (Ok q) p e = absurd (cc e)
-not_on_ground named (Err f) p e = no_fault (Ground p) (named f) e
-
--- no point of the ground's grid is a place in the air
-not_in_air : {F X : Type 0} (named : F → PlaceFault) (found : Result Point F) (point : Point)
-    → ◌≡◌ {A = Result Place PlaceFault} (Ok (Air point)) (place_of Ground named found) → X
-not_in_air named (Ok q) p e = absurd (cc e)
-not_in_air named (Err f) p e = no_fault (Air p) (named f) e
+-- the point of a place of the kind
+placed : {F : Type 0} (kind : Kind) (named : F → PlaceFault) (found : Result Point F) (point : Point)
+    → ◌≡◌ {A = Result Place PlaceFault} (Ok (place_at kind point)) (place_of (place_at kind) named found)
+    → found ≡ Ok point
+placed InAir named (Ok q) p e = let same : q ≡ p = cc (sym e) in ap Ok same
+placed OnGround named (Ok q) p e = let same : q ≡ p = cc (sym e) in ap Ok same
+placed kind named (Err f) p e = no_fault (place_at kind p) (named f) e
 
 -- ---- pairs
 
@@ -104,12 +83,12 @@ past older newer site place h = elim (past_or_fault older newer site) [
   | inr refused ↦ no_fault place refused.0 (refused.1 (Ok place) h)
 ]
 
--- a place is decoded of two parities
-two_parities : (p q : Parity) (place : Place) (Rest : Type 0) → NeedsTwoParities p q (Ok place) Rest → Rest
-two_parities Even Even place Rest h = no_fault place _ (h.0 refl)
-two_parities Even Odd place Rest h = h.1 (λ (e : ◌≡◌ {A = Parity} Even Odd). absurd (cc e))
-two_parities Odd Even place Rest h = h.1 (λ (e : ◌≡◌ {A = Parity} Odd Even). absurd (cc e))
-two_parities Odd Odd place Rest h = no_fault place _ (h.0 refl)
+-- two parities are the same or different
+pub one_or_two : (p q : Parity) → (p ≡ q) ⊎ (p ≢ q)
+one_or_two Even Even = inl refl
+one_or_two Even Odd = inr (λ (e : ◌≡◌ {A = Parity} Even Odd). absurd (cc e))
+one_or_two Odd Even = inr (λ (e : ◌≡◌ {A = Parity} Odd Even). absurd (cc e))
+one_or_two Odd Odd = inl refl
 
 -- ---- what is decoded
 
@@ -126,95 +105,70 @@ newest_code : (newest : Parity) (older newer : Code)
 newest_code Even older newer = refl
 newest_code Odd older newer = refl
 
-local_point : (span : Span) (code : CodeNumbers) (parity : Parity) (lat lon : Fraction)
-    (found : Result Point LocalFault)
-    (p : Point)
-    → found ≡ Ok p → LocalAnswer span code parity lat lon found → IsPointOf span code parity p
-local_point span code parity lat lon found p is h =
-    let here = subst (LocalAnswer span code parity lat lon) is h in
-    record { of_grid = here.of_grid; of_parity = here.of_parity; has_code = here.has_code }
-
-air_pair_point : (newest : Parity) (older newer : Code) (found : Result Point PairFault) (p : Point)
-    → found ≡ Ok p
-    → AirPairAnswer (pair_by_parity newest older newer) found → IsPointOf air (numbers_of newer) newest p
-air_pair_point newest older newer found p is h =
-    let codes = pair_by_parity newest older newer in
-    let here = subst (AirPairAnswer codes) is h in
-    let kept = air_pair_keeps_code codes p here in
+-- what two positions of one kind and two parities are decoded to
+pair_point : (kind : Kind) (older newer : PositionOf kind) (site : Option Position) (p : Point)
+    → IsPairPlaceOf kind older newer site (Ok (place_at kind p))
+    → IsPointOf (span_of kind) (numbers_of newer.code) newer.parity p
+pair_point InAir older newer site p (found, decoded, is) =
+    let codes = pair_by_parity newer.parity older.code newer.code in
+    let here = subst (AirPairAnswer codes) (placed InAir of_pair found p is) decoded in
     record {
       of_grid = here.of_grid;
       of_parity = here.parity;
-      has_code = subst (HasCode p) (newest_code newest older newer) kept.1;
+      has_code = subst (HasCode p) (newest_code newer.parity older.code newer.code)
+          (air_pair_keeps_code codes p here).1;
     }
-
-ground_pair_point : (newest : Parity) (older newer : Code) (lat lon : Fraction) (found : Result Point PairFault)
-    (p : Point) → found ≡ Ok p
-    → PairAnswer ground (pair_by_parity newest older newer) lat lon found
-    → IsPointOf ground (numbers_of newer) newest p
-ground_pair_point newest older newer lat lon found p is h =
-    let codes = pair_by_parity newest older newer in
-    let here = subst (PairAnswer ground codes lat lon) is h in
-    let kept = pair_keeps_code ground codes lat lon p here in
+pair_point OnGround older newer None p h = no_fault (Ground p) _ h
+pair_point OnGround older newer (Some site) p (found, decoded, is) =
+    let codes = pair_by_parity newer.parity older.code newer.code in
+    let here = subst (PairAnswerAt ground codes site) (placed OnGround of_pair found p is) decoded in
     record {
       of_grid = here.of_pair.of_grid;
       of_parity = here.of_pair.parity;
-      has_code = subst (HasCode p) (newest_code newest older newer) kept.1;
+      has_code = subst (HasCode p) (newest_code newer.parity older.code newer.code)
+          (pair_keeps_code ground codes (degrees (lat_of site)) (degrees (lon_of site)) p here).1;
     }
 
--- the point of a place in the air that two positions of one address are decoded to
-kindred_in_air : (older : Me) (newer : Airborne) (site : Option Position) (p : Point)
-    → IsPlaceOfOneAddress older (kinds.Airborne newer) site (Ok (Air p))
-    → IsPointOf air (numbers_of newer.code) newer.parity p
-kindred_in_air (kinds.Airborne older) newer site p h =
-    let (found, decoded, is) = two_parities older.parity newer.parity (Air p)
-    (IsAirPairPlace older newer (Ok (Air p))) h in
-    air_pair_point newer.parity older.code newer.code found p
-    (placed_in_air of_pair found p is) decoded
-kindred_in_air (kinds.Surface older) newer site p h = no_fault (Air p) _ h
-kindred_in_air (kinds.Other older) newer site p h = absurd h
+kind_point : (kind : Kind) (older newer : PositionOf kind) (site : Option Position) (p : Point)
+    → IsPlaceOfOneKind kind older newer site (Ok (place_at kind p))
+    → IsPointOf (span_of kind) (numbers_of newer.code) newer.parity p
+kind_point kind older newer site p h = elim (one_or_two older.parity newer.parity) [
+  | inl same ↦ no_fault (place_at kind p) _ (h.0 same)
+  | inr differ ↦ pair_point kind older newer site p (h.1 differ)
+]
 
--- the point of a place on the ground
-ground_pair : (older newer : Surface) (site : Option Position) (p : Point)
-    → IsGroundPairPlace older newer site (Ok (Ground p)) → IsPointOf ground (numbers_of newer.code) newer.parity p
-ground_pair older newer None p h = no_fault (Ground p) _ h
-ground_pair older newer (Some site) p (found, decoded, is) =
-    ground_pair_point newer.parity older.code newer.code (degrees (lat_of site))
-    (degrees (lon_of site)) found p (placed_on_ground of_pair found p is) decoded
+-- the point of a place that two positions of one address are decoded to
+kindred_point : (kind : Kind) (older : Me) (newer : PositionOf kind) (site : Option Position) (p : Point)
+    → IsPlaceOfOneAddress older (me_at kind newer) site (Ok (place_at kind p))
+    → IsPointOf (span_of kind) (numbers_of newer.code) newer.parity p
+kindred_point InAir (kinds.Airborne older) newer site p h = kind_point InAir older newer site p h
+kindred_point InAir (kinds.Surface older) newer site p h = no_fault (Air p) _ h
+kindred_point InAir (kinds.Other older) newer site p h = absurd h
+kindred_point OnGround (kinds.Airborne older) newer site p h = no_fault (Ground p) _ h
+kindred_point OnGround (kinds.Surface older) newer site p h = kind_point OnGround older newer site p h
+kindred_point OnGround (kinds.Other older) newer site p h = absurd h
 
-kindred_on_ground : (older : Me) (newer : Surface) (site : Option Position) (p : Point)
-    → IsPlaceOfOneAddress older (kinds.Surface newer) site (Ok (Ground p))
-    → IsPointOf ground (numbers_of newer.code) newer.parity p
-kindred_on_ground (kinds.Airborne older) newer site p h = no_fault (Ground p) _ h
-kindred_on_ground (kinds.Surface older) newer site p h =
-    ground_pair older newer site p
-    (two_parities older.parity newer.parity (Ground p) (IsGroundPairPlace older newer site (Ok (Ground p))) h)
-kindred_on_ground (kinds.Other older) newer site p h = absurd h
+-- what a position of the kind is decoded to near a reference
+pub local_of : (kind : Kind) (position : PositionOf kind) (reference : Position) (answer : Result Place PlaceFault)
+    → IsLocalPlace (me_at kind position) reference answer → IsLocalPlaceOf kind position reference answer
+local_of InAir position reference answer h = h
+local_of OnGround position reference answer h = h
 
--- the point of a place in the air that a squitter is decoded to has the squitter's code
-pub decoded_in_air : (squitter : SquitterParts) (a : Airborne) (p : Point) → squitter.me ≡ kinds.Airborne a
-    → IsDecoded squitter (Air p)
-    → IsPointOf air (numbers_of a.code) a.parity p
-decoded_in_air squitter a p is (inl (reference, h)) =
-    let (found, decoded, placed) = subst (λ me. IsLocalPlace me reference (Ok (Air p))) is h in
-    local_point air (numbers_of a.code) a.parity (degrees (lat_of reference)) (degrees (lon_of reference)) found p
-    (placed_in_air of_local found p placed) decoded
-decoded_in_air squitter a p is (inr (older, site, h)) =
-    let here = past older squitter site (Air p) h in
-    kindred_in_air older.me a site p
-    (subst (λ me. IsPlaceOfOneAddress older.me me site (Ok (Air p))) is (h.kindred here.positions here.address))
-
--- the point of a place on the ground that a squitter is decoded to has the squitter's code
-pub decoded_on_ground : (squitter : SquitterParts) (s : Surface) (p : Point) → squitter.me ≡ kinds.Surface s
-    → IsDecoded squitter (Ground p)
-    → IsPointOf ground (numbers_of s.code) s.parity p
-decoded_on_ground squitter s p is (inl (reference, h)) =
-    let (found, decoded, placed) = subst (λ me. IsLocalPlace me reference (Ok (Ground p))) is h in
-    local_point ground (numbers_of s.code) s.parity (degrees (lat_of reference)) (degrees (lon_of reference)) found p
-    (placed_on_ground of_local found p placed) decoded
-decoded_on_ground squitter s p is (inr (older, site, h)) =
-    let here = past older squitter site (Ground p) h in
-    kindred_on_ground older.me s site p
-    (subst (λ me. IsPlaceOfOneAddress older.me me site (Ok (Ground p))) is (h.kindred here.positions here.address))
+-- the point of a place that a squitter is decoded to has the squitter's code
+pub decoded_point : (kind : Kind) (squitter : SquitterParts) (position : PositionOf kind) (p : Point)
+    → squitter.me ≡ me_at kind position → IsDecoded squitter (place_at kind p)
+    → IsPointOf (span_of kind) (numbers_of position.code) position.parity p
+decoded_point kind squitter position p is (inl (reference, h)) =
+    let (found, decoded, is_place) = local_of kind position reference (Ok (place_at kind p))
+    (subst (λ me. IsLocalPlace me reference (Ok (place_at kind p))) is h) in
+    let here = subst (LocalAnswerNear (span_of kind) (numbers_of position.code) position.parity reference)
+    (placed kind of_local found p is_place) decoded in
+    record { of_grid = here.of_grid; of_parity = here.of_parity; has_code = here.has_code }
+decoded_point kind squitter position p is (inr (older, site, h)) =
+    let here = past older squitter site (place_at kind p) h in
+    kindred_point kind older.me position site p
+    (subst (λ me. IsPlaceOfOneAddress older.me me site (Ok (place_at kind p))) is
+    (h.kindred here.positions here.address))
 
 -- ---- codes
 

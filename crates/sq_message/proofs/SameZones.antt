@@ -1,4 +1,4 @@
--- Frames of positions in the same zones.
+-- Frames of positions in the same zones, and of one position.
 use Rattle.std.proofs.Common.{◌≡◌, ◌∙◌, ap, sym, subst, refl}
 use Rattle.sq_bits.specs.declared.frame.Frame.{Frame}
 use Rattle.sq_angle.specs.Angle.{degrees}
@@ -19,6 +19,8 @@ use Rattle.sq_message.specs.Spelling.{Spells}
 use Rattle.sq_message.specs.Sending.{IsSquitterOf, SameZones}
 use Rattle.sq_message.proofs.Same.{same_squitter}
 use Rattle.sq_message.proofs.One.{one_squitter, one_frame}
+use Rattle.sq_cpr.proofs.Grids.Points.{rounds_once}
+use Rattle.sq_message.specs.Headline.{OneFrameSent}
 
 -- the spans of both kinds go round the circle
 pub fits : (kind : Kind) → FitsCircle (span_of kind)
@@ -75,3 +77,10 @@ same_zones kind head parity here there zones p q f g in_p in_q h k = (
       subst (Spells f) (same_sent kind head q h.squitter k.squitter sent k.sent) h.spelled in
       one_frame f g k.squitter h.is_frame k.is_frame spelled k.spelled,
 )
+
+pub one_sent : (kind : Kind) → OneFrameSent kind
+one_sent kind head parity x p q f g h k =
+    let point = rounds_once (span_of kind) _ _ p q (h.of_parity ∙ sym k.of_parity) h.rounds k.rounds in
+    let squitter = same_sent kind head p h.squitter k.squitter h.sent
+    (subst (λ t. IsSquitterOf kind head t (squitter_parts k.squitter)) (sym point) k.sent) in
+    one_frame f g h.squitter h.is_frame k.is_frame h.spelled (subst (λ s. Spells g s) (sym squitter) k.spelled)

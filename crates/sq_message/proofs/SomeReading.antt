@@ -15,9 +15,7 @@ use Rattle.sq_zones.specs.Zones.{parity_index}
 use Rattle.sq_cpr.specs.declared.code.Code.{Code}
 use Rattle.sq_cpr.specs.Code.{numbers_of}
 use Rattle.sq_message.specs.declared.air.AirFields.{AirFields}
-use Rattle.sq_message.specs.declared.air.Airborne.{Airborne}
 use Rattle.sq_message.specs.declared.ground.GroundFields.{GroundFields}
-use Rattle.sq_message.specs.declared.ground.Surface.{Surface}
 use Rattle.sq_message.specs.declared.other.Other.{Other}
 use Rattle.sq_message.specs.declared.squitter.Me.{Me}
 use Rattle.sq_message.specs.declared.squitter.Me.TheVariants as kinds
@@ -25,7 +23,7 @@ use Rattle.sq_message.specs.declared.squitter.Squitter.{Squitter}
 use Rattle.sq_message.specs.declared.squitter.FrameFault.{FrameFault}
 use Rattle.sq_message.specs.declared.squitter.FrameFault.TheVariants as faults
 use Rattle.sq_message.specs.TypeCodes.{IsAirCode, IsGroundCode, IsOtherCode}
-use Rattle.sq_message.specs.Parts.{air_parts, ground_parts}
+use Rattle.sq_message.specs.Parts.{Airborne, Surface, air_parts, ground_parts}
 use Rattle.sq_message.specs.Spelling.{bit, IsReading, Spells, SpellsMe, SpellsAirFields, SpellsGroundFields}
 use Rattle.sq_message.specs.Spelling.{SpellsPlace}
 

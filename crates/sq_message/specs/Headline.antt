@@ -16,7 +16,7 @@ use Rattle.sq_message.specs.declared.squitter.FrameFault.{FrameFault}
 use Rattle.sq_message.specs.declared.squitter.Squitter.{Squitter}
 use Rattle.sq_message.specs.declared.place.Place.{Place}
 use Rattle.sq_message.specs.declared.place.PlaceFault.{PlaceFault}
-use Rattle.sq_message.specs.Kinds.{Kind, HeadParts, InAir, OnGround, address_of, place_at, span_of, squitter_of}
+use Rattle.sq_message.specs.Kinds.{Kind, HeadParts, InAir, OnGround, place_at, span_of, squitter_of}
 use Rattle.sq_message.specs.Parts.{squitter_parts}
 use Rattle.sq_message.specs.Places.{IsDecoded, IsLocalPlace, IsPairPlace, IsPositionOf, IsSentAt}
 use Rattle.sq_message.specs.Sending.{IsSent}
@@ -59,7 +59,7 @@ abbrev pub ClosePair : Kind → Type 0
 ClosePair kind =
     (even_head odd_head : HeadParts kind) (even_position odd_position : Position) (a b : Point) (even odd : Frame)
     (newest : Parity) (site : Option Position)
-    → address_of kind even_head ≡ address_of kind odd_head
+    → even_head.address ≡ odd_head.address
     → IsSent kind even_head Even even_position a even → IsSent kind odd_head Odd odd_position b odd
     → AreClosePoints (span_of kind) a b → LieAt kind site a b
     → IsReadAsPair (of_parity newest odd even) (of_parity newest even odd) site (place_at kind (of_parity newest a b))

@@ -1,15 +1,17 @@
 -- The two kinds of position squitter, airborne and surface (ICAO Doc 9871, registers 0,5 and 0,6), and what differs
 -- between them.
-use Rattle.std.specs.Prelude.{ℕ}
 use Rattle.sq_zones.specs.declared.parity.Parity.{Parity}
 use Rattle.sq_cpr.specs.declared.code.Code.{Code}
 use Rattle.sq_cpr.specs.Span.{Span, air, ground}
 use Rattle.sq_cpr.specs.Grid.{Point}
+use Rattle.sq_message.specs.declared.air.AirFields.{AirFields}
+use Rattle.sq_message.specs.declared.ground.GroundFields.{GroundFields}
+use Rattle.sq_message.specs.declared.message.PositionMessage.{PositionMessage}
 use Rattle.sq_message.specs.declared.squitter.Me.{Me}
 use Rattle.sq_message.specs.declared.squitter.Me.TheVariants as kinds
 use Rattle.sq_message.specs.declared.place.Place.{Place}
 use Rattle.sq_message.specs.declared.place.Place.TheVariants.{Air, Ground}
-use Rattle.sq_message.specs.Heads.{AirHeadParts, GroundHeadParts}
+use Rattle.sq_message.specs.Heads.{HeadOf}
 use Rattle.sq_message.specs.Parts.{SquitterParts}
 
 -- airborne, or surface
@@ -27,27 +29,39 @@ abbrev pub place_at : Kind → Point → Place
 place_at InAir = Air
 place_at OnGround = Ground
 
+-- what a position of the kind says besides where
+abbrev pub FieldsOf : Kind → Type 0
+FieldsOf InAir = AirFields
+FieldsOf OnGround = GroundFields
+
+-- a position of the kind
+abbrev pub PositionOf : Kind → Type 0
+PositionOf kind = PositionMessage (FieldsOf kind)
+
 -- all of a position squitter of the kind but its place
 abbrev pub HeadParts : Kind → Type 0
-HeadParts InAir = AirHeadParts
-HeadParts OnGround = GroundHeadParts
+HeadParts kind = HeadOf (FieldsOf kind)
 
--- the capability of a head
-abbrev pub ca_of : (kind : Kind) → HeadParts kind → ℕ
-ca_of InAir head = head.ca
-ca_of OnGround head = head.ca
-
--- the address of a head
-abbrev pub address_of : (kind : Kind) → HeadParts kind → ℕ
-address_of InAir head = head.address
-address_of OnGround head = head.address
+-- a position of the kind, as a message
+abbrev pub me_at : (kind : Kind) → PositionOf kind → Me
+me_at InAir = kinds.Airborne
+me_at OnGround = kinds.Surface
 
 -- the message with the fields of a head, a parity and a code
 abbrev pub me_of : (kind : Kind) → HeadParts kind → Parity → Code → Me
-me_of InAir head parity code = kinds.Airborne (record { fields = head.fields; parity = parity; code = code })
-me_of OnGround head parity code = kinds.Surface (record { fields = head.fields; parity = parity; code = code })
+me_of kind head parity code = me_at kind (record { parity = parity; code = code; fields = head.fields })
 
 -- the squitter with a head, a parity and a code
 abbrev pub squitter_of : (kind : Kind) → HeadParts kind → Parity → Code → SquitterParts
 squitter_of kind head parity code =
-    record { ca = ca_of kind head; address = address_of kind head; me = me_of kind head parity code }
+    record { ca = head.ca; address = head.address; me = me_of kind head parity code }
+
+-- the position with its fields as the kind has them
+abbrev pub position_of : {Fields : Type 0} → (kind : Kind) → (Fields → FieldsOf kind) → PositionMessage Fields
+    → PositionOf kind
+position_of kind fields position =
+    record { parity = position.parity; code = position.code; fields = fields position.fields }
+
+-- the head with its fields as the kind has them
+abbrev pub head_of : {Fields : Type 0} → (kind : Kind) → (Fields → FieldsOf kind) → HeadOf Fields → HeadParts kind
+head_of kind fields head = record { ca = head.ca; address = head.address; fields = fields head.fields }

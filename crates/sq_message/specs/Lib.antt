@@ -9,6 +9,4 @@ pub mod Places
 pub mod Headline
 pub mod Calls
 pub mod Faults
-pub mod Pinned
-pub mod Answered
 pub mod Exactly

@@ -2,6 +2,7 @@
 use Rattle.std.specs.Prelude.{ℕ, Bool}
 use Rattle.sq_message.specs.declared.air.AirFields.{AirFields}
 use Rattle.sq_message.specs.declared.ground.GroundFields.{GroundFields}
+use Rattle.sq_message.specs.declared.message.PositionMessage.{PositionMessage}
 use Rattle.sq_message.specs.declared.other.Other.{Other}
 use Rattle.sq_message.specs.declared.squitter.Me.{Me}
 use Rattle.sq_message.specs.declared.squitter.Squitter.{Squitter}
@@ -39,6 +40,14 @@ ground_parts fields = record {
   track = fields.track;
   time = fields.time;
 }
+
+-- an airborne position
+abbrev pub Airborne : Type 0
+Airborne = PositionMessage AirFields
+
+-- a surface position
+abbrev pub Surface : Type 0
+Surface = PositionMessage GroundFields
 
 -- the 56 bits of another message
 abbrev pub raw_of : Other → ℕ

@@ -16,8 +16,6 @@ use Rattle.sq_cpr.specs.Span.{air, ground}
 use Rattle.sq_cpr.specs.Grid.{Point, latitude, longitude}
 use Rattle.sq_cpr.specs.Local.{LocalAnswerNear}
 use Rattle.sq_cpr.specs.Pair.{CodePair, of_parity, AirPairAnswer, PairAnswerAt}
-use Rattle.sq_message.specs.declared.air.Airborne.{Airborne}
-use Rattle.sq_message.specs.declared.ground.Surface.{Surface}
 use Rattle.sq_message.specs.declared.squitter.Me.{Me}
 use Rattle.sq_message.specs.declared.squitter.Me.TheVariants as kinds
 use Rattle.sq_message.specs.declared.place.Place.{Place}
@@ -25,8 +23,7 @@ use Rattle.sq_message.specs.declared.place.Place.TheVariants.{Air, Ground}
 use Rattle.sq_message.specs.declared.place.PlaceFault.{PlaceFault}
 use Rattle.sq_message.specs.declared.place.PlaceFault.TheVariants.{NotPosition, OtherAddress, OtherKind, SameParity}
 use Rattle.sq_message.specs.declared.place.PlaceFault.TheVariants.{NoSite, OutOfRange, ZoneCounts}
-use Rattle.sq_message.specs.Kinds.{InAir, OnGround}
-use Rattle.sq_message.specs.Heads.{AirHeadParts, GroundHeadParts}
+use Rattle.sq_message.specs.Kinds.{Kind, HeadParts, InAir, OnGround, PositionOf, me_at, place_at, span_of}
 use Rattle.sq_message.specs.Parts.{SquitterParts}
 use Rattle.sq_message.specs.Sending.{IsSquitterOf}
 
@@ -40,10 +37,14 @@ abbrev pub place_longitude : Place → Fraction
 place_longitude (Air point) = longitude air point
 place_longitude (Ground point) = longitude ground point
 
+-- the position has this latitude, north of the equator, and this longitude, east of the prime meridian
+pub record IsAt (north east : Fraction) (position : Position) : Type 0 where
+  pub lat : degrees (lat_of position) ≡ north
+  pub lon : degrees (lon_of position) ≡ east
+
 -- the position has the place's latitude and longitude
-pub record IsPositionOf (place : Place) (position : Position) : Type 0 where
-  pub lat : degrees (lat_of position) ≡ place_latitude place
-  pub lon : degrees (lon_of position) ≡ place_longitude place
+abbrev pub IsPositionOf : Place → Position → Type 0
+IsPositionOf place position = IsAt (place_latitude place) (place_longitude place) position
 
 -- an airborne or a surface position
 abbrev pub IsPosition : Me → Type 0
@@ -59,22 +60,21 @@ Fits (kinds.Surface surface) (Air point) = ⊥
 Fits (kinds.Surface surface) (Ground point) = ⊤
 Fits (kinds.Other other) place = ⊥
 
--- all of an airborne squitter but its place
-abbrev pub air_head_of : SquitterParts → Airborne → AirHeadParts
-air_head_of squitter airborne = record { ca = squitter.ca; address = squitter.address; fields = airborne.fields }
+-- all of a squitter but its place, where this is its position
+abbrev pub head_at : (kind : Kind) → SquitterParts → PositionOf kind → HeadParts kind
+head_at kind squitter position =
+    record { ca = squitter.ca; address = squitter.address; fields = position.fields }
 
--- all of a surface squitter but its place
-abbrev pub ground_head_of : SquitterParts → Surface → GroundHeadParts
-ground_head_of squitter surface = record { ca = squitter.ca; address = squitter.address; fields = surface.fields }
+-- a point of the squitter's kind is sent as the squitter's head, with the parity and the code of the point
+abbrev pub IsSentAtPoint : Kind → SquitterParts → Point → SquitterParts → Type 0
+IsSentAtPoint kind squitter point sent =
+    (position : PositionOf kind) × (squitter.me ≡ me_at kind position)
+    × IsSquitterOf kind (head_at kind squitter position) point sent
 
--- what is sent of a place of the squitter's kind: the squitter's head, with the parity and the code of the point
+-- a place of the squitter's kind is sent as its point is
 abbrev pub IsSentAt : SquitterParts → Place → SquitterParts → Type 0
-IsSentAt squitter (Air point) sent =
-    (airborne : Airborne) × (squitter.me ≡ kinds.Airborne airborne)
-    × IsSquitterOf InAir (air_head_of squitter airborne) point sent
-IsSentAt squitter (Ground point) sent =
-    (surface : Surface) × (squitter.me ≡ kinds.Surface surface)
-    × IsSquitterOf OnGround (ground_head_of squitter surface) point sent
+IsSentAt squitter (Air point) sent = IsSentAtPoint InAir squitter point sent
+IsSentAt squitter (Ground point) sent = IsSentAtPoint OnGround squitter point sent
 
 -- the decoder's fault near a reference, as a place's
 abbrev pub of_local : LocalFault → PlaceFault
@@ -91,14 +91,16 @@ abbrev pub place_of : {Fault : Type 0} → (Point → Place) → (Fault → Plac
 place_of kind named (Ok point) = Ok (kind point)
 place_of kind named (Err fault) = Err (named fault)
 
--- what a message is decoded to near a reference: its code, by its span and parity
+-- what a position is decoded to near a reference: its code, by its span and parity
+abbrev pub IsLocalPlaceOf : (kind : Kind) → PositionOf kind → Position → Result Place PlaceFault → Type 0
+IsLocalPlaceOf kind position reference answer = (found : Result Point LocalFault)
+    × LocalAnswerNear (span_of kind) (numbers_of position.code) position.parity reference found
+    × (answer ≡ place_of (place_at kind) of_local found)
+
+-- what a message is decoded to near a reference
 abbrev pub IsLocalPlace : Me → Position → Result Place PlaceFault → Type 0
-IsLocalPlace (kinds.Airborne airborne) reference answer = (found : Result Point LocalFault)
-    × LocalAnswerNear air (numbers_of airborne.code) airborne.parity reference found
-    × (answer ≡ place_of Air of_local found)
-IsLocalPlace (kinds.Surface surface) reference answer = (found : Result Point LocalFault)
-    × LocalAnswerNear ground (numbers_of surface.code) surface.parity reference found
-    × (answer ≡ place_of Ground of_local found)
+IsLocalPlace (kinds.Airborne airborne) reference answer = IsLocalPlaceOf InAir airborne reference answer
+IsLocalPlace (kinds.Surface surface) reference answer = IsLocalPlaceOf OnGround surface reference answer
 IsLocalPlace (kinds.Other other) reference answer = answer ≡ Err NotPosition
 
 -- the even and the odd one of two codes, where the newer is of this parity
@@ -109,30 +111,32 @@ pair_by_parity newest older newer = record {
   newest = newest;
 }
 
--- two positions in the air, of different parity: what their codes are decoded to
-abbrev pub IsAirPairPlace : (older newer : Airborne) → Result Place PlaceFault → Type 0
-IsAirPairPlace older newer answer =
+-- two positions of one kind and of different parity: in the air their codes decide; on the ground there is no place
+-- without a site, and with one the codes decide there
+abbrev pub IsPairPlaceOf : (kind : Kind) → (older newer : PositionOf kind) → Option Position → Result Place PlaceFault
+    → Type 0
+IsPairPlaceOf InAir older newer site answer =
     (found : Result Point PairFault) × AirPairAnswer (pair_by_parity newer.parity older.code newer.code) found
     × (answer ≡ place_of Air of_pair found)
-
--- two positions on the ground, of different parity: without a site none; else what their codes are decoded to there
-abbrev pub IsGroundPairPlace : (older newer : Surface) → Option Position → Result Place PlaceFault → Type 0
-IsGroundPairPlace older newer None answer = answer ≡ Err NoSite
-IsGroundPairPlace older newer (Some site) answer =
+IsPairPlaceOf OnGround older newer None answer = answer ≡ Err NoSite
+IsPairPlaceOf OnGround older newer (Some site) answer =
     (found : Result Point PairFault)
     × PairAnswerAt ground (pair_by_parity newer.parity older.code newer.code) site found
     × (answer ≡ place_of Ground of_pair found)
 
--- one parity is a fault; of two parities there is this answer
-abbrev pub NeedsTwoParities : (older newer : Parity) → Result Place PlaceFault → Type 0 → Type 0
-NeedsTwoParities older newer answer Rest = (older ≡ newer → answer ≡ Err SameParity) × (older ≢ newer → Rest)
+-- two positions of one kind: one parity is a fault
+abbrev pub IsPlaceOfOneKind : (kind : Kind) → (older newer : PositionOf kind) → Option Position
+    → Result Place PlaceFault → Type 0
+IsPlaceOfOneKind kind older newer site answer =
+    (older.parity ≡ newer.parity → answer ≡ Err SameParity)
+    × (older.parity ≢ newer.parity → IsPairPlaceOf kind older newer site answer)
 
 -- two positions of one address
 abbrev pub IsPlaceOfOneAddress : (older newer : Me) → Option Position → Result Place PlaceFault → Type 0
 IsPlaceOfOneAddress (kinds.Airborne older) (kinds.Airborne newer) site answer =
-    NeedsTwoParities older.parity newer.parity answer (IsAirPairPlace older newer answer)
+    IsPlaceOfOneKind InAir older newer site answer
 IsPlaceOfOneAddress (kinds.Surface older) (kinds.Surface newer) site answer =
-    NeedsTwoParities older.parity newer.parity answer (IsGroundPairPlace older newer site answer)
+    IsPlaceOfOneKind OnGround older newer site answer
 IsPlaceOfOneAddress (kinds.Airborne older) (kinds.Surface newer) site answer = answer ≡ Err OtherKind
 IsPlaceOfOneAddress (kinds.Surface older) (kinds.Airborne newer) site answer = answer ≡ Err OtherKind
 IsPlaceOfOneAddress (kinds.Airborne older) (kinds.Other newer) site answer = ⊥

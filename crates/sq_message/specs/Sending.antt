@@ -11,15 +11,15 @@ use Rattle.sq_cpr.specs.Grid.{Point, code_of}
 use Rattle.sq_cpr.specs.Rounds.{PositionRoundsTo}
 use Rattle.sq_cpr.specs.Zones.{ZonePair, PositionIsInZones}
 use Rattle.sq_message.specs.declared.squitter.Squitter.{Squitter}
-use Rattle.sq_message.specs.Kinds.{Kind, HeadParts, address_of, ca_of, me_of, span_of}
+use Rattle.sq_message.specs.Kinds.{Kind, HeadParts, me_of, span_of}
 use Rattle.sq_message.specs.Parts.{SquitterParts, squitter_parts}
 use Rattle.sq_message.specs.Spelling.{Spells}
 
 -- the squitter of the kind with this head, and with the parity and the code of this point
 pub record IsSquitterOf (kind : Kind) (head : HeadParts kind) (point : Point) (squitter : SquitterParts)
     : Type 0 where
-  pub ca : squitter.ca ≡ ca_of kind head
-  pub address : squitter.address ≡ address_of kind head
+  pub ca : squitter.ca ≡ head.ca
+  pub address : squitter.address ≡ head.address
   pub code : Code
   pub me : squitter.me ≡ me_of kind head point.parity code
   pub numbers : numbers_of code ≡ code_of point

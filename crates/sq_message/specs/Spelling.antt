@@ -7,9 +7,8 @@ use Rattle.sq_bits.specs.Parity.{IsMultiple, IsRemainder}
 use Rattle.sq_zones.specs.declared.parity.Parity.{Parity}
 use Rattle.sq_zones.specs.Zones.{parity_index}
 use Rattle.sq_cpr.specs.Code.{CodeNumbers, numbers_of}
+use Rattle.sq_message.specs.Kinds.{Kind, FieldsOf, InAir, OnGround, PositionOf}
 use Rattle.sq_message.specs.Parts.{AirParts, GroundParts, air_parts, ground_parts, raw_of, squitter_parts}
-use Rattle.sq_message.specs.declared.air.Airborne.{Airborne}
-use Rattle.sq_message.specs.declared.ground.Surface.{Surface}
 use Rattle.sq_message.specs.declared.squitter.Me.{Me}
 use Rattle.sq_message.specs.declared.squitter.Me.TheVariants as kinds
 use Rattle.sq_message.specs.declared.squitter.Squitter.{Squitter}
@@ -42,20 +41,20 @@ pub record SpellsPlace (f : Frame) (parity : Parity) (code : CodeNumbers) : Type
   pub lat : field_of f 55 17 ≡ code.lat
   pub lon : field_of f 72 17 ≡ code.lon
 
--- the ME of an airborne position
-pub record SpellsAirborne (f : Frame) (a : Airborne) : Type 0 where
-  pub fields : SpellsAirFields f (air_parts a.fields)
-  pub place : SpellsPlace f a.parity (numbers_of a.code)
+-- the ME fields that a position of the kind has besides its place
+abbrev pub SpellsFields : (kind : Kind) → Frame → FieldsOf kind → Type 0
+SpellsFields InAir f fields = SpellsAirFields f (air_parts fields)
+SpellsFields OnGround f fields = SpellsGroundFields f (ground_parts fields)
 
--- the ME of a surface position
-pub record SpellsSurface (f : Frame) (s : Surface) : Type 0 where
-  pub fields : SpellsGroundFields f (ground_parts s.fields)
-  pub place : SpellsPlace f s.parity (numbers_of s.code)
+-- the ME of a position of the kind
+pub record SpellsPosition (kind : Kind) (f : Frame) (p : PositionOf kind) : Type 0 where
+  pub fields : SpellsFields kind f p.fields
+  pub place : SpellsPlace f p.parity (numbers_of p.code)
 
 -- the ME of a squitter, by its kind
 abbrev pub SpellsMe : Frame → Me → Type 0
-SpellsMe f (kinds.Airborne a) = SpellsAirborne f a
-SpellsMe f (kinds.Surface s) = SpellsSurface f s
+SpellsMe f (kinds.Airborne a) = SpellsPosition InAir f a
+SpellsMe f (kinds.Surface s) = SpellsPosition OnGround f s
 SpellsMe f (kinds.Other o) = field_of f 33 56 ≡ raw_of o
 
 -- the frame is correct, its DF is 17, and each field stands at its bit places

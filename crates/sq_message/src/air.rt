@@ -1,8 +1,6 @@
-//! Airborne positions.
+//! The fields of airborne positions.
 ghost use Rattle.std.specs.Prelude.{◌≡◌, ◌<◌, ◌↔◌, IfSome, IsSome};
 ghost use Rattle.sq_message.specs.TypeCodes.{IsAirCode};
-
-use sq_cpr::{Code, Parity};
 
 /// What an airborne position says besides where (ICAO Doc 9871, register 0,5): the type code, the surveillance status,
 /// bit 8 raw, the altitude field raw, and T.
@@ -83,37 +81,6 @@ impl AirFields {
         ensures { result ≡ (air_parts self.now).time }
     {
         self.time
-    }
-}
-
-/// An airborne position (ICAO Doc 9871, register 0,5).
-#[derive(Clone, Copy, Debug, PartialEq, Eq)]
-pub struct Airborne {
-    pub parity: Parity,
-    pub code: Code,
-    pub fields: AirFields,
-}
-
-impl Airborne {
-    /// What it says besides where.
-    pub fn fields(&self) -> AirFields
-        ensures { result ≡ self.now.fields }
-    {
-        self.fields
-    }
-
-    /// The parity of its code.
-    pub fn parity(&self) -> Parity
-        ensures { result ≡ self.now.parity }
-    {
-        self.parity
-    }
-
-    /// The code of its position.
-    pub fn code(&self) -> Code
-        ensures { result ≡ self.now.code }
-    {
-        self.code
     }
 }
 

@@ -1,8 +1,6 @@
-//! Surface positions.
+//! The fields of surface positions.
 ghost use Rattle.std.specs.Prelude.{◌≡◌, ◌<◌, ◌↔◌, IfSome, IsSome};
 ghost use Rattle.sq_message.specs.TypeCodes.{IsGroundCode};
-
-use sq_cpr::{Code, Parity};
 
 /// What a surface position says besides where (ICAO Doc 9871, register 0,6): the type code, movement, track status and
 /// track raw, and T.
@@ -88,36 +86,5 @@ impl GroundFields {
         ensures { result ≡ (ground_parts self.now).time }
     {
         self.time
-    }
-}
-
-/// A surface position (ICAO Doc 9871, register 0,6).
-#[derive(Clone, Copy, Debug, PartialEq, Eq)]
-pub struct Surface {
-    pub parity: Parity,
-    pub code: Code,
-    pub fields: GroundFields,
-}
-
-impl Surface {
-    /// What it says besides where.
-    pub fn fields(&self) -> GroundFields
-        ensures { result ≡ self.now.fields }
-    {
-        self.fields
-    }
-
-    /// The parity of its code.
-    pub fn parity(&self) -> Parity
-        ensures { result ≡ self.now.parity }
-    {
-        self.parity
-    }
-
-    /// The code of its position.
-    pub fn code(&self) -> Code
-        ensures { result ≡ self.now.code }
-    {
-        self.code
     }
 }

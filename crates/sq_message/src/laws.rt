@@ -2,61 +2,34 @@
 //!
 //! A function with an empty body does nothing: its contract is the law. The others make the calls that they speak of,
 //! and answer what each of them answered.
-ghost use Rattle.std.specs.Prelude.{◌≡◌, ◌≤◌, ◌↔◌, IsTrue, ℕ, ℤ, None, Some, Result, Ok, Err, IfErr, IfOk, IfSome};
+ghost use Rattle.std.specs.Prelude.{◌≡◌, ◌↔◌, None, Some, Result, Ok, Err, IfErr, IfOk, IfSome};
 ghost use Rattle.std.specs.Prelude.{option_copied};
 ghost use Rattle.sq_bits.specs.declared.frame.Frame.{Frame};
-ghost use Rattle.sq_bits.specs.Frames.{IsFrame};
-ghost use Rattle.sq_message.specs.declared.air.Altitude.{Altitude};
-ghost use Rattle.sq_message.specs.declared.air.Altitude.TheVariants.{Feet};
 ghost use Rattle.sq_message.specs.declared.squitter.FrameFault.{FrameFault};
 ghost use Rattle.sq_message.specs.declared.squitter.Squitter.{Squitter};
-ghost use Rattle.sq_message.specs.declared.place.Place.TheVariants.{Air, Ground};
 ghost use Rattle.sq_zones.specs.declared.parity.Parity.TheVariants.{Even, Odd};
 ghost use Rattle.sq_cpr.specs.Near.{IsStrictlyNearPosition};
 ghost use Rattle.sq_cpr.specs.Rounds.{PositionRoundsTo};
 ghost use Rattle.sq_cpr.specs.Grid.{Point};
-ghost use Rattle.sq_cpr.specs.Span.{air, ground};
 ghost use Rattle.sq_cpr.specs.Close.{AreClosePoints};
 ghost use Rattle.sq_cpr.specs.Pair.{of_parity};
-ghost use Rattle.sq_cpr.specs.Slow.{IsPointWithin};
 ghost use Rattle.sq_cpr.specs.Zones.{ZonePair, PositionIsInZones};
-ghost use Rattle.sq_message.specs.Kinds.{InAir, OnGround};
-ghost use Rattle.sq_message.specs.Altitudes.{IsAltitude, IsFieldOfFeet};
-ghost use Rattle.sq_message.specs.Answered.{NoPlaceExactly, NoPlaceNearExactly, OneAnswerNear, OneAnswerOfPair};
-ghost use Rattle.sq_message.specs.Answered.{OnePlaceOfNewer, ReadAsPairExactly, ReadNearExactly, SentAgainExactly};
+ghost use Rattle.sq_message.specs.Kinds.{InAir, OnGround, head_of, place_at, span_of};
 ghost use Rattle.sq_message.specs.Calls.{DecodedIsSentAgain, HasNoPlaceNear, HaveNoPlace, IsPlaceOfPair, IsAnswerNear};
 ghost use Rattle.sq_message.specs.Calls.{IsPlaceOfNewer, IsAnswerOfPair, IsSentAgain};
-ghost use Rattle.sq_message.specs.Exactly.{AltitudeExactly, PairPlaceExactly, SquitterOfExactly};
-ghost use Rattle.sq_message.specs.Heads.{air_head_parts, ground_head_parts};
-ghost use Rattle.sq_message.specs.Headline.{ClosePair, OneFrameSent, OneLocalPlace, OnePairPlace, SomeLocalPlace};
-ghost use Rattle.sq_message.specs.Headline.{SomePairPlace, WrittenAgain, NearReference, SentAgain};
+ghost use Rattle.sq_message.specs.Headline.{ClosePair, LieAt};
+ghost use Rattle.sq_message.specs.Headline.{WrittenAgain, NearReference, SentAgain};
 ghost use Rattle.sq_message.specs.Parts.{squitter_parts};
-ghost use Rattle.sq_message.specs.Pinned.{DecodedByCalls, EachHasItsZones, NearReferenceExactly, LieAtExactly};
+ghost use Rattle.sq_message.specs.Exactly.{DecodedByCalls, EachHasItsZones};
 ghost use Rattle.sq_message.specs.Places.{IsLocalPlace, IsSentAt};
 ghost use Rattle.sq_message.specs.Sending.{IsFrameOf, SameZones};
 ghost use Rattle.sq_message.specs.Spelling.{IsReading, Spells};
 
 use crate::{
-    AirHead, Altitude, Frame, FrameFault, GroundHead, Parity, Place, PlaceFault, Position,
-    Received, Squitter, place_local, place_pair, read_frame, send_air, send_ground, send_point,
-    write_frame,
+    Frame, FrameFault, Head, Kind, Parity, Place, PlaceFault, Position, Squitter, place_local,
+    place_pair, read_frame, send_point, send_position, write_frame,
 };
 use sq_bits::laws::each_frame;
-
-/// A frame has one reading.
-pub fn one_reading()
-    ensures { (f : Frame) (r s : Result Squitter FrameFault) → IsReading f r → IsReading f s → r ≡ s }
-{}
-
-/// Each frame has a reading.
-pub fn some_reading()
-    ensures { (f : Frame) → IsFrame f → (r : Result Squitter FrameFault) × IsReading f r }
-{}
-
-/// A squitter has one frame.
-pub fn one_frame()
-    ensures { (f g : Frame) (q : Squitter) → IsFrame f → IsFrame g → Spells f q → Spells g q → f ≡ g }
-{}
 
 /// Whatever is read of a frame that spells a squitter is that squitter.
 pub fn spelled_is_read()
@@ -89,116 +62,43 @@ pub fn written_of_read(frame: &Frame) -> Result<(Squitter, Frame), FrameFault>
     Ok((squitter, written))
 }
 
-/// A field has one meaning under a type code.
-pub fn one_altitude()
-    ensures { (code field : ℕ) (a b : Altitude) → IsAltitude code field a → IsAltitude code field b → a ≡ b }
+/// Where two positions lie in the same zones of a parity's grid, the frames that are sent of them with one head are
+/// equal exactly if the positions round to one point.
+pub fn same_zones<F: Kind>()
+    ensures { SameZones F.kind }
 {}
 
-/// Of type codes 9 to 18, a field means feet exactly where it is their field.
-pub fn feet_exactly()
-    ensures { (code field : ℕ) (feet : ℤ) (meaning : Altitude) → code ≤ 18 → IsAltitude code field meaning
-        → (meaning ≡ Feet feet) ↔ IsFieldOfFeet field feet }
-{}
-
-/// Up to type code 18 a field of zero is no altitude, and one whose bit Q is 0 is kept as it is; from 20 on each is.
-pub fn altitude_exactly()
-    ensures { AltitudeExactly }
-{}
-
-/// What is sent of a point is the squitter of the whole head, the point's parity and its code, and no other.
-pub fn squitter_of_exactly()
-    ensures { SquitterOfExactly }
-{}
-
-/// A pair without two positions has this fault, one of two addresses that one, and one of one address the place of its
-/// messages, and no other.
-pub fn pair_place_exactly()
-    ensures { PairPlaceExactly }
-{}
-
-/// Where two positions lie in the same zones of a parity's grid of the air, the frames that are sent of them with one
-/// head are equal exactly if the positions round to one point.
-pub fn same_zones_in_air()
-    ensures { SameZones InAir }
-{}
-
-/// Where two positions lie in the same zones of a parity's grid of the ground, the frames that are sent of them with
-/// one head are equal exactly if the positions round to one point.
-pub fn same_zones_on_ground()
-    ensures { SameZones OnGround }
-{}
-
-/// The frames that are sent of two positions in the air with one head, in the order of the positions. Where the
-/// positions lie in the same zones, the frames are equal exactly if the positions round to one point.
-pub fn frames_in_air(
-    head: AirHead,
+/// The frames that are sent of two positions with one head, in the order of the positions. Where the positions lie in
+/// the same zones, the frames are equal exactly if the positions round to one point.
+pub fn frames<F: Kind>(
+    head: Head<F>,
     parity: Parity,
     here: &Position,
     there: &Position,
 ) -> (Frame, Frame)
-    ensures here { IsFrameOf InAir (air_head_parts head) parity here.now result.0 }
-    ensures there { IsFrameOf InAir (air_head_parts head) parity there.now result.1 }
+    ensures here { IsFrameOf F.kind (head_of F.kind F.fields head) parity here.now result.0 }
+    ensures there { IsFrameOf F.kind (head_of F.kind F.fields head) parity there.now result.1 }
     ensures same { (zones : ZonePair) (p q : Point)
-        → PositionIsInZones air parity here.now zones → PositionIsInZones air parity there.now zones
+        → PositionIsInZones (span_of F.kind) parity here.now zones
+        → PositionIsInZones (span_of F.kind) parity there.now zones
         → p.parity ≡ parity → q.parity ≡ parity
-        → PositionRoundsTo air here.now p → PositionRoundsTo air there.now q
+        → PositionRoundsTo (span_of F.kind) here.now p → PositionRoundsTo (span_of F.kind) there.now q
         → (result.0 ≡ result.1) ↔ (p ≡ q) }
 {
-    let from_here = write_frame(&send_air(head, here, parity));
-    let from_there = write_frame(&send_air(head, there, parity));
-    each_frame(&from_here);
-    each_frame(&from_there);
+    let from_here = frame_sent(head, here, parity);
+    let from_there = frame_sent(head, there, parity);
     (from_here, from_there)
 }
 
-/// The frames that are sent of two positions on the ground with one head, in the order of the positions. Where the
-/// positions lie in the same zones, the frames are equal exactly if the positions round to one point.
-pub fn frames_on_ground(
-    head: GroundHead,
-    parity: Parity,
-    here: &Position,
-    there: &Position,
-) -> (Frame, Frame)
-    ensures here { IsFrameOf OnGround (ground_head_parts head) parity here.now result.0 }
-    ensures there { IsFrameOf OnGround (ground_head_parts head) parity there.now result.1 }
-    ensures same { (zones : ZonePair) (p q : Point)
-        → PositionIsInZones ground parity here.now zones → PositionIsInZones ground parity there.now zones
-        → p.parity ≡ parity → q.parity ≡ parity
-        → PositionRoundsTo ground here.now p → PositionRoundsTo ground there.now q
-        → (result.0 ≡ result.1) ↔ (p ≡ q) }
+// The frame that is sent of a position.
+fn frame_sent<F: Kind>(head: Head<F>, position: &Position, parity: Parity) -> Frame
+    ensures sent { IsFrameOf F.kind (head_of F.kind F.fields head) parity position.now result }
+    ensures spelled { (q : Squitter) × Spells result q }
 {
-    let from_here = write_frame(&send_ground(head, here, parity));
-    let from_there = write_frame(&send_ground(head, there, parity));
-    each_frame(&from_here);
-    each_frame(&from_there);
-    (from_here, from_there)
+    let frame = write_frame(&send_position(head, position, parity));
+    each_frame(&frame);
+    frame
 }
-
-/// What is sent with one head, of one parity and one position, is one frame.
-pub fn one_frame_sent()
-    ensures in_air { OneFrameSent InAir }
-    ensures on_ground { OneFrameSent OnGround }
-{}
-
-/// Decoding a squitter near a reference has one answer.
-pub fn one_local_place()
-    ensures { OneLocalPlace }
-{}
-
-/// Decoding a pair of squitters has one answer.
-pub fn one_pair_place()
-    ensures { OnePairPlace }
-{}
-
-/// Decoding a squitter near a reference has an answer.
-pub fn some_local_place()
-    ensures { SomeLocalPlace }
-{}
-
-/// Decoding a pair of squitters has an answer.
-pub fn some_pair_place()
-    ensures { SomePairPlace }
-{}
 
 /// What is sent of a place that a squitter is decoded to is that squitter.
 pub fn decoded_is_sent_again()
@@ -240,48 +140,6 @@ pub fn pair_again(
     Ok((place, again))
 }
 
-/// Whether two squitters are equal by `==`: exactly if they are one.
-pub fn equal_squitters(squitter: &Squitter, other: &Squitter) -> bool
-    ensures { IsTrue result ↔ (squitter.now ≡ other.now) }
-{
-    squitter == other
-}
-
-/// Whether two squitters with their moments are equal by `==`: exactly if they are one.
-pub fn equal_received(received: &Received, other: &Received) -> bool
-    ensures { IsTrue result ↔ (received.now ≡ other.now) }
-{
-    received == other
-}
-
-/// Whether two altitudes are equal by `==`: exactly if they are one.
-pub fn equal_altitudes(altitude: &Altitude, other: &Altitude) -> bool
-    ensures { IsTrue result ↔ (altitude.now ≡ other.now) }
-{
-    altitude == other
-}
-
-/// Whether two places are equal by `==`: exactly if they are one.
-pub fn equal_places(place: &Place, other: &Place) -> bool
-    ensures { IsTrue result ↔ (place.now ≡ other.now) }
-{
-    place == other
-}
-
-/// Whether two faults of frames are equal by `==`: exactly if they are one.
-pub fn equal_frame_faults(fault: &FrameFault, other: &FrameFault) -> bool
-    ensures { IsTrue result ↔ (fault.now ≡ other.now) }
-{
-    fault == other
-}
-
-/// Whether two faults of places are equal by `==`: exactly if they are one.
-pub fn equal_place_faults(place_fault: &PlaceFault, other: &PlaceFault) -> bool
-    ensures { IsTrue result ↔ (place_fault.now ≡ other.now) }
-{
-    place_fault == other
-}
-
 /// What a squitter is decoded to near a reference, or as the newer of a pair, is a place that it is decoded to, as the
 /// headline says it.
 pub fn decoded_by_calls()
@@ -289,43 +147,8 @@ pub fn decoded_by_calls()
 {}
 
 /// A position lies in exactly one pair of zones of each parity's grid, in the air and on the ground.
-pub fn each_has_its_zones()
-    ensures in_air { EachHasItsZones InAir }
-    ensures on_ground { EachHasItsZones OnGround }
-{}
-
-/// Strictly near a reference is strictly near its latitude and its longitude, and no less. The points of a pair have to
-/// lie anywhere in the air, and on the ground less than 45 degrees from the site, and no nearer.
-pub fn near_reference_exactly()
-    ensures in_air { NearReferenceExactly InAir }
-    ensures on_ground { NearReferenceExactly OnGround }
-    ensures lie_at { LieAtExactly }
-{}
-
-/// A frame has one answer near a reference, and an even and an odd one have one as a pair, of which the newer has one
-/// place.
-pub fn one_answer_of_frames()
-    ensures near { OneAnswerNear }
-    ensures pair { OneAnswerOfPair }
-    ensures newer { OnePlaceOfNewer }
-{}
-
-/// A frame is read near a reference as a place, and an even and an odd one as a pair, exactly where it has an answer
-/// that is that place: what the headline says of every reading and answer, and what calls say of theirs, is one.
-pub fn read_exactly()
-    ensures near { ReadNearExactly }
-    ensures pair { ReadAsPairExactly }
-{}
-
-/// Frames cannot be decoded exactly if no position is a result, near a reference and as a pair.
-pub fn no_place_exactly()
-    ensures near { NoPlaceNearExactly }
-    ensures pair { NoPlaceExactly }
-{}
-
-/// Sent again is this and no more: what is sent of the place is written as the frame that it was.
-pub fn sent_again_exactly()
-    ensures { SentAgainExactly }
+pub fn each_has_its_zones<F: Kind>()
+    ensures { EachHasItsZones F.kind }
 {}
 
 /// Two positions in the same latitude and longitude zones of a parity's grid are written as the same frame exactly if
@@ -363,47 +186,22 @@ fn read_spelled(frame: &Frame) -> Squitter
     read_frame(frame).unwrap()
 }
 
-/// A position that is sent in the air and read near a reference: the frame, and what it is decoded to.
+/// A position that is sent and read near a reference: the frame, and what it is decoded to.
 ///
 /// Where the reference lies strictly within half a zone, in both coordinates, of the point to which the position
 /// rounds, that is this point.
-pub fn read_near_of_sent_in_air(
-    head: AirHead,
+pub fn read_near_of_sent<F: Kind>(
+    head: Head<F>,
     parity: Parity,
     position: &Position,
     reference: &Position,
 ) -> (Frame, Result<Place, PlaceFault>)
-    ensures sent { IsFrameOf InAir (air_head_parts head) parity position.now result.0 }
+    ensures sent { IsFrameOf F.kind (head_of F.kind F.fields head) parity position.now result.0 }
     ensures read { IsAnswerNear result.0 reference.now result.1 }
-    ensures point { (point : Point) → point.parity ≡ parity
-        → PositionRoundsTo air position.now point → IsStrictlyNearPosition air reference.now point
-        → result.1 ≡ Ok (Air point) }
+    ensures point { (point : Point) → point.parity ≡ parity → PositionRoundsTo (span_of F.kind) position.now point
+        → IsStrictlyNearPosition (span_of F.kind) reference.now point → result.1 ≡ Ok (place_at F.kind point) }
 {
-    let frame = write_frame(&send_air(head, position, parity));
-    each_frame(&frame);
-    let squitter = read_spelled(&frame);
-    let place = place_local(&squitter, reference);
-    (frame, place)
-}
-
-/// A position that is sent on the ground and read near a reference: the frame, and what it is decoded to.
-///
-/// Where the reference lies strictly within half a zone, in both coordinates, of the point to which the position
-/// rounds, that is this point.
-pub fn read_near_of_sent_on_ground(
-    head: GroundHead,
-    parity: Parity,
-    position: &Position,
-    reference: &Position,
-) -> (Frame, Result<Place, PlaceFault>)
-    ensures sent { IsFrameOf OnGround (ground_head_parts head) parity position.now result.0 }
-    ensures read { IsAnswerNear result.0 reference.now result.1 }
-    ensures point { (point : Point) → point.parity ≡ parity
-        → PositionRoundsTo ground position.now point → IsStrictlyNearPosition ground reference.now point
-        → result.1 ≡ Ok (Ground point) }
-{
-    let frame = write_frame(&send_ground(head, position, parity));
-    each_frame(&frame);
+    let frame = frame_sent(head, position, parity);
     let squitter = read_spelled(&frame);
     let place = place_local(&squitter, reference);
     (frame, place)
@@ -425,64 +223,32 @@ fn place_of_newest(
     }
 }
 
-/// An even and an odd position that are sent in the air and read as a pair: the even frame, the odd one, and what they
-/// are decoded to, where the newest is the one of this parity. The site plays no part.
+/// Sends an even and an odd position and reads them as a pair. Returns the even frame, the odd frame, and their place
+/// if the newest has this parity. In the air the site plays no part.
 ///
-/// Where the heads have one address and the points to which the positions round are close, with one zone count, that is
-/// the newest one's point.
-pub fn read_pair_of_sent_in_air(
-    even_head: AirHead,
+/// The place is the newest one's point if the heads have one address and the positions round to points that are close,
+/// with one zone count. On the ground these also lie less than 45 degrees from the site in both coordinates.
+pub fn read_pair_of_sent<F: Kind>(
+    even_head: Head<F>,
     even_position: &Position,
-    odd_head: AirHead,
+    odd_head: Head<F>,
     odd_position: &Position,
     newest: Parity,
     site: Option<&Position>,
 ) -> (Frame, Frame, Result<Place, PlaceFault>)
-    ensures even { IsFrameOf InAir (air_head_parts even_head) Even even_position.now result.0 }
-    ensures odd { IsFrameOf InAir (air_head_parts odd_head) Odd odd_position.now result.1 }
+    ensures even { IsFrameOf F.kind (head_of F.kind F.fields even_head) Even even_position.now result.0 }
+    ensures odd { IsFrameOf F.kind (head_of F.kind F.fields odd_head) Odd odd_position.now result.1 }
     ensures read { IsAnswerOfPair newest result.0 result.1 (option_copied site.entry) result.2 }
-    ensures point { (a b : Point) → (air_head_parts even_head).address ≡ (air_head_parts odd_head).address
-        → PositionRoundsTo air even_position.now a → PositionRoundsTo air odd_position.now b → AreClosePoints air a b
-        → result.2 ≡ Ok (Air (of_parity newest a b)) }
+    ensures point { (a b : Point) → even_head.address ≡ odd_head.address
+        → PositionRoundsTo (span_of F.kind) even_position.now a → PositionRoundsTo (span_of F.kind) odd_position.now b
+        → AreClosePoints (span_of F.kind) a b → LieAt F.kind (option_copied site.entry) a b
+        → result.2 ≡ Ok (place_at F.kind (of_parity newest a b)) }
 {
-    let even = write_frame(&send_air(even_head, even_position, Parity::Even));
-    let odd = write_frame(&send_air(odd_head, odd_position, Parity::Odd));
-    each_frame(&even);
-    each_frame(&odd);
+    let even = frame_sent(even_head, even_position, Parity::Even);
+    let odd = frame_sent(odd_head, odd_position, Parity::Odd);
     let even_squitter = read_spelled(&even);
     let odd_squitter = read_spelled(&odd);
     let place = place_of_newest(newest, &even_squitter, &odd_squitter, site);
-    (even, odd, place)
-}
-
-/// An even and an odd position that are sent on the ground and read as a pair with a site: the even frame, the odd one,
-/// and what they are decoded to, where the newest is the one of this parity.
-///
-/// Where the heads have one address, and the points to which the positions round are close, with one zone count, and
-/// less than 45 degrees from the site in both coordinates, that is the newest one's point.
-pub fn read_pair_of_sent_on_ground(
-    even_head: GroundHead,
-    even_position: &Position,
-    odd_head: GroundHead,
-    odd_position: &Position,
-    newest: Parity,
-    site: &Position,
-) -> (Frame, Frame, Result<Place, PlaceFault>)
-    ensures even { IsFrameOf OnGround (ground_head_parts even_head) Even even_position.now result.0 }
-    ensures odd { IsFrameOf OnGround (ground_head_parts odd_head) Odd odd_position.now result.1 }
-    ensures read { IsAnswerOfPair newest result.0 result.1 (Some site.now) result.2 }
-    ensures point { (a b : Point) → (ground_head_parts even_head).address ≡ (ground_head_parts odd_head).address
-        → PositionRoundsTo ground even_position.now a → PositionRoundsTo ground odd_position.now b
-        → AreClosePoints ground a b → IsPointWithin 45 ground a site.now → IsPointWithin 45 ground b site.now
-        → result.2 ≡ Ok (Ground (of_parity newest a b)) }
-{
-    let even = write_frame(&send_ground(even_head, even_position, Parity::Even));
-    let odd = write_frame(&send_ground(odd_head, odd_position, Parity::Odd));
-    each_frame(&even);
-    each_frame(&odd);
-    let even_squitter = read_spelled(&even);
-    let odd_squitter = read_spelled(&odd);
-    let place = place_of_newest(newest, &even_squitter, &odd_squitter, Some(site));
     (even, odd, place)
 }
 

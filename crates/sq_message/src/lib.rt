@@ -9,12 +9,14 @@
 #![tactic(auto)]
 
 mod air;
-mod air_head;
 mod feet;
 mod ground;
-mod ground_head;
+mod head;
+mod kind;
 pub mod laws;
+mod message;
 mod other;
+pub mod pins;
 mod place;
 mod read;
 mod received;
@@ -23,16 +25,17 @@ mod squitter;
 pub mod worked;
 mod write;
 
-pub use air::{AirFields, Airborne, Altitude};
-pub use air_head::AirHead;
+pub use air::{AirFields, Altitude};
 pub use feet::{altitude, field_of_feet};
-pub use ground::{GroundFields, Surface};
-pub use ground_head::GroundHead;
+pub use ground::GroundFields;
+pub use head::{AirHead, GroundHead, Head};
+pub use kind::Kind;
+pub use message::{Airborne, PositionMessage, Surface};
 pub use other::Other;
 pub use place::{Place, PlaceFault, place_local, place_pair, send_point};
 pub use read::read_frame;
 pub use received::Received;
-pub use send::{send_air, send_ground};
+pub use send::{send_air, send_ground, send_position};
 pub use sq_bits::Frame;
 pub use sq_cpr::{Air, Angle, Code, GridPoint, Ground, Parity, Position};
 pub use squitter::{FrameFault, Me, Squitter};

@@ -1,12 +1,14 @@
 //! Places: the points that squitters are decoded to, and what is sent of a point.
-ghost use Rattle.std.specs.Prelude.{◌≡◌, ◌≤◌, ◌↔◌, IsTrue, length, option_copied};
+ghost use Rattle.std.specs.Prelude.{◌≡◌, ◌≤◌, ◌↔◌, IsTrue, None, length, option_copied};
 ghost use Rattle.sq_cpr.specs.Code.{numbers_of};
 ghost use Rattle.sq_message.specs.Parts.{squitter_parts};
-ghost use Rattle.sq_message.specs.Places.{Fits, IsAirPairPlace, IsGroundPairPlace, IsLocalPlace, IsPairPlace};
-ghost use Rattle.sq_message.specs.Places.{IsPosition, IsPositionOf, IsSentAt, NeedsTwoParities, of_local, of_pair};
-ghost use Rattle.sq_message.specs.Places.{pair_by_parity};
+ghost use Rattle.sq_message.specs.Kinds.{InAir, OnGround, head_of};
+ghost use Rattle.sq_message.specs.Sending.{IsSquitterOf};
+ghost use Rattle.sq_message.specs.Places.{Fits, IsLocalPlace, IsPairPlace, IsPlaceOfOneKind, IsPosition, IsPositionOf};
+ghost use Rattle.sq_message.specs.Places.{IsSentAt, of_local, of_pair, pair_by_parity};
 
-use crate::{Airborne, Me, Squitter, Surface};
+use crate::send::send_code;
+use crate::{Airborne, Head, Kind, Me, Squitter, Surface};
 use sq_angle::Position;
 use sq_cpr::{
     Air, Code, GridPoint, Ground, LocalFault, PairFault, Parity, local, pair_air, pair_ground,
@@ -130,24 +132,19 @@ pub fn send_point(squitter: &Squitter, place: &Place) -> Squitter
     requires { Fits (squitter_parts squitter.now).me place.now }
     ensures { IsSentAt (squitter_parts squitter.now) place.now (squitter_parts result) }
 {
-    let me = match (&squitter.me, place) {
-        (Me::Airborne(airborne), Place::Air(point)) => Me::Airborne(Airborne {
-            fields: airborne.fields,
-            parity: point.parity(),
-            code: point.code(),
-        }),
-        (Me::Surface(surface), Place::Ground(point)) => Me::Surface(Surface {
-            fields: surface.fields,
-            parity: point.parity(),
-            code: point.code(),
-        }),
-        _ => squitter.me,
-    };
-    Squitter {
-        ca: squitter.ca,
-        address: squitter.address,
-        me,
+    match (&squitter.me, place) {
+        (Me::Airborne(own), Place::Air(point)) => send_at(squitter.head(own.fields), point),
+        (Me::Surface(own), Place::Ground(point)) => send_at(squitter.head(own.fields), point),
+        _ => *squitter,
     }
+}
+
+// The squitter of a point: the head with the point's parity and code.
+#[inline(always)]
+fn send_at<F: Kind>(head: Head<F>, point: &GridPoint<F::Span>) -> Squitter
+    ensures { IsSquitterOf F.kind (head_of F.kind F.fields head) point.now (squitter_parts result) }
+{
+    send_code(head, point.parity(), point.code())
 }
 
 /// The place of a squitter near a reference: the one point with its code, of its span and parity, that lies within half
@@ -225,7 +222,7 @@ fn by_parity(newest: Parity, older: Code, newer: Code) -> Codes
 // The place of the newer of two airborne positions.
 #[inline(always)]
 fn air_pair(older: &Airborne, newer: &Airborne) -> Result<Place, PlaceFault>
-    ensures { NeedsTwoParities older.now.parity newer.now.parity result (IsAirPairPlace older.now newer.now result) }
+    ensures { IsPlaceOfOneKind InAir older.now newer.now None result }
 {
     if older.parity == newer.parity {
         return Err(PlaceFault::SameParity);
@@ -242,8 +239,7 @@ fn ground_pair(
     newer: &Surface,
     site: Option<&Position>,
 ) -> Result<Place, PlaceFault>
-    ensures { NeedsTwoParities older.now.parity newer.now.parity result
-        (IsGroundPairPlace older.now newer.now (option_copied site.entry) result) }
+    ensures { IsPlaceOfOneKind OnGround older.now newer.now (option_copied site.entry) result }
 {
     if older.parity == newer.parity {
         return Err(PlaceFault::SameParity);

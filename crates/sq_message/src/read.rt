@@ -4,10 +4,10 @@ ghost use Rattle.sq_message.specs.declared.squitter.Squitter.{Squitter};
 ghost use Rattle.sq_bits.specs.Frames.{field_of};
 ghost use Rattle.sq_cpr.specs.Code.{numbers_of};
 ghost use Rattle.sq_zones.specs.Zones.{parity_index};
-ghost use Rattle.sq_message.specs.TypeCodes.{IsAirCode, IsGroundCode};
-ghost use Rattle.sq_message.specs.Spelling.{IsReading, Spells, SpellsAirborne, SpellsMe, SpellsSurface};
+ghost use Rattle.sq_message.specs.Kinds.{position_of};
+ghost use Rattle.sq_message.specs.Spelling.{IsReading, Spells, SpellsMe, SpellsPosition};
 
-use crate::{AirFields, Airborne, FrameFault, GroundFields, Me, Other, Squitter, Surface};
+use crate::{FrameFault, Kind, Me, Other, PositionMessage, Squitter};
 use sq_bits::laws::each_frame;
 use sq_bits::{Frame, remainder};
 use sq_cpr::{Code, Parity};
@@ -43,15 +43,15 @@ fn read_me(frame: &Frame) -> Me
 {
     let me = frame.field(33, 56);
     match part(frame, me, 33, 5) {
-        5..=8 => Me::Surface(read_surface(frame, me)),
-        9..=18 | 20..=22 => Me::Airborne(read_airborne(frame, me)),
+        5..=8 => Me::Surface(read_position(frame, me)),
+        9..=18 | 20..=22 => Me::Airborne(read_position(frame, me)),
         _ => Me::Other(Other { raw: me }),
     }
 }
 
 // A field of the message, which is taken from the frame once.
 #[inline(always)]
-fn part(frame: &Frame, me: u64, first: u8, count: u8) -> u64
+pub(crate) fn part(frame: &Frame, me: u64, first: u8, count: u8) -> u64
     requires me { me ≡ field_of frame.now 33 56 }
     requires begins { 33 ≤ first }
     requires some { 1 ≤ count }
@@ -63,41 +63,17 @@ fn part(frame: &Frame, me: u64, first: u8, count: u8) -> u64
     (me >> (89 - first - count)) % (1 << count)
 }
 
+// The position of a frame with a type code of the kind.
 #[inline(always)]
-fn read_airborne(frame: &Frame, me: u64) -> Airborne
+fn read_position<F: Kind>(frame: &Frame, me: u64) -> PositionMessage<F>
     requires me { me ≡ field_of frame.now 33 56 }
-    requires air { IsAirCode (field_of frame.now 33 5) }
-    ensures { SpellsAirborne frame.now result }
+    requires code { F.is_code (field_of frame.now 33 5) }
+    ensures { SpellsPosition F.kind frame.now (position_of F.kind F.fields result) }
 {
-    Airborne {
-        fields: AirFields {
-            type_code: part(frame, me, 33, 5) as u8,
-            status: part(frame, me, 38, 2) as u8,
-            flag: part(frame, me, 40, 1) == 1,
-            altitude: part(frame, me, 41, 12) as u16,
-            time: part(frame, me, 53, 1) == 1,
-        },
+    PositionMessage {
         parity: read_parity(frame, me),
         code: read_code(frame, me),
-    }
-}
-
-#[inline(always)]
-fn read_surface(frame: &Frame, me: u64) -> Surface
-    requires me { me ≡ field_of frame.now 33 56 }
-    requires surface { IsGroundCode (field_of frame.now 33 5) }
-    ensures { SpellsSurface frame.now result }
-{
-    Surface {
-        fields: GroundFields {
-            type_code: part(frame, me, 33, 5) as u8,
-            movement: part(frame, me, 38, 7) as u8,
-            track_status: part(frame, me, 45, 1) == 1,
-            track: part(frame, me, 46, 7) as u8,
-            time: part(frame, me, 53, 1) == 1,
-        },
-        parity: read_parity(frame, me),
-        code: read_code(frame, me),
+        fields: F::read(frame, me),
     }
 }
 

@@ -1,7 +1,7 @@
 //! A squitter: capability, address and message.
 ghost use Rattle.std.specs.Prelude.{◌≡◌, ◌<◌, ◌≤◌, ◌^◌, ◌↔◌, IfSome, IsSome, length};
 
-use crate::{Airborne, Other, Surface};
+use crate::{Airborne, Head, Other, Surface};
 use thiserror::Error;
 
 // An address has 24 bits.
@@ -59,6 +59,19 @@ impl Squitter {
         ensures small { result < 2 ^ 24 }
     {
         self.address
+    }
+
+    // All of it but its place, where these are the fields of its message.
+    #[inline(always)]
+    pub(crate) fn head<F>(&self, fields: F) -> Head<F>
+        ensures { let parts = squitter_parts self.now in
+            result ≡ record { ca = parts.ca; address = parts.address; fields = fields } }
+    {
+        Head {
+            ca: self.ca,
+            address: self.address,
+            fields,
+        }
     }
 
     /// The message.

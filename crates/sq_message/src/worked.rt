@@ -4,18 +4,14 @@
 //! 52.26578 3.93891 to that of the odd one with 1,122,734 and 50,194: where the frames 8D40621D58C382D690C8AC2863A7 and
 //! 8D40621D58C386435CC412692AD6, which are worked in the literature, were sent from.
 ghost use Rattle.std.specs.Prelude.{◌≡◌, pos, Ok};
-ghost use Rattle.sq_angle.specs.Angle.{degrees};
 ghost use Rattle.sq_angle.specs.Bounds.{IsAngle, IsPosition};
-ghost use Rattle.sq_angle.specs.Position.{lat_of, lon_of};
 ghost use Rattle.sq_zones.specs.declared.parity.Parity.TheVariants.{Even, Odd};
 ghost use Rattle.sq_cpr.specs.Grid.{point_at};
 ghost use Rattle.sq_cpr.specs.Pair.{of_parity};
 ghost use Rattle.sq_message.specs.declared.place.Place.TheVariants.{Air, Ground};
+ghost use Rattle.sq_message.specs.Places.{IsAt};
 
-use crate::laws::{
-    read_near_of_sent_in_air, read_near_of_sent_on_ground, read_pair_of_sent_in_air,
-    read_pair_of_sent_on_ground,
-};
+use crate::laws::{read_near_of_sent, read_pair_of_sent};
 use crate::{AirHead, Angle, GroundHead, Parity, Place, PlaceFault, Position};
 
 // The position of so many parts of a degree.
@@ -23,8 +19,7 @@ fn position_of(lat: i64, lon: i64, parts: u64) -> Position
     requires lat { IsAngle lat parts }
     requires lon { IsAngle lon parts }
     requires both { IsPosition (record { num = lat; den = parts }) (record { num = lon; den = parts }) }
-    ensures lat { degrees (lat_of result) ≡ record { num = lat; den = parts } }
-    ensures lon { degrees (lon_of result) ≡ record { num = lon; den = parts } }
+    ensures { IsAt (record { num = lat; den = parts }) (record { num = lon; den = parts }) result }
 {
     let lat = Angle::new(lat, parts).unwrap();
     let lon = Angle::new(lon, parts).unwrap();
@@ -38,7 +33,7 @@ pub fn read_near(head: AirHead) -> Result<Place, PlaceFault>
 {
     let here = position_of(522_572_021, 39_193_726, 10_000_000);
     let reference = position_of(52_258, 3_918, 1_000);
-    let (_, place) = read_near_of_sent_in_air(head, Parity::Even, &here, &reference);
+    let (_, place) = read_near_of_sent(head, Parity::Even, &here, &reference);
     place
 }
 
@@ -50,7 +45,7 @@ pub fn read_pair(head: AirHead, newest: Parity) -> Result<Place, PlaceFault>
 {
     let even = position_of(522_572_021, 39_193_726, 10_000_000);
     let odd = position_of(5_226_578, 393_891, 100_000);
-    let (_, _, place) = read_pair_of_sent_in_air(head, &even, head, &odd, newest, None);
+    let (_, _, place) = read_pair_of_sent(head, &even, head, &odd, newest, None);
     place
 }
 
@@ -61,7 +56,7 @@ pub fn read_near_on_ground(head: GroundHead) -> Result<Place, PlaceFault>
 {
     let here = position_of(523_206_071, 47_347_347, 10_000_000);
     let reference = position_of(51_990, 4_375, 1_000);
-    let (_, place) = read_near_of_sent_on_ground(head, Parity::Odd, &here, &reference);
+    let (_, place) = read_near_of_sent(head, Parity::Odd, &here, &reference);
     place
 }
 
@@ -74,7 +69,7 @@ pub fn read_pair_on_ground(head: GroundHead, newest: Parity) -> Result<Place, Pl
     let even = position_of(523_230_400, 47_304_726, 10_000_000);
     let odd = position_of(523_206_071, 47_347_347, 10_000_000);
     let site = position_of(51_990, 4_375, 1_000);
-    let (_, _, place) = read_pair_of_sent_on_ground(head, &even, head, &odd, newest, &site);
+    let (_, _, place) = read_pair_of_sent(head, &even, head, &odd, newest, Some(&site));
     place
 }
 
@@ -88,6 +83,6 @@ pub fn read_pair_across_180_degrees(head: GroundHead, newest: Parity) -> Result<
     let even = position_of(523_230_400, -1_752_695_274, 10_000_000);
     let odd = position_of(523_206_071, -1_752_652_653, 10_000_000);
     let site = position_of(51_990, 179_375, 1_000);
-    let (_, _, place) = read_pair_of_sent_on_ground(head, &even, head, &odd, newest, &site);
+    let (_, _, place) = read_pair_of_sent(head, &even, head, &odd, newest, Some(&site));
     place
 }

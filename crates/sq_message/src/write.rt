@@ -4,11 +4,11 @@ ghost use Rattle.std.specs.Prelude.{◌≡◌, ◌<◌, ◌^◌};
 ghost use Rattle.sq_bits.specs.declared.frame.Frame.{Frame};
 ghost use Rattle.sq_bits.specs.Frames.{IsFrame, field_of};
 ghost use Rattle.sq_cpr.specs.Code.{numbers_of};
-ghost use Rattle.sq_message.specs.Parts.{air_parts, ground_parts, squitter_parts};
-ghost use Rattle.sq_message.specs.Spelling.{Spells, SpellsAirborne, SpellsAirFields, SpellsGroundFields, SpellsMe};
-ghost use Rattle.sq_message.specs.Spelling.{SpellsPlace, SpellsSurface};
+ghost use Rattle.sq_message.specs.Parts.{squitter_parts};
+ghost use Rattle.sq_message.specs.Kinds.{position_of};
+ghost use Rattle.sq_message.specs.Spelling.{Spells, SpellsMe, SpellsPlace, SpellsPosition};
 
-use crate::{AirFields, Airborne, GroundFields, Me, Squitter, Surface};
+use crate::{Kind, Me, PositionMessage, Squitter};
 use sq_bits::Frame;
 use sq_cpr::{Code, Parity};
 
@@ -37,51 +37,19 @@ fn me_bits(me: &Me) -> u64
     ensures spelled { (frame : Frame) → field_of frame 33 56 ≡ result → SpellsMe frame me.now }
 {
     match me {
-        Me::Airborne(airborne) => airborne_bits(airborne),
-        Me::Surface(surface) => surface_bits(surface),
+        Me::Airborne(airborne) => position_bits(airborne),
+        Me::Surface(surface) => position_bits(surface),
         Me::Other(other) => other.raw,
     }
 }
 
-// The message of an airborne position.
-fn airborne_bits(airborne: &Airborne) -> u64
+// The message of a position.
+fn position_bits<F: Kind>(position: &PositionMessage<F>) -> u64
     ensures small { result < 2 ^ 56 }
-    ensures spelled { (frame : Frame) → field_of frame 33 56 ≡ result → SpellsAirborne frame airborne.now }
+    ensures spelled { (frame : Frame) → field_of frame 33 56 ≡ result
+        → SpellsPosition F.kind frame (position_of F.kind F.fields position.now) }
 {
-    (air_field_bits(&airborne.fields) << 35) + place_bits(airborne.parity, &airborne.code)
-}
-
-// The message of a surface position.
-fn surface_bits(surface: &Surface) -> u64
-    ensures small { result < 2 ^ 56 }
-    ensures spelled { (frame : Frame) → field_of frame 33 56 ≡ result → SpellsSurface frame surface.now }
-{
-    (ground_field_bits(&surface.fields) << 35) + place_bits(surface.parity, &surface.code)
-}
-
-// ME bits 1 to 21 of an airborne position.
-fn air_field_bits(fields: &AirFields) -> u64
-    ensures small { result < 2 ^ 21 }
-    ensures spelled { (frame : Frame) → field_of frame 33 21 ≡ result → SpellsAirFields frame (air_parts fields.now) }
-{
-    (u64::from(fields.type_code) << 16)
-        + (u64::from(fields.status) << 14)
-        + (u64::from(fields.flag) << 13)
-        + (u64::from(fields.altitude) << 1)
-        + u64::from(fields.time)
-}
-
-// ME bits 1 to 21 of a surface position.
-fn ground_field_bits(fields: &GroundFields) -> u64
-    ensures small { result < 2 ^ 21 }
-    ensures spelled { (frame : Frame) → field_of frame 33 21 ≡ result
-        → SpellsGroundFields frame (ground_parts fields.now) }
-{
-    (u64::from(fields.type_code) << 16)
-        + (u64::from(fields.movement) << 9)
-        + (u64::from(fields.track_status) << 8)
-        + (u64::from(fields.track) << 1)
-        + u64::from(fields.time)
+    (position.fields.bits() << 35) + place_bits(position.parity, &position.code)
 }
 
 // ME bits 22 to 56: the parity and the code.

@@ -1,7 +1,6 @@
 use Rattle.sq_message.specs.Kinds.{InAir, OnGround}
-use Rattle.sq_message.proofs.NearFrames.{near_reference}
-use Rattle.sq_message.proofs.PairFrames.{close_pair}
-use Rattle.sq_message.proofs.AgainFrames.{written_again, sent_from_its_position}
+use Rattle.sq_message.proofs.SentFrames.{near_reference, close_pair}
+use Rattle.sq_message.proofs.SentFrames.{written_again, sent_from_its_position}
 use Rattle.sq_message.proofs.SameZones.{same_zones}
 use Rattle.sq_message.proofs.laws.headline.Goals as goal
 

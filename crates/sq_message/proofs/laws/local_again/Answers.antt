@@ -1,5 +1,5 @@
 use Rattle.std.proofs.Common.{inl}
-use Rattle.sq_message.proofs.AgainFrames.{sent_again}
+use Rattle.sq_message.proofs.SentFrames.{sent_again}
 use Rattle.sq_message.proofs.laws.local_again.Goals as goal
 
 pub returns-clause-same : goal.returns-clause-same

@@ -2,7 +2,7 @@ use Rattle.std.specs.Prelude.{option_copied}
 use Rattle.std.proofs.Common.{inr}
 use Rattle.std.proofs.lemmas.Result.{err_from_is_err_and}
 use Rattle.sq_message.specs.Parts.{squitter_parts}
-use Rattle.sq_message.proofs.AgainFrames.{sent_again}
+use Rattle.sq_message.proofs.SentFrames.{sent_again}
 use Rattle.sq_message.proofs.laws.pair_again.Goals as goal
 
 pub returns-clause-same : goal.returns-clause-same

@@ -5,7 +5,6 @@ use Rattle.sq_message.proofs.worked.read_near.Goals as goal
 
 pub returns : goal.returns
 returns c =
-    c.read_near_of_sent_in_air-place.ensures.point even_point refl
-    (even_position_rounds c.position_of-here.result c.position_of-here.ensures.lat c.position_of-here.ensures.lon)
-    (reference_is_near c.position_of-reference.result c.position_of-reference.ensures.lat
-    c.position_of-reference.ensures.lon)
+    c.read_near_of_sent-place.ensures.point even_point refl
+    (even_position_rounds c.position_of-here.result c.position_of-here.ensures)
+    (reference_is_near c.position_of-reference.result c.position_of-reference.ensures)

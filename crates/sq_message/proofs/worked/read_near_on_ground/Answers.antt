@@ -4,7 +4,6 @@ use Rattle.sq_message.proofs.worked.read_near_on_ground.Goals as goal
 
 pub returns : goal.returns
 returns c =
-    c.read_near_of_sent_on_ground-place.ensures.point odd_point refl
-    (odd_position_rounds c.position_of-here.result c.position_of-here.ensures.lat c.position_of-here.ensures.lon)
-    (reference_is_near c.position_of-reference.result c.position_of-reference.ensures.lat
-    c.position_of-reference.ensures.lon)
+    c.read_near_of_sent-place.ensures.point odd_point refl
+    (odd_position_rounds c.position_of-here.result c.position_of-here.ensures)
+    (reference_is_near c.position_of-reference.result c.position_of-reference.ensures)

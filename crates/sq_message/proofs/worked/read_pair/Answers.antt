@@ -5,7 +5,6 @@ use Rattle.sq_message.proofs.worked.read_pair.Goals as goal
 
 pub returns : goal.returns
 returns c =
-    c.read_pair_of_sent_in_air-place.ensures.point even_point odd_point refl
-    (even_position_rounds c.position_of-even.result c.position_of-even.ensures.lat c.position_of-even.ensures.lon)
-    (odd_position_rounds c.position_of-odd.result c.position_of-odd.ensures.lat c.position_of-odd.ensures.lon)
-    points_are_close
+    c.read_pair_of_sent-place.ensures.point even_point odd_point refl
+    (even_position_rounds c.position_of-even.result c.position_of-even.ensures)
+    (odd_position_rounds c.position_of-odd.result c.position_of-odd.ensures) points_are_close tt

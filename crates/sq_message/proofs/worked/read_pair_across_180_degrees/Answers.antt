@@ -6,10 +6,8 @@ use Rattle.sq_message.proofs.worked.read_pair_across_180_degrees.Goals as goal
 pub returns : goal.returns
 returns c =
     let site = c.position_of-site.result in
-    let lat = c.position_of-site.ensures.lat in
-    let lon = c.position_of-site.ensures.lon in
-    let even = c.position_of-even.ensures in
-    c.read_pair_of_sent_on_ground-place.ensures.point even_beyond odd_beyond refl
-    (even_beyond_position_rounds c.position_of-even.result even.lat even.lon)
-    (odd_beyond_position_rounds c.position_of-odd.result c.position_of-odd.ensures.lat c.position_of-odd.ensures.lon)
-    points_beyond_are_close (even_beyond_at_site site lat lon) (odd_beyond_at_site site lat lon)
+    let at = c.position_of-site.ensures in
+    c.read_pair_of_sent-place.ensures.point even_beyond odd_beyond refl
+    (even_beyond_position_rounds c.position_of-even.result c.position_of-even.ensures)
+    (odd_beyond_position_rounds c.position_of-odd.result c.position_of-odd.ensures)
+    points_beyond_are_close (even_beyond_at_site site at, odd_beyond_at_site site at)

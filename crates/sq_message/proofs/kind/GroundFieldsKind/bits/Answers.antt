@@ -1,0 +1,20 @@
+use Rattle.std.proofs.Common.{◌<◌, ◌^◌, ◌∙◌, arith}
+use Rattle.sq_message.proofs.Written.{bit_is, five_parts}
+use Rattle.sq_message.proofs.kind.GroundFieldsKind.bits.Goals as goal
+
+pub returns-clause-spelled : goal.returns-clause-spelled
+returns-clause-spelled c f is =
+    let fields = c.args.self.now in
+    let second : c.from-2.result < 2 ^ 7 = omega (arith, c.from-2.ensures, fields.movement_in) in
+    let third : c.from-3.result < 2 ^ 1 = omega (arith, c.from-3.ensures, (bit_is fields.track_status).1) in
+    let fourth : c.from-4.result < 2 ^ 7 = omega (arith, c.from-4.ensures, fields.track_in) in
+    let fifth : c.from-5.result < 2 ^ 1 = omega (arith, c.from-5.ensures, (bit_is fields.time).1) in
+    let parts = five_parts f 33 5 7 1 7 1 c.from.result c.from-2.result c.from-3.result c.from-4.result c.from-5.result
+    second third fourth fifth (is ∙ omega (arith, c.from.type_inv, second, third, fourth)) in
+    record {
+      type_code = parts.0 ∙ c.from.ensures;
+      movement = parts.1 ∙ c.from-2.ensures;
+      track_status = parts.2 ∙ c.from-3.ensures ∙ (bit_is fields.track_status).0;
+      track = parts.3 ∙ c.from-4.ensures;
+      time = parts.4 ∙ c.from-5.ensures ∙ (bit_is fields.time).0;
+    }

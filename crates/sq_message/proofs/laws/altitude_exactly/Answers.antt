@@ -1,5 +1,0 @@
-use Rattle.sq_message.proofs.Exact.{altitude_exactly as the_law}
-use Rattle.sq_message.proofs.laws.altitude_exactly.Goals as goal
-
-pub returns : goal.returns
-returns c = the_law

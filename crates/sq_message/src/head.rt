@@ -1,0 +1,72 @@
+//! All of a position squitter but its place.
+ghost use Rattle.std.specs.Prelude.{◌≡◌, ◌<◌, ◌^◌, ◌↔◌, IfSome, IsSome};
+ghost use Rattle.sq_message.specs.Heads.{HeadOf};
+
+use crate::squitter::ADDRESSES;
+use crate::{AirFields, GroundFields};
+use std::marker::Model;
+
+/// All of a position squitter but its place: the capability (CA), the address and the fields.
+#[derive(Clone, Copy, Debug, PartialEq, Eq)]
+pub struct Head<F> {
+    pub(crate) ca: u8,
+    pub(crate) address: u32,
+    pub(crate) fields: F,
+}
+
+/// All of an airborne position squitter but its place.
+pub type AirHead = Head<AirFields>;
+
+/// All of a surface position squitter but its place.
+pub type GroundHead = Head<GroundFields>;
+
+impl<F> Model for Head<F> {
+    ghost Value = { HeadOf F };
+
+    ghost view = { λ head. record { ca = head.ca; address = head.address; fields = head.fields } };
+
+    ghost invariant = { λ head. (head.ca < 8) × (head.address < 2 ^ 24) };
+
+    ghost inverse = { λ head. record { ca = head.ca; address = head.address; fields = head.fields } };
+}
+
+impl<F: Copy> Head<F> {
+    /// The head of these parts; `None` unless `ca` is below 8 and `address` is below 2^24.
+    pub fn new(ca: u8, address: u32, fields: F) -> Option<Head<F>>
+        ensures variant { IsSome result ↔ ((ca < 8) × (address < 2 ^ 24)) }
+        ensures value { IfSome result (λ head. head ≡ record { ca = ca; address = address; fields = fields }) }
+    {
+        if ca < 8 && address < ADDRESSES {
+            Some(Head {
+                ca,
+                address,
+                fields,
+            })
+        } else {
+            None
+        }
+    }
+
+    /// The capability, below 8.
+    pub fn ca(&self) -> u8
+        ensures value { result ≡ self.now.ca }
+        ensures small { result < 8 }
+    {
+        self.ca
+    }
+
+    /// The 24-bit address.
+    pub fn address(&self) -> u32
+        ensures value { result ≡ self.now.address }
+        ensures small { result < 2 ^ 24 }
+    {
+        self.address
+    }
+
+    /// The fields of the kind: for example the altitude in the air, the movement on the ground.
+    pub fn fields(&self) -> F
+        ensures { result ≡ self.now.fields }
+    {
+        self.fields
+    }
+}
