@@ -1,6 +1,6 @@
 //! Worked angles: limits, values, texts read and written, positions.
 use crate::rows::{read_angle, read_fraction, read_position};
-use sq_angle::laws::{equal_angle_faults, equal_angles, equal_positions, is_below};
+use sq_angle::pins::{equal_angle_faults, equal_angles, equal_positions, is_below};
 use sq_angle::{Angle, AngleFault, Position, quotient};
 use sq_digits::TextBuffer;
 use std::process::Abort;

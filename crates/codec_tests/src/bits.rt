@@ -1,5 +1,5 @@
 //! Fields and remainders of real frames, and the table against the plain remainder.
-use sq_bits::{Frame, laws, remainder, sealed};
+use sq_bits::{Frame, laws, pins, remainder, sealed};
 
 const AIR_EVEN: Frame = Frame([
     0x8D, 0x40, 0x62, 0x1D, 0x58, 0xC3, 0x82, 0xD6, 0x90, 0xC8, 0xAC, 0x28, 0x63, 0xA7,
@@ -106,12 +106,12 @@ fn agrees_with_the_plain_remainder(rt: HostRuntime) {
 
 #[test]
 fn adds_remainders(rt: HostRuntime) {
-    laws::one_remainder();
-    laws::apart_exactly();
+    pins::one_remainder();
+    pins::apart_exactly();
     laws::sum_of_frames();
     laws::each_frame(&AIR_EVEN);
-    laws::fields_kept_exactly();
-    assert!(rt; laws::equal_frames(&AIR_EVEN, &AIR_EVEN) && !laws::equal_frames(&AIR_EVEN, &ZERO));
+    pins::fields_kept_exactly();
+    assert!(rt; pins::equal_frames(&AIR_EVEN, &AIR_EVEN) && !pins::equal_frames(&AIR_EVEN, &ZERO));
     for bit in 1..=112u8 {
         let flipped = AIR_EVEN.with_field(bit, 1, AIR_EVEN.field(bit, 1) ^ 1);
         assert!(rt; remainder(&flipped) == remainder(&ZERO.with_field(bit, 1, 1)));

@@ -1,7 +1,7 @@
 //! Codes at and past their limits, worked points and codes, and the limits of the grids.
 use sq_cpr::{
     Air, Angle, Code, GridPoint, Ground, LocalFault, PairFault, Parity, Position, Span, encode,
-    laws, nearest,
+    laws, nearest, pins,
 };
 use std::process::Abort;
 
@@ -102,11 +102,11 @@ fn rounds_a_position_of_the_grid_to_itself(rt: HostRuntime) {
     assert!(rt; indices(&point) == (-983_040, 42, 4_128_768));
     assert!(rt; Some(point.code()) == Code::new(65_536, 65_536));
     assert!(rt; point.position() == place);
-    assert!(rt; laws::equal_points(&nearest(&point.position(), Parity::Even), &point));
+    assert!(rt; pins::equal_points(&nearest(&point.position(), Parity::Even), &point));
     let surface = nearest::<Ground>(&place, Parity::Odd);
     let again = nearest::<Ground>(&surface.position(), Parity::Odd);
-    assert!(rt; laws::equal_points(&again, &surface));
-    assert!(rt; !laws::equal_points(&again, &nearest(&place, Parity::Even)));
+    assert!(rt; pins::equal_points(&again, &surface));
+    assert!(rt; !pins::equal_points(&again, &nearest(&place, Parity::Even)));
 }
 
 #[test]
@@ -176,34 +176,34 @@ fn laws_are_of_both_spans(rt: HostRuntime) {
     laws::rounds_to_one::<Ground>();
     laws::rounds_to_itself::<Air>();
     laws::rounds_to_itself::<Ground>();
-    laws::one_pair_of_zones::<Air>();
-    laws::one_pair_of_zones::<Ground>();
+    pins::one_pair_of_zones::<Air>();
+    pins::one_pair_of_zones::<Ground>();
     laws::same_zones::<Air>();
     laws::same_zones::<Ground>();
     laws::same_points::<Air>();
     laws::same_points::<Ground>();
-    laws::some_local_answer::<Air>();
-    laws::some_local_answer::<Ground>();
-    laws::some_pair_answer::<Air>();
-    laws::some_pair_answer::<Ground>();
-    laws::slow_exactly::<Air>();
-    laws::slow_exactly::<Ground>();
-    laws::following_exactly::<Air>();
-    laws::following_exactly::<Ground>();
-    laws::within_exactly::<Air>();
-    laws::within_exactly::<Ground>();
-    laws::close_exactly::<Air>();
-    laws::close_exactly::<Ground>();
-    laws::grid_point_exactly::<Air>();
-    laws::grid_point_exactly::<Ground>();
-    laws::tame_answer_exactly::<Air>();
-    laws::tame_answer_exactly::<Ground>();
-    laws::limits_of_slow();
-    laws::at_the_limits();
-    laws::across_180_degrees();
-    laws::differ_exactly();
+    pins::some_local_answer::<Air>();
+    pins::some_local_answer::<Ground>();
+    pins::some_pair_answer::<Air>();
+    pins::some_pair_answer::<Ground>();
+    pins::slow_exactly::<Air>();
+    pins::slow_exactly::<Ground>();
+    pins::following_exactly::<Air>();
+    pins::following_exactly::<Ground>();
+    pins::within_exactly::<Air>();
+    pins::within_exactly::<Ground>();
+    pins::close_exactly::<Air>();
+    pins::close_exactly::<Ground>();
+    pins::grid_point_exactly::<Air>();
+    pins::grid_point_exactly::<Ground>();
+    pins::tame_answer_exactly::<Air>();
+    pins::tame_answer_exactly::<Ground>();
+    pins::limits_of_slow();
+    pins::at_the_limits();
+    pins::across_180_degrees();
+    pins::differ_exactly();
     laws::turns_change_nothing();
-    laws::one_code();
+    pins::one_code();
 }
 
 #[test]
@@ -212,15 +212,15 @@ fn codes_are_equal_by_both_numbers(rt: HostRuntime) {
     let same = Code::new(5, 7).expect(&rt, "a code");
     let north = Code::new(6, 7).expect(&rt, "a code");
     let east = Code::new(5, 8).expect(&rt, "a code");
-    assert!(rt; laws::equal_codes(&code, &same));
-    assert!(rt; !laws::equal_codes(&code, &north) && !laws::equal_codes(&code, &east));
+    assert!(rt; pins::equal_codes(&code, &same));
+    assert!(rt; !pins::equal_codes(&code, &north) && !pins::equal_codes(&code, &east));
 }
 
 #[test]
 fn faults_are_equal_by_all_of_them(rt: HostRuntime) {
-    assert!(rt; laws::equal_local_faults(&LocalFault::OutOfRange, &LocalFault::OutOfRange));
+    assert!(rt; pins::equal_local_faults(&LocalFault::OutOfRange, &LocalFault::OutOfRange));
     let counts = PairFault::ZoneCounts(36, 35);
-    assert!(rt; laws::equal_pair_faults(&counts, &PairFault::ZoneCounts(36, 35)));
-    assert!(rt; !laws::equal_pair_faults(&counts, &PairFault::ZoneCounts(36, 37)));
-    assert!(rt; !laws::equal_pair_faults(&counts, &PairFault::OutOfRange));
+    assert!(rt; pins::equal_pair_faults(&counts, &PairFault::ZoneCounts(36, 35)));
+    assert!(rt; !pins::equal_pair_faults(&counts, &PairFault::ZoneCounts(36, 37)));
+    assert!(rt; !pins::equal_pair_faults(&counts, &PairFault::OutOfRange));
 }

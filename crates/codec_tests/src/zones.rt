@@ -1,5 +1,5 @@
 //! Worked zone counts, and the bands against a plain loop over the limits.
-use sq_zones::laws::equal_parities;
+use sq_zones::pins::equal_parities;
 use sq_zones::{Angle, Parity, lon_zones, zone_count};
 use std::process::Abort;
 

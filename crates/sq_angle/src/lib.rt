@@ -15,6 +15,7 @@ mod decimal;
 pub mod laws;
 mod lowest;
 mod order;
+pub mod pins;
 pub mod position;
 mod quotients;
 pub mod read;

@@ -8,6 +8,7 @@
 mod frame;
 pub mod laws;
 mod parity;
+pub mod pins;
 mod table;
 
 pub use frame::Frame;

@@ -15,6 +15,7 @@ mod faults;
 mod grid;
 mod index;
 pub mod laws;
+pub mod pins;
 mod span;
 
 pub use code::Code;

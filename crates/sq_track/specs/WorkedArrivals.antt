@@ -1,13 +1,11 @@
 -- Arrivals and sites in numbers: who sent what, when, and from where.
 use Rattle.std.specs.Prelude.{◌≡◌, ℕ, pos, neg_ℤ}
-use Rattle.sq_angle.specs.Angle.{degrees}
 use Rattle.sq_angle.specs.Fraction.{Fraction}
-use Rattle.sq_angle.specs.Position.{lat_of, lon_of}
-use Rattle.sq_angle.specs.declared.position.Position.{Position}
 use Rattle.sq_zones.specs.declared.parity.Parity.{Parity}
 use Rattle.sq_cpr.specs.declared.code.Code.{Code}
 use Rattle.sq_message.specs.Kinds.{Kind, HeadParts, me_of}
 use Rattle.sq_message.specs.Parts.{squitter_parts}
+use Rattle.sq_message.specs.Places.{IsAt}
 use Rattle.sq_track.specs.Worlds.{Arrival}
 
 -- so many parts of a degree north or east, and west
@@ -16,11 +14,6 @@ parts n of = record { num = pos n; den = of }
 
 abbrev pub west : ℕ → ℕ → Fraction
 west n of = record { num = neg_ℤ (pos n); den = of }
-
--- the position is so many degrees north and east
-pub record IsAt (north east : Fraction) (position : Position) : Type 0 where
-  pub lat : degrees (lat_of position) ≡ north
-  pub lon : degrees (lon_of position) ≡ east
 
 -- a position squitter of this kind, address and grid arrives at this moment from this position
 pub record IsArrivalFrom (kind : Kind) (sender : ℕ) (grid : Parity) (time : ℕ) (north east : Fraction)

@@ -8,6 +8,7 @@ use Rattle.sq_cpr.specs.Grid.{Point, point_at}
 use Rattle.sq_message.specs.declared.place.Place.TheVariants.{Ground}
 use Rattle.sq_message.specs.Kinds.{OnGround}
 use Rattle.sq_message.specs.Parts.{squitter_parts}
+use Rattle.sq_message.specs.Places.{IsAt}
 use Rattle.sq_track.specs.declared.heard.Heard.{Heard}
 use Rattle.sq_track.specs.declared.heard.Heard.TheVariants.{Fix, Followed, NoSite}
 use Rattle.sq_track.specs.declared.heard.TrackFault.{TrackFault}
@@ -16,7 +17,7 @@ use Rattle.sq_track.specs.History.{Entry}
 use Rattle.sq_track.specs.Laws.{as_fix, as_waiting}
 use Rattle.sq_track.specs.Replies.{AreReplies}
 use Rattle.sq_track.specs.Tame.{IsSlow, IsSlowForFollowing}
-use Rattle.sq_track.specs.WorkedArrivals.{IsArrivalFrom, IsAt, parts, west}
+use Rattle.sq_track.specs.WorkedArrivals.{IsArrivalFrom, parts, west}
 use Rattle.sq_track.specs.Worlds.{Arrival, IfHeard, IsTruePlace, IsTruePlaceHeard, received_of}
 
 -- 484175, even, at 0 ms from 52.32304 -175.2695274

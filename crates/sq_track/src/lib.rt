@@ -16,6 +16,7 @@ pub mod laws;
 mod links;
 mod listening;
 mod owned;
+pub mod pins;
 mod tracker;
 pub mod worked;
 

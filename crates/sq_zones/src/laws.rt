@@ -1,10 +1,7 @@
 //! Laws of zone counts, over the definition that the calls' contracts name.
 //!
 //! A function with an empty body does nothing: its contract is the law.
-ghost use Rattle.std.specs.Prelude.{◌≡◌, ◌↔◌, IsTrue};
 ghost use Rattle.sq_zones.specs.Laws.{LimitsAsFractions, ZonesByValue, FewerTowardsPoles};
-
-use crate::parity::Parity;
 
 /// A latitude is held against a limit of the table as fractions are compared.
 pub fn limits_as_fractions()
@@ -20,10 +17,3 @@ pub fn zones_by_value()
 pub fn fewer_towards_poles()
     ensures { FewerTowardsPoles }
 {}
-
-/// Whether two parities are equal by `==`: exactly if they are one.
-pub fn equal_parities(parity: &Parity, other: &Parity) -> bool
-    ensures { IsTrue result ↔ (parity.now ≡ other.now) }
-{
-    parity == other
-}

@@ -8,6 +8,7 @@
 
 pub mod laws;
 pub mod parity;
+pub mod pins;
 pub mod zones;
 
 pub use parity::Parity;

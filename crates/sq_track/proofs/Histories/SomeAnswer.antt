@@ -16,8 +16,6 @@ use Rattle.sq_zones.specs.declared.parity.Parity.TheVariants.{Even, Odd}
 use Rattle.sq_zones.proofs.ZoneBounds.{lon_zones_at-least, lon_zones_at-most}
 use Rattle.sq_cpr.specs.Span.{Span, air, ground}
 use Rattle.sq_cpr.specs.Grid.{Point, IsGridPoint, IsLatitude, grid_latitude, grid_longitude, latitude, longitude}
-use Rattle.sq_message.specs.declared.air.Airborne.{Airborne}
-use Rattle.sq_message.specs.declared.ground.Surface.{Surface}
 use Rattle.sq_message.specs.declared.squitter.Me.{Me}
 use Rattle.sq_message.specs.declared.squitter.Me.TheVariants as kinds
 use Rattle.sq_message.specs.declared.squitter.Squitter.{Squitter}
@@ -25,11 +23,12 @@ use Rattle.sq_message.specs.declared.place.Place.{Place}
 use Rattle.sq_message.specs.declared.place.Place.TheVariants.{Air, Ground}
 use Rattle.sq_message.specs.declared.place.PlaceFault.{PlaceFault}
 use Rattle.sq_message.specs.declared.place.PlaceFault.TheVariants as faults
+use Rattle.sq_message.specs.Kinds.{Kind, InAir, OnGround, PositionOf}
 use Rattle.sq_message.specs.Parts.{SquitterParts, squitter_parts}
-use Rattle.sq_message.specs.Places.{IsPositionOf, IsLocalPlace, IsPairPlace, IsPlaceOfOneAddress, IsAirPairPlace}
-use Rattle.sq_message.specs.Places.{IsGroundPairPlace, NeedsTwoParities, place_of}
-use Rattle.sq_message.proofs.PlaceLemmas.{both_positions}
-use Rattle.sq_message.proofs.SomePlace.{some_local, some_pair_place}
+use Rattle.sq_message.specs.Places.{IsPositionOf, IsLocalPlace, IsPairPlace, IsPairPlaceOf, IsPlaceOfOneAddress}
+use Rattle.sq_message.specs.Places.{IsPlaceOfOneKind, place_of}
+use Rattle.sq_message.proofs.PlaceLemmas.{both_positions, one_or_two}
+use Rattle.sq_message.proofs.OnePlace.{some_local, some_pair_place}
 use Rattle.sq_track.specs.declared.heard.Heard.{Heard}
 use Rattle.sq_track.specs.declared.heard.Heard.TheVariants.{Fix, Followed, Waiting, Split}
 use Rattle.sq_track.specs.declared.heard.TrackFault.TheVariants.{MomentBack, Full}
@@ -73,29 +72,25 @@ local_on_grid (kinds.Surface s) r answer (Ok p, h, is) = subst IfPlace (sym is) 
 local_on_grid (kinds.Surface s) r answer (Err fault, h, is) = subst IfPlace (sym is) tt
 local_on_grid (kinds.Other o) r answer is = subst IfPlace (sym is) tt
 
-parities_on_grid : (p q : Parity) (answer : Result Place PlaceFault) (Rest : Type 0) → (Rest → IfPlace answer)
-    → NeedsTwoParities p q answer Rest → IfPlace answer
-parities_on_grid Even Even answer Rest rest h = subst IfPlace (sym (h.0 refl)) tt
-parities_on_grid Odd Odd answer Rest rest h = subst IfPlace (sym (h.0 refl)) tt
-parities_on_grid Even Odd answer Rest rest h = rest (h.1 (λ (e : ◌≡◌ {A = Parity} Even Odd). absurd (cc e)))
-parities_on_grid Odd Even answer Rest rest h = rest (h.1 (λ (e : ◌≡◌ {A = Parity} Odd Even). absurd (cc e)))
+parities_on_grid : (kind : Kind) (o n : PositionOf kind) (site : Option Position) (answer : Result Place PlaceFault)
+    → IsPairPlaceOf kind o n site answer → IfPlace answer
+parities_on_grid InAir o n site answer (Ok p, h, is) = subst IfPlace (sym is) h.of_grid
+parities_on_grid InAir o n site answer (Err fault, h, is) = subst IfPlace (sym is) tt
+parities_on_grid OnGround o n None answer is = subst IfPlace (sym is) tt
+parities_on_grid OnGround o n (Some s) answer (Ok p, h, is) = subst IfPlace (sym is) h.of_pair.of_grid
+parities_on_grid OnGround o n (Some s) answer (Err fault, h, is) = subst IfPlace (sym is) tt
 
-air_on_grid : (o n : Airborne) (answer : Result Place PlaceFault) → IsAirPairPlace o n answer → IfPlace answer
-air_on_grid o n answer (Ok p, h, is) = subst IfPlace (sym is) h.of_grid
-air_on_grid o n answer (Err fault, h, is) = subst IfPlace (sym is) tt
-
-ground_on_grid : (o n : Surface) (site : Option Position) (answer : Result Place PlaceFault)
-    → IsGroundPairPlace o n site answer → IfPlace answer
-ground_on_grid o n None answer is = subst IfPlace (sym is) tt
-ground_on_grid o n (Some s) answer (Ok p, h, is) = subst IfPlace (sym is) h.of_pair.of_grid
-ground_on_grid o n (Some s) answer (Err fault, h, is) = subst IfPlace (sym is) tt
+kind_on_grid : (kind : Kind) (o n : PositionOf kind) (site : Option Position) (answer : Result Place PlaceFault)
+    → IsPlaceOfOneKind kind o n site answer → IfPlace answer
+kind_on_grid kind o n site answer h = elim (one_or_two o.parity n.parity) [
+  | inl same ↦ subst IfPlace (sym (h.0 same)) tt
+  | inr differ ↦ parities_on_grid kind o n site answer (h.1 differ)
+]
 
 kindred_on_grid : (m n : Me) (site : Option Position) (answer : Result Place PlaceFault)
     → IsPlaceOfOneAddress m n site answer → IfPlace answer
-kindred_on_grid (kinds.Airborne o) (kinds.Airborne n) site answer h =
-    parities_on_grid o.parity n.parity answer (IsAirPairPlace o n answer) (air_on_grid o n answer) h
-kindred_on_grid (kinds.Surface o) (kinds.Surface n) site answer h =
-    parities_on_grid o.parity n.parity answer (IsGroundPairPlace o n site answer) (ground_on_grid o n site answer) h
+kindred_on_grid (kinds.Airborne o) (kinds.Airborne n) site answer h = kind_on_grid InAir o n site answer h
+kindred_on_grid (kinds.Surface o) (kinds.Surface n) site answer h = kind_on_grid OnGround o n site answer h
 kindred_on_grid (kinds.Airborne o) (kinds.Surface n) site answer is = subst IfPlace (sym is) tt
 kindred_on_grid (kinds.Surface o) (kinds.Airborne n) site answer is = subst IfPlace (sym is) tt
 kindred_on_grid m n site answer h = absurd h

@@ -21,7 +21,7 @@ use Rattle.sq_track.specs.Answers.{heard_alone, heard_near, IsHeardNear, IsHeard
 use Rattle.sq_track.specs.Tame.{AreNearPlaces}
 use Rattle.sq_track.specs.Laws.{FollowedAfterAFix}
 use Rattle.sq_track.proofs.Histories.SomeAnswer.{IsOnGrid, position_of_place}
-use Rattle.sq_message.proofs.SomePlace.{some_local}
+use Rattle.sq_message.proofs.OnePlace.{some_local}
 use Rattle.sq_track.proofs.Worlds.ByPairs.{in_pair}
 use Rattle.sq_track.proofs.Worlds.Nearby.{near_in_air, near_on_ground}
 use Rattle.sq_track.proofs.Worlds.Places.{one_place}

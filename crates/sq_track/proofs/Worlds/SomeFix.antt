@@ -36,7 +36,7 @@ use Rattle.sq_track.proofs.Histories.Entries.{sender_parts, together_sym}
 use Rattle.sq_track.proofs.Lists.Found.{same_some}
 use Rattle.sq_track.proofs.Worlds.ByPairs.{slow_pair_exactly}
 use Rattle.sq_track.proofs.Worlds.Places.{one_place}
-use Rattle.sq_message.proofs.SomePlace.{some_pair_place}
+use Rattle.sq_message.proofs.OnePlace.{some_pair_place}
 
 -- what was found of tame points with one zone count is the newest
 one_count : (span : Span) (named : Point → Place) (newest : Parity) (a b : Point) (found : Result Point PairFault)

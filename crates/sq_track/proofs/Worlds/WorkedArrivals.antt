@@ -17,13 +17,14 @@ use Rattle.sq_cpr.specs.Slow.{AreSlow, AreSlowForFollowing, AreWithin, DifferByL
 use Rattle.sq_cpr.specs.Slow.{following_limit, slow_limit}
 use Rattle.sq_angle.specs.Fraction.{whole}
 use Rattle.sq_message.specs.declared.place.Place.TheVariants.{Air, Ground}
-use Rattle.sq_message.specs.Kinds.{HeadParts, InAir, Kind, OnGround, address_of, ca_of, me_of, place_at, span_of}
+use Rattle.sq_message.specs.Kinds.{HeadParts, InAir, Kind, OnGround, me_of, place_at, span_of}
 use Rattle.sq_message.specs.Parts.{squitter_parts}
+use Rattle.sq_message.specs.Places.{IsAt}
 use Rattle.sq_track.specs.History.{Entry, are_of_one_kind, are_of_one_sender, parity_of}
 use Rattle.sq_track.specs.Laws.{as_waiting}
 use Rattle.sq_track.specs.Replies.{of_address}
 use Rattle.sq_track.specs.Tame.{ArePairTogether, AreTogether}
-use Rattle.sq_track.specs.WorkedArrivals.{IsArrivalFrom, IsAt}
+use Rattle.sq_track.specs.WorkedArrivals.{IsArrivalFrom}
 use Rattle.sq_track.specs.Worlds.{Arrival, IsEncodedFrom, IsPlaceOf, IsTruePlace}
 use Rattle.sq_track.proofs.Worlds.Pinned.{of_address_exactly}
 
@@ -145,18 +146,18 @@ abbrev pub code_of_numbers : (lat lon : ℕ) → lat < 131072 → lon < 131072 �
 code_of_numbers lat lon north east = record { lat = lat; lon = lon; lat_below = north; lon_below = east }
 
 -- an arrival from a position that rounds to this point, with the point's code
-pub some_arrival : (kind : Kind) (head : HeadParts kind) → ca_of kind head < 8 → address_of kind head < 2 ^ 24
+pub some_arrival : (kind : Kind) (head : HeadParts kind) → head.ca < 8 → head.address < 2 ^ 24
     → (time : ℕ) (point : Point) (lat lon : ℕ) (north : lat < 131072) (east : lon < 131072)
     → numbers_of (code_of_numbers lat lon north east) ≡ code_of point → {n e : Fraction} (x : Position) → IsAt n e x
     → PositionRoundsTo (span_of kind) x point
-    → (a : Arrival) × IsArrivalFrom kind (address_of kind head) point.parity time n e a
+    → (a : Arrival) × IsArrivalFrom kind head.address point.parity time n e a
 some_arrival kind head ca address time point lat lon north east same x at rounds =
     let code = code_of_numbers lat lon north east in (
       record {
         moment = time;
         squitter = record {
-          ca = ca_of kind head;
-          address = address_of kind head;
+          ca = head.ca;
+          address = head.address;
           me = me_of kind head point.parity code;
           ca_in = ca;
           address_in = address;

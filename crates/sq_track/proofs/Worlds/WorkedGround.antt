@@ -11,8 +11,9 @@ use Rattle.sq_cpr.specs.Slow.{AreSlow, AreSlowForFollowing, AreWithin}
 use Rattle.sq_message.specs.declared.place.Place.TheVariants.{Ground}
 use Rattle.sq_message.proofs.WorkedPoints.{of_position}
 use Rattle.sq_message.proofs.WorkedGround.{even_beyond_position_rounds, odd_beyond_position_rounds}
+use Rattle.sq_message.specs.Places.{IsAt}
 use Rattle.sq_track.specs.Tame.{ArePairTogether, AreTogether, IsSlow, IsSlowForFollowing}
-use Rattle.sq_track.specs.WorkedArrivals.{IsAt, parts, west}
+use Rattle.sq_track.specs.WorkedArrivals.{parts, west}
 use Rattle.sq_track.specs.Worlds.{Arrival, IsTruePlace}
 use Rattle.sq_track.specs.WorkedGround.{IsFirst, IsFourth, IsSecond, IsSite, IsThird, TruePlaces, TwoAreSlow}
 use Rattle.sq_track.specs.WorkedGround.{first_point, fourth_point, second_point, third_point}
@@ -39,7 +40,7 @@ third_rounds = record {
 pub third_position_rounds : (x : Position) → IsAt (parts 5232 100) (west 175264 1000) x
     → PositionRoundsTo ground x third_point
 third_position_rounds x at =
-    of_position (λ f g. RoundsTo ground f g third_point) _ _ x at.lat at.lon third_rounds
+    of_position (λ f g. RoundsTo ground f g third_point) _ _ x at third_rounds
 
 fourth_is_point : IsGridPoint ground fourth_point
 unfolding zones_at zone_limits
@@ -59,7 +60,7 @@ fourth_rounds = record {
 pub fourth_position_rounds : (x : Position) → IsAt (parts 523194 10000) (west 1752629 10000) x
     → PositionRoundsTo ground x fourth_point
 fourth_position_rounds x at =
-    of_position (λ f g. RoundsTo ground f g fourth_point) _ _ x at.lat at.lon fourth_rounds
+    of_position (λ f g. RoundsTo ground f g fourth_point) _ _ x at fourth_rounds
 
 pub one_count : HaveOneCount 90 first_point.lat_index second_point.lat_index
 unfolding zones_at zone_limits
@@ -72,10 +73,10 @@ last_count = refl
 -- ---- the arrivals
 
 pub first_place : (a : Arrival) → IsFirst a → IsTruePlace a (Ground first_point)
-first_place a h = true_place a h first_point refl (even_beyond_position_rounds a.position h.place.lat h.place.lon)
+first_place a h = true_place a h first_point refl (even_beyond_position_rounds a.position h.place)
 
 pub second_place : (b : Arrival) → IsSecond b → IsTruePlace b (Ground second_point)
-second_place b h = true_place b h second_point refl (odd_beyond_position_rounds b.position h.place.lat h.place.lon)
+second_place b h = true_place b h second_point refl (odd_beyond_position_rounds b.position h.place)
 
 pub third_place : (c : Arrival) → IsThird c → IsTruePlace c (Ground third_point)
 third_place c h = true_place c h third_point refl (third_position_rounds c.position h.place)

@@ -7,8 +7,7 @@ use Rattle.sq_message.specs.declared.place.Place.{Place}
 use Rattle.sq_message.specs.declared.place.Place.TheVariants.{Ground}
 use Rattle.sq_message.specs.declared.place.PlaceFault.{PlaceFault}
 use Rattle.sq_message.specs.declared.place.PlaceFault.TheVariants as faults
-use Rattle.sq_message.specs.Heads.{GroundHeadParts}
-use Rattle.sq_message.specs.Kinds.{OnGround, me_of}
+use Rattle.sq_message.specs.Kinds.{OnGround, me_of, HeadParts}
 use Rattle.sq_message.specs.Parts.{squitter_parts}
 use Rattle.sq_message.specs.Places.{IsPlaceOfOneAddress}
 use Rattle.sq_message.proofs.WorkedGround.{even_beyond_position_rounds, odd_beyond_position_rounds}
@@ -91,7 +90,7 @@ third_is_followed site b c h k =
 -- ---- that there are such
 
 -- CA 4, 484175, type code 7, and no other field
-head : GroundHeadParts
+head : HeadParts OnGround
 head = record {
   ca = 4;
   address = 0x484175;
@@ -115,7 +114,7 @@ some_first =
     (record { positive = omega arith; at_most = omega arith; within = omega (arith, ints) })
     (record { latitude = omega arith; longitude = omega (arith, ints) }) in
     some_arrival OnGround head (omega arith) (omega arith) 0 first_point 115609 116941 (omega arith) (omega arith)
-    refl at.0 at.1 (even_beyond_position_rounds at.0 at.1.lat at.1.lon)
+    refl at.0 at.1 (even_beyond_position_rounds at.0 at.1)
 
 some_second : (b : Arrival) × IsSecond b
 unfolding head
@@ -125,7 +124,7 @@ some_second =
     (record { positive = omega arith; at_most = omega arith; within = omega (arith, ints) })
     (record { latitude = omega arith; longitude = omega (arith, ints) }) in
     some_arrival OnGround head (omega arith) (omega arith) 6000 second_point 39199 110269 (omega arith) (omega arith)
-    refl at.0 at.1 (odd_beyond_position_rounds at.0 at.1.lat at.1.lon)
+    refl at.0 at.1 (odd_beyond_position_rounds at.0 at.1)
 
 some_third : (c : Arrival) × IsThird c
 unfolding head

@@ -10,14 +10,14 @@ use Rattle.sq_cpr.specs.Grid.{IsGridPoint, circle}
 use Rattle.sq_cpr.specs.Rounds.{RoundsTo, PositionRoundsTo}
 use Rattle.sq_cpr.specs.Slow.{AreSlow, AreSlowForFollowing}
 use Rattle.sq_message.specs.declared.place.Place.TheVariants.{Air}
-use Rattle.sq_message.specs.Heads.{AirHeadParts}
-use Rattle.sq_message.specs.Kinds.{InAir}
+use Rattle.sq_message.specs.Kinds.{InAir, HeadParts}
 use Rattle.sq_message.proofs.WorkedPoints.{even_position_rounds, odd_position_rounds, of_position}
+use Rattle.sq_message.specs.Places.{IsAt}
 use Rattle.sq_track.specs.declared.heard.Heard.TheVariants.{Fix, Followed}
 use Rattle.sq_track.specs.Answers.{IsHeard}
 use Rattle.sq_track.specs.Laws.{as_fix, as_waiting}
 use Rattle.sq_track.specs.Tame.{ArePairTogether, AreTogether}
-use Rattle.sq_track.specs.WorkedArrivals.{IsAt, parts}
+use Rattle.sq_track.specs.WorkedArrivals.{parts}
 use Rattle.sq_track.specs.Worlds.{Arrival, IsTruePlace}
 use Rattle.sq_track.specs.Worked.{IsFirst, IsSecond, IsThird, SecondIsFixed, SecondIsFixedAmongOthers, SomeWorked}
 use Rattle.sq_track.specs.Worked.{ThirdIsFollowed, TruePlaces, TwoAreSlow, TwoAreTrue, first_point, second_point}
@@ -49,7 +49,7 @@ third_rounds = record {
 }
 
 third_position_rounds : (x : Position) → IsAt (parts 5227 100) (parts 3948 1000) x → PositionRoundsTo air x third_point
-third_position_rounds x at = of_position (λ f g. RoundsTo air f g third_point) _ _ x at.lat at.lon third_rounds
+third_position_rounds x at = of_position (λ f g. RoundsTo air f g third_point) _ _ x at third_rounds
 
 one_count : HaveOneCount 360 first_point.lat_index second_point.lat_index
 unfolding zones_at zone_limits
@@ -58,10 +58,10 @@ one_count = refl
 -- ---- the arrivals
 
 first_place : (a : Arrival) → IsFirst a → IsTruePlace a (Air first_point)
-first_place a h = true_place a h first_point refl (even_position_rounds a.position h.place.lat h.place.lon)
+first_place a h = true_place a h first_point refl (even_position_rounds a.position h.place)
 
 second_place : (b : Arrival) → IsSecond b → IsTruePlace b (Air second_point)
-second_place b h = true_place b h second_point refl (odd_position_rounds b.position h.place.lat h.place.lon)
+second_place b h = true_place b h second_point refl (odd_position_rounds b.position h.place)
 
 third_place : (c : Arrival) → IsThird c → IsTruePlace c (Air third_point)
 third_place c h = true_place c h third_point refl (third_position_rounds c.position h.place)
@@ -156,7 +156,7 @@ third_is_followed site b c h k =
 -- ---- that there are such
 
 -- CA 5, 40621D, type code 11, and no other field
-head : AirHeadParts
+head : HeadParts InAir
 head = record {
   ca = 5;
   address = 0x40621D;
@@ -180,7 +180,7 @@ some_first =
     (record { positive = omega arith; at_most = omega arith; within = omega arith })
     (record { latitude = omega arith; longitude = omega arith }) in
     some_arrival InAir head (omega arith) (omega arith) 0 first_point 93000 51372 (omega arith) (omega arith) refl
-    at.0 at.1 (even_position_rounds at.0 at.1.lat at.1.lon)
+    at.0 at.1 (even_position_rounds at.0 at.1)
 
 some_second : (b : Arrival) × IsSecond b
 unfolding head
@@ -190,7 +190,7 @@ some_second =
     (record { positive = omega arith; at_most = omega arith; within = omega arith })
     (record { latitude = omega arith; longitude = omega arith }) in
     some_arrival InAir head (omega arith) (omega arith) 6000 second_point 74158 50194 (omega arith) (omega arith) refl
-    at.0 at.1 (odd_position_rounds at.0 at.1.lat at.1.lon)
+    at.0 at.1 (odd_position_rounds at.0 at.1)
 
 some_third : (c : Arrival) × IsThird c
 unfolding head

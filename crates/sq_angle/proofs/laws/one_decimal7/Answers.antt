@@ -1,5 +1,0 @@
-use Rattle.sq_angle.proofs.OneText.{one_decimal7}
-use Rattle.sq_angle.proofs.laws.one_decimal7.Goals as goal
-
-pub returns : goal.returns
-returns c = one_decimal7

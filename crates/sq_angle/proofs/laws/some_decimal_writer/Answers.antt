@@ -1,5 +1,0 @@
-use Rattle.sq_angle.proofs.SomeText.{writer}
-use Rattle.sq_angle.proofs.laws.some_decimal_writer.Goals as goal
-
-pub returns : goal.returns
-returns c = writer

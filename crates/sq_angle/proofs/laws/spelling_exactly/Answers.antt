@@ -1,5 +1,0 @@
-use Rattle.sq_angle.proofs.SpellingParts.{of_characters, to_characters}
-use Rattle.sq_angle.proofs.laws.spelling_exactly.Goals as goal
-
-pub returns : goal.returns
-returns c p = (to_characters p, λ h. of_characters p h.0 h.1)

@@ -1,5 +1,0 @@
-use Rattle.sq_cpr.proofs.Distances.Exact.{across_180_degrees}
-use Rattle.sq_cpr.proofs.laws.across_180_degrees.Goals as goal
-
-pub returns : goal.returns
-returns c = across_180_degrees

@@ -1,5 +1,0 @@
-use Rattle.sq_cpr.proofs.Grids.Codes.{one_code}
-use Rattle.sq_cpr.proofs.laws.one_code.Goals as goal
-
-pub returns : goal.returns
-returns c = one_code

@@ -1,0 +1,186 @@
+//! Guards of the definitions: each has one value, some value or an exact condition, so none can be weakened unnoticed.
+//! A function with an empty body does nothing: its contract is the statement.
+ghost use Rattle.std.specs.Prelude.{◌≡◌, ◌↔◌, IsTrue};
+ghost use Rattle.sq_cpr.specs.Code.{numbers_of};
+ghost use Rattle.sq_cpr.specs.Laws.{OnePairOfZones, OneCode};
+ghost use Rattle.sq_cpr.specs.DecodeLaws.{OneNearLatitude, OneNearLongitude, OneLocalAnswer};
+ghost use Rattle.sq_cpr.specs.DecodeLaws.{OneCloseLatitudes, OneCloseLongitudes, OneZoneIsClose, OnePairAnswer};
+ghost use Rattle.sq_cpr.specs.DecodeLaws.{OneAirPairAnswer};
+ghost use Rattle.sq_cpr.specs.DecodeLaws.{SomeLocalAnswer, SomePairAnswer};
+ghost use Rattle.sq_cpr.specs.DecodeLaws.{SomeAirPairAnswer};
+ghost use Rattle.sq_cpr.specs.Exactly.{Across180Degrees, AtTheLimits, CloseExactly, DifferAroundExactly, DifferExactly};
+ghost use Rattle.sq_cpr.specs.Exactly.{FollowingExactly, LimitsAsNumbers, LimitsInWords, PointWithinExactly};
+ghost use Rattle.sq_cpr.specs.Exactly.{SlowExactly, WithinExactly};
+ghost use Rattle.sq_cpr.specs.Exactly.{NearThreeDecimals, StrictlyNearExactly, TameAnswerExactly, TameExactly};
+ghost use Rattle.sq_cpr.specs.Exactly.{GridPointExactly, TwoCountsExactly, WindowExactly, ZonesAsNumbers};
+
+use crate::code::Code;
+use crate::faults::{LocalFault, PairFault};
+use crate::grid::GridPoint;
+use crate::span::Span;
+
+/// A position lies in exactly one pair of zones of each parity's grid.
+pub fn one_pair_of_zones<S: Span>()
+    ensures { OnePairOfZones S.span }
+{}
+
+/// A point has exactly one code of 17 bits.
+pub fn one_code()
+    ensures { OneCode }
+{}
+
+/// Each latitude code has exactly one index near a reference.
+pub fn one_near_latitude<S: Span>()
+    ensures { OneNearLatitude S.span }
+{}
+
+/// Each longitude code has exactly one index on the circle near a reference, whatever the number of zones.
+pub fn one_near_longitude<S: Span>()
+    ensures { OneNearLongitude S.span }
+{}
+
+/// Decoding near a reference has one answer.
+pub fn one_local_answer<S: Span>()
+    ensures { OneLocalAnswer S.span }
+{}
+
+/// Any two latitude codes have exactly one close pair of latitudes.
+pub fn one_close_latitudes<S: Span>()
+    ensures { OneCloseLatitudes S.span }
+{}
+
+/// Any two longitude codes have exactly one close pair of longitudes, for each zone count from 1 to 59.
+pub fn one_close_longitudes<S: Span>()
+    ensures { OneCloseLongitudes S.span }
+{}
+
+/// Where each grid has one zone, any two angles are close.
+pub fn one_zone_is_close<S: Span>()
+    ensures { OneZoneIsClose S.span }
+{}
+
+/// Decoding a pair at a place has one answer.
+pub fn one_pair_answer<S: Span>()
+    ensures { OnePairAnswer S.span }
+{}
+
+/// Decoding a pair in the air has one answer.
+pub fn one_air_pair_answer()
+    ensures { OneAirPairAnswer }
+{}
+
+/// Two angles differ by less than a limit exactly where each lies below the other and the limit together; modulo 360
+/// degrees, exactly where some turns on they do.
+pub fn differ_exactly()
+    ensures straight { DifferExactly }
+    ensures around { DifferAroundExactly }
+{}
+
+/// Longitudes either side of 180 degrees.
+pub fn across_180_degrees()
+    ensures { Across180Degrees }
+{}
+
+/// Differences next to the limits, where points have 59 and 58 zones.
+pub fn at_the_limits()
+    ensures { AtTheLimits }
+{}
+
+/// The limits of slow positions, as numbers and by the zones of a span.
+pub fn limits_of_slow()
+    ensures numbers { LimitsAsNumbers }
+    ensures words { LimitsInWords }
+{}
+
+/// The exact condition for slow.
+pub fn slow_exactly<S: Span>()
+    ensures { SlowExactly S.span }
+{}
+
+/// The exact condition for slow for following.
+pub fn following_exactly<S: Span>()
+    ensures { FollowingExactly S.span }
+{}
+
+/// The exact condition for being within a number of degrees of a site, for positions and for points.
+pub fn within_exactly<S: Span>()
+    ensures positions { WithinExactly }
+    ensures points { PointWithinExactly S.span }
+{}
+
+/// The exact condition for being strictly near a place, for points and for each coordinate.
+pub fn strictly_near_exactly<S: Span>()
+    ensures points { StrictlyNearExactly S.span }
+    ensures window { WindowExactly }
+{}
+
+/// Points next to a reference of three decimals, and of one even and one odd frame.
+pub fn near_three_decimals()
+    ensures { NearThreeDecimals }
+{}
+
+/// The exact condition for tame.
+pub fn tame_exactly<S: Span>()
+    ensures { TameExactly S.span }
+{}
+
+/// A point is on the grid exactly if its latitude, the zones there and its index on the circle say so. An even grid has
+/// 60 zones of latitude and an odd one 59.
+pub fn grid_point_exactly<S: Span>()
+    ensures point { GridPointExactly S.span }
+    ensures zones { ZonesAsNumbers }
+{}
+
+/// Tame points are decoded to the newest one, or to the two zone counts of their latitudes.
+pub fn tame_answer_exactly<S: Span>()
+    ensures counts { TwoCountsExactly S.span }
+    ensures answer { TameAnswerExactly S.span }
+{}
+
+/// Points are close exactly if they are tame and have one zone count.
+pub fn close_exactly<S: Span>()
+    ensures { CloseExactly S.span }
+{}
+
+/// Decoding near a reference has an answer.
+pub fn some_local_answer<S: Span>()
+    ensures { SomeLocalAnswer S.span }
+{}
+
+/// Decoding a pair has an answer, at a place and in the air.
+pub fn some_pair_answer<S: Span>()
+    ensures at_a_place { SomePairAnswer S.span }
+    ensures in_air { SomeAirPairAnswer }
+{}
+
+/// Compares two points by `==`, which is true exactly if their parity and both indices are the same.
+pub fn equal_points<S: Span>(a: &GridPoint<S>, b: &GridPoint<S>) -> bool
+    ensures equal { IsTrue result ↔ (a.now ≡ b.now) }
+    ensures indices { IsTrue result ↔ ((a.now.parity ≡ b.now.parity) × (a.now.lat_index ≡ b.now.lat_index)
+        × (a.now.lon_index ≡ b.now.lon_index)) }
+{
+    // each call says that its point is one of the grid
+    let _ = (a.parity(), b.parity());
+    a == b
+}
+
+/// Compares two codes by `==`, which is true exactly if both numbers are the same.
+pub fn equal_codes(code: &Code, other: &Code) -> bool
+    ensures { IsTrue result ↔ (numbers_of code.now ≡ numbers_of other.now) }
+{
+    code == other
+}
+
+/// Compares two faults of a code near a reference by `==`, which is true exactly if they are the same.
+pub fn equal_local_faults(local_fault: &LocalFault, other: &LocalFault) -> bool
+    ensures { IsTrue result ↔ (local_fault.now ≡ other.now) }
+{
+    local_fault == other
+}
+
+/// Compares two faults of pairs by `==`, which is true exactly if they are the same.
+pub fn equal_pair_faults(pair_fault: &PairFault, other: &PairFault) -> bool
+    ensures { IsTrue result ↔ (pair_fault.now ≡ other.now) }
+{
+    pair_fault == other
+}

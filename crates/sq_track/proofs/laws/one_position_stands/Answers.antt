@@ -1,5 +1,0 @@
-use Rattle.sq_track.proofs.Worlds.Pinned.{one_position_stands as the_law}
-use Rattle.sq_track.proofs.laws.one_position_stands.Goals as goal
-
-pub returns : goal.returns
-returns c = the_law

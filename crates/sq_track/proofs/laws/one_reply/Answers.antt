@@ -1,5 +1,0 @@
-use Rattle.sq_track.proofs.Histories.OneReply.{one_reply as the_law}
-use Rattle.sq_track.proofs.laws.one_reply.Goals as goal
-
-pub returns : goal.returns
-returns c = the_law

@@ -1,5 +1,0 @@
-use Rattle.sq_track.proofs.Worlds.Pinned.{memory_exactly as the_law}
-use Rattle.sq_track.proofs.laws.out_of_memory_exactly.Goals as goal
-
-pub returns : goal.returns
-returns c = the_law
