@@ -1,21 +1,9 @@
 //! Laws over the definitions that the contracts name.
-ghost use Rattle.std.specs.Prelude.{◌≡◌, ◌↔◌, ◌⊎◌, ◌+◌, ◌++◌, ◌<◌, ◌≤◌, ◌∷◌, [], List, ℕ, Some, length, take, true};
-ghost use Rattle.std.specs.List.{All, concat};
-ghost use Rattle.std.specs.Io.KnownBytes.{Appends, Consumes, IsAtEnd, Keeps};
-ghost use Rattle.sq_devices.specs.Calls.{Calls, HasPut, HasSent};
-ghost use Rattle.sq_devices.specs.Changes.{FailedWithin, FinishedOnce, Sent, Unfinished, Wrote, WroteLast};
-ghost use Rattle.sq_devices.specs.Changes.{WroteNothing};
-ghost use Rattle.sq_devices.specs.Changes.{GotAtMost, GotUpToEnd, TookAll, TookNothing, TookPart, TookReported};
-ghost use Rattle.sq_devices.specs.Changes.{TookSome};
-ghost use Rattle.sq_devices.specs.Changes.{WroteOrFailed, taken_from, written_on};
-ghost use Rattle.sq_devices.specs.Device.{AppendsOrHides, ConsumesOrHides, IsPrefixOf, KeepsOrHides, WroteFront};
-ghost use Rattle.sq_devices.specs.Clocks.{Tells, recorded, times_of};
-ghost use Rattle.sq_devices.specs.declared.readers.Reading.{Reading};
-ghost use Rattle.sq_devices.specs.declared.writers.Writing.{Writing};
-ghost use Rattle.sq_devices.specs.Streams.{IsFinish, IsGiven, IsTaken, finishes_of, gets_of, reader_of, writer_of};
+ghost use Rattle.std.specs.Prelude.{◌≡◌, ◌↔◌, ◌<◌, ◌∷◌, [], List, ℕ};
+ghost use Rattle.sq_devices.specs.Calls.{Calls};
+ghost use Rattle.sq_devices.specs.Clocks.{Tells, times_of};
 
-use crate::{Clock, NoClock, Reading, Sink, Source, Writing};
-use std::io::{Read, Write};
+use crate::{Clock, Sink, Source};
 
 /// No gets at all leave a source as it was, and gets of two pieces are one of each, the second of what the first left.
 pub fn gets_in_turn<S: Source>()
@@ -31,94 +19,6 @@ pub fn puts_in_turn<K: Sink>()
         ↔ ((between : K) × K.Took old x between × K.Took between y new) }
 {}
 
-/// What is said of a sink, by what it shows of itself: the text was appended, and it was finished once or not.
-pub fn written_exactly<K: Sink>()
-    ensures wrote { (old new : K) (text : List ℕ) → Wrote (written_on K.Sink old new) text
-        ↔ Appends (K.written old) (K.written new) text }
-    ensures finished { (old new : K) → FinishedOnce (written_on K.Sink old new)
-        ↔ (K.finishes new ≡ K.finishes old + 1) }
-    ensures unfinished { (old new : K) → Unfinished (written_on K.Sink old new) ↔ (K.finishes new ≡ K.finishes old) }
-    ensures nothing { (old new : K) → WroteNothing (written_on K.Sink old new)
-        ↔ (Appends (K.written old) (K.written new) [] × (K.finishes new ≡ K.finishes old)) }
-{}
-
-/// The same of whole texts: in puts of their parts, and then a finish.
-pub fn sent_exactly<K: Sink>()
-    ensures put { (old new : K) (text : List ℕ) → HasPut K.Sink old new text
-        ↔ (Appends (K.written old) (K.written new) text
-        × ((texts : List (List ℕ)) × Calls K.Took old new texts × (concat texts ≡ text))) }
-    ensures then_finished { (old new : K) (text : List ℕ) → HasSent K.Sink old new text
-        ↔ ((last : K) × HasPut K.Sink old last text × K.Finished last new) }
-    ensures sent { (old new : K) (text : List ℕ) → Sent (written_on K.Sink old new) text
-        ↔ (Appends (K.written old) (K.written new) text × HasSent K.Sink old new text) }
-    ensures last { (old new : K) (text : List ℕ) → WroteLast (written_on K.Sink old new) text
-        ↔ (Sent (written_on K.Sink old new) text × (K.finishes new ≡ K.finishes old + 1)) }
-{}
-
-/// And of a sink that has failed: a prefix of the text was appended, and no more.
-pub fn failed_exactly<K: Sink>()
-    ensures within { (old new : K) (text : List ℕ) → FailedWithin (written_on K.Sink old new) text
-        ↔ ((K.has_failed new ≡ true) × WroteFront (K.written old) (K.written new) text
-        × (K.finishes new ≡ K.finishes old)) }
-    ensures either { (old new : K) (text : List ℕ) → WroteOrFailed (written_on K.Sink old new) text
-        ↔ (WroteLast (written_on K.Sink old new) text ⊎ FailedWithin (written_on K.Sink old new) text) }
-{}
-
-/// What is said of a source, by what it shows of itself: nothing was done with it, or so many gets at most.
-pub fn taken_exactly<S: Source>()
-    ensures nothing { (old new : S) → TookNothing (taken_from S.Source old new) ↔ ((S.to_come new ≡ S.to_come old)
-        × (S.has_failed new ≡ S.has_failed old) × (S.gets_left new ≡ S.gets_left old)) }
-    ensures most { (old new : S) (n : ℕ) → GotAtMost (taken_from S.Source old new) n
-        ↔ (S.gets_left old ≤ S.gets_left new + n) }
-    ensures up_to_end { (old new : S) (pieces : List (List ℕ)) → GotUpToEnd (taken_from S.Source old new) pieces
-        ↔ (Calls S.Gave old new (pieces ++ [] ∷ []) × All (λ piece. 0 < length piece) pieces
-        × (S.gets_left old ≡ S.gets_left new + (length pieces + 1))) }
-    ensures reported { (old new : S) (bytes came : List ℕ) → S.to_come old ≡ Some bytes
-        → TookReported (taken_from S.Source old new) (λ taken. taken ≡ came)
-        ↔ ((S.to_come new ≡ Some []) × (bytes ≡ came)) }
-{}
-
-/// What was taken of a source, whole and in part: these bytes.
-pub fn bytes_taken_exactly<S: Source>()
-    ensures all { (old new : S) (came : List ℕ) → TookAll (taken_from S.Source old new) (λ bytes. bytes ≡ came)
-        ↔ ((pieces : List (List ℕ)) × GotUpToEnd (taken_from S.Source old new) pieces
-        × Consumes (S.to_come old) (S.to_come new) came × IsAtEnd (S.to_come new) × (concat pieces ≡ came)) }
-    ensures some { (old new : S) (came : List ℕ) → TookSome (taken_from S.Source old new) (λ bytes. bytes ≡ came)
-        ↔ (Consumes (S.to_come old) (S.to_come new) came × (S.gets_left old ≤ S.gets_left new + (length came + 1))) }
-    ensures part { (old new : S) (came : List ℕ) → TookPart (taken_from S.Source old new) (λ bytes. bytes ≡ came)
-        ↔ ((S.has_failed new ≡ true) × ConsumesOrHides (S.to_come old) (S.to_come new) came
-        × (S.gets_left old ≤ S.gets_left new + length came)) }
-{}
-
-/// A text begins with a part exactly if as many of its first bytes are that part. Where a device reports its bytes, a
-/// failed call kept, appended or consumed just these; where a sink does, what it wrote of a text is a prefix.
-pub fn reported_bytes()
-    ensures front { (part text : List ℕ) → IsPrefixOf part text ↔ (take (length part) text ≡ part) }
-    ensures kept { (old new : List ℕ) → KeepsOrHides (Some old) (Some new) ↔ (new ≡ old) }
-    ensures appended { (old new bytes : List ℕ) → AppendsOrHides (Some old) (Some new) bytes ↔ (new ≡ old ++ bytes) }
-    ensures consumed { (old new bytes : List ℕ) → ConsumesOrHides (Some old) (Some new) bytes ↔ (old ≡ bytes ++ new) }
-    ensures wrote { (old new text : List ℕ) → WroteFront (Some old) (Some new) text
-        ↔ ((count : ℕ) × (new ≡ old ++ take count text)) }
-{}
-
-/// One get of a source over a reader takes just what it answers from the front of the reader, where that reports its
-/// bytes, and uses up one get.
-pub fn one_get<R: Read>()
-    ensures { (old new : Reading R) (bytes : List ℕ) → IsGiven R.remaining old bytes new
-        ↔ (Consumes (R.remaining (reader_of old)) (R.remaining (reader_of new)) bytes
-        × (gets_of new + 1 ≡ gets_of old)) }
-{}
-
-/// One put of a sink over a writer appends just what it took, where the writer reports its bytes, and one finish
-/// appends nothing and is counted.
-pub fn one_put<W: Write>()
-    ensures took { (old new : Writing W) (bytes : List ℕ) → IsTaken W.contents old bytes new
-        ↔ (Appends (W.contents (writer_of old)) (W.contents (writer_of new)) bytes
-        × (finishes_of new ≡ finishes_of old)) }
-    ensures finished { (old new : Writing W) → IsFinish W.contents old new
-        ↔ (Keeps (W.contents (writer_of old)) (W.contents (writer_of new)) × (finishes_of new ≡ finishes_of old + 1)) }
-{}
-
 /// Readings of a clock: no reading leaves the clock unchanged, and several are the first and then the others.
 pub fn told_in_turn<C: Clock>()
     ensures none { (old new : C) → Tells C.Told old new [] ↔ (new ≡ old) }
@@ -127,11 +27,4 @@ pub fn told_in_turn<C: Clock>()
     ensures shown { (old new : C) → (times_of C.Clock old new).is_live ≡ C.live old }
     ensures told { (old new : C) (moments : List ℕ) → (times_of C.Clock old new).told moments
         ↔ Tells C.Told old new moments }
-{}
-
-/// Without a clock an input is recorded: readings tell 0, and nothing else.
-pub fn no_clock_is_recorded()
-    ensures live { (old new : NoClock) → (times_of (⟦<NoClock as Clock>⟧) old new).is_live ≡ recorded.is_live }
-    ensures told { (old new : NoClock) (moments : List ℕ)
-        → (times_of (⟦<NoClock as Clock>⟧) old new).told moments ↔ recorded.told moments }
 {}

@@ -3,7 +3,7 @@
 
 ghost use Rattle.std.specs.Prelude.{◌≡◌, IfOk};
 
-use sq_console::{
+use sq_devices::{
     ConsoleClock, PromptInput, PromptOutput, SharedOutput, Trouble, arguments, is_input_live,
 };
 use sq_tool::{Sink, Source, Writing, run_live};

@@ -4,7 +4,7 @@ ghost use Rattle.std.specs.Io.Buffered.{reader_buffer, reader_remaining};
 ghost use Rattle.std.specs.Io.KnownBytes.{Consumes, IsAtEnd};
 ghost use Rattle.sq_devices.specs.Device.{KeepsOrHides};
 
-use sq_devices::{Failed, Sink, Source};
+use crate::{Failed, Sink, Source};
 use std::alloc::{AllocError, Global};
 use std::cell::RefCell;
 use std::io;
@@ -202,7 +202,7 @@ impl<'a, R: Read + Drop, W: Write + Drop> PromptInput<'a, R, W> {
 }
 
 impl<R: Read, W: Write + Drop> PromptInput<'_, R, W> {
-    ghost use Rattle.sq_console.specs.Prompt.{IsGiven, to_come_of};
+    ghost use Rattle.sq_devices.specs.Prompt.{IsGiven, to_come_of};
 
     // Gets what is no piece of the buffer, and flushes the output before it waits.
     #[cold]
@@ -238,7 +238,7 @@ impl<R: Read, W: Write + Drop> PromptInput<'_, R, W> {
 }
 
 impl<R: Read, W: Write + Drop> Source for PromptInput<'_, R, W> {
-    ghost use Rattle.sq_console.specs.Prompt.{IsGiven, get_failed, gets_of, to_come_of};
+    ghost use Rattle.sq_devices.specs.Prompt.{IsGiven, get_failed, gets_of, to_come_of};
 
     ghost to_come = { λ s. to_come_of R.remaining s };
 
@@ -287,7 +287,7 @@ impl<'a, W: Write + Drop> PromptOutput<'a, W> {
 }
 
 impl<W: Write + Drop> Sink for PromptOutput<'_, W> {
-    ghost use Rattle.sq_console.specs.Prompt.{IsFinish, IsTaken, finishes_of, put_failed};
+    ghost use Rattle.sq_devices.specs.Prompt.{IsFinish, IsTaken, finishes_of, put_failed};
 
     ghost written = { λ _. None };
 

@@ -1,6 +1,6 @@
 -- What the clock of the console holds.
 use Rattle.std.specs.Prelude.{◌≡◌, ℕ, Bool}
-use Rattle.sq_console.specs.declared.clock.ConsoleClock.{ConsoleClock}
+use Rattle.sq_devices.specs.declared.console_clock.ConsoleClock.{ConsoleClock}
 
 -- whether the input is received while it is read
 abbrev pub is_live : {T : Type 0} → ConsoleClock T → Bool

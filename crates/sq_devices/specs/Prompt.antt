@@ -3,8 +3,8 @@ use Rattle.std.specs.Prelude.{◌≡◌, ◌+◌, ℕ, Bool, List, Option}
 use Rattle.std.specs.Io.KnownBytes.{Consumes}
 use Rattle.std.specs.Io.Buffered.{reader_remaining}
 use Rattle.std.specs.declared.io.traits.Write.{Ghosts}
-use Rattle.sq_console.specs.declared.prompt.PromptInput.{PromptInput}
-use Rattle.sq_console.specs.declared.prompt.PromptOutput.{PromptOutput}
+use Rattle.sq_devices.specs.declared.prompt.PromptInput.{PromptInput}
+use Rattle.sq_devices.specs.declared.prompt.PromptOutput.{PromptOutput}
 
 -- the bytes in the input's buffer and then those of its reader, where the reader reports them
 abbrev pub to_come_of : {R W : Type 0} {g : Ghosts W} → (R → Option (List ℕ)) → PromptInput R W g → Option (List ℕ)

@@ -1,7 +1,7 @@
 -- What stands in the way of a program's start.
 use Rattle.std.specs.Prelude.{ℕ, List, codes}
-use Rattle.sq_console.specs.declared.start.Trouble.{Trouble}
-use Rattle.sq_console.specs.declared.start.Trouble.TheVariants as variants
+use Rattle.sq_devices.specs.declared.start.Trouble.{Trouble}
+use Rattle.sq_devices.specs.declared.start.Trouble.TheVariants as variants
 
 -- the exit status: 2 for words that cannot be read, 3 where memory runs out
 abbrev pub status_of : Trouble → ℕ

@@ -1,11 +1,12 @@
-//! Laws of the console's devices, over the definitions that their calls name.
+//! Guards of the definitions: each has one value, some value or an exact condition, so none can be weakened unnoticed.
+//! A function with an empty body does nothing: its contract is the statement.
 ghost use Rattle.std.specs.Prelude.{◌≡◌, ◌+◌, ◌≤◌, ◌<◌, ◌↔◌, IsTrue, List, ℕ};
 ghost use Rattle.std.specs.Io.KnownBytes.{Consumes};
-ghost use Rattle.sq_console.specs.Clock.{IsTold, is_live, latest_of};
-ghost use Rattle.sq_console.specs.declared.clock.ConsoleClock.{ConsoleClock};
-ghost use Rattle.sq_console.specs.Prompt.{IsFinish, IsGiven, IsTaken, finishes_of, gets_of, to_come_of};
-ghost use Rattle.sq_console.specs.declared.prompt.PromptInput.{PromptInput};
-ghost use Rattle.sq_console.specs.declared.prompt.PromptOutput.{PromptOutput};
+ghost use Rattle.sq_devices.specs.ConsoleClock.{IsTold, is_live, latest_of};
+ghost use Rattle.sq_devices.specs.declared.console_clock.ConsoleClock.{ConsoleClock};
+ghost use Rattle.sq_devices.specs.Prompt.{IsFinish, IsGiven, IsTaken, finishes_of, gets_of, to_come_of};
+ghost use Rattle.sq_devices.specs.declared.prompt.PromptInput.{PromptInput};
+ghost use Rattle.sq_devices.specs.declared.prompt.PromptOutput.{PromptOutput};
 
 use crate::start::Trouble;
 use std::io::{Read, Write};
@@ -33,7 +34,7 @@ pub fn one_time<T: time::Clock>()
         ↔ ((latest_of new ≡ moment) × (is_live new ≡ is_live old)) }
 {}
 
-/// Whether two troubles are equal by `==`: exactly if they are one.
+/// Compares two troubles by `==`, which is true exactly if they are the same.
 pub fn equal_troubles(trouble: &Trouble, other: &Trouble) -> bool
     ensures { IsTrue result ↔ (trouble.now ≡ other.now) }
 {

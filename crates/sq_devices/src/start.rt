@@ -2,7 +2,7 @@
 ghost use Rattle.std.specs.Prelude.{◌≡◌, false};
 ghost use Rattle.std.specs.Io.KnownBytes.{Appends};
 
-use sq_devices::{Sink, put_last};
+use crate::{Sink, put_last};
 use std::alloc::{Alloc, AllocError};
 use std::env;
 use std::env::Env;
@@ -18,7 +18,7 @@ pub enum Trouble {
 }
 
 impl From<AllocError> for Trouble {
-    ghost use Rattle.sq_console.specs.declared.start.Trouble.TheVariants.{Memory};
+    ghost use Rattle.sq_devices.specs.declared.start.Trouble.TheVariants.{Memory};
 
     ghost from_gives = { λ _ e. e ≡ Memory };
 
@@ -28,7 +28,7 @@ impl From<AllocError> for Trouble {
 }
 
 impl Trouble {
-    ghost use Rattle.sq_console.specs.Start.{status_of, text_of};
+    ghost use Rattle.sq_devices.specs.Start.{status_of, text_of};
 
     /// Tells it on the sink for faults in one line, `bad words` or `out of memory`, and answers the
     /// exit status, 2 or 3. What cannot be written there changes no status.

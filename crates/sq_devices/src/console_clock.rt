@@ -1,7 +1,7 @@
 //! The clock of a console's input.
 ghost use Rattle.std.specs.Prelude.{◌≡◌};
 
-use sq_devices::Clock;
+use crate::Clock;
 use std::fs::Files;
 use std::time::Duration;
 use std::{fs, time};
@@ -18,7 +18,7 @@ pub struct ConsoleClock<'a, T> {
 }
 
 impl<'a, T: time::Clock> ConsoleClock<'a, T> {
-    ghost use Rattle.sq_console.specs.Clock.{is_live};
+    ghost use Rattle.sq_devices.specs.ConsoleClock.{is_live};
 
     /// Returns a clock for an input that is live or recorded. It starts at 0 if the system does not know the time since
     /// 1970.
@@ -40,7 +40,7 @@ impl<'a, T: time::Clock> ConsoleClock<'a, T> {
 
 impl<T: time::Clock> Clock for ConsoleClock<'_, T> {
     ghost use Rattle.std.specs.Prelude.{◌≡◌};
-    ghost use Rattle.sq_console.specs.Clock.{IsTold, is_live};
+    ghost use Rattle.sq_devices.specs.ConsoleClock.{IsTold, is_live};
 
     ghost live = { λ clock. is_live clock };
 

@@ -2,8 +2,8 @@ use Rattle.std.proofs.Common.{arith, ◌≤◌, ◌==◌, take, length, subst, s
 use Rattle.std.proofs.lemmas.List.{length-take, take-take}
 use Rattle.std.specs.Io.Buffered.{reader_buffer, reader_capacity, reader_remaining}
 use Rattle.std.specs.Io.KnownBytes.{Consumes}
-use Rattle.sq_console.proofs.Pieces.{consumed, moved}
-use Rattle.sq_console.proofs.prompt.move_piece.Goals as goal
+use Rattle.sq_devices.proofs.Pieces.{consumed, moved}
+use Rattle.sq_devices.proofs.prompt.move_piece.Goals as goal
 
 pub returns-clause-room : goal.returns-clause-room
 returns-clause-room g c =

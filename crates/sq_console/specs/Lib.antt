@@ -1,3 +1,0 @@
-pub mod Prompt
-pub mod Start
-pub mod Clock
