@@ -9,3 +9,4 @@ pub mod LeadingDigits
 pub mod CountedDigits
 pub mod TimedReadings
 pub mod PlaceTexts
+pub mod Altitudes

@@ -5,3 +5,6 @@ pub mod Timed
 pub mod Show
 pub mod Summary
 pub mod Place
+pub mod Altitudes
+pub mod Rows
+pub mod Squitters

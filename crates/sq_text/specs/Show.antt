@@ -4,15 +4,13 @@ use Rattle.std.specs.Fmt.{signed_decimal}
 use Rattle.sq_zones.specs.declared.parity.Parity.{Parity}
 use Rattle.sq_zones.specs.declared.parity.Parity.TheVariants.{Even, Odd}
 use Rattle.sq_cpr.specs.Code.{CodeNumbers, numbers_of}
-use Rattle.sq_message.specs.declared.air.Airborne.{Airborne}
 use Rattle.sq_message.specs.declared.air.Altitude.{Altitude}
 use Rattle.sq_message.specs.declared.air.Altitude.TheVariants.{Missing, Feet, Raw}
-use Rattle.sq_message.specs.declared.ground.Surface.{Surface}
 use Rattle.sq_message.specs.declared.other.Other.{Other}
 use Rattle.sq_message.specs.declared.squitter.Me.{Me}
 use Rattle.sq_message.specs.declared.squitter.Me.TheVariants as kinds
 use Rattle.sq_message.specs.declared.squitter.Squitter.{Squitter}
-use Rattle.sq_message.specs.Parts.{air_parts, ground_parts, raw_of, SquitterParts, squitter_parts}
+use Rattle.sq_message.specs.Parts.{Airborne, Surface, air_parts, ground_parts, raw_of, SquitterParts, squitter_parts}
 use Rattle.sq_message.specs.Altitudes.{IsAltitude}
 use Rattle.sq_message.specs.Spelling.{bit}
 use Rattle.sq_digits.specs.Digits.{hexadecimal}

@@ -3,12 +3,13 @@ ghost use Rattle.std.specs.Prelude.{◌≡◌, ◌+◌, ◌≤◌, ◌++◌, dec
 ghost use Rattle.std.specs.Fmt.{signed_decimal};
 ghost use Rattle.sq_digits.specs.Buffer.{text_len};
 ghost use Rattle.sq_digits.specs.Digits.{hexadecimal};
-ghost use Rattle.sq_rows.specs.Rows.{Blank, Number, Word, between, cell, line_number, no_value, quote, row_end};
-ghost use Rattle.sq_rows.specs.Rows.{row_start};
+ghost use Rattle.sq_text.specs.Rows.{Blank, Number, Word, between, cell, line_number, no_value, quote, row_end};
+ghost use Rattle.sq_text.specs.Rows.{row_start, blank_width, end_width, line_width, number_width, signed_width};
+ghost use Rattle.sq_text.specs.Rows.{word_width};
 
+use crate::{push_decimal, push_hexadecimal, push_six_places};
 use itoa::Buffer;
 use sq_digits::{TextBuffer, push_signed_short};
-use sq_text::{push_decimal, push_hexadecimal, push_six_places};
 
 /// The form of a row.
 #[derive(Clone, Copy, Debug, PartialEq, Eq)]
@@ -23,9 +24,9 @@ pub enum Form {
 #[tactic(auto, unfolding(crate::specs::Rows::line_number))]
 #[inline(always)]
 pub fn push_line<const N: usize>(text: &mut TextBuffer<N>, form: Form, line: u64)
-    requires { text_len text.old + 28 ≤ N }
+    requires { text_len text.old + line_width ≤ N }
     ensures bytes { text.new.bytes ≡ text.old.bytes ++ line_number form line }
-    ensures len { text_len text.new ≤ text_len text.old + 28 }
+    ensures len { text_len text.new ≤ text_len text.old + line_width }
 {
     text.push_str(row_start(form));
     push_decimal(text, line);
@@ -46,9 +47,9 @@ fn row_start(form: Form) -> &'static str
 #[tactic(auto, unfolding(crate::specs::Rows::cell))]
 #[inline(always)]
 pub fn push_blank<const N: usize>(text: &mut TextBuffer<N>, form: Form, name: &str)
-    requires { text_len text.old + length name.now + 8 ≤ N }
+    requires { text_len text.old + length name.now + blank_width ≤ N }
     ensures bytes { text.new.bytes ≡ text.old.bytes ++ cell form name.now Blank }
-    ensures len { text_len text.new ≤ text_len text.old + length name.now + 8 }
+    ensures len { text_len text.new ≤ text_len text.old + length name.now + blank_width }
 {
     push_name(text, form, name);
     text.push_str(no_value(form));
@@ -69,9 +70,9 @@ fn no_value(form: Form) -> &'static str
 #[tactic(auto, unfolding(crate::specs::Rows::cell))]
 #[inline(always)]
 pub fn push_number<const N: usize>(text: &mut TextBuffer<N>, form: Form, name: &str, number: u64)
-    requires { text_len text.old + length name.now + 24 ≤ N }
+    requires { text_len text.old + length name.now + number_width ≤ N }
     ensures bytes { text.new.bytes ≡ text.old.bytes ++ cell form name.now (Number (decimal number)) }
-    ensures len { text_len text.new ≤ text_len text.old + length name.now + 24 }
+    ensures len { text_len text.new ≤ text_len text.old + length name.now + number_width }
 {
     push_name(text, form, name);
     push_decimal(text, number);
@@ -81,9 +82,9 @@ pub fn push_number<const N: usize>(text: &mut TextBuffer<N>, form: Form, name: &
 #[tactic(auto, unfolding(crate::specs::Rows::cell))]
 #[inline(always)]
 pub fn push_signed<const N: usize>(text: &mut TextBuffer<N>, form: Form, name: &str, number: i32)
-    requires { text_len text.old + length name.now + 15 ≤ N }
+    requires { text_len text.old + length name.now + signed_width ≤ N }
     ensures bytes { text.new.bytes ≡ text.old.bytes ++ cell form name.now (Number (signed_decimal number)) }
-    ensures len { text_len text.new ≤ text_len text.old + length name.now + 15 }
+    ensures len { text_len text.new ≤ text_len text.old + length name.now + signed_width }
 {
     push_name(text, form, name);
     // An altitude has at most five digits.
@@ -111,9 +112,9 @@ fn push_signed_long<const N: usize>(text: &mut TextBuffer<N>, number: i32)
 #[tactic(auto, unfolding(crate::specs::Rows::cell))]
 #[inline(always)]
 pub fn push_word<const N: usize>(text: &mut TextBuffer<N>, form: Form, name: &str, word: &str)
-    requires { text_len text.old + length name.now + length word.now + 6 ≤ N }
+    requires { text_len text.old + length name.now + word_width (length word.now) ≤ N }
     ensures bytes { text.new.bytes ≡ text.old.bytes ++ cell form name.now (Word word.now) }
-    ensures len { text_len text.new ≤ text_len text.old + length name.now + length word.now + 6 }
+    ensures len { text_len text.new ≤ text_len text.old + length name.now + word_width (length word.now) }
 {
     push_quoted_name(text, form, name);
     text.push_str(word);
@@ -131,9 +132,9 @@ pub fn push_hexadecimal_word<const N: usize>(
     places: u8,
 )
     requires some { places ≤ 16 }
-    requires room { text_len text.old + length name.now + places + 6 ≤ N }
+    requires room { text_len text.old + length name.now + word_width places ≤ N }
     ensures bytes { text.new.bytes ≡ text.old.bytes ++ cell form name.now (Word (hexadecimal places number)) }
-    ensures len { text_len text.new ≤ text_len text.old + length name.now + places + 6 }
+    ensures len { text_len text.new ≤ text_len text.old + length name.now + word_width places }
 {
     push_quoted_name(text, form, name);
     push_hexadecimal(text, number, places);
@@ -144,9 +145,9 @@ pub fn push_hexadecimal_word<const N: usize>(
 #[tactic(auto, unfolding(crate::specs::Rows::cell))]
 #[inline(always)]
 pub fn push_address<const N: usize>(text: &mut TextBuffer<N>, form: Form, name: &str, address: u32)
-    requires { text_len text.old + length name.now + 12 ≤ N }
+    requires { text_len text.old + length name.now + word_width 6 ≤ N }
     ensures bytes { text.new.bytes ≡ text.old.bytes ++ cell form name.now (Word (hexadecimal 6 address)) }
-    ensures len { text_len text.new ≤ text_len text.old + length name.now + 12 }
+    ensures len { text_len text.new ≤ text_len text.old + length name.now + word_width 6 }
 {
     push_quoted_name(text, form, name);
     push_six_places(text, address);
@@ -156,9 +157,9 @@ pub fn push_address<const N: usize>(text: &mut TextBuffer<N>, form: Form, name: 
 /// Ends a row with a line feed, with at most 2 bytes.
 #[inline(always)]
 pub fn push_end<const N: usize>(text: &mut TextBuffer<N>, form: Form)
-    requires { text_len text.old + 2 ≤ N }
+    requires { text_len text.old + end_width ≤ N }
     ensures bytes { text.new.bytes ≡ text.old.bytes ++ row_end form }
-    ensures len { text_len text.new ≤ text_len text.old + 2 }
+    ensures len { text_len text.new ≤ text_len text.old + end_width }
 {
     text.push_str(match form {
         Form::Csv => "\n",

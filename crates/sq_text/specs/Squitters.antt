@@ -9,8 +9,8 @@ use Rattle.sq_message.specs.declared.squitter.Squitter.{Squitter}
 use Rattle.sq_message.specs.Parts.{squitter_parts}
 use Rattle.sq_message.specs.Spelling.{bit}
 use Rattle.sq_digits.specs.Digits.{hexadecimal}
-use Rattle.sq_rows.specs.Altitudes.{AltitudeReader}
-use Rattle.sq_rows.specs.Rows.{Cell, Blank, Number, Word}
+use Rattle.sq_text.specs.Altitudes.{AltitudeReader}
+use Rattle.sq_text.specs.Rows.{Cell, Blank, Number, Word}
 
 -- the kind of a message
 abbrev pub kind_name : Me → List ℕ

@@ -10,7 +10,7 @@ use Rattle.sq_message.specs.declared.air.Altitude.TheVariants.{Missing, Feet, Ra
 use Rattle.sq_message.specs.Altitudes.{IsAltitude, IsField}
 use Rattle.sq_message.specs.Parts.{air_parts}
 use Rattle.sq_message.proofs.FeetLemmas.{one_altitude, split}
-use Rattle.sq_rows.specs.Altitudes.{AltitudeReader}
+use Rattle.sq_text.specs.Altitudes.{AltitudeReader}
 
 -- the meaning of a barometric field that is not zero, by its bit Q
 with_q : (code field : ℕ) → code ≤ 18 → field < 4096 → field ≢ 0 → (q : ℕ) → q ≡ field / 16 % 2

@@ -1,7 +1,10 @@
-//! Laws of frame text and of what it spells.
+//! Guards of the definitions: each has one value, some value or an exact condition, so none can be weakened unnoticed.
+//! A function with an empty body does nothing: its contract is the statement.
 ghost use Rattle.std.specs.Prelude.{◌≡◌, ◌↔◌, IsTrue, ℕ, List, Result};
 ghost use Rattle.sq_bits.specs.declared.frame.Frame.{Frame};
+ghost use Rattle.sq_message.specs.declared.air.AirFields.{AirFields};
 ghost use Rattle.sq_message.specs.declared.squitter.Squitter.{Squitter};
+ghost use Rattle.sq_text.specs.Altitudes.{AltitudeReader};
 ghost use Rattle.sq_text.specs.declared.faults.LineFault.{LineFault};
 ghost use Rattle.sq_text.specs.declared.frame_text.TextFault.{TextFault};
 ghost use Rattle.sq_text.specs.FrameText.{IsAnswer};
@@ -51,16 +54,26 @@ pub fn one_place_text()
     ensures { (position : Position) (a b : List ℕ) → IsPlaceText position a → IsPlaceText position b → a ≡ b }
 {}
 
-/// Whether two faults of frame texts are equal by `==`: exactly if they are one.
+/// Compares two faults of frame texts by `==`, which is true exactly if they are the same.
 pub fn equal_text_faults(fault: &TextFault, other: &TextFault) -> bool
     ensures { IsTrue result ↔ (fault.now ≡ other.now) }
 {
     fault == other
 }
 
-/// Whether two faults of lines are equal by `==`: exactly if they are one.
+/// Compares two faults of lines by `==`, which is true exactly if they are the same.
 pub fn equal_line_faults(line_fault: &LineFault, other: &LineFault) -> bool
     ensures { IsTrue result ↔ (line_fault.now ≡ other.now) }
 {
     line_fault == other
 }
+
+/// There is a function that reads the altitude of every airborne position.
+pub fn some_altitude_reader()
+    ensures { AltitudeReader }
+{}
+
+/// No two functions that read the altitudes of airborne positions differ.
+pub fn one_altitude_reading()
+    ensures { (a b : AltitudeReader) (fields : AirFields) → a.read fields ≡ b.read fields }
+{}

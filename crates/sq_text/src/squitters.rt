@@ -4,15 +4,15 @@ ghost use Rattle.sq_digits.specs.Buffer.{text_len};
 ghost use Rattle.sq_angle.specs.Angle.{degrees};
 ghost use Rattle.sq_angle.specs.Decimal.{IsDecimal7};
 ghost use Rattle.sq_text.specs.Faults.{fault_text};
-ghost use Rattle.sq_rows.specs.Altitudes.{AltitudeReader};
-ghost use Rattle.sq_rows.specs.Rows.{Number, Word, cell};
-ghost use Rattle.sq_rows.specs.Squitters.{bit_cell, feet_cell, feet_of, kind_name};
+ghost use Rattle.sq_text.specs.Altitudes.{AltitudeReader};
+ghost use Rattle.sq_text.specs.Rows.{Number, Word, cell, degrees_width, fault_width, number_width, signed_width};
+ghost use Rattle.sq_text.specs.Squitters.{bit_cell, feet_cell, feet_of, kind_name};
 
 use crate::rows::{Form, push_blank, push_name, push_number, push_quoted_name, push_signed, quote};
+use crate::{LineFault, push_decimals, push_fault};
 use sq_angle::Angle;
 use sq_digits::TextBuffer;
 use sq_message::{Airborne, Altitude, Me, altitude};
-use sq_text::{LineFault, push_decimals, push_fault};
 
 /// The kind of a message: `air`, `ground` or `other`.
 #[inline(always)]
@@ -31,10 +31,10 @@ pub fn kind_name(me: &Me) -> &'static str
 /// feet.
 #[inline(always)]
 pub fn push_feet<const N: usize>(text: &mut TextBuffer<N>, form: Form, me: &Me)
-    requires { text_len text.old + 19 ≤ N }
+    requires { text_len text.old + length (codes "feet") + signed_width ≤ N }
     ensures bytes { (altitudes : AltitudeReader)
         → text.new.bytes ≡ text.old.bytes ++ cell form (codes "feet") (feet_of altitudes me.now) }
-    ensures len { text_len text.new ≤ text_len text.old + 19 }
+    ensures len { text_len text.new ≤ text_len text.old + length (codes "feet") + signed_width }
 {
     match me {
         Me::Airborne(airborne) => push_airborne_feet(text, form, airborne),
@@ -46,10 +46,10 @@ pub fn push_feet<const N: usize>(text: &mut TextBuffer<N>, form: Form, me: &Me)
 /// steps of 25 feet (ICAO Doc 9871, register 0,5).
 #[inline(always)]
 pub fn push_airborne_feet<const N: usize>(text: &mut TextBuffer<N>, form: Form, airborne: &Airborne)
-    requires { text_len text.old + 19 ≤ N }
+    requires { text_len text.old + length (codes "feet") + signed_width ≤ N }
     ensures bytes { (altitudes : AltitudeReader) → text.new.bytes
         ≡ text.old.bytes ++ cell form (codes "feet") (feet_cell (altitudes.read airborne.now.fields)) }
-    ensures len { text_len text.new ≤ text_len text.old + 19 }
+    ensures len { text_len text.new ≤ text_len text.old + length (codes "feet") + signed_width }
 {
     match altitude(airborne) {
         Altitude::Feet(feet) => push_signed(text, form, "feet", feet),
@@ -60,9 +60,9 @@ pub fn push_airborne_feet<const N: usize>(text: &mut TextBuffer<N>, form: Form, 
 /// Appends a bit as 0 or 1, with at most 24 bytes beside its name.
 #[inline(always)]
 pub fn push_bit<const N: usize>(text: &mut TextBuffer<N>, form: Form, name: &str, bit: bool)
-    requires { text_len text.old + length name.now + 24 ≤ N }
+    requires { text_len text.old + length name.now + number_width ≤ N }
     ensures bytes { text.new.bytes ≡ text.old.bytes ++ cell form name.now (bit_cell bit) }
-    ensures len { text_len text.new ≤ text_len text.old + length name.now + 24 }
+    ensures len { text_len text.new ≤ text_len text.old + length name.now + number_width }
 {
     push_number(text, form, name, u64::from(bit));
 }
@@ -71,10 +71,10 @@ pub fn push_bit<const N: usize>(text: &mut TextBuffer<N>, form: Form, name: &str
 #[tactic(auto, unfolding(crate::specs::Rows::cell))]
 #[inline(always)]
 pub fn push_degrees<const N: usize>(text: &mut TextBuffer<N>, form: Form, name: &str, angle: &Angle)
-    requires { text_len text.old + length name.now + 16 ≤ N }
+    requires { text_len text.old + length name.now + degrees_width ≤ N }
     ensures bytes { (part : List ℕ) × IsDecimal7 (degrees angle.now) part
         × (text.new.bytes ≡ text.old.bytes ++ cell form name.now (Number part)) }
-    ensures len { text_len text.new ≤ text_len text.old + length name.now + 16 }
+    ensures len { text_len text.new ≤ text_len text.old + length name.now + degrees_width }
 {
     push_name(text, form, name);
     push_decimals(text, angle);
@@ -88,9 +88,9 @@ pub fn push_fault_word<const N: usize>(
     name: &str,
     fault: LineFault,
 )
-    requires { text_len text.old + length name.now + 38 ≤ N }
+    requires { text_len text.old + length name.now + fault_width ≤ N }
     ensures bytes { text.new.bytes ≡ text.old.bytes ++ cell form name.now (Word (fault_text fault)) }
-    ensures len { text_len text.new ≤ text_len text.old + length name.now + 38 }
+    ensures len { text_len text.new ≤ text_len text.old + length name.now + fault_width }
 {
     push_quoted_name(text, form, name);
     push_fault(text, fault);

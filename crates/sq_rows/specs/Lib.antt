@@ -1,3 +1,0 @@
-pub mod Altitudes
-pub mod Rows
-pub mod Squitters
