@@ -22,7 +22,9 @@ fn last_line(format: Format, source: &[u8]) -> TextBuffer<1024> {
     let mut feed = Feed::new(Some(format), &RECORDED);
     feed.take(source, 0, &mut text);
     let mut last = TextBuffer::new();
-    feed.finish(0, &mut last);
+    if let Some(one) = feed.finish(0).as_slice().first() {
+        push_log_line(&mut last, one.moment, &one.frame);
+    }
     last
 }
 

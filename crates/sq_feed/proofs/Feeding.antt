@@ -4,8 +4,9 @@ use Rattle.std.proofs.Common.{append_assoc, append-nil, arith, take-add}
 use Rattle.std.specs.List.{flat_map}
 use Rattle.std.proofs.lemmas.List.{drop-drop, map-append, take_more}
 use Rattle.sq_feed.specs.declared.message.Found.{Found}
-use Rattle.sq_feed.specs.Ears.{Hears, Told, ear_after, ear_after_all, told_of, told_of_all}
-use Rattle.sq_feed.specs.Feeds.{HasGiven, AreFed, Fed, Feeding, FeedsBoth, FeedsGoOn, FeedsTheWhole, HasWritten, last_fed, lines_of, nothing_fed}
+use Rattle.sq_feed.specs.declared.message.Timed.{Timed}
+use Rattle.sq_feed.specs.Ears.{Hears, ear_after, ear_after_all, told_of, told_of_all}
+use Rattle.sq_feed.specs.Feeds.{HasGiven, AreFed, Fed, Feeding, FeedsBoth, FeedsGoOn, FeedsTheWhole, HasFed, HasWritten, last_fed, lines_of, nothing_fed}
 use Rattle.sq_feed.specs.Follows.{Follows}
 use Rattle.sq_feed.specs.Lines.{log_line}
 use Rattle.sq_feed.proofs.Sourced.{new_is_new}
@@ -28,7 +29,7 @@ ear_after_all-append : (arrival : ℕ) (ear : Hears) (xs ys : List Found)
 ear_after_all-append arrival ear [] ys = refl
 ear_after_all-append arrival ear (x ∷ xs) ys = ear_after_all-append arrival (ear_after arrival ear x) xs ys
 
-lines_of-append : (xs ys : List Told) → lines_of (xs ++ ys) ≡ lines_of xs ++ lines_of ys
+pub lines_of-append : (xs ys : List Timed) → lines_of (xs ++ ys) ≡ lines_of xs ++ lines_of ys
 lines_of-append [] ys = refl
 lines_of-append (x ∷ xs) ys =
     ap (λ l. log_line x.moment x.frame ++ l) (lines_of-append xs ys)
@@ -44,7 +45,7 @@ written_nothing arrival old text = record {
 }
 
 -- an item was found, and these squitters are in it
-pub written_one : (arrival : ℕ) (old new : Feeding) (bytes before after : List ℕ) (found : Found) (told : List Told)
+pub written_one : (arrival : ℕ) (old new : Feeding) (bytes before after : List ℕ) (found : Found) (told : List Timed)
     → new.reader.asked ≡ old.reader.asked → Follows (awaited old.reader) bytes (found ∷ []) (awaited new.reader)
     → new.ear ≡ ear_after arrival old.ear found → told ≡ told_of arrival old.ear found
     → after ≡ before ++ lines_of told
@@ -55,22 +56,34 @@ written_one arrival old new bytes before after found told same follows heard is 
   text = text ∙ ap (λ l. before ++ lines_of l) (is ∙ sym (append-nil (told_of arrival old.ear found)));
 }
 
+-- bytes, and more bytes that arrived at the same moment
+pub fed_on : (arrival : ℕ) (old mid new : Feeding) (a b : List ℕ) (found more : List Found)
+    → HasFed arrival old a found mid → HasFed arrival mid b more new → HasFed arrival old (a ++ b) (found ++ more) new
+fed_on arrival old mid new a b found more x y = record {
+  same = y.same ∙ x.same;
+  follows = follows_more (awaited old.reader) (awaited mid.reader) (awaited new.reader) a b found more x.follows
+      y.follows;
+  heard = y.heard ∙ ap (λ k. ear_after_all arrival k more) x.heard
+      ∙ sym (ear_after_all-append arrival old.ear found more);
+}
+
+-- and their squitters
+pub told_on : (arrival : ℕ) (old mid : Feeding) (a : List ℕ) (found more : List Found) → HasFed arrival old a found mid
+    → told_of_all arrival old.ear (found ++ more)
+    ≡ told_of_all arrival old.ear found ++ told_of_all arrival mid.ear more
+told_on arrival old mid a found more x =
+    told_of_all-append arrival old.ear found more
+    ∙ ap (λ (k : Hears). told_of_all arrival old.ear found ++ told_of_all arrival k more) (sym x.heard)
+
 pub written_more : FeedsGoOn
 written_more arrival old mid new a b t u v x y = record {
   found = x.found ++ y.found;
-  fed = record {
-    same = y.fed.same ∙ x.fed.same;
-    follows = follows_more (awaited old.reader) (awaited mid.reader) (awaited new.reader) a b x.found y.found
-        x.fed.follows y.fed.follows;
-    heard = y.fed.heard ∙ ap (λ k. ear_after_all arrival k y.found) x.fed.heard
-        ∙ sym (ear_after_all-append arrival old.ear x.found y.found);
-  };
-  text = y.text ∙ ap₂ (λ l (k : Hears). l ++ lines_of (told_of_all arrival k y.found)) x.text x.fed.heard
-      ∙ append_assoc t (lines_of (told_of_all arrival old.ear x.found))
-      (lines_of (told_of_all arrival (ear_after_all arrival old.ear x.found) y.found))
+  fed = fed_on arrival old mid new a b x.found y.found x.fed y.fed;
+  text = y.text ∙ ap (λ l. l ++ lines_of (told_of_all arrival mid.ear y.found)) x.text
+      ∙ append_assoc t (lines_of (told_of_all arrival old.ear x.found)) (lines_of (told_of_all arrival mid.ear y.found))
       ∙ ap (λ l. t ++ l) (sym (lines_of-append (told_of_all arrival old.ear x.found)
-      (told_of_all arrival (ear_after_all arrival old.ear x.found) y.found)))
-      ∙ ap (λ l. t ++ lines_of l) (sym (told_of_all-append arrival old.ear x.found y.found));
+      (told_of_all arrival mid.ear y.found)))
+      ∙ ap (λ l. t ++ lines_of l) (sym (told_on arrival old mid a x.found y.found x.fed));
 }
 
 -- more bytes of a piece
@@ -89,21 +102,17 @@ ear_more arrival ear items i any within =
     ap (ear_after_all arrival ear) (take_more items i any within)
     ∙ ear_after_all-append arrival ear (take i items) (get_or items i any ∷ [])
 
-pub text_more : (arrival : ℕ) (ear mid : Hears) (items : List Found) (i : ℕ) (any : Found) (text before after : List ℕ)
+pub told_more : (arrival : ℕ) (ear mid : Hears) (items : List Found) (i : ℕ) (any : Found) (told : List Timed)
     → i < length items → mid ≡ ear_after_all arrival ear (take i items)
-    → before ≡ text ++ lines_of (told_of_all arrival ear (take i items))
-    → after ≡ before ++ lines_of (told_of arrival mid (get_or items i any))
-    → after ≡ text ++ lines_of (told_of_all arrival ear (take (i + 1) items))
-text_more arrival ear mid items i any text before after within is was next =
+    → told ≡ told_of_all arrival ear (take i items)
+    → told ++ told_of arrival mid (get_or items i any) ≡ told_of_all arrival ear (take (i + 1) items)
+told_more arrival ear mid items i any told within is was =
     let item = get_or items i any in
-    let told = told_of_all arrival ear (take i items) in
-    next ∙ ap₂ (λ l (k : Hears). l ++ lines_of (told_of arrival k item)) was is
-    ∙ append_assoc text (lines_of told) (lines_of (told_of arrival (ear_after_all arrival ear (take i items)) item))
-    ∙ ap (λ l. text ++ l) (sym (lines_of-append told (told_of arrival (ear_after_all arrival ear (take i items)) item))
-    ∙ ap lines_of (ap (λ l. told ++ l)
-    (sym (append-nil (told_of arrival (ear_after_all arrival ear (take i items)) item)))
+    let before = ear_after_all arrival ear (take i items) in
+    ap₂ (λ l (k : Hears). l ++ told_of arrival k item) was is
+    ∙ ap (λ l. told_of_all arrival ear (take i items) ++ l) (sym (append-nil (told_of arrival before item)))
     ∙ sym (told_of_all-append arrival ear (take i items) (item ∷ []))
-    ∙ ap (told_of_all arrival ear) (sym (take_more items i any within))))
+    ∙ ap (told_of_all arrival ear) (sym (take_more items i any within))
 
 -- ---- calls that go on
 
@@ -145,25 +154,17 @@ pub given_more : (arrival : ℕ) (old mid new : Feeding) (a b m n o : List ℕ) 
 given_more arrival old mid new a b m n o f g h x y =
     let one = told_of_all arrival old.ear x.found in
     let two = told_of_all arrival mid.ear y.found in
-    let both : told_of_all arrival old.ear (x.found ++ y.found) ≡ one ++ two =
-    told_of_all-append arrival old.ear x.found y.found
-    ∙ ap (λ (k : Hears). one ++ told_of_all arrival k y.found) (sym x.fed.heard) in record {
+    let both = told_on arrival old mid a x.found y.found x.fed in record {
       found = x.found ++ y.found;
-      fed = record {
-        same = y.fed.same ∙ x.fed.same;
-        follows = follows_more (awaited old.reader) (awaited mid.reader) (awaited new.reader) a b x.found y.found
-            x.fed.follows y.fed.follows;
-        heard = y.fed.heard ∙ ap (λ k. ear_after_all arrival k y.found) x.fed.heard
-            ∙ sym (ear_after_all-append arrival old.ear x.found y.found);
-      };
-      moments_are = y.moments_are ∙ ap (λ l. l ++ map (λ (t : Told). t.moment) two) x.moments_are
-          ∙ append_assoc m (map (λ (t : Told). t.moment) one) (map (λ (t : Told). t.moment) two)
-          ∙ ap (λ l. m ++ l) (sym (map-append (λ (t : Told). t.moment) one two))
-          ∙ ap (λ l. m ++ map (λ (t : Told). t.moment) l) (sym both);
-      frames_are = y.frames_are ∙ ap (λ l. l ++ map (λ (t : Told). t.frame) two) x.frames_are
-          ∙ append_assoc f (map (λ (t : Told). t.frame) one) (map (λ (t : Told). t.frame) two)
-          ∙ ap (λ l. f ++ l) (sym (map-append (λ (t : Told). t.frame) one two))
-          ∙ ap (λ l. f ++ map (λ (t : Told). t.frame) l) (sym both);
+      fed = fed_on arrival old mid new a b x.found y.found x.fed y.fed;
+      moments_are = y.moments_are ∙ ap (λ l. l ++ map (λ (t : Timed). t.moment) two) x.moments_are
+          ∙ append_assoc m (map (λ (t : Timed). t.moment) one) (map (λ (t : Timed). t.moment) two)
+          ∙ ap (λ l. m ++ l) (sym (map-append (λ (t : Timed). t.moment) one two))
+          ∙ ap (λ l. m ++ map (λ (t : Timed). t.moment) l) (sym both);
+      frames_are = y.frames_are ∙ ap (λ l. l ++ map (λ (t : Timed). t.frame) two) x.frames_are
+          ∙ append_assoc f (map (λ (t : Timed). t.frame) one) (map (λ (t : Timed). t.frame) two)
+          ∙ ap (λ l. f ++ l) (sym (map-append (λ (t : Timed). t.frame) one two))
+          ∙ ap (λ l. f ++ map (λ (t : Timed). t.frame) l) (sym both);
     }
 
 pub given_piece : (arrival : ℕ) (old mid new : Feeding) (piece m n o : List ℕ) (f g h : List (List ℕ)) (at count : ℕ)
@@ -175,18 +176,18 @@ given_piece arrival old mid new piece m n o f g h at count x y =
 
 -- an item was found, and these squitters are in it
 pub given_one : (arrival : ℕ) (old new : Feeding) (bytes m n : List ℕ) (f g : List (List ℕ)) (found : Found)
-    (told : List Told) → new.reader.asked ≡ old.reader.asked
+    (told : List Timed) → new.reader.asked ≡ old.reader.asked
     → Follows (awaited old.reader) bytes (found ∷ []) (awaited new.reader)
     → new.ear ≡ ear_after arrival old.ear found
-    → told ≡ told_of arrival old.ear found → n ≡ m ++ map (λ (t : Told). t.moment) told
-    → g ≡ f ++ map (λ (t : Told). t.frame) told → HasGiven arrival old bytes m f n g new
+    → told ≡ told_of arrival old.ear found → n ≡ m ++ map (λ (t : Timed). t.moment) told
+    → g ≡ f ++ map (λ (t : Timed). t.frame) told → HasGiven arrival old bytes m f n g new
 given_one arrival old new bytes m n f g found told same follows heard is moments frames = record {
   found = found ∷ [];
   fed = record { same = same; follows = follows; heard = heard };
   moments_are = moments
-      ∙ ap (λ l. m ++ map (λ (t : Told). t.moment) l) (is ∙ sym (append-nil (told_of arrival old.ear found)));
+      ∙ ap (λ l. m ++ map (λ (t : Timed). t.moment) l) (is ∙ sym (append-nil (told_of arrival old.ear found)));
   frames_are = frames
-      ∙ ap (λ l. f ++ map (λ (t : Told). t.frame) l) (is ∙ sym (append-nil (told_of arrival old.ear found)));
+      ∙ ap (λ l. f ++ map (λ (t : Timed). t.frame) l) (is ∙ sym (append-nil (told_of arrival old.ear found)));
 }
 
 -- what lies behind a place lies behind a further one

@@ -1,5 +1,5 @@
 -- Timestamps that stay near the latest one.
-use Rattle.std.proofs.Common.{◌≡◌, ◌≤◌, ◌+◌, ◌-◌, ◌∙◌, ◌++◌, ℕ, Bool, true, false, not, List, [], ◌∷◌, ap, ap₂, arith, max, nat_le, nat_lt, refl, subst₂, sym}
+use Rattle.std.proofs.Common.{◌≡◌, ◌≤◌, ◌+◌, ◌-◌, ◌∙◌, ◌++◌, ℕ, Bool, true, false, not, List, [], ◌∷◌, ap, arith, max, nat_le, nat_lt, refl, subst₂, sym}
 use Rattle.std.specs.Prelude.{◌==◌, ◌||◌, ◌&&◌, Option, Some, None, if◌then◌else◌}
 use Rattle.std.proofs.lemmas.Bool.Decides.{nat_tests}
 use Rattle.sq_feed.specs.declared.counts.Fate.{Fate}
@@ -8,14 +8,15 @@ use Rattle.sq_feed.specs.declared.message.Found.TheVariants.{Whole, Damage, Fore
 use Rattle.sq_feed.specs.declared.message.RawFrame.{RawFrame}
 use Rattle.sq_feed.specs.declared.message.Time.{Time}
 use Rattle.sq_feed.specs.declared.message.Time.TheVariants.{Unknown, Ticks, Millis}
-use Rattle.sq_feed.specs.Ears.{AreNear, Hears, StaysNear, Told, ear_after, ear_after_all, ear_by, fate_of, latest_told}
+use Rattle.sq_feed.specs.declared.message.Timed.{Timed}
+use Rattle.sq_feed.specs.Ears.{AreNear, Hears, StaysNear, ear_after, ear_after_all, ear_by, fate_of, latest_told}
 use Rattle.sq_feed.specs.Ears.{told_by, told_of, told_of_all, whole_of}
 use Rattle.sq_feed.specs.Times.{Timing, by_arrival, by_clock, by_own, clock_after, clock_moment, due, gone_on}
 use Rattle.sq_feed.specs.Times.{is_clock_told, is_clockless, is_row_fit, is_told_at, moment_at, row_agrees, times_after}
 use Rattle.sq_feed.specs.Times.{told_as}
 
 -- These frames were told, and the state after them.
-record Goes (late latest : ℕ) (told : List Told) (new : Timing) : Type 0 where
+record Goes (late latest : ℕ) (told : List Timed) (new : Timing) : Type 0 where
   near : AreNear late latest told
   late_is : new.late ≡ late
   latest_is : new.latest ≡ latest_told latest told
@@ -40,7 +41,7 @@ stays t = record { near = tt; late_is = refl; latest_is = refl }
 
 -- ---- one frame
 
-goes_if : (b : Bool) (late latest : ℕ) (told : List Told) (x y : Timing) → Goes late latest told x
+goes_if : (b : Bool) (late latest : ℕ) (told : List Timed) (x y : Timing) → Goes late latest told x
     → Goes late latest [] y → Goes late latest (if b then told else []) (if b then x else y)
 goes_if true late latest told x y p q = p
 goes_if false late latest told x y p q = q
@@ -58,7 +59,7 @@ clock_goes false t ticks arrival frame =
     goes_if (is_clock_told t ticks arrival) t.late t.latest (record { moment = told_as t moment; frame = frame } ∷ [])
     (gone_on heard moment arrival) aside (gone heard moment arrival frame) (stays aside)
 
-own_cases : (a b c d : Bool) (late latest : ℕ) (told : List Told) (fit same first last next : Timing)
+own_cases : (a b c d : Bool) (late latest : ℕ) (told : List Timed) (fit same first last next : Timing)
     → Goes late latest told fit → Goes late latest [] same → Goes late latest [] first → Goes late latest told last
     → Goes late latest [] next
     → Goes late latest (if a || not b && c && d then told else [])
@@ -105,17 +106,17 @@ item_goes arrival ear (Whole message) =
 item_goes arrival ear Damage = stays ear.times
 item_goes arrival ear (Foreign stranger) = stays ear.times
 
-near_append : (xs ys : List Told) (late latest : ℕ) → AreNear late latest xs
+near_append : (xs ys : List Timed) (late latest : ℕ) → AreNear late latest xs
     → AreNear late (latest_told latest xs) ys → AreNear late latest (xs ++ ys)
 near_append [] ys late latest p q = q
 near_append (x ∷ xs) ys late latest (first, p) q = (first, near_append xs ys late (max latest x.moment) p q)
 
-latest_append : (xs ys : List Told) (latest : ℕ) → latest_told latest (xs ++ ys)
+latest_append : (xs ys : List Timed) (latest : ℕ) → latest_told latest (xs ++ ys)
     ≡ latest_told (latest_told latest xs) ys
 latest_append [] ys latest = refl
 latest_append (x ∷ xs) ys latest = latest_append xs ys (max latest x.moment)
 
-goes_more : (xs ys : List Told) (late latest : ℕ) (mid new : Timing) → Goes late latest xs mid
+goes_more : (xs ys : List Timed) (late latest : ℕ) (mid new : Timing) → Goes late latest xs mid
     → Goes mid.late mid.latest ys new → Goes late latest (xs ++ ys) new
 goes_more xs ys late latest mid new p q = record {
   near = near_append xs ys late latest p.near (subst₂ (λ l m. AreNear l m ys) p.late_is p.latest_is q.near);

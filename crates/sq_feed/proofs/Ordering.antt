@@ -1,16 +1,16 @@
 -- Orders, step by step.
 use Rattle.std.proofs.Common.{◌≡◌, ◌≤◌, ◌<◌, ◌++◌, ◌+◌, ◌-◌, ◌∙◌, ℕ, Bool, true, false, List, [], ◌∷◌, ap, ap₂, append_assoc, arith, drop}
 use Rattle.std.proofs.Common.{if◌then◌else◌, length, nat_lt, nat_le, refl, set, subst, sym, take, get_or, max, eqb}
-use Rattle.std.proofs.Common.{add-one, append-nil, take-add, length-take, true≢false}
-use Rattle.std.proofs.lemmas.List.{drop-drop, drop-set-lt, take-append-drop, take_more, take_more_set}
+use Rattle.std.proofs.Common.{add-one, append-nil, map, take-add, length-take, true≢false}
+use Rattle.std.proofs.lemmas.List.{drop-drop, drop-set-lt, length-append, take-append-drop, take_more, take_more_set}
 use Rattle.std.proofs.lemmas.Grind.{drop_more_same}
 use Rattle.std.proofs.lemmas.List.Elements.{filter-append}
 use Rattle.std.proofs.lemmas.Bool.Decides.{nat_tests}
 use Rattle.std.proofs.Math.Seq.{drop-append_seam}
 use Rattle.std.specs.List.{insert}
 use Rattle.std.specs.Prelude.{⊤}
-use Rattle.sq_feed.specs.declared.order.Timed.{Timed}
-use Rattle.sq_feed.specs.Orders.{AllUntil, ComeInTime, GivesAll, GivesInOrder, GivesTheFirst}
+use Rattle.sq_feed.specs.declared.message.Timed.{Timed}
+use Rattle.sq_feed.specs.Orders.{AllUntil, ComeInTime, GivesAll, GivesAtOnce, GivesInOrder, GivesTheFirst}
 use Rattle.sq_feed.specs.Orders.{HasFlushed, HasSorted, InTimeIsTimely, RiseFrom, Sorting, SortsStably}
 use Rattle.sq_feed.specs.Orders.{SortsTheWhole, came_in, count_of, due_of, given_all, given_in, given_now, is_due}
 use Rattle.sq_feed.specs.Orders.{is_recent, last_sorted, latest_of, left_of, nothing_sorted, only, place_of, put_all}
@@ -143,7 +143,7 @@ put_view one old latest first at line after late held fits place is =
 
 -- ---- squitters in arrays
 
-squitters-append : (ms ns : List ℕ) (fs gs : List (List ℕ)) → length ms ≡ length fs
+pub squitters-append : (ms ns : List ℕ) (fs gs : List (List ℕ)) → length ms ≡ length fs
     → squitters_of (ms ++ ns) (fs ++ gs) ≡ squitters_of ms fs ++ squitters_of ns gs
 squitters-append [] ns [] gs long = refl
 squitters-append [] ns (f ∷ fs) gs long = absurd (omega (arith, long))
@@ -151,7 +151,19 @@ squitters-append (m ∷ ms) ns [] gs long = absurd (omega (arith, long))
 squitters-append (m ∷ ms) ns (f ∷ fs) gs long =
     ap (λ l. record { moment = m; frame = f } ∷ l) (squitters-append ms ns fs gs (omega (arith, long)))
 
-same_long : (ms : List ℕ) (fs : List (List ℕ)) (k : ℕ) → k < length ms → k < length fs
+pub squitters_long : (ms : List ℕ) (fs : List (List ℕ)) → length ms ≡ length fs
+    → length (squitters_of ms fs) ≡ length ms
+squitters_long [] fs long = refl
+squitters_long (m ∷ ms) [] long = absurd (omega (arith, long))
+squitters_long (m ∷ ms) (f ∷ fs) long = omega (arith, squitters_long ms fs (omega (arith, long)))
+
+-- squitters, by their timestamps and frames
+pub squitters_back : (told : List Timed)
+    → squitters_of (map (λ (t : Timed). t.moment) told) (map (λ (t : Timed). t.frame) told) ≡ told
+squitters_back [] = refl
+squitters_back (one ∷ more) = ap (λ l. one ∷ l) (squitters_back more)
+
+pub same_long : (ms : List ℕ) (fs : List (List ℕ)) (k : ℕ) → k < length ms → k < length fs
     → length (take k ms) ≡ length (take k fs)
 same_long ms fs k fits fit = omega (arith, length-take k ms, length-take k fs)
 
@@ -188,7 +200,7 @@ gives_the_first room reorder latest (x ∷ xs) =
     by true rest = ap (λ l. x ∷ l) rest
     by false rest = refl
 
-none_due : (room reorder latest : ℕ) (held : List Timed) → is_due room reorder latest held ≡ false
+pub none_due : (room reorder latest : ℕ) (held : List Timed) → is_due room reorder latest held ≡ false
     → (due_of room reorder latest held ≡ []) × (left_of room reorder latest held ≡ held)
 none_due room reorder latest [] is = (refl, refl)
 none_due room reorder latest (x ∷ xs) is = (
@@ -319,6 +331,108 @@ gives_all room s (one ∷ more) test =
       count-put test (settled room s).held one,
       count_now test room s,
     )
+
+count_each : (xs : List Timed) → count_of (λ _. true) xs ≡ length xs
+count_each [] = refl
+count_each (x ∷ xs) = omega (arith, count_each xs)
+
+-- after the due ones are given, no other is due
+left_settled : (room reorder latest : ℕ) (held : List Timed)
+    → (due_of room reorder latest (left_of room reorder latest held) ≡ [])
+    × (left_of room reorder latest (left_of room reorder latest held) ≡ left_of room reorder latest held)
+left_settled room reorder latest [] = (refl, refl)
+left_settled room reorder latest (x ∷ xs) =
+    by (is_due room reorder latest (x ∷ xs)) refl (left_settled room reorder latest xs)
+  where
+    by : (b : Bool) → is_due room reorder latest (x ∷ xs) ≡ b
+        → (due_of room reorder latest (left_of room reorder latest xs) ≡ [])
+        × (left_of room reorder latest (left_of room reorder latest xs) ≡ left_of room reorder latest xs)
+        → (due_of room reorder latest (if b then left_of room reorder latest xs else x ∷ xs) ≡ [])
+        × (left_of room reorder latest (if b then left_of room reorder latest xs else x ∷ xs)
+        ≡ (if b then left_of room reorder latest xs else x ∷ xs))
+    by true is rest = rest
+    by false is rest = none_due room reorder latest (x ∷ xs) is
+
+settled_given : (room : ℕ) (s : Sorting) (more : List Timed)
+    → (given_all room s more ≡ given_now room s ++ given_all room (settled room s) more)
+    × (sorted_all room s more ≡ sorted_all room (settled room s) more)
+settled_given room s [] =
+    let left = left_settled room s.reorder s.latest s.held in (
+      sym (append-nil (given_now room s)) ∙ ap (λ l. given_now room s ++ l) (sym left.0),
+      ap (held_as s) (sym left.1),
+    )
+settled_given room s (one ∷ more) =
+    let left = left_settled room s.reorder s.latest s.held in (
+      ap₂ (λ l h. given_now room s ++ (l ++ given_all room (with_one one (held_as s h)) more)) (sym left.0)
+          (sym left.1),
+      ap (λ h. sorted_all room (with_one one (held_as s h)) more) (sym left.1),
+    )
+
+-- the squitters that are given, and the state after them
+pub sorted_so : (room : ℕ) (s : Sorting) (came : List Timed)
+    → HasSorted room s came (given_all room s came) (sorted_all room s came)
+sorted_so room s [] =
+    record { gives = λ more. (settled_given room s more).0; leaves = λ more. (settled_given room s more).1 }
+sorted_so room s (one ∷ came) =
+    let next = with_one one (settled room s) in
+    let rest = sorted_so room next came in record {
+      gives = λ more. ap (λ l. given_now room s ++ l) (rest.gives more)
+          ∙ sym (append_assoc (given_now room s) (given_all room next came)
+          (given_all room (sorted_all room next came) more));
+      leaves = rest.leaves;
+    }
+
+-- squitters came, and then more
+pub sorted_more : (room : ℕ) (old mid new : Sorting) (a b given due : List Timed) → HasSorted room old a given mid
+    → HasSorted room mid b due new → HasSorted room old (a ++ b) (given ++ due) new
+sorted_more room old mid new a b given due x y = record {
+  gives = λ more. ap (given_all room old) (append_assoc a b more) ∙ x.gives (b ++ more)
+      ∙ ap (λ l. given ++ l) (y.gives more) ∙ sym (append_assoc given due (given_all room new more));
+  leaves = λ more. ap (sorted_all room old) (append_assoc a b more) ∙ x.leaves (b ++ more) ∙ y.leaves more;
+}
+
+-- squitters came, and none is due any more
+pub sorted_end : (room : ℕ) (old new : Sorting) (came given : List Timed) → HasSorted room old came given new
+    → is_due room new.reorder new.latest new.held ≡ false
+    → (given ≡ given_all room old came) × (new ≡ sorted_all room old came)
+sorted_end room old new came given sorts is =
+    let none = none_due room new.reorder new.latest new.held is in (
+      sym (append-nil given) ∙ ap (λ l. given ++ l) (sym none.0) ∙ sym (sorts.gives [])
+          ∙ ap (given_all room old) (append-nil came),
+      ap (held_as new) (sym none.1) ∙ sym (sorts.leaves []) ∙ ap (sorted_all room old) (append-nil came),
+    )
+
+-- no squitter is lost
+pub sorted_count : (room : ℕ) (old new : Sorting) (came given : List Timed) → HasSorted room old came given new
+    → length given + length new.held ≡ length old.held + length came
+sorted_count room old new came given sorts =
+    let any : Timed → Bool = λ _. true in
+    let all : (given_all room old (came ++ []) ++ (sorted_all room old (came ++ [])).held) ≡ given ++ new.held =
+    ap₂ (λ l (s : Sorting). l ++ s.held) (sorts.gives []) (sorts.leaves [])
+    ∙ append_assoc given (given_now room new) (settled room new).held
+    ∙ ap (λ l. given ++ l) (gives_the_first room new.reorder new.latest new.held) in
+    omega (
+      arith,
+      sym (count_each (given ++ new.held)) ∙ ap (count_of any) (sym all)
+          ∙ gives_all room old (came ++ []) any ∙ count_each (old.held ++ (came ++ [])),
+      length-append given new.held,
+      length-append old.held (came ++ []),
+      length-append came [],
+    )
+
+-- with a delay of 0
+pub gives_at_once : GivesAtOnce
+gives_at_once room latest [] = (refl, refl)
+gives_at_once room latest (one ∷ more) =
+    let now = max latest one.moment in
+    let new : Sorting = record { reorder = 0; latest = now; held = [] } in
+    let due : is_due room 0 now (one ∷ []) ≡ true = ap (λ b. if b then true else nat_le room 1) (at_latest latest) in
+    let first = first_given room new one more due in
+    let rest = gives_at_once room now more in
+    (first.0 ∙ ap (λ l. one ∷ l) rest.0, ap (λ (s : Sorting). s.held) first.1 ∙ rest.1)
+  where
+    at_latest : (latest : ℕ) → nat_le (one.moment + 0) (max latest one.moment) ≡ true
+    at_latest latest = grind (arith, nat_tests)
 
 -- ---- cuts
 

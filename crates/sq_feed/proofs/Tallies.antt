@@ -11,7 +11,8 @@ use Rattle.sq_feed.specs.declared.message.RawFrame.{RawFrame}
 use Rattle.sq_feed.specs.declared.message.RawFrame.TheVariants.{ModeAc as ModeAcFrame, Short, Long}
 use Rattle.sq_feed.specs.declared.message.Time.{Time}
 use Rattle.sq_feed.specs.Counts.{Tally, counted, counted_as}
-use Rattle.sq_feed.specs.Ears.{CountsEach, Hears, Told, ear_after, ear_by, fate_of, format_of, is_multilaterated}
+use Rattle.sq_feed.specs.declared.message.Timed.{Timed}
+use Rattle.sq_feed.specs.Ears.{CountsEach, Hears, ear_after, ear_by, fate_of, format_of, is_multilaterated}
 use Rattle.sq_feed.specs.Ears.{told_by, told_of, told_of_all}
 use Rattle.sq_feed.specs.Times.{is_told_at}
 
@@ -52,7 +53,7 @@ other_counts tally fate other few =
     subst (λ t. Counts tally t 0) (sym (as_fate tally fate few)) (other_as tally fate other)
 
 -- the counts after a squitter, with or without a timestamp
-told_counts : (tally : Tally) (test : Bool) (told : List Told) → length told ≡ 1 → tally.found < 2 ^ 64 - 1
+told_counts : (tally : Tally) (test : Bool) (told : List Timed) → length told ≡ 1 → tally.found < 2 ^ 64 - 1
     → Counts tally (counted tally (if test then Written else Aside)) (length (if test then told else []))
 told_counts tally true told one few = subst (Counts tally (counted tally Written)) (sym one) (written_counts tally few)
 told_counts tally false told one few = other_counts tally Aside tt few

@@ -9,15 +9,11 @@ use Rattle.sq_feed.specs.declared.message.Stranger.{Stranger}
 use Rattle.sq_feed.specs.declared.message.RawFrame.{RawFrame}
 use Rattle.sq_feed.specs.declared.message.RawFrame.TheVariants.{ModeAc, Short, Long}
 use Rattle.sq_feed.specs.declared.message.Time.{Time}
+use Rattle.sq_feed.specs.declared.message.Timed.{Timed}
 use Rattle.sq_feed.specs.declared.message.Time.TheVariants.{Unknown, Ticks, Millis}
 use Rattle.sq_feed.specs.Counts.{Tally, counted, nothing_counted}
 use Rattle.sq_feed.specs.declared.manner.Manner.{Manner}
 use Rattle.sq_feed.specs.Times.{Timing, is_told_at, moment_at, no_times, other_times, times_after}
-
--- a frame and its timestamp (ms)
-pub record Told : Type 0 where
-  pub moment : ℕ
-  pub frame : List ℕ
 
 -- the state: the times, whether frames of all downlink formats are given, the counts, and what the last source without
 -- frames was, if there was one
@@ -99,7 +95,7 @@ frame_in (Whole message) = whole_of message.frame
 frame_in Damage = replicate 14 0
 frame_in (Foreign stranger) = replicate 14 0
 
-abbrev pub told_by : Option Fate → ℕ → Hears → Time → RawFrame → List Told
+abbrev pub told_by : Option Fate → ℕ → Hears → Time → RawFrame → List Timed
 told_by (Some fate) arrival ear time frame = []
 told_by None arrival ear time frame =
     if is_told_at ear.times time arrival
@@ -115,7 +111,7 @@ ear_after arrival ear (Foreign stranger) =
     record ear { counts = counted ear.counts Damaged; stranger = Some stranger }
 
 -- the frame of an item with its timestamp, or nothing
-abbrev pub told_of : ℕ → Hears → Found → List Told
+abbrev pub told_of : ℕ → Hears → Found → List Timed
 told_of arrival ear (Whole message) =
     told_by (fate_of ear.all_formats message.time message.frame) arrival ear message.time message.frame
 told_of arrival ear Damage = []
@@ -127,26 +123,26 @@ abbrev pub ear_after_all : ℕ → Hears → List Found → Hears
 ear_after_all arrival ear [] = ear
 ear_after_all arrival ear (one ∷ more) = ear_after_all arrival (ear_after arrival ear one) more
 
-abbrev pub told_of_all : ℕ → Hears → List Found → List Told
+abbrev pub told_of_all : ℕ → Hears → List Found → List Timed
 told_of_all arrival ear [] = []
 told_of_all arrival ear (one ∷ more) = told_of arrival ear one ++ told_of_all arrival (ear_after arrival ear one) more
 
 -- the timestamps of frames, and the frames
-abbrev pub moments_of : List Told → List ℕ
-moments_of told = map (λ (t : Told). t.moment) told
+abbrev pub moments_of : List Timed → List ℕ
+moments_of told = map (λ (t : Timed). t.moment) told
 
-abbrev pub frames_of : List Told → List (List ℕ)
-frames_of told = map (λ (t : Told). t.frame) told
+abbrev pub frames_of : List Timed → List (List ℕ)
+frames_of told = map (λ (t : Timed). t.frame) told
 
 -- ---- words of the laws
 
 -- Frames in turn: the timestamp of none is before the latest one by more than `late`.
-abbrev pub AreNear : (late latest : ℕ) → List Told → Type 0
+abbrev pub AreNear : (late latest : ℕ) → List Timed → Type 0
 AreNear late latest [] = ⊤
 AreNear late latest (one ∷ more) = (latest ≤ one.moment + late) × AreNear late (max latest one.moment) more
 
 -- the latest timestamp after these frames
-abbrev pub latest_told : ℕ → List Told → ℕ
+abbrev pub latest_told : ℕ → List Timed → ℕ
 latest_told latest [] = latest
 latest_told latest (one ∷ more) = latest_told (max latest one.moment) more
 

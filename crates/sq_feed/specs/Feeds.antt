@@ -1,10 +1,11 @@
 -- A source's bytes as squitters with their timestamps.
-use Rattle.std.specs.Prelude.{◌≡◌, ◌++◌, ⊤, ℕ, Bool, List, [], ◌∷◌, map, Option}
+use Rattle.std.specs.Prelude.{◌≡◌, ◌++◌, ⊤, ℕ, List, [], ◌∷◌, map, Option}
 use Rattle.std.specs.List.{flat_map}
 use Rattle.sq_feed.specs.declared.machine.Format.{Format}
 use Rattle.sq_feed.specs.declared.manner.Manner.{Manner}
 use Rattle.sq_feed.specs.declared.message.Found.{Found}
-use Rattle.sq_feed.specs.Ears.{Hears, Told, ear_after_all, lost, told_of_all, untouched}
+use Rattle.sq_feed.specs.declared.message.Timed.{Timed}
+use Rattle.sq_feed.specs.Ears.{Hears, ear_after_all, lost, told_of_all, untouched}
 use Rattle.sq_feed.specs.Follows.{Follows}
 use Rattle.sq_feed.specs.Lines.{log_line}
 use Rattle.sq_feed.specs.Readers.{HasClosed, IsNew, Reads, awaited, format_at, items_as, lost_items, new_reads}
@@ -18,7 +19,7 @@ abbrev pub nothing_fed : Option Format → Manner → Feeding
 nothing_fed asked manner = record { reader = new_reads asked; ear = untouched manner }
 
 -- the lines of squitters, in order
-abbrev pub lines_of : List Told → List ℕ
+abbrev pub lines_of : List Timed → List ℕ
 lines_of told = flat_map (λ t. log_line t.moment t.frame) told
 
 -- With these bytes, which arrived at this moment, a feed went on, and these items were found.
@@ -39,11 +40,11 @@ pub record HasGiven (arrival : ℕ) (old : Feeding) (bytes : List ℕ) (moments 
     (all_moments : List ℕ) (all_frames : List (List ℕ)) (new : Feeding) : Type 0 where
   pub found : List Found
   pub fed : HasFed arrival old bytes found new
-  pub moments_are : all_moments ≡ moments ++ map (λ (t : Told). t.moment) (told_of_all arrival old.ear found)
-  pub frames_are : all_frames ≡ frames ++ map (λ (t : Told). t.frame) (told_of_all arrival old.ear found)
+  pub moments_are : all_moments ≡ moments ++ map (λ (t : Timed). t.moment) (told_of_all arrival old.ear found)
+  pub frames_are : all_frames ≡ frames ++ map (λ (t : Timed). t.frame) (told_of_all arrival old.ear found)
 
 -- the squitters of the last items of a source
-abbrev pub told_at_end : ℕ → Feeding → List Told
+abbrev pub told_at_end : ℕ → Feeding → List Timed
 told_at_end arrival old = told_of_all arrival old.ear (awaited old.reader [])
 
 -- A source ended: its last items were heard, and another source may follow.

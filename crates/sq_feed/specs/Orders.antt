@@ -2,7 +2,7 @@
 use Rattle.std.specs.Prelude.{◌≡◌, ◌≤◌, ◌<◌, ◌++◌, ◌+◌, ⊤, ℕ, Bool, false, true, List, [], ◌∷◌, eqb, filter}
 use Rattle.std.specs.Prelude.{length, max, nat_le, nat_lt, if◌then◌else◌}
 use Rattle.std.specs.List.{insert}
-use Rattle.sq_feed.specs.declared.order.Timed.{Timed}
+use Rattle.sq_feed.specs.declared.message.Timed.{Timed}
 
 -- the state: how late a squitter may come (ms), the latest timestamp so far, and the squitters that are held
 pub record Sorting : Type 0 where
@@ -176,6 +176,12 @@ GivesInOrder = (room : ℕ) (s : Sorting) (came : List Timed) → AreTimely room
 abbrev pub InTimeIsTimely : Type 0
 InTimeIsTimely = (room reorder : ℕ) (came : List Timed) → 0 < room → ComeInTime room reorder came
     → AreTimely room (nothing_sorted reorder) came
+
+-- With a delay of 0, squitters are given as they come, and none is held.
+abbrev pub GivesAtOnce : Type 0
+GivesAtOnce = (room latest : ℕ) (came : List Timed)
+    → let s : Sorting = record { reorder = 0; latest = latest; held = [] } in
+    (given_all room s came ≡ came) × ((sorted_all room s came).held ≡ [])
 
 -- Sorted squitters: their timestamps rise, and squitters with one timestamp are in the order of arrival.
 abbrev pub SortsStably : Type 0

@@ -1,5 +1,6 @@
 //! Squitters and their timestamps from a source's bytes, as they come.
 ghost use Rattle.std.specs.Prelude.{◌≡◌, ◌⊎◌, ◌*◌, ◌+◌, ◌≤◌, ◌<◌, ◌++◌, [], ◌∷◌, drop, false, length, take, true};
+ghost use Rattle.arrayvec.specs.ArrayVec.{array_vec_len};
 ghost use Rattle.sq_digits.specs.Buffer.{text_len};
 ghost use Rattle.sq_feed.specs.Ears.{ear_after, frames_of, moments_of, told_of};
 ghost use Rattle.sq_feed.specs.Feeds.{HasClosedFeed, HasEnded, HasGiven, HasLost, HasWritten, format_of_source, lines_of};
@@ -11,8 +12,9 @@ use crate::ear::{Ear, frame_in, whole_of};
 use crate::lines::{LINE_LIMIT, push_log_line};
 use crate::machine::Format;
 use crate::manner::Manner;
-use crate::message::{Found, Message, Stranger};
+use crate::message::{Found, Message, Stranger, Timed};
 use crate::reader::Reader;
+use arrayvec::ArrayVec;
 use sq_digits::TextBuffer;
 use std::marker::Model;
 
@@ -102,17 +104,18 @@ impl Feed {
         (at, given)
     }
 
-    /// Ends the source: appends the lines of its last frames. The next bytes are of another source.
-    pub fn finish<const N: usize>(&mut self, arrival: u64, text: &mut TextBuffer<N>)
-        requires { text_len text.old + 300 ≤ N }
+    /// Ends the source at this moment (ms), and returns its last squitters. The next bytes are of another source.
+    pub fn finish(&mut self, arrival: u64) -> ArrayVec<Timed, 5>
         ensures ended { HasEnded arrival self.old self.new }
-        ensures text { text.new.bytes ≡ text.old.bytes ++ lines_of (told_at_end arrival self.old) }
+        ensures squitters { result.items ≡ told_at_end arrival self.old }
     {
         let items = self.reader.finish();
         self.reader.restart();
+        let mut last = ArrayVec::new();
         for found in items.as_slice() {
-            self.tell_item(found, arrival, text);
+            self.keep_item(found, arrival, &mut last);
         }
+        last
     }
 
     /// Ends the source: its last squitters come with the next calls, which may have no bytes. The bytes after them are
@@ -359,6 +362,20 @@ impl Feed {
     {
         if let Some(moment) = self.ear.hear(found, arrival) {
             push_log_line(text, moment, &frame_in(found));
+        }
+    }
+
+    // Hears an item, and keeps its squitter, if it has one, behind others.
+    fn keep_item(&mut self, found: &Found, arrival: u64, kept: &mut ArrayVec<Timed, 5>)
+        requires { array_vec_len kept.old < 5 }
+        ensures reader { self.new.reader ≡ self.old.reader }
+        ensures heard { self.new.ear ≡ ear_after arrival self.old.ear found.now }
+        ensures kept { kept.new.items ≡ kept.old.items ++ told_of arrival self.old.ear found.now }
+        ensures len { array_vec_len kept.new ≤ array_vec_len kept.old + 1 }
+    {
+        if let Some(moment) = self.ear.hear(found, arrival) {
+            let frame = frame_in(found);
+            kept.push(Timed { moment, frame });
         }
     }
 

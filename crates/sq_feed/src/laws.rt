@@ -1,37 +1,16 @@
 //! Laws of streams, texts and clocks. A function with an empty body does nothing: its contract is the law.
-ghost use Rattle.std.specs.Prelude.{◌≡◌, ◌↔◌, ◌++◌, codes, ◌+◌, ◌*◌, ◌^◌, ◌%◌, ◌<◌, ◌≤◌, ℕ, List, [], ◌∷◌, length, take};
-ghost use Rattle.std.specs.Prelude.{max, None, Option, Some, map, option_to_list, true};
-ghost use Rattle.sq_feed.specs.declared.message.Found.{Found as Item};
-ghost use Rattle.sq_feed.specs.Laws.{AreSent, AreTakes, GivesTheStream, IsFoundOnce, IsReadOnce, Sent, SentIsFound};
-ghost use Rattle.sq_feed.specs.Laws.{SentIsFoundAnywhere, StartSplits, Step};
-ghost use Rattle.sq_feed.specs.Avr.{AreHex, AvrSent, BareFrameIsFound, IsSent, SentFrameIsFound, avr_found, lead, mark_of};
-ghost use Rattle.sq_feed.specs.Ears.{AreNear, CountsEach, StaysNear, Told, ear_after_all, lost, told_of_all};
-ghost use Rattle.sq_feed.specs.Feeds.{AreFed, Fed, Feeding, FeedsBoth, FeedsGoOn, FeedsTheWhole, HasClosedFeed, HasEnded, HasFed};
-ghost use Rattle.sq_feed.specs.Feeds.{HasGiven, HasLost, HasWritten, lines_of};
-ghost use Rattle.sq_feed.specs.Finding.{any_found, bare_item, millis_item};
+ghost use Rattle.std.specs.Prelude.{true};
+ghost use Rattle.sq_feed.specs.Laws.{GivesTheStream, Sent, SentIsFound};
+ghost use Rattle.sq_feed.specs.Laws.{SentIsFoundAnywhere, StartSplits};
+ghost use Rattle.sq_feed.specs.Avr.{BareFrameIsFound, SentFrameIsFound};
+ghost use Rattle.sq_feed.specs.Ears.{CountsEach, StaysNear};
+ghost use Rattle.sq_feed.specs.Feeds.{FeedsBoth, FeedsGoOn, FeedsTheWhole};
 ghost use Rattle.sq_feed.specs.Follows.{FollowsMore};
-ghost use Rattle.sq_feed.specs.Kinds.{frame_len, message_len};
-ghost use Rattle.sq_feed.specs.Readers.{HasClosed, IsNew, Reads, awaited, items_as, lost_items};
-ghost use Rattle.sq_feed.specs.Clock.{AreHeardAt, AreSoon, Counted, Hearing, IsHeard, KeepsTheTime};
-ghost use Rattle.sq_feed.specs.Rows.{BegunRow, IsHeld, LineIsRead, csv_start, rows_from};
-ghost use Rattle.sq_feed.specs.declared.order.Timed.{Timed};
-ghost use Rattle.sq_feed.specs.Orders.{AllUntil, AreSorted, AreTimely, ComeInTime, GivesAll, GivesInOrder, GivesTheFirst};
-ghost use Rattle.sq_feed.specs.Orders.{HasFlushed, HasSorted, InTimeIsTimely, RiseFrom, Sorted, Sorting, SortsStably};
-ghost use Rattle.sq_feed.specs.Orders.{SortsTheWhole, count_of, given_all, is_recent, latest_of, nothing_sorted};
-ghost use Rattle.sq_feed.specs.Orders.{sorted_all, timed_at};
-ghost use Rattle.sq_feed.specs.Follows.{Follows};
-ghost use Rattle.sq_feed.specs.Stream.{Hold, Spell, Symbol, found_in};
-
-use crate::beast::Beast;
-use crate::machine::Format;
-use crate::message::{Found, RawFrame, Stranger, Time};
-use crate::rows::Layout;
-
-/// Exactly one list of symbols spells any bytes, and exactly one list of items is found in them.
-pub fn one_reading()
-    ensures read { (bytes : List ℕ) → IsReadOnce bytes }
-    ensures found { (bytes : List ℕ) → IsFoundOnce bytes }
-{}
+ghost use Rattle.sq_feed.specs.Clock.{KeepsTheTime};
+ghost use Rattle.sq_feed.specs.Rows.{LineIsRead};
+ghost use Rattle.sq_feed.specs.Orders.{GivesAll, GivesAtOnce, GivesInOrder};
+ghost use Rattle.sq_feed.specs.Orders.{GivesTheFirst, InTimeIsTimely, SortsStably};
+ghost use Rattle.sq_feed.specs.Orders.{SortsTheWhole};
 
 /// Sent messages are found, with any content and between any other bytes.
 pub fn sent_is_found()
@@ -48,14 +27,6 @@ pub fn start_splits()
 pub fn cutting_is_nothing()
     ensures { GivesTheStream }
 {}
-
-/// A call of `Beast::take` meets the premise of `cutting_is_nothing`.
-pub fn one_take(beast: &mut Beast, piece: &[u8]) -> (usize, Option<Found>)
-    ensures { AreTakes beast.old
-        (record { taken = take result.0 piece.now; found = option_to_list result.1; after = beast.new } ∷ []) }
-{
-    beast.take(piece)
-}
 
 /// While no gap is a jump, the moments of a clock are as far apart as its true counts, however often its 48 bits turn.
 pub fn clock_keeps_the_time()
@@ -86,7 +57,8 @@ pub fn feed_gives_the_whole()
 {}
 
 /// An order loses and doubles no squitter. If each is late by at most `reorder`, and fewer than 4096 are recent at a
-/// time, what is given, and then what is held, is what came, sorted. The cut into calls does not matter.
+/// time, what is given, and then what is held, is what came, sorted. The cut into calls does not matter. With a
+/// `reorder` of 0, each squitter is given at once.
 pub fn orders_keep_all()
     ensures all { GivesAll }
     ensures sorted { GivesInOrder }
@@ -94,6 +66,7 @@ pub fn orders_keep_all()
     ensures stable { SortsStably }
     ensures whole { SortsTheWhole }
     ensures first { GivesTheFirst }
+    ensures at_once { GivesAtOnce }
 {}
 
 /// No timestamp of a feed is before the latest one by more than `late`.
@@ -101,186 +74,7 @@ pub fn timestamps_stay_near()
     ensures { StaysNear }
 {}
 
-/// Frames with timestamps near the latest one.
-pub fn nearness_exactly()
-    ensures none { (late latest : ℕ) → AreNear late latest [] }
-    ensures more { (late latest : ℕ) (one : Told) (more : List Told) → AreNear late latest (one ∷ more)
-        ↔ ((latest ≤ one.moment + late) × AreNear late (max latest one.moment) more) }
-    ensures first { (late latest : ℕ) (one : Told) (more : List Told) → AreNear late latest (one ∷ more)
-        → latest ≤ one.moment + late }
-{}
-
 /// Each item is counted once, and each squitter with a timestamp is counted as written.
 pub fn each_item_is_counted()
     ensures { CountsEach }
-{}
-
-/// One reading of bytes: the symbols spell them, and these items are in them, and no others.
-pub fn readings_exactly()
-    ensures read { (bytes : List ℕ) → IsReadOnce bytes ↔ ((symbols : List Symbol) × Spell bytes symbols
-        × ((others : List Symbol) → Spell bytes others → others ≡ symbols)) }
-    ensures found { (bytes : List ℕ) → IsFoundOnce bytes ↔ (Hold bytes (found_in bytes)
-        × ((found : List Item) → Hold bytes found → found ≡ found_in bytes)) }
-{}
-
-/// Sent bytes: a Beast message has the bytes of its size, and AVR text a mark and the digits of its size.
-pub fn sent_exactly()
-    ensures none { AreSent [] }
-    ensures more { (sent : Sent) (more : List Sent)
-        → AreSent (sent ∷ more) ↔ ((length sent.bytes ≡ message_len sent.size) × AreSent more) }
-    ensures text { (sent : AvrSent) → IsSent sent ↔ ((mark_of sent.first ≡ Some sent.mark) × AreHex sent.digits
-        × (length sent.digits ≡ 2 * (lead sent.mark + frame_len sent.size))) }
-{}
-
-/// Successive counts of a clock: each is at or after the previous one, by at most `leap`, and the receiver sends its
-/// low 48 bits.
-pub fn counts_exactly()
-    ensures none { (leap ticks : ℕ) → AreSoon leap ticks [] }
-    ensures more { (leap ticks next : ℕ) (more : List ℕ)
-        → AreSoon leap ticks (next ∷ more) ↔ ((ticks ≤ next) × (next ≤ ticks + leap) × AreSoon leap next more) }
-    ensures unheard { (before : Counted) (start first : ℕ) → AreHeardAt before start first [] [] }
-    ensures heard { (before : Counted) (start first count : ℕ) (counts : List ℕ) (one : Hearing) (others : List Hearing)
-        → AreHeardAt before start first (count ∷ counts) (one ∷ others)
-        ↔ ((one.shown ≡ count % 2 ^ 48) × (start + count < first + 2 ^ 64)
-        × IsHeard before one.shown one.waited one.after × AreHeardAt one.after start first counts others) }
-{}
-
-/// The calls of a feed: the lines or squitters that they write, and the state that they leave.
-pub fn feeds_exactly()
-    ensures none { (before : Feeding) → AreFed before [] }
-    ensures more { (before : Feeding) (one : Fed) (more : List Fed) → AreFed before (one ∷ more)
-        ↔ (HasFed one.arrival before one.bytes one.found one.after × AreFed one.after more) }
-    ensures written { (arrival : ℕ) (old new : Feeding) (bytes before after : List ℕ)
-        → HasWritten arrival old bytes before after new
-        ↔ ((found : List Item) × HasFed arrival old bytes found new
-        × (after ≡ before ++ lines_of (told_of_all arrival old.ear found))) }
-    ensures given { (arrival : ℕ) (old new : Feeding) (bytes moments after : List ℕ) (frames more : List (List ℕ))
-        → HasGiven arrival old bytes moments frames after more new
-        ↔ ((found : List Item) × HasFed arrival old bytes found new
-        × (after ≡ moments ++ map (λ (t : Told). t.moment) (told_of_all arrival old.ear found))
-        × (more ≡ frames ++ map (λ (t : Told). t.frame) (told_of_all arrival old.ear found))) }
-    ensures ended { (arrival : ℕ) (old new : Feeding) → HasEnded arrival old new
-        ↔ (IsNew old.reader.asked new.reader
-        × (new.ear ≡ ear_after_all arrival old.ear (awaited old.reader []))) }
-    ensures closed { (old new : Feeding) → HasClosedFeed old new
-        ↔ (HasClosed old.reader new.reader × (new.ear ≡ old.ear)) }
-    ensures lost { (old new : Feeding) → HasLost old new ↔ (IsNew old.reader.asked new.reader
-        × (new.ear ≡ lost (ear_after_all 0 old.ear (lost_items old.reader)))) }
-{}
-
-/// A reader at the start of a source, and one after the end of its source.
-pub fn readers_exactly()
-    ensures start { (asked : Option Format) (reads : Reads) → IsNew asked reads
-        ↔ ((reads.asked ≡ asked) × ((bytes : List ℕ) → awaited reads bytes ≡ items_as asked bytes)) }
-    ensures closed { (old new : Reads) → HasClosed old new ↔ ((new.asked ≡ old.asked)
-        × ((bytes : List ℕ) → awaited new bytes ≡ awaited old [] ++ items_as old.asked bytes)) }
-{}
-
-/// The items of short sources of unknown format.
-#[tactic(auto, unfolding(crate::specs::Finding::line_sign, crate::specs::Finding::start_sign))]
-pub fn formats_in_letters()
-    ensures log { any_found (codes "x" ++ 10 ∷ codes "7 2040" ++ 10 ∷ codes "8 2041")
-        ≡ Found.Damage ∷ millis_item 7 64 ∷ millis_item 8 65 ∷ [] }
-    ensures table { any_found (codes "rawmsg,time" ++ 10 ∷ codes "2040,.5" ++ 10 ∷ codes "2040,1.5")
-        ≡ Found.Damage ∷ millis_item 1500 64 ∷ [] }
-    ensures text { any_found (codes "*2040;*2041;") ≡ bare_item 64 ∷ bare_item 65 ∷ [] }
-    ensures none { any_found (codes "2040") ≡ Found.Foreign Stranger.NoFrame ∷ [] }
-    ensures nothing { any_found [] ≡ [] }
-    ensures other { any_found (codes "MSG,3" ++ 10 ∷ codes "7 2040") ≡ Found.Foreign Stranger.Sbs ∷ [] }
-{}
-
-/// The words of orders: timestamps that rise, squitters that come in time, and calls.
-pub fn orders_exactly()
-    ensures nothing { (moment : ℕ) → RiseFrom moment [] }
-    ensures rising { (moment : ℕ) (one : Timed) (more : List Timed)
-        → RiseFrom moment (one ∷ more) ↔ ((moment ≤ one.moment) × RiseFrom one.moment more) }
-    ensures first { (moment : ℕ) (one : Timed) (more : List Timed) → RiseFrom moment (one ∷ more)
-        → moment ≤ one.moment }
-    ensures until { (moment : ℕ) (one : Timed) (more : List Timed)
-        → AllUntil moment (one ∷ more) ↔ ((one.moment ≤ moment) × AllUntil moment more) }
-    ensures timely { (room : ℕ) (s : Sorting) (came : List Timed) → AreTimely room s came
-        ↔ ((before : List Timed) (one : Timed) (after : List Timed) → came ≡ before ++ one ∷ after
-        → AllUntil one.moment (given_all room s before)) }
-    ensures in_time { (room reorder : ℕ) (came : List Timed) → ComeInTime room reorder came
-        ↔ ((before : List Timed) (one : Timed) (after : List Timed) → came ≡ before ++ one ∷ after
-        → (latest_of 0 before ≤ one.moment + reorder)
-        × (count_of (is_recent reorder (latest_of 0 (before ++ one ∷ []))) (before ++ one ∷ []) < room)) }
-    ensures sorted { (room : ℕ) (old new : Sorting) (came given : List Timed) → HasSorted room old came given new
-        ↔ (((more : List Timed) → given_all room old (came ++ more) ≡ given ++ given_all room new more)
-        × ((more : List Timed) → sorted_all room old (came ++ more) ≡ sorted_all room new more)) }
-    ensures flushed { (old new : Sorting) (given : List Timed) → HasFlushed old given new
-        ↔ ((given ++ new.held ≡ old.held) × (new.reorder ≡ old.reorder) × (new.latest ≡ old.latest)) }
-    ensures none { (room : ℕ) (before : Sorting) → AreSorted room before [] }
-    ensures calls { (room : ℕ) (before : Sorting) (one : Sorted) (more : List Sorted)
-        → AreSorted room before (one ∷ more)
-        ↔ (HasSorted room before one.came one.given one.after × AreSorted room one.after more) }
-{}
-
-/// What an order with a delay of 5 ms gives and holds, with room for few.
-pub fn orders_in_numbers()
-    ensures given { given_all 5 (nothing_sorted 5) (map timed_at (10 ∷ 8 ∷ 12 ∷ 9 ∷ 13 ∷ [])) ≡ map timed_at (8 ∷ []) }
-    ensures held { (sorted_all 5 (nothing_sorted 5) (map timed_at (10 ∷ 8 ∷ 12 ∷ 13 ∷ []))).held
-        ≡ map timed_at (10 ∷ 12 ∷ 13 ∷ []) }
-    ensures full { given_all 3 (nothing_sorted 50) (map timed_at (10 ∷ 12 ∷ 9 ∷ 8 ∷ [])) ≡ map timed_at (9 ∷ 8 ∷ []) }
-{}
-
-/// A row counts as too long only once it holds 512 bytes.
-pub fn rows_exactly()
-    ensures { (begun : BegunRow) → IsHeld begun ↔ (begun.is_long ≡ true → 512 ≤ length begun.held) }
-{}
-
-/// The items of eight short streams: an escape is 26, and `1` is 49.
-pub fn streams_in_numbers()
-    ensures empty { found_in [] ≡ [] }
-    ensures message { found_in (26 ∷ 49 ∷ 0 ∷ 0 ∷ 0 ∷ 0 ∷ 1 ∷ 5 ∷ 128 ∷ 32 ∷ 64 ∷ [])
-        ≡ Found.Whole (record { time = Time.Ticks (261); frame = RawFrame.ModeAc (32 ∷ 64 ∷ []) }) ∷ [] }
-    ensures doubled { found_in (26 ∷ 49 ∷ 26 ∷ 26 ∷ 0 ∷ 0 ∷ 0 ∷ 0 ∷ 5 ∷ 128 ∷ 26 ∷ 26 ∷ 64 ∷ [])
-        ≡ Found.Whole (record { time = Time.Ticks (26 * 2 ^ 40 + 5); frame = RawFrame.ModeAc (26 ∷ 64 ∷ []) }) ∷ [] }
-    ensures cut_off { found_in (26 ∷ 51 ∷ 7 ∷ 26 ∷ 49 ∷ 0 ∷ 0 ∷ 0 ∷ 0 ∷ 0 ∷ 5 ∷ 128 ∷ 32 ∷ 64 ∷ [])
-        ≡ Found.Damage ∷ Found.Whole (record { time = Time.Ticks (5); frame = RawFrame.ModeAc (32 ∷ 64 ∷ []) }) ∷ [] }
-    ensures behind { found_in (26 ∷ 49 ∷ 0 ∷ 0 ∷ 0 ∷ 0 ∷ 0 ∷ 5 ∷ 128 ∷ 32 ∷ 64 ∷ 9 ∷ 9 ∷ [])
-        ≡ Found.Whole (record { time = Time.Ticks (5); frame = RawFrame.ModeAc (32 ∷ 64 ∷ []) }) ∷ Found.Damage ∷ [] }
-    ensures status { found_in (26 ∷ 52 ∷ 1 ∷ 2 ∷ 3 ∷ []) ≡ [] }
-    ensures unknown { found_in (26 ∷ 57 ∷ 1 ∷ 2 ∷ 3 ∷ []) ≡ Found.Damage ∷ [] }
-    ensures stray { found_in (1 ∷ 2 ∷ 3 ∷ []) ≡ Found.Damage ∷ [] }
-{}
-
-/// The items of short texts of AVR.
-pub fn texts_in_letters()
-    ensures empty { avr_found [] ≡ [] }
-    ensures marked { avr_found (codes "*2040;") ≡ Found.Whole (record {
-      time = Time.Unknown;
-      frame = RawFrame.ModeAc (32 ∷ 64 ∷ []);
-    }) ∷ [] }
-    ensures clocked { avr_found (codes "@00000000001A2040;") ≡ Found.Whole (record {
-      time = Time.Ticks 26;
-      frame = RawFrame.ModeAc (32 ∷ 64 ∷ []);
-    }) ∷ [] }
-    ensures signalled { avr_found (codes "<00000000001a802040;") ≡ Found.Whole (record {
-      time = Time.Ticks 26;
-      frame = RawFrame.ModeAc (32 ∷ 64 ∷ []);
-    }) ∷ [] }
-    ensures bare { avr_found (codes "2040") ≡ Found.Whole (record {
-      time = Time.Unknown;
-      frame = RawFrame.ModeAc (32 ∷ 64 ∷ []);
-    }) ∷ [] }
-    ensures damaged { avr_found (codes "*20;2040;*") ≡ Found.Damage ∷ Found.Damage ∷ Found.Damage ∷ [] }
-{}
-
-/// The items of a short log and of short tables.
-pub fn rows_in_letters()
-    ensures log { rows_from Layout.Log [] (codes "7 *2040;") ≡ Found.Whole (record {
-      time = Time.Millis 7;
-      frame = RawFrame.ModeAc (32 ∷ 64 ∷ []);
-    }) ∷ [] }
-    ensures table { rows_from csv_start [] (codes "1.5,x,2040") ≡ Found.Whole (record {
-      time = Time.Millis 1500;
-      frame = RawFrame.ModeAc (32 ∷ 64 ∷ []);
-    }) ∷ [] }
-    ensures names { rows_from csv_start [] (codes "RawMsg,mintime"
-        ++ 10 ∷ codes "2040,2.00099") ≡ Found.Whole (record {
-          time = Time.Millis 2000;
-          frame = RawFrame.ModeAc (32 ∷ 64 ∷ []);
-        }) ∷ [] }
-    ensures damaged { rows_from csv_start [] (codes "1.5x,x,2040") ≡ Found.Damage ∷ [] }
 {}

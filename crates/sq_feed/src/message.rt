@@ -45,6 +45,13 @@ pub struct Message {
     pub frame: RawFrame,
 }
 
+/// A frame with its timestamp (ms). A short frame is followed by zeros.
+#[derive(Clone, Copy, Default)]
+pub struct Timed {
+    pub moment: u64,
+    pub frame: [u8; 14],
+}
+
 /// What a source is, if it holds no frames in a known format.
 #[derive(Clone, Copy)]
 pub enum Stranger {

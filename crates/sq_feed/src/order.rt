@@ -4,15 +4,9 @@ ghost use Rattle.arrayvec.specs.ArrayVec.{array_vec_len};
 ghost use Rattle.sq_feed.specs.Orders.{HasFlushed, HasSorted, Sorting, is_due, nothing_sorted, place_of, squitters_of};
 ghost use Rattle.sq_feed.specs.Orders.{with_one};
 
+use crate::message::Timed;
 use arrayvec::ArrayVec;
 use std::marker::Model;
-
-/// A squitter with its timestamp (ms).
-#[derive(Clone, Copy, Default)]
-pub struct Timed {
-    pub moment: u64,
-    pub frame: [u8; 14],
-}
 
 // The most squitters that are held.
 const LIMIT: usize = 4096;

@@ -1,4 +1,4 @@
-use Rattle.sq_feed.proofs.Ordering.{gives_all, gives_in_order, gives_the_first, in_time_is_timely, sorts_stably, sorts_the_whole}
+use Rattle.sq_feed.proofs.Ordering.{gives_all, gives_at_once, gives_in_order, gives_the_first, in_time_is_timely, sorts_stably, sorts_the_whole}
 use Rattle.sq_feed.proofs.laws.orders_keep_all.Goals as goal
 
 pub returns-clause-all : goal.returns-clause-all
@@ -18,3 +18,6 @@ returns-clause-whole c = sorts_the_whole
 
 pub returns-clause-first : goal.returns-clause-first
 returns-clause-first c = gives_the_first
+
+pub returns-clause-at_once : goal.returns-clause-at_once
+returns-clause-at_once c = gives_at_once

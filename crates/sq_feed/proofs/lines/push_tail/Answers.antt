@@ -1,4 +1,4 @@
-use Rattle.std.proofs.Common.{◌≡◌, ◌≤◌, ◌∙◌, ◌++◌, ◌∷◌, [], List, ℕ, ap, subst, sym, take, length, arith, rules}
+use Rattle.std.proofs.Common.{◌≡◌, ◌∙◌, ◌++◌, ap, subst, sym, length, arith, rules}
 use Rattle.std.proofs.lemmas.List.{take_all}
 use Rattle.std.specs.Str.{IsAscii}
 use Rattle.sq_feed.proofs.Digits.{ascii_tail, tail_is}

@@ -3,20 +3,21 @@ use Rattle.sq_feed.specs.declared.message.Found.TheVariants.{Whole}
 use Rattle.sq_feed.specs.declared.message.RawFrame.TheVariants.{ModeAc}
 use Rattle.sq_feed.specs.declared.message.Time.TheVariants.{Unknown}
 use Rattle.sq_feed.specs.Ears.{ear_after}
-use Rattle.sq_feed.proofs.Feeding.{ear_more, text_more}
+use Rattle.sq_feed.proofs.Feeding.{ear_more, told_more}
 use Rattle.sq_feed.proofs.feed.Feed.finish.Goals as goal
 
 pub loop-found-preserved : goal.loop-found-preserved
-loop-found-preserved g c =
+loop-found-preserved c =
     let items = c.as_slice-found-items.result.now in
     let i = c.loop-found.found-index in
     let within = c.loop-found-test.true in
     let any = Whole (record { time = Unknown; frame = ModeAc [] }) in
     let before = c.loop-found.invariant in record {
-      reader = c.tell_item.ensures.reader ∙ before.reader;
-      heard = c.tell_item.ensures.heard ∙ ap (λ e. ear_after c.args.arrival e (get_or items i any)) before.heard
+      reader = c.keep_item.ensures.reader ∙ before.reader;
+      heard = c.keep_item.ensures.heard ∙ ap (λ e. ear_after c.args.arrival e (get_or items i any)) before.heard
           ∙ sym (ear_more c.args.arrival c.self.inside.ear items i any within);
-      text = text_more c.args.arrival c.self.inside.ear c.loop-found.self.ear items i any c.args.text.now.bytes
-          c.loop-found.text.bytes c.tell_item.new.text.bytes within before.heard before.text c.tell_item.ensures.text;
-      room = omega (arith, c.tell_item.ensures.len, before.room);
+      squitters = c.keep_item.ensures.kept
+          ∙ told_more c.args.arrival c.self.inside.ear c.loop-found.self.ear items i any c.loop-found.last.items within
+          before.heard before.squitters;
+      room = omega (arith, c.keep_item.ensures.len, before.room);
     }

@@ -2,7 +2,7 @@ use Rattle.std.proofs.Common.{◌∙◌, ℕ, List, [], ◌∷◌, ap, subst, sy
 use Rattle.std.specs.Prelude.{Option, option_to_list}
 use Rattle.std.proofs.lemmas.List.{take_more_set}
 use Rattle.sq_feed.specs.declared.message.Found.{Found}
-use Rattle.sq_feed.specs.Ears.{Told, ear_after, told_of}
+use Rattle.sq_feed.specs.Ears.{ear_after, told_of}
 use Rattle.sq_feed.specs.Feeds.{Feeding}
 use Rattle.sq_feed.specs.Follows.{Follows}
 use Rattle.sq_feed.specs.Readers.{awaited}

@@ -1,5 +1,5 @@
 use Rattle.std.proofs.Common.{◌-◌, ◌≡◌, ◌≤◌, List, length, drop, take}
-use Rattle.sq_feed.specs.declared.order.Timed.{Timed}
+use Rattle.sq_feed.specs.declared.message.Timed.{Timed}
 use Rattle.sq_feed.specs.Orders.{HasSorted, Sorting, squitters_of}
 use Rattle.sq_feed.proofs.order.Order.give_due.Given as goal
 

@@ -1,6 +1,6 @@
 use Rattle.std.proofs.Common.{◌≡◌, ◌-◌, ◌∙◌, ap, arith, drop, length, take}
 use Rattle.std.proofs.lemmas.List.{length-drop, take_all}
-use Rattle.sq_feed.specs.declared.order.Timed.{Timed}
+use Rattle.sq_feed.specs.declared.message.Timed.{Timed}
 use Rattle.sq_feed.specs.contracts.order.Order.{the_view}
 use Rattle.sq_feed.specs.Orders.{place_of, with_one}
 use Rattle.sq_feed.proofs.Ordering.{put_view}

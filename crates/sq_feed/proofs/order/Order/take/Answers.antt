@@ -1,5 +1,5 @@
 use Rattle.std.proofs.Common.{◌<◌, ◌++◌, ◌∙◌, [], ◌∷◌, arith, get_or, length, subst, sym, take}
-use Rattle.sq_feed.specs.declared.order.Timed.{Timed}
+use Rattle.sq_feed.specs.declared.message.Timed.{Timed}
 use Rattle.sq_feed.specs.Orders.{HasSorted, squitters_of}
 use Rattle.sq_feed.proofs.Feeding.{rest_further}
 use Rattle.sq_feed.proofs.Ordering.{sorted_put, squitters_more}

@@ -1,5 +1,5 @@
 use Rattle.sq_feed.proofs.Lawful.{found_once, read_once}
-use Rattle.sq_feed.proofs.laws.one_reading.Goals as goal
+use Rattle.sq_feed.proofs.pins.one_reading.Goals as goal
 
 pub returns-clause-read : goal.returns-clause-read
 returns-clause-read c = read_once
