@@ -4,10 +4,9 @@ use crate::faulty_devices::{
     End, Pieces, Room, lines_in, pieces_of, room_of, sink_of, source_of, taken,
 };
 use crate::outcomes::{outcome_on, status_of};
-use sq_commands::{Status, run_check};
+use sq_commands::{Request, Status, run_check};
 use sq_devices::{Reading, Sink, Source};
 use sq_lines::{RunFault, Tally};
-use sq_requests::Request;
 use std::alloc::Global;
 use std::io;
 use std::io::Read;

@@ -2,9 +2,10 @@
 //! the output is flushed before input is awaited. The words over a made-up command line.
 use crate::devices::end_with;
 use crate::faulty_devices::{finish, get, put, sink_of, taken};
-use sq_console::laws::equal_troubles;
-use sq_console::{PromptInput, PromptOutput, SharedOutput, Trouble, arguments};
-use sq_devices::{Failed, Sink, Source};
+use sq_devices::console_pins::equal_troubles;
+use sq_devices::{
+    Failed, PromptInput, PromptOutput, SharedOutput, Sink, Source, Trouble, arguments,
+};
 use std::alloc::{AllocError, Global};
 use std::cell::RefCell;
 use std::env::{Env, FillError};

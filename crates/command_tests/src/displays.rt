@@ -2,8 +2,7 @@
 use crate::faulty_devices::{sink_of, taken};
 use crate::outcomes::assert_reported;
 use sq_angle::AngleFault;
-use sq_commands::{RunFault, Status, break_off};
-use sq_requests::Request;
+use sq_commands::{Request, RunFault, Status, break_off};
 use std::alloc::Global;
 use std::fmt;
 use std::process::Abort;

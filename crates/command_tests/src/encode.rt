@@ -1,7 +1,6 @@
-//! The command `encode`: `IsEncodeRun`. What it answers to other words stands in `tests/worked/encode.txt`.
+//! The command `encode`: `IsEncodeReply`. `tests/worked/encode.txt` has the replies to more command lines.
 use crate::outcomes::{assert_reported, assert_written};
-use sq_commands::Status;
-use sq_requests::{EncodeWords, Request};
+use sq_commands::{EncodeWords, Request, Status};
 
 // A position in the air, of this kind.
 fn position_of(kind: &str) -> Request<'_> {

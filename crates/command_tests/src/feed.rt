@@ -2,10 +2,11 @@
 //! and `IsFeedRun`. `tests/worked/feed.txt` tries the whole program.
 use crate::faulty_devices::{End, Pieces, Room, pieces_of, room_of, sink_of, source_of, taken};
 use crate::outcomes::{assert_reported, outcome_on, status_of};
-use sq_commands::{FeedEnd, SourceFormat, Status, Stranger, run_feed};
+use sq_commands::{
+    FeedEnd, FeedOptions, FeedWords, Request, SourceFormat, Status, Stranger, run_feed,
+};
 use sq_devices::{Clock, NoClock, Sink, Source};
 use sq_lines::RunFault;
-use sq_requests::{FeedWords, Request};
 use std::alloc::Global;
 use std::process::Abort;
 
@@ -24,6 +25,13 @@ const LOG: &[u8] = b"2 8D40621D58C382D690C8AC2863A7\n3 8D40621D58C386435CC412692
 const CSV: &[u8] =
     b"0.002,40621d,8d40621d58c382d690c8ac2863a7\n0.003999,40621d,8d40621d58c386435cc412692ad6\n";
 
+// The order of the frames, and extended squitters alone.
+const PLAIN: FeedOptions = FeedOptions {
+    format: None,
+    reorder: 0,
+    all_formats: false,
+};
+
 // `run_feed` without its clauses.
 fn feed(
     format: Option<SourceFormat>,
@@ -31,7 +39,8 @@ fn feed(
     source: &mut impl Source,
     sink: &mut impl Sink,
 ) -> Result<FeedEnd, RunFault> {
-    run_feed(format, clock, source, sink)
+    let options = FeedOptions { format, ..PLAIN };
+    run_feed(&options, clock, source, sink)
 }
 
 // Asserts the output of a run by a clock, and that it counts two frames.
@@ -192,7 +201,11 @@ fn leaves_what_a_writer_took_of_a_feed(rt: HostRuntime) {
 
 // `feed` with a format.
 fn request_of(format: Option<&str>) -> Request<'_> {
-    Request::Feed(FeedWords { format })
+    Request::Feed(FeedWords {
+        format,
+        reorder: None,
+        all: false,
+    })
 }
 
 // Asserts what `feed` writes of an input, and the summary.
@@ -265,4 +278,80 @@ fn reports_a_feed_that_breaks_off(rt: HostRuntime) {
     let status = status_of(rt.alloc(), request, &mut source, &mut sink, &mut faults);
     assert!(rt; status == Status::Broken);
     assert!(rt; taken(faults).as_slice() == b"read failed\n".as_slice());
+}
+
+// A log: its second frame comes 2 ms late, and the third one has downlink format 11.
+const LATE: &[u8] =
+    b"5 8D40621D58C382D690C8AC2863A7\n3 8D40621D58C386435CC412692AD6\n9 5D40621D000000\n";
+
+// Asserts what a run with these options writes.
+fn assert_sorted(rt: &impl Abort, alloc: Global, reorder: u64, all_formats: bool, lines: &[u8]) {
+    for size in [1, 7, 64, 128] {
+        let options = FeedOptions {
+            format: Some(SourceFormat::Log),
+            reorder,
+            all_formats,
+        };
+        let mut source = source_of(pieces_of(LATE, size, usize::MAX));
+        let mut sink = sink_of(Vec::new(alloc));
+        assert!(rt; run_feed(&options, &mut NoClock, &mut source, &mut sink).is_ok());
+        assert!(rt; taken(sink).as_slice() == lines);
+    }
+}
+
+#[test]
+fn sorts_frames_that_come_late(rt: HostRuntime) {
+    let sorted = b"3 8D40621D58C386435CC412692AD6\n5 8D40621D58C382D690C8AC2863A7\n";
+    assert_sorted(&rt, rt.alloc(), 2, false, sorted);
+    assert_sorted(&rt, rt.alloc(), u64::MAX, false, sorted);
+    let late = b"5 8D40621D58C382D690C8AC2863A7\n5 8D40621D58C386435CC412692AD6\n";
+    assert_sorted(&rt, rt.alloc(), 0, false, late);
+}
+
+#[test]
+fn writes_frames_of_all_formats(rt: HostRuntime) {
+    let all = b"3 8D40621D58C386435CC412692AD6\n5 8D40621D58C382D690C8AC2863A7\n9 5D40621D000000\n";
+    assert_sorted(&rt, rt.alloc(), 2, true, all);
+}
+
+// Asserts that a run leaves a source without frames once that is known.
+#[test]
+fn leaves_a_live_source_without_frames(rt: HostRuntime) {
+    let sbs = b"MSG,3\nMSG,3\n";
+    let mut source = source_of(pieces_of(sbs, 6, 6));
+    let mut sink = sink_of(Vec::new(rt.alloc()));
+    let mut clock = Ticking { next: 0 };
+    match feed(None, &mut clock, &mut source, &mut sink) {
+        Ok(end) => assert!(rt; matches!(end.stranger, Some(Stranger::Sbs))),
+        Err(_) => assert!(rt; false),
+    }
+    let mut recorded = source_of(pieces_of(sbs, 6, 6));
+    match feed(None, &mut NoClock, &mut recorded, &mut sink) {
+        Err(RunFault::Read) => {}
+        _ => assert!(rt; false),
+    }
+    assert!(rt; taken(sink).is_empty());
+}
+
+// Asserts that a delay is refused.
+fn assert_bad_reorder(rt: &impl Abort, alloc: Global, reorder: &str) {
+    let request = Request::Feed(FeedWords {
+        format: None,
+        reorder: Some(reorder),
+        all: false,
+    });
+    assert_reported(rt, alloc, request, Status::Misused, "bad reorder\n");
+}
+
+#[test]
+fn refuses_a_delay_that_is_no_number(rt: HostRuntime) {
+    for word in ["", "-1", "1.5", "5ms", "18446744073709551616"] {
+        assert_bad_reorder(&rt, rt.alloc(), word);
+    }
+    let request = Request::Feed(FeedWords {
+        format: Some("none"),
+        reorder: Some("none"),
+        all: true,
+    });
+    assert_reported(&rt, rt.alloc(), request, Status::Misused, "bad format\n");
 }

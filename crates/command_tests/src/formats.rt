@@ -3,16 +3,14 @@
 use crate::faulty_devices::{End, get, room_of, sink_of, source_of, taken};
 use crate::outcomes::{assert_outcome, assert_reported, outcome_on, status_of};
 use sq_angle::Angle;
-use sq_commands::Status;
+use sq_commands::{Request, Status, TrackWords};
 use sq_digits::TextBuffer;
 use sq_message::{Me, Squitter};
-use sq_requests::{Request, TrackWords};
-use sq_rows::{
-    Form, kind_name, push_address, push_airborne_feet, push_bit, push_blank, push_degrees,
-    push_end, push_fault_word, push_feet, push_hexadecimal_word, push_line, push_number,
-    push_signed, push_word,
+use sq_text::{
+    Form, LineFault, kind_name, push_address, push_airborne_feet, push_bit, push_blank,
+    push_degrees, push_end, push_fault_word, push_feet, push_hexadecimal_word, push_line,
+    push_number, push_signed, push_word, read_squitter,
 };
-use sq_text::{LineFault, read_squitter};
 use std::alloc::Global;
 use std::process::Abort;
 

@@ -1,9 +1,8 @@
 //! Whole requests: `IsRun`, and `WroteOrFailed` of what is reported where the sink for faults fails; and the command
 //! `show`, of which `tests/worked/show.txt` has more.
 use crate::faulty_devices::{sink_of, source_of, taken};
-use sq_commands::{Status, answer};
+use sq_commands::{Request, Status, answer};
 use sq_devices::{Sink, Source};
-use sq_requests::Request;
 use std::alloc::Global;
 use std::io;
 use std::io::{ErrorKind, Write};

@@ -1,7 +1,6 @@
-//! The command `pair`: `IsPairRun`. What it answers to other words stands in `tests/worked/pair.txt`.
+//! The command `pair`: `IsPairReply`. `tests/worked/pair.txt` has the replies to more command lines.
 use crate::outcomes::{assert_reported, assert_unreported, assert_unwritten, assert_written};
-use sq_commands::Status;
-use sq_requests::Request;
+use sq_commands::{Request, Status};
 
 const AIR_EVEN: &str = "8D40621D58C382D690C8AC2863A7";
 

@@ -2,10 +2,9 @@
 //! `run_log`. What it answers to other logs and words stands in `tests/worked/track.txt`.
 use crate::faulty_devices::{End, Pieces, lines_in, pieces_of, room_of, sink_of, source_of, taken};
 use crate::outcomes::{assert_outcome, assert_reported, outcome_on};
-use sq_commands::{Status, run_track};
+use sq_commands::{Request, Status, TrackWords, run_track};
 use sq_devices::{Sink, Source};
 use sq_lines::{RunFault, Tally};
-use sq_requests::{Request, TrackWords};
 use sq_track::Tracker;
 use std::alloc::Global;
 use std::process::Abort;

@@ -2,7 +2,8 @@
 use Rattle.std.proofs.Common.{◌≡◌, ◌∙◌, ◌++◌, ℕ, Bool, true, false, List, [], ◌∷◌, Option, None, Some, ap, ap₂, refl, subst, sym}
 use Rattle.std.specs.Prelude.{◌==◌, ◌+◌, nat_le, nat_lt, not, if◌then◌else◌}
 use Rattle.sq_feed.specs.Counts.{counted}
-use Rattle.sq_feed.specs.Ears.{Hears, Told, ear_after, ear_after_all, ear_by, fate_of, told_by, told_of, told_of_all}
+use Rattle.sq_feed.specs.declared.message.Timed.{Timed}
+use Rattle.sq_feed.specs.Ears.{Hears, ear_after, ear_after_all, ear_by, fate_of, told_by, told_of, told_of_all}
 use Rattle.sq_feed.specs.Ears.{whole_of}
 use Rattle.sq_feed.specs.Times.{Timing, by_arrival, by_clock, by_own, clock_after, clock_moment, due, gone_on}
 use Rattle.sq_feed.specs.Times.{is_clock_told, is_clockless, is_row_fit, is_told_at, moment_at, row_agrees}
@@ -214,7 +215,7 @@ pub all_told_alike : (a b : ℕ) (items : List Found) (k l : Hears) → AreAlike
     → told_of_all a k items ≡ told_of_all b l items
 all_told_alike a b [] k l alike = refl
 all_told_alike a b (item ∷ more) k l alike =
-    ap₂ (λ (x y : List Told). x ++ y) (told_alike a b k l item alike)
+    ap₂ (λ (x y : List Timed). x ++ y) (told_alike a b k l item alike)
     (all_told_alike a b more (ear_after a k item) (ear_after b l item) (ears_alike a b k l item alike))
 
 pub all_ears_alike : (a b : ℕ) (items : List Found) (k l : Hears) → AreAlike k l

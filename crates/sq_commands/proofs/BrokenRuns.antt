@@ -1,6 +1,7 @@
 -- A run that broke off did what its devices show.
-use Rattle.std.proofs.Common.{◌≡◌, ℕ, Bool, List, Option, None, Some, Result, Ok, Err, true, false, inl, inr, refl}
-use Rattle.std.specs.Prelude.{◌==◌, if◌then◌else◌}
+use Rattle.std.proofs.Common.{◌≡◌, Bool, Option, None, Some, Ok, Err, true, false, inl, inr, refl, sym}
+use Rattle.std.specs.Prelude.{◌==◌, codes, if◌then◌else◌}
+use Rattle.sq_devices.specs.Changes.{TookNothing, WroteOrFailed, taken_from, written_on}
 use Rattle.sq_devices.specs.Clocks.{Times}
 use Rattle.sq_devices.specs.declared.device.Sink.{Ghosts as SinkGhosts}
 use Rattle.sq_devices.specs.declared.device.Source.{Ghosts as SourceGhosts}
@@ -8,16 +9,20 @@ use Rattle.sq_lines.specs.declared.faults.RunFault.TheVariants.{Read, Write, Mem
 use Rattle.sq_feed.specs.declared.message.Stranger.{Stranger}
 use Rattle.sq_commands.specs.Feed.{status_at_end}
 use Rattle.sq_lines.specs.declared.tallies.Tally.{Tally}
-use Rattle.sq_message.specs.declared.place.Place.{Place}
-use Rattle.sq_message.specs.declared.place.PlaceFault.{PlaceFault}
-use Rattle.sq_requests.specs.Requests.{Text, Show, Encode, Local, Pair, Check, Track, Feed}
+use Rattle.sq_commands.specs.Requests.{Text, Show, Encode, Local, Pair, Check, Track, Feed}
 use Rattle.sq_commands.specs.declared.status.Status.TheVariants.{Good, Refused, Broken}
-use Rattle.sq_commands.specs.BrokenOff.{BrokenAnswers, BrokenAside, BrokenChecks, BrokenFeeds, BrokenLogs}
+use Rattle.sq_commands.specs.BrokenOff.{BrokenAside, BrokenChecks, BrokenFeeds, BrokenLogs, FailedInside}
 use Rattle.sq_commands.specs.Check.{status_of}
-use Rattle.sq_commands.specs.Local.{IsLocalRun, IsPlaceRun}
-use Rattle.sq_commands.specs.Outputs.{IsAnswer, Outputs, outputs}
-use Rattle.sq_commands.specs.Pair.{IsPairRun}
-use Rattle.sq_commands.specs.Show.{IsShowRun}
+use Rattle.sq_commands.specs.Encode.{IsEncodeReply}
+use Rattle.sq_commands.specs.Local.{IsLocalReply}
+use Rattle.sq_commands.specs.Outputs.{effects, outputs}
+use Rattle.sq_commands.specs.Pair.{IsPairReply}
+use Rattle.sq_commands.specs.Replies.{FailedOn, IsDelivered, ReplyParts}
+use Rattle.sq_commands.specs.Runs.{IsReplied}
+use Rattle.sq_commands.specs.Show.{IsShowReply}
+use Rattle.sq_commands.proofs.SoundReplies.{IsSound}
+use Rattle.sq_commands.proofs.OneRuns.Frames.{sound_local, sound_pair, sound_show}
+use Rattle.sq_commands.proofs.OneRuns.Sent.{sound_encode}
 
 -- a run to the end of its input did not break off
 whole_feed : (stranger : Option Stranger) → Broken ≡ status_at_end stranger → ⊥
@@ -30,31 +35,6 @@ whole_run tally is = by (tally.refused == 0) is
     by : (b : Bool) → Broken ≡ (if b then Good else Refused) → ⊥
     by true is = cc is
     by false is = cc is
-
--- ---- answers
-
--- some text was answered, of which this holds
-abbrev Answers : Outputs → Type 0
-Answers o = (text : List ℕ) × IsAnswer text Broken o
-
-broken_place : (o : Outputs) (answer : Result Place PlaceFault) → IsPlaceRun answer Broken o → Answers o
-broken_place o (Ok place) (text, text_is, x) = (text, x)
-broken_place o (Err fault) x = absurd (cc x.0)
-
-broken_show : (o : Outputs) (frame : Text) → IsShowRun frame Broken o → Answers o
-broken_show o frame (Ok squitter, reads, (text, shown, x)) = (text, x)
-broken_show o frame (Err fault, reads, x) = absurd (cc x.0)
-
-broken_local : (o : Outputs) (frame lat lon : Text) → IsLocalRun frame lat lon Broken o → Answers o
-broken_local o frame lat lon (Ok reference, r, (Ok squitter, s, (answer, is, x))) = broken_place o answer x
-broken_local o frame lat lon (Ok reference, r, (Err fault, s, x)) = absurd (cc x.0)
-broken_local o frame lat lon (Err fault, r, x) = absurd (cc x.0)
-
-broken_pair : (o : Outputs) (older newer : Text) (lat lon : Option Text) → IsPairRun older newer lat lon Broken o
-    → Answers o
-broken_pair o older newer lat lon (Ok site, r, (Ok both, s, (answer, is, x))) = broken_place o answer x
-broken_pair o older newer lat lon (Ok site, r, (Err fault, s, x)) = absurd (cc x.0)
-broken_pair o older newer lat lon (Err fault, r, x) = absurd (cc x.0)
 
 module _ {S K F : Type 0} (s : SourceGhosts S) (k : SinkGhosts K) (f : SinkGhosts F) where
   pub broken_checks : BrokenChecks s k f
@@ -82,23 +62,31 @@ module _ {S K F : Type 0} (s : SourceGhosts S) (k : SinkGhosts K) (f : SinkGhost
       (same, inr (failed, took, ended.1))
   broken_feeds clock format from to old new before after (Err Memory, none, ended) = absurd none
 
-  pub broken_answers : BrokenAnswers s k f
-  broken_answers text old new before after x = x
+  failed_inside : (text : Option Text) (old new : K) → FailedOn text (written_on k old new)
+      → (bytes : Text) × FailedInside s k f old new bytes
+  failed_inside None old new none = absurd none
+  failed_inside (Some bytes) old new failed = (bytes, failed)
+
+  -- if no reply is `Broken` and the run ends so, its output failed
+  broken_reply : (Is : ReplyParts → Type 0) → IsSound Is → (from to : S) (old new : K) (before after : F)
+      → IsReplied Is Broken (effects s from to (outputs k f old new before after)) → TookNothing (taken_from s from to)
+      × ((text : Text) × FailedInside s k f old new text
+      × WroteOrFailed (written_on f before after) (codes "write failed\n"))
+  unfolding IsDelivered
+  broken_reply Is sound from to old new before after (reply, is, took, inl whole) =
+      absurd (sound.unbroken reply is (sym whole.0))
+  broken_reply Is sound from to old new before after (reply, is, took, inr (_, failed, reported)) =
+      let inside = failed_inside reply.output old new failed in (took, (inside.0, inside.1, reported))
 
   pub broken_aside : BrokenAside s k f
-  broken_aside (Show frame) from to old new a b no_lines no_log no_feed (took, x) =
-      let answer = broken_show (outputs k f old new a b) frame x in (took, inl (answer.0, answer.1.0, answer.1.1))
-  broken_aside (Local frame lat lon) from to old new a b no_lines no_log no_feed (took, x) =
-      let answer = broken_local (outputs k f old new a b) frame lat lon x in
-      (took, inl (answer.0, answer.1.0, answer.1.1))
-  broken_aside (Pair older newer lat lon) from to old new a b no_lines no_log no_feed (took, x) =
-      let answer = broken_pair (outputs k f old new a b) older newer lat lon x in
-      (took, inl (answer.0, answer.1.0, answer.1.1))
-  broken_aside (Encode words) from to old new a b no_lines no_log no_feed (took, (Ok frame, r, inl x)) =
-      (took, inl (_, x.0, x.1))
-  broken_aside (Encode words) from to old new a b no_lines no_log no_feed (took, (Ok frame, r, inr x)) =
-      (took, inr ((words, refl), x.1, x.2))
-  broken_aside (Encode words) from to old new a b no_lines no_log no_feed (took, (Err fault, r, x)) = absurd (cc x.0)
-  broken_aside (Check format) from to old new a b no_lines no_log no_feed x = absurd (no_lines format refl)
-  broken_aside (Track log) from to old new a b no_lines no_log no_feed x = absurd (no_log log refl)
-  broken_aside (Feed feed) from to old new a b no_lines no_log no_feed x = absurd (no_feed feed refl)
+  broken_aside (Show frame) from to old new a b no_lines no_log no_feed =
+      broken_reply (IsShowReply frame) (sound_show frame) from to old new a b
+  broken_aside (Encode words) from to old new a b no_lines no_log no_feed =
+      broken_reply (IsEncodeReply words) (sound_encode words) from to old new a b
+  broken_aside (Local frame lat lon) from to old new a b no_lines no_log no_feed =
+      broken_reply (IsLocalReply frame lat lon) (sound_local frame lat lon) from to old new a b
+  broken_aside (Pair older newer lat lon) from to old new a b no_lines no_log no_feed =
+      broken_reply (IsPairReply older newer lat lon) (sound_pair older newer lat lon) from to old new a b
+  broken_aside (Check format) from to old new a b no_lines no_log no_feed = absurd (no_lines format refl)
+  broken_aside (Track log) from to old new a b no_lines no_log no_feed = absurd (no_log log refl)
+  broken_aside (Feed feed) from to old new a b no_lines no_log no_feed = absurd (no_feed feed refl)

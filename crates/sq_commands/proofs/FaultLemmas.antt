@@ -8,7 +8,7 @@ use Rattle.sq_angle.proofs.OneReading.{one_reading}
 use Rattle.sq_commands.specs.declared.arguments.ArgumentFault.{ArgumentFault}
 use Rattle.sq_commands.specs.declared.arguments.ArgumentFault.TheVariants as faults
 use Rattle.sq_commands.specs.Arguments.{IsAngleFault, IsAngleWord, IsFaultUnless}
-use Rattle.sq_commands.specs.Laws.{OneEncodeFault, OnePositionFault, OneSiteFault, OneTrackFault}
+use Rattle.sq_commands.specs.Laws.{OneEncodeFault, OneFeedFault, OnePositionFault, OneSiteFault, OneTrackFault}
 use Rattle.sq_commands.proofs.ArgumentLemmas.{no_angle_read, one_angle_read}
 
 -- an angle has one fault
@@ -61,3 +61,6 @@ one_track_fault words a b =
     (one_unless _ a b faults.Limit _ _
     (one_unless _ a b faults.NoLimit _ _
     (one_unless _ a b faults.Window _ _ (one_site_fault words.lat words.lon a b))))
+
+pub one_feed_fault : OneFeedFault
+one_feed_fault words a b = one_unless _ a b faults.Format _ _ (λ x y. x.0 ∙ sym y.0)

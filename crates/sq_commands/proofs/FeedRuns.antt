@@ -1,14 +1,18 @@
 -- A run of `feed` on its way, and how it ends.
-use Rattle.std.proofs.Common.{◌≡◌, ◌+◌, ◌<◌, ◌≤◌, ◌++◌, ◌∙◌, ℕ, List, [], ◌∷◌, Option, Result, Ok, Err, IfOk, length, take, drop, refl, sym}
-use Rattle.std.proofs.Common.{ap, append_assoc, arith, inl, inr, subst, take-append-drop, true}
+use Rattle.std.proofs.Common.{◌≡◌, ◌≢◌, ◌+◌, ◌<◌, ◌≤◌, ◌++◌, ◌∙◌, ℕ, List, [], ◌∷◌, None, Option, Result, Ok, Err, IfOk, length, take, drop, refl, sym}
+use Rattle.std.proofs.Common.{Some, ap, ap₂, append_assoc, arith, inl, inr, subst, take-append-drop, true}
 use Rattle.std.specs.Prelude.{IfErr}
 use Rattle.sq_feed.specs.declared.message.Found.{Found}
+use Rattle.sq_feed.specs.declared.counts.Fate.{Fate}
+use Rattle.sq_feed.specs.declared.message.Found.TheVariants.{Damage, Foreign, Whole}
+use Rattle.sq_feed.specs.declared.message.Time.{Time}
+use Rattle.sq_feed.specs.declared.message.Timed.{Timed}
 use Rattle.std.specs.Io.KnownBytes.{Appends, Consumes, IsAtEnd}
 use Rattle.std.specs.List.{concat}
 use Rattle.std.proofs.KnownBytes.{Appends-trans, Consumes-nil}
 use Rattle.std.proofs.lemmas.List.{length-take-le}
 use Rattle.sq_devices.specs.Calls.{HasPut, HasSent}
-use Rattle.sq_devices.specs.Changes.{FailedWithin, TookAll, TookReported, WroteLast}
+use Rattle.sq_devices.specs.Changes.{FailedWithin, Taken, TookAll, TookReported, WroteLast}
 use Rattle.sq_devices.specs.Changes.{taken_from, written_on}
 use Rattle.sq_devices.specs.Clocks.{Tells, times_of}
 use Rattle.sq_devices.specs.Device.{IsPrefixOf, WroteFront}
@@ -18,18 +22,21 @@ use Rattle.sq_devices.specs.declared.device.Source.{Ghosts as SourceGhosts}
 use Rattle.sq_devices.proofs.Ends.{took_reported}
 use Rattle.sq_devices.proofs.Puts.{HasPut-nil, HasPut-trans}
 use Rattle.sq_commands.specs.declared.feed.FeedEnd.{FeedEnd}
-use Rattle.sq_feed.specs.Ears.{told_of_all}
+use Rattle.sq_commands.specs.declared.feed.FeedOptions.{FeedOptions}
+use Rattle.sq_feed.specs.Ears.{Hears, ear_after, ear_after_all, ear_by, fate_of, told_of_all}
 use Rattle.sq_feed.specs.Feeds.{AreFed, Fed, Feeding, HasFed, bytes_in, last_fed, lines_of, told_at_end}
-use Rattle.sq_feed.specs.declared.machine.Format.{Format}
+use Rattle.sq_feed.specs.Orders.{Sorting, given_all, nothing_sorted, sorted_all}
+use Rattle.sq_feed.specs.Readers.{awaited}
 use Rattle.sq_lines.specs.Runs.{HasGot, IsMadeOf}
 use Rattle.sq_lines.specs.declared.faults.RunFault.{RunFault}
 use Rattle.sq_lines.specs.declared.faults.RunFault.TheVariants.{Write}
 use Rattle.sq_lines.proofs.Gets.{got_on, got_up_to_end, made_of_more, made_of_nothing}
 use Rattle.sq_lines.proofs.Running.{no_more}
-use Rattle.sq_commands.specs.Feed.{HasFedAll, HasFedText, IsFed, arrivals_in}
-use Rattle.sq_commands.specs.Feed.{end_of, lines_in, start_of}
-use Rattle.sq_commands.proofs.Feeding.{arrivals_more, bytes_more, calls_fed, last_more, lines_more, lines_none}
-use Rattle.sq_commands.proofs.Feeding.{sent_after, tells_more, wrote_after}
+use Rattle.sq_commands.specs.Feed.{EndsBy, FedWhole, HasFedAll, HasFedText, HasPutLast, HasPutPart, HasPutSorted, IsFed, Sorts}
+use Rattle.sq_commands.specs.Feed.{all_lines, arrivals_in, end_of, lines_in, squitters_in, start_of}
+use Rattle.sq_commands.proofs.Feeding.{arrivals_more, bytes_more, calls_fed, last_more, sent_after, squitters_more}
+use Rattle.sq_commands.proofs.Feeding.{squitters_none, tells_more, wrote_after}
+use Rattle.sq_commands.proofs.Sortings.{lines_join, states_join}
 
 -- holds of a result, if it holds of the value and of the fault
 pub by_result : {X E : Type 0} (r : Result X E) (P : X → Type 0) (Q : E → Type 0) (G : Result X E → Type 0)
@@ -37,29 +44,58 @@ pub by_result : {X E : Type 0} (r : Result X E) (P : X → Type 0) (Q : E → Ty
 by_result (Ok x) P Q G good bad p q = good x p
 by_result (Err e) P Q G good bad p q = bad e q
 
-module _ (format : Option Format) {C S K : Type 0} (c : ClockGhosts C) (s : SourceGhosts S) (k : SinkGhosts K)
+-- what a source is stays known
+stays_by : (fate : Option Fate) (arrival : ℕ) (ear : Hears) (time : Time) → ear.stranger ≢ None
+    → (ear_by fate arrival ear time).stranger ≢ None
+stays_by None arrival ear time known = known
+stays_by (Some fate) arrival ear time known = known
+
+stays_one : (arrival : ℕ) (ear : Hears) (item : Found) → ear.stranger ≢ None
+    → (ear_after arrival ear item).stranger ≢ None
+stays_one arrival ear (Whole message) known =
+    stays_by (fate_of ear.all_formats message.time message.frame) arrival ear message.time known
+stays_one arrival ear Damage known = known
+stays_one arrival ear (Foreign stranger) known = λ none. cc none
+
+stays : (arrival : ℕ) (ear : Hears) (items : List Found) → ear.stranger ≢ None
+    → (ear_after_all arrival ear items).stranger ≢ None
+stays arrival ear [] known = known
+stays arrival ear (one ∷ more) known = stays arrival (ear_after arrival ear one) more (stays_one arrival ear one known)
+
+module _ (options : FeedOptions) {C S K : Type 0} (c : ClockGhosts C) (s : SourceGhosts S) (k : SinkGhosts K)
     (clock : C) (source : S) (sink : K) where
+  abbrev empty : Sorting
+  empty = nothing_sorted options.reorder
+
+  abbrev pub start : Feeding
+  start = start_of options (times_of c clock clock)
+
+  -- the order after some squitters
+  abbrev pub state_at : List Fed → Sorting
+  state_at calls = sorted_all 4096 empty (squitters_in start calls)
+
   -- a call of the feed for each piece that was got, with the arrival that the clock told after it
-  pub record IsGoing (clock' : C) (source' : S) (sink' : K) (feed : Feeding) : Type 0 where
+  pub record IsGoing (clock' : C) (source' : S) (sink' : K) (feed : Feeding) (order : Option Sorting) : Type 0 where
     pub calls : List Fed
-    pub fed : AreFed (start_of format (times_of c clock clock')) calls
-    pub here : feed ≡ last_fed (start_of format (times_of c clock clock')) calls
+    pub fed : AreFed start calls
+    pub here : feed ≡ last_fed start calls
     pub told : Tells c.Told clock clock' (arrivals_in calls)
-    pub put : HasPut k sink sink' (lines_in (start_of format (times_of c clock clock')) calls)
+    pub sorts : Sorts order (state_at calls)
+    pub put : HasPut k sink sink' (lines_in options start calls)
     pub unfinished : k.finishes sink' ≡ k.finishes sink
     pub got : HasGot (taken_from s source source') 0 (bytes_in calls)
     pub made : IsMadeOf (taken_from s source source') (bytes_in calls)
 
-  abbrev pub start : Feeding
-  start = start_of format (times_of c clock clock)
-
-  pub going_nothing : (feed : Feeding) → feed ≡ start → IsGoing clock source sink feed
-  going_nothing feed is = record {
+  pub going_nothing : (feed : Feeding) (order : Option Sorting) → feed ≡ start → Sorts order empty
+      → IsGoing clock source sink feed order
+  going_nothing feed order is sorts = record {
     calls = [];
     fed = tt;
     here = is;
     told = refl;
-    put = subst (HasPut k sink sink) (sym (lines_none start)) (HasPut-nil k sink);
+    sorts = subst (λ l. Sorts order (sorted_all 4096 empty l)) (sym (squitters_none start)) sorts;
+    put = subst (λ l. HasPut k sink sink (lines_of (given_all 4096 empty l))) (sym (squitters_none start))
+        (HasPut-nil k sink);
     unfinished = refl;
     got = record {
       consumed = Consumes-nil (s.to_come source);
@@ -69,201 +105,315 @@ module _ (format : Option Format) {C S K : Type 0} (c : ClockGhosts C) (s : Sour
     made = made_of_nothing s source;
   }
 
-  module _ (clock' : C) (source' : S) (sink' : K) (feed : Feeding) (going : IsGoing clock' source' sink' feed) where
+  module _ (clock' : C) (source' : S) (sink' : K) (feed : Feeding) (order : Option Sorting)
+      (going : IsGoing clock' source' sink' feed order) where
     abbrev pub calls : List Fed
     calls = going.calls
 
-    module _ (source'' : S) (into : List ℕ) (count : ℕ) (fits : count ≤ length into)
-        (gave : s.Gave source' (take count into) source'')
-        (moved : Consumes (s.to_come source') (s.to_come source'') (take count into))
-        (used : s.gets_left source'' + 1 ≡ s.gets_left source') (clock'' : C) (arrival : ℕ)
-        (told : c.Told clock' arrival clock'') where
-      abbrev pub piece : List ℕ
-      piece = take count into
-
-      long : length piece ≡ count
-      long = length-take-le count into fits
-
-      -- what was got, with this piece
-      got_now : (more : ℕ) → 1 ≤ count + more
-          → HasGot (taken_from s source source'') more (bytes_in calls ++ piece)
-      got_now more some =
-          got_on (taken_from s source source') (taken_from s source source'') more (bytes_in calls) piece going.got
-          refl refl used moved (omega (arith, some, long))
-
+    -- ---- one reading of the clock more
+    module _ (clock'' : C) (arrival : ℕ) (told : c.Told clock' arrival clock'') where
       told_now : Tells c.Told clock clock'' (arrivals_in calls ++ arrival ∷ [])
       told_now = tells_more c.Told clock clock' clock'' (arrivals_in calls) arrival going.told told
 
-      -- the call with some bytes of the piece
-      module _ (bytes : List ℕ) (found : List Found) (after : Feeding)
-          (fed : HasFed arrival feed bytes found after) where
-        abbrev pub one : Fed
-        one = record { arrival = arrival; bytes = bytes; found = found; after = after }
+      -- ---- the run ends
+      abbrev last : List Timed
+      last = told_at_end arrival (last_fed start calls)
 
-        fed_now : AreFed start (calls ++ one ∷ [])
-        fed_now =
-            calls_fed one start calls going.fed
-            (subst (λ (f : Feeding). HasFed arrival f bytes found after) going.here fed)
+      -- the lines of the last squitters, and of those that wait
+      abbrev last_lines : List ℕ
+      last_lines = lines_of (given_all 4096 (state_at calls) last)
+          ++ lines_of (sorted_all 4096 (state_at calls) last).held
 
-        text_now : (text : List ℕ) → text ≡ lines_of (told_of_all arrival feed.ear found)
-            → lines_in start calls ++ text ≡ lines_in start (calls ++ one ∷ [])
-        text_now text is =
-            ap (λ l. lines_in start calls ++ l)
-            (is ∙ ap (λ (f : Feeding). lines_of (told_of_all arrival f.ear found)) going.here)
-            ∙ sym (lines_more one start calls)
+      whole_lines : all_lines options start calls arrival ≡ lines_in options start calls ++ last_lines
+      whole_lines =
+          let x = squitters_in start calls in
+          ap₂ (λ l (t : Sorting). l ++ lines_of t.held) (lines_join empty x last) (states_join empty x last)
+          ∙ append_assoc (lines_in options start calls) (lines_of (given_all 4096 (state_at calls) last))
+          (lines_of (sorted_all 4096 (state_at calls) last).held)
 
-      -- the lines of a piece were put
-      pub going_more : (sink'' : K) (feed' : Feeding) → 0 < count
-          → HasFedText arrival feed piece feed' (HasPut k sink' sink'') → k.finishes sink'' ≡ k.finishes sink'
-          → IsGoing clock'' source'' sink'' feed'
-      going_more sink'' feed' some (text, written, put) unfinished =
-          let fed = written.fed in
-          let next = one piece written.found feed' fed in
-          let whole = bytes_more next calls in
-          let input = taken_from s source source'' in
-          record {
-            calls = calls ++ next ∷ [];
-            fed = fed_now piece written.found feed' fed;
-            here = sym (last_more next start calls);
-            told = subst (Tells c.Told clock clock'') (sym (arrivals_more next calls)) told_now;
-            put = subst (HasPut k sink sink'') (text_now piece written.found feed' fed text written.text)
-                (HasPut-trans k sink sink' sink'' (lines_in start calls) text going.put put);
-            unfinished = unfinished ∙ going.unfinished;
-            got = subst (HasGot input 0) (sym whole) (got_now 0 (omega (arith, some)));
-            made = subst (IsMadeOf input) (sym whole)
-                (made_of_more s source source' source'' (bytes_in calls) piece going.made gave used
-                (omega (arith, some, long)));
-          }
+      -- this holds of their lines
+      of_last : (Of : List ℕ → Type 0) → HasPutLast order (told_at_end arrival feed) Of → Of last_lines
+      of_last Of put =
+          subst (λ (f : Feeding). HasPutLast order (told_at_end arrival f) Of) going.here put (state_at calls)
+          going.sorts
 
-      -- the sink failed within the lines of a piece
-      pub ended_write : (sink'' : K) (feed' : Feeding) (n : ℕ) → 0 < count → k.has_failed sink'' ≡ true
-          → HasFedText arrival feed (take n piece) feed' (WroteFront (k.written sink') (k.written sink''))
-          → k.finishes sink'' ≡ k.finishes sink'
-          → IsFed format (times_of c clock clock'') (Err Write) (taken_from s source source'')
-          (written_on k sink sink'')
-      ended_write sink'' feed' n some failed (text, written, wrote) unfinished =
-          let bytes : List ℕ = take n piece in
-          let fed = written.fed in
-          let next = one bytes written.found feed' fed in
-          let got = got_now 1 (omega arith) in
-          let front : IsPrefixOf (bytes_in (calls ++ next ∷ [])) (bytes_in calls ++ piece) = (
-            drop n piece,
-            ap (λ l. bytes_in calls ++ l) (sym (take-append-drop n piece))
-                ∙ sym (append_assoc (bytes_in calls) bytes (drop n piece))
-                ∙ ap (λ l. l ++ drop n piece) (sym (bytes_more next calls)),
-          ) in (
-            failed,
-            unfinished ∙ going.unfinished,
-            (
-              bytes_in calls ++ piece,
-              got.consumed,
-              got.few,
-              inl (
-                bytes_in (calls ++ next ∷ []),
-                front,
-                (
-                  calls ++ next ∷ [],
-                  fed_now bytes written.found feed' fed,
-                  refl,
-                  subst (Tells c.Told clock clock'') (sym (arrivals_more next calls)) told_now,
-                  subst (WroteFront (k.written sink) (k.written sink''))
-                      (text_now bytes written.found feed' fed text written.text)
-                      (wrote_after (k.written sink) (k.written sink') (k.written sink'') (lines_in start calls) text
-                      going.put.0 wrote),
-                ),
-              ),
-            ),
-          )
-
-      -- the source is at its end
-      module _ (none : count ≡ 0) (end : IsAtEnd (s.to_come source'')) (sink'' : K) where
-        none_now : length piece ≡ 0
-        none_now = long ∙ none
-
-        abbrev pub all : List ℕ
-        all = concat going.made.pieces
-
-        ok_now : (tally : FeedEnd)
-            → (tally ≡ end_of arrival feed)
-            × WroteLast (written_on k sink' sink'') (lines_of (told_at_end arrival feed))
-            → (k.finishes sink'' ≡ k.finishes sink + 1) × TookAll (taken_from s source source'')
-            (HasFedAll format (times_of c clock clock'') tally (written_on k sink sink''))
-        ok_now tally (counted, ((grown, sent), finished)) =
-            let text : List ℕ = lines_of (told_at_end arrival (last_fed start calls)) in
-            let same = ap (λ (f : Feeding). lines_of (told_at_end arrival f)) going.here in (
+      module _ (sink'' : K) (bytes : List ℕ) (whole : bytes_in calls ≡ bytes) where
+        fed_all : (end : FeedEnd) → (end ≡ end_of arrival feed)
+            × HasPutLast order (told_at_end arrival feed) (WroteLast (written_on k sink' sink''))
+            → (k.finishes sink'' ≡ k.finishes sink + 1)
+            × HasFedAll options (times_of c clock clock'') end (written_on k sink sink'') bytes
+        fed_all end (counted, put) =
+            let ((grown, sent), finished) = of_last (WroteLast (written_on k sink' sink'')) put in (
               finished ∙ ap (λ n. n + 1) going.unfinished,
               (
-                going.made.pieces,
-                got_up_to_end s source source' source'' (bytes_in calls) piece going.made gave used none_now,
-                subst (Consumes (s.to_come source) (s.to_come source''))
-                    (no_more (bytes_in calls) piece all going.made.whole none_now) (got_now 1 (omega arith)).consumed,
-                end,
+                calls,
+                arrival,
+                going.fed,
+                whole,
+                told_now,
                 (
-                  calls,
-                  arrival,
-                  going.fed,
-                  going.made.whole,
-                  told_now,
                   (
-                    (
-                      Appends-trans (k.written sink) (k.written sink') (k.written sink'') (lines_in start calls) text
-                          going.put.0 (subst (Appends (k.written sink') (k.written sink'')) same grown),
-                      sent_after k sink sink' sink'' (lines_in start calls) text going.put
-                          (subst (HasSent k sink' sink'') same sent),
-                    ),
-                    counted ∙ ap (end_of arrival) going.here,
+                    subst (Appends (k.written sink) (k.written sink'')) (sym whole_lines)
+                        (Appends-trans (k.written sink) (k.written sink') (k.written sink'')
+                        (lines_in options start calls) last_lines going.put.0 grown),
+                    subst (HasSent k sink sink'') (sym whole_lines)
+                        (sent_after k sink sink' sink'' (lines_in options start calls) last_lines going.put sent),
                   ),
+                  counted ∙ ap (end_of arrival) going.here,
                 ),
               ),
             )
 
-        err_now : (fault : RunFault)
-            → (fault ≡ Write) × FailedWithin (written_on k sink' sink'') (lines_of (told_at_end arrival feed))
-            → IsFed format (times_of c clock clock'') (Err fault) (taken_from s source source'')
+        fed_front : (input : Taken) → EndsBy options (times_of c clock clock'') input calls arrival
+            → HasPutLast order (told_at_end arrival feed) (FailedWithin (written_on k sink' sink''))
+            → (k.has_failed sink'' ≡ true) × (k.finishes sink'' ≡ k.finishes sink)
+            × FedWhole options (times_of c clock clock'') bytes (λ calls arrival.
+            EndsBy options (times_of c clock clock'') input calls arrival
+            × WroteFront (k.written sink) (k.written sink'') (all_lines options start calls arrival))
+        fed_front input ends put =
+            let (failed, wrote, unfinished) = of_last (FailedWithin (written_on k sink' sink'')) put in (
+              failed,
+              unfinished ∙ going.unfinished,
+              (
+                calls,
+                arrival,
+                going.fed,
+                whole,
+                told_now,
+                (
+                  ends,
+                  subst (WroteFront (k.written sink) (k.written sink'')) (sym whole_lines)
+                      (wrote_after (k.written sink) (k.written sink') (k.written sink'')
+                      (lines_in options start calls) last_lines going.put.0 wrote),
+                ),
+              ),
+            )
+
+      -- the source is live, and it is known to hold no frames
+      module _ (live : c.live clock ≡ true) (known : feed.ear.stranger ≢ None) (sink'' : K) where
+        known_at_end : (end_of arrival feed).stranger ≢ None
+        known_at_end = stays arrival feed.ear (awaited feed.reader []) known
+
+        early_ok : (end : FeedEnd) → (end ≡ end_of arrival feed)
+            × HasPutLast order (told_at_end arrival feed) (WroteLast (written_on k sink' sink''))
+            → IsFed options (times_of c clock clock'') (Ok end) (taken_from s source source')
             (written_on k sink sink'')
-        err_now fault (is, (failed, wrote, unfinished)) =
-            let text : List ℕ = lines_of (told_at_end arrival (last_fed start calls)) in
-            let same = ap (λ (f : Feeding). lines_of (told_at_end arrival f)) going.here in
+        early_ok end (counted, put) =
+            let all = fed_all sink'' (bytes_in calls) refl end (counted, put) in (
+              all.0,
+              inr (
+                live,
+                subst (λ (e : FeedEnd). e.stranger ≢ None) (sym counted) known_at_end,
+                (bytes_in calls, going.got.consumed, omega (arith, going.got.few), all.1),
+              ),
+            )
+
+        early_err : (fault : RunFault) → (fault ≡ Write)
+            × HasPutLast order (told_at_end arrival feed) (FailedWithin (written_on k sink' sink''))
+            → IsFed options (times_of c clock clock'') (Err fault) (taken_from s source source')
+            (written_on k sink sink'')
+        early_err fault (is, put) =
+            let input = taken_from s source source' in
+            let ends : EndsBy options (times_of c clock clock'') input calls arrival =
+            inr (live, subst (λ (f : Feeding). (end_of arrival f).stranger ≢ None) going.here known_at_end) in
+            let few : s.gets_left source ≤ s.gets_left source' + (length (bytes_in calls) + 1) =
+            omega (arith, going.got.few) in
+            let all = fed_front sink'' (bytes_in calls) refl input ends put in
+            subst (λ (f : RunFault). IsFed options (times_of c clock clock'') (Err f) input (written_on k sink sink''))
+            (sym is) (all.0, all.1, (bytes_in calls, going.got.consumed, few, inr all.2))
+
+        module _ (result : Result FeedEnd RunFault)
+            (ok : IfOk result (λ end. (end ≡ end_of arrival feed)
+            × HasPutLast order (told_at_end arrival feed) (WroteLast (written_on k sink' sink''))))
+            (err : IfErr result (λ fault. (fault ≡ Write)
+            × HasPutLast order (told_at_end arrival feed) (FailedWithin (written_on k sink' sink'')))) where
+          pub ended_early : IsFed options (times_of c clock clock'') result (taken_from s source source')
+              (written_on k sink sink'')
+          ended_early =
+              by_result result _ _ (λ r. IsFed options (times_of c clock clock'') r (taken_from s source source')
+              (written_on k sink sink'')) early_ok early_err ok err
+
+          pub early_reported : IfOk result (λ end. end.stranger ≡ None → TookReported (taken_from s source source')
+              (HasFedAll options (times_of c clock clock'') end (written_on k sink sink'')))
+          early_reported =
+              by_result result _ _ (λ r. IfOk r (λ end. end.stranger ≡ None
+              → TookReported (taken_from s source source')
+              (HasFedAll options (times_of c clock clock'') end (written_on k sink sink''))))
+              (λ end of none. absurd (known_at_end (ap (λ (e : FeedEnd). e.stranger) (sym of.0) ∙ none)))
+              (λ fault of. tt) ok err
+
+      -- ---- one piece more
+      module _ (source'' : S) (into : List ℕ) (count : ℕ) (fits : count ≤ length into)
+          (gave : s.Gave source' (take count into) source'')
+          (moved : Consumes (s.to_come source') (s.to_come source'') (take count into))
+          (used : s.gets_left source'' + 1 ≡ s.gets_left source') where
+        abbrev pub piece : List ℕ
+        piece = take count into
+
+        long : length piece ≡ count
+        long = length-take-le count into fits
+
+        -- what was got, with this piece
+        got_now : (more : ℕ) → 1 ≤ count + more
+            → HasGot (taken_from s source source'') more (bytes_in calls ++ piece)
+        got_now more some =
+            got_on (taken_from s source source') (taken_from s source source'') more (bytes_in calls) piece going.got
+            refl refl used moved (omega (arith, some, long))
+
+        -- the call with some bytes of the piece
+        module _ (bytes : List ℕ) (found : List Found) (after : Feeding)
+            (fed : HasFed arrival feed bytes found after) where
+          abbrev pub one : Fed
+          one = record { arrival = arrival; bytes = bytes; found = found; after = after }
+
+          fed_now : AreFed start (calls ++ one ∷ [])
+          fed_now =
+              calls_fed one start calls going.fed
+              (subst (λ (f : Feeding). HasFed arrival f bytes found after) going.here fed)
+
+          squitters_now : squitters_in start (calls ++ one ∷ [])
+              ≡ squitters_in start calls ++ told_of_all arrival feed.ear found
+          squitters_now =
+              squitters_more one start calls
+              ∙ ap (λ (f : Feeding). squitters_in start calls ++ told_of_all arrival f.ear found) (sym going.here)
+
+          lines_now : lines_in options start (calls ++ one ∷ []) ≡ lines_in options start calls
+              ++ lines_of (given_all 4096 (state_at calls) (told_of_all arrival feed.ear found))
+          lines_now =
+              ap (λ l. lines_of (given_all 4096 empty l)) squitters_now
+              ∙ lines_join empty (squitters_in start calls) (told_of_all arrival feed.ear found)
+
+          state_now : state_at (calls ++ one ∷ [])
+              ≡ sorted_all 4096 (state_at calls) (told_of_all arrival feed.ear found)
+          state_now =
+              ap (sorted_all 4096 empty) squitters_now
+              ∙ states_join empty (squitters_in start calls) (told_of_all arrival feed.ear found)
+
+        -- the lines of a piece were put
+        pub going_more : (sink'' : K) (feed' : Feeding) (order' : Option Sorting) → 0 < count
+            → HasFedText arrival feed piece feed' (λ came. HasPutSorted order order' came (HasPut k sink' sink''))
+            → k.finishes sink'' ≡ k.finishes sink'
+            → IsGoing clock'' source'' sink'' feed' order'
+        going_more sink'' feed' order' some (found, fed, sorted) unfinished =
+            let next = one piece found feed' fed in
+            let whole = bytes_more next calls in
+            let input = taken_from s source source'' in
+            let now = sorted (state_at calls) going.sorts in
+            let came = told_of_all arrival feed.ear found in
+            record {
+              calls = calls ++ next ∷ [];
+              fed = fed_now piece found feed' fed;
+              here = sym (last_more next start calls);
+              told = subst (Tells c.Told clock clock'') (sym (arrivals_more next calls)) told_now;
+              sorts = subst (Sorts order') (sym (state_now piece found feed' fed)) now.0;
+              put = subst (HasPut k sink sink'') (sym (lines_now piece found feed' fed))
+                  (HasPut-trans k sink sink' sink'' (lines_in options start calls)
+                  (lines_of (given_all 4096 (state_at calls) came)) going.put now.1);
+              unfinished = unfinished ∙ going.unfinished;
+              got = subst (HasGot input 0) (sym whole) (got_now 0 (omega (arith, some)));
+              made = subst (IsMadeOf input) (sym whole)
+                  (made_of_more s source source' source'' (bytes_in calls) piece going.made gave used
+                  (omega (arith, some, long)));
+            }
+
+        -- the sink failed within the lines of a piece
+        pub ended_write : (sink'' : K) (feed' : Feeding) (n : ℕ) → 0 < count → k.has_failed sink'' ≡ true
+            → HasFedText arrival feed (take n piece) feed'
+            (λ came. HasPutPart order came (WroteFront (k.written sink') (k.written sink'')))
+            → k.finishes sink'' ≡ k.finishes sink'
+            → IsFed options (times_of c clock clock'') (Err Write) (taken_from s source source'')
+            (written_on k sink sink'')
+        ended_write sink'' feed' n some failed (found, fed, wrote) unfinished =
+            let bytes : List ℕ = take n piece in
+            let next = one bytes found feed' fed in
             let got = got_now 1 (omega arith) in
-            subst (λ (f : RunFault). IsFed format (times_of c clock clock'') (Err f) (taken_from s source source'')
-            (written_on k sink sink'')) (sym is) (
+            let came = told_of_all arrival feed.ear found in
+            let front : IsPrefixOf (bytes_in (calls ++ next ∷ [])) (bytes_in calls ++ piece) = (
+              drop n piece,
+              ap (λ l. bytes_in calls ++ l) (sym (take-append-drop n piece))
+                  ∙ sym (append_assoc (bytes_in calls) bytes (drop n piece))
+                  ∙ ap (λ l. l ++ drop n piece) (sym (bytes_more next calls)),
+            ) in (
               failed,
               unfinished ∙ going.unfinished,
               (
                 bytes_in calls ++ piece,
                 got.consumed,
                 got.few,
-                inr (
-                  end,
+                inl (
+                  bytes_in (calls ++ next ∷ []),
+                  front,
                   (
-                    calls,
-                    arrival,
-                    going.fed,
-                    sym (no_more (bytes_in calls) piece (bytes_in calls) refl none_now),
-                    told_now,
-                    wrote_after (k.written sink) (k.written sink') (k.written sink'') (lines_in start calls) text
-                        going.put.0 (subst (WroteFront (k.written sink') (k.written sink'')) same wrote),
+                    calls ++ next ∷ [],
+                    fed_now bytes found feed' fed,
+                    refl,
+                    subst (Tells c.Told clock clock'') (sym (arrivals_more next calls)) told_now,
+                    subst (WroteFront (k.written sink) (k.written sink'')) (sym (lines_now bytes found feed' fed))
+                        (wrote_after (k.written sink) (k.written sink') (k.written sink'')
+                        (lines_in options start calls) (lines_of (given_all 4096 (state_at calls) came))
+                        going.put.0 (wrote (state_at calls) going.sorts)),
                   ),
                 ),
               ),
             )
 
-        module _ (result : Result FeedEnd RunFault)
-            (ok : IfOk result (λ tally. (tally ≡ end_of arrival feed)
-            × WroteLast (written_on k sink' sink'') (lines_of (told_at_end arrival feed))))
-            (err : IfErr result (λ fault. (fault ≡ Write)
-            × FailedWithin (written_on k sink' sink'') (lines_of (told_at_end arrival feed)))) where
-          pub ended : IsFed format (times_of c clock clock'') result (taken_from s source source'')
-              (written_on k sink sink'')
-          ended =
-              by_result result _ _ (λ r. IsFed format (times_of c clock clock'') r (taken_from s source source'')
-              (written_on k sink sink'')) ok_now err_now ok err
+        -- the source is at its end
+        module _ (none : count ≡ 0) (end : IsAtEnd (s.to_come source'')) (sink'' : K) where
+          none_now : length piece ≡ 0
+          none_now = long ∙ none
 
-          pub ended_reported : IfOk result (λ tally. TookReported (taken_from s source source'')
-              (HasFedAll format (times_of c clock clock'') tally (written_on k sink sink'')))
-          ended_reported =
-              by_result result _ _ (λ r. IfOk r (λ tally. TookReported (taken_from s source source'')
-              (HasFedAll format (times_of c clock clock'') tally (written_on k sink sink''))))
-              (λ tally of. took_reported (taken_from s source source'')
-              (HasFedAll format (times_of c clock clock'') tally (written_on k sink sink'')) (ok_now tally of).1)
-              (λ fault of. tt) ok err
+          abbrev pub all : List ℕ
+          all = concat going.made.pieces
+
+          ok_now : (tally : FeedEnd) → (tally ≡ end_of arrival feed)
+              × HasPutLast order (told_at_end arrival feed) (WroteLast (written_on k sink' sink''))
+              → (k.finishes sink'' ≡ k.finishes sink + 1) × TookAll (taken_from s source source'')
+              (HasFedAll options (times_of c clock clock'') tally (written_on k sink sink''))
+          ok_now tally of =
+              let whole = fed_all sink'' all going.made.whole tally of in (
+                whole.0,
+                (
+                  going.made.pieces,
+                  got_up_to_end s source source' source'' (bytes_in calls) piece going.made gave used none_now,
+                  subst (Consumes (s.to_come source) (s.to_come source''))
+                      (no_more (bytes_in calls) piece all going.made.whole none_now) (got_now 1 (omega arith)).consumed,
+                  end,
+                  whole.1,
+                ),
+              )
+
+          err_now : (fault : RunFault) → (fault ≡ Write)
+              × HasPutLast order (told_at_end arrival feed) (FailedWithin (written_on k sink' sink''))
+              → IsFed options (times_of c clock clock'') (Err fault) (taken_from s source source'')
+              (written_on k sink sink'')
+          err_now fault (is, put) =
+              let got = got_now 1 (omega arith) in
+              let same = sym (no_more (bytes_in calls) piece (bytes_in calls) refl none_now) in
+              let input = taken_from s source source'' in
+              let failed = fed_front sink'' (bytes_in calls ++ piece) same input (inl end) put in
+              subst (λ (f : RunFault). IsFed options (times_of c clock clock'') (Err f) input
+              (written_on k sink sink''))
+              (sym is) (failed.0, failed.1, (bytes_in calls ++ piece, got.consumed, got.few, inr failed.2))
+
+          module _ (result : Result FeedEnd RunFault)
+              (ok : IfOk result (λ tally. (tally ≡ end_of arrival feed)
+              × HasPutLast order (told_at_end arrival feed) (WroteLast (written_on k sink' sink''))))
+              (err : IfErr result (λ fault. (fault ≡ Write)
+              × HasPutLast order (told_at_end arrival feed) (FailedWithin (written_on k sink' sink'')))) where
+            pub ended : IsFed options (times_of c clock clock'') result (taken_from s source source'')
+                (written_on k sink sink'')
+            ended =
+                by_result result _ _ (λ r. IsFed options (times_of c clock clock'') r (taken_from s source source'')
+                (written_on k sink sink''))
+                (λ tally of. let now = ok_now tally of in (now.0, inl now.1)) err_now ok err
+
+            pub ended_reported : IfOk result (λ tally. tally.stranger ≡ None
+                → TookReported (taken_from s source source'')
+                (HasFedAll options (times_of c clock clock'') tally (written_on k sink sink'')))
+            ended_reported =
+                by_result result _ _ (λ r. IfOk r (λ tally. tally.stranger ≡ None
+                → TookReported (taken_from s source source'')
+                (HasFedAll options (times_of c clock clock'') tally (written_on k sink sink''))))
+                (λ tally of _. took_reported (taken_from s source source'')
+                (HasFedAll options (times_of c clock clock'') tally (written_on k sink sink'')) (ok_now tally of).1)
+                (λ fault of. tt) ok err

@@ -1,6 +1,6 @@
 -- Calls of a feed, one after the other, and the lines that they put.
-use Rattle.std.proofs.Common.{◌≡◌, ◌+◌, ◌≤◌, ◌++◌, ◌∙◌, ℕ, List, [], ◌∷◌, Option, length, take, drop, refl, sym}
-use Rattle.std.proofs.Common.{ap, append_assoc, append-nil, subst}
+use Rattle.std.proofs.Common.{◌≡◌, ◌+◌, ◌++◌, ◌∙◌, ℕ, List, [], ◌∷◌, Option, take, drop, refl, sym}
+use Rattle.std.proofs.Common.{ap, append_assoc, append-nil, subst, take-add}
 use Rattle.std.specs.Io.KnownBytes.{Appends}
 use Rattle.sq_devices.specs.Calls.{HasPut, HasSent}
 use Rattle.sq_devices.specs.Clocks.{Tells}
@@ -8,10 +8,14 @@ use Rattle.sq_devices.specs.Device.{WroteFront}
 use Rattle.sq_devices.specs.declared.device.Sink.{Ghosts as SinkGhosts}
 use Rattle.sq_devices.proofs.Puts.{HasPut-trans}
 use Rattle.sq_feed.specs.Ears.{told_of_all}
-use Rattle.sq_feed.specs.Feeds.{AreFed, Fed, Feeding, HasFed, HasWritten, bytes_in, last_fed, lines_of}
-use Rattle.sq_feed.proofs.Feeding.{written_nothing, written_piece}
+use Rattle.sq_feed.specs.Feeds.{AreFed, Fed, Feeding, HasFed, bytes_in, last_fed}
+use Rattle.sq_feed.specs.Readers.{awaited}
+use Rattle.sq_feed.specs.declared.message.Found.{Found}
+use Rattle.sq_feed.specs.declared.message.Timed.{Timed}
+use Rattle.sq_feed.proofs.Feeding.{fed_on, told_on}
+use Rattle.sq_feed.proofs.Following.{follows_nothing}
 use Rattle.sq_lines.proofs.Running.{AppendsOrHides-after}
-use Rattle.sq_commands.specs.Feed.{HasFedText, arrivals_in, lines_in}
+use Rattle.sq_commands.specs.Feed.{HasFedText, arrivals_in, squitters_in}
 
 -- ---- texts that are put one after the other
 
@@ -30,33 +34,29 @@ sent_after k a b c x y put (last, put', finished) = (last, HasPut-trans k a b la
 
 -- ---- one piece
 
--- the text of these bytes, behind another text
-written_behind : (arrival : ℕ) (old new : Feeding) (bytes text before : List ℕ)
-    → HasWritten arrival old bytes [] text new → HasWritten arrival old bytes before (before ++ text) new
-written_behind arrival old new bytes text before w =
-    record { found = w.found; fed = w.fed; text = ap (λ l. before ++ l) w.text }
-
 -- an empty part of a piece
-pub fed_nothing : (arrival : ℕ) (old : Feeding) (Of : List ℕ → Type 0) → Of [] → HasFedText arrival old [] old Of
-fed_nothing arrival old Of of = ([], written_nothing arrival old [], of)
+pub fed_nothing : (arrival : ℕ) (old : Feeding) (Of : List Timed → Type 0) → Of [] → HasFedText arrival old [] old Of
+fed_nothing arrival old Of of =
+    ([], record { same = refl; follows = follows_nothing (awaited old.reader); heard = refl }, of)
 
--- more of a piece: this holds of both texts together
-pub fed_more : (arrival : ℕ) (old mid new : Feeding) (piece more : List ℕ) (at count : ℕ) → at ≤ length piece
-    → (Of On : List ℕ → Type 0) → HasFedText arrival old (take at piece) mid Of
-    → HasWritten arrival mid (take count (drop at piece)) [] more new → ((text : List ℕ) → Of text → On (text ++ more))
+-- more of a piece: this holds of all squitters
+pub fed_more : (arrival : ℕ) (old mid new : Feeding) (piece : List ℕ) (at count : ℕ) (more : List Found)
+    → (Of On : List Timed → Type 0) → HasFedText arrival old (take at piece) mid Of
+    → HasFed arrival mid (take count (drop at piece)) more new
+    → ((came : List Timed) → Of came → On (came ++ told_of_all arrival mid.ear more))
     → HasFedText arrival old (take (at + count) piece) new On
-fed_more arrival old mid new piece more at count within Of On (text, w, of) v on = (
-  text ++ more,
-  written_piece arrival old mid new piece [] text (text ++ more) at count within w
-      (written_behind arrival mid new (take count (drop at piece)) more text v),
-  on text of,
+fed_more arrival old mid new piece at count more Of On (found, fed, of) next on = (
+  found ++ more,
+  subst (λ bs. HasFed arrival old bs (found ++ more) new) (sym (take-add at count piece))
+      (fed_on arrival old mid new (take at piece) (take count (drop at piece)) found more fed next),
+  subst On (sym (told_on arrival old mid (take at piece) found more fed)) (on (told_of_all arrival old.ear found) of),
 )
 
 -- ---- one call more
 
-pub lines_none : (before : Feeding) → lines_in before [] ≡ []
-unfolding lines_in
-lines_none before = refl
+pub squitters_none : (before : Feeding) → squitters_in before [] ≡ []
+unfolding squitters_in
+squitters_none before = refl
 
 module _ (one : Fed) where
   pub calls_fed : (before : Feeding) (calls : List Fed) → AreFed before calls
@@ -77,15 +77,15 @@ module _ (one : Fed) where
   arrivals_more [] = refl
   arrivals_more (first ∷ more) = ap (λ l. first.arrival ∷ l) (arrivals_more more)
 
-  pub lines_more : (before : Feeding) (calls : List Fed) → lines_in before (calls ++ one ∷ []) ≡ lines_in before calls
-      ++ lines_of (told_of_all one.arrival (last_fed before calls).ear one.found)
-  unfolding lines_in
-  lines_more before [] = append-nil (lines_of (told_of_all one.arrival before.ear one.found))
-  lines_more before (first ∷ more) =
-      let own = lines_of (told_of_all first.arrival before.ear first.found) in
-      ap (λ l. own ++ l) (lines_more first.after more)
-      ∙ sym (append_assoc own (lines_in first.after more)
-      (lines_of (told_of_all one.arrival (last_fed first.after more).ear one.found)))
+  pub squitters_more : (before : Feeding) (calls : List Fed) → squitters_in before (calls ++ one ∷ [])
+      ≡ squitters_in before calls ++ told_of_all one.arrival (last_fed before calls).ear one.found
+  unfolding squitters_in
+  squitters_more before [] = append-nil (told_of_all one.arrival before.ear one.found)
+  squitters_more before (first ∷ more) =
+      let own = told_of_all first.arrival before.ear first.found in
+      ap (λ l. own ++ l) (squitters_more first.after more)
+      ∙ sym (append_assoc own (squitters_in first.after more)
+      (told_of_all one.arrival (last_fed first.after more).ear one.found))
 
 -- one reading of a clock more
 pub tells_more : {C : Type 0} (Told : C → ℕ → C → Type 0) (a b c : C) (moments : List ℕ) (moment : ℕ)

@@ -6,6 +6,8 @@ pub mod FormatLemmas
 pub mod HeardLemmas
 pub mod OneRuns
 pub mod SomeWriters
+pub mod Sortings
+pub mod SoundReplies
 pub mod TrackLemmas
 pub mod OnePast
 pub mod Feeding

@@ -1,5 +1,5 @@
 -- A recorded input: what a clock told of it does not matter.
-use Rattle.std.proofs.Common.{◌≡◌, ◌∙◌, ◌++◌, ℕ, List, [], ◌∷◌, Option, Result, Ok, Err, ap, ap₂, false, inl, inr, refl, subst, sym}
+use Rattle.std.proofs.Common.{◌≡◌, ◌∙◌, ◌++◌, ℕ, List, [], ◌∷◌, Result, Ok, Err, ap, ap₂, false, inl, inr, refl, subst, sym, true≢false}
 use Rattle.std.specs.List.{All}
 use Rattle.std.proofs.lemmas.List.Elements.{All-cons, All-head, All-nil, All-tail}
 use Rattle.sq_devices.specs.Changes.{Sent, Taken, Written, Wrote}
@@ -7,16 +7,18 @@ use Rattle.sq_devices.specs.Clocks.{Times, recorded}
 use Rattle.sq_devices.specs.Device.{WroteFront}
 use Rattle.sq_commands.specs.declared.feed.FeedEnd.{FeedEnd}
 use Rattle.sq_feed.specs.Ears.{Hears, ear_after_all, told_of_all}
-use Rattle.sq_feed.specs.Feeds.{AreFed, Fed, Feeding, bytes_in, last_fed, lines_of, nothing_fed}
+use Rattle.sq_feed.specs.Feeds.{AreFed, Fed, Feeding, bytes_in, last_fed, nothing_fed}
 use Rattle.sq_feed.specs.Follows.{Follows}
 use Rattle.sq_feed.specs.Readers.{Reads, awaited}
-use Rattle.sq_feed.specs.declared.machine.Format.{Format}
+use Rattle.sq_feed.specs.declared.message.Timed.{Timed}
+use Rattle.sq_commands.specs.declared.feed.FeedOptions.{FeedOptions}
+use Rattle.std.specs.Io.KnownBytes.{IsAtEnd}
 use Rattle.sq_lines.specs.declared.faults.RunFault.{RunFault}
 use Rattle.sq_lines.specs.declared.faults.RunFault.TheVariants.{Read, Write, Memory}
-use Rattle.sq_requests.specs.Requests.{Asked, Show, Encode, Local, Pair, Check, Track, Feed}
+use Rattle.sq_commands.specs.Requests.{Asked, Show, Encode, Local, Pair, Check, Track, Feed}
 use Rattle.sq_commands.specs.declared.status.Status.{Status}
-use Rattle.sq_commands.specs.Feed.{FedIn, FedWhole, IsFed, all_lines, arrivals_in}
-use Rattle.sq_commands.specs.Feed.{end_by, end_of, lines_in, manner_of, start_of}
+use Rattle.sq_commands.specs.Feed.{EndsBy, FedIn, FedWhole, IsFed, all_lines, arrivals_in}
+use Rattle.sq_commands.specs.Feed.{end_by, end_of, lines_given, lines_in, lines_whole, manner_of, squitters_in, start_of}
 use Rattle.sq_commands.specs.Outputs.{Effects}
 use Rattle.sq_commands.specs.Runs.{IsRun, IsTimedRun}
 use Rattle.sq_commands.proofs.Arrivals.{AreAlike, all_ears_alike, all_told_alike, quiet}
@@ -29,24 +31,24 @@ record AreNear (f g : Feeding) : Type 0 where
   reader : f.reader ≡ g.reader
   ear : AreAlike f.ear g.ear
 
--- calls that took the same bytes and made the same lines, each with an arrival of 0
+-- calls that took the same bytes and found the same squitters, each with an arrival of 0
 record Untimed (before other : Feeding) (calls : List Fed) : Type 0 where
   others : List Fed
   fed : AreFed other others
   bytes : bytes_in others ≡ bytes_in calls
   zero : All IsZero (arrivals_in others)
-  lines : lines_in before calls ≡ lines_in other others
+  squitters : squitters_in before calls ≡ squitters_in other others
   near : AreNear (last_fed before calls) (last_fed other others)
 
 untimed : (calls : List Fed) (before other : Feeding) → AreFed before calls → AreNear before other
     → Untimed before other calls
-unfolding lines_in
+unfolding squitters_in
 untimed [] before other fed near = record {
   others = [];
   fed = tt;
   bytes = refl;
   zero = All-nil IsZero;
-  lines = refl;
+  squitters = refl;
   near = near;
 }
 untimed (one ∷ more) before other (fed, feds) near =
@@ -73,8 +75,8 @@ untimed (one ∷ more) before other (fed, feds) near =
       );
       bytes = ap (λ l. one.bytes ++ l) rest.bytes;
       zero = All-cons IsZero 0 (arrivals_in rest.others) refl rest.zero;
-      lines = ap₂ (λ (l m : List ℕ). l ++ m)
-          (ap lines_of (all_told_alike one.arrival 0 one.found before.ear other.ear near.ear)) rest.lines;
+      squitters = ap₂ (λ (l m : List Timed). l ++ m)
+          (all_told_alike one.arrival 0 one.found before.ear other.ear near.ear) rest.squitters;
       near = rest.near;
     }
 
@@ -83,32 +85,33 @@ zero_and [] zero = All-cons IsZero 0 [] refl (All-nil IsZero)
 zero_and (x ∷ xs) zero =
     All-cons IsZero x (xs ++ 0 ∷ []) (All-head IsZero x xs zero) (zero_and xs (All-tail IsZero x xs zero))
 
-module _ (clock : Times) (recorded_is : clock.is_live ≡ false) (format : Option Format) where
+module _ (clock : Times) (recorded_is : clock.is_live ≡ false) (options : FeedOptions) where
   abbrev from : Feeding
-  from = start_of format clock
+  from = start_of options clock
 
   abbrev to : Feeding
-  to = start_of format recorded
+  to = start_of options recorded
 
   near_start : AreNear from to
   near_start = record {
     reader = refl;
     ear = record {
-      same = ap (λ b. quiet (nothing_fed format (manner_of b)).ear) recorded_is;
+      same = ap (λ b. quiet (nothing_fed options.format (manner_of options b)).ear) recorded_is;
       unlive = recorded_is;
     };
   }
 
-  fed_in : (bytes : List ℕ) (Of : List ℕ → Type 0) → FedIn format clock bytes (λ calls. Of (lines_in from calls))
-      → FedIn format recorded bytes (λ calls. Of (lines_in to calls))
+  fed_in : (bytes : List ℕ) (Of : List ℕ → Type 0)
+      → FedIn options clock bytes (λ calls. Of (lines_in options from calls))
+      → FedIn options recorded bytes (λ calls. Of (lines_in options to calls))
   fed_in bytes Of (calls, fed, whole, told, of) =
       let u = untimed calls from to fed near_start in
-      (u.others, u.fed, u.bytes ∙ whole, u.zero, subst Of u.lines of)
+      (u.others, u.fed, u.bytes ∙ whole, u.zero, subst (λ l. Of (lines_given options.reorder l)) u.squitters of)
 
   fed_whole : (bytes : List ℕ) (Of : List ℕ → FeedEnd → Type 0)
-      → FedWhole format clock bytes (λ calls arrival. Of (all_lines from calls arrival)
+      → FedWhole options clock bytes (λ calls arrival. Of (all_lines options from calls arrival)
       (end_of arrival (last_fed from calls)))
-      → FedWhole format recorded bytes (λ calls arrival. Of (all_lines to calls arrival)
+      → FedWhole options recorded bytes (λ calls arrival. Of (all_lines options to calls arrival)
       (end_of arrival (last_fed to calls)))
   fed_whole bytes Of (calls, arrival, fed, whole, told, of) =
       let u = untimed calls from to fed near_start in
@@ -119,8 +122,8 @@ module _ (clock : Times) (recorded_is : clock.is_live ≡ false) (format : Optio
       ap (λ (m : Reads). told_of_all arrival end.ear (left m)) u.near.reader
       ∙ all_told_alike arrival 0 (left end'.reader) end.ear end'.ear u.near.ear in
       let ears = all_ears_alike arrival 0 (left end'.reader) end.ear end'.ear u.near.ear in
-      let lines : all_lines from calls arrival ≡ all_lines to u.others 0 =
-      ap₂ (λ (l m : List ℕ). l ++ m) u.lines (ap lines_of last) in
+      let lines : all_lines options from calls arrival ≡ all_lines options to u.others 0 =
+      ap₂ (λ (l m : List Timed). lines_whole options.reorder (l ++ m)) u.squitters last in
       let counts : end_of arrival end ≡ end_of 0 end' =
       ap (λ (m : Reads). end_by (ear_after_all arrival end.ear (left m))) u.near.reader
       ∙ ap end_by ears.same in (
@@ -129,14 +132,29 @@ module _ (clock : Times) (recorded_is : clock.is_live ≡ false) (format : Optio
         u.fed,
         u.bytes ∙ whole,
         zero_and (arrivals_in u.others) u.zero,
-        subst (Of (all_lines to u.others 0)) counts
+        subst (Of (all_lines options to u.others 0)) counts
             (subst (λ l. Of l (end_of arrival end)) lines of),
       )
 
+  -- the input is at its end, since it is not live
+  at_end : (input : Taken) (calls : List Fed) (arrival : ℕ) → EndsBy options clock input calls arrival
+      → IsAtEnd input.after
+  at_end input calls arrival (inl end) = end
+  at_end input calls arrival (inr (live, _)) = absurd (true≢false (sym live ∙ recorded_is))
+
   fed_recorded : (answer : Result FeedEnd RunFault) (input : Taken) (output : Written)
-      → IsFed format clock answer input output → IsFed format recorded answer input output
-  fed_recorded (Ok tally) input output (once, (pieces, got, consumed, end, of)) =
-      (once, (pieces, got, consumed, end, fed_whole _ (λ lines counts. Sent output lines × (tally ≡ counts)) of))
+      → IsFed options clock answer input output → IsFed options recorded answer input output
+  fed_recorded (Ok tally) input output (once, inl (pieces, got, consumed, end, of)) = (
+    once,
+    inl (
+      pieces,
+      got,
+      consumed,
+      end,
+      fed_whole _ (λ lines counts. Sent output lines × (tally ≡ counts)) of,
+    ),
+  )
+  fed_recorded (Ok tally) input output (once, inr (live, known, of)) = absurd (true≢false (sym live ∙ recorded_is))
   fed_recorded (Err Read) input output (same, (failed, (bytes, consumed, few, of))) =
       (same, (failed, (bytes, consumed, few, fed_in bytes (Wrote output) of)))
   fed_recorded (Err Write) input output (failed, same, (bytes, consumed, few, inl (front, first, of))) = (
@@ -153,19 +171,13 @@ module _ (clock : Times) (recorded_is : clock.is_live ≡ false) (format : Optio
       ),
     ),
   )
-  fed_recorded (Err Write) input output (failed, same, (bytes, consumed, few, inr (end, of))) = (
-    failed,
-    same,
-    (
-      bytes,
-      consumed,
-      few,
-      inr (
-        end,
-        fed_whole bytes (λ lines counts. WroteFront output.before output.after lines) of,
-      ),
-    ),
-  )
+  fed_recorded (Err Write) input output
+      (failed, same, (bytes, consumed, few, inr (calls, arrival, fed, whole, told, (ends, of)))) =
+      let end = at_end input calls arrival ends in
+      let (others, arrival', fed', whole', told', of') =
+      fed_whole bytes (λ lines counts. WroteFront output.before output.after lines)
+      (calls, arrival, fed, whole, told, of) in
+      (failed, same, (bytes, consumed, few, inr (others, arrival', fed', whole', told', (inl end, of'))))
   fed_recorded (Err Memory) input output none = absurd none
 
 -- a run on an input that is not live is one on a recorded input
@@ -177,6 +189,6 @@ run_recorded clock is (Local frame lat lon) status e run = run
 run_recorded clock is (Pair older newer lat lon) status e run = run
 run_recorded clock is (Check format) status e run = run
 run_recorded clock is (Track words) status e run = run
-run_recorded clock is (Feed words) status e (inl (format, named, (answer, fed, ended))) =
-    inl (format, named, (answer, fed_recorded clock is format answer e.input e.outputs.output fed, ended))
+run_recorded clock is (Feed words) status e (inl (options, spelled, (answer, fed, ended))) =
+    inl (options, spelled, (answer, fed_recorded clock is options answer e.input e.outputs.output fed, ended))
 run_recorded clock is (Feed words) status e (inr none) = inr none

@@ -2,18 +2,17 @@
 use Rattle.std.specs.Prelude.{◌≡◌, ◌≢◌, ◌==◌, ◌⊎◌, ◌-◌, ◌≤◌, ◌++◌, ◌∷◌, [], ℕ, List, Option, None, codes, find, length}
 use Rattle.std.specs.Prelude.{take, true}
 use Rattle.std.specs.Io.KnownBytes.{Appends, IsAtEnd}
-use Rattle.sq_devices.specs.Changes.{TookNothing, TookPart, TookSome, WroteNothing, WroteOrFailed, taken_from}
+use Rattle.sq_devices.specs.Changes.{TookNothing, TookPart, TookSome, WroteOrFailed, taken_from}
 use Rattle.sq_devices.specs.Changes.{written_on}
 use Rattle.sq_devices.specs.Clocks.{Times}
 use Rattle.sq_devices.specs.Device.{AppendsOrHides, IsPrefixOf, WroteFront}
 use Rattle.sq_devices.specs.declared.device.Sink.{Ghosts as SinkGhosts}
 use Rattle.sq_devices.specs.declared.device.Source.{Ghosts as SourceGhosts}
-use Rattle.sq_feed.specs.declared.machine.Format.{Format as SourceFormat}
 use Rattle.sq_lines.specs.Content.{Text as Stands, content}
 use Rattle.sq_lines.specs.Lines.{ended_lines, lines_of}
 use Rattle.sq_message.specs.Parts.{squitter_parts}
 use Rattle.sq_message.specs.Places.{IsPosition}
-use Rattle.sq_requests.specs.Requests.{Asked, AskedEncode, AskedFeed, AskedTrack, Check, Encode, Feed, Text, Track}
+use Rattle.sq_commands.specs.Requests.{Asked, AskedFeed, AskedTrack, Check, Feed, Text, Track}
 use Rattle.sq_message.specs.declared.received.Received.{Received}
 use Rattle.sq_text.specs.Timed.{IsTimedText}
 use Rattle.sq_track.specs.Held.{Held, StandsFor, made_with, present_of, settings}
@@ -23,9 +22,10 @@ use Rattle.sq_commands.specs.declared.arguments.TrackOptions.{TrackOptions}
 use Rattle.sq_commands.specs.declared.formats.Format.{Format}
 use Rattle.sq_commands.specs.declared.status.Status.TheVariants.{Broken}
 use Rattle.sq_commands.specs.Check.{Checks, IsCheckRunIn, check_output}
+use Rattle.sq_commands.specs.declared.feed.FeedOptions.{FeedOptions}
 use Rattle.sq_commands.specs.Feed.{HasFedFront, HasFedSome, IsFeedRunIn}
 use Rattle.sq_commands.specs.Heard.{heard_telling}
-use Rattle.sq_commands.specs.Outputs.{IsAnswer, effects, outputs}
+use Rattle.sq_commands.specs.Outputs.{effects, outputs}
 use Rattle.sq_commands.specs.Runs.{IsRun}
 use Rattle.sq_commands.specs.Squitters.{squitter_telling}
 use Rattle.sq_commands.specs.Track.{IsLogRun}
@@ -86,30 +86,21 @@ module _ {S K F : Type 0} (s : SourceGhosts S) (k : SinkGhosts K) (f : SinkGhost
   -- A run of `feed` that stopped early finished no output. Either a get failed after the lines of all items that were
   -- read whole, or the output failed within these lines.
   abbrev pub BrokenFeeds : Times → Type 0
-  BrokenFeeds clock = (format : Option SourceFormat) (from to : S) (old new : K) (before after : F)
-      → IsFeedRunIn format clock Broken (effects s from to (outputs k f old new before after))
+  BrokenFeeds clock = (options : FeedOptions) (from to : S) (old new : K) (before after : F)
+      → IsFeedRunIn options clock Broken (effects s from to (outputs k f old new before after))
       → (k.finishes new ≡ k.finishes old)
-      × ((TookPart (taken_from s from to) (HasFedSome format clock (written_on k old new))
+      × ((TookPart (taken_from s from to) (HasFedSome options clock (written_on k old new))
       × WroteOrFailed (written_on f before after) (codes "read failed\n"))
       ⊎ ((k.has_failed new ≡ true)
-      × TookSome (taken_from s from to) (HasFedFront format clock (taken_from s from to) (written_on k old new))
+      × TookSome (taken_from s from to) (HasFedFront options clock (taken_from s from to) (written_on k old new))
       × WroteOrFailed (written_on f before after) (codes "write failed\n")))
 
-  -- an answer: the output failed within its text
-  abbrev pub BrokenAnswers : Type 0
-  BrokenAnswers = (text : List ℕ) (old new : K) (before after : F)
-      → IsAnswer text Broken (outputs k f old new before after)
-      → FailedInside old new text × WroteOrFailed (written_on f before after) (codes "write failed\n")
-
-  -- a command that reads no input left it alone, and the output failed within some text; or `encode` is out of
-  -- memory, and nothing was written
+  -- a command that reads no input left it alone, and the output failed within some text
   abbrev pub BrokenAside : Type 0
   BrokenAside = (words : Asked) (from to : S) (old new : K) (before after : F)
       → ((format : Option Text) → words ≢ Check format) → ((log : AskedTrack) → words ≢ Track log)
       → ((feed : AskedFeed) → words ≢ Feed feed)
       → IsRun words Broken (effects s from to (outputs k f old new before after))
       → TookNothing (taken_from s from to)
-      × (((text : List ℕ) × FailedInside old new text
+      × ((text : List ℕ) × FailedInside old new text
       × WroteOrFailed (written_on f before after) (codes "write failed\n"))
-      ⊎ (((values : AskedEncode) × (words ≡ Encode values)) × WroteNothing (written_on k old new)
-      × WroteOrFailed (written_on f before after) (codes "out of memory\n")))

@@ -1,24 +1,22 @@
 -- The command `encode`.
-use Rattle.std.specs.Prelude.{◌≡◌, ◌⊎◌, ◌++◌, ℕ, List, Option, None, Some, Result, MatchResult, codes, false}
-use Rattle.hex.specs.Hex.{encode_upper}
+use Rattle.std.specs.Prelude.{◌≡◌, ◌++◌, ℕ, List, Option, None, Some, Result, MatchResult, codes, false}
 use Rattle.sq_bits.specs.declared.frame.Frame.{Frame}
 use Rattle.sq_angle.specs.declared.position.Position.{Position}
 use Rattle.sq_zones.specs.declared.parity.Parity.{Parity}
 use Rattle.sq_cpr.specs.Grid.{Point}
-use Rattle.sq_message.specs.Kinds.{InAir, OnGround}
-use Rattle.sq_message.specs.Heads.{AirHeadParts, GroundHeadParts}
+use Rattle.sq_feed.specs.Lines.{frame_digits}
+use Rattle.sq_message.specs.Kinds.{InAir, OnGround, HeadParts}
 use Rattle.sq_message.specs.Parts.{air_parts, ground_parts}
 use Rattle.sq_message.specs.Sending.{IsSent}
 use Rattle.sq_text.specs.Show.{parity_name}
-use Rattle.sq_requests.specs.Requests.{AskedEncode}
+use Rattle.sq_commands.specs.Requests.{AskedEncode}
 use Rattle.sq_commands.specs.declared.arguments.ArgumentFault.{ArgumentFault}
 use Rattle.sq_commands.specs.declared.arguments.ArgumentFault.TheVariants as faults
 use Rattle.sq_commands.specs.declared.arguments.Kind.{Kind}
 use Rattle.sq_commands.specs.declared.arguments.Kind.TheVariants.{Air, Ground}
-use Rattle.sq_commands.specs.declared.status.Status.{Status}
 use Rattle.sq_commands.specs.Arguments.{IsAddress, IsFaultUnless, IsFeet, IsPositionFault, IsPositionWords, kind_name}
-use Rattle.sq_commands.specs.Faults.{IsArgumentsRun}
-use Rattle.sq_commands.specs.Outputs.{Outputs, IsAnswer, IsOutOfMemory}
+use Rattle.sq_commands.specs.Faults.{misused}
+use Rattle.sq_commands.specs.Replies.{IsAnswer, IsReplyTo, ReplyParts}
 
 -- the values of the arguments of `encode`
 pub record EncodeValues : Type 0 where
@@ -56,7 +54,7 @@ IsEncodeFault words fault =
     (IsPositionFault words.lat words.lon fault))))
 
 -- capability 5, type code 11, and of the other fields the altitude alone
-pub record IsAirHead (address altitude : ℕ) (head : AirHeadParts) : Type 0 where
+pub record IsAirHead (address altitude : ℕ) (head : HeadParts InAir) : Type 0 where
   pub ca : head.ca ≡ 5
   pub of : head.address ≡ address
   pub fields : air_parts head.fields ≡ record {
@@ -68,7 +66,7 @@ pub record IsAirHead (address altitude : ℕ) (head : AirHeadParts) : Type 0 whe
   }
 
 -- capability 4, type code 7, and no other field
-pub record IsGroundHead (address : ℕ) (head : GroundHeadParts) : Type 0 where
+pub record IsGroundHead (address : ℕ) (head : HeadParts OnGround) : Type 0 where
   pub ca : head.ca ≡ 4
   pub of : head.address ≡ address
   pub fields : ground_parts head.fields
@@ -77,13 +75,13 @@ pub record IsGroundHead (address : ℕ) (head : GroundHeadParts) : Type 0 where
 -- the frame that is sent in the air
 abbrev pub IsAirFrame : (address altitude : ℕ) → Parity → Position → Frame → Type 0
 IsAirFrame address altitude parity position frame =
-    (head : AirHeadParts) × IsAirHead address altitude head
+    (head : HeadParts InAir) × IsAirHead address altitude head
     × ((point : Point) × IsSent InAir head parity position point frame)
 
 -- the frame that is sent on the ground
 abbrev pub IsGroundFrame : (address : ℕ) → Parity → Position → Frame → Type 0
 IsGroundFrame address parity position frame =
-    (head : GroundHeadParts) × IsGroundHead address head
+    (head : HeadParts OnGround) × IsGroundHead address head
     × ((point : Point) × IsSent OnGround head parity position point frame)
 
 -- the frame that is sent of a kind
@@ -92,8 +90,8 @@ IsFrameOf Air v frame = IsAirFrame v.address v.altitude v.parity v.position fram
 IsFrameOf Ground v frame = IsGroundFrame v.address v.parity v.position frame
 
 -- the line of a frame: 28 upper-case hexadecimal digits
-abbrev pub frame_line : Frame → List ℕ
-frame_line frame = encode_upper frame.0 ++ codes "\n"
+abbrev pub IsLineOf : Frame → List ℕ → Type 0
+IsLineOf frame line = line ≡ frame_digits frame.0 ++ codes "\n"
 
 -- the result of the arguments of `encode`: a frame of the values that they spell, or their first fault
 abbrev pub IsEncodeReading : AskedEncode → Result Frame ArgumentFault → Type 0
@@ -101,8 +99,6 @@ IsEncodeReading words reading = MatchResult reading
     (λ frame. (values : EncodeValues) × IsEncodeValues words values × IsFrameOf values.kind values frame)
     (IsEncodeFault words)
 
--- the frame of the values that the words spell is written, unless the program is out of memory
-abbrev pub IsEncodeRun : AskedEncode → Status → Outputs → Type 0
-IsEncodeRun words status o =
-    IsArgumentsRun (IsEncodeReading words)
-    (λ frame. IsAnswer (frame_line frame) status o ⊎ IsOutOfMemory status o) status o
+-- the reply is the frame of the values that the words spell
+abbrev pub IsEncodeReply : AskedEncode → ReplyParts → Type 0
+IsEncodeReply words = IsReplyTo (IsEncodeReading words) (λ frame. IsAnswer (IsLineOf frame)) misused

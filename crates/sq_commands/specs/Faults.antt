@@ -1,14 +1,15 @@
 -- The reports on invalid arguments.
-use Rattle.std.specs.Prelude.{◌++◌, ℕ, List, Result, MatchResult, codes}
+use Rattle.std.specs.Prelude.{◌++◌, ℕ, List, codes}
 use Rattle.sq_angle.specs.Faults.{angle_fault_text}
 use Rattle.sq_track.specs.Faults.{track_fault_text}
 use Rattle.sq_track.specs.declared.heard.TrackFault.TheVariants as tracks
 use Rattle.sq_commands.specs.declared.arguments.ArgumentFault.{ArgumentFault}
 use Rattle.sq_commands.specs.declared.arguments.ArgumentFault.TheVariants.{Format, Kind, Parity, Address, Feet, Limit}
-use Rattle.sq_commands.specs.declared.arguments.ArgumentFault.TheVariants.{NoLimit, Window, Site, Lat, Lon}
+use Rattle.sq_commands.specs.declared.arguments.ArgumentFault.TheVariants.{NoLimit, Window, Site, Lat, Lon, Reorder}
 use Rattle.sq_commands.specs.declared.status.Status.{Status}
 use Rattle.sq_commands.specs.declared.status.Status.TheVariants.{Misused}
-use Rattle.sq_commands.specs.Outputs.{Outputs, IsReport}
+use Rattle.sq_commands.specs.Outputs.{Outputs}
+use Rattle.sq_commands.specs.Replies.{IsDelivered, ReplyParts, refused}
 
 -- the report on an argument
 abbrev pub argument_text : ArgumentFault → List ℕ
@@ -23,13 +24,12 @@ argument_text Window = codes "bad window"
 argument_text Site = codes "site needs lat and lon"
 argument_text (Lat fault) = codes "lat " ++ angle_fault_text fault
 argument_text (Lon fault) = codes "lon " ++ angle_fault_text fault
+argument_text Reorder = codes "bad reorder"
 
--- the fault is reported, and nothing was written
+-- the reply to an invalid argument
+abbrev pub misused : ArgumentFault → ReplyParts
+misused fault = refused Misused (argument_text fault)
+
+-- the fault was reported, and nothing written
 abbrev pub IsMisuse : ArgumentFault → Status → Outputs → Type 0
-IsMisuse fault status o = IsReport Misused (argument_text fault) status o
-
--- the arguments are read: this holds of their values, or the first fault is reported
-abbrev pub IsArgumentsRun : {Values : Type 0} → (Result Values ArgumentFault → Type 0) → (Values → Type 0) → Status
-    → Outputs → Type 0
-IsArgumentsRun {Values = Values} Reads Rest status o = (reading : Result Values ArgumentFault) × Reads reading
-    × MatchResult reading Rest (λ fault. IsMisuse fault status o)
+IsMisuse fault = IsDelivered (misused fault)

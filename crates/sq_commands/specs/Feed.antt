@@ -1,5 +1,5 @@
 -- The command `feed`.
-use Rattle.std.specs.Prelude.{◌≡◌, ◌++◌, ◌⊎◌, ℕ, List, [], ◌∷◌, Option, None, Some, Result, Ok, Err, MatchResult, codes}
+use Rattle.std.specs.Prelude.{◌≡◌, ◌≢◌, ◌++◌, ◌⊎◌, ℕ, List, [], ◌∷◌, Option, None, Some, Result, Ok, Err, MatchResult, codes}
 use Rattle.std.specs.Prelude.{Bool, false, map, true}
 use Rattle.std.specs.Io.KnownBytes.{IsAtEnd}
 use Rattle.sq_devices.specs.Changes.{FinishedOnce, Sent, Taken, TookAll, TookNothing, TookPart, TookSome, Unfinished}
@@ -8,7 +8,10 @@ use Rattle.sq_devices.specs.Clocks.{Times}
 use Rattle.sq_devices.specs.Device.{IsPrefixOf, WroteFront}
 use Rattle.sq_feed.specs.Counts.{Tally}
 use Rattle.sq_feed.specs.Ears.{Hears, ear_after_all, told_of_all}
-use Rattle.sq_feed.specs.Feeds.{AreFed, Fed, Feeding, HasWritten, bytes_in, last_fed, lines_of, nothing_fed, told_at_end}
+use Rattle.sq_feed.specs.Feeds.{AreFed, Fed, Feeding, HasFed, bytes_in, last_fed, lines_of, nothing_fed, told_at_end}
+use Rattle.sq_feed.specs.Orders.{Sorting, given_all, is_due, nothing_sorted, sorted_all}
+use Rattle.sq_feed.specs.declared.message.Found.{Found}
+use Rattle.sq_feed.specs.declared.message.Timed.{Timed}
 use Rattle.sq_feed.specs.Readers.{awaited}
 use Rattle.sq_feed.specs.declared.machine.Format.{Format}
 use Rattle.sq_feed.specs.declared.machine.Format.TheVariants.{Beast, Avr, Csv, Log}
@@ -16,11 +19,15 @@ use Rattle.sq_feed.specs.declared.manner.Manner.{Manner}
 use Rattle.sq_feed.specs.declared.message.Stranger.{Stranger}
 use Rattle.sq_lines.specs.declared.faults.RunFault.{RunFault}
 use Rattle.sq_lines.specs.declared.faults.RunFault.TheVariants.{Read, Write, Memory}
-use Rattle.sq_requests.specs.Requests.{AskedFeed}
+use Rattle.sq_commands.specs.Requests.{AskedFeed}
+use Rattle.sq_text.specs.Timed.{IsDecimalText}
 use Rattle.sq_commands.specs.declared.feed.FeedEnd.{FeedEnd}
+use Rattle.sq_commands.specs.declared.feed.FeedOptions.{FeedOptions}
+use Rattle.sq_commands.specs.declared.arguments.ArgumentFault.{ArgumentFault}
 use Rattle.sq_commands.specs.declared.arguments.ArgumentFault.TheVariants as faults
 use Rattle.sq_commands.specs.declared.status.Status.{Status}
 use Rattle.sq_commands.specs.declared.status.Status.TheVariants.{Good, Refused, Broken}
+use Rattle.sq_commands.specs.Arguments.{IsFaultUnless}
 use Rattle.sq_commands.specs.Faults.{IsMisuse}
 use Rattle.sq_commands.specs.Outputs.{Effects, Reported, broken_text}
 use Rattle.sq_commands.specs.Summary.{stranger_text, summary_text}
@@ -31,32 +38,49 @@ use Rattle.sq_commands.specs.Summary.{stranger_text, summary_text}
 abbrev pub leap : ℕ
 leap = 600000
 
--- how an input is heard: its timestamps never go back, and only frames of downlink format 17 are given
-abbrev pub manner_of : Bool → Manner
-manner_of is_live = record {
+-- how an input is heard: its timestamps go back by at most `reorder`; with `all_formats` frames of other downlink
+-- formats than 17 are given too
+abbrev pub manner_of : FeedOptions → Bool → Manner
+manner_of options is_live = record {
   leap = leap;
-  late = 0;
+  late = options.reorder;
   is_live = is_live;
   ignores_clock = false;
-  all_formats = false;
+  all_formats = options.all_formats;
 }
 
 -- a feed at the start of an input that is received by this clock
-abbrev pub start_of : Option Format → Times → Feeding
-start_of format clock = nothing_fed format (manner_of clock.is_live)
+abbrev pub start_of : FeedOptions → Times → Feeding
+start_of options clock = nothing_fed options.format (manner_of options clock.is_live)
 
 -- the arrivals of calls
 abbrev pub arrivals_in : List Fed → List ℕ
 arrivals_in calls = map (λ (c : Fed). c.arrival) calls
 
--- the lines of the squitters in calls
-unfoldable pub lines_in : Feeding → List Fed → List ℕ
-lines_in before [] = []
-lines_in before (one ∷ more) = lines_of (told_of_all one.arrival before.ear one.found) ++ lines_in one.after more
+-- the squitters in calls
+unfoldable pub squitters_in : Feeding → List Fed → List Timed
+squitters_in before [] = []
+squitters_in before (one ∷ more) = told_of_all one.arrival before.ear one.found ++ squitters_in one.after more
 
--- the lines of all squitters of a source: those in calls, and that of its last item
-abbrev pub all_lines : Feeding → List Fed → (arrival : ℕ) → List ℕ
-all_lines before calls arrival = lines_in before calls ++ lines_of (told_at_end arrival (last_fed before calls))
+-- all squitters of a source: those in calls, and those of its last items
+abbrev pub all_squitters : Feeding → List Fed → (arrival : ℕ) → List Timed
+all_squitters before calls arrival = squitters_in before calls ++ told_at_end arrival (last_fed before calls)
+
+-- The lines of squitters, in the order of their timestamps. A squitter is held until one that is `reorder` milliseconds
+-- later has come, or until 4096 are held: with 0, each line is written at once.
+abbrev pub lines_given : (reorder : ℕ) → List Timed → List ℕ
+lines_given reorder came = lines_of (given_all 4096 (nothing_sorted reorder) came)
+
+-- all of them at the end
+abbrev pub lines_whole : (reorder : ℕ) → List Timed → List ℕ
+lines_whole reorder came = lines_given reorder came ++ lines_of (sorted_all 4096 (nothing_sorted reorder) came).held
+
+-- the lines that are written with the calls of a feed, and those of the whole source
+abbrev pub lines_in : FeedOptions → Feeding → List Fed → List ℕ
+lines_in options before calls = lines_given options.reorder (squitters_in before calls)
+
+abbrev pub all_lines : FeedOptions → Feeding → List Fed → (arrival : ℕ) → List ℕ
+all_lines options before calls arrival = lines_whole options.reorder (all_squitters before calls arrival)
 
 -- the end of a source: the counts of its items, with the last ones, and what it is if it has no known format
 abbrev pub end_by : Hears → FeedEnd
@@ -65,55 +89,89 @@ end_by ear = record { counts = ear.counts; stranger = ear.stranger }
 abbrev pub end_of : ℕ → Feeding → FeedEnd
 end_of arrival old = end_by (ear_after_all arrival old.ear (awaited old.reader []))
 
--- with these bytes a feed went on, and this holds of their lines
-abbrev pub HasFedText : ℕ → Feeding → List ℕ → Feeding → (List ℕ → Type 0) → Type 0
-HasFedText arrival old bytes new Of = (text : List ℕ) × HasWritten arrival old bytes [] text new × Of text
+-- ---- one piece
+
+-- An order is in this state, and no squitter is due. Without an order, none is held, and none waits for a later one.
+abbrev pub Sorts : Option Sorting → Sorting → Type 0
+Sorts (Some order) state = (state ≡ order) × (is_due 4096 order.reorder order.latest order.held ≡ false)
+Sorts None state = (state.reorder ≡ 0) × (state.held ≡ [])
+
+-- These squitters came: the order goes on from each state that it is in, and this holds of the lines that are given.
+abbrev pub HasPutSorted : (old new : Option Sorting) → List Timed → (List ℕ → Type 0) → Type 0
+HasPutSorted old new came Of = (state : Sorting) → Sorts old state
+    → Sorts new (sorted_all 4096 state came) × Of (lines_of (given_all 4096 state came))
+
+-- These squitters came, in part, and this holds of the lines that are given of all.
+abbrev pub HasPutPart : Option Sorting → List Timed → (List ℕ → Type 0) → Type 0
+HasPutPart old came Of = (state : Sorting) → Sorts old state → Of (lines_of (given_all 4096 state came))
+
+-- the squitters that an order holds
+abbrev pub waiting_in : Option Sorting → List Timed
+waiting_in None = []
+waiting_in (Some order) = order.held
+
+-- These squitters came last, and this holds of their lines and of those that were held.
+abbrev pub HasPutLast : Option Sorting → List Timed → (List ℕ → Type 0) → Type 0
+HasPutLast old came Of = (state : Sorting) → Sorts old state
+    → Of (lines_of (given_all 4096 state came) ++ lines_of (sorted_all 4096 state came).held)
+
+-- with these bytes a feed went on, and this holds of their squitters
+abbrev pub HasFedText : ℕ → Feeding → List ℕ → Feeding → (List Timed → Type 0) → Type 0
+HasFedText arrival old bytes new Of =
+    (found : List Found) × HasFed arrival old bytes found new × Of (told_of_all arrival old.ear found)
 
 -- ---- a run over an input
 
 -- A feed took these bytes in calls, and the clock told their arrivals. This holds of the calls.
-abbrev pub FedIn : Option Format → Times → List ℕ → (List Fed → Type 0) → Type 0
-FedIn format clock bytes Of = (calls : List Fed) × AreFed (start_of format clock) calls × (bytes_in calls ≡ bytes)
+abbrev pub FedIn : FeedOptions → Times → List ℕ → (List Fed → Type 0) → Type 0
+FedIn options clock bytes Of = (calls : List Fed) × AreFed (start_of options clock) calls × (bytes_in calls ≡ bytes)
     × clock.told (arrivals_in calls) × Of calls
 
 -- A feed took these bytes in calls and then ended. The clock told the arrivals, and then that of the end. This holds of
 -- the calls and of the end's arrival.
-abbrev pub FedWhole : Option Format → Times → List ℕ → (List Fed → ℕ → Type 0) → Type 0
-FedWhole format clock bytes Of = (calls : List Fed) × (arrival : ℕ) × AreFed (start_of format clock) calls
+abbrev pub FedWhole : FeedOptions → Times → List ℕ → (List Fed → ℕ → Type 0) → Type 0
+FedWhole options clock bytes Of = (calls : List Fed) × (arrival : ℕ) × AreFed (start_of options clock) calls
     × (bytes_in calls ≡ bytes) × clock.told (arrivals_in calls ++ arrival ∷ []) × Of calls arrival
 
 -- the lines of these bytes were written, the output was finished, and all items were counted
-abbrev pub HasFedAll : Option Format → Times → FeedEnd → Written → List ℕ → Type 0
-HasFedAll format clock end output bytes = FedWhole format clock bytes (λ calls arrival.
-    Sent output (all_lines (start_of format clock) calls arrival)
-    × (end ≡ end_of arrival (last_fed (start_of format clock) calls)))
+abbrev pub HasFedAll : FeedOptions → Times → FeedEnd → Written → List ℕ → Type 0
+HasFedAll options clock end output bytes = FedWhole options clock bytes (λ calls arrival.
+    Sent output (all_lines options (start_of options clock) calls arrival)
+    × (end ≡ end_of arrival (last_fed (start_of options clock) calls)))
 
 -- the lines of the items in these bytes were written
-abbrev pub HasFedSome : Option Format → Times → Written → List ℕ → Type 0
-HasFedSome format clock output bytes =
-    FedIn format clock bytes (λ calls. Wrote output (lines_in (start_of format clock) calls))
+abbrev pub HasFedSome : FeedOptions → Times → Written → List ℕ → Type 0
+HasFedSome options clock output bytes =
+    FedIn options clock bytes (λ calls. Wrote output (lines_in options (start_of options clock) calls))
 
--- a prefix of the lines was written: of those in some of the first bytes, or, at the end of the input, of all
-abbrev pub HasFedFront : Option Format → Times → Taken → Written → List ℕ → Type 0
-HasFedFront format clock input output bytes =
-    ((front : List ℕ) × IsPrefixOf front bytes × FedIn format clock front (λ calls.
-    WroteFront output.before output.after (lines_in (start_of format clock) calls)))
-    ⊎ (IsAtEnd input.after × FedWhole format clock bytes (λ calls arrival.
-    WroteFront output.before output.after (all_lines (start_of format clock) calls arrival)))
+-- a run ends at the end of its input, or, if that is live, once it is known to hold no frames
+abbrev pub EndsBy : FeedOptions → Times → Taken → List Fed → ℕ → Type 0
+EndsBy options clock input calls arrival = IsAtEnd input.after ⊎ ((clock.is_live ≡ true)
+    × ((end_of arrival (last_fed (start_of options clock) calls)).stranger ≢ None))
 
--- the result of a run over an input of this format; without a format, its first bytes show it
-abbrev pub IsFed : Option Format → Times → Result FeedEnd RunFault → Taken → Written → Type 0
--- all bytes up to the end of the input were read, their lines were written, and the output was finished
-IsFed format clock (Ok end) input output =
-    FinishedOnce output × TookAll input (HasFedAll format clock end output)
+-- a prefix of the lines was written: of those in some of the first bytes, or, where the run ends, of all
+abbrev pub HasFedFront : FeedOptions → Times → Taken → Written → List ℕ → Type 0
+HasFedFront options clock input output bytes =
+    ((front : List ℕ) × IsPrefixOf front bytes × FedIn options clock front (λ calls.
+    WroteFront output.before output.after (lines_in options (start_of options clock) calls)))
+    ⊎ FedWhole options clock bytes (λ calls arrival. EndsBy options clock input calls arrival
+    × WroteFront output.before output.after (all_lines options (start_of options clock) calls arrival))
+
+-- the result of a run over an input with these options; without a format, its first bytes show it
+abbrev pub IsFed : FeedOptions → Times → Result FeedEnd RunFault → Taken → Written → Type 0
+-- All bytes up to the end of the input were read; or some of them, if the input is live and known to hold no frames.
+-- Their lines were written, and the output was finished.
+IsFed options clock (Ok end) input output = FinishedOnce output
+    × (TookAll input (HasFedAll options clock end output)
+    ⊎ ((clock.is_live ≡ true) × (end.stranger ≢ None) × TookSome input (HasFedAll options clock end output)))
 -- the source failed: the lines of all items that were read whole were written
-IsFed format clock (Err Read) input output =
-    Unfinished output × TookPart input (HasFedSome format clock output)
+IsFed options clock (Err Read) input output =
+    Unfinished output × TookPart input (HasFedSome options clock output)
 -- the sink failed, within the lines of the items that were read
-IsFed format clock (Err Write) input output =
-    (output.failed ≡ true) × Unfinished output × TookSome input (HasFedFront format clock input output)
+IsFed options clock (Err Write) input output =
+    (output.failed ≡ true) × Unfinished output × TookSome input (HasFedFront options clock input output)
 -- `feed` wants no memory
-IsFed format clock (Err Memory) input output = ⊥
+IsFed options clock (Err Memory) input output = ⊥
 
 -- ---- the command
 
@@ -139,16 +197,38 @@ abbrev pub text_at_end : Tally → Option Stranger → List ℕ
 text_at_end counts None = summary_text counts
 text_at_end counts (Some stranger) = stranger_text stranger
 
+-- milliseconds, as 1 to 20 digits of a number below 2^64; 0 if none is given
+abbrev pub IsReorder : Option (List ℕ) → ℕ → Type 0
+IsReorder None reorder = reorder ≡ 0
+IsReorder (Some word) reorder = IsDecimalText word reorder
+
+-- the words spell these options
+pub record IsFeedOptions (words : AskedFeed) (options : FeedOptions) : Type 0 where
+  pub format_is : IsSourceWord words.format options.format
+  pub reorder_is : IsReorder words.reorder options.reorder
+  pub all_is : options.all_formats ≡ words.all
+
+-- the first error of the arguments, in reading order
+abbrev pub IsFeedFault : AskedFeed → ArgumentFault → Type 0
+IsFeedFault words fault =
+    IsFaultUnless ((format : Option Format) × IsSourceWord words.format format) fault faults.Format
+    ((fault ≡ faults.Reorder) × ((n : ℕ) → ¬ IsReorder words.reorder n))
+
+abbrev pub IsFeedReading : AskedFeed → Result FeedOptions ArgumentFault → Type 0
+IsFeedReading words reading = MatchResult reading (IsFeedOptions words) (IsFeedFault words)
+
 -- a run over the input; its end is reported, or the reason why the run stopped early
-abbrev pub IsFeedRunIn : Option Format → Times → Status → Effects → Type 0
-IsFeedRunIn format clock status e =
-    (answer : Result FeedEnd RunFault) × IsFed format clock answer e.input e.outputs.output
+abbrev pub IsFeedRunIn : FeedOptions → Times → Status → Effects → Type 0
+IsFeedRunIn options clock status e =
+    (answer : Result FeedEnd RunFault) × IsFed options clock answer e.input e.outputs.output
     × MatchResult answer (λ end. (status ≡ status_at_end end.stranger)
     × Reported e.outputs (text_at_end end.counts end.stranger))
     (λ fault. (status ≡ Broken) × Reported e.outputs (broken_text fault))
 
--- the input is read in the format that the word names; if no format has this name, the input is unread
+-- the input is read with the options that the words spell; if one is invalid, the first is reported, and the input is
+-- unread
 abbrev pub IsFeedRun : AskedFeed → Times → Status → Effects → Type 0
 IsFeedRun words clock status e =
-    ((format : Option Format) × IsSourceWord words.format format × IsFeedRunIn format clock status e)
-    ⊎ (IsNoSource words.format × TookNothing e.input × IsMisuse faults.Format status e.outputs)
+    ((options : FeedOptions) × IsFeedOptions words options × IsFeedRunIn options clock status e)
+    ⊎ (TookNothing e.input
+    × ((fault : ArgumentFault) × IsFeedFault words fault × IsMisuse fault status e.outputs))

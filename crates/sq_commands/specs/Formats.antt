@@ -1,11 +1,14 @@
 -- The formats of the answers of `check` and `track`.
-use Rattle.std.specs.Prelude.{◌≡◌, ◌++◌, ℕ, List, [], Option, None, Some, Result, Ok, Err, codes, decimal}
+use Rattle.std.specs.Prelude.{◌≡◌, ◌+◌, ◌≤◌, ◌++◌, ℕ, List, [], Option, None, Some, Result, Ok, Err, codes, decimal}
 use Rattle.sq_angle.specs.Decimal.{DecimalWriter}
+use Rattle.sq_digits.specs.Buffer.{TextBuffer, text_len}
 use Rattle.sq_text.specs.declared.faults.LineFault.{LineFault}
 use Rattle.sq_text.specs.Faults.{fault_text}
 use Rattle.sq_lines.specs.Content.{Answer}
 use Rattle.sq_lines.specs.Answers.{texts_of}
-use Rattle.sq_rows.specs.Altitudes.{AltitudeReader}
+use Rattle.sq_text.specs.declared.rows.Form.{Form}
+use Rattle.sq_text.specs.Altitudes.{AltitudeReader}
+use Rattle.sq_text.specs.Rows.{Column, header_text, room, row_text}
 use Rattle.sq_commands.specs.declared.formats.Format.{Format}
 use Rattle.sq_commands.specs.declared.formats.Format.TheVariants.{Lines, Csv, Json}
 
@@ -46,3 +49,15 @@ in_lines words = record {
   header = [];
   text = λ writers number verdict. decimal number ++ codes " " ++ verdict_text (words writers) verdict ++ codes "\n";
 }
+
+-- a row for each answer, and CSV's header: both have these columns
+abbrev pub in_rows : {Found Row : Type 0} → Form → List (Column Row) → (Writers → Result Found LineFault → Row)
+    → Telling Found
+in_rows form columns row_of = record {
+  header = header_text form columns;
+  text = λ writers number verdict. row_text form columns number (row_of writers verdict);
+}
+
+-- these columns fit behind this text in 512 bytes, the size of a line's text
+abbrev pub HasRoom : {Row : Type 0} → TextBuffer → List (Column Row) → Type 0
+HasRoom text columns = text_len text + room columns ≤ 512

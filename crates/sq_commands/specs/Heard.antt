@@ -1,5 +1,5 @@
 -- The texts of the answers of `track`.
-use Rattle.std.specs.Prelude.{ℕ, ◌++◌, List, Result, Ok, Err, codes, decimal}
+use Rattle.std.specs.Prelude.{ℕ, ◌++◌, List, [], ◌∷◌, Result, Ok, Err, codes, decimal}
 use Rattle.sq_angle.specs.Decimal.{DecimalWriter}
 use Rattle.sq_angle.specs.Fraction.{Fraction}
 use Rattle.sq_message.specs.declared.place.Place.{Place}
@@ -10,14 +10,15 @@ use Rattle.sq_digits.specs.Digits.{hexadecimal}
 use Rattle.sq_text.specs.Faults.{fault_text}
 use Rattle.sq_track.specs.declared.heard.Heard.{Heard}
 use Rattle.sq_track.specs.declared.heard.Heard.TheVariants.{Fix, Followed, Waiting, Split, Far, NoSite, NotPosition}
-use Rattle.sq_rows.specs.declared.rows.Form.{Form}
-use Rattle.sq_rows.specs.declared.rows.Form.TheVariants as forms
-use Rattle.sq_rows.specs.Rows.{Cell, Blank, Number, Word, cell, header_text, line_number, row_end}
-use Rattle.sq_rows.specs.Squitters.{address_cell, feet_of, kind_name}
+use Rattle.sq_text.specs.declared.rows.Form.{Form}
+use Rattle.sq_text.specs.declared.rows.Form.TheVariants as forms
+use Rattle.sq_text.specs.Rows.{Cell, Blank, Number, Word, Column, column, degrees_width, fault_width, number_width}
+use Rattle.sq_text.specs.Rows.{signed_width, word_width}
+use Rattle.sq_text.specs.Squitters.{address_cell, feet_of, kind_name}
 pub use Rattle.sq_commands.specs.declared.found.HeardSquitter.{HeardSquitter}
 use Rattle.sq_commands.specs.declared.formats.Format.{Format}
 use Rattle.sq_commands.specs.declared.formats.Format.TheVariants.{Lines, Csv, Json}
-use Rattle.sq_commands.specs.Formats.{Telling, Writers, in_lines}
+use Rattle.sq_commands.specs.Formats.{Telling, Writers, in_lines, in_rows}
 
 -- ---- as a line
 
@@ -44,7 +45,7 @@ heard_text decimals from =
 
 -- ---- as a row
 
--- the columns of `track` after the line's number
+-- the values of `track` after the line's number
 pub record TrackRow : Type 0 where
   pub moment : Cell
   pub answer : Cell
@@ -53,6 +54,31 @@ pub record TrackRow : Type 0 where
   pub lat : Cell
   pub lon : Cell
   pub feet : Cell
+
+-- the columns of a place
+abbrev pub place_columns : List (Column TrackRow)
+place_columns =
+    column (codes "lat") degrees_width (λ row. row.lat) ∷ column (codes "lon") degrees_width (λ row. row.lon) ∷ []
+
+-- the columns of `track`
+abbrev pub track_columns : List (Column TrackRow)
+track_columns =
+    column (codes "moment") number_width (λ row. row.moment) ∷ column (codes "answer") fault_width (λ row. row.answer)
+    ∷ column (codes "address") (word_width 6) (λ row. row.address)
+    ∷ column (codes "kind") (word_width 6) (λ row. row.kind)
+    ∷ place_columns ++ (column (codes "feet") signed_width (λ row. row.feet) ∷ [])
+
+-- a row without values
+abbrev pub blank_track : TrackRow
+blank_track = record {
+  moment = Blank;
+  answer = Blank;
+  address = Blank;
+  kind = Blank;
+  lat = Blank;
+  lon = Blank;
+  feet = Blank;
+}
 
 -- the answer in a word or two
 abbrev pub answer_word : Heard → List ℕ
@@ -74,45 +100,27 @@ coordinate decimals of Far = Blank
 coordinate decimals of NoSite = Blank
 coordinate decimals of NotPosition = Blank
 
+-- the row of the place that was heard, if there is one
+abbrev pub place_row : DecimalWriter → Heard → TrackRow
+place_row decimals heard = record blank_track {
+  lat = coordinate decimals place_latitude heard;
+  lon = coordinate decimals place_longitude heard;
+}
+
 -- the row of a squitter that was heard, or of a line that was refused
 abbrev pub heard_row : Writers → Result HeardSquitter LineFault → TrackRow
-heard_row writers (Ok from) = record {
+heard_row writers (Ok from) = record (place_row writers.decimals from.heard) {
   moment = Number (decimal from.timed.moment);
   answer = Word (answer_word from.heard);
   address = address_cell from.timed.squitter;
   kind = Word (kind_name (squitter_parts from.timed.squitter).me);
-  lat = coordinate writers.decimals place_latitude from.heard;
-  lon = coordinate writers.decimals place_longitude from.heard;
   feet = feet_of writers.altitudes (squitter_parts from.timed.squitter).me;
 }
-heard_row writers (Err fault) = record {
-  moment = Blank;
-  answer = Word (fault_text fault);
-  address = Blank;
-  kind = Blank;
-  lat = Blank;
-  lon = Blank;
-  feet = Blank;
-}
-
--- the text of a row
-abbrev pub track_row_text : Form → ℕ → TrackRow → List ℕ
-track_row_text form number row =
-    line_number form number ++ cell form (codes "moment") row.moment ++ cell form (codes "answer") row.answer
-    ++ cell form (codes "address") row.address ++ cell form (codes "kind") row.kind
-    ++ (cell form (codes "lat") row.lat ++ cell form (codes "lon") row.lon) ++ cell form (codes "feet") row.feet
-    ++ row_end form
-
--- the names of the columns, in CSV
-abbrev pub track_columns : List ℕ
-track_columns = codes "line,moment,answer,address,kind,lat,lon,feet\n"
+heard_row writers (Err fault) = record blank_track { answer = Word (fault_text fault) }
 
 -- a row for each answer
 abbrev pub heard_rows : Form → Telling HeardSquitter
-heard_rows form = record {
-  header = header_text form track_columns;
-  text = λ writers number verdict. track_row_text form number (heard_row writers verdict);
-}
+heard_rows form = in_rows form track_columns heard_row
 
 -- ---- in each format
 

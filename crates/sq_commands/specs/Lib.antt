@@ -1,5 +1,7 @@
+pub mod Requests
 pub mod Statuses
 pub mod Outputs
+pub mod Replies
 pub mod Arguments
 pub mod Faults
 pub mod Frames

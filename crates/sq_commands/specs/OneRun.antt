@@ -3,7 +3,7 @@ use Rattle.std.specs.Prelude.{◌≡◌, ◌≢◌, ◌⊎◌, ℕ, List, Option
 use Rattle.sq_devices.specs.Changes.{WroteLast, WroteNothing, Written, written_on}
 use Rattle.sq_devices.specs.declared.device.Sink.{Ghosts as SinkGhosts}
 use Rattle.sq_devices.specs.declared.device.Source.{Ghosts as SourceGhosts}
-use Rattle.sq_requests.specs.Requests.{Asked, AskedFeed, AskedTrack, Check, Feed, Text, Track}
+use Rattle.sq_commands.specs.Requests.{Asked, AskedFeed, AskedTrack, Check, Feed, Text, Track}
 use Rattle.sq_commands.specs.declared.status.Status.{Status}
 use Rattle.sq_commands.specs.declared.status.Status.TheVariants.{Broken}
 use Rattle.sq_commands.specs.Outputs.{Effects, effects, outputs}

@@ -1,13 +1,10 @@
 -- The effects of a command on its devices.
-use Rattle.std.specs.Prelude.{◌≡◌, ◌++◌, ℕ, List, codes}
+use Rattle.std.specs.Prelude.{◌++◌, ℕ, List, codes}
 use Rattle.sq_devices.specs.declared.device.Sink.{Ghosts as SinkGhosts}
 use Rattle.sq_devices.specs.declared.device.Source.{Ghosts as SourceGhosts}
-use Rattle.sq_devices.specs.Changes.{FailedWithin, Taken, WroteLast, WroteNothing, WroteOrFailed, Written, taken_from}
-use Rattle.sq_devices.specs.Changes.{written_on}
+use Rattle.sq_devices.specs.Changes.{Taken, WroteOrFailed, Written, taken_from, written_on}
 use Rattle.sq_lines.specs.declared.faults.RunFault.{RunFault}
 use Rattle.sq_lines.specs.declared.faults.RunFault.TheVariants as faults
-use Rattle.sq_commands.specs.declared.status.Status.{Status}
-use Rattle.sq_commands.specs.declared.status.Status.TheVariants.{Good, Refused, Misused, Broken}
 
 -- the bytes written to the output, and to the sink for faults
 pub record Outputs : Type 1 where
@@ -31,24 +28,8 @@ effects s input input' o = record { input = taken_from s input input'; outputs =
 abbrev pub Reported : Outputs → List ℕ → Type 0
 Reported o line = WroteOrFailed o.reports (line ++ codes "\n")
 
--- the command ends with this status, nothing was written, and the line was reported
-abbrev pub IsReport : Status → List ℕ → Status → Outputs → Type 0
-IsReport ending line status o = (status ≡ ending) × WroteNothing o.output × Reported o line
-
 -- the report on a run that stopped early
 abbrev pub broken_text : RunFault → List ℕ
 broken_text faults.Read = codes "read failed"
 broken_text faults.Write = codes "write failed"
 broken_text faults.Memory = codes "out of memory"
-
--- success: the text was written, the output finished and nothing reported; or the output failed within the text, and
--- the failure was reported
-abbrev pub IsAnswer : List ℕ → Status → Outputs → Type 0
-IsAnswer text Good o = WroteLast o.output text × WroteNothing o.reports
-IsAnswer text Refused o = ⊥
-IsAnswer text Misused o = ⊥
-IsAnswer text Broken o = FailedWithin o.output text × Reported o (broken_text faults.Write)
-
--- out of memory: nothing was written, and that is reported
-abbrev pub IsOutOfMemory : Status → Outputs → Type 0
-IsOutOfMemory status o = IsReport Broken (broken_text faults.Memory) status o

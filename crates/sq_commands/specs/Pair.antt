@@ -1,26 +1,23 @@
 -- The command `pair`.
-use Rattle.std.specs.Prelude.{ℕ, List, Option, Result}
+use Rattle.std.specs.Prelude.{ℕ, List, Option}
 use Rattle.sq_angle.specs.declared.position.Position.{Position}
-use Rattle.sq_message.specs.declared.place.Place.{Place}
-use Rattle.sq_message.specs.declared.place.PlaceFault.{PlaceFault}
 use Rattle.sq_message.specs.declared.squitter.Squitter.{Squitter}
 use Rattle.sq_message.specs.Parts.{squitter_parts}
 use Rattle.sq_message.specs.Places.{IsPairPlace}
-use Rattle.sq_commands.specs.declared.status.Status.{Status}
 use Rattle.sq_commands.specs.Arguments.{IsSiteReading}
-use Rattle.sq_commands.specs.Faults.{IsArgumentsRun}
-use Rattle.sq_commands.specs.Frames.{IsFramesRun}
-use Rattle.sq_commands.specs.Local.{IsPlaceRun}
-use Rattle.sq_commands.specs.Outputs.{Outputs}
+use Rattle.sq_commands.specs.Faults.{misused}
+use Rattle.sq_commands.specs.Frames.{AreReadingsOf, frame_refused}
+use Rattle.sq_commands.specs.Local.{IsDecodingReply}
+use Rattle.sq_commands.specs.Replies.{IsReplyTo, ReplyParts}
 
--- the place of the newer of two squitters is written, or its fault reported
-abbrev pub IsPairedRun : Option Position → (older newer : Squitter) → Status → Outputs → Type 0
-IsPairedRun site older newer status o =
-    (answer : Result Place PlaceFault) × IsPairPlace (squitter_parts older) (squitter_parts newer) site answer
-    × IsPlaceRun answer status o
+-- the reply is the place of the newer of two squitters, an older and a newer one
+abbrev pub IsPairedReply : Option Position → Squitter × Squitter → ReplyParts → Type 0
+IsPairedReply site both = IsDecodingReply (IsPairPlace (squitter_parts both.0) (squitter_parts both.1) site)
 
--- the squitters of the frames are decoded with the site that the words spell, or with none; the arguments are
--- looked at before the frames
-abbrev pub IsPairRun : (older newer : List ℕ) → (lat lon : Option (List ℕ)) → Status → Outputs → Type 0
-IsPairRun older newer lat lon status o = IsArgumentsRun (IsSiteReading lat lon)
-    (λ site. IsFramesRun older newer (λ first second. IsPairedRun site first second status o) status o) status o
+-- the reply to two frame texts, decoded with a site or with none
+abbrev pub IsFramesReply : (older newer : List ℕ) → Option Position → ReplyParts → Type 0
+IsFramesReply older newer site = IsReplyTo (AreReadingsOf older newer) (IsPairedReply site) frame_refused
+
+-- the frames are decoded with the site that the words spell, or with none; the arguments are read before the frames
+abbrev pub IsPairReply : (older newer : List ℕ) → (lat lon : Option (List ℕ)) → ReplyParts → Type 0
+IsPairReply older newer lat lon = IsReplyTo (IsSiteReading lat lon) (IsFramesReply older newer) misused

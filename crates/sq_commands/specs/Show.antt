@@ -1,11 +1,10 @@
 -- The command `show`.
 use Rattle.std.specs.Prelude.{ℕ, List}
+use Rattle.sq_text.specs.Reading.{IsSquitterReading}
 use Rattle.sq_text.specs.Show.{IsShown}
-use Rattle.sq_commands.specs.declared.status.Status.{Status}
-use Rattle.sq_commands.specs.Frames.{IsFrameRun}
-use Rattle.sq_commands.specs.Outputs.{Outputs, IsAnswer}
+use Rattle.sq_commands.specs.Frames.{frame_refused}
+use Rattle.sq_commands.specs.Replies.{IsAnswer, IsReplyTo, ReplyParts}
 
--- the fields of the frame text's squitter are written, or the frame's fault is reported
-abbrev pub IsShowRun : List ℕ → Status → Outputs → Type 0
-IsShowRun frame status o =
-    IsFrameRun frame (λ squitter. (text : List ℕ) × IsShown squitter text × IsAnswer text status o) status o
+-- the reply is the fields of the frame text's squitter, or the frame's fault
+abbrev pub IsShowReply : List ℕ → ReplyParts → Type 0
+IsShowReply frame = IsReplyTo (IsSquitterReading frame) (λ squitter. IsAnswer (IsShown squitter)) frame_refused

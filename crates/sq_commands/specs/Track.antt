@@ -11,7 +11,7 @@ use Rattle.sq_lines.specs.Runs.{OfLines}
 use Rattle.sq_lines.specs.declared.faults.RunFault.{RunFault}
 use Rattle.sq_lines.specs.declared.faults.RunFault.TheVariants.{Read, Write, Memory}
 use Rattle.sq_lines.specs.declared.tallies.Tally.{Tally}
-use Rattle.sq_requests.specs.Requests.{AskedTrack}
+use Rattle.sq_commands.specs.Requests.{AskedTrack}
 use Rattle.sq_track.specs.Held.{Held, StandsFor, made_with, settings}
 use Rattle.sq_commands.specs.declared.arguments.ArgumentFault.{ArgumentFault}
 use Rattle.sq_commands.specs.declared.arguments.ArgumentFault.TheVariants as faults

@@ -16,7 +16,7 @@ ghost use Rattle.sq_angle.specs.Reading.{IsReading};
 ghost use Rattle.sq_zones.specs.declared.parity.Parity.{Parity};
 ghost use Rattle.sq_text.specs.Show.{parity_name};
 ghost use Rattle.sq_commands.specs.declared.arguments.Kind.{Kind};
-ghost use Rattle.sq_requests.specs.Requests.{asked_track};
+ghost use Rattle.sq_commands.specs.Requests.{asked_track};
 ghost use Rattle.sq_commands.specs.Check.{IsNoFormat};
 ghost use Rattle.sq_commands.specs.declared.formats.Format.{Format};
 ghost use Rattle.sq_commands.specs.Encode.{IsAltitudeOf};
@@ -27,10 +27,10 @@ ghost use Rattle.sq_commands.specs.Arguments.{IsPositionReading, IsSiteReading, 
 ghost use Rattle.sq_commands.specs.Track.{IsLimit, IsTrackReading, IsWindow};
 
 use crate::formats::Format;
+use crate::requests::TrackWords;
 use sq_angle::{Angle, AngleFault, Position};
 use sq_digits::TextBuffer;
 use sq_message::{Parity, field_of_feet};
-use sq_requests::TrackWords;
 use sq_text::read_decimal;
 use sq_track::TrackFault;
 
@@ -64,6 +64,7 @@ pub(crate) enum ArgumentFault {
     Site,
     Lat(AngleFault),
     Lon(AngleFault),
+    Reorder,
 }
 
 impl ArgumentFault {
@@ -85,6 +86,7 @@ impl ArgumentFault {
             ArgumentFault::Site => text.push_str("site needs lat and lon"),
             ArgumentFault::Lat(fault) => push_coordinate(text, "lat ", fault),
             ArgumentFault::Lon(fault) => push_coordinate(text, "lon ", fault),
+            ArgumentFault::Reorder => text.push_str("bad reorder"),
         }
     }
 }

@@ -8,10 +8,9 @@ ghost use Rattle.sq_commands.specs.Squitters.{squitter_lines, squitter_telling};
 ghost use Rattle.sq_text.specs.Reading.{SquitterReader};
 
 use crate::arguments::read_format;
-use crate::formats::{CheckFormat, Format};
-use crate::numbered::Numbered;
-use crate::reports::{break_off, report_argument};
-use crate::rows::{CsvRows, JsonRows};
+use crate::checked::{refuse_frame, squitter_header, tell_squitter};
+use crate::formats::{AnswerFormat, CsvRows, Format, JsonRows, Numbered};
+use crate::replies::{break_off, misuse};
 use crate::status::Status;
 use sq_devices::{Sink, Source};
 use sq_lines::{Job, LineText, Log, RunFault, Tally, Telling, Verdict, run_log};
@@ -20,11 +19,11 @@ use sq_text::{LineFault, read_squitter};
 
 // The job of `check`: answers each text by itself.
 #[derive(Drop)]
-struct Checking<'a, F: CheckFormat> {
+struct Checking<'a, F: AnswerFormat> {
     format: &'a F,
 }
 
-impl<F: CheckFormat> Job for Checking<'_, F> {
+impl<F: AnswerFormat> Job for Checking<'_, F> {
     type Found = Squitter;
 
     ghost Past = { SquitterReader };
@@ -49,24 +48,24 @@ impl<F: CheckFormat> Job for Checking<'_, F> {
     }
 }
 
-impl<F: CheckFormat> Telling for Checking<'_, F> {
+impl<F: AnswerFormat> Telling for Checking<'_, F> {
     ghost Writing = { Writers };
 
-    ghost front = { F.telling.header };
+    ghost front = { (squitter_telling F.chosen).header };
 
-    ghost text = { F.telling.text };
+    ghost text = { (squitter_telling F.chosen).text };
 
     fn header(&self) -> &'static str {
-        self.format.header()
+        squitter_header(self.format.format())
     }
 
     #[inline(always)]
     fn tell(&self, number: u64, found: &Squitter, into: &mut LineText) {
-        self.format.tell(number, found, into);
+        tell_squitter(self.format.format(), number, found, into);
     }
 
     fn refuse(&self, number: u64, fault: LineFault, into: &mut LineText) {
-        self.format.refuse(number, fault, into);
+        refuse_frame(self.format.format(), number, fault, into);
     }
 }
 
@@ -88,15 +87,15 @@ pub fn run_check<S: Source, K: Sink>(source: &mut S, sink: &mut K) -> Result<Tal
 }
 
 // Writes the answers in the format.
-fn run_check_as<S: Source, K: Sink, F: CheckFormat>(
+fn run_check_as<S: Source, K: Sink, F: AnswerFormat>(
     format: &F,
     source: &mut S,
     sink: &mut K,
 ) -> Result<Tally, RunFault>
-    ensures ran { IsChecked F.telling result (taken_from S.Source source.old source.new)
+    ensures ran { IsChecked (squitter_telling F.chosen) result (taken_from S.Source source.old source.new)
         (written_on K.Sink sink.old sink.new) }
     ensures reported { IfOk result (λ tally. TookReported (taken_from S.Source source.old source.new)
-        (HasChecked F.telling tally (written_on K.Sink sink.old sink.new))) }
+        (HasChecked (squitter_telling F.chosen) tally (written_on K.Sink sink.old sink.new))) }
 {
     run_log(source, sink, &mut Log::new(Checking { format }))
 }
@@ -128,7 +127,7 @@ pub(crate) fn check<S: Source, K: Sink, F: Sink>(
 {
     match read_format(format) {
         Ok(format) => check_in(format, input, output, faults),
-        Err(fault) => report_argument(fault, faults),
+        Err(fault) => misuse(fault, output, faults),
     }
 }
 

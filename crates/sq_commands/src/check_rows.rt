@@ -1,25 +1,21 @@
 //! The rows of `check`: the fields of a frame, in named columns.
-ghost use Rattle.std.specs.Prelude.{◌≡◌, ◌+◌, ◌≤◌, ◌++◌, [], Ok, Err, codes, decimal, length};
+ghost use Rattle.std.specs.Prelude.{◌≡◌, ◌+◌, ◌≤◌, ◌++◌, [], Ok, Err, length};
 ghost use Rattle.sq_digits.specs.Buffer.{text_len};
-ghost use Rattle.sq_cpr.specs.Code.{numbers_of};
-ghost use Rattle.sq_message.specs.Parts.{air_parts, ground_parts};
-ghost use Rattle.sq_rows.specs.Altitudes.{AltitudeReader};
-ghost use Rattle.sq_rows.specs.Rows.{Blank, Number, Word, cell};
-ghost use Rattle.sq_rows.specs.Squitters.{bit_cell, feet_cell};
-ghost use Rattle.sq_digits.specs.Digits.{hexadecimal};
+ghost use Rattle.sq_text.specs.Altitudes.{AltitudeReader};
+ghost use Rattle.sq_text.specs.Rows.{cells, room, row_text};
 ghost use Rattle.sq_text.specs.Show.{parity_name};
-ghost use Rattle.sq_commands.specs.Formats.{Writers};
-ghost use Rattle.sq_commands.specs.Squitters.{air_row, ground_row, message_row, message_text, no_message, other_row};
-ghost use Rattle.sq_commands.specs.Squitters.{squitter_row_text};
+ghost use Rattle.sq_commands.specs.Formats.{HasRoom, Writers};
+ghost use Rattle.sq_commands.specs.Squitters.{air_columns, air_row, blank_check, check_columns, ground_columns};
+ghost use Rattle.sq_commands.specs.Squitters.{ground_row, message_columns, message_row, other_row, position_columns};
+ghost use Rattle.sq_commands.specs.Squitters.{position_row, squitter_row};
 
 use crate::formats::RowForm;
 use sq_lines::LineText;
 use sq_message::{Airborne, Code, Me, Other, Parity, Squitter, Surface};
-use sq_rows::{
-    Form, push_address, push_airborne_feet, push_bit, push_blank, push_end, push_fault_word,
-    push_hexadecimal_word, push_line, push_number, push_word,
+use sq_text::{
+    Form, LineFault, push_address, push_airborne_feet, push_bit, push_blank, push_end,
+    push_fault_word, push_hexadecimal_word, push_line, push_number, push_word,
 };
-use sq_text::LineFault;
 
 /// The names of the columns, in CSV.
 pub(crate) const CHECK_COLUMNS: &str =
@@ -29,7 +25,8 @@ feet,altitude,status,flag,movement,track_status,track,me\n";
 /// Writes the row of a good frame into an empty text.
 pub(crate) fn push_squitter<R: RowForm>(text: &mut LineText, number: u64, squitter: &Squitter)
     requires { text.old.bytes ≡ [] }
-    ensures { (writers : Writers) → text.new.bytes ≡ squitter_row_text R.shape writers number (Ok squitter.now) }
+    ensures { (writers : Writers)
+        → text.new.bytes ≡ row_text R.shape check_columns number (squitter_row writers (Ok squitter.now)) }
 {
     let form = R::form();
     push_line(text, form, number);
@@ -43,7 +40,8 @@ pub(crate) fn push_squitter<R: RowForm>(text: &mut LineText, number: u64, squitt
 /// Writes the row of a refused line into an empty text.
 pub(crate) fn push_refused_frame<R: RowForm>(text: &mut LineText, number: u64, fault: LineFault)
     requires { text.old.bytes ≡ [] }
-    ensures { (writers : Writers) → text.new.bytes ≡ squitter_row_text R.shape writers number (Err fault) }
+    ensures { (writers : Writers)
+        → text.new.bytes ≡ row_text R.shape check_columns number (squitter_row writers (Err fault)) }
 {
     let form = R::form();
     push_line(text, form, number);
@@ -57,10 +55,10 @@ pub(crate) fn push_refused_frame<R: RowForm>(text: &mut LineText, number: u64, f
 // Appends the columns of a message.
 #[inline(always)]
 fn push_message<R: RowForm>(text: &mut LineText, me: &Me)
-    requires { text_len text.old ≤ 100 }
+    requires { HasRoom text.old message_columns }
     ensures bytes { (altitudes : AltitudeReader)
-        → text.new.bytes ≡ text.old.bytes ++ message_text R.shape (message_row altitudes me.now) }
-    ensures len { text_len text.new ≤ text_len text.old + 400 }
+        → text.new.bytes ≡ text.old.bytes ++ cells R.shape message_columns (message_row altitudes me.now) }
+    ensures len { text_len text.new ≤ text_len text.old + room message_columns }
 {
     match me {
         Me::Airborne(airborne) => push_airborne::<R>(text, airborne),
@@ -71,10 +69,10 @@ fn push_message<R: RowForm>(text: &mut LineText, me: &Me)
 
 // Appends the columns of an airborne position.
 fn push_airborne<R: RowForm>(text: &mut LineText, airborne: &Airborne)
-    requires { text_len text.old ≤ 100 }
+    requires { HasRoom text.old message_columns }
     ensures bytes { (altitudes : AltitudeReader)
-        → text.new.bytes ≡ text.old.bytes ++ message_text R.shape (air_row altitudes airborne.now) }
-    ensures len { text_len text.new ≤ text_len text.old + 400 }
+        → text.new.bytes ≡ text.old.bytes ++ cells R.shape message_columns (air_row altitudes airborne.now) }
+    ensures len { text_len text.new ≤ text_len text.old + room message_columns }
 {
     let form = R::form();
     push_number(text, form, "type", u64::from(airborne.fields.type_code()));
@@ -93,9 +91,9 @@ fn push_airborne<R: RowForm>(text: &mut LineText, airborne: &Airborne)
 
 // Appends the columns of a surface position.
 fn push_surface<R: RowForm>(text: &mut LineText, surface: &Surface)
-    requires { text_len text.old ≤ 100 }
-    ensures bytes { text.new.bytes ≡ text.old.bytes ++ message_text R.shape (ground_row surface.now) }
-    ensures len { text_len text.new ≤ text_len text.old + 400 }
+    requires { HasRoom text.old message_columns }
+    ensures bytes { text.new.bytes ≡ text.old.bytes ++ cells R.shape message_columns (ground_row surface.now) }
+    ensures len { text_len text.new ≤ text_len text.old + room message_columns }
 {
     let form = R::form();
     push_number(text, form, "type", u64::from(surface.fields.type_code()));
@@ -114,9 +112,9 @@ fn push_surface<R: RowForm>(text: &mut LineText, surface: &Surface)
 
 // Appends the columns of another message.
 fn push_other<R: RowForm>(text: &mut LineText, other: &Other)
-    requires { text_len text.old ≤ 100 }
-    ensures bytes { text.new.bytes ≡ text.old.bytes ++ message_text R.shape (other_row other.now) }
-    ensures len { text_len text.new ≤ text_len text.old + 400 }
+    requires { HasRoom text.old message_columns }
+    ensures bytes { text.new.bytes ≡ text.old.bytes ++ cells R.shape message_columns (other_row other.now) }
+    ensures len { text_len text.new ≤ text_len text.old + room message_columns }
 {
     let form = R::form();
     push_number(text, form, "type", u64::from(other.type_code()));
@@ -130,9 +128,9 @@ fn push_other<R: RowForm>(text: &mut LineText, other: &Other)
 // Appends empty columns for a message.
 #[inline(always)]
 fn push_no_message(text: &mut LineText, form: Form)
-    requires { text_len text.old ≤ 100 }
-    ensures bytes { text.new.bytes ≡ text.old.bytes ++ message_text form no_message }
-    ensures len { text_len text.new ≤ text_len text.old + 400 }
+    requires { HasRoom text.old message_columns }
+    ensures bytes { text.new.bytes ≡ text.old.bytes ++ cells form message_columns blank_check }
+    ensures len { text_len text.new ≤ text_len text.old + room message_columns }
 {
     push_blank(text, form, "type");
     push_blank(text, form, "kind");
@@ -145,12 +143,9 @@ fn push_no_message(text: &mut LineText, form: Form)
 // Appends the columns that both kinds of position have: the parity, the code and T.
 #[inline(always)]
 fn push_code(text: &mut LineText, form: Form, parity: Parity, code: &Code, time: bool)
-    requires { text_len text.old ≤ 200 }
-    ensures bytes { text.new.bytes ≡ text.old.bytes ++ (cell form (codes "parity") (Word (parity_name parity))
-        ++ cell form (codes "lat_code") (Number (decimal (numbers_of code.now).lat))
-        ++ cell form (codes "lon_code") (Number (decimal (numbers_of code.now).lon))
-        ++ cell form (codes "time") (bit_cell time)) }
-    ensures len { text_len text.new ≤ text_len text.old + 110 }
+    requires { HasRoom text.old position_columns }
+    ensures bytes { text.new.bytes ≡ text.old.bytes ++ cells form position_columns (position_row parity code.now time) }
+    ensures len { text_len text.new ≤ text_len text.old + room position_columns }
 {
     push_word(text, form, "parity", parity_name(parity));
     push_number(text, form, "lat_code", u64::from(code.lat()));
@@ -172,11 +167,9 @@ fn parity_name(parity: Parity) -> &'static str
 // Appends empty columns for both kinds of position.
 #[inline(always)]
 fn push_no_code(text: &mut LineText, form: Form)
-    requires { text_len text.old ≤ 200 }
-    ensures bytes { text.new.bytes ≡ text.old.bytes ++ (cell form (codes "parity") Blank
-        ++ cell form (codes "lat_code") Blank ++ cell form (codes "lon_code") Blank
-        ++ cell form (codes "time") Blank) }
-    ensures len { text_len text.new ≤ text_len text.old + 110 }
+    requires { HasRoom text.old position_columns }
+    ensures bytes { text.new.bytes ≡ text.old.bytes ++ cells form position_columns blank_check }
+    ensures len { text_len text.new ≤ text_len text.old + room position_columns }
 {
     push_blank(text, form, "parity");
     push_blank(text, form, "lat_code");
@@ -187,13 +180,10 @@ fn push_no_code(text: &mut LineText, form: Form)
 // Appends the columns that only an airborne position has.
 #[inline(always)]
 fn push_air_fields(text: &mut LineText, form: Form, airborne: &Airborne)
-    requires { text_len text.old ≤ 300 }
-    ensures bytes { (altitudes : AltitudeReader) → text.new.bytes ≡ text.old.bytes
-        ++ (cell form (codes "feet") (feet_cell (altitudes.read airborne.now.fields))
-        ++ cell form (codes "altitude") (Word (hexadecimal 3 (air_parts airborne.now.fields).altitude))
-        ++ cell form (codes "status") (Number (decimal (air_parts airborne.now.fields).status))
-        ++ cell form (codes "flag") (bit_cell (air_parts airborne.now.fields).flag)) }
-    ensures len { text_len text.new ≤ text_len text.old + 100 }
+    requires { HasRoom text.old air_columns }
+    ensures bytes { (altitudes : AltitudeReader)
+        → text.new.bytes ≡ text.old.bytes ++ cells form air_columns (air_row altitudes airborne.now) }
+    ensures len { text_len text.new ≤ text_len text.old + room air_columns }
 {
     let fields = airborne.fields;
     push_airborne_feet(text, form, airborne);
@@ -205,10 +195,9 @@ fn push_air_fields(text: &mut LineText, form: Form, airborne: &Airborne)
 // Appends empty columns for an airborne position.
 #[inline(always)]
 fn push_no_air_fields(text: &mut LineText, form: Form)
-    requires { text_len text.old ≤ 300 }
-    ensures bytes { text.new.bytes ≡ text.old.bytes ++ (cell form (codes "feet") Blank
-        ++ cell form (codes "altitude") Blank ++ cell form (codes "status") Blank ++ cell form (codes "flag") Blank) }
-    ensures len { text_len text.new ≤ text_len text.old + 60 }
+    requires { HasRoom text.old air_columns }
+    ensures bytes { text.new.bytes ≡ text.old.bytes ++ cells form air_columns blank_check }
+    ensures len { text_len text.new ≤ text_len text.old + room air_columns }
 {
     push_blank(text, form, "feet");
     push_blank(text, form, "altitude");
@@ -219,12 +208,9 @@ fn push_no_air_fields(text: &mut LineText, form: Form)
 // Appends the columns that only a surface position has.
 #[inline(always)]
 fn push_ground_fields(text: &mut LineText, form: Form, surface: &Surface)
-    requires { text_len text.old ≤ 350 }
-    ensures bytes { text.new.bytes ≡ text.old.bytes
-        ++ (cell form (codes "movement") (Number (decimal (ground_parts surface.now.fields).movement))
-        ++ cell form (codes "track_status") (bit_cell (ground_parts surface.now.fields).track_status)
-        ++ cell form (codes "track") (Number (decimal (ground_parts surface.now.fields).track))) }
-    ensures len { text_len text.new ≤ text_len text.old + 100 }
+    requires { HasRoom text.old ground_columns }
+    ensures bytes { text.new.bytes ≡ text.old.bytes ++ cells form ground_columns (ground_row surface.now) }
+    ensures len { text_len text.new ≤ text_len text.old + room ground_columns }
 {
     let fields = surface.fields;
     push_number(text, form, "movement", u64::from(fields.movement()));
@@ -235,10 +221,9 @@ fn push_ground_fields(text: &mut LineText, form: Form, surface: &Surface)
 // Appends empty columns for a surface position.
 #[inline(always)]
 fn push_no_ground_fields(text: &mut LineText, form: Form)
-    requires { text_len text.old ≤ 400 }
-    ensures bytes { text.new.bytes ≡ text.old.bytes ++ (cell form (codes "movement") Blank
-        ++ cell form (codes "track_status") Blank ++ cell form (codes "track") Blank) }
-    ensures len { text_len text.new ≤ text_len text.old + 50 }
+    requires { HasRoom text.old ground_columns }
+    ensures bytes { text.new.bytes ≡ text.old.bytes ++ cells form ground_columns blank_check }
+    ensures len { text_len text.new ≤ text_len text.old + room ground_columns }
 {
     push_blank(text, form, "movement");
     push_blank(text, form, "track_status");

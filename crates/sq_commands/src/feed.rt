@@ -1,25 +1,22 @@
 //! The command `feed`: the log that `track` reads, from a receiver's bytes.
-ghost use Rattle.std.specs.Prelude.{◌≡◌, ◌++◌, ℕ, codes, IfErr, IfOk, OnErr, OnOk, option_copied, Some, take, true};
-ghost use Rattle.sq_devices.specs.Calls.{HasPut};
-ghost use Rattle.sq_devices.specs.Changes.{FailedWithin, TookReported, WroteLast, WroteOrFailed};
-ghost use Rattle.sq_devices.specs.Changes.{taken_from, written_on};
+ghost use Rattle.std.specs.Prelude.{◌≡◌, ◌++◌, ℕ, codes, IfErr, IfOk, OnErr, OnOk, None, option_copied, Some, true};
+ghost use Rattle.sq_devices.specs.Changes.{TookReported, WroteOrFailed, taken_from, written_on};
 ghost use Rattle.sq_devices.specs.Clocks.{times_of};
-ghost use Rattle.sq_devices.specs.Device.{WroteFront};
-ghost use Rattle.sq_feed.specs.Feeds.{lines_of, told_at_end};
-ghost use Rattle.sq_requests.specs.Requests.{asked_feed};
-ghost use Rattle.sq_commands.specs.Feed.{HasFedAll, HasFedText, IsFed, IsFeedRun, IsFeedRunIn, IsNoSource, IsSourceWord};
-ghost use Rattle.sq_commands.specs.Feed.{end_of, manner_of, status_at_end, text_at_end};
+ghost use Rattle.sq_commands.specs.Requests.{asked_feed};
+ghost use Rattle.sq_commands.specs.Feed.{HasFedAll, IsFed, IsFeedReading, IsFeedRun, IsFeedRunIn, IsNoSource, IsReorder};
+ghost use Rattle.sq_commands.specs.Feed.{IsSourceWord, manner_of, status_at_end, text_at_end};
 ghost use Rattle.sq_commands.specs.Outputs.{effects, outputs};
 
 use crate::arguments::ArgumentFault;
-use crate::reports::{break_off, report, report_argument};
+use crate::feed_lines::{FeedText, order_of, put_end, put_piece};
+use crate::replies::{break_off, misuse, report};
+use crate::requests::FeedWords;
 use crate::status::Status;
 use crate::summary::{stranger_text, summary};
-use sq_devices::{Clock, Failed, Sink, Source, put_all, put_last};
-use sq_digits::TextBuffer;
+use sq_devices::{Clock, Failed, Sink, Source};
 use sq_feed::{Counts, Feed, Format, Manner, Stranger};
 use sq_lines::RunFault;
-use sq_requests::FeedWords;
+use sq_text::read_decimal;
 
 // A gap of more milliseconds is a jump of the receiver's clock: 10 minutes.
 const LEAP: u64 = 600_000;
@@ -27,8 +24,16 @@ const LEAP: u64 = 600_000;
 // How many bytes a get asks for.
 const PIECE: usize = 4096;
 
-// The lines that are put at once.
-type FeedText = TextBuffer<8192>;
+/// How `feed` reads and writes.
+#[derive(Clone, Copy)]
+pub struct FeedOptions {
+    /// The format of the input. Without one, the first bytes of the input show it.
+    pub format: Option<Format>,
+    /// By how much (ms) frames may come late. Lines are sorted by time. With 0, they stay in the order of the frames.
+    pub reorder: u64,
+    /// Whether frames of other downlink formats than 17 are written too.
+    pub all_formats: bool,
+}
 
 /// The end of a source: the counts of its items, and what it is if it has no known format.
 #[derive(Clone, Copy)]
@@ -38,27 +43,30 @@ pub struct FeedEnd {
 }
 
 /// Writes the log that `track` reads: a line for each extended squitter in the source, with its time. The lines of a
-/// piece are put before the next get. Keeps one unfinished item and allocates nothing.
+/// piece are put before the next get, unless they wait for frames that come late. Keeps one unfinished item, and up to
+/// 4096 squitters that wait. Allocates nothing.
 ///
-/// Without a format, the first bytes of the input show it.
-///
-/// Returns the counts of all items at the end of the input, and what the input is if it has no known format. Errors:
-/// `Read` if a get failed, after the lines of all items that were read whole; `Write` if a put or the finish failed,
-/// within these lines; never `Memory`.
+/// A live source without frames in a known format is read until that is known, and any other source to its end. Returns
+/// the counts of all items, and what the source is if it has no known format. Errors: `Read` if a get failed, after the
+/// lines of all items that were read whole; `Write` if a put or the finish failed, within these lines; never `Memory`.
 pub fn run_feed<C: Clock, S: Source, K: Sink>(
-    format: Option<Format>,
+    options: &FeedOptions,
     clock: &mut C,
     source: &mut S,
     sink: &mut K,
 ) -> Result<FeedEnd, RunFault>
-    ensures ran { IsFed format (times_of C.Clock clock.old clock.new) result
+    ensures ran { IsFed options.now (times_of C.Clock clock.old clock.new) result
         (taken_from S.Source source.old source.new) (written_on K.Sink sink.old sink.new) }
 
-    // If the source reports its bytes, the lines are those of all of them.
-    ensures reported { IfOk result (λ end. TookReported (taken_from S.Source source.old source.new)
-        (HasFedAll format (times_of C.Clock clock.old clock.new) end (written_on K.Sink sink.old sink.new))) }
+    // If the source reports its bytes, the lines are those of all of them. A live source may be left early if it holds
+    // no frames.
+    ensures reported { IfOk result (λ end. end.stranger ≡ None
+        → TookReported (taken_from S.Source source.old source.new)
+        (HasFedAll options.now (times_of C.Clock clock.old clock.new) end (written_on K.Sink sink.old sink.new))) }
 {
-    let mut feed = Feed::new(format, &manner_of(clock.is_live()));
+    let is_live = clock.is_live();
+    let mut feed = Feed::new(options.format, &manner_of(options, is_live));
+    let mut order = order_of(options.reorder);
     let mut piece = [0; PIECE];
     let mut text = FeedText::new();
     loop {
@@ -67,75 +75,40 @@ pub fn run_feed<C: Clock, S: Source, K: Sink>(
         };
         let arrival = clock.now();
         if count == 0 {
-            return put_end(&mut feed, arrival, &mut text, sink);
+            return put_end(&mut feed, &mut order, arrival, &mut text, sink);
         }
-        match put_piece(&mut feed, &piece[..count], arrival, &mut text, sink) {
+        match put_piece(
+            &mut feed,
+            &mut order,
+            &piece[..count],
+            arrival,
+            &mut text,
+            sink,
+        ) {
             Ok(()) => {}
             Err(Failed) => return Err(RunFault::Write),
+        }
+        if is_live && feed.stranger().is_some() {
+            let end = clock.now();
+            return put_end(&mut feed, &mut order, end, &mut text, sink);
         }
     }
 }
 
 // Returns how an input is heard.
-fn manner_of(is_live: bool) -> Manner
-    ensures { result ≡ manner_of is_live }
+fn manner_of(options: &FeedOptions, is_live: bool) -> Manner
+    ensures { result ≡ manner_of options.now is_live }
 {
     Manner {
         leap: LEAP,
-        late: 0,
+        late: options.reorder,
         is_live,
         ignores_clock: false,
-        all_formats: false,
+        all_formats: options.all_formats,
     }
 }
 
-// Feeds a piece that arrived at this moment (ms), and puts its lines.
-fn put_piece<K: Sink>(
-    feed: &mut Feed,
-    piece: &[u8],
-    arrival: u64,
-    text: &mut FeedText,
-    sink: &mut K,
-) -> Result<(), Failed>
-    ensures put { OnOk result (HasFedText arrival feed.old piece.now feed.new (HasPut K.Sink sink.old sink.new)) }
-    ensures part { OnErr result ((count : ℕ) × HasFedText arrival feed.old (take count piece.now) feed.new
-        (WroteFront (K.written sink.old) (K.written sink.new))) }
-    ensures failed { OnErr result (K.has_failed sink.new ≡ true) }
-    ensures unfinished { K.finishes sink.new ≡ K.finishes sink.old }
-{
-    let mut at = 0;
-    while at < piece.len() {
-        text.clear();
-        at += feed.take(&piece[at..], arrival, text);
-        put_all(sink, text.as_bytes())?;
-    }
-    Ok(())
-}
-
-// Ends the source at this moment (ms): puts the lines of the last items, and finishes the sink.
-fn put_end<K: Sink>(
-    feed: &mut Feed,
-    arrival: u64,
-    text: &mut FeedText,
-    sink: &mut K,
-) -> Result<FeedEnd, RunFault>
-    ensures ok { IfOk result (λ end. (end ≡ end_of arrival feed.old)
-        × WroteLast (written_on K.Sink sink.old sink.new) (lines_of (told_at_end arrival feed.old))) }
-    ensures err { IfErr result (λ fault. (fault ≡ RunFault.Write)
-        × FailedWithin (written_on K.Sink sink.old sink.new) (lines_of (told_at_end arrival feed.old))) }
-{
-    text.clear();
-    feed.finish(arrival, text);
-    match put_last(sink, text.as_bytes()) {
-        Ok(()) => Ok(FeedEnd {
-            counts: feed.counts(),
-            stranger: feed.stranger(),
-        }),
-        Err(Failed) => Err(RunFault::Write),
-    }
-}
-
-// Runs `feed` over the input, in the format that the word names.
+// Runs `feed` over the input, with the options that the words spell.
 pub(crate) fn feed<C: Clock, S: Source, K: Sink, F: Sink>(
     words: &FeedWords<'_>,
     clock: &mut C,
@@ -146,24 +119,25 @@ pub(crate) fn feed<C: Clock, S: Source, K: Sink, F: Sink>(
     ensures { IsFeedRun (asked_feed words.now) (times_of C.Clock clock.old clock.new) result
         (effects S.Source input.old input.new (outputs K.Sink F.Sink output.old output.new faults.old faults.new)) }
 {
-    match read_source(words.format) {
-        Ok(format) => feed_from(format, clock, input, output, faults),
-        Err(fault) => report_argument(fault, faults),
+    match read_feed_options(words) {
+        Ok(options) => feed_with(&options, clock, input, output, faults),
+        Err(fault) => misuse(fault, output, faults),
     }
 }
 
-// Feeds the input in a format, and reports its end.
-fn feed_from<C: Clock, S: Source, K: Sink, F: Sink>(
-    format: Option<Format>,
+// Feeds the input with these options, and reports its end. Not inlined, so that no other command has its room.
+#[inline(never)]
+fn feed_with<C: Clock, S: Source, K: Sink, F: Sink>(
+    options: &FeedOptions,
     clock: &mut C,
     input: &mut S,
     output: &mut K,
     faults: &mut F,
 ) -> Status
-    ensures { IsFeedRunIn format (times_of C.Clock clock.old clock.new) result
+    ensures { IsFeedRunIn options.now (times_of C.Clock clock.old clock.new) result
         (effects S.Source input.old input.new (outputs K.Sink F.Sink output.old output.new faults.old faults.new)) }
 {
-    match run_feed(format, clock, input, output) {
+    match run_feed(options, clock, input, output) {
         Ok(end) => report_end(&end, faults),
         Err(fault) => break_off(fault, faults),
     }
@@ -186,6 +160,34 @@ fn report_end<F: Sink>(end: &FeedEnd, faults: &mut F) -> Status
             report(text.as_str(), faults);
             Status::Good
         }
+    }
+}
+
+// Returns the options that the words spell, or the first invalid word.
+fn read_feed_options(words: &FeedWords<'_>) -> Result<FeedOptions, ArgumentFault>
+    ensures { IsFeedReading (asked_feed words.now) result }
+{
+    let format = read_source(words.format)?;
+    let reorder = read_reorder(words.reorder)?;
+    Ok(FeedOptions {
+        format,
+        reorder,
+        all_formats: words.all,
+    })
+}
+
+// Reads one to twenty digits of a number below 2^64.
+fn read_reorder(word: Option<&str>) -> Result<u64, ArgumentFault>
+    ensures ok { IfOk result (IsReorder (option_copied word.entry)) }
+    ensures err { OnErr result ((n : ℕ) → ¬ IsReorder (option_copied word.entry) n) }
+    ensures fault { IfErr result (λ fault. fault ≡ ArgumentFault.Reorder) }
+{
+    match word {
+        None => Ok(0),
+        Some(word) => match read_decimal(word.as_bytes()) {
+            Some(reorder) => Ok(reorder),
+            None => Err(ArgumentFault::Reorder),
+        },
     }
 }
 

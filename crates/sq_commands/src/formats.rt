@@ -1,15 +1,11 @@
 //! The formats of the answers of `check` and `track`.
-ghost use Rattle.std.specs.Prelude.{◌≡◌, [], Ok, Err};
-ghost use Rattle.sq_message.specs.declared.squitter.Squitter.{Squitter};
-ghost use Rattle.sq_commands.specs.Formats.{Telling, Writers};
-ghost use Rattle.sq_commands.specs.Heard.{HeardSquitter};
-ghost use Rattle.sq_rows.specs.declared.rows.Form.{Form};
+ghost use Rattle.std.specs.Prelude.{◌≡◌};
+ghost use Rattle.sq_commands.specs.declared.formats.Format.{Format};
+ghost use Rattle.sq_commands.specs.declared.formats.Format.TheVariants.{Csv, Json, Lines};
+ghost use Rattle.sq_text.specs.declared.rows.Form.{Form};
+ghost use Rattle.sq_text.specs.declared.rows.Form.TheVariants as forms;
 
-use sq_lines::LineText;
-use sq_message::{Received, Squitter};
-use sq_rows::Form;
-use sq_text::LineFault;
-use sq_track::Heard;
+use sq_text::Form;
 
 /// The format of answers.
 #[derive(Clone, Copy)]
@@ -22,43 +18,52 @@ pub enum Format {
     Json,
 }
 
-/// Writes the answers of `check`.
-pub(crate) trait CheckFormat {
-    ghost telling: { Telling Squitter };
+/// A format as a type: the loop over a log is compiled once for each.
+pub trait AnswerFormat {
+    ghost chosen: { Format };
 
-    /// Returns the text before the first answer.
-    fn header(&self) -> &'static str
-        ensures { result.now ≡ telling.header };
-
-    /// Writes a good frame into an empty text.
-    fn tell(&self, number: u64, squitter: &Squitter, into: &mut LineText)
-        requires { into.old.bytes ≡ [] }
-        ensures { (writers : Writers) → into.new.bytes ≡ telling.text writers number (Ok squitter.now) };
-
-    /// Writes a fault into an empty text.
-    fn refuse(&self, number: u64, fault: LineFault, into: &mut LineText)
-        requires { into.old.bytes ≡ [] }
-        ensures { (writers : Writers) → into.new.bytes ≡ telling.text writers number (Err fault) };
+    /// Returns the format.
+    fn format(&self) -> Format
+        ensures { result ≡ chosen };
 }
 
-/// Writes the answers of `track`.
-pub trait TrackFormat {
-    ghost telling: { Telling HeardSquitter };
+/// A line of text for each answer.
+#[derive(Clone, Copy)]
+pub struct Numbered;
 
-    /// Returns the text before the first answer.
-    fn header(&self) -> &'static str
-        ensures { result.now ≡ telling.header };
+/// A CSV record for each answer, below a header with the names of the columns.
+#[derive(Clone, Copy)]
+pub struct CsvRows;
 
-    /// Writes the reply to a squitter into an empty text.
-    fn tell(&self, number: u64, timed: &Received, heard: &Heard, into: &mut LineText)
-        requires { into.old.bytes ≡ [] }
-        ensures { (writers : Writers) → into.new.bytes
-            ≡ telling.text writers number (Ok (record { timed = timed.now; heard = heard.now })) };
+/// A JSON object for each answer.
+#[derive(Clone, Copy)]
+pub struct JsonRows;
 
-    /// Writes a fault into an empty text.
-    fn refuse(&self, number: u64, fault: LineFault, into: &mut LineText)
-        requires { into.old.bytes ≡ [] }
-        ensures { (writers : Writers) → into.new.bytes ≡ telling.text writers number (Err fault) };
+impl AnswerFormat for Numbered {
+    ghost chosen = { Lines };
+
+    #[inline(always)]
+    fn format(&self) -> Format {
+        Format::Lines
+    }
+}
+
+impl AnswerFormat for CsvRows {
+    ghost chosen = { Csv };
+
+    #[inline(always)]
+    fn format(&self) -> Format {
+        Format::Csv
+    }
+}
+
+impl AnswerFormat for JsonRows {
+    ghost chosen = { Json };
+
+    #[inline(always)]
+    fn format(&self) -> Format {
+        Format::Json
+    }
 }
 
 /// A form of rows as a type. Functions that write rows are compiled once for each form, so names, commas and braces are
@@ -69,4 +74,22 @@ pub(crate) trait RowForm {
     /// Returns the form.
     fn form() -> Form
         ensures { result ≡ shape };
+}
+
+impl RowForm for CsvRows {
+    ghost shape = { forms.Csv };
+
+    #[inline(always)]
+    fn form() -> Form {
+        Form::Csv
+    }
+}
+
+impl RowForm for JsonRows {
+    ghost shape = { forms.Json };
+
+    #[inline(always)]
+    fn form() -> Form {
+        Form::Json
+    }
 }

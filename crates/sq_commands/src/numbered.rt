@@ -1,63 +1,43 @@
 //! Answers as lines of text: the line's number, and the result.
-ghost use Rattle.std.specs.Prelude.{◌≡◌, ◌+◌, ◌≤◌, ◌++◌, [], codes, decimal};
+ghost use Rattle.std.specs.Prelude.{◌≡◌, ◌+◌, ◌≤◌, ◌++◌, [], Ok, codes, decimal};
 ghost use Rattle.sq_digits.specs.Buffer.{text_len};
 ghost use Rattle.sq_text.specs.Faults.{fault_text};
+ghost use Rattle.sq_commands.specs.Formats.{Writers};
 ghost use Rattle.sq_commands.specs.Heard.{heard_lines};
 ghost use Rattle.sq_commands.specs.Squitters.{squitter_lines};
 
-use crate::formats::{CheckFormat, TrackFormat};
+use crate::found::HeardSquitter;
 use crate::heard::push_heard;
 use sq_lines::LineText;
-use sq_message::{Received, Squitter};
+use sq_message::Squitter;
 use sq_text::{LineFault, push_decimal, push_fault, push_summary};
-use sq_track::Heard;
 
-/// A line of text for each answer.
-#[derive(Clone, Copy)]
-pub struct Numbered;
-
-impl CheckFormat for Numbered {
-    ghost telling = { squitter_lines };
-
-    fn header(&self) -> &'static str {
-        ""
-    }
-
-    #[inline(always)]
-    fn tell(&self, number: u64, squitter: &Squitter, into: &mut LineText) {
-        push_number(into, number);
-        push_summary(into, squitter);
-        push_end(into);
-    }
-
-    fn refuse(&self, number: u64, fault: LineFault, into: &mut LineText) {
-        push_refused(into, number, fault);
-    }
+/// Writes a good frame into an empty text.
+#[inline(always)]
+pub(crate) fn push_squitter_line(text: &mut LineText, number: u64, squitter: &Squitter)
+    requires { text.old.bytes ≡ [] }
+    ensures { (writers : Writers) → text.new.bytes ≡ squitter_lines.text writers number (Ok squitter.now) }
+{
+    push_number(text, number);
+    push_summary(text, squitter);
+    push_end(text);
 }
 
-impl TrackFormat for Numbered {
-    ghost telling = { heard_lines };
-
-    fn header(&self) -> &'static str {
-        ""
-    }
-
-    #[inline(always)]
-    fn tell(&self, number: u64, timed: &Received, heard: &Heard, into: &mut LineText) {
-        push_number(into, number);
-        push_heard(into, timed.squitter.address(), heard);
-        push_end(into);
-    }
-
-    fn refuse(&self, number: u64, fault: LineFault, into: &mut LineText) {
-        push_refused(into, number, fault);
-    }
+/// Writes the reply to a squitter into an empty text.
+#[inline(always)]
+pub(crate) fn push_heard_line(text: &mut LineText, number: u64, found: &HeardSquitter)
+    requires { text.old.bytes ≡ [] }
+    ensures { (writers : Writers) → text.new.bytes ≡ heard_lines.text writers number (Ok found.now) }
+{
+    push_number(text, number);
+    push_heard(text, found.timed.squitter.address(), &found.heard);
+    push_end(text);
 }
 
-// Writes a fault into an empty text.
+/// Writes a fault into an empty text.
 #[cold]
 #[inline(never)]
-fn push_refused(text: &mut LineText, number: u64, fault: LineFault)
+pub(crate) fn push_refused_line(text: &mut LineText, number: u64, fault: LineFault)
     requires { text.old.bytes ≡ [] }
     ensures { text.new.bytes ≡ decimal number ++ codes " " ++ fault_text fault ++ codes "\n" }
 {

@@ -1,19 +1,20 @@
 //! The commands over the devices.
 ghost use Rattle.sq_devices.specs.Clocks.{times_of};
-ghost use Rattle.sq_requests.specs.Requests.{asked_by};
+ghost use Rattle.sq_commands.specs.Requests.{asked_by};
 ghost use Rattle.sq_commands.specs.Outputs.{effects, outputs};
 ghost use Rattle.sq_commands.specs.Runs.{IsRun, IsTimedRun};
 
 use crate::check::check;
-use crate::encode::encode;
 use crate::feed::feed;
-use crate::local::local;
-use crate::pair::pair;
-use crate::show::show;
+use crate::replies::deliver;
+use crate::replies::encode::encode;
+use crate::replies::local::local;
+use crate::replies::pair::pair;
+use crate::replies::show::show;
+use crate::requests::Request;
 use crate::status::Status;
 use crate::track::track;
 use sq_devices::{Clock, NoClock, Sink, Source};
-use sq_requests::Request;
 use std::alloc::Global;
 
 /// Runs a request on a recorded input and returns how it ended.
@@ -47,15 +48,15 @@ pub fn answer_live<C: Clock, S: Source, K: Sink, F: Sink>(
         (effects S.Source input.old input.new (outputs K.Sink F.Sink output.old output.new faults.old faults.new)) }
 {
     match request {
-        Request::Show { frame } => show(frame, output, faults),
-        Request::Encode(words) => encode(alloc, &words, output, faults),
-        Request::Local { frame, lat, lon } => local(frame, lat, lon, output, faults),
+        Request::Show { frame } => deliver(&show(frame), output, faults),
+        Request::Encode(words) => deliver(&encode(&words), output, faults),
+        Request::Local { frame, lat, lon } => deliver(&local(frame, lat, lon), output, faults),
         Request::Pair {
             older,
             newer,
             lat,
             lon,
-        } => pair(older, newer, lat, lon, output, faults),
+        } => deliver(&pair(older, newer, lat, lon), output, faults),
         Request::Check { format } => check(format, input, output, faults),
         Request::Track(words) => track(alloc, &words, input, output, faults),
         Request::Feed(words) => feed(&words, clock, input, output, faults),

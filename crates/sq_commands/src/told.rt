@@ -1,22 +1,23 @@
 //! The answers of `track` as texts, one by one.
-ghost use Rattle.std.specs.Prelude.{◌≡◌, []};
+ghost use Rattle.std.specs.Prelude.{◌≡◌, [], Ok, Err};
 ghost use Rattle.sq_commands.specs.Formats.{Writers};
 ghost use Rattle.sq_commands.specs.Heard.{heard_telling};
 
-use crate::formats::{Format, TrackFormat};
+use crate::formats::{CsvRows, Format, JsonRows};
 use crate::found::HeardSquitter;
-use crate::numbered::Numbered;
-use crate::rows::{CsvRows, JsonRows};
+use crate::numbered::{push_heard_line, push_refused_line};
+use crate::track_rows::{TRACK_COLUMNS, push_heard_row, push_refused_row};
 use sq_lines::{Answer, LineText};
+use sq_text::LineFault;
 
 /// Returns the text before the first answer of a format.
 pub fn heard_header(format: Format) -> &'static str
     ensures { result.now ≡ (heard_telling format).header }
 {
     match format {
-        Format::Lines => Numbered.header(),
-        Format::Csv => CsvRows.header(),
-        Format::Json => JsonRows.header(),
+        Format::Lines => "",
+        Format::Csv => TRACK_COLUMNS,
+        Format::Json => "",
     }
 }
 
@@ -26,21 +27,35 @@ pub fn tell_heard(format: Format, answer: &Answer<HeardSquitter>, into: &mut Lin
     ensures { (writers : Writers) → into.new.bytes
         ≡ (heard_telling format).text writers answer.now.number answer.now.verdict }
 {
-    match format {
-        Format::Lines => tell_as(&Numbered, answer, into),
-        Format::Csv => tell_as(&CsvRows, answer, into),
-        Format::Json => tell_as(&JsonRows, answer, into),
+    match &answer.verdict {
+        Ok(found) => tell_found(format, answer.number, found, into),
+        Err(fault) => refuse_text(format, answer.number, *fault, into),
     }
 }
 
-// Writes an answer into an empty text.
-fn tell_as<F: TrackFormat>(format: &F, answer: &Answer<HeardSquitter>, into: &mut LineText)
+/// Writes the reply to a squitter into an empty text, in a format.
+#[inline(always)]
+pub(crate) fn tell_found(format: Format, number: u64, found: &HeardSquitter, into: &mut LineText)
     requires { into.old.bytes ≡ [] }
-    ensures { (writers : Writers) → into.new.bytes
-        ≡ F.telling.text writers answer.now.number answer.now.verdict }
+    ensures { (writers : Writers)
+        → into.new.bytes ≡ (heard_telling format).text writers number (Ok found.now) }
 {
-    match &answer.verdict {
-        Ok(found) => format.tell(answer.number, &found.timed, &found.heard, into),
-        Err(fault) => format.refuse(answer.number, *fault, into),
+    match format {
+        Format::Lines => push_heard_line(into, number, found),
+        Format::Csv => push_heard_row::<CsvRows>(into, number, found),
+        Format::Json => push_heard_row::<JsonRows>(into, number, found),
+    }
+}
+
+/// Writes a fault into an empty text, in a format.
+#[inline(always)]
+pub(crate) fn refuse_text(format: Format, number: u64, fault: LineFault, into: &mut LineText)
+    requires { into.old.bytes ≡ [] }
+    ensures { (writers : Writers) → into.new.bytes ≡ (heard_telling format).text writers number (Err fault) }
+{
+    match format {
+        Format::Lines => push_refused_line(into, number, fault),
+        Format::Csv => push_refused_row::<CsvRows>(into, number, fault),
+        Format::Json => push_refused_row::<JsonRows>(into, number, fault),
     }
 }

@@ -2,7 +2,7 @@
 ghost use base.Fml.{GName};
 ghost use Rattle.std.specs.Prelude.{◌≡◌, ◌≤◌, IfOk};
 ghost use Rattle.sq_devices.specs.Changes.{TookReported, taken_from, written_on};
-ghost use Rattle.sq_requests.specs.Requests.{asked_track};
+ghost use Rattle.sq_commands.specs.Requests.{asked_track};
 ghost use Rattle.sq_commands.specs.Formats.{Writers};
 ghost use Rattle.sq_commands.specs.Heard.{heard_lines, heard_telling};
 ghost use Rattle.sq_commands.specs.Outputs.{effects, outputs};
@@ -14,28 +14,27 @@ ghost use Rattle.sq_track.specs.Held.{settings};
 
 use crate::arguments::{TrackOptions, read_options};
 use crate::check::end_of;
-use crate::formats::{Format, TrackFormat};
+use crate::formats::{AnswerFormat, CsvRows, Format, JsonRows, Numbered};
 use crate::found::HeardSquitter;
-use crate::numbered::Numbered;
-use crate::reports::{break_off, report_argument};
-use crate::rows::{CsvRows, JsonRows};
+use crate::replies::{break_off, misuse};
+use crate::requests::TrackWords;
 use crate::status::Status;
+use crate::told::{heard_header, refuse_text, tell_found};
 use sq_devices::{Sink, Source};
 use sq_lines::{Job, LineText, Log, RunFault, Tally, Telling, Verdict, run_log};
 use sq_message::Received;
-use sq_requests::TrackWords;
 use sq_text::{LineFault, read_timed};
 use sq_track::{TrackFault, Tracker};
 use std::alloc::{Allocator, Global};
 
 /// The job of `track`: has a tracker hear each text.
 #[derive(Drop)]
-pub struct Hearing<'a, F: TrackFormat, A: Allocator = Global> {
+pub struct Hearing<'a, F: AnswerFormat, A: Allocator = Global> {
     pub(crate) tracker: &'a mut Tracker<A>,
     pub(crate) format: &'a F,
 }
 
-impl<F: TrackFormat, A: Allocator> Job for Hearing<'_, F, A> {
+impl<F: AnswerFormat, A: Allocator> Job for Hearing<'_, F, A> {
     type Found = HeardSquitter;
 
     ghost Past = { Tracking };
@@ -59,24 +58,24 @@ impl<F: TrackFormat, A: Allocator> Job for Hearing<'_, F, A> {
     }
 }
 
-impl<F: TrackFormat, A: Allocator> Telling for Hearing<'_, F, A> {
+impl<F: AnswerFormat, A: Allocator> Telling for Hearing<'_, F, A> {
     ghost Writing = { Writers };
 
-    ghost front = { F.telling.header };
+    ghost front = { (heard_telling F.chosen).header };
 
-    ghost text = { F.telling.text };
+    ghost text = { (heard_telling F.chosen).text };
 
     fn header(&self) -> &'static str {
-        self.format.header()
+        heard_header(self.format.format())
     }
 
     #[inline(always)]
     fn tell(&self, number: u64, found: &HeardSquitter, into: &mut LineText) {
-        self.format.tell(number, &found.timed, &found.heard, into);
+        tell_found(self.format.format(), number, found, into);
     }
 
     fn refuse(&self, number: u64, fault: LineFault, into: &mut LineText) {
-        self.format.refuse(number, fault, into);
+        refuse_text(self.format.format(), number, fault, into);
     }
 }
 
@@ -144,16 +143,16 @@ pub fn run_track<S: Source, K: Sink>(
 }
 
 // Writes the answers in the format.
-fn run_track_as<S: Source, K: Sink, F: TrackFormat>(
+fn run_track_as<S: Source, K: Sink, F: AnswerFormat>(
     format: &F,
     source: &mut S,
     sink: &mut K,
     tracker: &mut Tracker,
 ) -> Result<Tally, RunFault>
-    ensures ran { IsTracked F.telling result (taken_from S.Source source.old source.new)
+    ensures ran { IsTracked (heard_telling F.chosen) result (taken_from S.Source source.old source.new)
         (written_on K.Sink sink.old sink.new) tracker.old tracker.new }
     ensures reported { IfOk result (λ tally. TookReported (taken_from S.Source source.old source.new)
-        (HasTracked F.telling tally (written_on K.Sink sink.old sink.new) tracker.old tracker.new)) }
+        (HasTracked (heard_telling F.chosen) tally (written_on K.Sink sink.old sink.new) tracker.old tracker.new)) }
 {
     run_log(source, sink, &mut Log::new(Hearing { tracker, format }))
 }
@@ -187,7 +186,7 @@ pub(crate) fn track<S: Source, K: Sink, F: Sink>(
 {
     match read_options(words) {
         Ok(options) => track_with(alloc, &options, input, output, faults),
-        Err(fault) => report_argument(fault, faults),
+        Err(fault) => misuse(fault, output, faults),
     }
 }
 

@@ -1,44 +1,40 @@
 //! The rows of `track`, in named columns.
-ghost use Rattle.std.specs.Prelude.{◌≡◌, ◌+◌, ◌≤◌, ◌++◌, [], Ok, Err, codes, length};
+ghost use Rattle.std.specs.Prelude.{◌≡◌, ◌+◌, ◌≤◌, ◌++◌, [], Ok, Err, length};
 ghost use Rattle.sq_digits.specs.Buffer.{text_len};
 ghost use Rattle.sq_angle.specs.Decimal.{DecimalWriter};
-ghost use Rattle.sq_message.specs.Places.{place_latitude, place_longitude};
-ghost use Rattle.sq_rows.specs.Rows.{Blank, Number, cell};
-ghost use Rattle.sq_commands.specs.Formats.{Writers};
-ghost use Rattle.sq_commands.specs.Heard.{answer_word, coordinate, heard_row, track_columns, track_row_text};
+ghost use Rattle.sq_text.specs.Rows.{cells, room, row_text};
+ghost use Rattle.sq_track.specs.declared.heard.Heard.TheVariants.{Fix};
+ghost use Rattle.sq_commands.specs.Formats.{HasRoom, Writers};
+ghost use Rattle.sq_commands.specs.Heard.{answer_word, blank_track, heard_row, place_columns, place_row, track_columns};
 
 use crate::formats::RowForm;
+use crate::found::HeardSquitter;
 use sq_lines::LineText;
-use sq_message::{Place, Received};
-use sq_rows::{
-    Form, kind_name, push_address, push_blank, push_degrees, push_end, push_fault_word, push_feet,
-    push_line, push_number, push_word,
+use sq_message::Place;
+use sq_text::{
+    Form, LineFault, kind_name, push_address, push_blank, push_degrees, push_end, push_fault_word,
+    push_feet, push_line, push_number, push_word,
 };
-use sq_text::LineFault;
 use sq_track::Heard;
 
 /// The names of the columns, in CSV.
 pub(crate) const TRACK_COLUMNS: &str = "line,moment,answer,address,kind,lat,lon,feet\n";
 
 /// Writes the row of a squitter that was heard into an empty text.
-pub(crate) fn push_heard_row<R: RowForm>(
-    text: &mut LineText,
-    number: u64,
-    timed: &Received,
-    heard: &Heard,
-)
+pub(crate) fn push_heard_row<R: RowForm>(text: &mut LineText, number: u64, found: &HeardSquitter)
     requires { text.old.bytes ≡ [] }
-    ensures { (writers : Writers) → text.new.bytes
-        ≡ track_row_text R.shape number (heard_row writers (Ok (record { timed = timed.now; heard = heard.now }))) }
+    ensures { (writers : Writers)
+        → text.new.bytes ≡ row_text R.shape track_columns number (heard_row writers (Ok found.now)) }
 {
     let form = R::form();
+    let timed = &found.timed;
     let me = timed.squitter.me();
     push_line(text, form, number);
     push_number(text, form, "moment", timed.moment);
-    push_word(text, form, "answer", answer_word(heard));
+    push_word(text, form, "answer", answer_word(&found.heard));
     push_address(text, form, "address", timed.squitter.address());
     push_word(text, form, "kind", kind_name(&me));
-    push_coordinates(text, form, heard);
+    push_coordinates(text, form, &found.heard);
     push_feet(text, form, &me);
     push_end(text, form);
 }
@@ -46,7 +42,8 @@ pub(crate) fn push_heard_row<R: RowForm>(
 /// Writes the row of a refused line into an empty text.
 pub(crate) fn push_refused_row<R: RowForm>(text: &mut LineText, number: u64, fault: LineFault)
     requires { text.old.bytes ≡ [] }
-    ensures { (writers : Writers) → text.new.bytes ≡ track_row_text R.shape number (heard_row writers (Err fault)) }
+    ensures { (writers : Writers)
+        → text.new.bytes ≡ row_text R.shape track_columns number (heard_row writers (Err fault)) }
 {
     let form = R::form();
     push_line(text, form, number);
@@ -79,11 +76,10 @@ fn answer_word(heard: &Heard) -> &'static str
 // Appends the coordinates of the place that was heard, or empty columns.
 #[inline(always)]
 fn push_coordinates(text: &mut LineText, form: Form, heard: &Heard)
-    requires { text_len text.old ≤ 200 }
-    ensures bytes { (decimals : DecimalWriter) → text.new.bytes ≡ text.old.bytes
-        ++ (cell form (codes "lat") (coordinate decimals place_latitude heard.now)
-        ++ cell form (codes "lon") (coordinate decimals place_longitude heard.now)) }
-    ensures len { text_len text.new ≤ text_len text.old + 38 }
+    requires { HasRoom text.old place_columns }
+    ensures bytes { (decimals : DecimalWriter)
+        → text.new.bytes ≡ text.old.bytes ++ cells form place_columns (place_row decimals heard.now) }
+    ensures len { text_len text.new ≤ text_len text.old + room place_columns }
 {
     match heard {
         Heard::Fix(place) | Heard::Followed(place) => push_place(text, form, place),
@@ -96,11 +92,10 @@ fn push_coordinates(text: &mut LineText, form: Form, heard: &Heard)
 // Appends the coordinates of a place.
 #[inline(always)]
 fn push_place(text: &mut LineText, form: Form, place: &Place)
-    requires { text_len text.old ≤ 200 }
-    ensures bytes { (decimals : DecimalWriter) → text.new.bytes ≡ text.old.bytes
-        ++ (cell form (codes "lat") (Number (decimals.write (place_latitude place.now)))
-        ++ cell form (codes "lon") (Number (decimals.write (place_longitude place.now)))) }
-    ensures len { text_len text.new ≤ text_len text.old + 38 }
+    requires { HasRoom text.old place_columns }
+    ensures bytes { (decimals : DecimalWriter)
+        → text.new.bytes ≡ text.old.bytes ++ cells form place_columns (place_row decimals (Fix place.now)) }
+    ensures len { text_len text.new ≤ text_len text.old + room place_columns }
 {
     let position = place.position();
     push_degrees(text, form, "lat", &position.lat());
@@ -110,10 +105,9 @@ fn push_place(text: &mut LineText, form: Form, place: &Place)
 // Appends empty columns for a place.
 #[inline(always)]
 fn push_no_coordinates(text: &mut LineText, form: Form)
-    requires { text_len text.old ≤ 200 }
-    ensures bytes { text.new.bytes ≡ text.old.bytes
-        ++ (cell form (codes "lat") Blank ++ cell form (codes "lon") Blank) }
-    ensures len { text_len text.new ≤ text_len text.old + 38 }
+    requires { HasRoom text.old place_columns }
+    ensures bytes { text.new.bytes ≡ text.old.bytes ++ cells form place_columns blank_track }
+    ensures len { text_len text.new ≤ text_len text.old + room place_columns }
 {
     push_blank(text, form, "lat");
     push_blank(text, form, "lon");

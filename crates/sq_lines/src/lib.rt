@@ -15,6 +15,7 @@ mod lines;
 mod log;
 mod marked_bytes;
 mod marks;
+pub mod pins;
 mod run;
 mod state;
 mod tallies;

@@ -3,7 +3,7 @@ use Rattle.std.proofs.Common.{◌≡◌, ◌∙◌, List, false, inl, inr, subst
 use Rattle.sq_devices.specs.Clocks.{Times}
 use Rattle.sq_devices.specs.declared.device.Sink.{Ghosts as SinkGhosts}
 use Rattle.sq_devices.specs.declared.device.Source.{Ghosts as SourceGhosts}
-use Rattle.sq_requests.specs.Requests.{Asked, Text}
+use Rattle.sq_commands.specs.Requests.{Asked, Text}
 use Rattle.sq_words.specs.Requests.{OneRequest}
 use Rattle.sq_commands.specs.OneRun.{OneRun, between}
 use Rattle.sq_commands.specs.Outputs.{Effects}
@@ -31,11 +31,11 @@ one_program_run s k f t l g one_request one_run words a b old new other last byt
     (inr (inl q)) unbroken unbroken' reported reported' =
     (p.1 ∙ sym q.1, inl (p.3, q.3), inl p.0, p.2.0 ∙ here ∙ sym there ∙ sym q.2.0)
 one_program_run s k f t l g one_request one_run words a b old new other last bytes here there (inr (inr p)) y
-    unbroken unbroken' reported reported' = absurd (unbroken p.1.0)
+    unbroken unbroken' reported reported' = absurd (unbroken p.0)
 one_program_run s k f t l g one_request one_run words a b old new other last bytes here there (inl p) (inr (inr q))
-    unbroken unbroken' reported reported' = absurd (unbroken' q.1.0)
+    unbroken unbroken' reported reported' = absurd (unbroken' q.0)
 one_program_run s k f t l g one_request one_run words a b old new other last bytes here there (inr (inl p))
-    (inr (inr q)) unbroken unbroken' reported reported' = absurd (unbroken' q.1.0)
+    (inr (inr q)) unbroken unbroken' reported reported' = absurd (unbroken' q.0)
 
 -- a run on an input that is not live is one on a recorded input
 pub program_recorded : (clock : Times) → clock.is_live ≡ false → (words : List Text) (status : Status) (e : Effects)
@@ -48,4 +48,4 @@ program_recorded clock is words status e (inr refused) = inr refused
 pub broken_program : {S K F : Type 0} (s : SourceGhosts S) (k : SinkGhosts K) (f : SinkGhosts F) → BrokenProgram s k f
 broken_program s k f words from to old new before after (inl run) = inl run
 broken_program s k f words from to old new before after (inr (inl refused)) = absurd (cc refused.1)
-broken_program s k f words from to old new before after (inr (inr unread)) = inr (unread.0, unread.1.1, unread.1.2)
+broken_program s k f words from to old new before after (inr (inr unread)) = inr (unread.1, unread.2, unread.3)

@@ -2,20 +2,22 @@
 use Rattle.std.specs.Prelude.{◌≡◌, ◌⊎◌, List}
 use Rattle.sq_devices.specs.Changes.{TookNothing, WroteNothing}
 use Rattle.sq_devices.specs.Clocks.{Times, recorded}
-use Rattle.sq_requests.specs.Requests.{Asked, Text}
+use Rattle.sq_lines.specs.declared.faults.RunFault.TheVariants.{Memory}
+use Rattle.sq_commands.specs.Requests.{Asked, Text}
 use Rattle.sq_words.specs.Requests.{Asks, IsFaulty}
 use Rattle.sq_commands.specs.declared.status.Status.{Status}
-use Rattle.sq_commands.specs.declared.status.Status.TheVariants.{Misused}
-use Rattle.sq_commands.specs.Outputs.{Effects, IsOutOfMemory}
+use Rattle.sq_commands.specs.declared.status.Status.TheVariants.{Broken, Misused}
+use Rattle.sq_commands.specs.Outputs.{Effects, Reported, broken_text}
 use Rattle.sq_commands.specs.Runs.{IsTimedRun}
 
 -- clap finds a fault in the words, or they ask for help: nothing is read or written, and clap's text is reported
 abbrev pub IsRefusal : List Text → Status → Effects → Type 0
 IsRefusal words status e = IsFaulty words × (status ≡ Misused) × TookNothing e.input × WroteNothing e.outputs.output
 
--- there is no memory to read the words
+-- there is no memory to read the words: nothing is read or written, and that is reported
 abbrev pub IsUnread : Status → Effects → Type 0
-IsUnread status e = TookNothing e.input × IsOutOfMemory status e.outputs
+IsUnread status e = (status ≡ Broken) × TookNothing e.input × WroteNothing e.outputs.output
+    × Reported e.outputs (broken_text Memory)
 
 -- the words ask for a command, which is run by the clock; or they are refused; or there is no memory to read them
 abbrev pub IsTimedProgramRun : Times → List Text → Status → Effects → Type 0

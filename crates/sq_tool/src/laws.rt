@@ -1,21 +1,16 @@
 //! Laws of the program, over the definitions that its contracts name, and the laws below that a reader of them needs.
+
 ghost use Rattle.std.specs.Prelude.{◌≡◌, List, false};
 ghost use Rattle.sq_devices.specs.Clocks.{times_of};
-ghost use Rattle.sq_requests.specs.Requests.{Text};
+ghost use Rattle.sq_commands.specs.Requests.{Text};
 ghost use Rattle.sq_commands.specs.Outputs.{effects, outputs};
 ghost use Rattle.sq_commands.specs.declared.status.Status.{Status};
-ghost use Rattle.sq_tool.specs.OneProgram.{BrokenProgram, OneProgramRun};
+ghost use Rattle.sq_tool.specs.OneProgram.{OneProgramRun};
 ghost use Rattle.sq_tool.specs.Program.{IsProgramRun, IsTimedProgramRun};
 
 use sq_devices::{Clock, Sink, Source};
 pub use sq_lines::laws::lines_in_pieces;
 pub use sq_words::laws::{accepted_words_ask, one_request, refused_words_ask_nothing};
-
-/// What the program did where a device or memory failed: what a request that the words ask for comes to, broken off;
-/// or there was no memory to read the words, so that nothing was read or written, and that was reported.
-pub fn broken_program_exactly<S: Source, K: Sink, F: Sink>()
-    ensures { BrokenProgram S.Source K.Sink F.Sink }
-{}
 
 /// On an input that is not live a clock changes nothing, so `one_program_run` speaks of it too. When the bytes of a
 /// file were read does not matter.

@@ -6,6 +6,7 @@
 #![tactic(auto)]
 
 pub mod laws;
+pub mod pins;
 mod program;
 
 pub use program::{run, run_live};

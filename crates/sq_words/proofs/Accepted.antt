@@ -1,6 +1,6 @@
 -- Words in which clap finds no fault ask for a command with its values.
 use Rattle.std.proofs.Common.{◌≡◌, ◌∙◌, ◌&&◌, ◌||◌, ℕ, Bool, true, false, true≢false, List, [], ◌∷◌, Option, None, Some}
-use Rattle.std.proofs.Common.{ap, sym, subst, inl, inr, refl, rules, is_some, not}
+use Rattle.std.proofs.Common.{ap, arith, sym, subst, inl, inr, refl, rules, is_some, not}
 use Rattle.std.specs.Prelude.{⊤, if◌then◌else◌, unwrap_or, find, fold, option_map, codes}
 use Rattle.std.specs.List.{list_any}
 use Rattle.std.specs.Option.{option_map_or}
@@ -21,10 +21,10 @@ use Rattle.clap.specs.Walk.{done, waits, plain, refused, idle, option, positiona
 use Rattle.clap.specs.Faults.{defaults_fault, settle_fault, fault_of, built_fault, entered_fault, level_fault}
 use Rattle.clap.specs.Faults.{other_fault, word_fault, step_fault, walk_fault}
 use Rattle.sq_words.specs.CommandLine.{squitter}
-use Rattle.sq_requests.specs.Requests.{Asked, command_name}
-use Rattle.sq_words.specs.CommandLine.{HasValues}
+use Rattle.sq_commands.specs.Requests.{Asked, command_name}
+use Rattle.sq_words.specs.CommandLine.{HasValues, is_given as is_set}
 use Rattle.sq_words.specs.Requests.{Asks}
-use Rattle.sq_requests.specs.Requests.{Show, Encode, Local, Pair, Check, Track, Feed}
+use Rattle.sq_commands.specs.Requests.{Show, Encode, Local, Pair, Check, Track, Feed}
 use Rattle.sq_words.proofs.Full.{AllFull, Each, IsSingle, Full-walk, Full-settled, Full-defaults, find-each, given_value}
 use Rattle.sq_words.proofs.Full.{or_else-nil}
 
@@ -258,15 +258,15 @@ help_is_quiet name answers quiet = by (bytes_eq (codes "help") name) refl answer
 -- each command of the program serves
 pub squitter-serves : Each Serves (built squitter).subs
 squitter-serves = (
-  serve _ (inr (refl, refl, refl), (inl refl, tt)) (λ rows g. (Show (g.0 refl).0, refl, (g.0 refl).1)),
+  serve _ (inl (refl, refl, refl), (inr (inl refl), tt)) (λ rows g. (Show (g.0 refl).0, refl, (g.0 refl).1)),
   (
     serve _ (
-      inr (refl, refl, refl),
+      inl (refl, refl, refl),
       (
-        inr (refl, refl, refl),
+        inl (refl, refl, refl),
         (
-          inr (refl, refl, refl),
-          (inr (refl, refl, refl), (inr (refl, refl, refl), (inr (refl, refl, refl), (inl refl, tt)))),
+          inl (refl, refl, refl),
+          (inl (refl, refl, refl), (inl (refl, refl, refl), (inl (refl, refl, refl), (inr (inl refl), tt)))),
         ),
       ),
     ) (λ rows g. (
@@ -282,7 +282,7 @@ squitter-serves = (
       ((g.0 refl).1, (g.1.0 refl).1, (g.1.1.0 refl).1, refl, (g.1.1.1.1.0 refl).1, (g.1.1.1.1.1.0 refl).1),
     )),
     (
-      serve _ (inr (refl, refl, refl), (inr (refl, refl, refl), (inr (refl, refl, refl), (inl refl, tt))))
+      serve _ (inl (refl, refl, refl), (inl (refl, refl, refl), (inl (refl, refl, refl), (inr (inl refl), tt))))
           (λ rows g. (
             Local (g.0 refl).0 (g.1.0 refl).0 (g.1.1.0 refl).0,
             refl,
@@ -290,22 +290,22 @@ squitter-serves = (
           )),
       (
         serve _ (
-          inr (refl, refl, refl),
-          (inr (refl, refl, refl), (inr (refl, refl, refl), (inr (refl, refl, refl), (inl refl, tt)))),
+          inl (refl, refl, refl),
+          (inl (refl, refl, refl), (inl (refl, refl, refl), (inl (refl, refl, refl), (inr (inl refl), tt)))),
         ) (λ rows g. (
           Pair (g.0 refl).0 (g.1.0 refl).0 (first_of (codes "lat") rows) (first_of (codes "lon") rows),
           refl,
           ((g.0 refl).1, (g.1.0 refl).1, refl, refl),
         )),
         (
-          serve _ (inr (refl, refl, refl), (inl refl, tt))
+          serve _ (inl (refl, refl, refl), (inr (inl refl), tt))
               (λ rows g. (Check (first_of (codes "format") rows), refl, refl)),
           (
             serve _ (
-              inr (refl, refl, refl),
+              inl (refl, refl, refl),
               (
-                inr (refl, refl, refl),
-                (inr (refl, refl, refl), (inr (refl, refl, refl), (inr (refl, refl, refl), (inl refl, tt)))),
+                inl (refl, refl, refl),
+                (inl (refl, refl, refl), (inl (refl, refl, refl), (inl (refl, refl, refl), (inr (inl refl), tt)))),
               ),
             )
                 (λ rows g. (
@@ -320,8 +320,19 @@ squitter-serves = (
                   (refl, refl, refl, refl, refl),
                 )),
             (
-              serve _ (inr (refl, refl, refl), (inl refl, tt))
-                  (λ rows g. (Feed (record { format = first_of (codes "format") rows }), refl, refl)),
+              serve _ (
+                inl (refl, refl, refl),
+                (inl (refl, refl, refl), (inr (inr (refl, omega arith)), (inr (inl refl), tt))),
+              )
+                  (λ rows g. (
+                    Feed (record {
+                      format = first_of (codes "format") rows;
+                      reorder = first_of (codes "reorder") rows;
+                      all = is_set (first_of (codes "all") rows);
+                    }),
+                    refl,
+                    (refl, refl, refl),
+                  )),
               (λ name words answers quiet none. absurd (help_is_quiet name answers quiet), tt),
             ),
           ),

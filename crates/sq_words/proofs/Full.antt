@@ -21,7 +21,7 @@ use Rattle.clap.specs.Faults.{bundle_fault, stray_fault, use_fault, settle_fault
 use Rattle.clap.specs.Faults.{short_fault, bundle_step_fault, flags_fault, flag_word_fault, other_fault, word_fault}
 use Rattle.clap.specs.Faults.{positional_fault, step_fault, walk_fault}
 use Rattle.clap.specs.declared.builder.action.ArgAction.{ArgAction}
-use Rattle.clap.specs.declared.builder.action.ArgAction.TheVariants.{Set, Help}
+use Rattle.clap.specs.declared.builder.action.ArgAction.TheVariants.{Set, SetTrue, Help}
 use Rattle.clap.specs.declared.error.kind.ErrorKind.TheVariants as kind
 use Rattle.clap.specs.declared.parser.matches.ValueSource.{ValueSource}
 use Rattle.clap.specs.declared.builder.value_parser.Reading.{Reading}
@@ -31,10 +31,10 @@ abbrev pub AllFull : List Row → Type 0
 AllFull [] = ⊤
 AllFull (r ∷ rs) = (0 < length r.values) × AllFull rs
 
--- an argument or an option with one value, or the request for help
+-- an argument or an option with one value, a flag, or the request for help
 abbrev pub IsSingle : Rule → Type 0
-IsSingle a = (action_of a ≡ Help)
-    ⊎ ((action_of a ≡ Set) × ((unwrap_or_range a.range).start_inclusive ≡ 1) × (most_values a ≡ 1))
+IsSingle a = ((action_of a ≡ Set) × ((unwrap_or_range a.range).start_inclusive ≡ 1) × (most_values a ≡ 1))
+    ⊎ ((action_of a ≡ Help) ⊎ ((action_of a ≡ SetTrue) × (0 < length a.missing)))
 
 -- a fact of each element
 abbrev pub Each : {X : Type 0} → (X → Type 0) → List X → Type 0
@@ -92,17 +92,26 @@ some_values : (a : Rule) (values : List Text) → range_kinds 1 1 (length values
 some_values a [] is = let bad : ⊥ = cc in absurd bad
 some_values a (v ∷ vs) is = omega arith
 
+-- a flag without a value has its default
+flag_values : (a : Rule) (values : List Text) → 0 < length a.missing → 0 < length (values_or_missing a values)
+flag_values a [] some = some
+flag_values a (v ∷ vs) some = omega arith
+
+-- the rows after a use of the argument by this action have values
+abbrev IsFullAs : Rule → List Text → List Row → ArgAction → Type 0
+IsFullAs a values rows action = AllFull (used_as action a.id (reading_by a) (values_or_missing a values) rows)
+
 pub Full-used : (again : Bool) (a : Rule) (values : List Text) (rows : List Row) → IsSingle a
     → use_fault again a values rows ≡ [] → AllFull rows
     → AllFull (used a values rows)
 Full-used again a values rows single none all = elim single [
-  | inl help ↦ subst (λ (x : ArgAction). AllFull (used_as x a.id (reading_by a) (values_or_missing a values) rows))
-      (sym help) all
-  | inr one ↦ subst (λ (x : ArgAction). AllFull (used_as x a.id (reading_by a) (values_or_missing a values) rows))
-      (sym one.0)
+  | inl one ↦ subst (IsFullAs a values rows) (sym one.0)
       (Full-with_values _ _ _ _ _ (some_values a values
       (sym (ap₂ (λ (s m : ℕ). range_kinds s m (length values)) one.1 one.2) ∙ (or_else-nil _ _ none).0))
       (Full-without _ rows all))
+  | inr (inl help) ↦ subst (IsFullAs a values rows) (sym help) all
+  | inr (inr flag) ↦ subst (IsFullAs a values rows) (sym flag.0)
+      (Full-with_values _ _ _ _ _ (flag_values a values flag.1) (Full-without _ rows all))
 ]
 
 -- ---- the walk

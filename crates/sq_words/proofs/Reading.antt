@@ -14,10 +14,10 @@ use Rattle.clap.specs.declared.parser.matches.Found.{Found}
 use Rattle.clap.proofs.WalkLemmas.{first_value-rows}
 use Rattle.clap.proofs.OnLiterals.{clap_on_literals}
 use Rattle.sq_words.specs.CommandLine.{squitter}
-use Rattle.sq_requests.specs.Requests.{Asked, AskedEncode, command_name}
+use Rattle.sq_commands.specs.Requests.{Asked, AskedEncode, command_name}
 use Rattle.sq_words.specs.CommandLine.{HasValues}
 use Rattle.sq_words.specs.Requests.{Asks, IsAsked}
-use Rattle.sq_requests.specs.Requests.{Show, Encode, Local, Pair, Check, Track, Feed}
+use Rattle.sq_commands.specs.Requests.{Show, Encode, Local, Pair, Check, Track, Feed}
 
 -- clap says of this command line what it makes of the words
 pub squitter-is_simple : is_simple squitter ≡ true

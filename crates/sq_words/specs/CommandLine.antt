@@ -1,7 +1,9 @@
 -- The command line, in clap's words: its commands, each with its arguments and options, and their values.
-use Rattle.std.specs.Prelude.{◌≡◌, List, Some, codes, true}
+use Rattle.std.specs.Prelude.{◌≡◌, Bool, List, None, Option, Some, codes, false, true}
+use Rattle.std.specs.Str.{bytes_eq}
+use Rattle.clap.specs.declared.builder.action.ArgAction.TheVariants.{SetTrue}
 use Rattle.clap.specs.Words.{App, Row, Rule, Text, first_of, new_app, new_rule, with_rule, with_subcommand}
-use Rattle.sq_requests.specs.Requests.{Asked, Show, Encode, Local, Pair, Check, Track, Feed}
+use Rattle.sq_commands.specs.Requests.{Asked, Show, Encode, Local, Pair, Check, Track, Feed}
 
 -- what has to be there
 abbrev pub required : Rule → Rule
@@ -18,6 +20,10 @@ option name = record (new_rule name) { long = Some name; value_names = 1 }
 -- an option with a value, which has to be there
 abbrev pub required_option : Text → Rule
 required_option name = required (option name)
+
+-- an option without a value, `--name`
+abbrev pub flag : Text → Rule
+flag name = record (new_rule name) { long = Some name; action = Some SetTrue }
 
 -- show FRAME
 abbrev pub show : App
@@ -53,9 +59,10 @@ track = with_rule (with_rule (with_rule (with_rule (with_rule (new_app (codes "t
     (option (codes "limit"))) (option (codes "window")))
     (option (codes "lat"))) (option (codes "lon"))
 
--- feed [--format FORMAT]
+-- feed [--format FORMAT] [--reorder MS] [--all]
 abbrev pub feed : App
-feed = with_rule (new_app (codes "feed")) (option (codes "format"))
+feed = with_rule (with_rule (with_rule (new_app (codes "feed")) (option (codes "format"))) (option (codes "reorder")))
+    (flag (codes "all"))
 
 -- the program with no command yet, one being required; it has a version, for which `--version` asks
 abbrev pub program : App
@@ -76,6 +83,11 @@ squitter = with_subcommand (with_subcommand line_commands track.top) feed.top
 
 -- ---- the values
 
+-- whether a flag is given: clap has the value `true` for it then, and otherwise `false`
+abbrev pub is_given : Option Text → Bool
+is_given None = false
+is_given (Some value) = bytes_eq value (codes "true")
+
 -- clap has this value for each argument and option of the command
 abbrev pub HasValues : List Row → Asked → Type 0
 HasValues rows (Show frame) = first_of (codes "FRAME") rows ≡ Some frame
@@ -93,4 +105,6 @@ HasValues rows (Track words) =
     (first_of (codes "format") rows ≡ words.format) × (first_of (codes "limit") rows ≡ words.limit)
     × (first_of (codes "window") rows ≡ words.window) × (first_of (codes "lat") rows ≡ words.lat)
     × (first_of (codes "lon") rows ≡ words.lon)
-HasValues rows (Feed words) = first_of (codes "format") rows ≡ words.format
+HasValues rows (Feed words) =
+    (first_of (codes "format") rows ≡ words.format) × (first_of (codes "reorder") rows ≡ words.reorder)
+    × (is_given (first_of (codes "all") rows) ≡ words.all)

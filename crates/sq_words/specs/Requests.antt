@@ -1,7 +1,7 @@
 -- What the words of a command line ask for.
 use Rattle.std.specs.Prelude.{◌≡◌, ◌≢◌, List, [], Some}
 use Rattle.clap.specs.Words.{Text, Row, fault_of, subcommand_of}
-use Rattle.sq_requests.specs.Requests.{Asked, command_name}
+use Rattle.sq_commands.specs.Requests.{Asked, command_name}
 use Rattle.sq_words.specs.CommandLine.{HasValues, squitter}
 
 -- the command of this name, with these values, is what was asked

@@ -1,17 +1,17 @@
 //! The command line: of each command its help, its arguments and options in clap's calls, and the request that its
 //! values are. clap puts the usage and the list of options between the texts of a command.
-ghost use Rattle.std.specs.Prelude.{◌≡◌, IfNone, IfOk, IfSome, codes, false};
+ghost use Rattle.std.specs.Prelude.{◌≡◌, IfNone, IfOk, IfSome, codes, false, option_copied};
 ghost use Rattle.clap.specs.Words.{app_of, found_of, new_app, new_rule, rows_of, rule_of};
 ghost use Rattle.clap.specs.declared.builder.Command.TheViews.{out-Command as fields_of};
-ghost use Rattle.sq_requests.specs.Requests.{Asked, asked_by};
+ghost use Rattle.sq_commands.specs.Requests.{Asked, asked_by};
 ghost use Rattle.sq_words.specs.CommandLine.{check as check_line, encode, encode_head as encode_first, feed};
 ghost use Rattle.sq_words.specs.CommandLine.{frame_commands as frame_program, line_commands as line_program, local};
-ghost use Rattle.sq_words.specs.CommandLine.{option as option_rule, pair};
+ghost use Rattle.sq_words.specs.CommandLine.{flag as flag_rule, is_given as is_given_as, option as option_rule, pair};
 ghost use Rattle.sq_words.specs.CommandLine.{program as no_commands, required, show, squitter, track};
 ghost use Rattle.sq_words.specs.Requests.{IsAsked};
 
-use clap::{Arg, ArgMatches, Command};
-use sq_requests::{EncodeWords, FeedWords, Request, TrackWords};
+use clap::{Arg, ArgAction, ArgMatches, Command};
+use sq_commands::{EncodeWords, FeedWords, Request, TrackWords};
 use std::alloc::{AllocError, Global};
 
 /// The command line of the program.
@@ -241,6 +241,9 @@ const CHECK: CommandHelp = CommandHelp {
        it waits for standard input; lines with a time are for 'squitter track'",
     after: "Prints the number of each line, and then 'ok' with the address, the kind, the parity and the encoded
 position, or the error:
+  long line       the line has more than 64 bytes
+  bad wrapping    there is '*' without ';', or ';' without '*'
+  short frame     14 digits: a message of 56 bits, which carries no position
   bad length N    the frame has N characters, not 28; lines with a time are for 'squitter track'
   bad digit N     character N is no hexadecimal digit
   not DF17 N      a message of downlink format N; only format 17 carries these positions
@@ -321,8 +324,8 @@ fn track_request<'a>(values: &ArgMatches<'a>) -> Request<'a>
 
 const FEED: CommandHelp = CommandHelp {
     about: "Reads a receiver's bytes from standard input, and prints a log for 'squitter track'",
-    usage: "squitter feed [--format=<auto|beast|avr|csv|log>] < BYTES
-       it waits for standard input; 'nc' reads a receiver's port",
+    usage: "squitter feed [--format=<auto|beast|avr|csv|log>] [--reorder=<MS>] [--all] < BYTES
+       it waits for standard input; 'nc' or 'squitter-feed' reads a receiver's port",
     after: "Prints 'MILLISECONDS FRAME' for each extended squitter (DF17). Its time is that of the receiver's
 clock (Beast, AVR with a clock), its own (CSV, log), or that of its arrival, if the input is a pipe.
 The input is one of these; without --format, its first bytes show which one:
@@ -330,8 +333,9 @@ The input is one of these; without --format, its first bytes show which one:
   avr     frames as '*8D..;', as from its port 30002, bare, or with a clock after '@' or '<'
   csv     rows of time (s), icao24, rawmsg; a first row may name the columns in another order
   log     lines that 'squitter track' reads
-An input without frames, such as SBS text or a compressed file, is named on standard error, and the
-status is 1. Otherwise the frames are counted there at the end; counts of 0 are left out:
+An input without frames, such as SBS text or a compressed file, is named on standard error as soon as
+it is known, and the status is 1. Otherwise the frames are counted there at the end; counts of 0 are
+left out:
   N written                    lines that were printed
   N of other downlink formats  messages but DF17, and how many there are of each format
   N of Mode A/C                replies to Mode A and Mode C
@@ -342,14 +346,18 @@ If the output is closed, as 'head' does, 'write failed' is reported and the stat
 
 Examples:
   nc localhost 30005 | squitter feed | squitter track
-  squitter feed < states.csv > states.log",
+  squitter feed < states.csv > states.log
+  squitter feed --reorder=2000 < merged.txt | squitter track",
 };
 
 fn feed_command<'a>(alloc: Global) -> Result<Command<'a>, AllocError>
     ensures app { IfOk result (λ c. app_of c ≡ feed) }
     ensures own { IfOk result (λ c. (fields_of c).has_globals ≡ false) }
 {
-    command(alloc, "feed", FEED).arg(option(alloc, "format", "FORMAT", SOURCE))
+    command(alloc, "feed", FEED)
+        .arg(option(alloc, "format", "FORMAT", SOURCE))?
+        .arg(option(alloc, "reorder", "MS", REORDER))?
+        .arg(flag(alloc, "all", ALL))
 }
 
 fn feed_request<'a>(values: &ArgMatches<'a>) -> Request<'a>
@@ -357,7 +365,19 @@ fn feed_request<'a>(values: &ArgMatches<'a>) -> Request<'a>
 {
     Request::Feed(FeedWords {
         format: values.get_str("format"),
+        reorder: values.get_str("reorder"),
+        all: is_given(values.get_str("all")),
     })
+}
+
+// Whether a flag with this value of clap is given.
+fn is_given(value: Option<&str>) -> bool
+    ensures { result ≡ is_given_as (option_copied value.entry) }
+{
+    match value {
+        Some("true") => true,
+        _ => false,
+    }
 }
 
 // What help says of arguments and options, some of which commands share.
@@ -394,6 +414,11 @@ Give both or neither";
 const FORMAT: &str = "The output format: lines, csv, or json (an object a line) [default: lines]";
 
 const SOURCE: &str = "The input format: auto, beast, avr, csv, or log [default: auto]";
+
+const REORDER: &str = "Sort the lines by time, where frames come up to MS milliseconds late
+[default: 0, as they come]";
+
+const ALL: &str = "Print frames of all downlink formats, not only extended squitters";
 
 const LIMIT: &str = "The most aircraft at once, from 1 to 4294967295 [default: 1000]";
 
@@ -435,6 +460,17 @@ fn option<'a>(alloc: Global, name: &'a str, value: &'a str, help: &'a str) -> Ar
     Arg::new(alloc, name)
         .long(name)
         .value_name(value)
+        .help(help)
+}
+
+// `--name`.
+fn flag<'a>(alloc: Global, name: &'a str, help: &'a str) -> Arg<'a>
+    ensures rule { rule_of result ≡ flag_rule name.entry.now }
+    ensures here { result.global ≡ false }
+{
+    Arg::new(alloc, name)
+        .long(name)
+        .action(ArgAction::SetTrue)
         .help(help)
 }
 

@@ -1,12 +1,12 @@
 //! What the words of a command line ask for.
 ghost use Rattle.std.specs.Prelude.{◌≡◌, ◌≢◌, IfErr, IfOk, map};
 ghost use Rattle.clap.specs.Words.{kind_of};
-ghost use Rattle.sq_requests.specs.Requests.{asked_by};
+ghost use Rattle.sq_commands.specs.Requests.{asked_by};
 ghost use Rattle.sq_words.specs.Requests.{Asks, IsFaulty};
 
 use crate::command_line::{request_of, squitter_command};
 use clap::error::ErrorKind;
-use sq_requests::Request;
+use sq_commands::Request;
 use std::alloc::{AllocError, Global};
 use thiserror::Error;
 

@@ -9,25 +9,25 @@ use Rattle.std.proofs.lemmas.Slice.Eq.{bytes_eq-Decides}
 use Rattle.std.proofs.lemmas.List.Elements.{All-cons, All-head, All-nil, All-tail}
 use Rattle.sq_devices.specs.Changes.{Sent, WroteLast}
 use Rattle.sq_devices.specs.Clocks.{recorded}
-use Rattle.sq_feed.specs.Ears.{Hears, Told, ear_after, ear_after_all, told_of, told_of_all}
-use Rattle.sq_feed.specs.Feeds.{AreFed, Fed, Feeding, bytes_in, items_in, last_fed, lines_of}
-use Rattle.sq_feed.specs.Lines.{log_line}
+use Rattle.sq_feed.specs.Ears.{Hears, ear_after, ear_after_all, told_of, told_of_all}
+use Rattle.sq_feed.specs.Feeds.{AreFed, Fed, Feeding, bytes_in, items_in, last_fed}
 use Rattle.sq_feed.specs.Readers.{awaited, items_as}
 use Rattle.sq_feed.specs.declared.machine.Format.{Format}
 use Rattle.sq_feed.specs.declared.message.Found.{Found}
+use Rattle.sq_feed.specs.declared.message.Timed.{Timed}
 use Rattle.sq_feed.proofs.Feeding.{feeds_the_whole}
-use Rattle.sq_requests.specs.Requests.{AskedFeed}
-use Rattle.sq_commands.specs.declared.arguments.ArgumentFault.TheVariants as faults
+use Rattle.sq_commands.specs.Requests.{AskedFeed}
+use Rattle.sq_commands.specs.declared.arguments.ArgumentFault.{ArgumentFault}
 use Rattle.sq_commands.specs.declared.status.Status.{Status}
-use Rattle.sq_commands.specs.declared.status.Status.TheVariants.{Misused}
-use Rattle.sq_commands.specs.Faults.{argument_text}
-use Rattle.sq_commands.specs.Feed.{HasFedAll, IsFeedRun, IsFeedRunIn, IsNoSource, IsSourceWord, all_lines, end_by}
-use Rattle.sq_commands.specs.Feed.{status_at_end, text_at_end}
+use Rattle.sq_commands.specs.Faults.{IsMisuse, misused}
+use Rattle.sq_commands.specs.Feed.{HasFedAll, IsFeedFault, IsFeedOptions, IsFeedRun, IsFeedRunIn, IsNoSource, IsReorder}
+use Rattle.sq_commands.specs.Feed.{IsSourceWord, all_lines, all_squitters, arrivals_in, end_by, end_of, lines_whole}
+use Rattle.sq_commands.specs.Feed.{manner_of, squitters_in, start_of, status_at_end, text_at_end}
 use Rattle.sq_commands.specs.declared.feed.FeedEnd.{FeedEnd}
-use Rattle.sq_commands.specs.Feed.{arrivals_in}
-use Rattle.sq_commands.specs.Feed.{end_of, lines_in, manner_of, start_of}
+use Rattle.sq_commands.specs.declared.feed.FeedOptions.{FeedOptions}
+use Rattle.sq_commands.proofs.FaultLemmas.{one_feed_fault}
 use Rattle.sq_commands.specs.Outputs.{Effects}
-use Rattle.sq_commands.proofs.OneRuns.Alike.{IsWhole, one_report, wrote_whole}
+use Rattle.sq_commands.proofs.OneRuns.Alike.{IsWhole, one_delivery, wrote_whole}
 use Rattle.sq_commands.proofs.OneRuns.Lines.{RunAlike, left_alike, took_bytes}
 
 -- ---- items of several calls
@@ -44,19 +44,6 @@ ear_append : (ear : Hears) (xs ys : List Found)
     → ear_after_all 0 ear (xs ++ ys) ≡ ear_after_all 0 (ear_after_all 0 ear xs) ys
 ear_append ear [] ys = refl
 ear_append ear (x ∷ xs) ys = ear_append (ear_after 0 ear x) xs ys
-
-lines_append : (xs ys : List Told) → lines_of (xs ++ ys) ≡ lines_of xs ++ lines_of ys
-lines_append [] ys = refl
-lines_append (x ∷ xs) ys =
-    ap (λ l. log_line x.moment x.frame ++ l) (lines_append xs ys)
-    ∙ sym (append_assoc (log_line x.moment x.frame) (lines_of xs) (lines_of ys))
-
--- the lines of items, and of those after them, are the lines of all
-lines_on : (ear : Hears) (xs ys : List Found) → lines_of (told_of_all 0 ear xs)
-    ++ lines_of (told_of_all 0 (ear_after_all 0 ear xs) ys) ≡ lines_of (told_of_all 0 ear (xs ++ ys))
-lines_on ear xs ys =
-    sym (ap lines_of (told_append ear xs ys)
-    ∙ lines_append (told_of_all 0 ear xs) (told_of_all 0 (ear_after_all 0 ear xs) ys))
 
 abbrev pub IsZero : ℕ → Type 0
 IsZero moment = moment ≡ 0
@@ -81,29 +68,29 @@ zero_heard (one ∷ more) before (fed, others) zero =
     (fed.heard ∙ ap (λ n. ear_after_all n before.ear one.found) is)
     ∙ sym (ear_append before.ear one.found (items_in more))
 
-zero_lines : (calls : List Fed) (before : Feeding) → AreFed before calls → All IsZero (arrivals_in calls)
-    → lines_in before calls ≡ lines_of (told_of_all 0 before.ear (items_in calls))
-unfolding lines_in
-zero_lines [] before fed zero = refl
-zero_lines (one ∷ more) before (fed, others) zero =
+zero_squitters : (calls : List Fed) (before : Feeding) → AreFed before calls → All IsZero (arrivals_in calls)
+    → squitters_in before calls ≡ told_of_all 0 before.ear (items_in calls)
+unfolding squitters_in
+zero_squitters [] before fed zero = refl
+zero_squitters (one ∷ more) before (fed, others) zero =
     let is = All-head IsZero one.arrival (arrivals_in more) zero in
-    let rest = zero_lines more one.after others (All-tail IsZero one.arrival (arrivals_in more) zero) in
+    let rest = zero_squitters more one.after others (All-tail IsZero one.arrival (arrivals_in more) zero) in
     let heard = fed.heard ∙ ap (λ n. ear_after_all n before.ear one.found) is in
-    ap₂ (λ (n : ℕ) (l : List ℕ). lines_of (told_of_all n before.ear one.found) ++ l) is
-    (rest ∙ ap (λ (k : Hears). lines_of (told_of_all 0 k (items_in more))) heard)
-    ∙ lines_on before.ear one.found (items_in more)
+    ap₂ (λ (n : ℕ) (l : List Timed). told_of_all n before.ear one.found ++ l) is
+    (rest ∙ ap (λ (k : Hears). told_of_all 0 k (items_in more)) heard)
+    ∙ sym (told_append before.ear one.found (items_in more))
 
-module _ (format : Option Format) (calls : List Fed) (arrival : ℕ) (bytes : List ℕ)
-    (fed : AreFed (start_of format recorded) calls) (whole : bytes_in calls ≡ bytes)
+module _ (options : FeedOptions) (calls : List Fed) (arrival : ℕ) (bytes : List ℕ)
+    (fed : AreFed (start_of options recorded) calls) (whole : bytes_in calls ≡ bytes)
     (zero : All IsZero (arrivals_in calls ++ arrival ∷ [])) where
   abbrev pub start : Feeding
-  start = start_of format recorded
+  start = start_of options recorded
 
   abbrev pub last : Feeding
   last = last_fed start calls
 
-  items : items_in calls ++ awaited last.reader [] ≡ items_as format bytes
-  items = feeds_the_whole format (manner_of false) calls fed ∙ ap (items_as format) whole
+  items : items_in calls ++ awaited last.reader [] ≡ items_as options.format bytes
+  items = feeds_the_whole options.format (manner_of options false) calls fed ∙ ap (items_as options.format) whole
 
   front : All IsZero (arrivals_in calls)
   front = zero_front (arrivals_in calls) arrival zero
@@ -114,16 +101,21 @@ module _ (format : Option Format) (calls : List Fed) (arrival : ℕ) (bytes : Li
   heard : last.ear ≡ ear_after_all 0 start.ear (items_in calls)
   heard = zero_heard calls start fed front
 
-  -- the lines are those of the items of the whole input
-  pub whole_lines : all_lines start calls arrival ≡ lines_of (told_of_all 0 start.ear (items_as format bytes))
-  whole_lines =
-      ap₂ (λ (l m : List ℕ). l ++ m) (zero_lines calls start fed front)
-      (ap₂ (λ (n : ℕ) (k : Hears). lines_of (told_of_all n k (awaited last.reader []))) end heard)
-      ∙ lines_on start.ear (items_in calls) (awaited last.reader [])
-      ∙ ap (λ l. lines_of (told_of_all 0 start.ear l)) items
+  -- the squitters are those of the items of the whole input
+  whole_squitters : all_squitters start calls arrival ≡ told_of_all 0 start.ear (items_as options.format bytes)
+  whole_squitters =
+      ap₂ (λ (l m : List Timed). l ++ m) (zero_squitters calls start fed front)
+      (ap₂ (λ (n : ℕ) (k : Hears). told_of_all n k (awaited last.reader [])) end heard)
+      ∙ sym (told_append start.ear (items_in calls) (awaited last.reader []))
+      ∙ ap (told_of_all 0 start.ear) items
+
+  -- so are the lines
+  pub whole_lines : all_lines options start calls arrival
+      ≡ lines_whole options.reorder (told_of_all 0 start.ear (items_as options.format bytes))
+  whole_lines = ap (lines_whole options.reorder) whole_squitters
 
   -- the end is that of the items of the whole input
-  pub whole_end : end_of arrival last ≡ end_by (ear_after_all 0 start.ear (items_as format bytes))
+  pub whole_end : end_of arrival last ≡ end_by (ear_after_all 0 start.ear (items_as options.format bytes))
   whole_end =
       ap₂ (λ (n : ℕ) (k : Hears). end_by (ear_after_all n k (awaited last.reader []))) end heard
       ∙ ap end_by (sym (ear_append start.ear (items_in calls) (awaited last.reader [])))
@@ -176,6 +168,24 @@ no_source word no_auto no_beast no_avr no_csv no_log format (inr (inr (inl (is, 
 no_source word no_auto no_beast no_avr no_csv no_log format (inr (inr (inr (inl (is, _))))) = no_csv (ap Some is)
 no_source word no_auto no_beast no_avr no_csv no_log format (inr (inr (inr (inr (is, _))))) = no_log (ap Some is)
 
+-- ---- options
+
+one_reorder : (word : Option (List ℕ)) (a b : ℕ) → IsReorder word a → IsReorder word b → a ≡ b
+one_reorder None a b x y = x ∙ sym y
+one_reorder (Some word) a b x y = x.value ∙ sym y.value
+
+one_options : (words : AskedFeed) (a b : FeedOptions) → IsFeedOptions words a → IsFeedOptions words b → a ≡ b
+one_options words a b x y =
+    let format = one_source words.format a.format b.format x.format_is y.format_is in
+    let reorder = one_reorder words.reorder a.reorder b.reorder x.reorder_is y.reorder_is in
+    let all = x.all_is ∙ sym y.all_is in
+    λ i. record { format = format i; reorder = reorder i; all_formats = all i }
+
+no_options : (words : AskedFeed) (options : FeedOptions) (fault : ArgumentFault) → IsFeedOptions words options
+    → IsFeedFault words fault → ⊥
+no_options words options fault is (inl (own, none)) = none (options.format, is.format_is)
+no_options words options fault is (inr (good, (own, none))) = none options.reorder is.reorder_is
+
 -- ---- runs
 
 -- the line that is reported at the end
@@ -184,26 +194,30 @@ end_line end = text_at_end end.counts end.stranger ++ codes "\n"
 
 module _ (a b : Status) (d e : Effects) (m : IsWhole a d.outputs) (n : IsWhole b e.outputs) (bytes : List ℕ)
     (d_is : d.input.before ≡ Some bytes) (e_is : e.input.before ≡ Some bytes) where
-  -- two runs of `feed` in one format are alike
-  one_feed_run_in : (format : Option Format) → IsFeedRunIn format recorded a d → IsFeedRunIn format recorded b e
+  -- two runs of `feed` with the same options are alike
+  one_feed_run_in : (options : FeedOptions) → IsFeedRunIn options recorded a d → IsFeedRunIn options recorded b e
       → RunAlike a b d e
-  one_feed_run_in format (Err fault, fed, ended) y = absurd (m.unbroken ended.0)
-  one_feed_run_in format (Ok tally, fed, ended) (Err fault, fed', ended') = absurd (n.unbroken ended'.0)
-  one_feed_run_in format (Ok tally, (once, took), ended) (Ok tally', (once', took'), ended') =
-      let x = took_bytes d.input bytes (HasFedAll format recorded tally d.outputs.output) d_is took in
-      let y = took_bytes e.input bytes (HasFedAll format recorded tally' e.outputs.output) e_is took' in
+  one_feed_run_in options (Err fault, fed, ended) y = absurd (m.unbroken ended.0)
+  one_feed_run_in options (Ok tally, fed, ended) (Err fault, fed', ended') = absurd (n.unbroken ended'.0)
+  one_feed_run_in options (Ok tally, (once, inr (live, known, early)), ended) y = absurd (false≢true live)
+  one_feed_run_in options (Ok tally, (once, inl took), ended) (Ok tally', (once', inr (live, known, early)), ended') =
+      absurd (false≢true live)
+  one_feed_run_in options (Ok tally, (once, inl took), ended) (Ok tally', (once', inl took'), ended') =
+      let x = took_bytes d.input bytes (HasFedAll options recorded tally d.outputs.output) d_is took in
+      let y = took_bytes e.input bytes (HasFedAll options recorded tally' e.outputs.output) e_is took' in
       alike x.0 y.0 x.1 y.1
     where
       alike : d.input.after ≡ Some [] → e.input.after ≡ Some []
-          → HasFedAll format recorded tally d.outputs.output bytes
-          → HasFedAll format recorded tally' e.outputs.output bytes → RunAlike a b d e
+          → HasFedAll options recorded tally d.outputs.output bytes
+          → HasFedAll options recorded tally' e.outputs.output bytes → RunAlike a b d e
       alike d_end e_end (calls, arrival, fed, whole, zero, (sent, counted))
           (calls', arrival', fed', whole', zero', (sent', counted')) =
-          let text = lines_of (told_of_all 0 (start_of format recorded).ear (items_as format bytes)) in
-          let same = whole_lines format calls arrival bytes fed whole zero in
-          let same' = whole_lines format calls' arrival' bytes fed' whole' zero' in
-          let tally_is = counted ∙ whole_end format calls arrival bytes fed whole zero in
-          let tally_is' = counted' ∙ whole_end format calls' arrival' bytes fed' whole' zero' in
+          let heard = told_of_all 0 (start_of options recorded).ear (items_as options.format bytes) in
+          let text = lines_whole options.reorder heard in
+          let same = whole_lines options calls arrival bytes fed whole zero in
+          let same' = whole_lines options calls' arrival' bytes fed' whole' zero' in
+          let tally_is = counted ∙ whole_end options calls arrival bytes fed whole zero in
+          let tally_is' = counted' ∙ whole_end options calls' arrival' bytes fed' whole' zero' in
           let line = end_line tally in
           let one : tally' ≡ tally = tally_is' ∙ sym tally_is in
           let line_is : end_line tally' ≡ line = ap end_line one in (
@@ -229,10 +243,12 @@ module _ (a b : Status) (d e : Effects) (m : IsWhole a d.outputs) (n : IsWhole b
       → RunAlike a b d e
   one_feed_run words (inl (f, f_is, x)) (inl (g, g_is, y)) =
       one_feed_run_in f x
-      (subst (λ h. IsFeedRunIn h recorded b e) (sym (one_source words.format f g f_is g_is)) y)
-  one_feed_run words (inl (f, f_is, x)) (inr (none, took, y)) = absurd (none f f_is)
-  one_feed_run words (inr (none, took, x)) (inl (g, g_is, y)) = absurd (none g g_is)
-  one_feed_run words (inr (_, took, x)) (inr (_, took', y)) = (
-    one_report a b d.outputs e.outputs m n Misused (argument_text faults.Format) x y,
-    left_alike d.input e.input bytes d_is e_is took took',
-  )
+      (subst (λ h. IsFeedRunIn h recorded b e) (sym (one_options words f g f_is g_is)) y)
+  one_feed_run words (inl (f, f_is, x)) (inr (took, (fault, bad, y))) = absurd (no_options words f fault f_is bad)
+  one_feed_run words (inr (took, (fault, bad, x))) (inl (g, g_is, y)) = absurd (no_options words g fault g_is bad)
+  one_feed_run words (inr (took, (fault, bad, x))) (inr (took', (fault', bad', y))) =
+      let same = one_feed_fault words fault fault' bad bad' in (
+        one_delivery a b d.outputs e.outputs m n (misused fault) x
+            (subst (λ f. IsMisuse f b e.outputs) (sym same) y),
+        left_alike d.input e.input bytes d_is e_is took took',
+      )

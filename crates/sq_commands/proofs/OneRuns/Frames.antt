@@ -1,29 +1,28 @@
--- Of frames two runs of `show`, `local` and `pair` write the same.
+-- `show`, `local` and `pair` have one reply.
 use Rattle.std.proofs.Common.{◌≡◌, ◌∙◌, ℕ, List, Option, Result, Ok, Err, ap, ap₂, sym, subst, inl, inr}
-use Rattle.sq_angle.specs.declared.position.Position.{Position}
 use Rattle.sq_angle.proofs.OnePosition.{one_position}
 use Rattle.sq_angle.proofs.OneReading.{one_angle}
 use Rattle.sq_message.specs.declared.place.Place.{Place}
 use Rattle.sq_message.specs.declared.place.PlaceFault.{PlaceFault}
 use Rattle.sq_message.specs.declared.squitter.Squitter.{Squitter}
-use Rattle.sq_message.specs.Faults.{place_fault_text}
+use Rattle.sq_message.specs.Parts.{squitter_parts}
+use Rattle.sq_message.specs.Places.{IsLocalPlace, IsPairPlace}
 use Rattle.sq_message.proofs.OnePlace.{one_local_place, one_pair_place}
 use Rattle.sq_text.specs.declared.faults.LineFault.{LineFault}
-use Rattle.sq_text.specs.Faults.{fault_text}
 use Rattle.sq_text.specs.Place.{IsPlaceText}
 use Rattle.sq_text.specs.Reading.{IsSquitterReading}
 use Rattle.sq_text.specs.Show.{IsShown}
 use Rattle.sq_text.proofs.OneReading.{one_squitter_reading, one_text}
 use Rattle.sq_text.proofs.PlaceTexts.{one_place_text}
-use Rattle.sq_commands.specs.declared.status.Status.{Status}
-use Rattle.sq_commands.specs.declared.status.Status.TheVariants.{Refused}
 use Rattle.sq_commands.specs.Arguments.{IsPositionReading, IsSiteReading}
-use Rattle.sq_commands.specs.Frames.{AreReadingsOf, IsFrameRun, IsFramesRun}
-use Rattle.sq_commands.specs.Local.{IsLocalRun, IsNearRun, IsPlaceRun, IsTextOf}
-use Rattle.sq_commands.specs.Outputs.{IsAnswer, IsReport, Outputs}
-use Rattle.sq_commands.specs.Pair.{IsPairRun, IsPairedRun}
-use Rattle.sq_commands.specs.Show.{IsShowRun}
-use Rattle.sq_commands.proofs.OneRuns.Alike.{HaveOne, IsWhole, of_one_result, one_arguments_run, one_report, one_told}
+use Rattle.sq_commands.specs.Faults.{misused}
+use Rattle.sq_commands.specs.Frames.{AreReadingsOf, frame_refused}
+use Rattle.sq_commands.specs.Local.{IsDecodingReply, IsFrameNearReply, IsLocalReply, IsNearReply}
+use Rattle.sq_commands.specs.Local.{IsTextOf, place_refused}
+use Rattle.sq_commands.specs.Pair.{IsFramesReply, IsPairReply, IsPairedReply}
+use Rattle.sq_commands.specs.Replies.{IsAnswer}
+use Rattle.sq_commands.specs.Show.{IsShowReply}
+use Rattle.sq_commands.proofs.SoundReplies.{IsSound, sound_answer, sound_reply}
 use Rattle.sq_commands.proofs.OneRuns.Words.{one_position_reading, one_site_reading}
 
 -- ---- readings
@@ -77,71 +76,33 @@ one_text_of place s t (x, x_is, h) (y, y_is, k) =
     (one_angle x.lon y.lon (x_is.lon ∙ sym y_is.lon)) in
     one_place_text x s t h (subst (λ z. IsPlaceText z t) (sym same) k)
 
--- ---- runs
+-- ---- replies
 
-module _ (a b : Status) (o p : Outputs) (m : IsWhole a o) (n : IsWhole b p) where
-  -- two runs of one frame text are alike, where they are of its squitter
-  frame_run : (frame : List ℕ) (P Q : Squitter → Type 0) → ((x : Squitter) → P x → Q x → HaveOne a b o p)
-      → IsFrameRun frame P a o → IsFrameRun frame Q b p → HaveOne a b o p
-  frame_run frame P Q next (r, r_is, x) (s, s_is, y) =
-      of_one_result r s P Q (λ fault. IsReport Refused (fault_text fault) a o)
-      (λ fault. IsReport Refused (fault_text fault) b p) (one_squitter_reading frame r s r_is s_is) next
-      (λ fault. one_report a b o p m n Refused (fault_text fault)) x y
+pub sound_show : (frame : List ℕ) → IsSound (IsShowReply frame)
+sound_show frame =
+    sound_reply (IsSquitterReading frame) (λ squitter. IsAnswer (IsShown squitter)) frame_refused
+    (one_squitter_reading frame) (λ fault is. cc is) (λ squitter. sound_answer (IsShown squitter) (one_text squitter))
 
-  -- two runs of two frame texts are alike, where they are of their squitters
-  frames_run : (older newer : List ℕ) (P Q : Squitter → Squitter → Type 0)
-      → ((x y : Squitter) → P x y → Q x y → HaveOne a b o p)
-      → IsFramesRun older newer P a o → IsFramesRun older newer Q b p → HaveOne a b o p
-  frames_run older newer P Q next (r, r_is, x) (s, s_is, y) =
-      of_one_result r s (λ both. P both.0 both.1) (λ both. Q both.0 both.1)
-      (λ fault. IsReport Refused (fault_text fault) a o) (λ fault. IsReport Refused (fault_text fault) b p)
-      (one_of_two older newer r s r_is s_is) (λ both. next both.0 both.1)
-      (λ fault. one_report a b o p m n Refused (fault_text fault)) x y
+sound_decoding : (Decodes : Result Place PlaceFault → Type 0)
+    → ((r s : Result Place PlaceFault) → Decodes r → Decodes s → r ≡ s) → IsSound (IsDecodingReply Decodes)
+sound_decoding Decodes one =
+    sound_reply Decodes (λ place. IsAnswer (IsTextOf place)) place_refused one (λ fault is. cc is)
+    (λ place. sound_answer (IsTextOf place) (one_text_of place))
 
-  -- two runs that write one place, or report one fault of it, are alike
-  place_run : (r s : Result Place PlaceFault) → r ≡ s → IsPlaceRun r a o → IsPlaceRun s b p → HaveOne a b o p
-  place_run r s one x y =
-      of_one_result r s (λ place. (text : List ℕ) × IsTextOf place text × IsAnswer text a o)
-      (λ place. (text : List ℕ) × IsTextOf place text × IsAnswer text b p)
-      (λ fault. IsReport Refused (place_fault_text fault) a o) (λ fault. IsReport Refused (place_fault_text fault) b p)
-      one (λ place. one_told a b o p m n (IsTextOf place) (one_text_of place))
-      (λ fault. one_report a b o p m n Refused (place_fault_text fault)) x y
+pub sound_local : (frame lat lon : List ℕ) → IsSound (IsLocalReply frame lat lon)
+sound_local frame lat lon =
+    sound_reply (IsPositionReading lat lon) (IsFrameNearReply frame) misused (one_position_reading lat lon)
+    (λ fault is. cc is)
+    (λ reference. sound_reply (IsSquitterReading frame) (IsNearReply reference) frame_refused
+    (one_squitter_reading frame) (λ fault is. cc is)
+    (λ squitter. sound_decoding (IsLocalPlace (squitter_parts squitter).me reference)
+    (one_local_place squitter reference)))
 
-  -- two runs of `show` are alike
-  pub one_show_run : (frame : List ℕ) → IsShowRun frame a o → IsShowRun frame b p → HaveOne a b o p
-  one_show_run frame =
-      frame_run frame (λ squitter. (text : List ℕ) × IsShown squitter text × IsAnswer text a o)
-      (λ squitter. (text : List ℕ) × IsShown squitter text × IsAnswer text b p)
-      (λ squitter. one_told a b o p m n (IsShown squitter) (one_text squitter))
-
-  -- two runs of one squitter near one reference are alike
-  near_run : (reference : Position) (squitter : Squitter) → IsNearRun reference squitter a o
-      → IsNearRun reference squitter b p → HaveOne a b o p
-  near_run reference squitter (r, r_is, x) (s, s_is, y) =
-      place_run r s (one_local_place squitter reference r s r_is s_is) x y
-
-  -- two runs of `local` are alike
-  pub one_local_run : (frame lat lon : List ℕ) → IsLocalRun frame lat lon a o → IsLocalRun frame lat lon b p
-      → HaveOne a b o p
-  one_local_run frame lat lon =
-      one_arguments_run a b o p m n (IsPositionReading lat lon)
-      (λ reference. IsFrameRun frame (λ squitter. IsNearRun reference squitter a o) a o)
-      (λ reference. IsFrameRun frame (λ squitter. IsNearRun reference squitter b p) b p) (one_position_reading lat lon)
-      (λ reference. frame_run frame (λ squitter. IsNearRun reference squitter a o)
-      (λ squitter. IsNearRun reference squitter b p) (near_run reference))
-
-  -- two runs of one pair of squitters are alike
-  paired_run : (site : Option Position) (older newer : Squitter) → IsPairedRun site older newer a o
-      → IsPairedRun site older newer b p → HaveOne a b o p
-  paired_run site older newer (r, r_is, x) (s, s_is, y) =
-      place_run r s (one_pair_place older newer site r s r_is s_is) x y
-
-  -- two runs of `pair` are alike
-  pub one_pair_run : (older newer : List ℕ) (lat lon : Option (List ℕ)) → IsPairRun older newer lat lon a o
-      → IsPairRun older newer lat lon b p → HaveOne a b o p
-  one_pair_run older newer lat lon =
-      one_arguments_run a b o p m n (IsSiteReading lat lon)
-      (λ site. IsFramesRun older newer (λ x y. IsPairedRun site x y a o) a o)
-      (λ site. IsFramesRun older newer (λ x y. IsPairedRun site x y b p) b p) (one_site_reading lat lon)
-      (λ site. frames_run older newer (λ x y. IsPairedRun site x y a o) (λ x y. IsPairedRun site x y b p)
-      (paired_run site))
+pub sound_pair : (older newer : List ℕ) (lat lon : Option (List ℕ)) → IsSound (IsPairReply older newer lat lon)
+sound_pair older newer lat lon =
+    sound_reply (IsSiteReading lat lon) (IsFramesReply older newer) misused (one_site_reading lat lon)
+    (λ fault is. cc is)
+    (λ site. sound_reply (AreReadingsOf older newer) (IsPairedReply site) frame_refused (one_of_two older newer)
+    (λ fault is. cc is)
+    (λ both. sound_decoding (IsPairPlace (squitter_parts both.0) (squitter_parts both.1) site)
+    (one_pair_place both.0 both.1 site)))

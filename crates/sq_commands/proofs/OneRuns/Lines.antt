@@ -8,14 +8,13 @@ use Rattle.sq_lines.specs.Lines.{lines_of}
 use Rattle.sq_commands.specs.declared.arguments.ArgumentFault.TheVariants as faults
 use Rattle.sq_commands.specs.declared.formats.Format.{Format}
 use Rattle.sq_commands.specs.declared.status.Status.{Status}
-use Rattle.sq_commands.specs.declared.status.Status.TheVariants.{Misused}
 use Rattle.sq_commands.specs.Check.{Checks, HasChecked, IsCheckRun, IsCheckRunIn, check_output, status_of}
-use Rattle.sq_commands.specs.Faults.{argument_text}
+use Rattle.sq_commands.specs.Faults.{misused}
 use Rattle.sq_commands.specs.Outputs.{Effects}
 use Rattle.sq_commands.specs.Squitters.{squitter_telling}
 use Rattle.sq_commands.proofs.FormatLemmas.{one_format}
 use Rattle.sq_commands.proofs.SomeWriters.{some_writers}
-use Rattle.sq_commands.proofs.OneRuns.Alike.{HaveOne, IsWhole, one_report}
+use Rattle.sq_commands.proofs.OneRuns.Alike.{HaveOne, IsWhole, one_delivery}
 
 -- two runs have one status, wrote the same, and left the same of their inputs
 abbrev pub RunAlike : (a b : Status) → (d e : Effects) → Type 0
@@ -70,6 +69,6 @@ module _ (a b : Status) (d e : Effects) (m : IsWhole a d.outputs) (n : IsWhole b
   one_check_run word (inl (f, f_is, x)) (inr (none, took, y)) = absurd (none f f_is)
   one_check_run word (inr (none, took, x)) (inl (g, g_is, y)) = absurd (none g g_is)
   one_check_run word (inr (_, took, x)) (inr (_, took', y)) = (
-    one_report a b d.outputs e.outputs m n Misused (argument_text faults.Format) x y,
+    one_delivery a b d.outputs e.outputs m n (misused faults.Format) x y,
     left_alike d.input e.input bytes d_is e_is took took',
   )

@@ -7,7 +7,7 @@ use Rattle.sq_lines.specs.Answers.{tally_of}
 use Rattle.sq_lines.specs.Content.{Answer, answer_by}
 use Rattle.sq_lines.specs.Lines.{lines_of}
 use Rattle.sq_lines.specs.declared.tallies.Tally.{Tally}
-use Rattle.sq_requests.specs.Requests.{AskedTrack}
+use Rattle.sq_commands.specs.Requests.{AskedTrack}
 use Rattle.sq_track.specs.declared.heard.Heard.{Heard}
 use Rattle.sq_track.specs.declared.heard.TrackFault.{TrackFault}
 use Rattle.sq_track.specs.Held.{Held, StandsFor, made_with, settings}
@@ -18,19 +18,18 @@ use Rattle.sq_devices.specs.Changes.{FinishedOnce, Sent, WroteLast, Written}
 use Rattle.sq_commands.specs.declared.arguments.ArgumentFault.{ArgumentFault}
 use Rattle.sq_commands.specs.declared.arguments.TrackOptions.{TrackOptions}
 use Rattle.sq_commands.specs.declared.status.Status.{Status}
-use Rattle.sq_commands.specs.declared.status.Status.TheVariants.{Misused}
 use Rattle.sq_commands.specs.Check.{status_of}
-use Rattle.sq_commands.specs.Faults.{argument_text}
+use Rattle.sq_commands.specs.Faults.{IsMisuse, misused}
 use Rattle.sq_commands.specs.Formats.{Telling, told_by}
 use Rattle.sq_commands.specs.Heard.{HeardSquitter, heard_telling}
-use Rattle.sq_commands.specs.Outputs.{Effects, IsReport}
+use Rattle.sq_commands.specs.Outputs.{Effects}
 use Rattle.sq_commands.specs.Track.{HasTracked, IsLimit, IsLogRun, IsTrackFault, IsTrackOptions, IsTrackRun, IsWindow}
 use Rattle.sq_commands.specs.Tracking.{AreHeardLines, IsHeardLine, found_of}
 use Rattle.sq_commands.proofs.FaultLemmas.{one_track_fault}
 use Rattle.sq_commands.proofs.FormatLemmas.{one_format}
 use Rattle.sq_commands.specs.TrueAnswers.{some_reader}
 use Rattle.sq_commands.proofs.SomeWriters.{some_writers}
-use Rattle.sq_commands.proofs.OneRuns.Alike.{IsWhole, one_report}
+use Rattle.sq_commands.proofs.OneRuns.Alike.{IsWhole, one_delivery}
 use Rattle.sq_commands.proofs.OneRuns.Lines.{RunAlike, left_alike, took_bytes}
 use Rattle.sq_commands.proofs.OneRuns.Words.{good_site, one_site_words}
 
@@ -138,7 +137,7 @@ module _ (a b : Status) (d e : Effects) (m : IsWhole a d.outputs) (n : IsWhole b
   one_track_run words (inr (_, (fault, bad, _))) (inl (y, y_is, run')) = absurd (good_track words y fault y_is bad)
   one_track_run words (inr (took, (f, f_is, x))) (inr (took', (g, g_is, y))) =
       let one : f ≡ g = one_track_fault words f g f_is g_is in (
-        one_report a b d.outputs e.outputs m n Misused (argument_text f) x
-            (subst (λ (h : ArgumentFault). IsReport Misused (argument_text h) b e.outputs) (sym one) y),
+        one_delivery a b d.outputs e.outputs m n (misused f) x
+            (subst (λ (h : ArgumentFault). IsMisuse h b e.outputs) (sym one) y),
         left_alike d.input e.input bytes d_is e_is took took',
       )

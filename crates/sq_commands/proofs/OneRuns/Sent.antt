@@ -1,5 +1,5 @@
--- Of the same arguments two runs of `encode` write one frame.
-use Rattle.std.proofs.Common.{◌≡◌, ◌∙◌, ◌⊎◌, ℕ, List, Option, None, Some, Result, Ok, Err, ap, refl, sym, subst, inl}
+-- `encode` has one reply.
+use Rattle.std.proofs.Common.{◌≡◌, ◌∙◌, ℕ, List, Option, None, Some, Result, Ok, Err, ap, refl, sym, subst, inl}
 use Rattle.std.proofs.Common.{inr}
 use Rattle.std.specs.Int.Digits.{number_from_digits}
 use Rattle.hex.specs.declared.error.FromHexError.{FromHexError}
@@ -8,26 +8,26 @@ use Rattle.sq_bits.specs.declared.frame.Frame.{Frame}
 use Rattle.sq_zones.specs.declared.parity.Parity.{Parity}
 use Rattle.sq_zones.specs.declared.parity.Parity.TheVariants.{Even, Odd}
 use Rattle.sq_message.specs.Altitudes.{IsFieldOfFeet}
-use Rattle.sq_message.specs.Heads.{AirHeadParts, GroundHeadParts}
-use Rattle.sq_message.specs.Kinds.{InAir, OnGround}
+use Rattle.sq_message.specs.Kinds.{InAir, OnGround, HeadParts}
 use Rattle.sq_message.specs.Parts.{AirParts, GroundParts}
 use Rattle.sq_message.specs.Sending.{IsSent}
 use Rattle.sq_message.proofs.FeetLemmas.{one_field}
-use Rattle.sq_message.proofs.OneSent.{one_sent}
+use Rattle.sq_message.proofs.SameZones.{one_sent}
 use Rattle.sq_message.proofs.Same.{same_air_fields, same_ground_fields}
 use Rattle.sq_text.specs.Show.{parity_name}
-use Rattle.sq_requests.specs.Requests.{AskedEncode}
+use Rattle.sq_commands.specs.Requests.{AskedEncode}
 use Rattle.sq_commands.specs.declared.arguments.ArgumentFault.{ArgumentFault}
 use Rattle.sq_commands.specs.declared.arguments.Kind.{Kind}
 use Rattle.sq_commands.specs.declared.arguments.Kind.TheVariants.{Air, Ground}
-use Rattle.sq_commands.specs.declared.status.Status.{Status}
 use Rattle.sq_commands.specs.Arguments.{IsAddress, kind_name}
 use Rattle.sq_commands.specs.Encode.{EncodeValues, IsAirFrame, IsAirHead, IsAltitudeOf, IsEncodeFault, IsEncodeReading}
-use Rattle.sq_commands.specs.Encode.{IsEncodeRun, IsEncodeValues, IsFrameOf, IsGroundFrame, IsGroundHead, frame_line}
-use Rattle.sq_commands.specs.Outputs.{IsAnswer, IsOutOfMemory, Outputs}
+use Rattle.sq_commands.specs.Encode.{IsEncodeReply, IsEncodeValues, IsFrameOf, IsGroundFrame, IsGroundHead}
+use Rattle.sq_commands.specs.Encode.{IsLineOf}
+use Rattle.sq_commands.specs.Faults.{misused}
+use Rattle.sq_commands.specs.Replies.{IsAnswer}
 use Rattle.sq_commands.proofs.ArgumentLemmas.{one_feet}
+use Rattle.sq_commands.proofs.SoundReplies.{IsSound, sound_answer, sound_reply}
 use Rattle.sq_commands.proofs.FaultLemmas.{one_encode_fault}
-use Rattle.sq_commands.proofs.OneRuns.Alike.{HaveOne, IsWhole, one_answer, one_arguments_run}
 use Rattle.sq_commands.proofs.OneRuns.Words.{good_position, one_position_words}
 
 -- ---- values
@@ -92,7 +92,7 @@ good_encode words v fault h (inr (_, inr (_, inr (_, inr (_, bad))))) =
 -- ---- frames
 
 -- of an address and an altitude field there is one head in the air
-one_air_head : (address altitude : ℕ) (x y : AirHeadParts) → IsAirHead address altitude x
+one_air_head : (address altitude : ℕ) (x y : HeadParts InAir) → IsAirHead address altitude x
     → IsAirHead address altitude y → x ≡ y
 one_air_head address altitude x y h k =
     let parts = h.fields ∙ sym k.fields in
@@ -104,7 +104,7 @@ one_air_head address altitude x y h k =
     λ i. record { ca = ca i; address = of i; fields = fields i }
 
 -- of an address there is one head on the ground
-one_ground_head : (address : ℕ) (x y : GroundHeadParts) → IsGroundHead address x → IsGroundHead address y → x ≡ y
+one_ground_head : (address : ℕ) (x y : HeadParts OnGround) → IsGroundHead address x → IsGroundHead address y → x ≡ y
 one_ground_head address x y h k =
     let parts = h.fields ∙ sym k.fields in
     let ca = h.ca ∙ sym k.ca in
@@ -119,7 +119,7 @@ one_air_frame : (address altitude : ℕ) (parity : Parity) (position : Position)
     → IsAirFrame address altitude parity position f → IsAirFrame address altitude parity position g → f ≡ g
 one_air_frame address altitude parity position f g (x, x_is, (p, h)) (y, y_is, (q, k)) =
     one_sent InAir x parity position p q f g h
-    (subst (λ (z : AirHeadParts). IsSent InAir z parity position q g)
+    (subst (λ (z : HeadParts InAir). IsSent InAir z parity position q g)
     (sym (one_air_head address altitude x y x_is y_is)) k)
 
 -- on the ground one frame is sent
@@ -127,7 +127,7 @@ one_ground_frame : (address : ℕ) (parity : Parity) (position : Position) (f g 
     → IsGroundFrame address parity position f → IsGroundFrame address parity position g → f ≡ g
 one_ground_frame address parity position f g (x, x_is, (p, h)) (y, y_is, (q, k)) =
     one_sent OnGround x parity position p q f g h
-    (subst (λ (z : GroundHeadParts). IsSent OnGround z parity position q g)
+    (subst (λ (z : HeadParts OnGround). IsSent OnGround z parity position q g)
     (sym (one_ground_head address x y x_is y_is)) k)
 
 -- of values one frame is sent
@@ -135,7 +135,7 @@ one_frame_of : (kind : Kind) (v : EncodeValues) (f g : Frame) → IsFrameOf kind
 one_frame_of Air v f g h k = one_air_frame v.address v.altitude v.parity v.position f g h k
 one_frame_of Ground v f g h k = one_ground_frame v.address v.parity v.position f g h k
 
--- ---- runs
+-- ---- replies
 
 -- the arguments of `encode` ask for one frame, or have one fault
 one_encode_reading : (words : AskedEncode) (r s : Result Frame ArgumentFault) → IsEncodeReading words r
@@ -147,16 +147,7 @@ one_encode_reading words (Ok f) (Err fault) (v, v_is, h) bad = absurd (good_enco
 one_encode_reading words (Err fault) (Ok g) bad (w, w_is, k) = absurd (good_encode words w fault w_is bad)
 one_encode_reading words (Err f) (Err g) h k = ap Err (one_encode_fault words f g h k)
 
-module _ (a b : Status) (o p : Outputs) (m : IsWhole a o) (n : IsWhole b p) where
-  -- two runs that answer one line, and are not out of memory, are alike
-  one_line : (line : List ℕ) → IsAnswer line a o ⊎ IsOutOfMemory a o → IsAnswer line b p ⊎ IsOutOfMemory b p
-      → HaveOne a b o p
-  one_line line (inl x) (inl y) = one_answer a b o p m n line x y
-  one_line line (inl x) (inr none) = absurd (n.unbroken none.0)
-  one_line line (inr none) y = absurd (m.unbroken none.0)
-
-  -- two runs of `encode` are alike
-  pub one_encode_run : (words : AskedEncode) → IsEncodeRun words a o → IsEncodeRun words b p → HaveOne a b o p
-  one_encode_run words =
-      one_arguments_run a b o p m n (IsEncodeReading words) (λ f. IsAnswer (frame_line f) a o ⊎ IsOutOfMemory a o)
-      (λ f. IsAnswer (frame_line f) b p ⊎ IsOutOfMemory b p) (one_encode_reading words) (λ f. one_line (frame_line f))
+pub sound_encode : (words : AskedEncode) → IsSound (IsEncodeReply words)
+sound_encode words =
+    sound_reply (IsEncodeReading words) (λ frame. IsAnswer (IsLineOf frame)) misused (one_encode_reading words)
+    (λ fault is. cc is) (λ frame. sound_answer (IsLineOf frame) (λ s t h k. h ∙ sym k))

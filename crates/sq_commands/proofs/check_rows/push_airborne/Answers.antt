@@ -1,4 +1,4 @@
-use Rattle.std.proofs.Common.{append_assoc, refl}
+use Rattle.std.proofs.Common.{append-nil, append_assoc, refl}
 use Rattle.sq_commands.proofs.check_rows.push_airborne.Goals as goal
 
 pub returns-clause-bytes : goal.returns-clause-bytes
@@ -14,4 +14,4 @@ returns-clause-bytes g c altitudes =
       c.from.ensures,
       c.type_code.ensures.value,
       c.time.ensures,
-    ) (simp append_assoc refl)
+    ) (simp (append_assoc, append-nil) refl)

@@ -1,4 +1,4 @@
-use Rattle.std.proofs.Common.{append_assoc, refl}
+use Rattle.std.proofs.Common.{append-nil, append_assoc, refl}
 use Rattle.sq_commands.proofs.check_rows.push_ground_fields.Goals as goal
 
 pub returns-clause-bytes : goal.returns-clause-bytes
@@ -12,4 +12,4 @@ returns-clause-bytes c =
       c.movement.ensures.value,
       c.track_status.ensures,
       c.track.ensures.value,
-    ) (simp append_assoc refl)
+    ) (simp (append_assoc, append-nil) refl)

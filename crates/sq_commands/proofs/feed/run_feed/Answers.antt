@@ -1,36 +1,56 @@
-use Rattle.std.proofs.Common.{◌∙◌, ◌<◌, ap, arith, rules}
+use Rattle.std.proofs.Common.{◌≢◌, ◌∙◌, ◌<◌, None, ap, arith, is_some, rules, sym, true≢false}
 use Rattle.sq_feed.specs.Feeds.{nothing_fed}
 use Rattle.sq_commands.specs.Feed.{manner_of}
-use Rattle.sq_commands.proofs.FeedRuns.{ended, ended_reported, ended_write, going_more, going_nothing}
+use Rattle.sq_commands.proofs.FeedRuns.{early_reported, ended, ended_early, ended_reported, ended_write}
+use Rattle.sq_commands.proofs.FeedRuns.{going_more, going_nothing}
 use Rattle.sq_commands.proofs.feed.run_feed.Goals as goal
 
 pub loop-count-init : goal.loop-count-init
-loop-count-init g c = record {
-  room = search rules;
-  going = going_nothing c.args.format g.C.Clock g.S.Source g.K.Sink c.args.clock.now c.args.source.now
-      c.args.sink.now c.new-feed.result
-      (c.new-feed.ensures ∙ ap (nothing_fed c.args.format) (c.manner_of.ensures ∙ ap manner_of c.is_live.ensures));
-}
+loop-count-init g c =
+    let live = c.is_live-is_live.ensures in
+    record {
+      room = search rules;
+      live = live;
+      going = going_nothing c.args.options.now g.C.Clock g.S.Source g.K.Sink c.args.clock.now c.args.source.now
+          c.args.sink.now
+          c.new-feed.result c.order_of-order.result
+          (c.new-feed.ensures ∙ ap (nothing_fed c.args.options.now.format) (c.manner_of.ensures
+          ∙ ap (manner_of c.args.options.now) live)) c.order_of-order.ensures;
+    }
 
 pub returns-then-count-eq0-clause-ran : goal.returns-then-count-eq0-clause-ran
 returns-then-count-eq0-clause-ran g c =
     let got = c.in-Ok.ensures in
     let none = c.if-count-eq0.true in
-    ended c.args.format g.C.Clock g.S.Source g.K.Sink c.args.clock.now c.args.source.now c.args.sink.now
-    c.loop-count.clock c.loop-count.source c.loop-count.sink c.loop-count.feed c.loop-count.invariant.going
-    c.get.new.self c.get.new.into c.in-Ok.count got.fits got.gave got.moved got.used c.now-arrival.new.self
-    c.now-arrival.result c.now-arrival.ensures.told none (got.end none (search rules)) c.put_end.new.sink
-    c.put_end.result c.put_end.ensures.ok c.put_end.ensures.err
+    ended c.args.options.now g.C.Clock g.S.Source g.K.Sink c.args.clock.now c.args.source.now c.args.sink.now
+    c.loop-count.clock c.loop-count.source c.loop-count.sink c.loop-count.feed
+    c.loop-count.order c.loop-count.invariant.going
+    c.now-arrival.new.self c.now-arrival.result c.now-arrival.ensures.told c.get.new.self c.get.new.into c.in-Ok.count
+    got.fits got.gave got.moved got.used
+    none (got.end none (search rules)) c.put_end.new.sink c.put_end.result c.put_end.ensures.ok c.put_end.ensures.err
 
 pub returns-then-count-eq0-clause-reported : goal.returns-then-count-eq0-clause-reported
 returns-then-count-eq0-clause-reported g c =
     let got = c.in-Ok.ensures in
     let none = c.if-count-eq0.true in
-    ended_reported c.args.format g.C.Clock g.S.Source g.K.Sink c.args.clock.now c.args.source.now c.args.sink.now
-    c.loop-count.clock c.loop-count.source c.loop-count.sink c.loop-count.feed c.loop-count.invariant.going
-    c.get.new.self c.get.new.into c.in-Ok.count got.fits got.gave got.moved got.used c.now-arrival.new.self
-    c.now-arrival.result c.now-arrival.ensures.told none (got.end none (search rules)) c.put_end.new.sink
-    c.put_end.result c.put_end.ensures.ok c.put_end.ensures.err
+    ended_reported c.args.options.now g.C.Clock g.S.Source g.K.Sink c.args.clock.now c.args.source.now c.args.sink.now
+    c.loop-count.clock c.loop-count.source c.loop-count.sink c.loop-count.feed
+    c.loop-count.order c.loop-count.invariant.going
+    c.now-arrival.new.self c.now-arrival.result c.now-arrival.ensures.told c.get.new.self c.get.new.into c.in-Ok.count
+    got.fits got.gave got.moved got.used
+    none (got.end none (search rules)) c.put_end.new.sink c.put_end.result c.put_end.ensures.ok c.put_end.ensures.err
+
+pub returns-in-Err-clause-ran : goal.returns-in-Err-clause-ran
+returns-in-Err-clause-ran g c =
+    let got = c.in-Ok.ensures in
+    let some : 0 < c.in-Ok.count = omega (arith, c.if-count-eq0.false) in
+    let part = c.in-Err.ensures.part in
+    ended_write c.args.options.now g.C.Clock g.S.Source g.K.Sink c.args.clock.now c.args.source.now c.args.sink.now
+    c.loop-count.clock c.loop-count.source c.loop-count.sink c.loop-count.feed
+    c.loop-count.order c.loop-count.invariant.going
+    c.now-arrival.new.self c.now-arrival.result c.now-arrival.ensures.told c.get.new.self c.get.new.into c.in-Ok.count
+    got.fits got.gave got.moved got.used
+    c.put_piece.new.sink c.put_piece.new.feed part.0 some c.in-Err.ensures.failed part.1 c.put_piece.ensures.unfinished
 
 pub loop-count-preserved : goal.loop-count-preserved
 loop-count-preserved g c =
@@ -38,20 +58,53 @@ loop-count-preserved g c =
     let some : 0 < c.in-Ok.count = omega (arith, c.if-count-eq0.false) in
     record {
       room = search rules;
-      going = going_more c.args.format g.C.Clock g.S.Source g.K.Sink c.args.clock.now c.args.source.now
-          c.args.sink.now c.loop-count.clock c.loop-count.source c.loop-count.sink c.loop-count.feed
-          c.loop-count.invariant.going c.get.new.self c.get.new.into c.in-Ok.count got.fits got.gave got.moved got.used
-          c.now-arrival.new.self c.now-arrival.result c.now-arrival.ensures.told c.put_piece.new.sink
-          c.put_piece.new.feed some c.in-Ok-put_piece.ensures.put c.put_piece.ensures.unfinished;
+      live = c.loop-count.invariant.live;
+      going = going_more c.args.options.now g.C.Clock g.S.Source g.K.Sink c.args.clock.now c.args.source.now
+          c.args.sink.now
+          c.loop-count.clock c.loop-count.source c.loop-count.sink c.loop-count.feed
+          c.loop-count.order c.loop-count.invariant.going
+          c.now-arrival.new.self c.now-arrival.result c.now-arrival.ensures.told
+          c.get.new.self c.get.new.into c.in-Ok.count got.fits got.gave got.moved got.used
+          c.put_piece.new.sink c.put_piece.new.feed c.put_piece.new.order some c.in-Ok-put_piece.ensures.put
+          c.put_piece.ensures.unfinished;
     }
 
-pub returns-in-Err-clause-ran : goal.returns-in-Err-clause-ran
-returns-in-Err-clause-ran g c =
+pub returns-then-is_some-clause-ran : goal.returns-then-is_some-clause-ran
+returns-then-is_some-clause-ran g c =
     let got = c.in-Ok.ensures in
     let some : 0 < c.in-Ok.count = omega (arith, c.if-count-eq0.false) in
-    let part = c.in-Err.ensures.part in
-    ended_write c.args.format g.C.Clock g.S.Source g.K.Sink c.args.clock.now c.args.source.now c.args.sink.now
-    c.loop-count.clock c.loop-count.source c.loop-count.sink c.loop-count.feed c.loop-count.invariant.going
-    c.get.new.self c.get.new.into c.in-Ok.count got.fits got.gave got.moved got.used c.now-arrival.new.self
-    c.now-arrival.result c.now-arrival.ensures.told c.put_piece.new.sink c.put_piece.new.feed part.0 some
-    c.in-Err.ensures.failed part.1 c.put_piece.ensures.unfinished
+    let going = going_more c.args.options.now g.C.Clock g.S.Source g.K.Sink c.args.clock.now c.args.source.now
+    c.args.sink.now
+    c.loop-count.clock c.loop-count.source c.loop-count.sink c.loop-count.feed
+    c.loop-count.order c.loop-count.invariant.going
+    c.now-arrival.new.self c.now-arrival.result c.now-arrival.ensures.told c.get.new.self c.get.new.into c.in-Ok.count
+    got.fits got.gave got.moved got.used
+    c.put_piece.new.sink c.put_piece.new.feed c.put_piece.new.order some c.in-Ok-put_piece.ensures.put
+    c.put_piece.ensures.unfinished in
+    let known : c.put_piece.new.feed.ear.stranger ≢ None =
+    λ none. true≢false (sym c.if-is_some.true ∙ c.is_some.ensures ∙ ap is_some (c.stranger.ensures ∙ none)) in
+    ended_early c.args.options.now g.C.Clock g.S.Source g.K.Sink c.args.clock.now c.args.source.now c.args.sink.now
+    c.now-arrival.new.self c.get.new.self c.put_piece.new.sink c.put_piece.new.feed c.put_piece.new.order going
+    c.now-end.new.self c.now-end.result c.now-end.ensures.told (sym c.loop-count.invariant.live ∙ c.if-is_live.true)
+    known c.put_end-then-is_some.new.sink c.put_end-then-is_some.result c.put_end-then-is_some.ensures.ok
+    c.put_end-then-is_some.ensures.err
+
+pub returns-then-is_some-clause-reported : goal.returns-then-is_some-clause-reported
+returns-then-is_some-clause-reported g c =
+    let got = c.in-Ok.ensures in
+    let some : 0 < c.in-Ok.count = omega (arith, c.if-count-eq0.false) in
+    let going = going_more c.args.options.now g.C.Clock g.S.Source g.K.Sink c.args.clock.now c.args.source.now
+    c.args.sink.now
+    c.loop-count.clock c.loop-count.source c.loop-count.sink c.loop-count.feed
+    c.loop-count.order c.loop-count.invariant.going
+    c.now-arrival.new.self c.now-arrival.result c.now-arrival.ensures.told c.get.new.self c.get.new.into c.in-Ok.count
+    got.fits got.gave got.moved got.used
+    c.put_piece.new.sink c.put_piece.new.feed c.put_piece.new.order some c.in-Ok-put_piece.ensures.put
+    c.put_piece.ensures.unfinished in
+    let known : c.put_piece.new.feed.ear.stranger ≢ None =
+    λ none. true≢false (sym c.if-is_some.true ∙ c.is_some.ensures ∙ ap is_some (c.stranger.ensures ∙ none)) in
+    early_reported c.args.options.now g.C.Clock g.S.Source g.K.Sink c.args.clock.now c.args.source.now c.args.sink.now
+    c.now-arrival.new.self c.get.new.self c.put_piece.new.sink c.put_piece.new.feed c.put_piece.new.order going
+    c.now-end.new.self c.now-end.result c.now-end.ensures.told (sym c.loop-count.invariant.live ∙ c.if-is_live.true)
+    known c.put_end-then-is_some.new.sink c.put_end-then-is_some.result c.put_end-then-is_some.ensures.ok
+    c.put_end-then-is_some.ensures.err

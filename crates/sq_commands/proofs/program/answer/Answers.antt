@@ -1,7 +1,7 @@
 use Rattle.std.proofs.Common.{refl}
 use Rattle.sq_devices.specs.Clocks.{times_of}
 use Rattle.sq_devices.specs.contracts.clocks.NoClockClock.TheImpl.{ghosts}
-use Rattle.sq_requests.specs.Requests.{asked_by}
+use Rattle.sq_commands.specs.Requests.{asked_by}
 use Rattle.sq_commands.proofs.Recorded.{run_recorded}
 use Rattle.sq_commands.proofs.program.answer.Goals as goal
 

@@ -1,13 +1,14 @@
 use Rattle.std.proofs.Common.{ap, rules, subst₂}
 use Rattle.sq_devices.specs.Changes.{taken_from, written_on}
 use Rattle.sq_track.specs.Held.{Held}
+use Rattle.sq_commands.specs.Heard.{heard_telling}
 use Rattle.sq_commands.specs.Track.{IsTracked}
 use Rattle.sq_commands.proofs.TrackLemmas.{tracked, tracked_reported}
 use Rattle.sq_commands.proofs.track.run_track_as.Goals as goal
 
 pub returns-clause-ran : goal.returns-clause-ran
 returns-clause-ran g c =
-    let telling = g.F.TrackFormat.telling in
+    let telling = (heard_telling g.F.AnswerFormat.chosen) in
     let input = taken_from g.S.Source c.args.source.now c.run_log.new.source in
     let output = written_on g.K.Sink c.args.sink.now c.run_log.new.sink in
     let ran = c.run_log.ensures in
@@ -18,4 +19,4 @@ returns-clause-ran g c =
 
 pub returns-clause-reported : goal.returns-clause-reported
 returns-clause-reported g c =
-    tracked_reported g.F.TrackFormat.telling c.run_log.result _ _ _ _ (returns-clause-ran g c)
+    tracked_reported (heard_telling g.F.AnswerFormat.chosen) c.run_log.result _ _ _ _ (returns-clause-ran g c)

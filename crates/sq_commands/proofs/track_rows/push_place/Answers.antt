@@ -1,4 +1,4 @@
-use Rattle.std.proofs.Common.{◌∙◌, ap, append_assoc, refl}
+use Rattle.std.proofs.Common.{◌∙◌, ap, append-nil, append_assoc, refl}
 use Rattle.sq_angle.specs.Angle.{degrees}
 use Rattle.sq_message.specs.Places.{place_latitude, place_longitude}
 use Rattle.sq_commands.proofs.HeardLemmas.{written}
@@ -12,4 +12,4 @@ returns-clause-bytes c decimals =
     (ap degrees c.lat.ensures ∙ c.position-position.ensures.lat) lat.1 in
     let b = written decimals c.lon.result (place_longitude c.args.place.now) lon.0
     (ap degrees c.lon.ensures ∙ c.position-position.ensures.lon) lon.1 in
-    rw (lon.2, lat.2, a, b) (simp append_assoc refl)
+    rw (lon.2, lat.2, a, b) (simp (append_assoc, append-nil) refl)

@@ -1,5 +1,0 @@
-use Rattle.sq_commands.proofs.OnePast.{one_past as the_law}
-use Rattle.sq_commands.proofs.laws.one_past.Goals as goal
-
-pub returns : goal.returns
-returns c = the_law

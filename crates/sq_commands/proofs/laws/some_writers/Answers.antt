@@ -1,5 +1,0 @@
-use Rattle.sq_commands.proofs.SomeWriters.{some_writers}
-use Rattle.sq_commands.proofs.laws.some_writers.Goals as goal
-
-pub returns : goal.returns
-returns c = some_writers

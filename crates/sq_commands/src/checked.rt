@@ -1,0 +1,49 @@
+//! The answers of `check` as texts, one by one.
+ghost use Rattle.std.specs.Prelude.{◌≡◌, [], Ok, Err};
+ghost use Rattle.sq_commands.specs.Formats.{Writers};
+ghost use Rattle.sq_commands.specs.Squitters.{squitter_telling};
+
+use crate::check_rows::{CHECK_COLUMNS, push_refused_frame, push_squitter};
+use crate::formats::{CsvRows, Format, JsonRows};
+use crate::numbered::{push_refused_line, push_squitter_line};
+use sq_lines::LineText;
+use sq_message::Squitter;
+use sq_text::LineFault;
+
+/// Returns the text before the first answer of a format.
+pub(crate) fn squitter_header(format: Format) -> &'static str
+    ensures { result.now ≡ (squitter_telling format).header }
+{
+    match format {
+        Format::Lines => "",
+        Format::Csv => CHECK_COLUMNS,
+        Format::Json => "",
+    }
+}
+
+/// Writes a good frame into an empty text, in a format.
+#[inline(always)]
+pub(crate) fn tell_squitter(format: Format, number: u64, squitter: &Squitter, into: &mut LineText)
+    requires { into.old.bytes ≡ [] }
+    ensures { (writers : Writers)
+        → into.new.bytes ≡ (squitter_telling format).text writers number (Ok squitter.now) }
+{
+    match format {
+        Format::Lines => push_squitter_line(into, number, squitter),
+        Format::Csv => push_squitter::<CsvRows>(into, number, squitter),
+        Format::Json => push_squitter::<JsonRows>(into, number, squitter),
+    }
+}
+
+/// Writes a fault into an empty text, in a format.
+#[inline(always)]
+pub(crate) fn refuse_frame(format: Format, number: u64, fault: LineFault, into: &mut LineText)
+    requires { into.old.bytes ≡ [] }
+    ensures { (writers : Writers) → into.new.bytes ≡ (squitter_telling format).text writers number (Err fault) }
+{
+    match format {
+        Format::Lines => push_refused_line(into, number, fault),
+        Format::Csv => push_refused_frame::<CsvRows>(into, number, fault),
+        Format::Json => push_refused_frame::<JsonRows>(into, number, fault),
+    }
+}

@@ -1,0 +1,221 @@
+//! Guards of the definitions: each has one value, some value or an exact condition, so none can be weakened unnoticed.
+//! A function with an empty body does nothing: its contract is the statement.
+ghost use Rattle.std.specs.Prelude.{◌≡◌, ◌≢◌, ◌≤◌, ◌↔◌, ◌⊎◌, ◌++◌, ◌∷◌, [], List, ℕ, Contains, Err, IsTrue, None, Ok};
+ghost use Rattle.std.specs.Prelude.{Option, Some};
+ghost use Rattle.std.specs.Prelude.{codes, map};
+ghost use Rattle.std.specs.List.{AllZip};
+ghost use Rattle.sq_text.specs.declared.rows.Form.TheVariants as forms;
+ghost use Rattle.sq_text.specs.Rows.{Blank, Number, Word, cells, header_text, row_room};
+ghost use Rattle.sq_devices.specs.Changes.{FailedWithin, WroteLast, WroteNothing, WroteOrFailed, taken_from};
+ghost use Rattle.sq_devices.specs.Changes.{written_on};
+ghost use Rattle.sq_devices.specs.Clocks.{times_of};
+ghost use Rattle.sq_feed.specs.Counts.{Tally as Counts};
+ghost use Rattle.sq_feed.specs.declared.machine.Format.{Format as SourceFormat};
+ghost use Rattle.sq_lines.specs.declared.tallies.Tally.{Tally};
+ghost use Rattle.sq_text.specs.declared.faults.LineFault.{LineFault};
+ghost use Rattle.sq_track.specs.Held.{Held, StandsFor, made_with, settings};
+ghost use Rattle.sq_track.specs.History.{History};
+ghost use Rattle.sq_track.specs.Tame.{IsSlow, IsSlowForFollowing};
+ghost use Rattle.sq_track.specs.Worlds.{Arrival, ArisesFrom, IfHeard, IsTruePlaceHeard, World, received_of};
+ghost use Rattle.sq_commands.specs.declared.arguments.TrackOptions.{TrackOptions as Options};
+ghost use Rattle.sq_commands.specs.declared.formats.Format.{Format};
+ghost use Rattle.sq_commands.specs.declared.status.Status.{Status as Ending};
+ghost use Rattle.sq_commands.specs.declared.status.Status.TheVariants.{Broken, Good, Misused, Refused};
+ghost use Rattle.sq_commands.specs.BrokenOff.{BrokenAside, BrokenChecks, BrokenFeeds, BrokenLogs};
+ghost use Rattle.sq_commands.specs.Check.{IsCheckRunIn, IsChecked, IsNoFormat};
+ghost use Rattle.sq_commands.specs.declared.feed.FeedOptions.{FeedOptions};
+ghost use Rattle.sq_commands.specs.Feed.{IsFed, IsFeedRunIn, IsNoSource, IsSourceWord};
+ghost use Rattle.sq_commands.specs.Formats.{IsFormatWord, Writers};
+ghost use Rattle.sq_commands.specs.Heard.{heard_telling, track_columns};
+ghost use Rattle.sq_commands.specs.Laws.{OneEncodeFault, OneFeedFault, OnePositionFault, OneSiteFault, OneTrackFault};
+ghost use Rattle.sq_commands.specs.Outputs.{effects, outputs};
+ghost use Rattle.sq_commands.specs.Replies.{IsDelivered, answered, refused};
+ghost use Rattle.sq_commands.specs.Squitters.{check_columns, squitter_telling};
+ghost use Rattle.sq_commands.specs.SlowAnswers.{AreTrueAfter, AreTrueAnswers, heard_in, received_in};
+ghost use Rattle.sq_commands.specs.Summary.{stranger_text, summary_text};
+ghost use Rattle.sq_feed.specs.declared.message.Stranger.{Stranger};
+ghost use Rattle.sq_commands.specs.Track.{IsLogRun, IsTracked};
+ghost use Rattle.sq_lines.specs.declared.log.Answer.{Answer};
+ghost use Rattle.sq_commands.specs.Tracking.{OnePast};
+
+use crate::found::HeardSquitter;
+use crate::status::Status;
+use sq_devices::{Clock, Sink, Source};
+
+/// There is a way to write places and altitudes.
+pub fn some_writers()
+    ensures { Writers }
+{}
+
+/// The arguments of a position, of a site, of `encode`, of `track` and of `feed` have at most one first fault.
+pub fn one_argument_fault()
+    ensures position { OnePositionFault }
+    ensures site { OneSiteFault }
+    ensures encode { OneEncodeFault }
+    ensures track { OneTrackFault }
+    ensures feed { OneFeedFault }
+{}
+
+/// A word names at most one format: `lines`, `csv` or `json`; of `feed`, `auto`, `beast`, `avr`, `csv` or `log`.
+pub fn one_format()
+    ensures one { (word : Option (List ℕ)) (a b : Format) → IsFormatWord word a → IsFormatWord word b → a ≡ b }
+    ensures none { (word : Option (List ℕ)) → IsNoFormat word
+        ↔ (word ≢ None) × (word ≢ Some (codes "lines")) × (word ≢ Some (codes "csv")) × (word ≢ Some (codes "json")) }
+    ensures one_source { (word : Option (List ℕ)) (a b : Option SourceFormat) → IsSourceWord word a
+        → IsSourceWord word b → a ≡ b }
+    ensures no_source { (word : Option (List ℕ)) → IsNoSource word ↔ (word ≢ None) × (word ≢ Some (codes "auto"))
+        × (word ≢ Some (codes "beast")) × (word ≢ Some (codes "avr")) × (word ≢ Some (codes "csv"))
+        × (word ≢ Some (codes "log")) }
+{}
+
+/// The header of each table, column by column. A row of each table fits a line's text.
+pub fn columns_exactly()
+    ensures check { header_text forms.Csv check_columns
+        ≡ codes "line,answer,address,ca,type,kind,parity,lat_code,lon_code,time,"
+        ++ codes "feet,altitude,status,flag,movement,track_status,track,me\n" }
+    ensures track { header_text forms.Csv track_columns ≡ codes "line,moment,answer,address,kind,lat,lon,feet\n" }
+    ensures room { (row_room check_columns ≤ 512) × (row_room track_columns ≤ 512) }
+{}
+
+/// A row of `track` in JSON: each value follows the name of its column.
+#[tactic(auto, unfolding(sq_text::specs::Rows::cell))]
+pub fn track_row_in_letters()
+    ensures { cells forms.Json track_columns (record {
+      moment = Number (codes "1");
+      answer = Word (codes "fix");
+      address = Word (codes "4840D6");
+      kind = Word (codes "air");
+      lat = Number (codes "2");
+      lon = Number (codes "3");
+      feet = Blank;
+    })
+        ≡ codes ",\"moment\":1,\"answer\":\"fix\",\"address\":\"4840D6\",\"kind\":\"air\","
+        ++ codes "\"lat\":2,\"lon\":3,\"feet\":null" }
+{}
+
+/// A row of `check` in JSON: each value follows the name of its column.
+#[tactic(auto, unfolding(sq_text::specs::Rows::cell))]
+pub fn check_row_in_letters()
+    ensures { cells forms.Json check_columns (record {
+      answer = Word (codes "ok");
+      address = Word (codes "4840D6");
+      ca = Number (codes "1");
+      type_code = Number (codes "2");
+      kind = Word (codes "air");
+      parity = Word (codes "odd");
+      lat_code = Number (codes "3");
+      lon_code = Number (codes "4");
+      time = Number (codes "5");
+      feet = Number (codes "6");
+      altitude = Word (codes "7");
+      status = Number (codes "8");
+      flag = Number (codes "9");
+      movement = Number (codes "10");
+      track_status = Number (codes "11");
+      track = Number (codes "12");
+      me = Blank;
+    })
+        ≡ codes ",\"answer\":\"ok\",\"address\":\"4840D6\",\"ca\":1,\"type\":2,\"kind\":\"air\","
+        ++ codes "\"parity\":\"odd\",\"lat_code\":3,\"lon_code\":4,\"time\":5,\"feet\":6,\"altitude\":\"7\","
+        ++ codes "\"status\":8,\"flag\":9,\"movement\":10,\"track_status\":11,\"track\":12,\"me\":null" }
+{}
+
+/// Compares two statuses by `==`, which is true exactly if they are the same.
+pub fn equal_statuses(status: &Status, other: &Status) -> bool
+    ensures { IsTrue result ↔ (status.now ≡ other.now) }
+{
+    status == other
+}
+
+/// The reply of `track` to a squitter follows from the tracker's settings and its history alone.
+pub fn one_past()
+    ensures { OnePast }
+{}
+
+/// The status of a run of `check` or of `track`: good only if no line was refused and all answers were written; never a
+/// misuse.
+pub fn ended_exactly<S: Source, K: Sink, F: Sink>()
+    ensures good { (format : Format) (from to : S) (old new : K) (before after : F)
+        → IsCheckRunIn format Good (effects S.Source from to (outputs K.Sink F.Sink old new before after))
+        → (tally : Tally) × (tally.refused ≡ 0)
+        × IsChecked (squitter_telling format) (Ok tally) (taken_from S.Source from to) (written_on K.Sink old new)
+        × WroteNothing (written_on F.Sink before after) }
+    ensures misused { (format : Format) (from to : S) (old new : K) (before after : F)
+        → ¬ IsCheckRunIn format Misused (effects S.Source from to (outputs K.Sink F.Sink old new before after)) }
+    ensures good_log { (options : Options) (from to : S) (old new : K) (before after : F)
+        → IsLogRun options Good (effects S.Source from to (outputs K.Sink F.Sink old new before after))
+        → (tally : Tally) × (tally.refused ≡ 0) × ((first last : Held) × StandsFor first []
+        × (settings first ≡ made_with options.limit options.window options.site)
+        × IsTracked (heard_telling options.format) (Ok tally) (taken_from S.Source from to) (written_on K.Sink old new)
+        first last) × WroteNothing (written_on F.Sink before after) }
+    ensures misused_log { (options : Options) (from to : S) (old new : K) (before after : F)
+        → ¬ IsLogRun options Misused (effects S.Source from to (outputs K.Sink F.Sink old new before after)) }
+{}
+
+/// The delivery of a reply. An output was written whole and finished, with nothing reported; or its sink failed within
+/// it, and that was reported. An error was reported, whole or up to where its sink failed, with nothing written.
+#[tactic(auto, unfolding(crate::specs::Replies::IsDelivered))]
+pub fn delivered_exactly<K: Sink, F: Sink>()
+    ensures answer { (text : List ℕ) (status : Ending) (old new : K) (before after : F)
+        → IsDelivered (answered text) status (outputs K.Sink F.Sink old new before after)
+        ↔ (((status ≡ Good) × WroteLast (written_on K.Sink old new) text
+        × WroteNothing (written_on F.Sink before after))
+        ⊎ ((status ≡ Broken) × FailedWithin (written_on K.Sink old new) text
+        × WroteOrFailed (written_on F.Sink before after) (codes "write failed\n"))) }
+    ensures refusal { (ending status : Ending) (line : List ℕ) (old new : K) (before after : F)
+        → IsDelivered (refused ending line) status (outputs K.Sink F.Sink old new before after)
+        ↔ ((status ≡ ending) × WroteNothing (written_on K.Sink old new)
+        × WroteOrFailed (written_on F.Sink before after) (line ++ codes "\n")) }
+{}
+
+/// A run that stopped early: `check` and `track` answered all lines that were read until a get failed, or the output
+/// failed within the answers, or `track` had no memory for a line. A command that reads no input left it alone. The
+/// reason was reported in one line.
+pub fn broken_exactly<S: Source, K: Sink, F: Sink>()
+    ensures check { BrokenChecks S.Source K.Sink F.Sink }
+    ensures track { BrokenLogs S.Source K.Sink F.Sink }
+    ensures aside { BrokenAside S.Source K.Sink F.Sink }
+{}
+
+/// A run of `feed` is good only if all lines were written and the summary was reported. It is refused only if the input
+/// is no feed, which was reported. It never ends as misused. A broken run wrote the lines of all items that were read
+/// until a get failed, or a prefix of them.
+pub fn feed_ended_exactly<C: Clock, S: Source, K: Sink, F: Sink>()
+    ensures good { (options : FeedOptions) (first last : C) (from to : S) (old new : K) (before after : F)
+        → IsFeedRunIn options (times_of C.Clock first last) Good
+        (effects S.Source from to (outputs K.Sink F.Sink old new before after))
+        → (counts : Counts)
+        × IsFed options (times_of C.Clock first last) (Ok (record { counts = counts; stranger = None }))
+        (taken_from S.Source from to) (written_on K.Sink old new)
+        × WroteOrFailed (written_on F.Sink before after) (summary_text counts ++ codes "\n") }
+    ensures refused { (options : FeedOptions) (first last : C) (from to : S) (old new : K) (before after : F)
+        → IsFeedRunIn options (times_of C.Clock first last) Refused
+        (effects S.Source from to (outputs K.Sink F.Sink old new before after))
+        → (counts : Counts) × (stranger : Stranger)
+        × IsFed options (times_of C.Clock first last) (Ok (record { counts = counts; stranger = Some stranger }))
+        (taken_from S.Source from to) (written_on K.Sink old new)
+        × WroteOrFailed (written_on F.Sink before after) (stranger_text stranger ++ codes "\n") }
+    ensures used { (options : FeedOptions) (first last : C) (from to : S) (old new : K) (before after : F)
+        → ¬ IsFeedRunIn options (times_of C.Clock first last) Misused
+        (effects S.Source from to (outputs K.Sink F.Sink old new before after)) }
+    ensures broken { (first last : C) → BrokenFeeds S.Source K.Sink F.Sink (times_of C.Clock first last) }
+{}
+
+/// Answers are true if each `fix` or `followed` is the true place and `far` does not occur, in each world that is slow
+/// for the tracker and for following. The history and the good lines come from that world.
+pub fn true_exactly()
+    ensures after { (tracker : Held) (history : History) (answers : List (Answer HeardSquitter))
+        → AreTrueAfter tracker history answers ↔ ((world arrivals : World) → ArisesFrom world history
+        → IsSlow tracker.window tracker.site world → IsSlowForFollowing tracker.window world
+        → ((arrival : Arrival) → Contains arrivals arrival → Contains world arrival)
+        → map received_of arrivals ≡ received_in answers
+        → AllZip (IfHeard IsTruePlaceHeard) arrivals (heard_in answers)) }
+    ensures answers { (tracker : Held) (answers : List (Answer HeardSquitter)) → AreTrueAnswers tracker answers
+        ↔ ((history : History) → StandsFor tracker history → AreTrueAfter tracker history answers) }
+    ensures good { (first last : HeardSquitter) (fault : LineFault)
+        → (let one : Answer HeardSquitter = record { number = 1; verdict = Ok first } in
+        let two : Answer HeardSquitter = record { number = 2; verdict = Err fault } in
+        let three : Answer HeardSquitter = record { number = 3; verdict = Ok last } in
+        (received_in (one ∷ two ∷ three ∷ []) ≡ first.timed ∷ last.timed ∷ [])
+        × (heard_in (one ∷ two ∷ three ∷ []) ≡ Ok first.heard ∷ Ok last.heard ∷ [])) }
+{}

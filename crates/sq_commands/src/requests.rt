@@ -1,0 +1,76 @@
+//! What a command line asks for: one of the commands with its values.
+
+/// The values of the command `encode`, each as it was written.
+#[derive(Clone, Copy, Debug)]
+pub struct EncodeWords<'a> {
+    /// `--kind`
+    pub kind: &'a str,
+    /// `--parity`
+    pub parity: &'a str,
+    /// `--address`
+    pub address: &'a str,
+    /// `--feet`, where it is given
+    pub feet: Option<&'a str>,
+    /// `--lat`
+    pub lat: &'a str,
+    /// `--lon`
+    pub lon: &'a str,
+}
+
+/// The values of the command `track`, each as it was written, where it is given.
+#[derive(Clone, Copy, Debug)]
+pub struct TrackWords<'a> {
+    /// `--format`
+    pub format: Option<&'a str>,
+    /// `--limit`
+    pub limit: Option<&'a str>,
+    /// `--window`
+    pub window: Option<&'a str>,
+    /// `--lat`
+    pub lat: Option<&'a str>,
+    /// `--lon`
+    pub lon: Option<&'a str>,
+}
+
+/// The values of the command `feed`, each as it was written, where it is given.
+#[derive(Clone, Copy, Debug)]
+pub struct FeedWords<'a> {
+    /// `--format`
+    pub format: Option<&'a str>,
+    /// `--reorder`
+    pub reorder: Option<&'a str>,
+    /// whether there is `--all`
+    pub all: bool,
+}
+
+/// A command with its values, each as it was written. An option that is left out is `None`.
+#[derive(Clone, Copy, Debug)]
+pub enum Request<'a> {
+    /// `show FRAME`
+    Show {
+        frame: &'a str,
+    },
+    /// `encode --kind K --parity P --address A [--feet N] --lat LAT --lon LON`
+    Encode(EncodeWords<'a>),
+    /// `local FRAME --lat LAT --lon LON`
+    Local {
+        frame: &'a str,
+        lat: &'a str,
+        lon: &'a str,
+    },
+    /// `pair OLDER NEWER [--lat LAT] [--lon LON]`
+    Pair {
+        older: &'a str,
+        newer: &'a str,
+        lat: Option<&'a str>,
+        lon: Option<&'a str>,
+    },
+    /// `check [--format FORMAT]`
+    Check {
+        format: Option<&'a str>,
+    },
+    /// `track [--format FORMAT] [--limit N] [--window MS] [--lat LAT] [--lon LON]`
+    Track(TrackWords<'a>),
+    /// `feed [--format FORMAT] [--reorder MS] [--all]`
+    Feed(FeedWords<'a>),
+}

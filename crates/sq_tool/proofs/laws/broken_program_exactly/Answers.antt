@@ -1,5 +1,0 @@
-use Rattle.sq_tool.proofs.OneRuns.{broken_program}
-use Rattle.sq_tool.proofs.laws.broken_program_exactly.Goals as goal
-
-pub returns : goal.returns
-returns g c = broken_program g.S.Source g.K.Sink g.F.Sink
