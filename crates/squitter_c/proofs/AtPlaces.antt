@@ -1,8 +1,8 @@
 -- What stands at a place of arrays is what the call by itself answers.
 use Rattle.std.proofs.Common.{List, get_or, length, ◌<◌, ℕ, subst}
 use Rattle.std.proofs.lemmas.List.{get_or_default}
-use Rattle.sq_plain.specs.declared.plain.PlainPosition.{PlainPosition}
-use Rattle.sq_plain.specs.Frames.{frame_of}
+use Rattle.squitter_c.specs.declared.plain.PlainPosition.{PlainPosition}
+use Rattle.squitter_c.specs.Frames.{frame_of}
 use Rattle.squitter_c.specs.Decoding.{IsLocal, IsPair, IsPairAt}
 use Rattle.squitter_c.specs.E7.{IsPositionE7}
 use Rattle.squitter_c.specs.Pinned.{OfEach}

@@ -12,8 +12,8 @@ use Rattle.squitter_c.specs.declared.entry.PlainEntry.{PlainEntry}
 use Rattle.squitter_c.specs.declared.entry.PlainFix.{PlainFix}
 use Rattle.squitter_c.specs.declared.entry.PlainReceived.{PlainReceived}
 use Rattle.squitter_c.specs.declared.entry.PlainSide.{PlainSide}
-use Rattle.sq_plain.specs.Frames.{frame_of}
-use Rattle.sq_plain.proofs.OnePlain.{is_position, one_of_degrees}
+use Rattle.squitter_c.specs.Frames.{frame_of}
+use Rattle.squitter_c.proofs.OnePlain.{is_position, one_of_degrees}
 use Rattle.squitter_c.specs.Entries.{IsContactOf, IsFixOf, IsReceivedOf, IsSideOf, no_bytes}
 
 -- a kept frame stands for one squitter, or for none

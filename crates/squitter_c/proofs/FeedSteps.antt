@@ -2,7 +2,8 @@
 use Rattle.std.proofs.Common.{◌++◌, ◌≡◌, ◌==◌, ◌<◌, ◌∙◌, ℕ, List, [], ◌∷◌, ap, ap₂, append-nil, arith, false, get_or}
 use Rattle.std.proofs.Common.{length, refl, subst, take}
 use Rattle.std.proofs.lemmas.Bool.Decides.{nat_tests}
-use Rattle.sq_feed.specs.Ears.{Told, frames_of, moments_of, told_of_all}
+use Rattle.sq_feed.specs.declared.message.Timed.{Timed}
+use Rattle.sq_feed.specs.Ears.{frames_of, moments_of, told_of_all}
 use Rattle.sq_feed.specs.Feeds.{Feeding, HasGiven, HasWritten, lines_of}
 use Rattle.sq_feed.specs.Lines.{log_line}
 use Rattle.std.proofs.lemmas.List.{take_all}
@@ -14,7 +15,7 @@ lines_from [] frames = []
 lines_from (moment ∷ moments) [] = []
 lines_from (moment ∷ moments) (frame ∷ frames) = log_line moment frame ++ lines_from moments frames
 
-lines_back : (told : List Told) → lines_from (moments_of told) (frames_of told) ≡ lines_of told
+lines_back : (told : List Timed) → lines_from (moments_of told) (frames_of told) ≡ lines_of told
 lines_back [] = refl
 lines_back (one ∷ more) = ap (λ l. log_line one.moment one.frame ++ l) (lines_back more)
 

@@ -1,3 +1,11 @@
+pub mod Steps
+pub mod OneTelling
+pub mod OnePlain
+pub mod OneHeard
+pub mod Values
+pub mod FeedValues
+pub mod OneSizes
+pub mod OrderValues
 pub mod AsciiTexts
 pub mod Entries
 pub mod Savings

@@ -13,7 +13,7 @@ use Rattle.sq_lines.specs.declared.log.Log.{Log}
 use Rattle.sq_lines.specs.Lines.{closed, ended_lines}
 use Rattle.sq_lines.specs.Logs.{HasHeard}
 use Rattle.sq_lines.specs.Runs.{told_text}
-use Rattle.sq_plain.specs.declared.faults.Fault.{Fault}
+use Rattle.squitter_c.specs.declared.faults.Fault.{Fault}
 use Rattle.sq_track.specs.Held.{Held}
 use Rattle.squitter_c.specs.declared.log_take.End.TheVariants as ends
 use Rattle.squitter_c.specs.LogCalls.{AsAnswers, AsTexts, GoesOn, GoesToTheEnd, HasGone, Written, log_in}

@@ -3,8 +3,6 @@ use Rattle.std.proofs.Common.{◌≡◌, ◌∙◌, ◌⊎◌, ℕ, Result, Ok, 
 use Rattle.sq_angle.specs.declared.position.Position.{Position}
 use Rattle.sq_bits.specs.declared.frame.Frame.{Frame}
 use Rattle.sq_zones.specs.declared.parity.Parity.{Parity}
-use Rattle.sq_message.specs.declared.air.Airborne.{Airborne}
-use Rattle.sq_message.specs.declared.ground.Surface.{Surface}
 use Rattle.sq_message.specs.declared.place.Place.{Place}
 use Rattle.sq_message.specs.declared.place.Place.TheVariants.{Air, Ground}
 use Rattle.sq_message.specs.declared.place.PlaceFault.TheVariants.{NotPosition}
@@ -13,19 +11,19 @@ use Rattle.sq_message.specs.declared.squitter.Me.{Me}
 use Rattle.sq_message.specs.declared.squitter.Me.TheVariants as kinds
 use Rattle.sq_message.specs.declared.squitter.Squitter.{Squitter}
 use Rattle.sq_message.specs.Kinds.{InAir, OnGround}
-use Rattle.sq_message.specs.Parts.{squitter_parts}
-use Rattle.sq_message.specs.Places.{IsPosition, air_head_of, ground_head_of}
+use Rattle.sq_message.specs.Parts.{Airborne, Surface, squitter_parts}
+use Rattle.sq_message.specs.Places.{IsPosition, head_at}
 use Rattle.sq_message.specs.Spelling.{IsReading}
 use Rattle.sq_message.proofs.One.{one_reading}
 use Rattle.sq_message.proofs.Same.{same_parity}
 use Rattle.sq_text.specs.Faults.{of_frame}
-use Rattle.sq_plain.specs.declared.faults.Refusal.{Refusal}
-use Rattle.sq_plain.specs.declared.faults.Refusal.TheVariants as refusals
-use Rattle.sq_plain.specs.declared.plain.PlainPosition.{PlainPosition}
-use Rattle.sq_plain.specs.Faults.{as_it_is}
-use Rattle.sq_plain.specs.Plain.{IsFlag, IsOfDegrees, IsParity, PlainIsPosition}
-use Rattle.sq_plain.proofs.OnePlain.{is_position, one_of_degrees}
-use Rattle.sq_plain.proofs.OneTelling.{one_telling}
+use Rattle.squitter_c.specs.declared.faults.Refusal.{Refusal}
+use Rattle.squitter_c.specs.declared.faults.Refusal.TheVariants as refusals
+use Rattle.squitter_c.specs.declared.plain.PlainPosition.{PlainPosition}
+use Rattle.squitter_c.specs.Faults.{as_it_is}
+use Rattle.squitter_c.specs.Plain.{IsFlag, IsOfDegrees, IsParity, PlainIsPosition}
+use Rattle.squitter_c.proofs.OnePlain.{is_position, one_of_degrees}
+use Rattle.squitter_c.proofs.OneTelling.{one_telling}
 use Rattle.squitter_c.specs.OneAnswers.{OneSentAgain}
 use Rattle.squitter_c.specs.Reading.{AreBytesOf}
 use Rattle.squitter_c.specs.Sending.{IsAgainAnswer, IsFrameFrom, IsRoundedTo}
@@ -48,8 +46,8 @@ surface_of other (kinds.Other raw) = other
 one_from : (q : Squitter) (p : Parity) (x : Position) (s t : Place) (f g : Frame) → IsRoundedTo p x s
     → IsRoundedTo p x t → IsFrameFrom q s f → IsFrameFrom q t g → f ≡ g
 one_from q p x (Air m) (Air n) f g r s (a, (air, is, of), is_f, spells) (b, (other, same, of'), is_g, spelled) =
-    one_of_equals InAir (air_head_of (squitter_parts q) air) (air_head_of (squitter_parts q) other) p p x x m n f g
-    (ap (air_head_of (squitter_parts q)) (ap (airborne_of air) (sym is ∙ same))) refl refl
+    one_of_equals InAir (head_at InAir (squitter_parts q) air) (head_at InAir (squitter_parts q) other) p p x x m n f g
+    (ap (head_at InAir (squitter_parts q)) (ap (airborne_of air) (sym is ∙ same))) refl refl
     (record { of_parity = r.0; rounds = r.1; squitter = a; sent = of; is_frame = is_f; spelled = spells })
     (record { of_parity = s.0; rounds = s.1; squitter = b; sent = of'; is_frame = is_g; spelled = spelled })
 one_from q p x (Air m) (Ground n) f g r s (a, (air, is, of), is_f, spells) (b, (other, same, of'), is_g, spelled) =
@@ -57,8 +55,8 @@ one_from q p x (Air m) (Ground n) f g r s (a, (air, is, of), is_f, spells) (b, (
 one_from q p x (Ground m) (Air n) f g r s (a, (land, is, of), is_f, spells) (b, (other, same, of'), is_g, spelled) =
     absurd (cc (sym is ∙ same))
 one_from q p x (Ground m) (Ground n) f g r s (a, (land, is, of), is_f, spells) (b, (other, same, of'), is_g, spelled) =
-    one_of_equals OnGround (ground_head_of (squitter_parts q) land) (ground_head_of (squitter_parts q) other) p p x x
-    m n f g (ap (ground_head_of (squitter_parts q)) (ap (surface_of land) (sym is ∙ same))) refl refl
+    one_of_equals OnGround (head_at OnGround (squitter_parts q) land) (head_at OnGround (squitter_parts q) other) p p x
+    x m n f g (ap (head_at OnGround (squitter_parts q)) (ap (surface_of land) (sym is ∙ same))) refl refl
     (record { of_parity = r.0; rounds = r.1; squitter = a; sent = of; is_frame = is_f; spelled = spells })
     (record { of_parity = s.0; rounds = s.1; squitter = b; sent = of'; is_frame = is_g; spelled = spelled })
 

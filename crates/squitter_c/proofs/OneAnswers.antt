@@ -23,20 +23,20 @@ use Rattle.sq_text.proofs.One.{one_answer}
 use Rattle.sq_text.proofs.OneReading.{one_squitter_reading}
 use Rattle.squitter_c.specs.declared.altitudes.PlainAltitude.{PlainAltitude}
 use Rattle.squitter_c.specs.declared.e7.DegreesE7.{DegreesE7}
-use Rattle.sq_plain.specs.declared.faults.Refusal.{Refusal}
+use Rattle.squitter_c.specs.declared.faults.Refusal.{Refusal}
 use Rattle.squitter_c.specs.declared.fields.PlainSquitter.{PlainSquitter}
-use Rattle.sq_plain.specs.declared.plain.PlainAngle.{PlainAngle}
-use Rattle.sq_plain.specs.declared.plain.PlainPosition.{PlainPosition}
+use Rattle.squitter_c.specs.declared.plain.PlainAngle.{PlainAngle}
+use Rattle.squitter_c.specs.declared.plain.PlainPosition.{PlainPosition}
 use Rattle.squitter_c.specs.Altitudes.{IsFieldAnswer, IsMeaningAnswer, IsAltitudeItself}
 use Rattle.squitter_c.specs.Angles.{IsAngleAnswer, IsItself, IsLowestAngle, IsZoneAnswer}
 use Rattle.squitter_c.specs.E7.{AreE7Of, IsE7, IsE7Of, IsPositionAnswer}
-use Rattle.sq_plain.specs.Faults.{as_it_is, of_angles, of_frames, of_lines, of_texts}
+use Rattle.squitter_c.specs.Faults.{as_it_is, of_angles, of_frames, of_lines, of_texts}
 use Rattle.squitter_c.specs.Fields.{HasMeaning, IsPlainAltitude, IsPlainMe, IsPlainSquitter}
 use Rattle.squitter_c.specs.OneAnswers.{OneNumber, OneReading}
-use Rattle.sq_plain.specs.Plain.{PlainIsAngle, fraction_of}
+use Rattle.squitter_c.specs.Plain.{PlainIsAngle, fraction_of}
 use Rattle.squitter_c.specs.Reading.{AreBytesOf}
-use Rattle.sq_plain.proofs.OnePlain.{is_position, one_lowest, one_of_degrees}
-use Rattle.sq_plain.proofs.OneTelling.{one_telling}
+use Rattle.squitter_c.proofs.OnePlain.{is_position, one_lowest, one_of_degrees}
+use Rattle.squitter_c.proofs.OneTelling.{one_telling}
 
 -- ---- squitters in plain numbers
 

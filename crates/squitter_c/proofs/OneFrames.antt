@@ -1,6 +1,6 @@
 -- What is sent is one frame, or has one fault.
-use Rattle.std.proofs.Common.{◌≡◌, ◌∙◌, ◌<◌, ◌⊎◌, ℕ, Bool, true, false, Result, Ok, Err, inl, inr, arith, ap, refl, sym}
-use Rattle.std.proofs.Common.{subst}
+use Rattle.std.proofs.Common.{◌≡◌, ◌∙◌, ◌<◌, ◌^◌, ◌⊎◌, ℕ, Bool, true, false, Result, Ok, Err, inl, inr, arith, ap, refl}
+use Rattle.std.proofs.Common.{subst, sym}
 use Rattle.sq_angle.specs.declared.position.Position.{Position}
 use Rattle.sq_bits.specs.declared.frame.Frame.{Frame}
 use Rattle.sq_zones.specs.declared.parity.Parity.{Parity}
@@ -10,19 +10,19 @@ use Rattle.sq_message.specs.Kinds.{Kind, HeadParts, InAir, OnGround}
 use Rattle.sq_message.specs.Sending.{IsSent}
 use Rattle.sq_message.specs.Spelling.{bit}
 use Rattle.sq_message.specs.TypeCodes.{IsAirCode, IsGroundCode}
-use Rattle.sq_message.proofs.OneSent.{one_sent}
+use Rattle.sq_message.proofs.SameZones.{one_sent}
 use Rattle.sq_message.proofs.Same.{same_air_fields, same_bit, same_ground_fields, same_parity}
-use Rattle.sq_plain.specs.declared.faults.Refusal.{Refusal}
-use Rattle.sq_plain.specs.declared.faults.Refusal.TheVariants as refusals
-use Rattle.sq_plain.specs.declared.plain.PlainPosition.{PlainPosition}
-use Rattle.sq_plain.specs.Faults.{as_it_is}
-use Rattle.squitter_c.specs.Heads.{Head, IsHead, PlainHead, PlainIsHead, head_parts, odd_of}
+use Rattle.squitter_c.specs.declared.faults.Refusal.{Refusal}
+use Rattle.squitter_c.specs.declared.faults.Refusal.TheVariants as refusals
+use Rattle.squitter_c.specs.declared.plain.PlainPosition.{PlainPosition}
+use Rattle.squitter_c.specs.Faults.{as_it_is}
+use Rattle.squitter_c.specs.Heads.{IsHead, PlainHead, PlainIsHead, odd_of}
 use Rattle.squitter_c.specs.OneAnswers.{OneSent}
-use Rattle.sq_plain.specs.Plain.{IsFlag, IsOfDegrees, IsParity, PlainIsPosition}
+use Rattle.squitter_c.specs.Plain.{IsFlag, IsOfDegrees, IsParity, PlainIsPosition}
 use Rattle.squitter_c.specs.Reading.{AreBytesOf}
 use Rattle.squitter_c.specs.Sending.{IsSendAnswer}
-use Rattle.sq_plain.proofs.OnePlain.{is_position, one_of_degrees}
-use Rattle.sq_plain.proofs.OneTelling.{one_telling}
+use Rattle.squitter_c.proofs.OnePlain.{is_position, one_of_degrees}
+use Rattle.squitter_c.proofs.OneTelling.{one_telling}
 
 -- ---- one frame of a head, a parity and a position
 
@@ -37,8 +37,8 @@ one_of_equals kind s t p q x y m n f g head parity position h k =
 
 -- ---- heads
 
-one_head : (kind : Kind) (plain : PlainHead kind) (a b : Head kind) → IsHead kind plain a → IsHead kind plain b
-    → head_parts kind a ≡ head_parts kind b
+one_head : (kind : Kind) (plain : PlainHead kind) (a b : HeadParts kind) → IsHead kind plain a → IsHead kind plain b
+    → a ≡ b
 one_head InAir plain a b h k =
     let ca = h.ca ∙ sym k.ca in
     let address = h.address ∙ sym k.address in
@@ -62,12 +62,12 @@ pub parity_is_flag : (n : ℕ) (p : Parity) → IsParity n p → IsFlag n
 parity_is_flag n Even e = omega (arith, e)
 parity_is_flag n Odd e = omega (arith, e)
 
-is_head : (kind : Kind) (plain : PlainHead kind) (a : Head kind) (p : Parity) → IsHead kind plain a
-    → IsParity (odd_of kind plain) p → PlainIsHead kind plain
-is_head InAir plain a p h parity = (
+is_head : (kind : Kind) (plain : PlainHead kind) (a : HeadParts kind) (p : Parity) → a.ca < 8 → a.address < 2 ^ 24
+    → IsHead kind plain a → IsParity (odd_of kind plain) p → PlainIsHead kind plain
+is_head InAir plain a p ca address h parity = (
   record {
-    address = omega (arith, h.address, a.address_in);
-    ca = omega (arith, h.ca, a.ca_in);
+    address = omega (arith, h.address, address);
+    ca = omega (arith, h.ca, ca);
     type_code = subst IsAirCode h.type_code a.fields.type_code_in;
     status = omega (arith, h.status, a.fields.status_in);
     altitude = omega (arith, h.altitude, a.fields.altitude_in);
@@ -76,10 +76,10 @@ is_head InAir plain a p h parity = (
   },
   parity_is_flag plain.odd p parity,
 )
-is_head OnGround plain a p h parity = (
+is_head OnGround plain a p ca address h parity = (
   record {
-    address = omega (arith, h.address, a.address_in);
-    ca = omega (arith, h.ca, a.ca_in);
+    address = omega (arith, h.address, address);
+    ca = omega (arith, h.ca, ca);
     type_code = subst IsGroundCode h.type_code a.fields.type_code_in;
     movement = omega (arith, h.movement, a.fields.movement_in);
     track = omega (arith, h.track, a.fields.track_in);
@@ -110,15 +110,15 @@ module _ (Head : Type 0) (plain : PlainPosition) (Sent : Frame → Type 0)
 
 -- a frame is sent of what these stand for
 abbrev Sent : (kind : Kind) → PlainHead kind → PlainPosition → Frame → Type 0
-Sent kind plain place frame = (head : Head kind) × IsHead kind plain head
+Sent kind plain place frame = (head : HeadParts kind) × IsHead kind plain head
     × ((parity : Parity) × IsParity (odd_of kind plain) parity
     × ((position : Position) × IsOfDegrees place position
-    × ((point : Point) × IsSent kind (head_parts kind head) parity position point frame)))
+    × ((point : Point) × IsSent kind head parity position point frame)))
 
 one_frame : (kind : Kind) (plain : PlainHead kind) (place : PlainPosition) (f g : Frame) → Sent kind plain place f
     → Sent kind plain place g → f ≡ g
 one_frame kind plain place f g (a, a_is, (p, p_is, (x, x_is, (m, h)))) (b, b_is, (q, q_is, (y, y_is, (n, k)))) =
-    one_of_equals kind (head_parts kind a) (head_parts kind b) p q x y m n f g (one_head kind plain a b a_is b_is)
+    one_of_equals kind a b p q x y m n f g (one_head kind plain a b a_is b_is)
     (same_parity p q (sym p_is ∙ q_is)) (one_of_degrees place x y x_is y_is) h k
 
 told : (kind : Kind) (plain : PlainHead kind) (place : PlainPosition) (r : Result Frame Refusal)
@@ -126,8 +126,10 @@ told : (kind : Kind) (plain : PlainHead kind) (place : PlainPosition) (r : Resul
     → Told (PlainIsHead kind plain) place (Sent kind plain place) (one_frame kind plain place) r
 unfolding IsSendAnswer
 told kind plain place (Ok f) (a, a_is, (p, p_is, (x, x_is, sent))) =
+    let q = sent.1.squitter in
+    let head = sent.1.sent in
     inr (
-      is_head kind plain a p a_is p_is,
+      is_head kind plain a p (omega (arith, head.ca, q.ca_in)) (omega (arith, head.address, q.address_in)) a_is p_is,
       inr (is_position place x x_is, (f, (a, a_is, (p, p_is, (x, x_is, sent))), refl)),
     )
 told kind plain place (Err refusals.NoHead) h = inl (h, refl)

@@ -16,17 +16,17 @@ use Rattle.sq_message.specs.Spelling.{IsReading}
 use Rattle.sq_message.proofs.One.{one_reading}
 use Rattle.sq_message.proofs.OnePlace.{one_local_place, one_pair_place}
 use Rattle.sq_text.specs.Faults.{of_frame}
-use Rattle.sq_plain.specs.declared.faults.Refusal.{Refusal}
-use Rattle.sq_plain.specs.declared.faults.Refusal.TheVariants as refusals
-use Rattle.sq_plain.specs.declared.plain.PlainPosition.{PlainPosition}
+use Rattle.squitter_c.specs.declared.faults.Refusal.{Refusal}
+use Rattle.squitter_c.specs.declared.faults.Refusal.TheVariants as refusals
+use Rattle.squitter_c.specs.declared.plain.PlainPosition.{PlainPosition}
 use Rattle.squitter_c.specs.declared.zones.PlainZones.{PlainZones}
 use Rattle.squitter_c.specs.Decoding.{IsLocalAnswer, IsLowestPlace, IsPairAnswer, IsSiteAnswer}
-use Rattle.sq_plain.specs.Faults.{as_it_is}
+use Rattle.squitter_c.specs.Faults.{as_it_is}
 use Rattle.squitter_c.specs.OneAnswers.{OnePlace}
-use Rattle.sq_plain.specs.Plain.{IsOfDegrees, PlainIsPosition}
+use Rattle.squitter_c.specs.Plain.{IsOfDegrees, PlainIsPosition}
 use Rattle.squitter_c.specs.Zones.{AreZonesOf, AreZonesOfPlace}
-use Rattle.sq_plain.proofs.OnePlain.{is_position, one_lowest_place, one_of_degrees}
-use Rattle.sq_plain.proofs.OneTelling.{one_telling}
+use Rattle.squitter_c.proofs.OnePlain.{is_position, one_lowest_place, one_of_degrees}
+use Rattle.squitter_c.proofs.OneTelling.{one_telling}
 
 -- what is answered for a place or its fault
 abbrev Placed : Result Place PlaceFault → Result Place Refusal → Type 0

@@ -4,9 +4,9 @@ use Rattle.std.proofs.lemmas.List.{ext_get_or}
 use Rattle.sq_angle.specs.declared.angle.Angle.{Angle}
 use Rattle.sq_angle.specs.Angle.{degrees}
 use Rattle.sq_angle.proofs.OneText.{one_decimal7}
-use Rattle.sq_plain.specs.declared.faults.Fault.{Fault}
-use Rattle.sq_plain.specs.declared.faults.Refusal.{Refusal}
-use Rattle.sq_plain.specs.Faults.{Tells, as_it_is}
+use Rattle.squitter_c.specs.declared.faults.Fault.{Fault}
+use Rattle.squitter_c.specs.declared.faults.Refusal.{Refusal}
+use Rattle.squitter_c.specs.Faults.{Tells, as_it_is}
 use Rattle.squitter_c.specs.Angles.{HoldsDecimal7}
 use Rattle.squitter_c.specs.Pinned.{OneAngleText}
 use Rattle.squitter_c.proofs.OneAnswers.{one_angle_answer}

@@ -4,13 +4,13 @@ use Rattle.std.proofs.Common.{length, map, refl, slice_get, sym, subst}
 use Rattle.sq_message.specs.declared.squitter.FrameFault.{FrameFault}
 use Rattle.sq_message.specs.declared.squitter.Squitter.{Squitter}
 use Rattle.sq_message.proofs.One.{one_reading}
-use Rattle.sq_plain.specs.declared.faults.Fault.{Fault}
-use Rattle.sq_plain.specs.declared.heard.PlainHeard.{PlainHeard}
-use Rattle.sq_plain.specs.Faults.{Tells}
-use Rattle.sq_plain.specs.Heard.{IsPlainHeard}
-use Rattle.sq_plain.proofs.OneHeard.{one_heard}
-use Rattle.sq_plain.proofs.OnePlain.{is_position, one_of_degrees}
-use Rattle.sq_plain.proofs.OneTelling.{one_telling}
+use Rattle.squitter_c.specs.declared.faults.Fault.{Fault}
+use Rattle.squitter_c.specs.declared.heard.PlainHeard.{PlainHeard}
+use Rattle.squitter_c.specs.Faults.{Tells}
+use Rattle.squitter_c.specs.Heard.{IsPlainHeard}
+use Rattle.squitter_c.proofs.OneHeard.{one_heard}
+use Rattle.squitter_c.proofs.OnePlain.{is_position, one_of_degrees}
+use Rattle.squitter_c.proofs.OneTelling.{one_telling}
 use Rattle.sq_track.specs.declared.contact.Contact.{Contact}
 use Rattle.sq_track.specs.declared.heard.Heard.{Heard}
 use Rattle.sq_track.specs.declared.heard.TrackFault.{TrackFault}

@@ -5,7 +5,7 @@ use Rattle.sq_track.specs.declared.contact.Contact.{Contact}
 use Rattle.sq_track.specs.Held.{Held}
 use Rattle.sq_track.specs.Replies.{Settings}
 use Rattle.sq_track.specs.Restoring.{CanBeRestored}
-use Rattle.sq_plain.proofs.Steps.{no_place}
+use Rattle.squitter_c.proofs.Steps.{no_place}
 use Rattle.squitter_c.specs.declared.entry.PlainEntry.{PlainEntry}
 use Rattle.squitter_c.specs.declared.entry.PlainReceived.{PlainReceived}
 use Rattle.squitter_c.specs.declared.entry.PlainSide.{PlainSide}

@@ -3,11 +3,11 @@ use Rattle.std.specs.Prelude.{◌≡◌, ◌<◌, ℕ, ℤ, Result, Ok, Err}
 use Rattle.sq_message.specs.Altitudes.{HasField, IsFieldOfFeet}
 use Rattle.sq_message.specs.TypeCodes.{IsAirCode}
 use Rattle.squitter_c.specs.declared.altitudes.PlainAltitude.{PlainAltitude}
-use Rattle.sq_plain.specs.declared.faults.Fault.{Fault}
-use Rattle.sq_plain.specs.declared.faults.Refusal.{Refusal}
-use Rattle.sq_plain.specs.declared.faults.Refusal.TheVariants as refusals
+use Rattle.squitter_c.specs.declared.faults.Fault.{Fault}
+use Rattle.squitter_c.specs.declared.faults.Refusal.{Refusal}
+use Rattle.squitter_c.specs.declared.faults.Refusal.TheVariants as refusals
 use Rattle.squitter_c.specs.Angles.{IsItself}
-use Rattle.sq_plain.specs.Faults.{Tells, as_it_is}
+use Rattle.squitter_c.specs.Faults.{Tells, as_it_is}
 use Rattle.squitter_c.specs.Fields.{HasMeaning}
 
 -- the type code is one of an airborne position, and the field has 12 bits

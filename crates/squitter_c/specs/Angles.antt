@@ -7,12 +7,12 @@ use Rattle.sq_angle.specs.Decimal.{IsDecimal7}
 use Rattle.sq_angle.specs.Fraction.{IsWithin}
 use Rattle.sq_angle.specs.Reading.{IsReading}
 use Rattle.sq_zones.specs.Zones.{zones_at}
-use Rattle.sq_plain.specs.declared.faults.Fault.{Fault}
-use Rattle.sq_plain.specs.declared.faults.Refusal.{Refusal}
-use Rattle.sq_plain.specs.declared.faults.Refusal.TheVariants as refusals
-use Rattle.sq_plain.specs.declared.plain.PlainAngle.{PlainAngle}
-use Rattle.sq_plain.specs.Faults.{Tells, as_it_is, of_angles}
-use Rattle.sq_plain.specs.Plain.{IsLowestOf, PlainIsAngle, fraction_of}
+use Rattle.squitter_c.specs.declared.faults.Fault.{Fault}
+use Rattle.squitter_c.specs.declared.faults.Refusal.{Refusal}
+use Rattle.squitter_c.specs.declared.faults.Refusal.TheVariants as refusals
+use Rattle.squitter_c.specs.declared.plain.PlainAngle.{PlainAngle}
+use Rattle.squitter_c.specs.Faults.{Tells, as_it_is, of_angles}
+use Rattle.squitter_c.specs.Plain.{IsLowestOf, PlainIsAngle, fraction_of}
 
 -- the text stands in front in these bytes, and all that follows is 0, at least one byte
 pub record StandsIn (text bytes : List ℕ) : Type 0 where

@@ -10,12 +10,12 @@ use Rattle.sq_message.specs.Places.{IsLocalPlace, IsPairPlace, IsPositionOf}
 use Rattle.sq_message.specs.Spelling.{IsFault, Spells}
 use Rattle.sq_text.specs.declared.faults.LineFault.{LineFault}
 use Rattle.sq_text.specs.Faults.{of_frame}
-use Rattle.sq_plain.specs.declared.faults.Fault.{Fault}
-use Rattle.sq_plain.specs.declared.faults.Refusal.{Refusal}
-use Rattle.sq_plain.specs.declared.faults.Refusal.TheVariants as refusals
-use Rattle.sq_plain.specs.declared.plain.PlainPosition.{PlainPosition}
-use Rattle.sq_plain.specs.Faults.{Tells, as_it_is}
-use Rattle.sq_plain.specs.Plain.{IsLowestPosition, IsOfDegrees, PlainIsPosition}
+use Rattle.squitter_c.specs.declared.faults.Fault.{Fault}
+use Rattle.squitter_c.specs.declared.faults.Refusal.{Refusal}
+use Rattle.squitter_c.specs.declared.faults.Refusal.TheVariants as refusals
+use Rattle.squitter_c.specs.declared.plain.PlainPosition.{PlainPosition}
+use Rattle.squitter_c.specs.Faults.{Tells, as_it_is}
+use Rattle.squitter_c.specs.Plain.{IsLowestPosition, IsOfDegrees, PlainIsPosition}
 
 -- the fault is that of the frame
 abbrev pub IsFrameFault : Frame → LineFault → Type 0

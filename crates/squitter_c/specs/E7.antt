@@ -9,14 +9,14 @@ use Rattle.sq_angle.specs.Nearest.{IsNearest}
 use Rattle.sq_angle.specs.Position.{lat_of, lon_of}
 use Rattle.sq_angle.specs.Spelling.{signed}
 use Rattle.squitter_c.specs.declared.e7.DegreesE7.{DegreesE7}
-use Rattle.sq_plain.specs.declared.faults.Fault.{Fault}
-use Rattle.sq_plain.specs.declared.faults.Refusal.{Refusal}
-use Rattle.sq_plain.specs.declared.faults.Refusal.TheVariants as refusals
-use Rattle.sq_plain.specs.declared.plain.PlainAngle.{PlainAngle}
-use Rattle.sq_plain.specs.declared.plain.PlainPosition.{PlainPosition}
+use Rattle.squitter_c.specs.declared.faults.Fault.{Fault}
+use Rattle.squitter_c.specs.declared.faults.Refusal.{Refusal}
+use Rattle.squitter_c.specs.declared.faults.Refusal.TheVariants as refusals
+use Rattle.squitter_c.specs.declared.plain.PlainAngle.{PlainAngle}
+use Rattle.squitter_c.specs.declared.plain.PlainPosition.{PlainPosition}
 use Rattle.squitter_c.specs.Angles.{IsAngleAnswer}
-use Rattle.sq_plain.specs.Faults.{Tells, as_it_is}
-use Rattle.sq_plain.specs.Plain.{IsOfDegrees, PlainIsPosition}
+use Rattle.squitter_c.specs.Faults.{Tells, as_it_is}
+use Rattle.squitter_c.specs.Plain.{IsOfDegrees, PlainIsPosition}
 
 -- the whole number of ten-millionths nearest to the magnitude of x, with x's sign
 abbrev pub IsE7 : Fraction → ℤ → Type 0

@@ -3,8 +3,8 @@ use Rattle.std.specs.Prelude.{◌≡◌, ◌∷◌, [], ℕ, List, Option, Some,
 use Rattle.sq_message.specs.declared.received.Received.{Received}
 use Rattle.sq_message.specs.declared.squitter.Squitter.{Squitter}
 use Rattle.sq_message.specs.Spelling.{Spells}
-use Rattle.sq_plain.specs.Frames.{frame_of}
-use Rattle.sq_plain.specs.Plain.{IsOfDegrees, PlainIsPosition}
+use Rattle.squitter_c.specs.Frames.{frame_of}
+use Rattle.squitter_c.specs.Plain.{IsOfDegrees, PlainIsPosition}
 use Rattle.sq_track.specs.declared.contact.Contact.{Contact}
 use Rattle.sq_track.specs.declared.contact.LastFix.{LastFix}
 use Rattle.sq_track.specs.declared.contact.Side.{Side}

@@ -8,10 +8,10 @@ use Rattle.sq_feed.specs.Feeds.{Feeding, HasClosedFeed, HasGiven, HasLost, HasWr
 use Rattle.sq_feed.specs.Readers.{calls_left}
 use Rattle.sq_feed.specs.declared.message.Stranger.{Stranger}
 use Rattle.sq_feed.specs.declared.message.Stranger.TheVariants as strangers
-use Rattle.sq_plain.specs.declared.faults.Fault.{Fault}
-use Rattle.sq_plain.specs.declared.faults.Refusal.TheVariants as refusals
-use Rattle.sq_plain.specs.Faults.{fault_of, none}
-use Rattle.sq_seal.specs.FeedSeal.{KeptFeed}
+use Rattle.squitter_c.specs.declared.faults.Fault.{Fault}
+use Rattle.squitter_c.specs.declared.faults.Refusal.TheVariants as refusals
+use Rattle.squitter_c.specs.Faults.{fault_of, none}
+use Rattle.squitter_c.specs.FeedSeal.{KeptFeed}
 use Rattle.squitter_c.specs.declared.feed_new.PlainCounts.{PlainCounts}
 use Rattle.squitter_c.specs.declared.log_take.Done.{Done}
 

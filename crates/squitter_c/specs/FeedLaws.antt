@@ -1,9 +1,9 @@
 -- What was given where a call of a feed left room.
 use Rattle.std.specs.Prelude.{◌≡◌, ◌+◌, ◌<◌, ◌≤◌, ℕ, List, [], Option, Some, length, take}
 use Rattle.sq_feed.specs.Feeds.{HasGiven, HasWritten}
-use Rattle.sq_plain.specs.declared.faults.Fault.{Fault}
-use Rattle.sq_plain.specs.Faults.{none}
-use Rattle.sq_seal.specs.FeedSeal.{KeptFeed}
+use Rattle.squitter_c.specs.declared.faults.Fault.{Fault}
+use Rattle.squitter_c.specs.Faults.{none}
+use Rattle.squitter_c.specs.FeedSeal.{KeptFeed}
 use Rattle.squitter_c.specs.declared.log_take.Done.{Done}
 use Rattle.squitter_c.specs.FeedCalls.{IsFeedTaken, IsFeedTextTaken}
 

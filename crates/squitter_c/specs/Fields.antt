@@ -3,16 +3,14 @@ use Rattle.std.specs.Prelude.{◌≡◌, ◌/◌, ◌^◌, ℕ, ℤ, pos}
 use Rattle.sq_zones.specs.declared.parity.Parity.{Parity}
 use Rattle.sq_zones.specs.Zones.{parity_index}
 use Rattle.sq_cpr.specs.Code.{CodeNumbers, numbers_of}
-use Rattle.sq_message.specs.declared.air.Airborne.{Airborne}
 use Rattle.sq_message.specs.declared.air.Altitude.{Altitude}
 use Rattle.sq_message.specs.declared.air.Altitude.TheVariants as altitudes
-use Rattle.sq_message.specs.declared.ground.Surface.{Surface}
 use Rattle.sq_message.specs.declared.other.Other.{Other}
 use Rattle.sq_message.specs.declared.squitter.Me.{Me}
 use Rattle.sq_message.specs.declared.squitter.Me.TheVariants as kinds
 use Rattle.sq_message.specs.declared.squitter.Squitter.{Squitter}
 use Rattle.sq_message.specs.Altitudes.{IsAltitude}
-use Rattle.sq_message.specs.Parts.{AirParts, GroundParts, air_parts, ground_parts, raw_of, squitter_parts}
+use Rattle.sq_message.specs.Parts.{Airborne, Surface, AirParts, GroundParts, air_parts, ground_parts, raw_of, squitter_parts}
 use Rattle.sq_message.specs.Spelling.{bit}
 use Rattle.squitter_c.specs.declared.fields.PlainSquitter.{PlainSquitter}
 

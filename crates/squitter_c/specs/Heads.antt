@@ -1,15 +1,12 @@
 -- What a plain head stands for: all of a position squitter but its place.
 use Rattle.std.specs.Prelude.{◌≡◌, ◌<◌, ◌^◌, ℕ}
-use Rattle.sq_message.specs.declared.air_head.AirHead.{AirHead}
-use Rattle.sq_message.specs.declared.ground_head.GroundHead.{GroundHead}
-use Rattle.sq_message.specs.Heads.{air_head_parts, ground_head_parts}
 use Rattle.sq_message.specs.Kinds.{Kind, HeadParts, InAir, OnGround}
 use Rattle.sq_message.specs.Parts.{air_parts, ground_parts}
 use Rattle.sq_message.specs.Spelling.{bit}
 use Rattle.sq_message.specs.TypeCodes.{IsAirCode, IsGroundCode}
 use Rattle.squitter_c.specs.declared.heads.PlainAirHead.{PlainAirHead}
 use Rattle.squitter_c.specs.declared.heads.PlainGroundHead.{PlainGroundHead}
-use Rattle.sq_plain.specs.Plain.{IsFlag}
+use Rattle.squitter_c.specs.Plain.{IsFlag}
 
 -- each field is in its range
 pub record PlainIsAirHead (plain : PlainAirHead) : Type 0 where
@@ -31,37 +28,28 @@ pub record PlainIsGroundHead (plain : PlainGroundHead) : Type 0 where
   pub time : IsFlag plain.time
 
 -- the head has these fields
-pub record IsAirHead (plain : PlainAirHead) (head : AirHead) : Type 0 where
-  pub ca : (air_head_parts head).ca ≡ plain.ca
-  pub address : (air_head_parts head).address ≡ plain.address
-  pub type_code : (air_parts (air_head_parts head).fields).type_code ≡ plain.type_code
-  pub status : (air_parts (air_head_parts head).fields).status ≡ plain.status
-  pub altitude : (air_parts (air_head_parts head).fields).altitude ≡ plain.altitude
-  pub flag : bit (air_parts (air_head_parts head).fields).flag ≡ plain.flag
-  pub time : bit (air_parts (air_head_parts head).fields).time ≡ plain.time
+pub record IsAirHead (plain : PlainAirHead) (head : HeadParts InAir) : Type 0 where
+  pub ca : head.ca ≡ plain.ca
+  pub address : head.address ≡ plain.address
+  pub type_code : (air_parts head.fields).type_code ≡ plain.type_code
+  pub status : (air_parts head.fields).status ≡ plain.status
+  pub altitude : (air_parts head.fields).altitude ≡ plain.altitude
+  pub flag : bit (air_parts head.fields).flag ≡ plain.flag
+  pub time : bit (air_parts head.fields).time ≡ plain.time
 
-pub record IsGroundHead (plain : PlainGroundHead) (head : GroundHead) : Type 0 where
-  pub ca : (ground_head_parts head).ca ≡ plain.ca
-  pub address : (ground_head_parts head).address ≡ plain.address
-  pub type_code : (ground_parts (ground_head_parts head).fields).type_code ≡ plain.type_code
-  pub movement : (ground_parts (ground_head_parts head).fields).movement ≡ plain.movement
-  pub track : (ground_parts (ground_head_parts head).fields).track ≡ plain.track
-  pub track_status : bit (ground_parts (ground_head_parts head).fields).track_status ≡ plain.track_status
-  pub time : bit (ground_parts (ground_head_parts head).fields).time ≡ plain.time
+pub record IsGroundHead (plain : PlainGroundHead) (head : HeadParts OnGround) : Type 0 where
+  pub ca : head.ca ≡ plain.ca
+  pub address : head.address ≡ plain.address
+  pub type_code : (ground_parts head.fields).type_code ≡ plain.type_code
+  pub movement : (ground_parts head.fields).movement ≡ plain.movement
+  pub track : (ground_parts head.fields).track ≡ plain.track
+  pub track_status : bit (ground_parts head.fields).track_status ≡ plain.track_status
+  pub time : bit (ground_parts head.fields).time ≡ plain.time
 
 -- a plain head of the kind
 abbrev pub PlainHead : Kind → Type 0
 PlainHead InAir = PlainAirHead
 PlainHead OnGround = PlainGroundHead
-
--- a head of the kind
-abbrev pub Head : Kind → Type 0
-Head InAir = AirHead
-Head OnGround = GroundHead
-
-abbrev pub head_parts : (kind : Kind) → Head kind → HeadParts kind
-head_parts InAir head = air_head_parts head
-head_parts OnGround head = ground_head_parts head
 
 -- the number of a head's parity
 abbrev pub odd_of : (kind : Kind) → PlainHead kind → ℕ
@@ -74,6 +62,6 @@ PlainIsHead InAir plain = PlainIsAirHead plain × IsFlag plain.odd
 PlainIsHead OnGround plain = PlainIsGroundHead plain × IsFlag plain.odd
 
 -- the head has these fields
-abbrev pub IsHead : (kind : Kind) → PlainHead kind → Head kind → Type 0
+abbrev pub IsHead : (kind : Kind) → PlainHead kind → HeadParts kind → Type 0
 IsHead InAir plain head = IsAirHead plain head
 IsHead OnGround plain head = IsGroundHead plain head

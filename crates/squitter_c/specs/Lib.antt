@@ -1,3 +1,13 @@
+pub mod Plain
+pub mod Faults
+pub mod Frames
+pub mod Heard
+pub mod Calls
+pub mod OneValues
+pub mod Seal
+pub mod Sizes
+pub mod FeedSeal
+pub mod OrderSeal
 pub mod Fields
 pub mod Reading
 pub mod Decoding

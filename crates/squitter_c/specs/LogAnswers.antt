@@ -11,10 +11,10 @@ use Rattle.sq_lines.specs.declared.log.Answer.{Answer as Told}
 use Rattle.sq_track.specs.declared.heard.Heard.{Heard}
 use Rattle.sq_track.specs.declared.heard.Heard.TheVariants.{Fix, Followed, Waiting, Split, Far, NoSite, NotPosition}
 use Rattle.sq_commands.specs.declared.found.HeardSquitter.{HeardSquitter}
-use Rattle.sq_plain.specs.declared.heard.PlainHeard.{PlainHeard}
-use Rattle.sq_plain.specs.Faults.{fault_of_line, none}
-use Rattle.sq_plain.specs.Heard.{HasNoPlace, IsHeardAs}
-use Rattle.sq_plain.specs.Plain.{IsOfDegrees}
+use Rattle.squitter_c.specs.declared.heard.PlainHeard.{PlainHeard}
+use Rattle.squitter_c.specs.Faults.{fault_of_line, none}
+use Rattle.squitter_c.specs.Heard.{HasNoPlace, IsHeardAs}
+use Rattle.squitter_c.specs.Plain.{IsOfDegrees}
 use Rattle.squitter_c.specs.declared.e7.DegreesE7.{DegreesE7}
 use Rattle.squitter_c.specs.declared.log_answer.PlainAnswer.{PlainAnswer}
 use Rattle.squitter_c.specs.E7.{AreE7Of}

@@ -16,10 +16,10 @@ use Rattle.sq_commands.specs.declared.found.HeardSquitter.{HeardSquitter}
 use Rattle.sq_commands.specs.Formats.{Telling, Writers}
 use Rattle.sq_commands.specs.SlowAnswers.{AreTrueAnswers}
 use Rattle.sq_commands.specs.Tracking.{track_manner}
-use Rattle.sq_plain.specs.declared.faults.Fault.{Fault}
-use Rattle.sq_plain.specs.declared.faults.Refusal.TheVariants as refusals
-use Rattle.sq_plain.specs.Faults.{fault_of, none}
-use Rattle.sq_seal.specs.Seal.{Kept}
+use Rattle.squitter_c.specs.declared.faults.Fault.{Fault}
+use Rattle.squitter_c.specs.declared.faults.Refusal.TheVariants as refusals
+use Rattle.squitter_c.specs.Faults.{fault_of, none}
+use Rattle.squitter_c.specs.Seal.{Kept}
 use Rattle.squitter_c.specs.declared.log_answer.PlainAnswer.{PlainAnswer}
 use Rattle.squitter_c.specs.declared.log_new.PlainTally.{PlainTally}
 use Rattle.squitter_c.specs.declared.log_take.Done.{Done}

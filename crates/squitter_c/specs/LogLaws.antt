@@ -11,8 +11,8 @@ use Rattle.sq_lines.specs.declared.log.Answer.{Answer as Told}
 use Rattle.sq_lines.specs.Lines.{closed, ended_lines}
 use Rattle.sq_lines.specs.Logs.{HasHeard}
 use Rattle.sq_lines.specs.Runs.{told_text}
-use Rattle.sq_plain.specs.Faults.{none}
-use Rattle.sq_seal.specs.Seal.{Kept}
+use Rattle.squitter_c.specs.Faults.{none}
+use Rattle.squitter_c.specs.Seal.{Kept}
 use Rattle.sq_track.specs.Held.{Held}
 use Rattle.squitter_c.specs.declared.log_answer.PlainAnswer.{PlainAnswer}
 use Rattle.squitter_c.specs.declared.log_take.Done.{Done}

@@ -3,10 +3,10 @@ use Rattle.std.specs.Prelude.{◌≡◌, ◌<◌, ◌+◌, ◌⊎◌, ⊤, ℕ, 
 use Rattle.sq_commands.specs.declared.formats.Format.{Format}
 use Rattle.sq_commands.specs.declared.formats.Format.TheVariants as formats
 use Rattle.sq_commands.specs.Heard.{heard_telling}
-use Rattle.sq_plain.specs.declared.faults.Fault.{Fault}
-use Rattle.sq_plain.specs.declared.faults.Refusal.TheVariants as refusals
-use Rattle.sq_plain.specs.Faults.{fault_of}
-use Rattle.sq_seal.specs.Seal.{Kept}
+use Rattle.squitter_c.specs.declared.faults.Fault.{Fault}
+use Rattle.squitter_c.specs.declared.faults.Refusal.TheVariants as refusals
+use Rattle.squitter_c.specs.Faults.{fault_of}
+use Rattle.squitter_c.specs.Seal.{Kept}
 use Rattle.squitter_c.specs.declared.log_take.Done.{Done}
 use Rattle.squitter_c.specs.declared.log_take.End.{End}
 use Rattle.squitter_c.specs.declared.log_take.End.TheVariants as ends

@@ -1,13 +1,13 @@
 -- Many calls in one.
 use Rattle.std.specs.Prelude.{ℕ, List, slice_index_or}
 use Rattle.squitter_c.specs.declared.e7.DegreesE7.{DegreesE7}
-use Rattle.sq_plain.specs.declared.faults.Fault.{Fault}
+use Rattle.squitter_c.specs.declared.faults.Fault.{Fault}
 use Rattle.squitter_c.specs.declared.fields.PlainSquitter.{PlainSquitter}
-use Rattle.sq_plain.specs.declared.plain.PlainPosition.{PlainPosition}
+use Rattle.squitter_c.specs.declared.plain.PlainPosition.{PlainPosition}
 use Rattle.squitter_c.specs.Decoding.{IsLocal, IsPair, IsPairAt}
 use Rattle.squitter_c.specs.E7.{IsPositionE7}
 use Rattle.squitter_c.specs.Reading.{IsFrameRead}
-use Rattle.sq_plain.specs.Frames.{frame_of}
+use Rattle.squitter_c.specs.Frames.{frame_of}
 
 -- the frame at place k is read
 abbrev pub IsReadAt : (frames : List (List ℕ)) → (k : ℕ) → (old new : PlainSquitter) → Fault → Type 0

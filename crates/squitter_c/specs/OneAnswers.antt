@@ -4,10 +4,10 @@ use Rattle.sq_bits.specs.declared.frame.Frame.{Frame}
 use Rattle.sq_message.specs.Kinds.{Kind}
 use Rattle.squitter_c.specs.declared.altitudes.PlainAltitude.{PlainAltitude}
 use Rattle.squitter_c.specs.declared.e7.DegreesE7.{DegreesE7}
-use Rattle.sq_plain.specs.declared.faults.Fault.{Fault}
+use Rattle.squitter_c.specs.declared.faults.Fault.{Fault}
 use Rattle.squitter_c.specs.declared.fields.PlainSquitter.{PlainSquitter}
-use Rattle.sq_plain.specs.declared.plain.PlainAngle.{PlainAngle}
-use Rattle.sq_plain.specs.declared.plain.PlainPosition.{PlainPosition}
+use Rattle.squitter_c.specs.declared.plain.PlainAngle.{PlainAngle}
+use Rattle.squitter_c.specs.declared.plain.PlainPosition.{PlainPosition}
 use Rattle.squitter_c.specs.declared.zones.PlainZones.{PlainZones}
 use Rattle.squitter_c.specs.Altitudes.{IsFeetOfField, IsFieldWritten}
 use Rattle.squitter_c.specs.Angles.{IsAngleRead, IsZoneCount}

@@ -6,13 +6,13 @@ use Rattle.sq_bits.specs.declared.frame.Frame.{Frame}
 use Rattle.sq_message.specs.declared.squitter.Squitter.{Squitter}
 use Rattle.sq_message.specs.Parts.{squitter_parts}
 use Rattle.sq_message.specs.Places.{IsPosition}
-use Rattle.sq_plain.specs.declared.faults.Fault.{Fault}
-use Rattle.sq_plain.specs.declared.faults.Refusal.TheVariants as refusals
-use Rattle.sq_plain.specs.declared.heard.PlainHeard.{PlainHeard}
-use Rattle.sq_plain.specs.declared.plain.PlainPosition.{PlainPosition}
-use Rattle.sq_plain.specs.Faults.{fault_of}
-use Rattle.sq_plain.specs.Frames.{frame_of}
-use Rattle.sq_seal.specs.Seal.{Kept}
+use Rattle.squitter_c.specs.declared.faults.Fault.{Fault}
+use Rattle.squitter_c.specs.declared.faults.Refusal.TheVariants as refusals
+use Rattle.squitter_c.specs.declared.heard.PlainHeard.{PlainHeard}
+use Rattle.squitter_c.specs.declared.plain.PlainPosition.{PlainPosition}
+use Rattle.squitter_c.specs.Faults.{fault_of}
+use Rattle.squitter_c.specs.Frames.{frame_of}
+use Rattle.squitter_c.specs.Seal.{Kept}
 use Rattle.sq_track.specs.declared.heard.Heard.{Heard}
 use Rattle.sq_track.specs.declared.heard.TrackFault.{TrackFault}
 use Rattle.sq_track.specs.declared.heard.TrackFault.TheVariants.{Memory}

@@ -1,10 +1,10 @@
 -- What calls of an order answer.
 use Rattle.std.specs.Prelude.{◌≡◌, ◌≤◌, ◌<◌, ◌⊎◌, ℕ, false, List, [], Option, None, Some, length, take}
 use Rattle.sq_feed.specs.Orders.{HasFlushed, HasSorted, Sorting, is_due, nothing_sorted, squitters_of}
-use Rattle.sq_plain.specs.declared.faults.Fault.{Fault}
-use Rattle.sq_plain.specs.declared.faults.Refusal.TheVariants as refusals
-use Rattle.sq_plain.specs.Faults.{fault_of, none}
-use Rattle.sq_seal.specs.OrderSeal.{KeptOrder}
+use Rattle.squitter_c.specs.declared.faults.Fault.{Fault}
+use Rattle.squitter_c.specs.declared.faults.Refusal.TheVariants as refusals
+use Rattle.squitter_c.specs.Faults.{fault_of, none}
+use Rattle.squitter_c.specs.OrderSeal.{KeptOrder}
 use Rattle.squitter_c.specs.declared.log_take.Done.{Done}
 use Rattle.squitter_c.specs.FeedCalls.{IsFilled}
 

@@ -1,9 +1,9 @@
 -- What was stored where a call of an order left room.
 use Rattle.std.specs.Prelude.{◌≡◌, ◌<◌, ℕ, List, [], Option, Some, length, take}
 use Rattle.sq_feed.specs.Orders.{HasSorted, squitters_of}
-use Rattle.sq_plain.specs.declared.faults.Fault.{Fault}
-use Rattle.sq_plain.specs.Faults.{none}
-use Rattle.sq_seal.specs.OrderSeal.{KeptOrder}
+use Rattle.squitter_c.specs.declared.faults.Fault.{Fault}
+use Rattle.squitter_c.specs.Faults.{none}
+use Rattle.squitter_c.specs.OrderSeal.{KeptOrder}
 use Rattle.squitter_c.specs.declared.log_take.Done.{Done}
 use Rattle.squitter_c.specs.OrderCalls.{IsOrderFlushed, IsOrderTaken}
 

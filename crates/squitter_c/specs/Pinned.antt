@@ -1,9 +1,9 @@
 -- Laws that pin calls at an index of arrays exactly.
 use Rattle.std.specs.Prelude.{◌≡◌, ◌↔◌, ◌<◌, ℕ, List, length, slice_index_or}
-use Rattle.sq_plain.specs.declared.faults.Fault.{Fault}
-use Rattle.sq_plain.specs.declared.plain.PlainAngle.{PlainAngle}
-use Rattle.sq_plain.specs.declared.plain.PlainPosition.{PlainPosition}
-use Rattle.sq_plain.specs.Frames.{frame_of}
+use Rattle.squitter_c.specs.declared.faults.Fault.{Fault}
+use Rattle.squitter_c.specs.declared.plain.PlainAngle.{PlainAngle}
+use Rattle.squitter_c.specs.declared.plain.PlainPosition.{PlainPosition}
+use Rattle.squitter_c.specs.Frames.{frame_of}
 use Rattle.squitter_c.specs.declared.e7.DegreesE7.{DegreesE7}
 use Rattle.squitter_c.specs.declared.fields.PlainSquitter.{PlainSquitter}
 use Rattle.squitter_c.specs.Angles.{IsAngleWritten}

@@ -9,9 +9,9 @@ use Rattle.sq_text.specs.declared.faults.LineFault.{LineFault}
 use Rattle.sq_text.specs.declared.frame_text.TextFault.{TextFault}
 use Rattle.sq_text.specs.FrameText.{IsAnswer}
 use Rattle.sq_text.specs.Reading.{IsSquitterReading}
-use Rattle.sq_plain.specs.declared.faults.Fault.{Fault}
+use Rattle.squitter_c.specs.declared.faults.Fault.{Fault}
 use Rattle.squitter_c.specs.declared.fields.PlainSquitter.{PlainSquitter}
-use Rattle.sq_plain.specs.Faults.{Tells, of_frames, of_lines, of_texts}
+use Rattle.squitter_c.specs.Faults.{Tells, of_frames, of_lines, of_texts}
 use Rattle.squitter_c.specs.Fields.{IsPlainSquitter}
 
 -- the bytes are the frame's

@@ -1,10 +1,10 @@
 -- What a tracker that C holds tells of itself, and takes back.
 use Rattle.std.specs.Prelude.{◌≡◌, ◌≢◌, ◌<◌, ◌⊎◌, [], ℕ, List, Option, Some, None, length, take}
 use Rattle.std.specs.Prelude.{slice_get, slice_index_or}
-use Rattle.sq_plain.specs.declared.faults.Fault.{Fault}
-use Rattle.sq_plain.specs.declared.faults.Refusal.TheVariants as refusals
-use Rattle.sq_plain.specs.Faults.{fault_of, none}
-use Rattle.sq_seal.specs.Seal.{Kept}
+use Rattle.squitter_c.specs.declared.faults.Fault.{Fault}
+use Rattle.squitter_c.specs.declared.faults.Refusal.TheVariants as refusals
+use Rattle.squitter_c.specs.Faults.{fault_of, none}
+use Rattle.squitter_c.specs.Seal.{Kept}
 use Rattle.sq_track.specs.declared.contact.Contact.{Contact}
 use Rattle.sq_track.specs.Held.{Held, settings}
 use Rattle.sq_track.specs.Restoring.{CanBeRestored, CanFollow}

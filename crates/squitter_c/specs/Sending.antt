@@ -11,27 +11,27 @@ use Rattle.sq_message.specs.declared.place.Place.{Place}
 use Rattle.sq_message.specs.declared.place.Place.TheVariants.{Air, Ground}
 use Rattle.sq_message.specs.declared.place.PlaceFault.TheVariants.{NotPosition}
 use Rattle.sq_message.specs.declared.squitter.Squitter.{Squitter}
-use Rattle.sq_message.specs.Kinds.{Kind}
+use Rattle.sq_message.specs.Kinds.{Kind, HeadParts}
 use Rattle.sq_message.specs.Parts.{squitter_parts}
 use Rattle.sq_message.specs.Places.{IsPosition, IsSentAt}
 use Rattle.sq_message.specs.Sending.{IsSent}
 use Rattle.sq_message.specs.Spelling.{Spells}
-use Rattle.sq_plain.specs.declared.faults.Fault.{Fault}
-use Rattle.sq_plain.specs.declared.faults.Refusal.{Refusal}
-use Rattle.sq_plain.specs.declared.faults.Refusal.TheVariants as refusals
-use Rattle.sq_plain.specs.declared.plain.PlainPosition.{PlainPosition}
+use Rattle.squitter_c.specs.declared.faults.Fault.{Fault}
+use Rattle.squitter_c.specs.declared.faults.Refusal.{Refusal}
+use Rattle.squitter_c.specs.declared.faults.Refusal.TheVariants as refusals
+use Rattle.squitter_c.specs.declared.plain.PlainPosition.{PlainPosition}
 use Rattle.squitter_c.specs.Decoding.{IsFrameFault}
-use Rattle.sq_plain.specs.Faults.{Tells, as_it_is}
-use Rattle.squitter_c.specs.Heads.{Head, IsHead, PlainHead, PlainIsHead, head_parts, odd_of}
-use Rattle.sq_plain.specs.Plain.{IsFlag, IsOfDegrees, IsParity, PlainIsPosition}
+use Rattle.squitter_c.specs.Faults.{Tells, as_it_is}
+use Rattle.squitter_c.specs.Heads.{IsHead, PlainHead, PlainIsHead, odd_of}
+use Rattle.squitter_c.specs.Plain.{IsFlag, IsOfDegrees, IsParity, PlainIsPosition}
 use Rattle.squitter_c.specs.Reading.{AreBytesOf}
 
 -- the frame that is sent; the first fault is the head's or the parity's, then the position's
 unfoldable pub IsSendAnswer : (kind : Kind) → PlainHead kind → PlainPosition → Result Frame Refusal → Type 0
-IsSendAnswer kind plain place (Ok frame) = (head : Head kind) × IsHead kind plain head
+IsSendAnswer kind plain place (Ok frame) = (head : HeadParts kind) × IsHead kind plain head
     × ((parity : Parity) × IsParity (odd_of kind plain) parity
     × ((position : Position) × IsOfDegrees place position
-    × ((point : Point) × IsSent kind (head_parts kind head) parity position point frame)))
+    × ((point : Point) × IsSent kind head parity position point frame)))
 IsSendAnswer kind plain place (Err refusals.NoHead) = ¬ (PlainIsHead kind plain)
 IsSendAnswer kind plain place (Err refusals.NoPosition) = PlainIsHead kind plain × ¬ (PlainIsPosition place)
 IsSendAnswer kind plain place (Err other) = ⊥

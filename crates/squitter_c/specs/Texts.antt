@@ -8,11 +8,11 @@ use Rattle.sq_text.specs.Faults.{fault_text}
 use Rattle.sq_message.specs.Faults.{place_fault_text}
 use Rattle.sq_track.specs.Faults.{track_fault_text}
 use Rattle.sq_track.specs.declared.heard.TrackFault.TheVariants as tracks
-use Rattle.sq_plain.specs.declared.faults.Refusal.{Refusal}
-use Rattle.sq_plain.specs.declared.faults.Refusal.TheVariants.{Line, Place, Angle, NoPosition, NoHead, NoAngle}
-use Rattle.sq_plain.specs.declared.faults.Refusal.TheVariants.{NoLatitude, NoFeet, NoParity, Memory, NoLimit, NoTracker}
-use Rattle.sq_plain.specs.declared.faults.Refusal.TheVariants.{NoAddress, LongLog, NoFormat, Entry}
-use Rattle.sq_plain.specs.Faults.{fault_of, with_numbers}
+use Rattle.squitter_c.specs.declared.faults.Refusal.{Refusal}
+use Rattle.squitter_c.specs.declared.faults.Refusal.TheVariants.{Line, Place, Angle, NoPosition, NoHead, NoAngle}
+use Rattle.squitter_c.specs.declared.faults.Refusal.TheVariants.{NoLatitude, NoFeet, NoParity, Memory, NoLimit, NoTracker}
+use Rattle.squitter_c.specs.declared.faults.Refusal.TheVariants.{NoAddress, LongLog, NoFormat, Entry}
+use Rattle.squitter_c.specs.Faults.{fault_of, with_numbers}
 
 -- the text of a reason: that of the program, where it has one
 abbrev pub refusal_text : Refusal → List ℕ

@@ -8,19 +8,19 @@ use Rattle.sq_message.specs.declared.squitter.Squitter.{Squitter}
 use Rattle.sq_message.specs.Parts.{squitter_parts}
 use Rattle.sq_message.specs.Places.{IsPosition}
 use Rattle.sq_message.specs.Spelling.{IsReading}
-use Rattle.sq_plain.specs.declared.faults.Fault.{Fault}
-use Rattle.sq_plain.specs.declared.faults.Refusal.{Refusal}
-use Rattle.sq_plain.specs.declared.faults.Refusal.TheVariants as refusals
-use Rattle.sq_plain.specs.declared.heard.PlainHeard.{PlainHeard}
-use Rattle.sq_plain.specs.declared.plain.PlainPosition.{PlainPosition}
-use Rattle.sq_plain.specs.Faults.{Tells, fault_of, none, of_frames}
-use Rattle.sq_plain.specs.Frames.{frame_of}
-use Rattle.sq_plain.specs.Heard.{IsPlainHeard}
-use Rattle.sq_plain.specs.Plain.{IsOfDegrees, PlainIsPosition}
+use Rattle.squitter_c.specs.declared.faults.Fault.{Fault}
+use Rattle.squitter_c.specs.declared.faults.Refusal.{Refusal}
+use Rattle.squitter_c.specs.declared.faults.Refusal.TheVariants as refusals
+use Rattle.squitter_c.specs.declared.heard.PlainHeard.{PlainHeard}
+use Rattle.squitter_c.specs.declared.plain.PlainPosition.{PlainPosition}
+use Rattle.squitter_c.specs.Faults.{Tells, fault_of, none, of_frames}
+use Rattle.squitter_c.specs.Frames.{frame_of}
+use Rattle.squitter_c.specs.Heard.{IsPlainHeard}
+use Rattle.squitter_c.specs.Plain.{IsOfDegrees, PlainIsPosition}
 use Rattle.sq_text.specs.declared.faults.LineFault.TheVariants as lines
 use Rattle.sq_lines.specs.States.{HasHeardNothing}
-use Rattle.sq_seal.specs.Seal.{Kept}
-use Rattle.sq_seal.specs.Sizes.{IsRoomFor}
+use Rattle.squitter_c.specs.Seal.{Kept}
+use Rattle.squitter_c.specs.Sizes.{IsRoomFor}
 use Rattle.sq_track.specs.declared.heard.Heard.{Heard}
 use Rattle.sq_track.specs.declared.heard.TrackFault.{TrackFault}
 use Rattle.sq_track.specs.declared.heard.TrackFault.TheVariants.{MomentBack, Full, Memory, NoLimit}

@@ -6,12 +6,12 @@ use Rattle.sq_cpr.specs.Span.{Span, air, ground}
 use Rattle.sq_cpr.specs.Grid.{Point, code_of, codes_of_zone, lat_zones, latitude}
 use Rattle.sq_message.specs.declared.place.Place.{Place}
 use Rattle.sq_message.specs.declared.place.Place.TheVariants.{Air, Ground}
-use Rattle.sq_plain.specs.declared.faults.Fault.{Fault}
-use Rattle.sq_plain.specs.declared.faults.Refusal.{Refusal}
-use Rattle.sq_plain.specs.declared.plain.PlainPosition.{PlainPosition}
+use Rattle.squitter_c.specs.declared.faults.Fault.{Fault}
+use Rattle.squitter_c.specs.declared.faults.Refusal.{Refusal}
+use Rattle.squitter_c.specs.declared.plain.PlainPosition.{PlainPosition}
 use Rattle.squitter_c.specs.declared.zones.PlainZones.{PlainZones}
 use Rattle.squitter_c.specs.Decoding.{IsLocalAnswer}
-use Rattle.sq_plain.specs.Faults.{Tells, as_it_is}
+use Rattle.squitter_c.specs.Faults.{Tells, as_it_is}
 
 -- the zones of a point of a span's grid: each index is 2^17 times that of its zone, and the code
 pub record AreZonesOf (span : Span) (point : Point) (zones : PlainZones) : Type 0 where

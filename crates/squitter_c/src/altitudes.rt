@@ -2,9 +2,9 @@
 ghost use Rattle.std.specs.Prelude.{◌≡◌};
 ghost use Rattle.squitter_c.specs.Altitudes.{IsFeetOfField, IsFieldAnswer, IsFieldWritten, IsMeaningAnswer};
 
+use crate::faults::{Fault, NONE, Refusal};
 use crate::fields::plain_altitude;
 use sq_message::{AirFields, Airborne, Code, Parity, altitude, field_of_feet};
-use sq_plain::{Fault, NONE, Refusal};
 
 /// What an altitude field means.
 #[repr(C)]

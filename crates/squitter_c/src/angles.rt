@@ -3,8 +3,9 @@ ghost use Rattle.std.specs.Prelude.{◌<◌, length};
 ghost use Rattle.sq_angle.specs.Reading.{IsReading};
 ghost use Rattle.squitter_c.specs.Angles.{IsAngleRead, IsAngleWritten, IsZoneAnswer, IsZoneCount, StandsIn};
 
+use crate::faults::{Fault, NONE, Refusal};
+use crate::plain::{PlainAngle, angle_of, plain_angle};
 use sq_angle::{Angle, AngleFault};
-use sq_plain::{Fault, NONE, PlainAngle, Refusal, angle_of, plain_angle};
 use sq_zones::zone_count;
 
 /// The number of longitude zones at a latitude (NL), from 1 to 59; the fault comes where it is no angle of -90 to 90

@@ -1,13 +1,14 @@
 //! Decoding: a frame near a reference, and a pair of frames.
 ghost use Rattle.std.specs.Prelude.{option_copied};
-ghost use Rattle.sq_plain.specs.Frames.{frame_of};
+ghost use Rattle.squitter_c.specs.Frames.{frame_of};
 ghost use Rattle.squitter_c.specs.Decoding.{IsLocal, IsLocalAnswer, IsPair, IsPairAnswer, IsPairAt, IsSiteAnswer};
 ghost use Rattle.squitter_c.specs.Decoding.{TellsPosition};
 
+use crate::faults::{Fault, NONE, Refusal};
+use crate::plain::{PlainPosition, plain_position, position_of};
 use sq_angle::Position;
 use sq_bits::Frame;
 use sq_message::{Place, place_local, place_pair, read_frame};
-use sq_plain::{Fault, NONE, PlainPosition, Refusal, plain_position, position_of};
 
 /// The place of a frame near a reference, in degrees and in lowest terms. The first fault is the reference's, then the
 /// frame's, then the place's. RTCA DO-260B, appendix on compact position reporting, local decoding.

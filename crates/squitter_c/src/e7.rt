@@ -5,8 +5,9 @@ ghost use Rattle.sq_angle.specs.Fraction.{IsWithin};
 ghost use Rattle.sq_angle.specs.Spelling.{signed as signed_number};
 ghost use Rattle.squitter_c.specs.E7.{AreE7Of, IsAngleE7, IsE7, IsPositionE7};
 
+use crate::faults::{Fault, NONE, Refusal};
+use crate::plain::{PlainAngle, PlainPosition, angle_of, position_of};
 use sq_angle::{Angle, Position};
-use sq_plain::{Fault, NONE, PlainAngle, PlainPosition, Refusal, angle_of, position_of};
 
 /// A latitude and a longitude in units of 10^-7 degree.
 #[repr(C)]

@@ -1,13 +1,13 @@
 //! A tracker's entry of an address in plain numbers, and the contact that it represents.
 ghost use Rattle.std.specs.Prelude.{◌≡◌};
 ghost use Rattle.sq_angle.specs.Angle.{degrees};
-ghost use Rattle.sq_plain.specs.Plain.{IsOfDegrees, fraction_of};
+ghost use Rattle.squitter_c.specs.Plain.{IsOfDegrees, fraction_of};
 ghost use Rattle.squitter_c.specs.Entries.{IsContactOf, IsEntryOf, IsFixOf, IsReceivedOf, IsSideOf};
 
+use crate::plain::{PlainAngle, PlainPosition, position_of};
 use sq_angle::{Angle, Position};
 use sq_bits::Frame;
 use sq_message::{Received, read_frame, write_frame};
-use sq_plain::{PlainAngle, PlainPosition, position_of};
 use sq_track::{Contact, LastFix, Side};
 
 /// A frame and its timestamp in milliseconds. Invalid frames are skipped.

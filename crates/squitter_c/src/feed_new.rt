@@ -3,10 +3,10 @@ ghost use Rattle.std.specs.Prelude.{◌≡◌, IfNone, IfSome, None, ◌<◌};
 ghost use Rattle.squitter_c.specs.FeedCalls.{AreCounts, IsFeedCounted, IsFeedFormat, IsFeedLost, IsFeedMade};
 ghost use Rattle.squitter_c.specs.FeedCalls.{IsSourceNumber, manner_of, source_number};
 
+use crate::faults::{Fault, NONE, Refusal};
+use crate::feed_slot::{FEED_BYTES, FeedSlot, feed_in};
 use sq_feed::{Counts, Format, Manner, Stranger};
 use sq_lent::Room;
-use sq_plain::{Fault, NONE, Refusal};
-use sq_seal::{FEED_BYTES, FeedSlot, feed_in};
 
 /// Counts of a source's items: `found` is the sum of all others.
 #[repr(C)]

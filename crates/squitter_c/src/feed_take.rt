@@ -2,10 +2,10 @@
 ghost use Rattle.std.specs.Prelude.{◌≡◌};
 ghost use Rattle.squitter_c.specs.FeedCalls.{HasEndedInFrames, HasTakenFrames, IsFeedFinished, IsFeedTaken};
 
+use crate::faults::{Fault, NONE, Refusal};
+use crate::feed_slot::FeedSlot;
 use crate::log_take::Done;
 use sq_feed::Feed;
-use sq_plain::{Fault, NONE, Refusal};
-use sq_seal::FeedSlot;
 
 /// Gives a feed the next bytes of its source, received at `arrival` (ms). Stores the timestamps (ms) and the frames of
 /// their squitters, as many as fit both arrays. `done` has the number of bytes taken, and of squitters stored. If both

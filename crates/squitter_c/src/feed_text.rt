@@ -5,11 +5,11 @@ ghost use Rattle.sq_feed.specs.Lines.{log_line};
 ghost use Rattle.sq_feed.specs.Readers.{calls_left};
 ghost use Rattle.squitter_c.specs.FeedCalls.{HasEndedInText, HasTakenText, IsFeedTextFinished, IsFeedTextTaken};
 
+use crate::faults::{Fault, NONE, Refusal};
+use crate::feed_slot::FeedSlot;
 use crate::log_take::Done;
 use crate::log_text::put_at;
 use sq_feed::{Feed, LINE_LIMIT, TextBuffer, push_log_line};
-use sq_plain::{Fault, NONE, Refusal};
-use sq_seal::FeedSlot;
 
 // The size of the buffer for several lines.
 const LINES: usize = 1024;

@@ -6,11 +6,14 @@ ghost use Rattle.squitter_c.specs.LogAnswers.{IsToldNowhere, IsToldPlace};
 
 use crate::e7::{DegreesE7, both};
 use crate::entry::as_given;
+use crate::faults::{Fault, NONE, Refusal};
 use crate::fields::plain_altitude;
+use crate::heard::PlainHeard;
+use crate::plain::{PlainAngle, PlainPosition};
 use sq_commands::HeardSquitter;
 use sq_lines::Answer;
 use sq_message::{Me, Place, Squitter, altitude};
-use sq_plain::{Fault, LineFault, NONE, PlainAngle, PlainHeard, PlainPosition, Refusal};
+use sq_text::LineFault;
 use sq_track::Heard;
 
 /// The answer to a line that is not empty. If the line was refused, all fields but `number` and `fault` are 0.

@@ -1,15 +1,16 @@
 //! Making, counting and freeing a log.
 ghost use Rattle.std.specs.Prelude.{◌≡◌, None};
-ghost use Rattle.sq_seal.specs.Sizes.{IsRoomFor};
+ghost use Rattle.squitter_c.specs.Sizes.{IsRoomFor};
 ghost use Rattle.squitter_c.specs.LogCalls.{IsTallied};
 ghost use Rattle.squitter_c.specs.Trackers.{IsMade, IsMadeAt, IsMadeIn};
 
+use crate::faults::{Fault, NONE, Refusal};
+use crate::plain::PlainPosition;
+use crate::slot::Slot;
 use crate::tracker_new::{
     squitter_tracker_free, squitter_tracker_new, squitter_tracker_new_at, squitter_tracker_size,
 };
 use sq_lent::Room;
-use sq_plain::{Fault, NONE, PlainPosition, Refusal};
-use sq_seal::Slot;
 
 /// How many lines were good, and how many were refused.
 #[repr(C)]

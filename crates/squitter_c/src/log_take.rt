@@ -5,11 +5,12 @@ ghost use Rattle.squitter_c.specs.LogCalls.{AsAnswers, GoesOn, GoesToTheEnd, IsE
 ghost use Rattle.squitter_c.specs.LogCalls.{IsLogFinished, IsLogTaken};
 ghost use Rattle.squitter_c.specs.LogCalls.{IsTakenBy, IsTooLong, IsWrittenTo, fault_of_end, held_by};
 
+use crate::faults::{Fault, NONE, Refusal};
+use crate::listener::Listener;
 use crate::log_answer::{PlainAnswer, plain_answer};
+use crate::slot::Slot;
 use sq_commands::{ValueHearing, hear_values};
 use sq_lines::{Log, LogState, Step};
-use sq_plain::{Fault, NONE, Refusal};
-use sq_seal::{Listener, Slot};
 use sq_track::Tracker;
 use std::alloc::Allocator;
 

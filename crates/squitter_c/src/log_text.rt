@@ -7,11 +7,12 @@ ghost use Rattle.squitter_c.specs.LogTexts.{IsEndInText, IsFormat, IsHeader, IsH
 ghost use Rattle.squitter_c.specs.LogTexts.{IsTextFinishedBy, IsTextTaken, IsTextTakenBy};
 
 use crate::angles::fill;
+use crate::faults::{Fault, Refusal};
+use crate::listener::Listener;
 use crate::log_take::{Done, End, fault_at, is_too_long};
+use crate::slot::Slot;
 use sq_commands::{Format, TextHearing, hear_texts, heard_header, tell_heard};
 use sq_lines::{LineText, Log, LogState, Step};
-use sq_plain::{Fault, Refusal};
-use sq_seal::{Listener, Slot};
 use sq_track::Tracker;
 use std::alloc::Allocator;
 

@@ -2,14 +2,15 @@
 //!
 //! The shortest of the arrays counts, and the answer is how many places that are. What lies beyond is as it was.
 ghost use Rattle.std.specs.Prelude.{◌≡◌, length, min};
-ghost use Rattle.sq_plain.specs.Many.{AreAnswered, shortest};
+ghost use Rattle.squitter_c.specs.Calls.{AreAnswered, shortest};
 ghost use Rattle.squitter_c.specs.Many.{IsE7At, IsLocalAt, IsPairNear, IsPairThere, IsReadAt};
 
 use crate::decode::{squitter_local, squitter_pair, squitter_pair_at};
 use crate::e7::{DegreesE7, squitter_position_e7};
+use crate::faults::Fault;
 use crate::fields::PlainSquitter;
+use crate::plain::PlainPosition;
 use crate::read::squitter_read_frame;
-use sq_plain::{Fault, PlainPosition};
 
 /// Reads each frame, as [`squitter_read_frame`] does, into its place of `out`, and answers how many places that
 /// are. The fault of each, or none, stands at its place of `faults`; at a fault that place of `out` is as it was.

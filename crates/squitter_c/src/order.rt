@@ -3,10 +3,11 @@ ghost use Rattle.std.specs.Prelude.{◌≡◌, None};
 ghost use Rattle.squitter_c.specs.OrderCalls.{HasGivenHeld, HasTakenInOrder, IsOrderCounted, IsOrderFlushed, IsOrderMade};
 ghost use Rattle.squitter_c.specs.OrderCalls.{IsOrderTaken};
 
+use crate::faults::{Fault, NONE, Refusal};
 use crate::log_take::Done;
+use crate::order_slot::{ORDER_BYTES, OrderSlot, order_in};
+use sq_feed::Order;
 use sq_lent::Room;
-use sq_plain::{Fault, NONE, Refusal};
-use sq_seal::{ORDER_BYTES, Order, OrderSlot, order_in};
 
 /// Returns the size of an order in bytes.
 #[unsafe(no_mangle)]

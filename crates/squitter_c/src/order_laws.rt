@@ -1,12 +1,4 @@
 //! Laws of the orders that C holds: the complete result of each call.
-ghost use Rattle.std.specs.Prelude.{◌≡◌, ◌↔◌, ◌≤◌, List, ℕ, Option, Some, length};
-ghost use Rattle.sq_feed.specs.Orders.{nothing_sorted};
-ghost use Rattle.sq_plain.specs.declared.faults.Fault.{Fault};
-ghost use Rattle.sq_plain.specs.Faults.{none};
-ghost use Rattle.sq_seal.specs.OrderSeal.{KeptOrder};
-ghost use Rattle.squitter_c.specs.declared.log_take.Done.{Done};
-ghost use Rattle.squitter_c.specs.OrderCalls.{HasGivenHeld, HasTakenInOrder, IsOrderCounted, IsOrderFlushed, IsOrderMade};
-ghost use Rattle.squitter_c.specs.OrderCalls.{IsOrderTaken};
 ghost use Rattle.squitter_c.specs.OrderLaws.{AllFlushed, AllSorted};
 
 /// A call of an order with code 0 that left room has taken all squitters and stored those that were due; a flush has
@@ -14,26 +6,4 @@ ghost use Rattle.squitter_c.specs.OrderLaws.{AllFlushed, AllSorted};
 pub fn all_sorted()
     ensures taken { AllSorted }
     ensures flushed { AllFlushed }
-{}
-
-/// A new order, and the number of squitters that it holds.
-pub fn made_orders_exactly()
-    ensures made { (reorder size : ℕ) (k : KeptOrder) (fault : Fault) → IsOrderMade reorder size (Some k) fault
-        ↔ ((k ≡ nothing_sorted reorder) × (148480 ≤ size) × (fault ≡ none)) }
-    ensures counted { (k : KeptOrder) (was is : ℕ) (fault : Fault) → IsOrderCounted (Some k) was is fault
-        ↔ ((is ≡ length k.held) × (fault ≡ none)) }
-{}
-
-/// What an order takes and gives.
-pub fn sorted_exactly()
-    ensures taken { (k : KeptOrder) (new : Option KeptOrder) (moments moments_were stored : List ℕ)
-        (frames frames_were stored_frames : List (List ℕ)) (before after : Done) (fault : Fault)
-        → IsOrderTaken (Some k) new moments frames moments_were stored frames_were stored_frames before after fault
-        ↔ ((next : KeptOrder) × (new ≡ Some next)
-        × HasTakenInOrder k next moments frames moments_were stored frames_were stored_frames after × (fault ≡ none)) }
-    ensures flushed { (k : KeptOrder) (new : Option KeptOrder) (moments_were stored : List ℕ)
-        (frames_were stored_frames : List (List ℕ)) (before after : Done) (fault : Fault)
-        → IsOrderFlushed (Some k) new moments_were stored frames_were stored_frames before after fault
-        ↔ ((next : KeptOrder) × (new ≡ Some next)
-        × HasGivenHeld k next moments_were stored frames_were stored_frames after × (fault ≡ none)) }
 {}

@@ -1,13 +1,13 @@
 //! Reading: frame text to a frame or to fields, a frame to fields, and a frame's text.
 ghost use Rattle.std.specs.Prelude.{◌≡◌, ◌<◌, slice_index};
 ghost use Rattle.hex.specs.Hex.{upper_digits};
-ghost use Rattle.sq_plain.specs.Frames.{frame_of};
+ghost use Rattle.squitter_c.specs.Frames.{frame_of};
 ghost use Rattle.squitter_c.specs.Reading.{IsFrameOfText, IsFrameRead, IsTextRead, text_of};
 
+use crate::faults::{Fault, NONE, Refusal};
 use crate::fields::{PlainSquitter, plain_squitter};
 use sq_bits::Frame;
 use sq_message::read_frame;
-use sq_plain::{Fault, NONE, Refusal};
 use sq_text::{read_squitter, read_text};
 
 /// The frame of a frame text: 28 hexadecimal digits of either case, bare or between `*` and `;`.

@@ -3,11 +3,13 @@ ghost use Rattle.std.specs.Prelude.{◌≡◌, MatchOption};
 ghost use Rattle.sq_message.specs.Kinds.{InAir, OnGround};
 ghost use Rattle.sq_message.specs.Parts.{squitter_parts};
 ghost use Rattle.sq_message.specs.Places.{Fits, IsPosition};
-ghost use Rattle.sq_plain.specs.Frames.{frame_of};
+ghost use Rattle.squitter_c.specs.Frames.{frame_of};
 ghost use Rattle.squitter_c.specs.Sending.{IsAgainAnswer, IsFrameFrom, IsRoundedTo, IsSendAnswer, IsSentAgain};
 ghost use Rattle.squitter_c.specs.Sending.{IsSentFrame, TellsFrame};
 
+use crate::faults::{Fault, NONE, Refusal};
 use crate::heads::{PlainAirHead, PlainGroundHead, air_head, ground_head};
+use crate::plain::{PlainPosition, parity_of, position_of};
 use sq_angle::Position;
 use sq_bits::Frame;
 use sq_bits::laws::each_frame;
@@ -15,7 +17,6 @@ use sq_cpr::{Air, Ground, Parity, nearest};
 use sq_message::{
     Me, Place, PlaceFault, Squitter, read_frame, send_air, send_ground, send_point, write_frame,
 };
-use sq_plain::{Fault, NONE, PlainPosition, Refusal, parity_of, position_of};
 
 /// The frame that is sent of a position in the air (ICAO Doc 9871, register 0,5). The first fault is the head's, with
 /// its parity, then the position's.

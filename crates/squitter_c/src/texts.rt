@@ -7,10 +7,10 @@ ghost use Rattle.squitter_c.specs.Angles.{StandsIn};
 ghost use Rattle.squitter_c.specs.Texts.{told_text, version};
 
 use crate::angles::fill;
+use crate::faults::Fault;
 use sq_angle::AngleFault;
 use sq_digits::TextBuffer;
 use sq_message::PlaceFault;
-use sq_plain::Fault;
 use sq_text::{LineFault, push_decimal, push_hexadecimal};
 use sq_track::TrackFault;
 

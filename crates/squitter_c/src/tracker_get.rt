@@ -3,8 +3,8 @@ ghost use Rattle.std.specs.Prelude.{◌≡◌, length, slice_get};
 ghost use Rattle.sq_track.specs.Held.{present_of};
 ghost use Rattle.squitter_c.specs.Trackers.{IsGot, IsShown, present_in};
 
-use sq_plain::{Fault, NONE, Refusal};
-use sq_seal::Slot;
+use crate::faults::{Fault, NONE, Refusal};
+use crate::slot::Slot;
 use sq_track::Tracker;
 use std::alloc::Allocator;
 

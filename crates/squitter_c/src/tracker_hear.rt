@@ -1,15 +1,18 @@
 //! Hearing a frame.
-ghost use Rattle.sq_plain.specs.Faults.{Tells, fault_of};
-ghost use Rattle.sq_plain.specs.Frames.{frame_of};
-ghost use Rattle.sq_plain.specs.Heard.{IsPlainHeard};
+ghost use Rattle.squitter_c.specs.Faults.{Tells, fault_of};
+ghost use Rattle.squitter_c.specs.Frames.{frame_of};
+ghost use Rattle.squitter_c.specs.Heard.{IsPlainHeard};
 ghost use Rattle.std.specs.Prelude.{◌≡◌, option_map};
 ghost use Rattle.squitter_c.specs.Trackers.{IsHeardBy, IsTrackerHeard, of_tracker};
 
+use crate::faults::{Fault, NONE, Refusal};
+use crate::heard::{PlainHeard, plain_heard};
+use crate::listener::Listener;
+use crate::slot::Slot;
 use sq_bits::Frame;
 use sq_lent::Lent;
 use sq_message::read_frame;
-use sq_plain::{Fault, LineFault, NONE, PlainHeard, Refusal, plain_heard};
-use sq_seal::{Listener, Slot};
+use sq_text::LineFault;
 use sq_track::{Heard, TrackFault, Tracker};
 use std::alloc::Allocator;
 

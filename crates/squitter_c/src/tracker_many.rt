@@ -1,11 +1,12 @@
 //! Many frames in one call: at each place what the call by itself answers.
 ghost use Rattle.std.specs.Prelude.{◌≡◌, length, min};
-ghost use Rattle.sq_plain.specs.Many.{IsBelow, Leads, shortest};
+ghost use Rattle.squitter_c.specs.Calls.{IsBelow, Leads, shortest};
 ghost use Rattle.squitter_c.specs.Trackers.{IsHeardThere};
 
+use crate::faults::Fault;
+use crate::heard::PlainHeard;
+use crate::slot::Slot;
 use crate::tracker_hear::hear_in;
-use sq_plain::{Fault, PlainHeard};
-use sq_seal::Slot;
 
 /// Hears frames one after the other, each at its moment, as [`squitter_tracker_hear`] does. A frame at fault leaves the
 /// tracker and its place of `out` as they were, with the fault at its place of `faults`, and the next one is heard. The

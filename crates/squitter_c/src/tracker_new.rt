@@ -1,13 +1,15 @@
 //! Making and freeing a tracker.
 ghost use Rattle.std.specs.Prelude.{◌≡◌, None};
-ghost use Rattle.sq_seal.specs.Sizes.{IsRoomFor};
+ghost use Rattle.squitter_c.specs.Sizes.{IsRoomFor};
 ghost use Rattle.squitter_c.specs.Trackers.{IsMade, IsMadeAt, IsMadeIn};
 
+use crate::faults::{Fault, NONE, Refusal};
+use crate::listener::{Listener, bytes_for};
+use crate::plain::{PlainPosition, position_of};
+use crate::slot::Slot;
 use crate::tracker_hear::fault_of_tracker;
 use sq_angle::Position;
 use sq_lent::Room;
-use sq_plain::{Fault, NONE, PlainPosition, Refusal, position_of};
-use sq_seal::{Listener, Slot, bytes_for};
 
 /// Returns the size of a tracker in bytes, for a limit of addresses.
 #[unsafe(no_mangle)]

@@ -3,9 +3,9 @@ ghost use Rattle.std.specs.Prelude.{◌≡◌, Option, None, Some};
 ghost use Rattle.squitter_c.specs.Restoring.{IsLast, IsRestored, IsRestoring};
 
 use crate::entry::{PlainEntry, contact_of};
+use crate::faults::{Fault, NONE, Refusal};
+use crate::slot::Slot;
 use crate::tracker_save::PlainLast;
-use sq_plain::{Fault, NONE, Refusal};
-use sq_seal::Slot;
 use sq_track::{RestoreFault, Tracker};
 use std::alloc::Allocator;
 

@@ -4,7 +4,7 @@ ghost use Rattle.squitter_c.specs.Restoring.{AreTold, IsLast, IsSaved};
 ghost use Rattle.squitter_c.specs.Trackers.{present_in};
 
 use crate::entry::{PlainEntry, plain_entry};
-use sq_seal::Slot;
+use crate::slot::Slot;
 use sq_track::Tracker;
 use sq_track::laws::can_be_restored;
 use std::alloc::Allocator;

@@ -1,12 +1,13 @@
 //! The zones in which a place lies: how the position of a code comes about.
-ghost use Rattle.sq_plain.specs.Frames.{frame_of};
+ghost use Rattle.squitter_c.specs.Frames.{frame_of};
 ghost use Rattle.squitter_c.specs.Zones.{AreZonesOf, AreZonesOfPlace, AreLocalZones, TellsZones};
 
 use crate::decode::near;
+use crate::faults::{Fault, NONE, Refusal};
+use crate::plain::PlainPosition;
 use sq_bits::Frame;
 use sq_cpr::{GridPoint, Span};
 use sq_message::Place;
-use sq_plain::{Fault, NONE, PlainPosition, Refusal};
 use sq_zones::zone_count;
 
 // The codes of a zone, in each coordinate: 2^17.

@@ -1,5 +1,5 @@
 use Rattle.std.proofs.Common.{rules, List, ℕ, Ok, Err, refl, subst}
-use Rattle.sq_plain.specs.declared.faults.Refusal.TheVariants as refusals
+use Rattle.squitter_c.specs.declared.faults.Refusal.TheVariants as refusals
 use Rattle.squitter_c.specs.Angles.{StandsIn}
 use Rattle.squitter_c.proofs.angles.squitter_text_of_angle.Goals as goal
 

@@ -1,6 +1,6 @@
 use Rattle.std.proofs.Common.{ℤ, SFits, w64, to_z-of_z, Ok, Err, refl, rules, subst, sym}
 use Rattle.sq_angle.specs.Angle.{degrees}
-use Rattle.sq_plain.specs.declared.faults.Refusal.TheVariants as refusals
+use Rattle.squitter_c.specs.declared.faults.Refusal.TheVariants as refusals
 use Rattle.squitter_c.specs.E7.{IsE7}
 use Rattle.squitter_c.proofs.e7.squitter_angle_e7.Goals as goal
 

@@ -1,5 +1,5 @@
 use Rattle.std.proofs.Common.{Ok, Err, refl, rules}
-use Rattle.sq_plain.specs.declared.faults.Refusal.TheVariants as refusals
+use Rattle.squitter_c.specs.declared.faults.Refusal.TheVariants as refusals
 use Rattle.squitter_c.proofs.e7.squitter_position_e7.Goals as goal
 
 pub returns-in-Some : goal.returns-in-Some

@@ -1,9 +1,9 @@
 use Rattle.std.proofs.Common.{arith, ℕ, List, [], length, length-set, get_or, ◌<◌}
-use Rattle.sq_plain.proofs.Steps.{no_place, one_answered, there}
+use Rattle.squitter_c.proofs.Steps.{no_place, one_answered, there}
 use Rattle.squitter_c.specs.Many.{IsLocalAt}
-use Rattle.sq_plain.specs.declared.plain.PlainPosition.{PlainPosition}
+use Rattle.squitter_c.specs.declared.plain.PlainPosition.{PlainPosition}
 use Rattle.squitter_c.specs.Decoding.{IsLocal}
-use Rattle.sq_plain.specs.Frames.{frame_of}
+use Rattle.squitter_c.specs.Frames.{frame_of}
 use Rattle.squitter_c.proofs.many.squitter_local_many.Goals as goal
 
 pub loop-at-preserved : goal.loop-at-preserved

@@ -1,5 +1,5 @@
 use Rattle.std.proofs.Common.{◌≤◌, length}
-use Rattle.sq_plain.specs.Many.{AreAnswered}
+use Rattle.squitter_c.specs.Calls.{AreAnswered}
 use Rattle.squitter_c.specs.Many.{IsLocalAt}
 use Rattle.squitter_c.proofs.many.squitter_local_many.Given as goal
 

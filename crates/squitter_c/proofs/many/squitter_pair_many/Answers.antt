@@ -1,8 +1,8 @@
 use Rattle.std.proofs.Common.{arith, ℕ, List, [], length, length-set, get_or, ◌<◌}
-use Rattle.sq_plain.proofs.Steps.{no_place, one_answered, there}
+use Rattle.squitter_c.proofs.Steps.{no_place, one_answered, there}
 use Rattle.squitter_c.specs.Many.{IsPairThere}
 use Rattle.squitter_c.specs.Decoding.{IsPair}
-use Rattle.sq_plain.specs.Frames.{frame_of}
+use Rattle.squitter_c.specs.Frames.{frame_of}
 use Rattle.squitter_c.proofs.many.squitter_pair_many.Goals as goal
 
 pub loop-at-preserved : goal.loop-at-preserved

@@ -1,9 +1,9 @@
 use Rattle.std.proofs.Common.{arith, length, length-set, get_or, ◌<◌}
 use Rattle.squitter_c.proofs.Blanks.{no_degrees}
-use Rattle.sq_plain.proofs.Steps.{one_answered, there}
+use Rattle.squitter_c.proofs.Steps.{one_answered, there}
 use Rattle.squitter_c.specs.Many.{IsE7At}
-use Rattle.sq_plain.proofs.Steps.{no_place}
-use Rattle.sq_plain.specs.declared.plain.PlainPosition.{PlainPosition}
+use Rattle.squitter_c.proofs.Steps.{no_place}
+use Rattle.squitter_c.specs.declared.plain.PlainPosition.{PlainPosition}
 use Rattle.squitter_c.specs.E7.{IsPositionE7}
 use Rattle.squitter_c.proofs.many.squitter_position_e7_many.Goals as goal
 

@@ -1,5 +1,5 @@
 use Rattle.std.proofs.Common.{◌≤◌, length}
-use Rattle.sq_plain.specs.Many.{AreAnswered}
+use Rattle.squitter_c.specs.Calls.{AreAnswered}
 use Rattle.squitter_c.specs.Many.{IsE7At}
 use Rattle.squitter_c.proofs.many.squitter_position_e7_many.Given as goal
 

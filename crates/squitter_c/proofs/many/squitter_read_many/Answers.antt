@@ -1,9 +1,9 @@
 use Rattle.std.proofs.Common.{arith, ℕ, List, [], length, length-set, get_or, ◌<◌}
 use Rattle.squitter_c.proofs.Blanks.{no_fields}
-use Rattle.sq_plain.proofs.Steps.{one_answered, there}
+use Rattle.squitter_c.proofs.Steps.{one_answered, there}
 use Rattle.squitter_c.specs.Many.{IsReadAt}
 use Rattle.squitter_c.specs.Reading.{IsFrameRead}
-use Rattle.sq_plain.specs.Frames.{frame_of}
+use Rattle.squitter_c.specs.Frames.{frame_of}
 use Rattle.squitter_c.proofs.many.squitter_read_many.Goals as goal
 
 pub loop-at-preserved : goal.loop-at-preserved

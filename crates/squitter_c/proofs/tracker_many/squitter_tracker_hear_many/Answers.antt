@@ -1,6 +1,6 @@
 use Rattle.std.proofs.Common.{arith, ℕ, List, [], length, length-set, get_or, option_map, refl, slice_index, ◌<◌}
-use Rattle.sq_plain.proofs.Steps.{leads_on, no_heard, one_below, there}
-use Rattle.sq_plain.specs.Frames.{frame_of}
+use Rattle.squitter_c.proofs.Steps.{leads_on, no_heard, one_below, there}
+use Rattle.squitter_c.specs.Frames.{frame_of}
 use Rattle.squitter_c.specs.Trackers.{IsHeardThere, IsTrackerHeard}
 use Rattle.squitter_c.proofs.tracker_many.squitter_tracker_hear_many.Goals as goal
 

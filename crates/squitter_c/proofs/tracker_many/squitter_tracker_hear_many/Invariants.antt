@@ -1,5 +1,5 @@
 use Rattle.std.proofs.Common.{◌≤◌, length, option_map}
-use Rattle.sq_plain.specs.Many.{IsBelow, Leads}
+use Rattle.squitter_c.specs.Calls.{IsBelow, Leads}
 use Rattle.squitter_c.specs.Trackers.{IsHeardThere}
 use Rattle.squitter_c.proofs.tracker_many.squitter_tracker_hear_many.Given as goal
 

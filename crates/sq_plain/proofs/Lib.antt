@@ -1,4 +1,0 @@
-pub mod Steps
-pub mod OneTelling
-pub mod OnePlain
-pub mod OneHeard

@@ -1,7 +1,0 @@
-use Rattle.sq_plain.proofs.laws.answered_exactly.Goals as goal
-
-pub returns : goal.returns
-returns g c out fault was is before after n = (
-  λ h. (h.below, h.answered),
-  λ h. record { below = h.0; answered = h.1 },
-)

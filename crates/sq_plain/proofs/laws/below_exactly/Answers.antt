@@ -1,4 +1,0 @@
-use Rattle.sq_plain.proofs.laws.below_exactly.Goals as goal
-
-pub returns-clause-rest : goal.returns-clause-rest
-returns-clause-rest g c was is before after n k h from b told = h.rest k from b told

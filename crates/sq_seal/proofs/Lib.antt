@@ -1,4 +1,0 @@
-pub mod Values
-pub mod FeedValues
-pub mod OneSizes
-pub mod OrderValues

@@ -1,4 +1,0 @@
-pub mod Seal
-pub mod Sizes
-pub mod FeedSeal
-pub mod OrderSeal

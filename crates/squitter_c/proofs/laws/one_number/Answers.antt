@@ -1,5 +1,0 @@
-use Rattle.squitter_c.proofs.OneAnswers.{one_number}
-use Rattle.squitter_c.proofs.laws.one_number.Goals as goal
-
-pub returns : goal.returns
-returns c = one_number

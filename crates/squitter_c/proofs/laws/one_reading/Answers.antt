@@ -1,5 +1,0 @@
-use Rattle.squitter_c.proofs.OneAnswers.{one_reading_of}
-use Rattle.squitter_c.proofs.laws.one_reading.Goals as goal
-
-pub returns : goal.returns
-returns c = one_reading_of

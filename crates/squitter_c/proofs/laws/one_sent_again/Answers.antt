@@ -1,5 +1,0 @@
-use Rattle.squitter_c.proofs.OneAgain.{one_sent_again}
-use Rattle.squitter_c.proofs.laws.one_sent_again.Goals as goal
-
-pub returns : goal.returns
-returns c = one_sent_again

@@ -1,0 +1,131 @@
+-- Why a call has no answer, and the code of each reason. Here alone the codes are stated.
+use Rattle.std.specs.Prelude.{◌≡◌, ◌≢◌, ◌↔◌, ℕ, Result, Ok, Err}
+use Rattle.sq_angle.specs.declared.read.AngleFault.{AngleFault}
+use Rattle.sq_angle.specs.declared.read.AngleFault.TheVariants as angles
+use Rattle.sq_message.specs.declared.place.PlaceFault.{PlaceFault}
+use Rattle.sq_message.specs.declared.place.PlaceFault.TheVariants as places
+use Rattle.sq_message.specs.declared.squitter.FrameFault.{FrameFault}
+use Rattle.sq_text.specs.declared.faults.LineFault.{LineFault}
+use Rattle.sq_text.specs.declared.faults.LineFault.TheVariants as lines
+use Rattle.sq_text.specs.declared.frame_text.TextFault.{TextFault}
+use Rattle.sq_text.specs.Faults.{of_frame, of_text}
+use Rattle.squitter_c.specs.declared.faults.Fault.{Fault}
+use Rattle.squitter_c.specs.declared.faults.Refusal.{Refusal}
+use Rattle.squitter_c.specs.declared.faults.Refusal.TheVariants.{Line, Place, Angle, NoPosition, NoHead, NoAngle}
+use Rattle.squitter_c.specs.declared.faults.Refusal.TheVariants.{NoLatitude, NoFeet, NoParity, Memory, NoLimit, NoTracker}
+use Rattle.squitter_c.specs.declared.faults.Refusal.TheVariants.{NoAddress, LongLog, NoFormat, Entry}
+
+-- a code with two numbers
+abbrev pub told : (code first second : ℕ) → Fault
+told code first second = record { code = code; second = second; first = first }
+
+-- there is an answer
+abbrev pub none : Fault
+none = told 0 0 0
+
+-- of texts, frames and moments
+abbrev pub fault_of_line : LineFault → Fault
+fault_of_line lines.Wrap = told 1 0 0
+fault_of_line lines.Short = told 2 0 0
+fault_of_line (lines.Length n) = told 3 n 0
+fault_of_line (lines.Digit place) = told 4 place 0
+fault_of_line (lines.NotDf17 format) = told 5 format 0
+fault_of_line (lines.Parity remainder) = told 6 remainder 0
+fault_of_line lines.LongLine = told 40 0 0
+fault_of_line lines.Moment = told 41 0 0
+fault_of_line (lines.MomentBack last) = told 42 last 0
+fault_of_line lines.Full = told 43 0 0
+
+-- of places
+abbrev pub fault_of_place : PlaceFault → Fault
+fault_of_place places.NotPosition = told 10 0 0
+fault_of_place places.OtherAddress = told 11 0 0
+fault_of_place places.OtherKind = told 12 0 0
+fault_of_place places.SameParity = told 13 0 0
+fault_of_place places.NoSite = told 14 0 0
+fault_of_place places.OutOfRange = told 15 0 0
+fault_of_place (places.ZoneCounts even odd) = told 16 even odd
+
+-- of the texts of angles
+abbrev pub fault_of_angle : AngleFault → Fault
+fault_of_angle angles.NotANumber = told 30 0 0
+fault_of_angle angles.TooManyDecimals = told 31 0 0
+fault_of_angle angles.OutOfRange = told 32 0 0
+
+-- of everything
+abbrev pub fault_of : Refusal → Fault
+fault_of (Line fault) = fault_of_line fault
+fault_of (Place fault) = fault_of_place fault
+fault_of (Angle fault) = fault_of_angle fault
+fault_of NoPosition = told 20 0 0
+fault_of NoHead = told 21 0 0
+fault_of NoAngle = told 22 0 0
+fault_of NoLatitude = told 23 0 0
+fault_of NoFeet = told 24 0 0
+fault_of NoParity = told 25 0 0
+fault_of Memory = told 44 0 0
+fault_of NoLimit = told 45 0 0
+fault_of NoTracker = told 46 0 0
+fault_of NoAddress = told 47 0 0
+fault_of LongLog = told 48 0 0
+fault_of NoFormat = told 49 0 0
+fault_of (Entry index) = told 50 index 0
+
+-- the reason of a text, a frame or a moment with this number, where it has one
+abbrev pub line_with : (first : ℕ) → LineFault → LineFault
+line_with first (lines.Length n) = lines.Length first
+line_with first (lines.Digit place) = lines.Digit first
+line_with first (lines.NotDf17 format) = lines.NotDf17 first
+line_with first (lines.Parity remainder) = lines.Parity first
+line_with first (lines.MomentBack last) = lines.MomentBack first
+line_with first fault = fault
+
+-- the reason of a place with these numbers, where it has some
+abbrev pub place_with : (first second : ℕ) → PlaceFault → PlaceFault
+place_with first second (places.ZoneCounts even odd) = places.ZoneCounts first second
+place_with first second fault = fault
+
+-- the reason with these numbers, where it has some
+abbrev pub with_numbers : (first second : ℕ) → Refusal → Refusal
+with_numbers first second (Line fault) = Line (line_with first fault)
+with_numbers first second (Place fault) = Place (place_with first second fault)
+with_numbers first second (Entry index) = Entry first
+with_numbers first second refusal = refusal
+
+-- a reason with 0 for its numbers: two reasons have one kind if they differ in their numbers at most
+abbrev pub kind_of : Refusal → Refusal
+kind_of refusal = with_numbers 0 0 refusal
+
+-- a code is that of one kind of reason, whatever the numbers
+abbrev pub OneCode : Type 0
+OneCode = (a b : Refusal) → ((fault_of a).code ≡ (fault_of b).code) ↔ (kind_of a ≡ kind_of b)
+
+-- a code and its numbers are those of one reason
+abbrev pub OneReason : Type 0
+OneReason = (a b : Refusal) → fault_of a ≡ fault_of b → a ≡ b
+
+-- no reason has the code of an answer
+abbrev pub NoCodeIsZero : Type 0
+NoCodeIsZero = (a : Refusal) → (fault_of a).code ≢ none.code
+
+-- a text's fault, a frame's and a line's, as reasons
+abbrev pub of_texts : TextFault → Refusal
+of_texts fault = Line (of_text fault)
+
+abbrev pub of_frames : FrameFault → Refusal
+of_frames fault = Line (of_frame fault)
+
+abbrev pub of_lines : LineFault → Refusal
+of_lines fault = Line fault
+
+abbrev pub of_angles : AngleFault → Refusal
+of_angles fault = Angle fault
+
+abbrev pub as_it_is : Refusal → Refusal
+as_it_is refusal = refusal
+
+-- What is answered for an answer: what is written stands for it, and the code is 0; else the fault, and `out` is as it
+-- was.
+abbrev pub Tells : {A B E : Type 0} → (A → B → Type 0) → (E → Refusal) → Result A E → (old new : B) → Fault → Type 0
+Tells Stands named (Ok answer) old new fault = Stands answer new × (fault ≡ none)
+Tells Stands named (Err reason) old new fault = (new ≡ old) × (fault ≡ fault_of (named reason))

@@ -1,0 +1,145 @@
+//! What a call answers: 0 for an answer, else what is at fault.
+ghost use Rattle.std.specs.Prelude.{◌≡◌};
+ghost use Rattle.squitter_c.specs.Faults.{fault_of, fault_of_angle, fault_of_line, fault_of_place, told};
+
+use sq_angle::AngleFault;
+use sq_message::PlaceFault;
+use sq_text::LineFault;
+
+/// What a call answers. `squitter.h` names the codes and says what `first` and `second` hold.
+#[repr(C)]
+#[derive(Clone, Copy)]
+pub struct Fault {
+    pub code: u32,
+    pub second: u32,
+    pub first: u64,
+}
+
+/// The reason why a call fails.
+#[derive(Clone, Copy)]
+pub enum Refusal {
+    /// A text or a frame is invalid, or a timestamp goes back.
+    Line(LineFault),
+    /// A frame or a pair cannot be decoded.
+    Place(PlaceFault),
+    /// A text is not a valid angle.
+    Angle(AngleFault),
+    /// The fractions of a reference, a site or a position are no position.
+    NoPosition,
+    /// The fields of a head, or its parity, lie outside their ranges.
+    NoHead,
+    /// The fraction is no angle.
+    NoAngle,
+    /// The fraction is no latitude.
+    NoLatitude,
+    /// No altitude field means these feet.
+    NoFeet,
+    /// The parity is neither 0 nor 1.
+    NoParity,
+    /// An allocation failed.
+    Memory,
+    /// The limit of a tracker is 0.
+    NoLimit,
+    /// There is no tracker, or no log.
+    NoTracker,
+    /// No address of a tracker stands at the index.
+    NoAddress,
+    /// The log has 2^63 lines, or the piece 2^61 bytes.
+    LongLog,
+    /// The number is no format's.
+    NoFormat,
+    /// No tracker can hold the entry at this index after those before it.
+    Entry(u64),
+}
+
+/// There is an answer: code 0.
+pub const NONE: Fault = Fault {
+    code: 0,
+    second: 0,
+    first: 0,
+};
+
+impl Fault {
+    /// The code and the numbers of a reason, 0 where it has none.
+    pub fn of(refusal: Refusal) -> Fault
+        ensures { result ≡ fault_of refusal }
+    {
+        match refusal {
+            Refusal::Line(fault) => of_line(fault),
+            Refusal::Place(fault) => of_place(fault),
+            Refusal::Angle(fault) => of_angle(fault),
+            Refusal::NoPosition => plain(20),
+            Refusal::NoHead => plain(21),
+            Refusal::NoAngle => plain(22),
+            Refusal::NoLatitude => plain(23),
+            Refusal::NoFeet => plain(24),
+            Refusal::NoParity => plain(25),
+            Refusal::Memory => plain(44),
+            Refusal::NoLimit => plain(45),
+            Refusal::NoTracker => plain(46),
+            Refusal::NoAddress => plain(47),
+            Refusal::LongLog => plain(48),
+            Refusal::NoFormat => plain(49),
+            Refusal::Entry(index) => told(50, index, 0),
+        }
+    }
+}
+
+fn of_line(fault: LineFault) -> Fault
+    ensures { result ≡ fault_of_line fault }
+{
+    match fault {
+        LineFault::Wrap => plain(1),
+        LineFault::Short => plain(2),
+        LineFault::Length(length) => told(3, length as u64, 0),
+        LineFault::Digit(place) => told(4, place as u64, 0),
+        LineFault::NotDf17(format) => told(5, u64::from(format), 0),
+        LineFault::Parity(remainder) => told(6, u64::from(remainder), 0),
+        LineFault::LongLine => plain(40),
+        LineFault::Moment => plain(41),
+        LineFault::MomentBack(moment) => told(42, moment, 0),
+        LineFault::Full => plain(43),
+    }
+}
+
+fn of_place(fault: PlaceFault) -> Fault
+    ensures { result ≡ fault_of_place fault }
+{
+    match fault {
+        PlaceFault::NotPosition => plain(10),
+        PlaceFault::OtherAddress => plain(11),
+        PlaceFault::OtherKind => plain(12),
+        PlaceFault::SameParity => plain(13),
+        PlaceFault::NoSite => plain(14),
+        PlaceFault::OutOfRange => plain(15),
+        PlaceFault::ZoneCounts(even, odd) => told(16, u64::from(even), u32::from(odd)),
+    }
+}
+
+fn of_angle(fault: AngleFault) -> Fault
+    ensures { result ≡ fault_of_angle fault }
+{
+    match fault {
+        AngleFault::NotANumber => plain(30),
+        AngleFault::TooManyDecimals => plain(31),
+        AngleFault::OutOfRange => plain(32),
+    }
+}
+
+// A code without numbers.
+fn plain(code: u32) -> Fault
+    ensures { result ≡ told code 0 0 }
+{
+    told(code, 0, 0)
+}
+
+// A code with its numbers.
+fn told(code: u32, first: u64, second: u32) -> Fault
+    ensures { result ≡ told code first second }
+{
+    Fault {
+        code,
+        second,
+        first,
+    }
+}

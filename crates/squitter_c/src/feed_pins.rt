@@ -1,0 +1,114 @@
+//! Guards of the definitions: each has one value, some value or an exact condition, so none can be weakened unnoticed.
+//! A function with an empty body does nothing: its contract is the statement.
+ghost use Rattle.std.specs.Prelude.{◌≡◌, ◌↔◌, ◌≤◌, [], ◌∷◌, List, ℕ, Option, Some, None, drop, false, length, map};
+ghost use Rattle.std.specs.Prelude.{true};
+ghost use Rattle.sq_feed.specs.Counts.{Tally};
+ghost use Rattle.sq_feed.specs.Feeds.{Feeding, HasClosedFeed, HasLost, format_of_source, nothing_fed};
+ghost use Rattle.squitter_c.specs.declared.faults.Fault.{Fault};
+ghost use Rattle.squitter_c.specs.Faults.{none};
+ghost use Rattle.squitter_c.specs.FeedSeal.{KeptFeed};
+ghost use Rattle.squitter_c.specs.declared.feed_new.PlainCounts.{PlainCounts};
+ghost use Rattle.squitter_c.specs.declared.log_take.Done.{Done};
+ghost use Rattle.squitter_c.specs.FeedCalls.{AreCounts, HasEndedInFrames, HasEndedInText, HasTakenFrames};
+ghost use Rattle.squitter_c.specs.FeedCalls.{HasTakenText, IsFeedCounted, IsFeedFinished, IsFeedFormat};
+ghost use Rattle.squitter_c.specs.FeedCalls.{IsFeedLost, IsFeedMade, IsFeedTextFinished};
+ghost use Rattle.squitter_c.specs.FeedCalls.{IsFilled, IsSourceNumber, feed_number, manner_of, source_number};
+
+use sq_feed::{Format, Stranger};
+
+/// A new feed, and the numbers of the formats.
+pub fn made_feeds_exactly()
+    ensures made { (number leap late flags size : ℕ) (k : KeptFeed) (fault : Fault)
+        → IsFeedMade number leap late flags size (Some k) fault
+        ↔ ((format : Option Format) × IsFeedFormat number format
+        × (k ≡ nothing_fed format (manner_of leap late flags)) × (3072 ≤ size) × (fault ≡ none)) }
+    ensures few { (number : ℕ) (format : Option Format) → IsFeedFormat number format → number ≤ 4 }
+    ensures room { (number leap late flags size : ℕ) (k : KeptFeed) (fault : Fault)
+        → IsFeedMade number leap late flags size (Some k) fault → (number ≤ 4) × (3072 ≤ size) }
+    ensures flags { (leap late : ℕ)
+        → (manner_of leap late 0 ≡ record {
+          leap = leap;
+          late = late;
+          is_live = false;
+          ignores_clock = false;
+          all_formats = false;
+        })
+        × (manner_of leap late 1 ≡ record {
+          leap = leap;
+          late = late;
+          is_live = true;
+          ignores_clock = false;
+          all_formats = false;
+        })
+        × (manner_of leap late 2 ≡ record {
+          leap = leap;
+          late = late;
+          is_live = false;
+          ignores_clock = true;
+          all_formats = false;
+        })
+        × (manner_of leap late 4 ≡ record {
+          leap = leap;
+          late = late;
+          is_live = false;
+          ignores_clock = false;
+          all_formats = true;
+        })
+        × (manner_of leap late 15 ≡ record {
+          leap = leap;
+          late = late;
+          is_live = true;
+          ignores_clock = true;
+          all_formats = true;
+        }) }
+    ensures numbers { IsFeedFormat 0 (Some Format.Beast) × IsFeedFormat 1 (Some Format.Avr)
+        × IsFeedFormat 2 (Some Format.Csv) × IsFeedFormat 3 (Some Format.Log) × IsFeedFormat 4 None }
+{}
+
+/// An array after a call wrote its first elements.
+pub fn filled_exactly()
+    ensures { (was is : List ℕ) (count : ℕ) → IsFilled was is count
+        ↔ ((count ≤ length is) × (length is ≡ length was) × (drop count is ≡ drop count was)) }
+{}
+
+/// The end of a source, in arrays and in a text.
+pub fn ends_exactly()
+    ensures arrays { (arrival : ℕ) (old new : Feeding) (moments_were moments : List ℕ)
+        (frames_were frames : List (List ℕ)) (done : Done)
+        → HasEndedInFrames arrival old new moments_were moments frames_were frames done ↔ ((closed : Feeding)
+        × HasClosedFeed old closed
+        × HasTakenFrames arrival closed new [] moments_were moments frames_were frames done) }
+    ensures text { (arrival : ℕ) (old new : Feeding) (was is : List ℕ) (done : Done)
+        → HasEndedInText arrival old new was is done ↔ ((closed : Feeding) × HasClosedFeed old closed
+        × HasTakenText arrival closed new [] was is done) }
+    ensures finished { (arrival : ℕ) (k : KeptFeed) (new : Option KeptFeed) (moments_were moments : List ℕ)
+        (frames_were frames : List (List ℕ)) (before after : Done) (fault : Fault)
+        → IsFeedFinished arrival (Some k) new moments_were moments frames_were frames before after fault
+        ↔ ((next : KeptFeed) × (new ≡ Some next)
+        × HasEndedInFrames arrival k next moments_were moments frames_were frames after × (fault ≡ none)) }
+    ensures texts { (arrival : ℕ) (k : KeptFeed) (new : Option KeptFeed) (was is : List ℕ) (before after : Done)
+        (fault : Fault) → IsFeedTextFinished arrival (Some k) new was is before after fault
+        ↔ ((next : KeptFeed) × (new ≡ Some next) × HasEndedInText arrival k next was is after × (fault ≡ none)) }
+{}
+
+/// A lost connection, and the counts, if there is a feed.
+pub fn counts_exactly()
+    ensures lost { (k : KeptFeed) (new : Option KeptFeed) (fault : Fault) → IsFeedLost (Some k) new fault
+        ↔ ((next : KeptFeed) × (new ≡ Some next) × HasLost k next × (fault ≡ none)) }
+    ensures counted { (k : KeptFeed) (was is : PlainCounts) (fault : Fault) → IsFeedCounted (Some k) was is fault
+        ↔ (AreCounts k.ear.counts is × (fault ≡ none)) }
+    ensures numbers { (tally : Tally) (is : PlainCounts) → AreCounts tally is ↔ ((is.found ≡ tally.found)
+        × (is.written ≡ tally.written) × (is.mode_ac ≡ tally.mode_ac) × (is.multilaterated ≡ tally.multilaterated)
+        × (is.damaged ≡ tally.damaged) × (is.aside ≡ tally.aside) × (is.formats ≡ tally.formats)) }
+{}
+
+/// The source of a feed, if there is a feed, and the numbers of all sources.
+pub fn sources_exactly()
+    ensures number { (k : KeptFeed) (was is : ℕ) (fault : Fault) → IsSourceNumber (Some k) was is fault
+        ↔ ((is ≡ source_number (format_of_source k) k.ear.stranger) × (fault ≡ none)) }
+    ensures formats { (format : Format) (other : Option Stranger)
+        → source_number (Some format) other ≡ feed_number (Some format) }
+    ensures strangers { map (λ stranger. source_number None (Some stranger)) (Stranger.Sbs ∷ Stranger.Tar
+        ∷ Stranger.Packed ∷ Stranger.Utf16 ∷ Stranger.Json ∷ Stranger.NoFrame ∷ []) ≡ 5 ∷ 6 ∷ 7 ∷ 8 ∷ 9 ∷ 10 ∷ [] }
+    ensures none { source_number None None ≡ 4 }
+{}
