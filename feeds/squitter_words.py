@@ -4,18 +4,20 @@ from __future__ import annotations
 import argparse
 import re
 import sys
-from typing import NoReturn
+from typing import Mapping, NoReturn
 
 VERSION = "0.1.0"
 REFUSED, MISUSED, FAILED = 1, 2, 3  # statuses
 
 
 class Parser(argparse.ArgumentParser):
-    """Reads a command line. The first line of the help is the usage, and options are not abbreviated."""
+    """Reads a command line. The first line of the help is the usage, and options are not abbreviated. A hint follows an
+    error that has its whole words."""
 
-    def __init__(self, name: str, text: str) -> None:
+    def __init__(self, name: str, text: str, hints: Mapping[str, str]) -> None:
         super().__init__(prog=name, allow_abbrev=False)
         self.text = text
+        self.hints = hints
         self.add_argument("--version", action="version", version=f"{name} {VERSION}")
 
     def format_help(self) -> str:
@@ -25,7 +27,8 @@ class Parser(argparse.ArgumentParser):
         return f"usage: {self.text.splitlines()[0]}\n"
 
     def error(self, message: str) -> NoReturn:
-        self.exit(MISUSED, f"{self.prog}: {message}\n{self.format_usage()}")
+        hint = next((f"; {hint}" for words, hint in self.hints.items() if re.search(rf"{words}\b", message)), "")
+        self.exit(MISUSED, f"{self.prog}: {message}{hint}\n{self.format_usage()}")
 
 
 def milliseconds(text: str) -> int:
@@ -40,7 +43,9 @@ def tell(name: str, text: str) -> None:
     if sys.stderr is None:
         return  # (it is closed, and print would take standard output instead)
     try:
-        print(f"{name}: {text}", file=sys.stderr, flush=True)
+        # (one write, so that lines of other programs do not come between the text and its end)
+        sys.stderr.write(f"{name}: {text}\n")
+        sys.stderr.flush()
     except OSError:
         pass  # nobody is there to be told
 

@@ -187,7 +187,7 @@ def foreign() -> None:
                        ("kind", ""), ("line", ""), ("lat", "5.1"), ("moment", "9" * 20), ("kind", "ground")):
         same(of_rows(HEADER + ",".join({**cells, name: cell}.values()) + "\n")[0], 0, name, cell)
     for answer in ("waiting", "split", "far", "no site", "no position", "bad wrapping", "short frame",
-                   "bad length 7", "bad digit 3", "not DF17 11", "parity 0000FF", "long line", "bad moment",
+                   "bad length 70", "bad digit 10", "not DF17 11", "parity 0000FF", "long line", "bad moment",
                    "moment back 5", "table full"):
         same(of_rows(f"{HEADER}1,,{answer},,,,,\n")[0], 0, answer)
 
@@ -371,6 +371,22 @@ def refusals() -> None:
     with open("/dev/full", "wb") as full:
         done = subprocess.run([MAPS, "/dev/null"], stdin=subprocess.DEVNULL, stdout=full, stderr=subprocess.PIPE)
     expect(done.returncode == 3 and b"Traceback" not in done.stderr and b"Exception" not in done.stderr, done)
+
+
+def swapped() -> None:
+    """Results in place of the log, and rows beside a log, are named with what to do."""
+    log, text = log_of_places((0, "4B1001", "1.0000000", "2.0000000"))
+    rows_hint = "; these are rows, which are read without a log"
+    for first, second, said in (
+        (text, log, "has results of track, not a log; the log is the first file: LOG "),
+        ("1 parity 00A1B2\n", log, "has results of track, not a log; the log is the first file: LOG "),
+        (log, HEADER + GOOD, f"squitter-geojson: line 1 is no answer of track{rows_hint}\n"),
+        (log, '{"line":1}\n', f"squitter-geojson: line 1 is no answer of track{rows_hint}\n"),
+        (log, text + HEADER, "squitter-geojson: line 2 is no answer of track\n"),
+        (log, "no answers\n", "squitter-geojson: line 1 is no answer of track\n"),
+    ):
+        status, printed, reported = drawn(first, second)
+        expect((status, printed) == (1, "") and said in reported, first, second, reported)
 
 
 def by_geojson() -> None:

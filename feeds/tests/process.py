@@ -11,7 +11,7 @@ import subprocess
 import tempfile
 import threading
 import time
-from contextlib import contextmanager
+from contextlib import ExitStack, contextmanager
 from typing import Dict, Iterator, List, Sequence, Tuple
 
 from trying import AIR_EVEN, AIR_ODD, beast, clocked, expect, row, same
@@ -98,7 +98,11 @@ def refusals() -> None:
         (["localhost"], 3, "cannot read localhost: No such file or directory; a port is given as HOST:PORT"),
         ([":30005"], 3, "a port is given as HOST:PORT"),
         (["http://localhost:8080"], 3, "a port is given as HOST:PORT"),
-        (["localhost:300055"], 3, "a port is given as HOST:PORT"),
+        (["localhost:300055"], 3, "cannot read localhost:300055: No such file or directory; a port is from 1 to 65535"),
+        (["localhost:0"], 3, "a port is from 1 to 65535"),
+        ([], 2, "the following arguments are required: SOURCE; give - for standard input"),
+        (["-", "--lat=52.3"], 2, "unrecognized arguments: --lat=52.3; --lat is an option of squitter track"),
+        (["-", "--limits=5"], 2, "unrecognized arguments: --limits=5\n"),
         (["/"], 3, "Is a directory"),
         ([], 2, "SOURCE"),
         (["a", "b"], 2, "usage"),
@@ -139,6 +143,9 @@ def without_library() -> None:
         os.symlink(program(), f"{work}/programs/squitter")
         with open(f"{work}/log", "w") as plain:
             plain.write(log)
+        in_order = f"4 {AIR_ODD}\n5 {AIR_EVEN}\n6 5D40621D000000\n"
+        with open(f"{work}/late", "w") as late:
+            late.write(f"5 {AIR_EVEN}\n4 {AIR_ODD}\n6 5D40621D000000\n")
         with open(f"{work}/log.gz", "wb") as packed:
             packed.write(gzip.compress(log.encode()))
         installed = {**os.environ, "PYTHONPATH": f"{work}/stub", "PATH": f"{work}/programs:/usr/bin:/bin"}
@@ -154,8 +161,12 @@ def without_library() -> None:
             same(tried(feed, environment, f"{work}/log"), (0, log, "50 written\n"))
             same(tried(feed, environment, "-", path=f"{work}/log"), (0, log, "50 written\n"))
             same(tried(feed, environment, "-"), (0, "", "0 written\n"))
+            same(tried(feed, environment, f"{work}/late", "--reorder=1", "--all"), (0, in_order, "3 written\n"))
+            sorted_late = tried(feed, environment, "--all", "-", "--reorder=1", path=f"{work}/late")
+            same(sorted_late, (0, in_order, "3 written\n"))
+            same(tried(feed, environment, f"{work}/late", "--all")[1].split()[2], "5")
             for words, what in ((["--save=x"], "--save"), (["--leap=5"], "--leap"), (["--arrival"], "--arrival"),
-                                (["--reorder=5"], "--reorder"), (["--all", "--save=x"], "--all, --save")):
+                                (["--all", "--leap=5", "--save=x"], "--leap, --save")):
                 status, printed, said = tried(feed, environment, f"{work}/log", *words)
                 expect((status, printed) == (3, "") and said.startswith(f"squitter-feed: {what} needs "), said)
                 expect("python3-squitter" in said and "make -C clib" in said and said.count("\n") == 1, said)
@@ -339,3 +350,28 @@ def connects_again() -> None:
             link.close()
     same(re.findall(r"again in (\d+) s", said), ["1", "2", "1"], said)
     expect("4 printed, 1 damaged" in said, said)
+
+
+def silent_port() -> None:
+    """A port that sends nothing for 10 seconds is reported once, and is read on. One that has sent a frame is not."""
+    frame = b"*%s;\n" % AIR_EVEN.encode()
+    with listening() as silent, listening() as other, ExitStack() as both:
+        begun = time.monotonic()
+        run, quiet = (both.enter_context(started([f"127.0.0.1:{one.getsockname()[1]}"])) for one in (silent, other))
+        links = []
+        for listener in (silent, other):
+            listener.settimeout(20)
+            links.append(listener.accept()[0])
+        links[1].sendall(frame)
+        same(fault_of(run), f"squitter-feed: 127.0.0.1:{silent.getsockname()[1]} has sent nothing for 10 s: frames "
+             "come from port 30005 or 30002 of a dump1090, while it hears aircraft\n")
+        expect(9.9 < time.monotonic() - begun < 15, "reported after", time.monotonic() - begun)
+        time.sleep(1)
+        links[0].sendall(frame)
+        line_of(run)
+        for process in (run, quiet):
+            process.send_signal(signal.SIGINT)
+        said = [process.communicate(timeout=10)[1] for process in (run, quiet)]
+        for link in links:
+            link.close()
+    same(said, [b"squitter-feed: 1 printed\n"] * 2)
