@@ -251,9 +251,22 @@ function moment(value) {
   if (BigInt.asUintN(64, number) !== number) throw new RangeError("a moment is a whole number below 2^64");
   return number;
 }
+function lowest(num, den) {
+  let [one, other] = [num < 0n ? -num : num, den];
+  while (other) [one, other] = [other, one % other];
+  return { num: num / one, den: den / one };
+}
+function decimal(number) {
+  const [, front, decimals = "", exponent = "0"] = /^(-?\d+)(?:\.(\d+))?(?:e(.\d+))?$/.exec(String(number));
+  const places = decimals.length - Number(exponent), digits = BigInt(front + decimals);
+  return places > 0 ? lowest(digits, 10n ** BigInt(places)) : { num: digits * 10n ** BigInt(-places), den: 1n };
+}
 function fraction(degrees) {
-  const isFraction = typeof degrees === "object" && degrees !== null;
-  const num = whole(isFraction ? degrees.num : degrees), den = isFraction ? whole(degrees.den) : 1n;
+  if (!Number.isFinite(degrees) && typeof degrees !== "bigint" && typeof degrees?.num === "undefined") {
+    throw new TypeError(`degrees are {num, den}, a BigInt, a number or a text such as "52.25", not ${String(degrees)}`);
+  }
+  const { num, den } = typeof degrees === "object" ? { num: whole(degrees.num), den: whole(degrees.den) }
+    : typeof degrees === "bigint" ? { num: degrees, den: 1n } : decimal(degrees);
   const fits = BigInt.asIntN(64, num) === num && BigInt.asUintN(64, den) === den;
   return fits ? { num, den } : { num: 0n, den: 0n };
 }
@@ -265,8 +278,8 @@ function frameBytes(source) {
   return new Uint8Array(source.buffer, source.byteOffset, FRAME_BYTES).slice();
 }
 class Memory {
-  constructor(exports) {
-    this.exports = exports;
+  constructor(exports, angle) {
+    Object.assign(this, { exports, angle });
     const base = exports.memory.buffer.byteLength;
     this.grow(1);
     Object.assign(this, { faultAt: base, outAt: base + 256, firstAt: base + 512, secondAt: base + 544 });
@@ -322,12 +335,21 @@ class Memory {
     this.putBytes(this.textAt, spelled);
     return BigInt(spelled.length);
   }
-  putAngle(at, degrees) {
-    writeAngle(this.view(), at, fraction(degrees));
+  exact(degrees) {
+    return typeof degrees === "string" ? this.angle(degrees) : fraction(degrees);
   }
-  putPosition(at, { lat, lon }) {
-    this.putAngle(at + AT.position.lat, lat);
-    this.putAngle(at + AT.position.lon, lon);
+  exactPosition(position) {
+    const { lat, lon } = position ?? {};
+    if (lat === undefined || lon === undefined) throw new TypeError("a position is {lat, lon}, in degrees");
+    return { lat: this.exact(lat), lon: this.exact(lon) };
+  }
+  putAngle(at, degrees) {
+    writeAngle(this.view(), at, this.exact(degrees));
+  }
+  putPosition(at, position) {
+    const { lat, lon } = this.exactPosition(position);
+    writeAngle(this.view(), at + AT.position.lat, lat);
+    writeAngle(this.view(), at + AT.position.lon, lon);
   }
   putHead(at, members, head) {
     for (const [name, offset, count] of members) {
@@ -400,7 +422,8 @@ const PIECE_BYTES = 1 << 16;
 function bytesOf(piece) {
   if (ArrayBuffer.isView(piece)) return new Uint8Array(piece.buffer, piece.byteOffset, piece.byteLength);
   if (piece instanceof ArrayBuffer) return new Uint8Array(piece);
-  throw new TypeError("a piece is an ArrayBuffer or a view of one");
+  const hint = typeof piece === "string" ? "; new TextEncoder().encode(text) makes one of a text" : "";
+  throw new TypeError(`a piece is an ArrayBuffer or a view of one${hint}`);
 }
 const MOST_ADDRESSES = 1 << 20;
 function settingsOf({ window = WINDOW, limit = 1000, site = null }) {
@@ -561,7 +584,7 @@ class Tracker {
     this.#library = library;
     this.#listener = listenerOf(this, library, "tracker", settings);
     const { window, limit, site } = settingsOf(settings);
-    this.#settings = { window, limit, site: site && { lat: fraction(site.lat), lon: fraction(site.lon) } };
+    this.#settings = { window, limit, site: site && library.memory.exactPosition(site) };
   }
   hear(at, source) {
     const { memory } = this.#library, time = moment(at);
@@ -626,7 +649,7 @@ class Contact extends Tracker {
     super(library, { window, site, limit: 1 });
     this.#library = library;
     this.#window = moment(window);
-    this.#site = site && { lat: fraction(site.lat), lon: fraction(site.lon) };
+    this.#site = site && library.memory.exactPosition(site);
   }
   get newest() {
     return this.size ? this.present(0).moment : 0n;
@@ -805,7 +828,7 @@ class Order {
 }
 class Squitter {
   constructor(instance) {
-    this.memory = new Memory(instance.exports);
+    this.memory = new Memory(instance.exports, (text) => this.angle(text));
   }
   #ask(name, ...words) {
     ask(this, name, ...words);
@@ -914,7 +937,7 @@ class Squitter {
     return this.memory.view().getUint8(outAt);
   }
   angle(text) {
-    if (typeof text !== "string") throw new TypeError("an angle is read from a text");
+    if (typeof text !== "string") throw new TypeError("an angle is parsed from a text; degrees need no parsing");
     const length = this.memory.putText(text), { textAt, outAt } = this.memory;
     this.#ask("angle_of_text", BigInt(textAt), length, BigInt(outAt));
     return this.#angleAt(outAt);

@@ -16,8 +16,9 @@ export interface Fraction {
   readonly den: Whole;
 }
 
-/** An exact number of degrees. */
-export type Degrees = Fraction | Whole;
+/** An exact number of degrees: a fraction, a BigInt, a number or a text such as "52.25". A number counts as its shortest
+ * text: 52.31 is 5231/100. */
+export type Degrees = Fraction | Whole | string;
 
 /** A latitude, north positive, at most 90 degrees, and a longitude, east positive, at most 180, on both sides. */
 export interface Position {

@@ -10,10 +10,11 @@
  * The module is dist/squitter.wasm, the proved library with 64-bit memory. This file only lays out arguments and
  * results in memory, as squitter.h does; the library computes them. Names are those of the Python module.
  *
- * DEGREES go in as a fraction {num, den} of two BigInts, a BigInt or a whole number, and come out as an Angle: nothing
- * is rounded. A FRAME is 14 bytes or its text of 28 hexadecimal digits, bare or between * and ;. A call without a
- * result throws a Fault: the first error in the order of squitter.h. A whole number that does not fit its field in C
- * throws the fault of that field. Any other value in place of a whole number throws a TypeError. */
+ * DEGREES go in as a fraction {num, den} of two BigInts, a BigInt, a number or a text such as "52.25". A number counts as
+ * its shortest text: 52.31 is 5231/100. They come out as an Angle: nothing is rounded. A FRAME is 14 bytes or its text
+ * of 28 hexadecimal digits, bare or between * and ;. A call without a result throws a Fault: the first error in the
+ * order of squitter.h. A whole number that does not fit its field in C throws the fault of that field. Any other value
+ * in place of a whole number throws a TypeError. */
 
 import {
   AIR_HEAD_MEMBERS, ANGLE_TEXT_BYTES, Code, FAULT_TEXT_BYTES, FRAME_BYTES, FRAME_DIGITS, GROUND_HEAD_MEMBERS,
@@ -32,7 +33,7 @@ export { Order } from "./squitter_order.js";
 export class Squitter {
   /** @param {WebAssembly.Instance} instance */
   constructor(instance) {
-    this.memory = new Memory(instance.exports);
+    this.memory = new Memory(instance.exports, (text) => this.angle(text));
   }
 
   #ask(name, ...words) {
@@ -177,7 +178,7 @@ export class Squitter {
   /** Parses an angle: an optional -, one to three digits, and optionally a point and up to twelve
    * decimals. Faults: NOT_A_NUMBER, TOO_MANY_DECIMALS, ANGLE_RANGE. */
   angle(text) {
-    if (typeof text !== "string") throw new TypeError("an angle is read from a text");
+    if (typeof text !== "string") throw new TypeError("an angle is parsed from a text; degrees need no parsing");
     const length = this.memory.putText(text), { textAt, outAt } = this.memory;
     this.#ask("angle_of_text", BigInt(textAt), length, BigInt(outAt));
     return this.#angleAt(outAt);

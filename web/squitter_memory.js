@@ -7,8 +7,9 @@ import { Angle, Fault, PAGE_BYTES, fitted, fraction } from "./squitter_values.js
 
 /** The memory of the module, and the addresses of arguments and results, above the memory that the module uses. */
 export class Memory {
-  constructor(exports) {
-    this.exports = exports;
+  /** `angle` parses the text of an angle. */
+  constructor(exports, angle) {
+    Object.assign(this, { exports, angle });
     const base = exports.memory.buffer.byteLength;
     this.grow(1);
     Object.assign(this, { faultAt: base, outAt: base + 256, firstAt: base + 512, secondAt: base + 544 });
@@ -80,13 +81,26 @@ export class Memory {
     return BigInt(spelled.length);
   }
 
-  putAngle(at, degrees) {
-    writeAngle(this.view(), at, fraction(degrees));
+  /** Returns degrees as a fraction. Throws the fault of a text that is no angle. */
+  exact(degrees) {
+    return typeof degrees === "string" ? this.angle(degrees) : fraction(degrees);
   }
 
-  putPosition(at, { lat, lon }) {
-    this.putAngle(at + AT.position.lat, lat);
-    this.putAngle(at + AT.position.lon, lon);
+  /** Returns a position with exact degrees. Throws a TypeError for anything but {lat, lon}. */
+  exactPosition(position) {
+    const { lat, lon } = position ?? {};
+    if (lat === undefined || lon === undefined) throw new TypeError("a position is {lat, lon}, in degrees");
+    return { lat: this.exact(lat), lon: this.exact(lon) };
+  }
+
+  putAngle(at, degrees) {
+    writeAngle(this.view(), at, this.exact(degrees));
+  }
+
+  putPosition(at, position) {
+    const { lat, lon } = this.exactPosition(position);
+    writeAngle(this.view(), at + AT.position.lat, lat);
+    writeAngle(this.view(), at + AT.position.lon, lon);
   }
 
   /** Writes a head; `members` has the name, offset and size of each field. */
@@ -185,5 +199,6 @@ export const PIECE_BYTES = 1 << 16;
 export function bytesOf(piece) {
   if (ArrayBuffer.isView(piece)) return new Uint8Array(piece.buffer, piece.byteOffset, piece.byteLength);
   if (piece instanceof ArrayBuffer) return new Uint8Array(piece);
-  throw new TypeError("a piece is an ArrayBuffer or a view of one");
+  const hint = typeof piece === "string" ? "; new TextEncoder().encode(text) makes one of a text" : "";
+  throw new TypeError(`a piece is an ArrayBuffer or a view of one${hint}`);
 }

@@ -5,7 +5,7 @@ import {
   writeLast,
 } from "./squitter_layout.js";
 import { Lent, PIECE_BYTES, ask, bytesOf, heardAt } from "./squitter_memory.js";
-import { WINDOW, fraction, whole, moment } from "./squitter_values.js";
+import { WINDOW, whole, moment } from "./squitter_values.js";
 
 /** The most addresses of a log or a tracker: some 800 megabytes. */
 const MOST_ADDRESSES = 1 << 20;
@@ -223,7 +223,7 @@ export class Tracker {
     this.#library = library;
     this.#listener = listenerOf(this, library, "tracker", settings);
     const { window, limit, site } = settingsOf(settings);
-    this.#settings = { window, limit, site: site && { lat: fraction(site.lat), lon: fraction(site.lon) } };
+    this.#settings = { window, limit, site: site && library.memory.exactPosition(site) };
   }
 
   /** Adds a frame with its timestamp, and returns the result. A Fault leaves the tracker unchanged.
@@ -315,7 +315,7 @@ export class Contact extends Tracker {
     super(library, { window, site, limit: 1 });
     this.#library = library;
     this.#window = moment(window);
-    this.#site = site && { lat: fraction(site.lat), lon: fraction(site.lon) };
+    this.#site = site && library.memory.exactPosition(site);
   }
 
   /** The timestamp of the newest position; 0n if there is none. */

@@ -98,11 +98,28 @@ export function moment(value) {
   return number;
 }
 
-/** Returns numerator and denominator of exact degrees. A fraction that does not fit in C becomes 0/0, which the library
- * refuses. */
+/** Returns a fraction in lowest terms, as BigInts. */
+function lowest(num, den) {
+  let [one, other] = [num < 0n ? -num : num, den];
+  while (other) [one, other] = [other, one % other];
+  return { num: num / one, den: den / one };
+}
+
+/** Returns the fraction that the shortest text of a number spells: 5231/100 for 52.31, 1/10^7 for 1e-7. */
+function decimal(number) {
+  const [, front, decimals = "", exponent = "0"] = /^(-?\d+)(?:\.(\d+))?(?:e(.\d+))?$/.exec(String(number));
+  const places = decimals.length - Number(exponent), digits = BigInt(front + decimals);
+  return places > 0 ? lowest(digits, 10n ** BigInt(places)) : { num: digits * 10n ** BigInt(-places), den: 1n };
+}
+
+/** Returns numerator and denominator of degrees: a fraction, a BigInt or a number. A number counts as its shortest text.
+ * A fraction that does not fit in C becomes 0/0, which the library refuses. */
 export function fraction(degrees) {
-  const isFraction = typeof degrees === "object" && degrees !== null;
-  const num = whole(isFraction ? degrees.num : degrees), den = isFraction ? whole(degrees.den) : 1n;
+  if (!Number.isFinite(degrees) && typeof degrees !== "bigint" && typeof degrees?.num === "undefined") {
+    throw new TypeError(`degrees are {num, den}, a BigInt, a number or a text such as "52.25", not ${String(degrees)}`);
+  }
+  const { num, den } = typeof degrees === "object" ? { num: whole(degrees.num), den: whole(degrees.den) }
+    : typeof degrees === "bigint" ? { num: degrees, den: 1n } : decimal(degrees);
   const fits = BigInt.asIntN(64, num) === num && BigInt.asUintN(64, den) === den;
   return fits ? { num, den } : { num: 0n, den: 0n };
 }

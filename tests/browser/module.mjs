@@ -8,8 +8,8 @@ import { runInNewContext } from "node:vm";
 import * as squitter from "../../web/squitter.js";
 
 const {
-  load, AirHead, AltitudeForm, Angle, Code, Contact, Fault, Feed, FeedFormat, GroundHead, Kind, Log, Order, Stranger,
-  Tracker, WINDOW, What,
+  load, AirHead, AltitudeForm, Angle, Code, Contact, Fault, Feed, FeedFormat, Format, GroundHead, Kind, Log, Order,
+  Stranger, Tracker, WINDOW, What,
 } = squitter;
 const MODULE = readFileSync(new URL("../../dist/squitter.wasm", import.meta.url)), library = await load(MODULE);
 const FRAME = "8D40621D58C382D690C8AC2863A7";
@@ -185,9 +185,22 @@ const REFUSED = [
   [TypeError, () => new Tracker(library).restore({ last: 5n, entries: "" })],
   [Code.BAD_ANGLE, () => library.angleE7(361)],
   [Code.BAD_POSITION, () => library.positionE7(bad)],
-  [TypeError, () => library.zoneCount(52.5)],
-  [TypeError, () => library.zoneCount("52")],
+  [TypeError, () => library.zoneCount(true)],
+  [TypeError, () => library.zoneCount(null)],
+  [TypeError, () => library.zoneCount(Infinity)],
+  [TypeError, () => library.zoneCount({ num: 1.5, den: 1 })],
+  [TypeError, () => library.zoneCount({ num: 1 })],
+  [Code.NOT_A_NUMBER, () => library.zoneCount("5e1")],
+  [Code.TOO_MANY_DECIMALS, () => library.local(FRAME, { lat: 52, lon: "4.0000000000001" })],
+  [Code.BAD_LATITUDE, () => library.zoneCount(90.5)],
+  [Code.BAD_LATITUDE, () => library.zoneCount("-91")],
+  [Code.BAD_POSITION, () => library.local(FRAME, { lat: 0.1 + 0.2, lon: 0 })],
+  [Code.BAD_POSITION, () => library.local(FRAME, { lat: 0, lon: 5e-324 })],
+  [Code.BAD_POSITION, () => library.local(FRAME, { lat: 0, lon: -1e300 })],
+  [Code.BAD_POSITION, () => new Contact(library, 1, { lat: 90.5, lon: 0 })],
   [TypeError, () => library.local(FRAME, { lat: NaN, lon: 0 })],
+  [TypeError, () => library.local(FRAME, { lat: 0 })],
+  [TypeError, () => library.local(FRAME, [52, 4])],
   [TypeError, () => library.local(FRAME)],
   [TypeError, () => library.read(null)],
   [TypeError, () => library.read([...library.frame(FRAME)])],
@@ -205,6 +218,60 @@ const REFUSED = [
   [RangeError, () => contact.hear(1n << 64n, FRAME)],
   [RangeError, () => library.faultText(1n << 32n)],
 ];
+
+/** Degrees, each with the fraction that they are, in lowest terms. */
+const DEGREES = [
+  [52.31, 5231n, 100n], [-0.5, -1n, 2n], [-0, 0n, 1n], [1e-7, 1n, 10_000_000n], [-2.5e-12, -1n, 400_000_000_000n],
+  [123.456789012345, 24691357802469n, 200_000_000_000n], ["52.25", 209n, 4n], ["-33.9", -339n, 10n], [90, 90n, 1n],
+  [-180n, -180n, 1n], [9007199254740992, 2n ** 53n, 1n], [1e21, 0n, 0n], [1.5e300, 0n, 0n],
+  [{ num: 2n, den: 4 }, 2n, 4n],
+];
+
+/** Calls, each with the words of its error. */
+const HINTS = [
+  [() => new Log(library).takeText("5 x"),
+    "a piece is an ArrayBuffer or a view of one; new TextEncoder().encode(text) makes one of a text"],
+  [() => new Log(library).take(5), "a piece is an ArrayBuffer or a view of one"],
+  [() => library.local(FRAME, { lat: 52, lng: 4 }), "a position is {lat, lon}, in degrees"],
+  [() => library.encode(head({ ca: 1.5 }), zero), "a whole number is wanted, not 1.5"],
+  [() => tracker.hear(1n << 64n, FRAME), "a moment is a whole number below 2^64"],
+  [() => library.read(new Uint8Array(15)), "a frame has 14 bytes"],
+  [() => new Tracker(library, { limit: 2 ** 20 + 1 }), "a limit is at most 1048576"],
+  [() => tracker.restore({ last: 5n, entries: new Uint8Array(193) }), "an entry has 192 bytes"],
+  [() => library.zoneCount(undefined),
+    'degrees are {num, den}, a BigInt, a number or a text such as "52.25", not undefined'],
+];
+
+/** Tests the fields that a head has if they are not given, and that an angle cannot be changed. */
+function defaultFields() {
+  const air = { address: 7, altitude: 0, ca: 5, typeCode: 11, status: 0, flag: 0, time: 0, odd: 0 };
+  const ground = { address: 7, ca: 4, typeCode: 7, movement: 0, trackStatus: 0, track: 0, time: 0, odd: 0 };
+  for (const [made, wanted] of [[new AirHead({ address: 7 }), air], [new GroundHead({ address: 7 }), ground]]) {
+    if (JSON.stringify(made) !== JSON.stringify(wanted)) throw new Error(JSON.stringify(made));
+  }
+  if (!Object.isFrozen(library.angle("1.5"))) throw new Error("an angle can be changed");
+}
+
+/** Tests that numbers and texts are exact degrees, also as a site, and what errors say of other values. */
+function degrees() {
+  for (const [given, num, den] of DEGREES) {
+    const exact = library.memory.exact(given);
+    if (exact.num !== num || exact.den !== den) throw new Error(`${given} is ${exact.num}/${exact.den}`);
+  }
+  const [near, exact] = [52.31, { num: 5231n, den: 100n }].map((lat) => library.local(FRAME, { lat, lon: "4.76" }));
+  if (near.lat.num !== exact.lat.num || near.lon.den !== exact.lon.den) throw new Error("a number is another place");
+  const copy = new Contact(library, 10, { lat: "52.31", lon: 4.76 }).copy();
+  if (!(copy instanceof Contact)) throw new Error("a contact with a site of numbers has no copy");
+  for (const [call, words] of HINTS) {
+    try {
+      call();
+    } catch (error) {
+      if (error.message === words) continue;
+      throw error;
+    }
+    throw new Error(`no error: ${words}`);
+  }
+}
 
 /** Frames of other bytes: part of a larger buffer, and changed after they were handed over. */
 function foreignBytes() {
@@ -368,6 +435,19 @@ function manyAnswers() {
     if (![...lats, ...lons, ...feet].every(Number.isNaN)) throw new Error("a refused line has a place");
     log.close();
   }
+}
+
+/** Tests the header of each format, timestamps above 2^32, and the two zone counts of a split. */
+function headersAndColumns() {
+  const log = new Log(library), headers = [Format.LINES, Format.CSV, Format.JSON].map((format) => log.header(format));
+  if (headers.join("|") !== "|line,moment,answer,address,kind,lat,lon,feet\n|") throw new Error(headers.join("|"));
+  // NL changes from 59 to 58 at a latitude of 10.4704713 degrees.
+  const frames = [[0, 10.4704], [1, 10.4706]].map(([odd, lat]) =>
+    library.frameText(library.encode(head({ address: 1, odd }), { lat, lon: 20 })));
+  const lines = frames.map((frame, at) => `${2 ** 33 + 5 + at} ${frame}\n`).join("");
+  const { moments, whats, evens, odds } = log.take(new TextEncoder().encode(lines));
+  const told = [...moments, ...whats, ...evens, ...odds].join(" ");
+  if (told !== `8589934597 8589934598 ${What.WAITING} ${What.SPLIT} 0 59 0 58`) throw new Error(told);
 }
 
 /** Tests each field of a record, in its place and with a value of its own, in the air and on the ground. */
@@ -678,6 +758,9 @@ async function refusals() {
   fieldsOfHeads();
   defaultWindows();
   manyAnswers();
+  headersAndColumns();
+  degrees();
+  defaultFields();
   foreignBytes();
   keptWhole();
   usedAgain();
