@@ -4,9 +4,8 @@ Angles are ``fractions.Fraction`` in degrees, so nothing is rounded. Whole numbe
 ``"52.25"`` and floats are taken too. A float counts as its shortest text, which is how it was written: 52.31 is
 5231/100, and 1e-07 is 1/10**7. Fractions and texts stay exact. An angle has a denominator of at most 10**12, so a
 computed float may need ``round(degrees, 12)``. A frame is 14 bytes, or its text of 28 hexadecimal digits, bare or
-between ``*`` and ``;``. A call without a result raises a :class:`Fault` with the library's text; for an angle out of
-range it also says what was given and what is wanted. A value that does not fit its field in C raises the fault of that
-field.
+between ``*`` and ``;``. A call without a result raises a :class:`Fault` with the library's text, and with what was
+given and what is wanted. A value that does not fit its field in C raises the fault of that field.
 
 >>> import squitter
 >>> squitter.read("8D40621D58C382D690C8AC2863A7").feet
@@ -18,7 +17,7 @@ Position(lat=Fraction(428091, 8192), lon=Fraction(64215, 16384))
 from __future__ import annotations
 
 import ctypes
-import operator
+import functools
 import struct
 from dataclasses import dataclass
 from decimal import Decimal
@@ -26,12 +25,13 @@ from fractions import Fraction
 from numbers import Rational
 from typing import Any, Callable, List, NamedTuple, Optional, Sequence, Tuple, TypeVar, Union
 
+from squitter._errors import hint_of_altitude, hint_of_field, hint_of_head, hint_of_text, index, shown, whole
 from squitter._library import (
-    _FRAME, _Position, _fits, _frames, _layout, _lib, _lowest, _quick, _read_angle, _text,
+    _FRAME, _Position, _fits, _frames, _layout, _length, _lib, _lowest_two, _quick, _read_angle, _text,
 )
 from squitter._made import (
-    ANGLE_TEXT_BYTES, FAULT_TEXT_BYTES, FRAME_DIGITS, AltitudeForm, Code, FeedFormat, Format, Kind, Stranger, What,
-    _AirHead, _Altitude, _Angle, _DegreesE7, _Fault, _Fields, _GroundHead, _Heard, _Zones,
+    ANGLE_TEXT_BYTES, FAULT_TEXT_BYTES, FRAME_BYTES, FRAME_DIGITS, AltitudeForm, Code, FeedFormat, Format, Kind,
+    Stranger, What, _AirHead, _Altitude, _Angle, _DegreesE7, _Fault, _Fields, _GroundHead, _Heard, _Zones,
 )
 
 __all__ = [
@@ -67,7 +67,8 @@ class Fault(ValueError):
         self.first = first
         self.second = second
         self.hint = hint
-        super().__init__(fault_text(code, first, second) + (f": {hint}" if hint else ""))
+        text = _words(code, first, second)
+        super().__init__(f"{text}: {hint}" if hint else text)
 
     def __reduce__(self) -> Tuple[type, Tuple[int, int, int, str]]:
         """Returns the class and the arguments that copies and pickles of the fault are made from."""
@@ -195,6 +196,12 @@ def _done(fault: _Fault, *given: Degrees) -> None:
         raise Fault(fault.code, fault.first, fault.second, _hint(fault.code, given))
 
 
+def _read_text_done(fault: _Fault, text: str) -> None:
+    """Raises the fault of a text, unless its code is OK."""
+    if fault.code:
+        raise Fault(fault.code, fault.first, fault.second, hint_of_text(fault.code, text))
+
+
 def _hint(code: int, given: Sequence[Degrees]) -> str:
     """Returns what is wanted in place of the first invalid angle, or an empty text if the fault is about another
     value."""
@@ -205,7 +212,7 @@ def _hint(code: int, given: Sequence[Degrees]) -> str:
 def _wanted(name: str, degrees: Degrees) -> str:
     most, article = _MOST[name], "an" if name == "angle" else "a"
     finest = "a denominator of at most 10**12" if isinstance(degrees, Rational) else "at most 12 decimals"
-    return f"{article} {name} is from -{most} to {most} degrees with {finest}, not {degrees!r:.60}"
+    return f"{article} {name} is from -{most} to {most} degrees with {finest}, not {shown(degrees)}"
 
 
 def _is_valid(name: str, degrees: Degrees) -> bool:
@@ -241,11 +248,15 @@ def _angle(degrees: Degrees, name: str, code: Code) -> _Angle:
     raise Fault(code, hint=_wanted(name, degrees))
 
 
+# Two items of these are no latitude and longitude: they are characters, bytes, keys, or values in no order.
+_NO_PAIRS = (str, bytes, bytearray, dict, set, frozenset)
+
+
 def _position(position: Point) -> _Position:
     try:
-        lat, lon = position
+        lat, lon = () if isinstance(position, _NO_PAIRS) else position
     except (TypeError, ValueError):
-        raise TypeError(f"a position is a Position, or a latitude and a longitude, not {position!r:.60}") from None
+        raise TypeError(f"a position is a Position, or a latitude and a longitude, not {shown(position)}") from None
     here = _Position(_angle(lat, "latitude", Code.BAD_POSITION), _angle(lon, "longitude", Code.BAD_POSITION))
     here.given = lat, lon
     return here
@@ -288,6 +299,7 @@ def _read_position(position: _Position) -> Position:
 _KINDS, _FORMS, _WHATS = ({int(member): member for member in kind} for kind in (Kind, AltitudeForm, What))
 # All members of a structure are read at once, because each attribute takes a call.
 _FIELDS, _HEARD, _PLACE, _FAULT = map(_layout, (_Fields, _Heard, _Position, _Fault))
+_unpacked_fields, _unpacked_heard = _FIELDS.unpack_from, _HEARD.unpack_from
 _LAST_PLACED = int(What.FOLLOWED)  # FIX and FOLLOWED have positions
 _Members = Tuple[int, ...]
 
@@ -305,8 +317,7 @@ def _fields_of(members: _Members) -> Fields:
 
 
 def _position_of(members: _Members) -> Position:
-    lat_num, lat_den, lon_num, lon_den = members
-    made: Position = _tuple(Position, (_lowest(lat_num, lat_den), _lowest(lon_num, lon_den)))
+    made: Position = _tuple(Position, _lowest_two(*members))
     return made
 
 
@@ -314,7 +325,7 @@ def _heard_of(members: _Members) -> Heard:
     lat_num, lat_den, lon_num, lon_den, number, even, odd = members
     place = None
     if number <= _LAST_PLACED:
-        place = _tuple(Position, (_lowest(lat_num, lat_den), _lowest(lon_num, lon_den)))
+        place = _tuple(Position, _lowest_two(lat_num, lat_den, lon_num, lon_den))
     made: Heard = _tuple(Heard, (_WHATS[number], place, even, odd))
     return made
 
@@ -363,19 +374,22 @@ def frame(source: Frame) -> bytes:
             room = _FRAME_ROOMS.pop()
         except IndexError:
             room = _room(ctypes.create_string_buffer(14))
-        fault = _frame_of_text(text, ctypes.c_size_t(len(text)), room[1])
+        code = _frame_of_text(text, _length(text), room[1])
         found: bytes = room[0].raw
         _FRAME_ROOMS.append(room)
-        if fault.code:
-            _done(fault)
+        if code:
+            _read_text_done(_lib.squitter_frame_of_text(text, len(text), ctypes.byref(_FRAME())), source)
         return found
     wanted = "a frame is 14 bytes or a text of 28 hexadecimal digits"
     try:
         view = memoryview(source)
     except TypeError:
-        raise TypeError(f"{wanted}, not {source!r:.60}") from None
-    if view.itemsize != 1 or view.nbytes != 14:
+        raise TypeError(f"{wanted}, not {shown(source)}") from None
+    if view.itemsize != 1:
         raise ValueError(f"{wanted}, not {view.nbytes} bytes in items of {view.itemsize}")
+    if view.nbytes != FRAME_BYTES:
+        advice = "; a frame text is a str" if view.nbytes in (FRAME_DIGITS, FRAME_DIGITS + 2) else ""
+        raise ValueError(f"{wanted}, not {view.nbytes} bytes{advice}")
     return view.tobytes()
 
 
@@ -389,20 +403,23 @@ def frame_text(source: Frame) -> str:
 def read(source: Frame) -> Fields:
     """Returns the fields of the squitter in a frame or a frame text."""
     text = None
-    if isinstance(source, str):
-        text = _text(source)
-    elif type(source) is not bytes or len(source) != 14:
-        source = frame(source)
+    if type(source) is not bytes or len(source) != FRAME_BYTES:
+        if isinstance(source, str):
+            text = _text(source)
+        else:
+            source = frame(source)
     try:
         room = _FIELDS_ROOMS.pop()
     except IndexError:
         room = _room(_Fields())
     out, at = room
-    fault = _read_frame(source, at) if text is None else _read_text(text, ctypes.c_size_t(len(text)), at)
-    members = _FIELDS.unpack_from(out)
+    code = _read_frame(source, at) if text is None else _read_text(text, _length(text), at)
+    members = _unpacked_fields(out)
     _FIELDS_ROOMS.append(room)
-    if fault.code:
-        _done(fault)
+    if code and text is None:
+        _done(_lib.squitter_read_frame(source, ctypes.byref(_Fields())))
+    elif code and text is not None:
+        _read_text_done(_lib.squitter_read_text(text, len(text), ctypes.byref(_Fields())), str(source))
     return _fields_of(members)
 
 
@@ -448,8 +465,13 @@ def local_many(frames: Frames, references: Sequence[Point]) -> List[Union[Positi
     """Returns the position of each frame near its reference, or its fault. Raises ValueError unless there is one
     reference for each frame."""
     source, count = _frames(frames)
-    if len(references) != count:
-        raise ValueError(f"{count} frames and {len(references)} references")
+    wanted = "there has to be a list with a position for each frame"
+    try:
+        length = len(references)
+    except TypeError:
+        raise TypeError(f"{wanted}, not {shown(references)}") from None
+    if length != count:
+        raise ValueError(f"{count} frames and {length} references: {wanted}")
     here = (_Position * count)(*map(_position, references))
     return _many("local_many", _PLACE, _position_of, count, source, count, ctypes.addressof(here), count)
 
@@ -459,7 +481,7 @@ def pair_many(older: Frames, newer: Frames, site: Optional[Point] = None) -> Lis
     there is one newer frame for each older one."""
     (first, count), (second, other) = _frames(older), _frames(newer)
     if count != other:
-        raise ValueError(f"{count} older frames and {other} newer ones")
+        raise ValueError(f"{count} older frames and {other} newer ones: there has to be a newer one for each")
     arrays = first, count, second, count
     if site is None:
         return _many("pair_many", _PLACE, _position_of, count, *arrays)
@@ -471,32 +493,50 @@ def pair_many(older: Frames, newer: Frames, site: Optional[Point] = None) -> Lis
 
 def encode(head: Union[AirHead, GroundHead], position: Point) -> bytes:
     """Returns the frame for a position, with this head."""
-    kind = _AirHead if isinstance(head, AirHead) else _GroundHead
-    plain = kind()
-    for field in kind._fields_:
-        name, value = field[0], getattr(head, field[0])
-        if not _fits(value, 8 * ctypes.sizeof(field[1])):
-            raise Fault(Code.BAD_FIELDS)
-        setattr(plain, name, operator.index(value))
-    if isinstance(plain, _AirHead) and 4095 < plain.altitude <= 50175 and plain.altitude % 25 == 0:
-        raise Fault(Code.BAD_FIELDS, hint=f"altitude is a field of 12 bits; for {plain.altitude} feet use "
-                                          f"field_of_feet({plain.altitude})")
-    call = _lib.squitter_encode_air if kind is _AirHead else _lib.squitter_encode_ground
-    out = _FRAME()
+    is_air = isinstance(head, AirHead)
+    plain, out = _plain_head(head, is_air), _FRAME()
+    call = _lib.squitter_encode_air if is_air else _lib.squitter_encode_ground
     try:
         here = _position(position)
     except Fault:
         # Faults of the head come first, as in the library's call.
-        _done(call(ctypes.byref(plain), ctypes.byref(_position(Position(0, 0))), ctypes.byref(out)))
+        nowhere = _position(Position(0, 0))
+        _head_done(call(ctypes.byref(plain), ctypes.byref(nowhere), ctypes.byref(out)), head, is_air)
         raise
-    _done(call(ctypes.byref(plain), ctypes.byref(here), ctypes.byref(out)), *here.given)
+    fault = call(ctypes.byref(plain), ctypes.byref(here), ctypes.byref(out))
+    _head_done(fault, head, is_air)
+    _done(fault, *here.given)
     return bytes(out)
+
+
+def _plain_head(head: Union[AirHead, GroundHead], is_air: bool) -> Union[_AirHead, _GroundHead]:
+    """Returns a head as C takes it. Raises TypeError for anything else, and the Fault BAD_FIELDS if a field does not
+    fit."""
+    plain: Union[_AirHead, _GroundHead] = _AirHead() if is_air else _GroundHead()
+    for field in plain._fields_:
+        name = field[0]
+        try:
+            value = getattr(head, name)
+        except AttributeError:
+            raise TypeError(f"a head is an AirHead or a GroundHead, not {shown(head)}") from None
+        number = index(value, f"{name} is a whole number")
+        if not _fits(number, 8 * ctypes.sizeof(field[1])):
+            raise Fault(Code.BAD_FIELDS, hint=hint_of_field(is_air, name, number))
+        setattr(plain, name, number)
+    return plain
+
+
+def _head_done(fault: _Fault, head: Union[AirHead, GroundHead], is_air: bool) -> None:
+    """Raises the Fault BAD_FIELDS, with the first invalid field of the head, if that is the fault."""
+    if fault.code == Code.BAD_FIELDS:
+        other = "" if isinstance(head, (AirHead, GroundHead)) else "; a head is an AirHead or a GroundHead"
+        raise Fault(Code.BAD_FIELDS, hint=hint_of_head(is_air, head) + other)
 
 
 def send_again(source: Frame, odd: int, position: Point) -> bytes:
     """Returns the frame with this parity (0 even, 1 odd) and the code of this position. Its other fields stay."""
-    if odd not in (0, 1):
-        raise Fault(Code.BAD_PARITY)
+    if odd not in (0, 1) or isinstance(odd, float):
+        raise Fault(Code.BAD_PARITY, hint=f"odd is 0 or 1, not {shown(odd)}")
     here, out = _position(position), _FRAME()
     again = _lib.squitter_send_again(_frame_near(source, here), odd, ctypes.byref(here), ctypes.byref(out))
     _done(again, *here.given)
@@ -538,38 +578,43 @@ def angle(text: str) -> Fraction:
     """Returns the angle of a text: an optional ``-``, one to three digits, and optionally a point and decimals. Raises
     TypeError for anything but a str."""
     if not isinstance(text, str):
-        raise TypeError(f"an angle is read from a text, as '52.25', not from {text!r:.60}")
+        raise TypeError(f"an angle is read from a text, as '52.25', not from {shown(text)}")
     out, spelled = _Angle(), _text(text)
-    _done(_lib.squitter_angle_of_text(spelled, len(spelled), ctypes.byref(out)))
+    _read_text_done(_lib.squitter_angle_of_text(spelled, len(spelled), ctypes.byref(out)), text)
     return _read_angle(out)
 
 
 def feet_of_field(type_code: int, field: int) -> Altitude:
     """Decodes an altitude field of 12 bits in an airborne position of this type code."""
-    if not _fits(type_code, 8) or not _fits(field, 16):
-        raise Fault(Code.BAD_FIELDS)
+    numbers = index(type_code, "a type code is a whole number"), index(field, "an altitude field is a whole number")
     out = _Altitude()
-    _done(_lib.squitter_feet_of_field(type_code, field, ctypes.byref(out)))
+    if not _fits(numbers[0], 8) or not _fits(numbers[1], 16) or \
+            _lib.squitter_feet_of_field(*numbers, ctypes.byref(out)).code:
+        raise Fault(Code.BAD_FIELDS, hint=hint_of_altitude(*numbers))
     return Altitude(AltitudeForm(out.form), out.feet)
 
 
 def field_of_feet(feet: int) -> int:
     """Returns the altitude field for these feet, a multiple of 25 from -1000 to 50175."""
-    if not -1 << 31 <= operator.index(feet) < 1 << 31:
-        raise Fault(Code.BAD_FEET)
-    out = ctypes.c_uint16()
-    _done(_lib.squitter_field_of_feet(feet, ctypes.byref(out)))
+    number, out = index(feet, "feet are a whole number"), ctypes.c_uint16()
+    if not -1 << 31 <= number < 1 << 31 or _lib.squitter_field_of_feet(number, ctypes.byref(out)).code:
+        raise Fault(Code.BAD_FEET, hint=f"feet are a multiple of 25 from -1000 to 50175, not {shown(feet)}")
     return out.value
 
 
 def fault_text(code: int, first: int = 0, second: int = 0) -> str:
     """Returns the words of a fault, those of the program ``squitter`` if it has any. Raises ValueError for a number
     that is too large for C."""
-    if not (_fits(code, 32) and _fits(first, 64) and _fits(second, 32)):
-        raise ValueError("a fault has a code below 2**32, a first number below 2**64 and a second below 2**32")
+    code, first, second = (
+        whole(number, bits, f"the {name} of a fault is a whole number from 0")
+        for number, bits, name in ((code, 32, "code"), (first, 64, "first number"), (second, 32, "second number")))
     plain, out = _Fault(code, second, first), ctypes.create_string_buffer(FAULT_TEXT_BYTES)
     _lib.squitter_text_of_fault(ctypes.byref(plain), out)
     return out.value.decode("ascii")
+
+
+# Many frames have the same few faults.
+_words = functools.lru_cache(512, typed=True)(fault_text)
 
 
 def version() -> str:

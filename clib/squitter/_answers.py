@@ -11,8 +11,9 @@ import numpy.typing as npt
 
 import squitter
 from squitter import WINDOW, AltitudeForm, Point, Position, What
+from squitter._errors import missing
 from squitter._made import _Answer
-from squitter._records import FAULT, POSITION, TRACKED, Records, _limit, _moments
+from squitter._records import FAULT, POSITION, TRACKED, Records, _limit, _moments, kind_of, name_of_type
 from squitter._source import Source, bytes_of, refuse_other, squitters_of
 
 if TYPE_CHECKING:
@@ -57,7 +58,8 @@ def _look(heard: Records, faults: Records) -> None:
     """Raises ValueError if the arrays are not results of `track`."""
     for name, array, dtype in (("heard", heard, TRACKED), ("faults", faults, FAULT)):
         if not isinstance(array, np.ndarray) or array.dtype != dtype or array.ndim != 1:
-            raise ValueError(f"{name} is an array of another type than {dtype}, or of more dimensions")
+            raise ValueError(f"{name} is an array of another type than batch.{name_of_type(dtype)}, or of more "
+                             f"dimensions: {kind_of(array)}; track returns heard and faults")
     if len(heard) != len(faults):
         raise ValueError(f"heard are {len(heard)}, and faults {len(faults)}")
 
@@ -270,7 +272,10 @@ def dataframe(
     counts its squitters. Window, site and limit are those of :func:`squitter.batch.track`. Raises ValueError for an
     archive and for frames without times, and KeyError for a table without one of the two columns.
     """
-    import pandas
+    try:
+        import pandas
+    except ModuleNotFoundError as error:
+        raise missing(error, "batch.dataframe", "pandas") from None
 
     if isinstance(log, (str, os.PathLike, bytes, bytearray, memoryview)) or hasattr(log, "read"):
         data = bytes_of(log)
@@ -327,8 +332,9 @@ def _column(table: Any, name: str) -> Any:
     try:
         return table[name]
     except (KeyError, ValueError):
-        there = ", ".join(map(str, getattr(table, "keys", list)())) or "of another kind"
-        raise KeyError(f"{wanted}, not a table with the columns {there}") from None
+        there = ", ".join(map(str, getattr(table, "keys", list)()))
+        given = f"a table with the columns {there}" if there else f"a {type(table).__name__} without columns"
+        raise KeyError(f"{wanted}, not {given}") from None
     except (TypeError, IndexError):
         raise TypeError(f"{wanted}, not {type(table).__name__}") from None
 
@@ -366,7 +372,11 @@ def _of_pandas(name: str, column: np.ma.MaskedArray[Any, Any]) -> Any:
 
 
 def fractions(heard: Records) -> List[Optional[Position]]:
-    """Returns the position of each record of TRACKED or POSITION in exact fractions of a degree, or None."""
+    """Returns the position of each record of TRACKED or POSITION in exact fractions of a degree, or None. Raises
+    ValueError for anything else."""
+    names = heard.dtype.names if isinstance(heard, np.ndarray) and heard.ndim == 1 else None
+    if not set(POSITION.names or ()) <= set(names or ()):
+        raise ValueError(f"heard is an array of TRACKED or POSITION, as track returns first, not {kind_of(heard)}")
     return [
         Position(Fraction(lat_num, lat_den), Fraction(lon_num, lon_den)) if lat_den else None
         for lat_num, lat_den, lon_num, lon_den in heard[list(POSITION.names or ())].tolist()

@@ -8,8 +8,9 @@ import threading
 from typing import NamedTuple, Optional, Tuple, Union
 
 from squitter import _done
-from squitter._hearing import _Lent, _bytes
-from squitter._library import _fits, _lend, _lib
+from squitter._errors import whole
+from squitter._hearing import _Lent, _bytes, _form
+from squitter._library import _lend, _lib
 from squitter._made import (
     FEED_ALL_FORMATS, FEED_BY_ARRIVAL, FEED_LIVE, FRAME_BYTES, LINE_BYTES, FeedFormat, Stranger, _Counts, _Done, _Feed,
 )
@@ -62,12 +63,9 @@ class Feed(_Lent):
         timestamps never go back. With `all_formats`, frames of all downlink formats are written, those below 16 as
         seven bytes and seven zeros; otherwise those of format 17. With `by_arrival`, the receiver's clock is ignored.
         Raises ValueError for any other format, and unless `leap` and `late` are whole numbers below 2**64."""
-        names = {form.name.lower(): form for form in FeedFormat}
-        form = names[format] if isinstance(format, str) and format in names else FeedFormat(format)
-        if not _fits(leap, 64):
-            raise ValueError("a leap is a whole number below 2**64")
-        if not _fits(late, 64):
-            raise ValueError("late is a whole number of milliseconds below 2**64")
+        form = _form(FeedFormat, format)
+        leap = whole(leap, 64, "a leap is a whole number of milliseconds from 0")
+        late = whole(late, 64, "late is a whole number of milliseconds from 0")
         flags = FEED_LIVE * bool(live) | FEED_BY_ARRIVAL * bool(by_arrival) | FEED_ALL_FORMATS * bool(all_formats)
         self._kind, self._lock, self._slot = "feed", threading.RLock(), _Feed()
         block, self._memory = _lend(_lib.squitter_feed_size())
@@ -173,8 +171,7 @@ class Feed(_Lent):
 
 def _given(data: Optional[bytes], at: int, arrival: int) -> Tuple[int, ...]:
     """Returns the arguments of a call: the address and length of the data from `at` on, if any, and the arrival."""
-    if not _fits(arrival, 64):
-        raise ValueError("an arrival is a whole number below 2**64")
+    arrival = whole(arrival, 64, "an arrival is a whole number of milliseconds from 0")
     if data is None:
         return (arrival,)
     start = ctypes.cast(data, ctypes.c_void_p).value or 0

@@ -5,14 +5,19 @@ from __future__ import annotations
 import ctypes
 import operator
 import threading
-from typing import Any, Iterator, List, NamedTuple, Optional, Sequence, SupportsIndex, Tuple, Union
+from typing import (
+    Any, Iterator, List, NamedTuple, Optional, Sequence, SupportsIndex, Tuple, Type, TypeVar, Union,
+)
 
 from squitter import (
-    _HEARD, WINDOW, Code, Fault, Frame, Frames, Heard, Point, Present, _done, _heard_of, _many, _position, frame,
+    _HEARD, WINDOW, Code, Fault, Frame, Frames, Heard, Point, Present, _done, _heard_of, _many, _position,
+    _unpacked_heard, frame,
 )
-from squitter._library import _fits, _frames, _lend, _lib, _moment, _quick, _times
+from squitter._errors import index as whole_index, shown, whole
+from squitter._library import _frames, _lend, _lib, _moment, _quick, _times
 from squitter._made import (
-    ANSWER_TEXT_BYTES, HEADER_BYTES, Format, _Done, _Entry, _Heard, _Last, _Log, _Present, _Tally, _Tracker,
+    ANSWER_TEXT_BYTES, FRAME_BYTES, HEADER_BYTES, FeedFormat, Format, _Done, _Entry, _Heard, _Last, _Log, _Present,
+    _Tally, _Tracker,
 )
 
 
@@ -33,7 +38,7 @@ class _Lent:
     def _look_open(self) -> None:
         """Raises the Fault NO_TRACKER after :meth:`close`."""
         if self._memory is None:
-            raise Fault(Code.NO_TRACKER)
+            raise Fault(Code.NO_TRACKER, hint=f"the {self._kind} is closed")
 
     def __exit__(self, *fault: object) -> None:
         self.close()
@@ -51,12 +56,10 @@ class _Listener(_Lent):
     __slots__ = ("_at", "_settings")
 
     def __init__(self, kind: str, window: int, site: Optional[Point], limit: int) -> None:
-        if not _fits(window, 64):
-            raise ValueError("a window is a whole number below 2**64")
-        if not _fits(limit, 32):
-            raise ValueError("a limit is a whole number below 2**32")
+        window = whole(window, 64, "a window is a whole number of milliseconds from 0")
+        limit = whole(limit, 32, "a limit is a whole number of addresses from 1")
         self._kind, self._lock, self._slot = kind, threading.RLock(), _SLOTS[kind]()
-        self._settings = operator.index(window), site, operator.index(limit)
+        self._settings = window, site, limit
         block, self._memory = _lend(getattr(_lib, f"squitter_{kind}_size")(limit))
         slot = self._at = ctypes.byref(self._slot)
         if site is None:
@@ -168,18 +171,20 @@ class Tracker(_Listener):
                 self._look_open()
             if type(moment) is not int or not 0 <= moment < _TOO_LATE:
                 moment = _moment(moment)
-            if type(source) is not bytes or len(source) != 14:
+            if type(source) is not bytes or len(source) != FRAME_BYTES:
                 source = frame(source)
             try:
                 room = _ROOMS.pop()
             except IndexError:
                 room = _HeardRoom()
-            room.time.value = moment
-            fault = _tracker_hear(self._at, room.time, source, room.at)
-            members = _HEARD.unpack_from(room.out)
-            _ROOMS.append(room)
-        if fault.code:
-            _done(fault)
+            try:
+                room.time.value = moment
+                if _tracker_hear(self._at, room.time, source, room.at):
+                    # A second call gives the fault. It succeeds if a signal handler changed the tracker in between.
+                    _done(_lib.squitter_tracker_hear(self._at, moment, source, room.at))
+                members = _unpacked_heard(room.out)
+            finally:
+                _ROOMS.append(room)
         return _heard_of(members)
 
     def hear_many(self, moments: Sequence[int], frames: Frames) -> List[Union[Heard, Fault]]:
@@ -203,10 +208,10 @@ class Tracker(_Listener):
         The time grows with the index. Raises IndexError for any other index."""
         with self._lock:
             self._look_open()
-            place, out = operator.index(index), _Present()
+            place, out = whole_index(index, "an index is a whole number"), _Present()
             count = int(_lib.squitter_tracker_len(ctypes.byref(self._slot)))
             if not -count <= place < count:
-                raise IndexError(f"{count} addresses are present")
+                raise IndexError(f"{count} addresses are present, so none has the index {shown(place)}")
             _done(_lib.squitter_tracker_get(ctypes.byref(self._slot), place % count, ctypes.byref(out)))
         return Present(out.address, out.moment)
 
@@ -238,9 +243,32 @@ class Tally(NamedTuple):
 _ROOM = 1 << 16  # bytes of text that a call writes at once
 
 
-def _bytes(piece: Union[bytes, bytearray, memoryview]) -> bytes:
-    """Returns the bytes of a piece. Raises TypeError for anything else, such as a str."""
-    return piece if isinstance(piece, bytes) else memoryview(piece).tobytes()
+def _bytes(piece: Union[bytes, bytearray, memoryview], wanted: str = "a piece is bytes") -> bytes:
+    """Returns the bytes of a piece. Raises TypeError for anything else, such as a str; `wanted` begins the error."""
+    if isinstance(piece, bytes):
+        return piece
+    try:
+        return memoryview(piece).tobytes()
+    except TypeError:
+        advice = "; encode() makes bytes of a str, and 'rb' opens a file for bytes" if isinstance(piece, str) else ""
+        advice = "; take what its read() returns" if hasattr(piece, "read") else advice
+        raise TypeError(f"{wanted}, not {shown(piece)}{advice}") from None
+
+
+_Form = TypeVar("_Form", Format, FeedFormat)
+
+
+def _form(kind: Type[_Form], format: Union[_Form, str]) -> _Form:
+    """Returns a member of an enum of formats, which is given as it is or by its name in lower case."""
+    names = {form.name.lower(): form for form in kind}
+    if isinstance(format, str) and format in names:
+        return names[format]
+    try:
+        value: Any = format
+        return kind(value)
+    except ValueError:
+        wanted = f"a format is one of {', '.join(map(repr, names))}, or of {kind.__name__}"
+        raise ValueError(f"{wanted}, not {shown(format)}") from None
 
 
 class Log(_Listener):
@@ -267,8 +295,7 @@ class Log(_Listener):
     ) -> None:
         """Creates a log without lines; window, site and limit as for :class:`Tracker`. The format is one of
         :class:`Format`, or its name in lower case ("lines", "csv", "json"). Raises ValueError for any other format."""
-        names = {form.name.lower(): form for form in Format}
-        self._format = names[format] if isinstance(format, str) and format in names else Format(format)
+        self._format = _form(Format, format)
         super().__init__("log", window, site, limit)
         header = ctypes.create_string_buffer(HEADER_BYTES)
         _lib.squitter_log_header(self._format, header)

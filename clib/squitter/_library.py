@@ -8,12 +8,14 @@ import mmap
 import operator
 import os
 import struct
+import sys
 from ctypes.util import find_library
 from fractions import Fraction
 from typing import Any, Optional, Sequence, Tuple, Type, Union
 
 from squitter import _made
-from squitter._made import CALLS, FRAME_BYTES, _Angle, _Block, _Fault
+from squitter._errors import packed, shown, whole
+from squitter._made import CALLS, FRAME_BYTES, FRAME_DIGITS, _Angle, _Block, _Fault
 
 _FRAME = ctypes.c_uint8 * FRAME_BYTES
 
@@ -28,15 +30,39 @@ class _Position(_made._Position):
 _LIBDIR = ""
 
 
+_SO = "libsquitter.so.0"
+
+
 def _load() -> ctypes.CDLL:
-    """The library: LIBSQUITTER's, that in this package or beside it, the one installed with it, or the system's."""
+    """The library: LIBSQUITTER's, that in this package or beside it, the one installed with it, or the system's. Raises
+    OSError if there is none."""
     package = os.path.dirname(os.path.abspath(__file__))
-    folders = (package, os.path.dirname(package), _LIBDIR)
-    places = [os.path.join(folder, "libsquitter.so.0") for folder in folders if folder]
+    folders = [folder for folder in (package, os.path.dirname(package), _LIBDIR) if folder]
+    places = [os.path.join(folder, _SO) for folder in folders]
     installed = next((place for place in places if os.path.exists(place)), None)
-    library = ctypes.CDLL(os.environ.get("LIBSQUITTER") or installed or find_library("squitter") or "libsquitter.so.0")
+    named = os.environ.get("LIBSQUITTER")
+    try:
+        library = ctypes.CDLL(named or installed or find_library("squitter") or _SO)
+    except OSError as error:
+        if named:
+            wanted = f"LIBSQUITTER has to be the path of {_SO}, or unset: {error}"
+        elif installed:
+            wanted = f"{installed} cannot be loaded; build it again with `make -C clib` in a clone: {error}"
+        else:
+            wanted = (f"{_SO} is neither in {' nor in '.join(folders)} nor where the system has its libraries: "
+                      "build it with `make -C clib` in a clone, or set LIBSQUITTER to its path")
+        raise OSError(wanted) from None
+    return _declared(library)
+
+
+def _declared(library: ctypes.CDLL) -> ctypes.CDLL:
+    """Returns the library with the types of its calls. Raises AttributeError if it lacks one."""
     for name, (arguments, result) in CALLS.items():
-        call = getattr(library, f"squitter_{name}")
+        try:
+            call = getattr(library, f"squitter_{name}")
+        except AttributeError:
+            raise AttributeError(f"{library._name} lacks squitter_{name}, so it is of another version than this "
+                                 "package: build it again with `make -C clib` in a clone") from None
         call.argtypes, call.restype = arguments, result
     return library
 
@@ -44,14 +70,27 @@ def _load() -> ctypes.CDLL:
 _lib = _load()
 
 _QUICK = ctypes.PyDLL(_lib._name, handle=_lib._handle)
+# These processors return the 16 bytes of a fault in two registers: the code is the lower half of the first one.
+_RETURNS_CODE = (
+    hasattr(os, "uname") and os.uname().machine in ("x86_64", "amd64", "aarch64", "arm64")
+    and ctypes.sizeof(ctypes.c_void_p) == 8)
 
 
 def _quick(name: str) -> Any:
-    """Returns a call of the library that converts no arguments and keeps the interpreter's lock, in half the time of
-    `_lib`. Its arguments are bytes and ctypes objects of the types in `CALLS`: a plain int would be cut to 32 bits."""
+    """Returns a call of the library that converts no arguments, keeps the interpreter's lock, and returns only the code
+    of its fault, in a third of the time of `_lib`. Its arguments are bytes and ctypes objects of the types in `CALLS`:
+    a plain int would be cut to 32 bits."""
     call = _QUICK[f"squitter_{name}"]
-    call.restype = _Fault
-    return call
+    call.restype = ctypes.c_uint32 if _RETURNS_CODE else _Fault
+    return call if _RETURNS_CODE else lambda *arguments: call(*arguments).code
+
+
+_LENGTHS = {length: ctypes.c_size_t(length) for length in (FRAME_DIGITS, FRAME_DIGITS + 2)}
+
+
+def _length(text: bytes) -> ctypes.c_size_t:
+    """Returns the number of bytes of a text, as a call of `_quick` takes it. Those of frame texts are made once."""
+    return _LENGTHS.get(len(text)) or ctypes.c_size_t(len(text))
 
 
 # ---- memory ----
@@ -104,37 +143,49 @@ def _binary(name: str, source: Union[bytes, bytearray, memoryview]) -> memoryvie
     try:
         view = memoryview(source)
     except TypeError:
-        raise TypeError(f"{wanted}, not {type(source).__name__}") from None
+        advice = "; squitter.frame makes bytes of a text" if isinstance(source, str) else ""
+        if isinstance(source, (list, tuple)):
+            advice = f'; join a list with b"".join(map(squitter.frame, {name}))'
+        raise TypeError(f"{wanted}, not {type(source).__name__}{advice}") from None
     if view.itemsize != 1 or not view.c_contiguous:
         raise ValueError(f"{wanted}, not items of {view.itemsize} bytes")
     if view.nbytes and not view[:14].tobytes().strip(_OF_TEXT) and not view.tobytes().strip(_OF_TEXT):
         raise ValueError(f"{wanted}, not hexadecimal digits: {view[:32].tobytes().decode('ascii')!r}; "
                          "a frame text is a str")
     if view.nbytes % 14:
-        raise ValueError(f"{wanted}, not {view.nbytes} bytes")
+        archive = packed(view[:8].tobytes(), False)
+        raise ValueError(f"{wanted}, not {view.nbytes} bytes{archive and ' of ' + archive}")
     return view
 
 
 def _times(moments: Sequence[int], count: int) -> array.array[int]:
     """Returns the timestamps of this many frames, as C takes them."""
-    if len(moments) != count:
-        raise ValueError(f"{count} frames and {len(moments)} moments")
+    try:
+        length = len(moments)
+    except TypeError:
+        raise TypeError(f"moments are a list or another sequence of whole numbers, not {shown(moments)}") from None
+    if length != count:
+        raise _of_counts(count, length)
     times = array.array("Q")
     try:
-        times.extend(moments)
+        # Before Python 3.10 an array takes the whole part of a float or a Decimal.
+        is_exact = sys.version_info >= (3, 10) or set(map(type, moments)) <= {int}
+        times.extend(moments if is_exact else map(_moment, moments))
     except (OverflowError, TypeError):
         # One by one, for the error of the first that is wrong, or because this is an array of another type.
         times = array.array("Q", [_moment(moment) for moment in moments])
     if len(times) != count:
-        raise ValueError(f"{count} frames and {len(times)} moments")
+        raise _of_counts(count, len(times))
     return times
+
+
+def _of_counts(frames: int, moments: int) -> ValueError:
+    return ValueError(f"{frames} frames and {moments} moments: there has to be a moment for each frame")
 
 
 def _moment(moment: int) -> int:
     """Returns a timestamp, as C takes it."""
-    if not _fits(moment, 64):
-        raise ValueError("a moment is a whole number below 2**64")
-    return operator.index(moment)
+    return whole(moment, 64, "a moment is a whole number of milliseconds from 0")
 
 
 def _layout(kind: Type[ctypes.Structure]) -> struct.Struct:
@@ -148,15 +199,35 @@ def _layout(kind: Type[ctypes.Structure]) -> struct.Struct:
     return struct.Struct(f"{members}{ctypes.sizeof(kind) - struct.calcsize(members)}x")
 
 
+_new: Any = object.__new__
+
+
 def _slotted(num: int, den: int) -> Fraction:
     """Returns the fraction of two numbers in lowest terms, as calls of the library write them."""
-    made: Any = object.__new__(Fraction)
+    made: Any = _new(Fraction)
     made._numerator, made._denominator = num, den
     return made  # type: ignore[no-any-return]
 
 
+def _slotted_two(lat_num: int, lat_den: int, lon_num: int, lon_den: int) -> Tuple[Fraction, Fraction]:
+    """The same for a latitude and a longitude, without two more calls."""
+    lat, lon = _new(Fraction), _new(Fraction)
+    lat._numerator, lat._denominator, lon._numerator, lon._denominator = lat_num, lat_den, lon_num, lon_den
+    return lat, lon
+
+
+def _plain(num: int, den: int) -> Fraction:
+    return Fraction(num, den)
+
+
+def _plain_two(lat_num: int, lat_den: int, lon_num: int, lon_den: int) -> Tuple[Fraction, Fraction]:
+    return Fraction(lat_num, lat_den), Fraction(lon_num, lon_den)
+
+
 # Fraction() finds the lowest terms again, and takes ten times as long.
-_lowest = _slotted if Fraction.__slots__ == ("_numerator", "_denominator") else Fraction
+_HAS_SLOTS = Fraction.__slots__ == ("_numerator", "_denominator")
+_lowest = _slotted if _HAS_SLOTS else _plain
+_lowest_two = _slotted_two if _HAS_SLOTS else _plain_two
 
 
 def _read_angle(angle: _Angle) -> Fraction:

@@ -8,8 +8,9 @@ import threading
 from typing import Any, Iterable, Tuple, Union
 
 from squitter import _done
+from squitter._errors import shown, whole
 from squitter._hearing import _Lent, _bytes
-from squitter._library import _fits, _lend, _lib
+from squitter._library import _frames, _lend, _lib, _of_counts, _times
 from squitter._made import FRAME_BYTES, _Done, _Order
 
 _COUNT = 1 << 12  # squitters that a call writes at once
@@ -36,8 +37,7 @@ class Order(_Lent):
     def __init__(self, reorder: int) -> None:
         """Creates an order without squitters. `reorder` is the delay in milliseconds. Raises ValueError unless it is a
         whole number below 2**64, and the Fault NO_MEMORY."""
-        if not _fits(reorder, 64):
-            raise ValueError("a delay is a whole number below 2**64")
+        reorder = whole(reorder, 64, "a delay is a whole number of milliseconds from 0")
         self._kind, self._lock, self._slot = "order", threading.RLock(), _Order()
         block, self._memory = _lend(_lib.squitter_order_size())
         _done(_lib.squitter_order_new(ctypes.byref(self._slot), block, reorder))
@@ -53,9 +53,10 @@ class Order(_Lent):
         timestamps of those that are due, an array of type "Q", and their frames, as :meth:`Feed.take_frames` does.
         Raises ValueError, and takes nothing, unless there are as many timestamps as frames, and each is a whole number
         below 2**64."""
-        came, data = _moments(moments), _bytes(frames)
+        came, data = _moments(moments), _bytes(frames, "frames are 14 bytes each, one after the other")
         if len(data) != FRAME_BYTES * len(came):
-            raise ValueError(f"{len(came)} timestamps go with {FRAME_BYTES * len(came)} bytes of frames")
+            _, count = _frames(data)
+            raise _of_counts(count, len(came))
         with self._lock:
             self._look_open()
             return self._squitters(came, data)
@@ -100,7 +101,8 @@ class Order(_Lent):
 
 def _moments(moments: Union[array.array[int], Iterable[int]]) -> Any:
     """Returns timestamps as an array for C."""
-    all_moments = list(moments)
-    if not all(_fits(moment, 64) for moment in all_moments):
-        raise ValueError("a timestamp is a whole number below 2**64")
-    return (ctypes.c_uint64 * len(all_moments))(*all_moments)
+    try:
+        every = list(moments)
+    except TypeError:
+        raise TypeError(f"moments are a list or another iterable of whole numbers, not {shown(moments)}") from None
+    return (ctypes.c_uint64 * len(every))(*_times(every, len(every)))

@@ -8,8 +8,10 @@ from typing import Any, List, Optional, Sequence, Tuple
 import numpy as np
 import numpy.typing as npt
 
-from squitter._library import _fits
+from squitter._errors import shown, whole
+from squitter._library import _of_counts
 from squitter._made import RECORDS
+from squitter._source import refuse_file
 
 COLUMNS = ("line", "moment", "answer", "address", "kind", "lat", "lon", "feet")
 """The columns of `squitter track --format=csv`, which rows and data frames have, in this order."""
@@ -41,6 +43,19 @@ are 0. So a longitude of 0 is a position only if lon_den is not 0. `even` and `o
 otherwise 0. `feet` is the altitude if `altitude_form`, one of :class:`squitter.AltitudeForm`, is FEET, otherwise 0."""
 
 
+_NAMES = {FAULT: "FAULT", FIELDS: "FIELDS", POSITION: "POSITION", DEGREES: "DEGREES", TRACKED: "TRACKED"}
+
+
+def name_of_type(dtype: np.dtype[Any]) -> str:
+    """Returns the name of a type of this module, or the words of NumPy for any other type."""
+    return _NAMES.get(dtype) or shown(dtype)
+
+
+def kind_of(value: Any) -> str:
+    """Returns the type of an array's elements, or of any other value, for an error."""
+    return f"an array of {name_of_type(value.dtype)}" if isinstance(value, np.ndarray) else type(value).__name__
+
+
 def _is_missing(value: Any) -> bool:
     """Returns whether a value is missing: None, NaN, NaT, or NA of pandas."""
     if value is None:
@@ -53,25 +68,31 @@ def _is_missing(value: Any) -> bool:
 def _limit(window: int, limit: Optional[int], lines: int) -> int:
     """Returns the limit of a tracker for this many lines, which have at most as many addresses. With a limit of None no
     line is TABLE_FULL. Raises ValueError for an invalid window or limit."""
-    if not _fits(window, 64):
-        raise ValueError("a window is a whole number below 2**64")
-    if limit is not None and not (_fits(limit, 32) and limit):
-        raise ValueError("a limit is a whole number from 1, below 2**32")
-    least = max(lines, 1)
-    return least if limit is None else min(operator.index(limit), least)
+    whole(window, 64, "a window is a whole number of milliseconds from 0")
+    least, wanted = max(lines, 1), "a limit is None, or a whole number of addresses from 1"
+    if limit is None:
+        return least
+    number = whole(limit, 32, wanted)
+    if not number:
+        raise ValueError(f"{wanted}, below 2**32, not {shown(limit)}")
+    return min(number, least)
 
 
 def _moments(source: npt.ArrayLike, count: int) -> Tuple[npt.NDArray[np.uint64], npt.NDArray[np.intp]]:
     """Returns the timestamps of this many lines, as C takes them, and the indices of missing timestamps, which become
     0."""
+    wanted = "moments are a list or an array with one for each frame"
     if isinstance(source, (list, tuple, range)):
         # One NaN would turn an array of all timestamps into floats.
         array = np.empty(len(source), object)
         array[:] = source
     else:
         array = np.asarray(source)
-    if array.shape != (count,):
-        raise ValueError(f"moments have the shape {array.shape}, not ({count},)")
+    if array.ndim != 1:
+        refuse_file(wanted, source)
+        raise ValueError(f"{wanted}, not {shown(source)}")
+    if len(array) != count:
+        raise _of_counts(count, len(array))
     missing = np.zeros(0, np.intp)
     if array.dtype.kind == "M":
         missing = np.flatnonzero(np.isnat(array))
@@ -85,12 +106,24 @@ def _moments(source: npt.ArrayLike, count: int) -> Tuple[npt.NDArray[np.uint64],
             values = [None if _is_missing(value) else value for value in values]
         missing = np.array([place for place, value in enumerate(values) if value is None], np.intp)
         array = _whole_objects(values)
-    if array.dtype.kind not in "iu" and count or array.dtype.kind == "i" and (array < 0).any():
-        raise ValueError(_NO_MOMENTS)
+    if array.dtype.kind not in "iu" and count:
+        raise _no_moment(next((value for value in array.tolist() if not _is_moment(value)), array.dtype))
+    if array.dtype.kind == "i" and (array < 0).any():
+        raise _no_moment(int(array[array < 0][0]))
     return np.require(array.astype(np.uint64, copy=False), None, ["C", "A"]), missing
 
 
-_NO_MOMENTS = "moments are whole numbers from 0, below 2**64, or dates since 1970"
+def _is_moment(value: Any) -> bool:
+    """Returns whether a number is whole and exact as a float, or missing."""
+    return isinstance(value, (int, float)) and (value != value or abs(value) <= 1 << 53 and value == value // 1)
+
+
+def _no_moment(value: Any) -> ValueError:
+    advice = "; for seconds use round(1000 * seconds)" if isinstance(value, (float, np.floating)) else ""
+    return ValueError("moments are whole numbers of milliseconds from 0, below 2**64, or dates since 1970, not "
+                      f"{shown(value)}{advice}")
+
+
 _EPOCH = datetime(1970, 1, 1, tzinfo=timezone.utc)
 
 
@@ -115,7 +148,8 @@ def _whole_objects(values: Sequence[Any]) -> npt.NDArray[Any]:
         return np.array(values, np.uint64)
     told: List[int] = []
     value: Any
-    for value in values:
+    for given in values:
+        value = given
         if isinstance(value, datetime):
             date = value if value.tzinfo else value.replace(tzinfo=timezone.utc)
             value = (date - _EPOCH) // timedelta(milliseconds=1)
@@ -125,6 +159,6 @@ def _whole_objects(values: Sequence[Any]) -> npt.NDArray[Any]:
             value = int(value)
         number = operator.index(value) if isinstance(value, (int, np.integer)) else -1 if value is not None else 0
         if not 0 <= number < 1 << 64:
-            raise ValueError(_NO_MOMENTS)
+            raise _no_moment(given)
         told.append(number)
     return np.array(told, np.uint64)

@@ -28,8 +28,13 @@ import copy
 import ctypes
 from typing import Any, Dict, Iterable, NamedTuple, Optional, Sequence, Tuple, Type
 
-import numpy as np
-import numpy.typing as npt
+from squitter._errors import missing, shown
+
+try:
+    import numpy as np
+    import numpy.typing as npt
+except ModuleNotFoundError as error:
+    raise missing(error, "squitter.batch", "NumPy 1.21 or later") from None
 
 import squitter
 from squitter import WINDOW, Code, Point, Position, _parts
@@ -37,9 +42,9 @@ from squitter._answers import ANSWER, columns, csv_rows, dataframe, fractions, l
 from squitter._library import _FRAME, _binary, _lib, _text
 from squitter._parts import DEGREES_E7, Room, first_words
 from squitter._records import (
-    COLUMNS, DEGREES, FAULT, FIELDS, POSITION, TRACKED, Records, _is_missing, _limit, _moments,
+    COLUMNS, DEGREES, FAULT, FIELDS, POSITION, TRACKED, Records, _is_missing, _limit, _moments, kind_of, name_of_type,
 )
-from squitter._source import feed
+from squitter._source import feed, refuse_file
 
 __all__ = [
     "ANSWER", "COLUMNS", "DEGREES", "FAULT", "FIELDS", "POSITION", "TRACKED", "Tracker", "columns", "csv_rows",
@@ -67,7 +72,7 @@ def _room(count: int, dtype: np.dtype[Any], name: str, given: Optional[Records])
         new.fill(0)
         return new.view(dtype)
     if not isinstance(given, np.ndarray) or given.dtype != dtype or not given.dtype.isnative:
-        raise ValueError(f"{name} is an array of another type than {dtype}")
+        raise ValueError(f"{name} is an array of another type than batch.{name_of_type(dtype)}: {kind_of(given)}")
     if given.shape != (count,):
         raise ValueError(f"{name} has the shape {given.shape}, not ({count},)")
     if not given.flags.writeable:
@@ -109,6 +114,8 @@ def _frames(name: str, source: npt.ArrayLike) -> _Frames:
     if isinstance(source, (list, tuple)):
         return _frames_of_texts(name, source)
     array = np.asarray(source)
+    if array.ndim == 0:
+        refuse_file(f"{name} are a list, an array or bytes", source)
     if array.shape == (0,):
         return _Frames(np.zeros((0, 14), np.uint8), *none)  # An empty column may have any type.
     if array.dtype == np.uint8 and array.ndim == 2 and array.shape[1] == 14:
@@ -116,7 +123,8 @@ def _frames(name: str, source: npt.ArrayLike) -> _Frames:
     if array.dtype.kind not in "SUOV" or (array.dtype.kind == "V" and array.dtype != "V14"):
         raise ValueError(f"{name} are (n, 14) of uint8, V14 or texts, not {array.dtype} of the shape {array.shape}")
     if array.ndim != 1:
-        raise ValueError(f"{name} have {array.ndim} dimensions, not one")
+        given = shown(source) if array.ndim == 0 else f"an array of {array.ndim} dimensions"
+        raise ValueError(f"{name} are a list, an array of one dimension or bytes, not {given}")
     if array.dtype.kind == "V":
         return _Frames(np.ascontiguousarray(array).view(np.uint8).reshape(-1, 14), *none)
     return _frames_of_bytes(array) if array.dtype.kind == "S" else _frames_of_texts(name, array.tolist())
@@ -133,13 +141,20 @@ def _frames_of_texts(name: str, texts: Sequence[Any]) -> _Frames:
     if not set(map(type, texts)) <= {str}:
         for place, text in enumerate(texts):
             if not isinstance(text, str) and not _is_missing(text):
-                raise ValueError(f"{name}[{place}] is no str, but of type {type(text).__name__}")
+                raise ValueError(f"{name}[{place}] is no str, but of type {type(text).__name__}{_of_bytes(name, text)}")
         texts = [text if isinstance(text, str) else "" for text in texts]
     # Each character becomes one byte, and only digits become digits.
     joined = "".join(map(_body, texts)).encode("latin-1", "replace")
     digits = np.frombuffer(joined, np.uint8) if texts else np.zeros(0, np.uint8)
     frames, bad = _decoded(digits.reshape(-1, _BODY))
     return _Frames(frames, bad, _text_faults(_text(texts[place]) for place in bad.tolist()))
+
+
+def _of_bytes(name: str, text: Any) -> str:
+    """Returns what to do with bytes in a list, or an empty text for anything else."""
+    if not isinstance(text, bytes):
+        return ""
+    return f'; join frames with b"".join({name})' if len(text) == 14 else "; decode() makes a str of bytes"
 
 
 def _body(text: str) -> str:
@@ -198,7 +213,8 @@ def _positions(name: str, source: npt.ArrayLike, count: Optional[int] = None) ->
     """Returns the positions of an array with the fields of POSITION, laid out for C."""
     array = np.asarray(source)
     if array.ndim != 1 or array.dtype.names is None or not set(POSITION.names or ()) <= set(array.dtype.names):
-        raise ValueError(f"{name} are an array of POSITION, not {array.dtype} of the shape {array.shape}")
+        one = "" if count is None else ", or one squitter.Position for all"
+        raise ValueError(f"{name} are an array of POSITION{one}, not {kind_of(array)} of the shape {array.shape}")
     if count is not None and len(array) != count:
         raise ValueError(f"there are {len(array)} {name}, not {count}")
     if array.dtype == POSITION and array.dtype.isnative and array.flags.c_contiguous and array.flags.aligned:
@@ -222,7 +238,8 @@ def positions(lat_e7: npt.ArrayLike, lon_e7: npt.ArrayLike) -> Records:
     parts = [np.asarray(part) for part in (lat_e7, lon_e7)]
     for name, part in zip(("lat_e7", "lon_e7"), parts):
         if part.ndim != 1 or not (np.can_cast(part.dtype, np.int64) and part.dtype.kind in "iu" or part.size == 0):
-            raise ValueError(f"{name} are whole numbers of 64 bits, not {part.dtype} of the shape {part.shape}")
+            raise ValueError(f"{name} are a list or an array of whole numbers of 64 bits, in units of 10^-7 degree, "
+                             f"not {part.dtype} of the shape {part.shape}")
     if len(parts[0]) != len(parts[1]):
         raise ValueError(f"{len(parts[0])} latitudes and {len(parts[1])} longitudes")
     out = np.empty(len(parts[0]), POSITION)

@@ -85,12 +85,17 @@ def random_frames(rng, count):
         yield text
 
 
+def words(fault):
+    """The words of a fault without its hint, which the program does not print."""
+    return squitter.fault_text(fault.code, fault.first, fault.second)
+
+
 def summary(text):
     """The line of `check`, without its number."""
     try:
         fields = squitter.read(text)
     except Fault as fault:
-        return str(fault)
+        return words(fault)
     if fields.kind == Kind.OTHER:
         return f"ok {fields.address:06X} other {fields.type_code}"
     kind = "air" if fields.kind == Kind.AIR else "ground"
@@ -103,7 +108,7 @@ def heard_line(tracker, moment, text):
         address = squitter.read(text).address
         heard = tracker.hear(moment, text)
     except Fault as fault:
-        return str(fault)
+        return words(fault)
     line = f"{WORDS[heard.what]} {address:06X}"
     if heard.position:
         line += " " + " ".join(map(squitter.angle_text, heard.position))
@@ -115,8 +120,7 @@ def place_lines(call, *arguments):
     try:
         place = call(*arguments)
     except Fault as fault:
-        # The program prints no hint.
-        return squitter.fault_text(fault.code, fault.first, fault.second)
+        return words(fault)
     fractions = " ".join(f"{part.numerator}/{part.denominator}" for part in place)
     return " ".join(map(squitter.angle_text, place)) + "\n" + fractions + "\n"
 

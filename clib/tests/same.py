@@ -13,8 +13,7 @@ import tempfile
 
 HERE = os.path.dirname(os.path.abspath(__file__))
 CLIB = os.path.dirname(HERE)
-CRATES = [os.path.join(os.path.dirname(CLIB), "crates", name)
-          for name in ("sq_plain", "squitter_c")]
+CRATE = os.path.join(os.path.dirname(CLIB), "crates", "squitter_c")
 sys.path.insert(0, CLIB)
 os.environ.setdefault("LIBSQUITTER", os.path.join(CLIB, "libsquitter.so.0"))
 import squitter  # noqa: E402
@@ -22,7 +21,10 @@ import squitter  # noqa: E402
 CC = os.environ.get("CC", "cc")
 NUMBERS = {"u8": "uint8_t", "u16": "uint16_t", "u32": "uint32_t", "u64": "uint64_t", "i32": "int32_t", "i64": "int64_t",
            "usize": "size_t", "*mut u8": "void *"}
-# The crates' structs, as C names them.
+# What C holds, its file, the pointer in it, and its file: their fields are private.
+SLOTS = (("Slot", "slot", "Seal", "seal"), ("FeedSlot", "feed_slot", "FeedSeal", "feed_seal"),
+         ("OrderSlot", "order_slot", "OrderSeal", "order_seal"))
+# The crate's structs, as C names them.
 STRUCTS = {
     "Fault": "squitter_fault", "PlainAngle": "squitter_angle", "PlainPosition": "squitter_position",
     "PlainSquitter": "squitter_fields", "PlainAirHead": "squitter_air_head", "PlainGroundHead": "squitter_ground_head",
@@ -52,12 +54,11 @@ def differ(text):
 
 
 def sources():
-    for crate in CRATES:
-        folder = os.path.join(crate, "src")
-        for name in sorted(os.listdir(folder)):
-            if name.endswith(".rt"):
-                with open(os.path.join(folder, name), encoding="utf-8") as file:
-                    yield file.read()
+    folder = os.path.join(CRATE, "src")
+    for name in sorted(os.listdir(folder)):
+        if name.endswith(".rt"):
+            with open(os.path.join(folder, name), encoding="utf-8") as file:
+                yield file.read()
 
 
 def c_type(rust):
@@ -70,7 +71,7 @@ def c_type(rust):
 
 def fields_of(crate, name, file):
     """Returns the fields of a struct with private fields, from this file of the crate."""
-    path = os.path.join(os.path.dirname(CRATES[0]), crate, "src", f"{file}.rt")
+    path = os.path.join(os.path.dirname(CRATE), crate, "src", f"{file}.rt")
     with open(path, encoding="utf-8") as file:
         body = re.search(rf"#\[repr\(C\)\]\n(?:#\[[^\n]*\]\n)*pub struct {name} \{{\n(.*?)\n\}}", file.read(), re.S)[1]
     return re.findall(r"^    (?:pub(?:\(crate\))? )?(\w+): ([\w* ]+),$", body, re.M)
@@ -78,17 +79,16 @@ def fields_of(crate, name, file):
 
 def structs():
     """Yields each #[repr(C)] struct with its fields, in order. Seals and memories are replaced by their own fields."""
-    for slot, file, seal, sealed in (("Slot", "slot", "Seal", "seal"),
-                                     ("FeedSlot", "feed_slot", "FeedSeal", "feed_seal"),
-                                     ("OrderSlot", "order_slot", "OrderSeal", "order_seal")):
-        yield slot, [field for name, kind in fields_of("sq_seal", slot, file)
-                     for field in (fields_of("sq_seal", seal, sealed) if kind == seal else [(name, kind)])]
+    for slot, file, seal, sealed in SLOTS:
+        yield slot, [field for name, kind in fields_of("squitter_c", slot, file)
+                     for field in (fields_of("squitter_c", seal, sealed) if kind == seal else [(name, kind)])]
     memory = [kind for _, kind in fields_of("sq_lent", "Memory", "memory")]
     room = fields_of("sq_lent", "Room", "memory")
     yield "Room", [(name, memory[0] if kind == "Memory" else kind) for name, kind in room]
     for source in sources():
         for name, body in re.findall(r"#\[repr\(C\)\]\n(?:#\[[^\n]*\]\n)*pub struct (\w+) \{\n(.*?)\n\}", source, re.S):
-            yield name, re.findall(r"^    pub (\w+): (.*),$", body, re.M)
+            if not any(name in (slot, seal) for slot, _, seal, _ in SLOTS):
+                yield name, re.findall(r"^    pub (\w+): (.*),$", body, re.M)
 
 
 def exports():
@@ -182,7 +182,7 @@ def header():
 
 def check_codes():
     """Compares the codes of the header with those of the specs, where each has one reason."""
-    with open(os.path.join(CRATES[0], "specs", "Faults.antt"), encoding="utf-8") as file:
+    with open(os.path.join(CRATE, "specs", "Faults.antt"), encoding="utf-8") as file:
         stated = re.findall(r"^fault_of\w* \(?([\w.]+)[^=]*= told (\d+) ", file.read(), re.M)
     codes = {"OK": 0}
     for variant, code in stated:
@@ -201,7 +201,7 @@ def check_codes():
 
 def definitions(crate, file, pattern):
     """What a definition says of each case, as numbers by the names of the cases."""
-    with open(os.path.join(os.path.dirname(CRATES[0]), crate, "specs", file), encoding="utf-8") as text:
+    with open(os.path.join(os.path.dirname(CRATE), crate, "specs", file), encoding="utf-8") as text:
         return {name: int(number) for name, number in re.findall(pattern, text.read(), re.M)}
 
 
@@ -222,7 +222,7 @@ def check_enums():
     """Compares the other enums of the header with their definitions: kinds, altitude forms, results and formats."""
     kinds = definitions("squitter_c", "Fields.antt", r"^pub record IsPlain(\w+) .*\n  pub kind : plain\.kind ≡ (\d+)$")
     forms = definitions("squitter_c", "Fields.antt", r"^IsPlainAltitude \(?altitudes\.(\w+)[^=]*= \(form ≡ (\d+)\)")
-    heard = definitions("sq_plain", "Heard.antt", r"^IsPlainHeard \(?(\w+)[^=]*= IsHeardAs (\d+) ")
+    heard = definitions("squitter_c", "Heard.antt", r"^IsPlainHeard \(?(\w+)[^=]*= IsHeardAs (\d+) ")
     feeds = definitions("squitter_c", "FeedCalls.antt", r"^format_number formats\.(\w+) = (\d+)$")
     feeds |= definitions("squitter_c", "FeedCalls.antt", r"^feed_number (None) = (\d+)$")
     strangers = definitions("squitter_c", "FeedCalls.antt", r"^stranger_number strangers\.(\w+) = (\d+)$")

@@ -2,23 +2,17 @@
 """test_batch.py [COUNT]: squitter.batch beside the calls for one frame, on so many mutated frames (50000), and
 `track` beside the program, byte for byte, on logs of the repository and random ones; arrays that are wrong, empty,
 read-only, not contiguous or of the other byte order. PROGRAM is the program (the launcher at the top of the
-repository where it is not set). Needs NumPy."""
-import bz2
+repository where it is not set). Needs NumPy. test_frames.py has data frames."""
 import ctypes
 import doctest
-import gzip
 import inspect
-import io
 import json
-import lzma
 import os
-import pathlib
 import pickle
 import random
 import re
 import subprocess
 import sys
-import tempfile
 import threading
 import time
 import unittest
@@ -473,6 +467,102 @@ class Arrays(unittest.TestCase):
         self.refused("newer are 5, and older 6", batch.pair, self.frames, self.frames[:5])
         self.refused(r"frames\[1\] is no str, but of type bytes", batch.read, [EVEN, b""])
 
+    def told(self, text: str, call: Callable[..., Any], *arguments: Any, **named: Any) -> None:
+        """The call raises a ValueError with this text in one line."""
+        with self.assertRaises(ValueError) as raised:
+            call(*arguments, **named)
+        self.assertEqual((str(raised.exception), type(raised.exception)), (text, ValueError))
+        self.assertNotIn("\n", text)
+
+    def test_told_of_frames(self) -> None:
+        """An error says in one line what is wanted and what was given."""
+        wanted = "frames are a list, an array of one dimension or bytes, not "
+        for given, text in ((None, "None"), ({"a": 1}, "{'a': 1}"),
+                            (np.zeros((2, 2), "S28"), "an array of 2 dimensions"),
+                            (np.zeros((1, 1, 1), object), "an array of 3 dimensions")):
+            self.told(wanted + text, batch.read, given)
+        element = "frames[1] is no str, but of type "
+        of_text = "bytes; decode() makes a str of bytes"
+        for given, text in ((self.frames[0].tobytes(), 'bytes; join frames with b"".join(frames)'),
+                            (EVEN.encode(), of_text), (bytes(13), of_text), (bytes(15), of_text), (5, "int"),
+                            (1.5, "float"), ([EVEN], "list")):
+            self.told(element + text, batch.read, [EVEN, given])
+        self.told('older[0] is no str, but of type bytes; join frames with b"".join(older)', batch.pair, [bytes(14)],
+                  [EVEN])
+        references = "references are an array of POSITION, or one squitter.Position for all, not an array of "
+        for near, text in (((52, 4), "dtype('int64') of the shape (2,)"), (None, "dtype('O') of the shape ()"),
+                           (np.zeros(2, batch.FAULT), "FAULT of the shape (2,)")):
+            self.told(references + text, batch.local, self.frames, near)
+        self.told("places are an array of POSITION, not an array of dtype('int64') of the shape ()", batch.position_e7,
+                  5)
+        self.told("lat_e7 are a list or an array of whole numbers of 64 bits, in units of 10^-7 degree, not float64 of "
+                  "the shape (1,)", batch.positions, [52.5], [4])
+
+    def test_told_of_moments(self) -> None:
+        frames, seconds = [ODD, EVEN], "; for seconds use round(1000 * seconds)"
+        wanted = "moments are whole numbers of milliseconds from 0, below 2**64, or dates since 1970, not "
+        for given, text in (
+            ([0.5, 1], f"0.5{seconds}"), ([0, 1.5], f"1.5{seconds}"), (np.array([0, 1.5]), f"1.5{seconds}"),
+            (np.array([np.nan, 0.5]), f"0.5{seconds}"), ([0, float("inf")], f"inf{seconds}"),
+            (np.array([0, np.inf]), f"inf{seconds}"), (np.array([2.0**53, 2.0**54]), f"{2.0**54}{seconds}"),
+            ([0, -1], "-1"), (np.array([5, -7]), "-7"), (np.array([5.0, -7.0]), "-7"), ([0, 1 << 64], str(1 << 64)),
+            (["0", "4"], "'0'"), (np.array(["0", "4"]), "'0'"), ([0, [4]], "[4]"), ([[0, 4]] * 2, "[0, 4]"),
+            (np.array([True, False]), "dtype('bool')"),
+            ([0, datetime(1969, 12, 31)], "datetime.datetime(1969, 12, 31, 0, 0)"),
+            (np.array([5, -1], "M8[ms]"), "-1"), ([0, np.datetime64(-1, "ms")], repr(np.datetime64(-1, "ms"))),
+            ([0, float(1 << 60)], f"{float(1 << 60)}{seconds}"), (np.array([1, 2], "m8[ms]"), "datetime.timedelta"),
+        ):
+            with self.assertRaises(ValueError) as raised:
+                batch.track(given, frames)
+            self.assertEqual(str(raised.exception)[:len(wanted + text)], wanted + text)
+            self.assertTrue(text == "datetime.timedelta" or str(raised.exception) == wanted + text)
+        for count in (0, 1, 3):
+            self.told(f"2 frames and {count} moments: there has to be a moment for each frame", batch.track,
+                      [0] * count, frames)
+        for given, text in ((None, "None"), (5, "5"), ({"a": 1}, "{'a': 1}"),
+                            (np.zeros((2, 1)), "array([[0.], [0.]])")):
+            self.told(f"moments are a list or an array with one for each frame, not {text}", batch.track, given,
+                      frames)
+        self.assertEqual(batch.track(np.array([0.0, float(1 << 53)]), frames)[1]["code"].tolist(), [0, 0])
+
+    def test_told_of_settings(self) -> None:
+        window = "a window is a whole number of milliseconds from 0, below 2**64, not "
+        limit = "a limit is None, or a whole number of addresses from 1, below 2**32, not "
+        for call in (batch.Tracker, lambda **named: batch.track([], [], **named)):
+            for name, wanted, largest in (("window", window, (1 << 64) - 1), ("limit", limit, (1 << 32) - 1)):
+                for given in (-1, largest + 1, *([0] if name == "limit" else [])):
+                    self.told(f"{wanted}{given}", call, **{name: given})
+                for given, advice in (("5", ""), (1.5, "; for seconds use round(1000 * seconds)"), ([], "")):
+                    with self.assertRaises(TypeError) as raised:
+                        call(**{name: given})
+                    self.assertEqual(str(raised.exception), f"{wanted}{given!r}{advice if name == 'window' else ''}")
+                call(**{name: 1}), call(**{name: largest})
+        call(limit=None)
+
+    def test_told_of_results(self) -> None:
+        heard, faults = batch.track([0, 1], [ODD, EVEN])
+        wanted = "is an array of another type than batch."
+        for given, text in (([0], "list"), (np.zeros(2), "an array of dtype('float64')"),
+                            (faults, "an array of FAULT")):
+            self.told(f"out {wanted}TRACKED: {text}", batch.track, [0, 1], [ODD, EVEN], out=given)
+        for dtype, name in ((batch.FIELDS, "FIELDS"), (batch.TRACKED, "TRACKED"), (batch.DEGREES, "DEGREES"),
+                            (batch.POSITION, "POSITION")):
+            self.told(f"faults {wanted}FAULT: an array of {name}", batch.read, [EVEN], faults=np.zeros(1, dtype))
+        for given, text in ((None, "NoneType"), (faults, "an array of FAULT"),
+                            (heard.reshape(2, 1), "an array of TRACKED")):
+            self.told(f"heard {wanted}TRACKED, or of more dimensions: {text}; track returns heard and faults",
+                      batch.lines, given, faults)
+        for given, text in ((heard, "an array of TRACKED"), (None, "NoneType")):
+            self.told(f"faults {wanted}FAULT, or of more dimensions: {text}; track returns heard and faults",
+                      batch.lines, heard, given)
+        for given, text in ((None, "NoneType"), ([], "list"), (5, "int"), ((heard, faults), "tuple"),
+                            (faults, "an array of FAULT"), (heard["lat_e7"], "an array of dtype('int64')"),
+                            (heard.reshape(1, 2), "an array of TRACKED")):
+            self.told(f"heard is an array of TRACKED or POSITION, as track returns first, not {text}", batch.fractions,
+                      given)
+        self.assertEqual(batch.fractions(heard[["lon_den", "lon_num", "lat_num", "lat_den", "what"]]),
+                         batch.fractions(heard))
+
     def test_moments(self) -> None:
         told = batch.lines(*batch.track([0, 1, 2, 3, 4, 5], self.frames))
         for same in (range(6), tuple(range(6)), np.arange(6), np.arange(6, dtype=">i4"), np.arange(6, dtype="u1"),
@@ -667,124 +757,6 @@ class Arrays(unittest.TestCase):
             self.assertEqual(faults["code"].tolist(), [0, 0, Code.PARITY, 0, 0, 0])
             self.assertEqual(out[2].tobytes(), was)
             self.assertNotEqual(out[3].tobytes(), was)
-
-
-@unittest.skipUnless(pandas is not None, "needs pandas")
-class Frames(unittest.TestCase):
-    log = os.path.join(TOP, "examples", "flights.log")
-
-    def table(self, text: bytes) -> Any:
-        """A table of the program, as pandas reads it."""
-        known = {name: "string" for name in ("answer", "address", "kind")}
-        whole = {"line": "UInt64", "moment": "UInt64", "feet": "Int64"}
-        return pandas.read_csv(io.BytesIO(text), dtype={**known, **whole})
-
-    def test_borders(self) -> None:
-        """The results of a call fill its array, nearly or more than fully. Each has the right line, timestamp and
-        address, even if most lines are empty, or the file is a pipe."""
-        for count in (0, 1, 8191, 8192, 8193, 2 * 8192 + 1):
-            heads = [AirHead(address=n // 2 % 5000, odd=n % 2) for n in range(count)]
-            frames = [squitter.encode(head, SITE).hex() for head in heads]
-            for end in ("\n", "\r\n\n\n"):
-                log = "".join(f"{7 * n} {text}{end}" for n, text in enumerate(frames)).encode()
-                frame = batch.dataframe(io.BytesIO(log), limit=None)
-                self.assertEqual(frame["line"].tolist(), [1 + n * end.count("\n") for n in range(count)])
-                self.assertEqual(frame["moment"].tolist(), [7 * n for n in range(count)])
-                self.assertTrue(frame["address"].tolist() == [f"{n // 2 % 5000:06X}" for n in range(count)])
-                self.assertEqual(frame["fault"].tolist(), [0] * count)
-                self.assertEqual(frame["lat_e7"].notna().tolist(), [n % 2 == 1 for n in range(count)])
-        with tempfile.TemporaryDirectory() as folder:
-            os.mkfifo(f"{folder}/pipe")
-            writer = threading.Thread(target=lambda: pathlib.Path(f"{folder}/pipe").write_bytes(log))
-            writer.start()
-            self.assertTrue(batch.dataframe(f"{folder}/pipe", limit=None).equals(frame))
-            writer.join()
-
-    def test_as_program(self) -> None:
-        """The columns are those of the program, name by name and value by value."""
-        with open(self.log, "rb") as log:
-            data = log.read()
-        data += b"".join(b"5 %s%s\n" % (b"8" * count, end) for count in (60, 61, 62, 63) for end in (b"", b"\r"))
-        data = data.replace(b"\n", b"\r\n\n", 5) + b"\nx\n7 8D\n" + b"9" * 65 + b"\n" + b"1" * 21 + b" x\n*\n99999 \xff"
-        got = subprocess.run([PROGRAM, "track", "--format=csv", "--lat=52.31", "--lon=4.76"], input=data,
-                             stdout=subprocess.PIPE).stdout
-        wanted = self.table(got)
-        with tempfile.NamedTemporaryFile() as file:
-            file.write(data)
-            file.flush()
-            for source in (file.name, pathlib.Path(file.name), io.BytesIO(data)):
-                frame = batch.dataframe(source, site=SITE)
-                self.assertEqual(list(frame.columns), [*batch.COLUMNS, "lat_e7", "lon_e7", "fault"])
-                for name in batch.COLUMNS:
-                    ours, theirs = frame[name], wanted[name]
-                    # (to show how two thousand values differ takes minutes)
-                    self.assertTrue(ours.isna().tolist() == theirs.isna().tolist(), name)
-                    self.assertTrue(ours.dropna().tolist() == theirs.dropna().tolist(), name)
-        for name, kind in (("lat", "float64"), ("lon", "float64"), ("feet", "Int64"), ("lat_e7", "Int64"),
-                           ("moment", "UInt64"), ("lon_e7", "Int64"), ("line", "uint64"), ("fault", "int64")):
-            self.assertEqual(str(frame[name].dtype), kind, name)
-
-    def test_without_a_place(self) -> None:
-        """A row without a place has none in any column, and one at 0, 0 has it."""
-        frame = batch.dataframe(self.log, site=SITE)
-        placed = frame["answer"].isin(["fix", "followed"])
-        for name in ("lat", "lon", "lat_e7", "lon_e7"):
-            self.assertTrue(frame[name].notna().tolist() == placed.tolist(), name)
-        self.assertFalse(((frame["lat"] == 0) & (frame["lon"] == 0)).any())
-        refused = frame["fault"] != 0
-        for name in ("moment", "address", "kind", "feet"):
-            self.assertTrue(frame.loc[refused, name].isna().all(), name)
-        frames = [squitter.frame_text(squitter.encode(AirHead(5, odd=odd), Position(0, 0))) for odd in (0, 1)]
-        one = batch.dataframe({"moment": [1, 2], "frame": frames})
-        self.assertEqual(one[["lat", "lon", "lat_e7", "lon_e7"]].iloc[1].tolist(), [0, 0, 0, 0])
-        self.assertEqual(one["feet"].isna().tolist(), [True, True])
-
-    def test_tables(self) -> None:
-        """A table with moments and frames, of which some are missing; exact fractions behind."""
-        dates = pandas.to_datetime([0, None, 400], unit="ms")
-        rows = {"moment": dates, "frame": [ODD, EVEN, EVEN]}
-        for source in (rows, pandas.DataFrame(rows), {**rows, "moment": pandas.array([0, None, 400], "Int64")}):
-            frame = batch.dataframe(source, exact=True)
-            self.assertEqual(frame["answer"].tolist(), ["waiting", "bad moment", "fix"])
-            self.assertEqual(frame["line"].tolist(), [1, 2, 3])
-            self.assertEqual(frame["fault"].tolist(), [0, Code.BAD_MOMENT, 0])
-            self.assertEqual(list(frame.columns)[-2:], ["lat_exact", "lon_exact"])
-            self.assertEqual(frame["lat_exact"].tolist(), [None, None, Fraction(428091, 8192)])
-            self.assertEqual(frame["lon_exact"].tolist(), [None, None, Fraction(64215, 16384)])
-            self.assertEqual(frame["address"].tolist(), ["40621D", None, "40621D"])
-        empty = batch.dataframe({"moment": [], "frame": []}, exact=True)
-        self.assertEqual((len(empty), len(empty.columns)), (0, 13))
-        self.assertEqual(len(batch.dataframe(io.BytesIO(b"\n\r\n"))), 0)
-        self.assertEqual(batch.dataframe(io.BytesIO(), exact=True).shape, (0, 13))
-        # As many results as a call writes, one less and one more. The last line has a line feed or none.
-        for count in (8191, 8192, 8193, 16384, 16385):
-            for end in (b"", b"\n"):
-                many = batch.dataframe(io.BytesIO(b"\n".join([b"5 " + EVEN.encode()] * count) + end), limit=None)
-                self.assertEqual(many["line"].tolist(), list(range(1, count + 1)))
-                self.assertEqual(set(many["answer"]), {"waiting"})
-        limited = {"moment": [0, 0], "frame": [ODD, squitter.frame_text(squitter.encode(AirHead(5), Position(0, 0)))]}
-        self.assertEqual(batch.dataframe(limited, limit=1)["answer"].tolist(), ["waiting", "table full"])
-        apart = {"moment": [0, 11], "frame": [ODD, EVEN]}
-        self.assertEqual(batch.dataframe(apart, 10)["answer"].tolist(), ["waiting", "waiting"])
-        for table in ({"moment": []}, {"frame": [], "time": []}, pandas.DataFrame({"frame": [ODD]})):
-            names = ", ".join(table.keys())
-            with self.assertRaisesRegex(KeyError, f"moment and frame, not a table with the columns {names}"):
-                batch.dataframe(table)
-        for table in (5, [1, 2], None):
-            with self.assertRaisesRegex(TypeError, f"columns moment and frame, not {type(table).__name__}"):
-                batch.dataframe(table)
-        with self.assertRaisesRegex(TypeError, "open for bytes"):
-            batch.dataframe(io.StringIO("5 x\n"))
-        self.assertEqual(len(batch.dataframe(pandas.DataFrame({"moment": [], "frame": []}))), 0)
-        with self.assertRaises(FileNotFoundError):
-            batch.dataframe("/nonesuch")
-        for wrong in ({"limit": 0}, {"limit": 1 << 32}, {"window": -1}):
-            with self.assertRaises(ValueError):
-                batch.dataframe(self.log, **wrong)
-        with self.assertRaises(TypeError):
-            batch.dataframe(io.StringIO("5 x"))
-        with self.assertRaises(squitter.Fault):
-            batch.dataframe(self.log, site=Position(91, 0))
 
 
 def aside(dtype: np.dtype, count: int) -> np.ndarray:

@@ -10,7 +10,7 @@ import pathlib
 import sys
 import tempfile
 import unittest
-from typing import Any, Iterator
+from typing import Any, Callable, Iterator, Type
 from unittest import mock
 
 import numpy as np
@@ -110,8 +110,126 @@ class Recordings(unittest.TestCase):
             batch.feed(io.StringIO("5 x\n"))
 
 
+PACKED = {
+    "gzip": (gzip.compress(LINES), "gzip.open", "gzip.decompress"),
+    "bzip2": (bz2.compress(LINES), "bz2.open", "bz2.decompress"),
+    "xz": (lzma.compress(LINES), "lzma.open", "lzma.decompress"),
+}
+OPENED = {"gzip": gzip.open, "bzip2": bz2.open, "xz": lzma.open}
+
+
+class Errors(unittest.TestCase):
+    """What is said of a source that is none, in full."""
+
+    def setUp(self) -> None:
+        folder = tempfile.TemporaryDirectory()
+        self.addCleanup(folder.cleanup)
+        self.path = pathlib.Path(folder.name) / "recording"
+        self.calls = [batch.feed, *([batch.dataframe] if pandas else [])]
+
+    def told(self, kind: Type[Exception], text: str, call: Callable[..., Any], *arguments: Any) -> None:
+        """The call raises an error of this type, and no other, with this text in one line."""
+        with self.assertRaises(Exception) as raised:
+            call(*arguments)
+        self.assertEqual((type(raised.exception), str(raised.exception)), (kind, text))
+        self.assertNotIn("\n", text)
+
+    def test_archives(self) -> None:
+        """An archive is named, with the call that opens or unpacks it, and what that call gives is read."""
+        for name, (data, opened, unpacked) in PACKED.items():
+            self.path.write_bytes(data)
+            by_file, by_bytes = f"{name}: open it with {opened} first", f"{name}: unpack it with {unpacked} first"
+            for call in [*self.calls, lambda given: batch.feed(given, "beast"), lambda given: batch.feed(given, "csv")]:
+                for given in (self.path, str(self.path)):
+                    self.told(ValueError, f"{self.path} is {by_file}", call, given)
+                with open(self.path, "rb") as file:
+                    self.told(ValueError, f"{self.path} is {by_file}", call, file)
+                self.told(ValueError, f"this is {by_file}", call, io.BytesIO(data))
+                for given in (data, bytearray(data), memoryview(data)):
+                    self.told(ValueError, f"this is {by_bytes}", call, given)
+            with OPENED[name](self.path) as file:
+                self.assertEqual(batch.feed(file)[0].tolist(), MOMENTS)
+        for data, name in ((b"\x28\xb5\x2f\xfd" + bytes(9), "zstd"), (b"PK\3\4" + bytes(9), "a zip archive")):
+            for call in self.calls:
+                self.told(ValueError, f"this is {name}: unpack it first", call, data)
+        for data in (b"\x1f", b"BZh0", b"BZh", b"\xfd7zXZ", b"PK\3\5", b"x\x1f\x8b"):
+            self.told(ValueError, "this has no frame of Beast, AVR, CSV or a log in its first 16384 bytes", batch.feed,
+                      data)
+        self.told(ValueError, "this has no frame of Beast, AVR, CSV or a log: it is empty", batch.feed, b"")
+        # A source with squitters is read, whatever it begins with.
+        self.assertEqual(batch.feed(b"\x1f\x8b" + SOURCES["beast"], "beast")[0].tolist(), MOMENTS)
+
+    def test_archives_as_arrays(self) -> None:
+        """An archive, a file or its name in place of moments or frames."""
+        wanted = {"frames": "frames are a list, an array or bytes", "moments":
+                  "moments are a list or an array with one for each frame"}
+        calls = {"frames": lambda given: batch.track([0], given), "moments": lambda given: batch.track(given, [ODD])}
+        for name, call in calls.items():
+            of_file = f"{wanted[name]}, not a file: batch.feed reads it, as in track(*batch.feed("
+            for packed, (data, opened, _) in PACKED.items():
+                self.path.write_bytes(data)
+                for given in (self.path, str(self.path)):
+                    self.told(ValueError, f"{self.path} is {packed}: open it with {opened} first", call, given)
+                with open(self.path, "rb") as file:
+                    file.seek(0)
+                    self.told(ValueError, f"{self.path} is {packed}: open it with {opened} first", call, file)
+                    self.assertEqual(file.tell(), 0)
+            self.path.write_bytes(LINES)
+            for given in (self.path, str(self.path), open(self.path, "rb"), open(self.path)):
+                self.told(ValueError, f"{of_file}'{self.path}'))", call, given)
+                getattr(given, "close", list)()
+            self.told(ValueError, f"{of_file}file))", call, io.BytesIO(LINES))
+            self.told(ValueError, f"{of_file}'{self.path.parent}'))", call, str(self.path.parent))
+            self.told(ValueError, f"{wanted[name]}, not a single text: '{EVEN}'", call, EVEN)
+            with open(os.pipe()[0], "rb") as pipe:
+                self.told(ValueError, f"{of_file}file))", call, pipe)
+        os.mkfifo(self.path.parent / "pipe")
+        pipe_path = self.path.parent / "pipe"
+        self.told(ValueError, f"{of_file}'{pipe_path}'))", call, pipe_path)
+        data = PACKED["gzip"][0]
+        data += bytes(14 - len(data) % 14 + 1)
+        self.told(ValueError, f"frames are 14 bytes each, one after the other, not {len(data)} bytes of gzip: unpack "
+                  "it with gzip.decompress first", batch.track, [0], data)
+
+    def test_names(self) -> None:
+        """A name of no file, and data in place of a name."""
+        advice = "; a str is the name of a file, and data are bytes, as encode() makes them"
+        for call in self.calls:
+            self.told(FileNotFoundError, "[Errno 2] No such file or directory: 'nonesuch'", call, "nonesuch")
+            for given in (f"0 {ODD}", f"*{EVEN};", "time,icao24", "5 x\n", LINES.decode()):
+                self.told(FileNotFoundError, f"[Errno 2] No such file or directory{advice}: {given!r}", call, given)
+            path = pathlib.Path(f"0 {ODD}")
+            self.told(FileNotFoundError, f"[Errno 2] No such file or directory: '{path}'", call, path)
+            long = "5 x\n" * 1024
+            self.told(OSError, f"[Errno 36] File name too long{advice}: {long[:60] + '...'!r}", call, long)
+            with self.assertRaises(FileNotFoundError) as raised:
+                call("a,b" * 85)
+            self.assertEqual((raised.exception.errno, raised.exception.filename), (2, "a,b" * 85))
+        self.path.write_bytes(LINES)
+        self.assertEqual(batch.feed(str(self.path.rename(self.path.parent / "0,1;2")))[0].tolist(), MOMENTS)
+
+    def test_types(self) -> None:
+        for given in (None, 5, 1.5, [], ["log"], (1, 2), {}):
+            self.told(TypeError, f"a source is a file, by its name or open for bytes ('rb'), or bytes, not {given!r}",
+                      batch.feed, given)
+        for call in self.calls:
+            for given in (io.StringIO("5 x"), open(__file__)):
+                self.told(TypeError, "a source is a file that is open for bytes ('rb'), not for text", call, given)
+                given.close()
+        self.told(ValueError, "a format is one of 'beast', 'avr', 'csv', 'log', 'auto', or of FeedFormat, not 'xml'",
+                  batch.feed, LINES, "xml")
+
+
 @unittest.skipUnless(pandas is not None, "needs pandas")
 class DataFrames(unittest.TestCase):
+    def test_no_pandas(self) -> None:
+        wanted = "batch.dataframe needs pandas: pip install pandas, or apt install python3-pandas"
+        with mock.patch.dict(sys.modules, {"pandas": None}):
+            with self.assertRaises(ModuleNotFoundError) as raised:
+                batch.dataframe(LINES)
+        self.assertEqual((str(raised.exception), raised.exception.name), (wanted, "pandas"))
+        self.assertEqual(len(batch.dataframe(LINES)), 4)
+
     def test_recordings(self) -> None:
         """A data frame of a recording is that of the log of its squitters, with exact positions too."""
         wanted = batch.dataframe(LINES, exact=True)
@@ -132,8 +250,7 @@ class DataFrames(unittest.TestCase):
         avr = f"*{ODD};\r\n*{EVEN};\r\n".encode()
         csv = f"moment,frame\n0,{ODD}\n".encode()
         beast = b"\x1a3" + bytes(7) + bytes.fromhex(ODD)
-        others = {"gzip": gzip.compress(log), "bzip2": bz2.compress(log), "xz": lzma.compress(log), "AVR": avr,
-                  "CSV": csv, "Beast": beast}
+        others = {"AVR": avr, "CSV": csv, "Beast": beast}
         with tempfile.TemporaryDirectory() as folder:
             for what, data in others.items():
                 path = pathlib.Path(folder) / "other"

@@ -48,6 +48,12 @@ ANSWERS = b"""1 waiting 40621D
 7 long line
 8 fix 484175 52.3206071 4.7347347
 """
+# The faults that say what is wanted, after the library's text.
+HINTED = {
+    Code.WRAP, Code.SHORT, Code.LENGTH, Code.DIGIT, Code.NOT_A_NUMBER, Code.TOO_MANY_DECIMALS, Code.ANGLE_RANGE,
+    Code.BAD_POSITION, Code.BAD_LATITUDE, Code.BAD_ANGLE, Code.BAD_FIELDS, Code.BAD_FEET, Code.BAD_PARITY,
+    Code.NO_TRACKER,
+}
 ANSWERED = [0, 1, 2, 2, 3, 4, 5, 6]
 
 
@@ -73,7 +79,7 @@ class Calls(unittest.TestCase):
         self.assertEqual((fault.code, fault.first, fault.second), (code, first, second))
         text = squitter.fault_text(code, first, second)
         self.assertEqual(str(fault), f"{text}: {fault.hint}" if fault.hint else text)
-        self.assertEqual(bool(fault.hint), code in (Code.BAD_POSITION, Code.BAD_LATITUDE, Code.BAD_ANGLE))
+        self.assertEqual(bool(fault.hint), code in HINTED)
         self.assertNotIn("\n", str(fault))
 
     def test_each_field(self):
@@ -146,7 +152,10 @@ class Calls(unittest.TestCase):
         late = (1 << 64) - 1
         whats = [heard.what for heard in Tracker().hear_many([late - 1, late], frames)]
         self.assertEqual(whats, [What.WAITING, What.FIX])
-        self.assertEqual(Tracker().hear(late, ODD).what, What.WAITING)
+        for moment in (0, 1, (1 << 31) - 1, 1 << 31, 1 << 32, (1 << 53) + 1, 1 << 63, late):
+            one, many = Tracker(), Tracker()
+            for tracker, heard in ((one, one.hear(moment, ODD)), (many, many.hear_many([moment], frames[:14])[0])):
+                self.assertEqual((heard.what, tracker.last, tracker[0].moment), (What.WAITING, moment, moment))
         for moments in ([5, -1], [5, 1 << 64], [-1, 5], [5], [5, 6, 7]):
             with self.assertRaises(ValueError):
                 Tracker().hear_many(moments, frames)
@@ -206,48 +215,6 @@ class Calls(unittest.TestCase):
                                                 tracker.hear(2, ODD), tracker.hear_many([3], bytes.fromhex(ODD))[0])],
                          [squitter.Fields, squitter.Fields, squitter.Heard, squitter.Heard])
         self.assertEqual(squitter._library._lowest(3, 4), Fraction(3, 4))
-
-    def test_rooms_of_calls(self):
-        """Threads that read and hear at once get their own results, and a call may interrupt another one."""
-        told, wanted = [], [(squitter.read(text), squitter.frame(text)) for text in (ODD, EVEN, GROUND_OLDER, OTHER)]
-
-        def work(which):
-            text = (ODD, EVEN, GROUND_OLDER, OTHER)[which]
-            tracker = Tracker()
-            for moment in range(400):
-                got = squitter.read(text), squitter.frame(text)
-                got_too = squitter.read(got[1]), squitter.frame(f"*{text};")
-                what = tracker.hear(moment, text).what
-                if got != wanted[which] or got_too != got or (which < 3) != (what is What.WAITING):
-                    told.append((which, got, what))
-
-        was = sys.getswitchinterval()
-        self.addCleanup(sys.setswitchinterval, was)
-        sys.setswitchinterval(1e-6)
-        threads = [threading.Thread(target=work, args=(number % 4,)) for number in range(8)]
-        for thread in threads:
-            thread.start()
-        for thread in threads:
-            thread.join()
-        self.assertEqual(told, [])
-        # A call has its room for itself: one that is made in the middle of another does not write to it.
-        for rooms, call in ((squitter._FIELDS_ROOMS, squitter.read), (squitter._FRAME_ROOMS, squitter.frame),
-                            (squitter._hearing._ROOMS, lambda text: Tracker().hear(1, text))):
-            rooms.clear()
-            call(ODD)
-            (mine,) = rooms
-            taken = rooms.pop()
-            call(EVEN)
-            self.assertEqual((taken is mine, len(rooms), rooms[0] is mine), (True, 1, False))
-            (mine,) = rooms
-            call(EVEN)
-            self.assertTrue(len(rooms) == 1 and rooms[0] is mine)
-        for _ in range(3):
-            with self.assertRaises(Fault):
-                squitter.read(EVEN[:-1] + "6")
-            with self.assertRaises(Fault):
-                squitter.frame("*")
-        self.assertEqual([len(rooms) for rooms in (squitter._FIELDS_ROOMS, squitter._FRAME_ROOMS)], [1, 1])
 
     def test_whole_numbers(self):
         self.assertEqual(squitter.position_e7(PLACE), (522572021, 39193726))
@@ -403,7 +370,7 @@ class Calls(unittest.TestCase):
                 squitter.local(EVEN, wrong)
 
     def test_feet_as_altitude(self):
-        """The fault for feet in the altitude field says how to get the field. Other numbers get no hint."""
+        """The fault for feet in the altitude field says how to get the field. It does not for other numbers."""
         for feet in (4100, 38000, 50175):
             with self.assertRaises(Fault) as told:
                 squitter.encode(AirHead(0x40621D, altitude=feet), Position(52, 4))
@@ -414,6 +381,8 @@ class Calls(unittest.TestCase):
                 self.assertEqual((str(fault), fault.code), (wanted, Code.BAD_FIELDS))
         for field in (4096, 4101, 50176, 50200, 65536, -25):
             self.refused(Code.BAD_FIELDS, squitter.encode, AirHead(0, altitude=field), Position(52, 4))
+            with self.assertRaisesRegex(Fault, f"^bad fields: altitude is a field of 12 bits, not {field}$"):
+                squitter.encode(AirHead(0, altitude=field), Position(52, 4))
         field = squitter.field_of_feet(38000)
         self.assertEqual(squitter.read(squitter.encode(AirHead(0, altitude=field), Position(52, 4))).feet, 38000)
 

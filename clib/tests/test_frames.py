@@ -1,0 +1,144 @@
+#!/usr/bin/env python3
+"""Data frames of squitter.batch beside the program's rows of CSV, value by value. PROGRAM is the program, by default
+that of dist/program. Needs NumPy and pandas."""
+import io
+import os
+import pathlib
+import subprocess
+import sys
+import tempfile
+import threading
+import unittest
+from fractions import Fraction
+from typing import Any
+
+sys.path[:0] = [os.path.dirname(os.path.abspath(__file__))]
+from test_batch import EVEN, ODD, PROGRAM, SITE, TOP, pandas  # noqa: E402
+
+import squitter  # noqa: E402
+from squitter import AirHead, Code, Position, batch  # noqa: E402
+
+
+@unittest.skipUnless(pandas is not None, "needs pandas")
+class Frames(unittest.TestCase):
+    log = os.path.join(TOP, "examples", "flights.log")
+
+    def table(self, text: bytes) -> Any:
+        """A table of the program, as pandas reads it."""
+        known = {name: "string" for name in ("answer", "address", "kind")}
+        whole = {"line": "UInt64", "moment": "UInt64", "feet": "Int64"}
+        return pandas.read_csv(io.BytesIO(text), dtype={**known, **whole})
+
+    def test_borders(self) -> None:
+        """The results of a call fill its array, nearly or more than fully. Each has the right line, timestamp and
+        address, even if most lines are empty, or the file is a pipe."""
+        for count in (0, 1, 8191, 8192, 8193, 2 * 8192 + 1):
+            heads = [AirHead(address=n // 2 % 5000, odd=n % 2) for n in range(count)]
+            frames = [squitter.encode(head, SITE).hex() for head in heads]
+            for end in ("\n", "\r\n\n\n"):
+                log = "".join(f"{7 * n} {text}{end}" for n, text in enumerate(frames)).encode()
+                frame = batch.dataframe(io.BytesIO(log), limit=None)
+                self.assertEqual(frame["line"].tolist(), [1 + n * end.count("\n") for n in range(count)])
+                self.assertEqual(frame["moment"].tolist(), [7 * n for n in range(count)])
+                self.assertTrue(frame["address"].tolist() == [f"{n // 2 % 5000:06X}" for n in range(count)])
+                self.assertEqual(frame["fault"].tolist(), [0] * count)
+                self.assertEqual(frame["lat_e7"].notna().tolist(), [n % 2 == 1 for n in range(count)])
+        with tempfile.TemporaryDirectory() as folder:
+            os.mkfifo(f"{folder}/pipe")
+            writer = threading.Thread(target=lambda: pathlib.Path(f"{folder}/pipe").write_bytes(log))
+            writer.start()
+            self.assertTrue(batch.dataframe(f"{folder}/pipe", limit=None).equals(frame))
+            writer.join()
+
+    def test_as_program(self) -> None:
+        """The columns are those of the program, name by name and value by value."""
+        with open(self.log, "rb") as log:
+            data = log.read()
+        data += b"".join(b"5 %s%s\n" % (b"8" * count, end) for count in (60, 61, 62, 63) for end in (b"", b"\r"))
+        data = data.replace(b"\n", b"\r\n\n", 5) + b"\nx\n7 8D\n" + b"9" * 65 + b"\n" + b"1" * 21 + b" x\n*\n99999 \xff"
+        got = subprocess.run([PROGRAM, "track", "--format=csv", "--lat=52.31", "--lon=4.76"], input=data,
+                             stdout=subprocess.PIPE).stdout
+        wanted = self.table(got)
+        with tempfile.NamedTemporaryFile() as file:
+            file.write(data)
+            file.flush()
+            for source in (file.name, pathlib.Path(file.name), io.BytesIO(data)):
+                frame = batch.dataframe(source, site=SITE)
+                self.assertEqual(list(frame.columns), [*batch.COLUMNS, "lat_e7", "lon_e7", "fault"])
+                for name in batch.COLUMNS:
+                    ours, theirs = frame[name], wanted[name]
+                    # (to show how two thousand values differ takes minutes)
+                    self.assertTrue(ours.isna().tolist() == theirs.isna().tolist(), name)
+                    self.assertTrue(ours.dropna().tolist() == theirs.dropna().tolist(), name)
+        for name, kind in (("lat", "float64"), ("lon", "float64"), ("feet", "Int64"), ("lat_e7", "Int64"),
+                           ("moment", "UInt64"), ("lon_e7", "Int64"), ("line", "uint64"), ("fault", "int64")):
+            self.assertEqual(str(frame[name].dtype), kind, name)
+
+    def test_without_a_place(self) -> None:
+        """A row without a place has none in any column, and one at 0, 0 has it."""
+        frame = batch.dataframe(self.log, site=SITE)
+        placed = frame["answer"].isin(["fix", "followed"])
+        for name in ("lat", "lon", "lat_e7", "lon_e7"):
+            self.assertTrue(frame[name].notna().tolist() == placed.tolist(), name)
+        self.assertFalse(((frame["lat"] == 0) & (frame["lon"] == 0)).any())
+        refused = frame["fault"] != 0
+        for name in ("moment", "address", "kind", "feet"):
+            self.assertTrue(frame.loc[refused, name].isna().all(), name)
+        frames = [squitter.frame_text(squitter.encode(AirHead(5, odd=odd), Position(0, 0))) for odd in (0, 1)]
+        one = batch.dataframe({"moment": [1, 2], "frame": frames})
+        self.assertEqual(one[["lat", "lon", "lat_e7", "lon_e7"]].iloc[1].tolist(), [0, 0, 0, 0])
+        self.assertEqual(one["feet"].isna().tolist(), [True, True])
+
+    def test_tables(self) -> None:
+        """A table with moments and frames, of which some are missing; exact fractions behind."""
+        dates = pandas.to_datetime([0, None, 400], unit="ms")
+        rows = {"moment": dates, "frame": [ODD, EVEN, EVEN]}
+        for source in (rows, pandas.DataFrame(rows), {**rows, "moment": pandas.array([0, None, 400], "Int64")}):
+            frame = batch.dataframe(source, exact=True)
+            self.assertEqual(frame["answer"].tolist(), ["waiting", "bad moment", "fix"])
+            self.assertEqual(frame["line"].tolist(), [1, 2, 3])
+            self.assertEqual(frame["fault"].tolist(), [0, Code.BAD_MOMENT, 0])
+            self.assertEqual(list(frame.columns)[-2:], ["lat_exact", "lon_exact"])
+            self.assertEqual(frame["lat_exact"].tolist(), [None, None, Fraction(428091, 8192)])
+            self.assertEqual(frame["lon_exact"].tolist(), [None, None, Fraction(64215, 16384)])
+            self.assertEqual(frame["address"].tolist(), ["40621D", None, "40621D"])
+        empty = batch.dataframe({"moment": [], "frame": []}, exact=True)
+        self.assertEqual((len(empty), len(empty.columns)), (0, 13))
+        self.assertEqual(len(batch.dataframe(io.BytesIO(b"\n\r\n"))), 0)
+        self.assertEqual(batch.dataframe(io.BytesIO(), exact=True).shape, (0, 13))
+        # As many results as a call writes, one less and one more. The last line has a line feed or none.
+        for count in (8191, 8192, 8193, 16384, 16385):
+            for end in (b"", b"\n"):
+                many = batch.dataframe(io.BytesIO(b"\n".join([b"5 " + EVEN.encode()] * count) + end), limit=None)
+                self.assertEqual(many["line"].tolist(), list(range(1, count + 1)))
+                self.assertEqual(set(many["answer"]), {"waiting"})
+        limited = {"moment": [0, 0], "frame": [ODD, squitter.frame_text(squitter.encode(AirHead(5), Position(0, 0)))]}
+        self.assertEqual(batch.dataframe(limited, limit=1)["answer"].tolist(), ["waiting", "table full"])
+        apart = {"moment": [0, 11], "frame": [ODD, EVEN]}
+        self.assertEqual(batch.dataframe(apart, 10)["answer"].tolist(), ["waiting", "waiting"])
+        for table in ({"moment": []}, {"frame": [], "time": []}, pandas.DataFrame({"frame": [ODD]})):
+            names = ", ".join(table.keys())
+            with self.assertRaisesRegex(KeyError, f"moment and frame, not a table with the columns {names}"):
+                batch.dataframe(table)
+        for table, name in (({}, "dict"), (pandas.DataFrame(), "DataFrame")):
+            with self.assertRaisesRegex(KeyError, f"moment and frame, not a {name} without columns'$"):
+                batch.dataframe(table)
+        for table in (5, [1, 2], None):
+            with self.assertRaisesRegex(TypeError, f"columns moment and frame, not {type(table).__name__}"):
+                batch.dataframe(table)
+        with self.assertRaisesRegex(TypeError, "open for bytes"):
+            batch.dataframe(io.StringIO("5 x\n"))
+        self.assertEqual(len(batch.dataframe(pandas.DataFrame({"moment": [], "frame": []}))), 0)
+        with self.assertRaises(FileNotFoundError):
+            batch.dataframe("/nonesuch")
+        for wrong in ({"limit": 0}, {"limit": 1 << 32}, {"window": -1}):
+            with self.assertRaises(ValueError):
+                batch.dataframe(self.log, **wrong)
+        with self.assertRaises(TypeError):
+            batch.dataframe(io.StringIO("5 x"))
+        with self.assertRaises(squitter.Fault):
+            batch.dataframe(self.log, site=Position(91, 0))
+
+
+if __name__ == "__main__":
+    unittest.main()
