@@ -1,4 +1,4 @@
-# Completion of squitter for bash. completions/make writes this file from the help texts.
+# Completion of squitter for bash. man/make writes this file from the help texts.
 
 _squitter() {
     local word=${COMP_WORDS[COMP_CWORD]} before=${COMP_WORDS[COMP_CWORD-1]} names=
@@ -24,6 +24,8 @@ _squitter() {
         "track --limit" | "track --window" | "track --lat" | "track --lon")
             compopt +o default 2>/dev/null ;;
         "feed --format") names="auto beast avr csv log" ;;
+        "feed --reorder")
+            compopt +o default 2>/dev/null ;;
         *)
             case ${COMP_WORDS[1]} in
                 show) names="--help" ;;
@@ -32,7 +34,7 @@ _squitter() {
                 pair) names="--lat --lon --help" ;;
                 check) names="--format --help" ;;
                 track) names="--format --limit --window --lat --lon --help" ;;
-                feed) names="--format --help" ;;
+                feed) names="--format --reorder --all --help" ;;
             esac
             if [ "$COMP_CWORD" = 1 ]; then
                 names="show encode local pair check track feed help --version --help"

@@ -1,4 +1,4 @@
-# Completion of squitter for fish. completions/make writes this file from the help texts.
+# Completion of squitter for fish. man/make writes this file from the help texts.
 
 complete -c squitter -f
 complete -c squitter -n __fish_use_subcommand -l version -d 'Print version'
@@ -41,4 +41,6 @@ complete -c squitter -n '__fish_seen_subcommand_from track' -l lon -x -d 'The re
 complete -c squitter -n '__fish_seen_subcommand_from track' -l help -d 'Print help'
 
 complete -c squitter -n '__fish_seen_subcommand_from feed' -l format -x -a 'auto beast avr csv log' -d 'The input format'
+complete -c squitter -n '__fish_seen_subcommand_from feed' -l reorder -x -d 'Sort the lines by time, where frames come up to MS milliseconds late'
+complete -c squitter -n '__fish_seen_subcommand_from feed' -l all -d 'Print frames of all downlink formats, not only extended squitters'
 complete -c squitter -n '__fish_seen_subcommand_from feed' -l help -d 'Print help'
