@@ -4,9 +4,10 @@ frames, Python, Node and the page, and feeds by their format.
 
 The log has a million LINES of 900 aircraft (bench/gen.c). Each row has the least time and the least processor time of
 five ROUNDS, in nanoseconds a line. Rows of Python count the calls alone; all others count their whole process, and a
-pipe counts both of its programs. Calls for one frame and `squitter-geojson` get the first twentieth of the log. The
-answers of the program, also behind `squitter feed` and `squitter-feed`, of Python, Node and the page are compared, and
-the logs of the feeds too. Needs NumPy, pandas and a C compiler; skips Node and Chromium if missing."""
+pipe counts both of its programs. Calls for one frame get the first twentieth of the log. `squitter-geojson` gets the
+results of the whole log as rows of CSV. The answers of the program, also behind `squitter feed` and `squitter-feed`, of
+Python, Node and the page are compared, and the logs of the feeds too. Needs NumPy, pandas and a C compiler; skips Node
+and Chromium if missing."""
 import contextlib
 import hashlib
 import os
@@ -59,7 +60,6 @@ class Inputs:
         parts = map(bytes.split, self.lines)
         self.squitters = [(int(moment), bytes.fromhex(frame.decode())) for moment, frame in parts]
         self.log = self.written("log", b"".join(self.lines))
-        self.short = self.written("short.log", b"".join(self.lines[:self.part]))
         self.feeds = {name: self.written(name, b"".join(spelled(*one) for one in self.squitters))
                       for name, spelled in (("beast", beast), ("avr", avr), ("csv", csv))}
 
@@ -180,11 +180,12 @@ def ways_of_programs(inputs: Inputs, program: str) -> Dict[str, Way]:
     library, count = str(CLIB / "libsquitter.a"), inputs.count
     log, feed = inputs.built("log", library), inputs.built("feed", library)
     site = [f"--lat={SITE[0]}", f"--lon={SITE[1]}"]
-    answers = inputs.written("answers", subprocess.run(
-        [program, "track", *site], stdin=open(inputs.short, "rb"), stdout=subprocess.PIPE, check=True).stdout)
+    table = [program, "track", "--format=csv", *site]
+    results = inputs.written("rows.csv", subprocess.run(
+        table, stdin=open(inputs.log, "rb"), stdout=subprocess.PIPE, check=True).stdout)
     rows = {
         "squitter track": Way(count, of_process([program, "track", *site], inputs.log)),
-        "squitter track --format=csv": Way(count, of_process([program, "track", "--format=csv", *site], inputs.log)),
+        "squitter track --format=csv": Way(count, of_process(table, inputs.log)),
         "squitter_log_take, C": Way(count, of_process([log], inputs.log)),
         "squitter_log_take_text, C": Way(count, of_process([log, "0"], inputs.log)),
     }
@@ -197,8 +198,7 @@ def ways_of_programs(inputs: Inputs, program: str) -> Dict[str, Way]:
         script = [f"{TOP}/feeds/squitter-feed", str(path)]
         rows[script_row(name)] = Way(count, of_process(script, None))
         rows[behind_script(name)] = Way(count, of_pipe(script, [program, "track", *site], Path(os.devnull)))
-    paths = [f"{TOP}/feeds/squitter-geojson", str(inputs.short), str(answers)]
-    rows["squitter-geojson"] = Way(inputs.part, of_process(paths, None))
+    rows["squitter-geojson"] = Way(count, of_process([f"{TOP}/feeds/squitter-geojson", str(results)], None))
     return rows
 
 
