@@ -1,7 +1,7 @@
 #!/usr/bin/env python3
 """Prints the laws, what pins them, or what is wrong with them; nothing is written to a file.
 
-docs/laws.py          prints each law with the lemma files that its proof cites, read from the imports of the proofs.
+docs/laws.py          prints each law and each guard with the lemma files that its proof cites, read from its imports.
 docs/laws.py --pins   prints what pins each premise, read from the contracts and definitions by pins.py.
 docs/laws.py --check  names each premise without a pin and each answer from which nothing is concluded; the status is
                       1 if there is any."""
@@ -17,10 +17,11 @@ import pins
 TOP = os.path.dirname(os.path.dirname(os.path.abspath(__file__)))
 HEAD = """# The laws and their lemmas
 
-A law is a public function of `src/laws.rt`. Its contract is the statement. For each crate, this list has the laws,
-grouped by the lemma files that their proofs cite. Then it has each lemma file of `proofs/` with its first comment and,
-after the arrow, the files that it cites. A file of another crate is written with the crate's name. A law under "no
-file" has a proof that cites no lemma file."""
+A law is a public function of `src/laws.rt`, or of a file that ends so. Its contract is the statement. A guard is one of
+`src/pins.rt`, or of a file that ends so: it keeps a definition from shrinking. For each crate, this list has the laws
+and the guards, grouped by the lemma files that their proofs cite. Then it has each lemma file of `proofs/` with its
+first comment and, after the arrow, the files that it cites. A file of another crate is written with the crate's name.
+One under "no file" has a proof that cites no lemma file."""
 
 
 def imports(path: str) -> list[tuple[str, str]]:
@@ -36,15 +37,17 @@ def shown(files: list[tuple[str, str]], crate: str) -> str:
     return ", ".join(f"`{lemma}`" if name == crate else f"`{name}/{lemma}`" for name, lemma in files)
 
 
-def laws_of(crate: str) -> list[str]:
-    """The laws of a crate, by the files that their proofs cite."""
+def laws_of(crate: str, module: str) -> list[str]:
+    """Returns the laws of a crate (`laws`), or its guards (`pins`), by the files that their proofs cite."""
     groups: dict[str, list[str]] = {}
-    with open(f"{TOP}/crates/{crate}/src/laws.rt", encoding="utf-8") as file:
-        laws = re.findall(r"^pub fn (\w+)", file.read(), re.M)
-    for law in laws:
-        proofs = sorted(glob.glob(f"{TOP}/crates/{crate}/proofs/laws/{law}/*.antt"))
-        cited = list(dict.fromkeys(one for proof in proofs for one in imports(proof)))
-        groups.setdefault(shown(cited, crate) or "no file", []).append(f"`{law}`")
+    for path in sorted(glob.glob(f"{TOP}/crates/{crate}/src/*{module}.rt")):
+        stem = os.path.basename(path)[:-3]
+        with open(path, encoding="utf-8") as file:
+            laws = re.findall(r"^pub fn (\w+)", file.read(), re.M)
+        for law in laws:
+            proofs = sorted(glob.glob(f"{TOP}/crates/{crate}/proofs/{stem}/{law}/*.antt"))
+            cited = list(dict.fromkeys(one for proof in proofs for one in imports(proof)))
+            groups.setdefault(shown(cited, crate) or "no file", []).append(f"`{law}`")
     return [f"- {files}: {', '.join(laws)}" for files, laws in groups.items()]
 
 
@@ -75,10 +78,11 @@ def main() -> None:
     for path in sorted(glob.glob(f"{TOP}/crates/*/proofs")):
         crate = path.split("/")[-2]
         files = list(files_of(crate))
-        laws = laws_of(crate) if os.path.exists(f"{TOP}/crates/{crate}/src/laws.rt") else []
-        if files or laws:
+        laws, guards = laws_of(crate, "laws"), laws_of(crate, "pins")
+        if files or laws or guards:
             lines += ["", f"## `{crate}`"]
             lines += ["", "Laws:", "", *laws] if laws else []
+            lines += ["", "Guards:", "", *guards] if guards else []
             lines += ["", "Files:", "", *files] if files else []
     print("\n".join(lines))
 

@@ -257,7 +257,7 @@ class Book:
             crate = path[len(top):].split("/")[2]
             if not crate.endswith("_tests"):
                 for contract in contracts_of(path, crate, kinds):
-                    contract.is_law = path.endswith("/laws.rt")
+                    contract.is_law = path.endswith(("laws.rt", "pins.rt"))
                     self.contracts.append(contract)
 
     def sort_out(self) -> None:
