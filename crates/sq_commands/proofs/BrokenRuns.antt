@@ -1,6 +1,6 @@
 -- A run that broke off did what its devices show.
-use Rattle.std.proofs.Common.{◌≡◌, Bool, Option, None, Some, Ok, Err, true, false, inl, inr, refl, sym}
-use Rattle.std.specs.Prelude.{◌==◌, codes, if◌then◌else◌}
+use Rattle.std.proofs.Common.{◌≡◌, Option, None, Some, Ok, Err, inl, inr, refl, sym}
+use Rattle.std.specs.Prelude.{codes}
 use Rattle.sq_devices.specs.Changes.{TookNothing, WroteOrFailed, taken_from, written_on}
 use Rattle.sq_devices.specs.Clocks.{Times}
 use Rattle.sq_devices.specs.declared.device.Sink.{Ghosts as SinkGhosts}
@@ -8,11 +8,9 @@ use Rattle.sq_devices.specs.declared.device.Source.{Ghosts as SourceGhosts}
 use Rattle.sq_lines.specs.declared.faults.RunFault.TheVariants.{Read, Write, Memory}
 use Rattle.sq_feed.specs.declared.message.Stranger.{Stranger}
 use Rattle.sq_commands.specs.Feed.{status_at_end}
-use Rattle.sq_lines.specs.declared.tallies.Tally.{Tally}
 use Rattle.sq_commands.specs.Requests.{Text, Show, Encode, Local, Pair, Check, Track, Feed}
-use Rattle.sq_commands.specs.declared.status.Status.TheVariants.{Good, Refused, Broken}
-use Rattle.sq_commands.specs.BrokenOff.{BrokenAside, BrokenChecks, BrokenFeeds, BrokenLogs, FailedInside}
-use Rattle.sq_commands.specs.Check.{status_of}
+use Rattle.sq_commands.specs.declared.status.Status.TheVariants.{Broken}
+use Rattle.sq_commands.specs.BrokenOff.{BrokenAside, BrokenFeeds, FailedInside}
 use Rattle.sq_commands.specs.Encode.{IsEncodeReply}
 use Rattle.sq_commands.specs.Local.{IsLocalReply}
 use Rattle.sq_commands.specs.Outputs.{effects, outputs}
@@ -29,31 +27,7 @@ whole_feed : (stranger : Option Stranger) → Broken ≡ status_at_end stranger 
 whole_feed None is = cc is
 whole_feed (Some stranger) is = cc is
 
-whole_run : (tally : Tally) → Broken ≡ status_of tally → ⊥
-whole_run tally is = by (tally.refused == 0) is
-  where
-    by : (b : Bool) → Broken ≡ (if b then Good else Refused) → ⊥
-    by true is = cc is
-    by false is = cc is
-
 module _ {S K F : Type 0} (s : SourceGhosts S) (k : SinkGhosts K) (f : SinkGhosts F) where
-  pub broken_checks : BrokenChecks s k f
-  broken_checks format from to old new before after (Ok tally, checked, ended) = absurd (whole_run tally ended.0)
-  broken_checks format from to old new before after (Err Read, (same, took), ended) = (same, inl (took, ended.1))
-  broken_checks format from to old new before after (Err Write, (failed, same, took), ended) =
-      (same, inr (failed, took, ended.1))
-  broken_checks format from to old new before after (Err Memory, none, ended) = absurd none
-
-  pub broken_logs : BrokenLogs s k f
-  broken_logs options from to old new a b (first, last, stands, made, (Ok tally, tracked, ended)) =
-      absurd (whole_run tally ended.0)
-  broken_logs options from to old new a b (first, last, stands, made, (Err Read, (same, took), ended)) =
-      (first, last, stands, made, same, inl (took, ended.1))
-  broken_logs options from to old new a b (first, last, stands, made, (Err Write, (failed, same, took), ended)) =
-      (first, last, stands, made, same, inr (inl (failed, took, ended.1)))
-  broken_logs options from to old new a b (first, last, stands, made, (Err Memory, (same, took), ended)) =
-      (first, last, stands, made, same, inr (inr (took, ended.1)))
-
   pub broken_feeds : (clock : Times) → BrokenFeeds s k f clock
   broken_feeds clock format from to old new before after (Ok end, fed, ended) =
       absurd (whole_feed end.stranger ended.0)

@@ -1,27 +1,21 @@
 -- What is answered to the lines of a log.
-use Rattle.std.proofs.Common.{◌≡◌, ◌≢◌, ◌++◌, ◌∙◌, ◌-◌, Bor, MutBor, ◌∷◌, [], ℕ, zero, suc, List, None}
-use Rattle.std.proofs.Common.{Some, Result, Ok, Err, IfErr, IfOk, OnErr, OnOk, length, take, ap, sym, subst, subst₂}
-use Rattle.std.proofs.Common.{refl, inl, inr, arith, true}
-use Rattle.std.specs.List.{concat}
-use Rattle.sq_devices.specs.Changes.{FinishedOnce, Sent, Taken, TookAll, TookPart, TookReported, TookSome, Unfinished}
-use Rattle.sq_devices.specs.Changes.{Written, Wrote}
-use Rattle.sq_devices.specs.Device.{IsPrefixOf}
-use Rattle.sq_devices.proofs.Ends.{took_reported}
+use Rattle.std.proofs.Common.{◌≡◌, ◌≢◌, ◌∙◌, Bor, MutBor, ◌∷◌, [], ℕ, List, None, Some, Result, Ok, Err, IfOk}
+use Rattle.std.proofs.Common.{ap, sym, subst, subst₂, refl}
+use Rattle.sq_devices.specs.Changes.{Taken, TookReported, Written}
 use Rattle.sq_text.specs.declared.faults.LineFault.{LineFault}
 use Rattle.sq_message.specs.declared.received.Received.{Received}
 use Rattle.sq_text.specs.Timed.{IsTimedReading, TimedReader}
 use Rattle.sq_text.proofs.TimedReadings.{one_timed_reading}
-use Rattle.sq_lines.specs.Answers.{after_content, after_line, answer_line, answers_to, past_after}
-use Rattle.sq_lines.specs.Answers.{tally_of}
+use Rattle.sq_lines.specs.Answers.{WantsAt, after_content, after_line, answer_line, answers_to, past_after}
 use Rattle.sq_lines.specs.Hearings.{IsHeard}
 use Rattle.sq_lines.specs.declared.job.Verdict.{Verdict}
 use Rattle.sq_lines.specs.declared.job.Verdict.TheVariants as verdicts
 use Rattle.sq_lines.specs.Content.{Answer, Content, Long, Empty, Text, answer_by, answer_content, content}
-use Rattle.sq_lines.specs.Lines.{but_last, ended_lines, lines_of}
-use Rattle.sq_lines.specs.Runs.{HasRun, HasTold, HasToldPart, OfLines, StoppedAtMemory, StoppedAtWrite}
+use Rattle.sq_lines.specs.Lines.{lines_of}
+use Rattle.sq_lines.specs.Runs.{HasTold, HasToldBy, IsRun, WroteAnswers}
 use Rattle.sq_lines.specs.declared.faults.RunFault.{RunFault}
-use Rattle.sq_lines.specs.declared.faults.RunFault.TheVariants.{Read, Write, Memory}
 use Rattle.sq_lines.specs.declared.tallies.Tally.{Tally}
+use Rattle.sq_lines.proofs.Running.{run_as, run_reported}
 use Rattle.sq_track.specs.declared.heard.Heard.{Heard}
 use Rattle.sq_track.specs.declared.heard.TrackFault.{TrackFault}
 use Rattle.sq_track.specs.declared.heard.TrackFault.TheVariants as track_faults
@@ -29,13 +23,14 @@ use Rattle.sq_track.specs.Held.{Held, StandsFor, settings}
 use Rattle.sq_track.specs.History.{History}
 use Rattle.sq_track.specs.Replies.{Settings, IsReply, history_after}
 use Rattle.sq_track.proofs.Histories.OneReply.{one_reply}
-use Rattle.sq_commands.specs.Formats.{Telling, Writers, told_by}
-use Rattle.sq_commands.specs.Heard.{HeardSquitter}
+use Rattle.sq_commands.specs.declared.formats.Format.{Format}
+use Rattle.sq_commands.specs.Formats.{Telling, told_by}
+use Rattle.sq_commands.specs.Heard.{HeardSquitter, heard_telling}
 use Rattle.sq_commands.specs.TrueAnswers.{start, true_after}
 use Rattle.sq_commands.specs.declared.track.Hearing.{Hearing}
-use Rattle.sq_commands.specs.Track.{HasTracked, IsTracked, hearing_manner}
+use Rattle.sq_commands.specs.Track.{IsTracked, hearing_manner}
 use Rattle.sq_commands.specs.Tracking.{AreHeardLines, HasHeard, IsFoundOf, IsHeardLine, IsTimedHeard, IsTracking}
-use Rattle.sq_commands.specs.Tracking.{Tracking, WroteIntoLast, answer_read, found_of, past_read}
+use Rattle.sq_commands.specs.Tracking.{Tracking, answer_read, found_of, past_read}
 use Rattle.sq_commands.specs.Tracking.{past_with, reply_by, track_manner, track_way}
 
 history_with : (past : Tracking) (timed : Received) (reply : Result Heard TrackFault)
@@ -197,132 +192,44 @@ lines_heard past (line ∷ lines) =
 
 -- ---- runs
 
-module _ (telling : Telling HeardSquitter) where
-  heard_from : (old new : Held) (lines : List (List ℕ))
-      (Holding : (List (Answer HeardSquitter) → List ℕ) → List (Answer HeardSquitter) → Type 0)
-      → ((past : Tracking) (writers : Writers) → IsTracking old past → IsTracking new (past_after track_way past lines)
-      × Holding (told_by telling writers) (answers_to track_way past lines))
-      → HasHeard telling old new lines Holding
-  heard_from old new lines Holding told reader writers h stands =
-      let past = start reader (settings old) h stands.accepted in
-      let one = told past writers (stands, refl) in (
-        answers_to track_way past lines,
-        (past_after track_way past lines).history,
-        lines_heard past lines,
-        one.0.0,
-        true_after old past lines (stands, refl),
-        one.1,
-      )
-
-  answers-take : (past : Tracking) (n : ℕ) (lines : List (List ℕ))
-      → answers_to track_way past (take n lines) ≡ take n (answers_to track_way past lines)
-  answers-take past zero lines = refl
-  answers-take past (suc n) [] = refl
-  answers-take past (suc n) (line ∷ lines) =
-      ap (λ answers. answer_line track_way past line ∷ answers) (answers-take (after_line track_way past line) n lines)
-
-  answers-length : (past : Tracking) (lines : List (List ℕ)) → length (answers_to track_way past lines) ≡ length lines
-  answers-length past [] = refl
-  answers-length past (line ∷ lines) = omega (arith, answers-length (after_line track_way past line) lines)
-
-  -- a run of any lines, as one of `track`
-  module _ (input : Taken) (output : Written) (old new : Held) where
-    told-track : (lines : List (List ℕ))
-        → HasTold track_manner telling.text old new (λ text. Wrote output (telling.header ++ text)) lines
-        → HasHeard telling old new lines (λ text answers. Wrote output (text answers))
-    told-track lines told = heard_from old new lines (λ text answers. Wrote output (text answers)) told
-
-    told_part-track : (lines : List (List ℕ))
-        → HasToldPart telling.header track_manner telling.text old new output.before output.after lines
-        → HasHeard telling old new lines (λ text answers. WroteIntoLast output text answers)
-    told_part-track lines told = heard_from old new lines
-        (λ text answers. WroteIntoLast output text answers) (λ past writers st.
-        let one = told past writers st in
-        let text = told_by telling writers in
-        let answers = answers_to track_way past lines in
-        let n : length answers - 1 ≡ length lines - 1 = ap (λ k. k - 1) (answers-length past lines) in
-        let front : answers_to track_way past (but_last lines) ≡ take (length answers - 1) answers =
-        answers-take past (length lines - 1) lines ∙ ap (λ k. take k answers) (sym n) in
-        let part : List ℕ = one.1.0 in (
-          one.0,
-          (
-            part,
-            λ some. subst (λ (front : List (Answer HeardSquitter)). IsPrefixOf (text front) part) front
-                (one.1.1 (omega (arith, some, answers-length past lines))),
-            one.1.2,
-            one.1.3,
-          ),
-        ))
-
-    whole-track : (tally : Tally)
-        → TookAll input (HasRun track_manner telling.text old new (λ text. Sent output (telling.header ++ text)) tally)
-        → TookAll input (HasTracked telling tally output old new)
-    whole-track tally (pieces, got, consumed, end, run) = (
-      pieces,
-      got,
-      consumed,
-      end,
-      heard_from old new (lines_of (concat pieces))
-          (λ text answers. Sent output (text answers) × (tally ≡ tally_of answers)) (λ past writers st.
-          let one = run.0 past writers st in (one.0, (one.1, run.1 past st))),
+pub heard_from : (telling : Telling HeardSquitter) (old new : Held)
+    (Holding : (List (Answer HeardSquitter) → List ℕ) → List (Answer HeardSquitter) → Type 0) (lines : List (List ℕ))
+    → HasTold track_manner old new (λ writers answers. Holding (told_by telling writers) answers) lines
+    → HasHeard telling old new Holding lines
+heard_from telling old new Holding lines told reader writers h stands =
+    let past = start reader (settings old) h stands.accepted in
+    let one = told past writers (stands, refl) in (
+      answers_to track_way past lines,
+      (past_after track_way past lines).history,
+      lines_heard past lines,
+      one.0.0,
+      true_after old past lines (stands, refl),
+      one.1,
     )
 
-    pub tracked : (result : Result Tally RunFault)
-        → IfOk result (λ tally. TookAll input
-        (HasRun track_manner telling.text old new (λ text. Sent output (telling.header ++ text)) tally))
-        → OnOk result (FinishedOnce output) → OnErr result (Unfinished output)
-        → IfErr result (λ fault. fault ≡ Read
-        → TookPart input (λ bytes. HasTold track_manner telling.text old new
-        (λ text. Wrote output (telling.header ++ text)) (ended_lines bytes)))
-        → IfErr result (λ fault. fault ≡ Memory
-        → TookSome input (OfLines input (StoppedAtMemory track_manner telling.text old new
-        (λ text. Wrote output (telling.header ++ text)))))
-        → IfErr result (λ fault. fault ≡ Write → (output.failed ≡ true)
-        × TookSome input (OfLines input
-        (StoppedAtWrite telling.header track_manner telling.text old new output.before output.after)))
-        → IsTracked telling result input output old new
-    tracked (Ok tally) whole finished unfinished unread unanswered unwritten =
-        (finished, whole-track tally whole)
-    tracked (Err Read) whole finished unfinished unread unanswered unwritten =
-        let u = unread refl in (
-          unfinished,
-          (u.0, (u.1.0, u.1.1, u.1.2, told-track (ended_lines u.1.0) u.1.3)),
-        )
-    tracked (Err Memory) whole finished unfinished unread unanswered unwritten =
-        let u = unanswered refl in (
-          unfinished,
-          (
-            u.0,
-            u.1,
-            u.2,
-            elim u.3 [
-              | inl ended ↦ inl (ended.0, ended.1, ended.2, ended.3, told-track ended.0 ended.4)
-              | inr last ↦ inr (
-                last.0,
-                (last.1.0, last.1.1, last.1.2, last.1.3, told-track last.1.0 last.1.4),
-              )
-            ],
-          ),
-        )
-    tracked (Err Write) whole finished unfinished unread unanswered unwritten =
-        let u = unwritten refl in (
-          u.0,
-          unfinished,
-          (
-            u.1.0,
-            u.1.1,
-            u.1.2,
-            elim u.1.3 [
-              | inl ended ↦ inl (ended.0, ended.1, told_part-track ended.0 ended.2)
-              | inr last ↦ inr (last.0, (last.1.0, last.1.1, told_part-track last.1.0 last.1.2))
-            ],
-          ),
-        )
+-- a run of any lines, as one of `track`
+pub tracked : (telling : Telling HeardSquitter) (result : Result Tally RunFault) (input : Taken) (output : Written)
+    (old new : Held) → IsRun telling.header telling.text track_manner old new result input output
+    → IsTracked telling result input output old new
+tracked telling result input output old new ran =
+    run_as (WantsAt track_manner new) (WantsAt track_manner new)
+    (HasToldBy telling.header telling.text track_manner old new result output)
+    (HasHeard telling old new (WroteAnswers result output)) (λ line wants. wants)
+    (heard_from telling old new (WroteAnswers result output)) result input output ran
 
-  -- where the source reports its bytes, the answers are those to all of them
-  pub tracked_reported : (result : Result Tally RunFault) (input : Taken) (output : Written) (old new : Held)
-      → IsTracked telling result input output old new
-      → IfOk result (λ tally. TookReported input (HasTracked telling tally output old new))
-  tracked_reported (Ok tally) input output old new (finished, took) =
-      took_reported input (HasTracked telling tally output old new) took
-  tracked_reported (Err fault) input output old new is = tt
+-- where the source reports its bytes, the answers are those to all of them
+pub tracked_reported : (telling : Telling HeardSquitter) (result : Result Tally RunFault) (input : Taken)
+    (output : Written) (old new : Held) → IsTracked telling result input output old new
+    → IfOk result (λ tally. TookReported input
+    (λ read. HasHeard telling old new (WroteAnswers result output) (lines_of read)))
+tracked_reported telling (Ok tally) input output old new is =
+    run_reported (WantsAt track_manner new) (HasHeard telling old new (WroteAnswers (Ok tally) output)) tally input
+    output is
+tracked_reported telling (Err fault) input output old new is = tt
+
+-- a run in one format, by another name of it
+pub tracked_in : (a b : Format) (result : Result Tally RunFault) (input : Taken) (output : Written) (old new : Held)
+    → a ≡ b → IsTracked (heard_telling b) result input output old new
+    → IsTracked (heard_telling a) result input output old new
+tracked_in a b result input output old new same is =
+    subst (λ (format : Format). IsTracked (heard_telling format) result input output old new) (sym same) is

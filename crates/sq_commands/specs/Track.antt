@@ -1,15 +1,10 @@
 -- The command `track`.
-use Rattle.std.specs.Prelude.{◌≡◌, ◌≤◌, ◌<◌, ◌^◌, ◌⊎◌, ℕ, List, [], Option, None, Some, Result, Ok, Err, MatchResult}
-use Rattle.std.specs.Prelude.{length, true}
-use Rattle.sq_devices.specs.Changes.{FinishedOnce, Sent, Taken, TookAll, TookNothing, TookPart, TookSome, Unfinished}
-use Rattle.sq_devices.specs.Changes.{Written, Wrote, WroteNothing}
-use Rattle.sq_devices.specs.Device.{IsPrefixOf}
+use Rattle.std.specs.Prelude.{◌≡◌, ◌≤◌, ◌<◌, ◌^◌, ◌⊎◌, ℕ, List, [], Option, None, Some, Result, MatchResult, length}
+use Rattle.sq_devices.specs.Changes.{Taken, TookNothing, Written}
 use Rattle.sq_text.specs.Timed.{IsDecimalText}
-use Rattle.sq_lines.specs.Answers.{Manner, WantsAt, tally_of}
-use Rattle.sq_lines.specs.Lines.{ended_lines, lines_of, with_next}
-use Rattle.sq_lines.specs.Runs.{OfLines}
+use Rattle.sq_lines.specs.Answers.{Manner, WantsAt}
+use Rattle.sq_lines.specs.Runs.{HasRun, WroteAnswers}
 use Rattle.sq_lines.specs.declared.faults.RunFault.{RunFault}
-use Rattle.sq_lines.specs.declared.faults.RunFault.TheVariants.{Read, Write, Memory}
 use Rattle.sq_lines.specs.declared.tallies.Tally.{Tally}
 use Rattle.sq_commands.specs.Requests.{AskedTrack}
 use Rattle.sq_track.specs.Held.{Held, StandsFor, made_with, settings}
@@ -18,53 +13,21 @@ use Rattle.sq_commands.specs.declared.arguments.ArgumentFault.TheVariants as fau
 use Rattle.sq_commands.specs.declared.arguments.TrackOptions.{TrackOptions}
 use Rattle.sq_commands.specs.declared.formats.Format.{Format}
 use Rattle.sq_commands.specs.declared.status.Status.{Status}
-use Rattle.sq_commands.specs.declared.status.Status.TheVariants.{Broken}
 use Rattle.sq_commands.specs.Arguments.{IsFaultUnless, IsSiteFault, IsSiteWords}
-use Rattle.sq_commands.specs.Check.{status_of}
+use Rattle.sq_commands.specs.Check.{EndsAs}
 use Rattle.sq_commands.specs.Faults.{IsMisuse}
-use Rattle.sq_commands.specs.Outputs.{Effects, Reported, broken_text}
+use Rattle.sq_commands.specs.Outputs.{Effects}
 use Rattle.sq_commands.specs.declared.track.Hearing.{Hearing}
 use Rattle.sq_commands.specs.Formats.{IsFormatWord, Telling}
 use Rattle.sq_commands.specs.Heard.{HeardSquitter, heard_telling}
-use Rattle.sq_commands.specs.Tracking.{HasHeard, Tracking, WroteIntoLast, track_manner}
+use Rattle.sq_commands.specs.Tracking.{HasHeard, Tracking, track_manner}
 
 -- ---- a run over a log
 
--- the lines were heard, and their answers written
-abbrev pub HasAnswered : Telling HeardSquitter → Written → (old new : Held) → List (List ℕ) → Type 0
-HasAnswered telling output old new lines = HasHeard telling old new lines (λ text answers. Wrote output (text answers))
-
--- this holds of the first of these lines
-abbrev pub SomeOf : (List (List ℕ) → Type 0) → List (List ℕ) → Type 0
-SomeOf Heard complete = (lines : List (List ℕ)) × IsPrefixOf lines complete × Heard lines
-
--- this holds of the first of these lines, and that of the next line
-abbrev pub BeforeOneOf : (List ℕ → Type 0) → (List (List ℕ) → Type 0) → List (List ℕ) → Type 0
-BeforeOneOf OfNext Heard complete =
-    (lines : List (List ℕ)) × (next : List ℕ) × IsPrefixOf (with_next lines next) complete × OfNext next × Heard lines
-
--- the lines of these bytes were heard, answered and counted, and then the output was finished
-abbrev pub HasTracked : Telling HeardSquitter → Tally → Written → (old new : Held) → List ℕ → Type 0
-HasTracked telling tally output old new bytes =
-    HasHeard telling old new (lines_of bytes) (λ text answers. Sent output (text answers) × (tally ≡ tally_of answers))
-
 -- the result of a run over an input, with the tracker before and after it; answers are written in this way
 abbrev pub IsTracked : Telling HeardSquitter → Result Tally RunFault → Taken → Written → (old new : Held) → Type 0
--- all bytes up to the end of the input were read, their lines were heard, answered and counted, and the output was
--- finished
-IsTracked telling (Ok tally) input output old new =
-    FinishedOnce output × TookAll input (HasTracked telling tally output old new)
--- the source failed: all lines that were read whole were heard and answered
-IsTracked telling (Err Read) input output old new =
-    Unfinished output × TookPart input (λ bytes. HasAnswered telling output old new (ended_lines bytes))
--- memory ran out at a line: the tracker may want some for it, and all lines before it were heard and answered
-IsTracked telling (Err Memory) input output old new = Unfinished output
-    × TookSome input (OfLines input (BeforeOneOf (WantsAt track_manner new)
-    (HasAnswered telling output old new)))
--- the sink failed: some lines were heard, and their answers were written up to some point in the last one
-IsTracked telling (Err Write) input output old new =
-    (output.failed ≡ true) × Unfinished output × TookSome input (OfLines input
-    (SomeOf (λ lines. HasHeard telling old new lines (λ text answers. WroteIntoLast output text answers))))
+IsTracked telling result input output old new =
+    HasRun (WantsAt track_manner new) (HasHeard telling old new (WroteAnswers result output)) result input output
 
 -- how `track` answers texts, by the tracker that it borrows
 abbrev pub hearing_manner : {F A : Type 0} → Manner (Hearing F A) Tracking HeardSquitter
@@ -108,15 +71,13 @@ IsTrackReading words reading = MatchResult reading (IsTrackOptions words) (IsTra
 
 -- ---- the command
 
--- a run over the input, by a new tracker with these options; if it stopped early, the reason is reported, and otherwise
--- nothing
+-- a run over the input, by a new tracker with these options
 abbrev pub IsLogRun : TrackOptions → Status → Effects → Type 0
 IsLogRun options status e = (old : Held) × (new : Held) × StandsFor old []
     × (settings old ≡ made_with options.limit options.window options.site)
-    × ((answer : Result Tally RunFault)
-    × IsTracked (heard_telling options.format) answer e.input e.outputs.output old new
-    × MatchResult answer (λ tally. (status ≡ status_of tally) × WroteNothing e.outputs.reports)
-    (λ fault. (status ≡ Broken) × Reported e.outputs (broken_text fault)))
+    × ((result : Result Tally RunFault)
+    × IsTracked (heard_telling options.format) result e.input e.outputs.output old new
+    × EndsAs result status e.outputs)
 
 -- the log is heard with the options that the words spell; if they are invalid, the input is unread
 abbrev pub IsTrackRun : AskedTrack → Status → Effects → Type 0

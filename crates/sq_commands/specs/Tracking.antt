@@ -1,8 +1,5 @@
 -- The answers of `track` to the lines of a log, each by the squitters before it.
-use Rattle.std.specs.Prelude.{◌≡◌, ◌≢◌, ◌≤◌, ◌==◌, ℕ, List, [], ◌∷◌, find, length, take, ◌-◌, None, Some, Result, Ok}
-use Rattle.std.specs.Prelude.{Err}
-use Rattle.sq_devices.specs.Changes.{Written}
-use Rattle.sq_devices.specs.Device.{AppendsOrHides, IsPrefixOf}
+use Rattle.std.specs.Prelude.{◌≡◌, ◌≢◌, ◌==◌, ℕ, List, [], ◌∷◌, find, None, Some, Result, Ok, Err}
 use Rattle.sq_message.specs.declared.squitter.Squitter.{Squitter}
 use Rattle.sq_message.specs.Parts.{squitter_parts}
 use Rattle.sq_message.specs.Places.{IsPosition}
@@ -53,19 +50,12 @@ AreHeardLines reader s h (line ∷ lines) answers next =
 
 -- A tracker has heard these lines: for each history that it represented, it now represents the history after them. The
 -- answers are true in slow worlds, and have this property, written in this way.
-abbrev pub HasHeard : Telling HeardSquitter → (old new : Held) → List (List ℕ)
-    → ((List (Answer HeardSquitter) → List ℕ) → List (Answer HeardSquitter) → Type 0) → Type 0
-HasHeard telling old new lines Holding = (reader : TimedReader) (writers : Writers) (h : History) → StandsFor old h
+abbrev pub HasHeard : Telling HeardSquitter → (old new : Held)
+    → ((List (Answer HeardSquitter) → List ℕ) → List (Answer HeardSquitter) → Type 0) → List (List ℕ) → Type 0
+HasHeard telling old new Holding lines = (reader : TimedReader) (writers : Writers) (h : History) → StandsFor old h
     → (answers : List (Answer HeardSquitter)) × (next : History)
     × AreHeardLines reader (settings old) h lines answers next
     × StandsFor new next × AreTrueAfter old h (told_from 1 answers) × Holding (told_by telling writers) answers
-
--- a prefix of the text was written, which ends within the last answer's text, or within the header if there is no
--- answer; or the sink no longer reports its bytes
-abbrev pub WroteIntoLast : Written → (List (Answer HeardSquitter) → List ℕ) → List (Answer HeardSquitter) → Type 0
-WroteIntoLast output text answers =
-    (part : List ℕ) × (1 ≤ length answers → IsPrefixOf (text (take (length answers - 1) answers)) part)
-    × IsPrefixOf part (text answers) × AppendsOrHides output.before output.after part
 
 -- ---- as a function of the past
 

@@ -1,6 +1,7 @@
 //! The command `check`: an answer to each line that is not empty.
 ghost use Rattle.std.specs.Prelude.{◌≡◌, IfOk, option_copied};
 ghost use Rattle.sq_devices.specs.Changes.{TookReported, taken_from, written_on};
+ghost use Rattle.sq_lines.specs.Lines.{lines_of};
 ghost use Rattle.sq_commands.specs.Check.{HasChecked, IsCheckRun, IsCheckRunIn, IsChecked, check_manner, status_of};
 ghost use Rattle.sq_commands.specs.Formats.{Writers};
 ghost use Rattle.sq_commands.specs.Outputs.{effects, outputs};
@@ -81,7 +82,7 @@ pub fn run_check<S: Source, K: Sink>(source: &mut S, sink: &mut K) -> Result<Tal
 
     // If the source reports its bytes, the answers are those to all of them.
     ensures reported { IfOk result (λ tally. TookReported (taken_from S.Source source.old source.new)
-        (HasChecked squitter_lines tally (written_on K.Sink sink.old sink.new))) }
+        (λ read. HasChecked squitter_lines result (written_on K.Sink sink.old sink.new) (lines_of read))) }
 {
     run_check_as(&Numbered, source, sink)
 }
@@ -95,7 +96,8 @@ fn run_check_as<S: Source, K: Sink, F: AnswerFormat>(
     ensures ran { IsChecked (squitter_telling F.chosen) result (taken_from S.Source source.old source.new)
         (written_on K.Sink sink.old sink.new) }
     ensures reported { IfOk result (λ tally. TookReported (taken_from S.Source source.old source.new)
-        (HasChecked (squitter_telling F.chosen) tally (written_on K.Sink sink.old sink.new))) }
+        (λ read. HasChecked (squitter_telling F.chosen) result (written_on K.Sink sink.old sink.new)
+        (lines_of read))) }
 {
     run_log(source, sink, &mut Log::new(Checking { format }))
 }

@@ -78,7 +78,7 @@ pub fn first_answer_is_true(
 /// In a slow world, the answers of a tracker to lines after a history are true.
 pub fn heard_lines_are_true()
     ensures { (telling : Telling HeardSquitter) (old new : Held) (lines : List (List ℕ)) (reader : TimedReader)
-        (writers : Writers) (history : History) → HasHeard telling old new lines (λ text answers. Unit {0})
+        (writers : Writers) (history : History) → HasHeard telling old new (λ text answers. Unit {0}) lines
         → StandsFor old history → (answers : List (LineAnswer HeardSquitter)) × (next : History)
         × AreHeardLines reader (settings old) history lines answers next
         × AreTrueAfter old history (told_from 1 answers) }

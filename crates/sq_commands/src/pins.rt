@@ -1,8 +1,7 @@
 //! Guards of the definitions: each has one value, some value or an exact condition, so none can be weakened unnoticed.
 //! A function with an empty body does nothing: its contract is the statement.
 ghost use Rattle.std.specs.Prelude.{◌≡◌, ◌≢◌, ◌≤◌, ◌↔◌, ◌⊎◌, ◌++◌, ◌∷◌, [], List, ℕ, Contains, Err, IsTrue, None, Ok};
-ghost use Rattle.std.specs.Prelude.{Option, Some};
-ghost use Rattle.std.specs.Prelude.{codes, map};
+ghost use Rattle.std.specs.Prelude.{◌==◌, Option, Result, Some, codes, find, if◌then◌else◌, map};
 ghost use Rattle.std.specs.List.{AllZip};
 ghost use Rattle.sq_text.specs.declared.rows.Form.TheVariants as forms;
 ghost use Rattle.sq_text.specs.Rows.{Blank, Number, Word, cells, header_text, row_room};
@@ -11,24 +10,34 @@ ghost use Rattle.sq_devices.specs.Changes.{written_on};
 ghost use Rattle.sq_devices.specs.Clocks.{times_of};
 ghost use Rattle.sq_feed.specs.Counts.{Tally as Counts};
 ghost use Rattle.sq_feed.specs.declared.machine.Format.{Format as SourceFormat};
+ghost use Rattle.sq_lines.specs.Answers.{WantsAt};
+ghost use Rattle.sq_lines.specs.Content.{Text, answer_by, content};
+ghost use Rattle.sq_lines.specs.Runs.{AreAnswered, IsClosedBy, WroteAnswers};
+ghost use Rattle.sq_lines.specs.declared.faults.RunFault.{RunFault};
+ghost use Rattle.sq_lines.specs.declared.faults.RunFault.TheVariants.{Memory, Read, Write};
 ghost use Rattle.sq_lines.specs.declared.tallies.Tally.{Tally};
+ghost use Rattle.sq_message.specs.Parts.{squitter_parts};
+ghost use Rattle.sq_message.specs.Places.{IsPosition};
+ghost use Rattle.sq_message.specs.declared.received.Received.{Received};
+ghost use Rattle.sq_text.specs.Timed.{IsTimedText};
 ghost use Rattle.sq_text.specs.declared.faults.LineFault.{LineFault};
-ghost use Rattle.sq_track.specs.Held.{Held, StandsFor, made_with, settings};
+ghost use Rattle.sq_track.specs.Held.{Held, StandsFor, made_with, present_of, settings};
 ghost use Rattle.sq_track.specs.History.{History};
+ghost use Rattle.sq_track.specs.Replies.{IsAcceptable};
 ghost use Rattle.sq_track.specs.Tame.{IsSlow, IsSlowForFollowing};
 ghost use Rattle.sq_track.specs.Worlds.{Arrival, ArisesFrom, IfHeard, IsTruePlaceHeard, World, received_of};
 ghost use Rattle.sq_commands.specs.declared.arguments.TrackOptions.{TrackOptions as Options};
 ghost use Rattle.sq_commands.specs.declared.formats.Format.{Format};
 ghost use Rattle.sq_commands.specs.declared.status.Status.{Status as Ending};
 ghost use Rattle.sq_commands.specs.declared.status.Status.TheVariants.{Broken, Good, Misused, Refused};
-ghost use Rattle.sq_commands.specs.BrokenOff.{BrokenAside, BrokenChecks, BrokenFeeds, BrokenLogs};
-ghost use Rattle.sq_commands.specs.Check.{IsCheckRunIn, IsChecked, IsNoFormat};
+ghost use Rattle.sq_commands.specs.BrokenOff.{BrokenAside, BrokenFeeds};
+ghost use Rattle.sq_commands.specs.Check.{Checks, EndsAs, IsCheckRunIn, IsChecked, IsNoFormat};
 ghost use Rattle.sq_commands.specs.declared.feed.FeedOptions.{FeedOptions};
 ghost use Rattle.sq_commands.specs.Feed.{IsFed, IsFeedRunIn, IsNoSource, IsSourceWord};
-ghost use Rattle.sq_commands.specs.Formats.{IsFormatWord, Writers};
+ghost use Rattle.sq_commands.specs.Formats.{IsFormatWord, Writers, told_by};
 ghost use Rattle.sq_commands.specs.Heard.{heard_telling, track_columns};
 ghost use Rattle.sq_commands.specs.Laws.{OneEncodeFault, OneFeedFault, OnePositionFault, OneSiteFault, OneTrackFault};
-ghost use Rattle.sq_commands.specs.Outputs.{effects, outputs};
+ghost use Rattle.sq_commands.specs.Outputs.{broken_text, effects, outputs};
 ghost use Rattle.sq_commands.specs.Replies.{IsDelivered, answered, refused};
 ghost use Rattle.sq_commands.specs.Squitters.{check_columns, squitter_telling};
 ghost use Rattle.sq_commands.specs.SlowAnswers.{AreTrueAfter, AreTrueAnswers, heard_in, received_in};
@@ -36,7 +45,7 @@ ghost use Rattle.sq_commands.specs.Summary.{stranger_text, summary_text};
 ghost use Rattle.sq_feed.specs.declared.message.Stranger.{Stranger};
 ghost use Rattle.sq_commands.specs.Track.{IsLogRun, IsTracked};
 ghost use Rattle.sq_lines.specs.declared.log.Answer.{Answer};
-ghost use Rattle.sq_commands.specs.Tracking.{OnePast};
+ghost use Rattle.sq_commands.specs.Tracking.{HasHeard, OnePast, track_manner};
 
 use crate::found::HeardSquitter;
 use crate::status::Status;
@@ -132,24 +141,56 @@ pub fn one_past()
     ensures { OnePast }
 {}
 
-/// The status of a run of `check` or of `track`: good only if no line was refused and all answers were written; never a
-/// misuse.
+/// A run of `check`: some lines were answered, each by itself, and none needs memory. The result says which, and how
+/// much of their answers was written.
+pub fn checked_exactly<S: Source, K: Sink>()
+    ensures { (format : Format) (result : Result Tally RunFault) (from to : S) (old new : K)
+        → IsChecked (squitter_telling format) result (taken_from S.Source from to) (written_on K.Sink old new)
+        ↔ (IsClosedBy result (written_on K.Sink old new) × ((lines : List (List ℕ))
+        × AreAnswered (λ line. ⊥) result (taken_from S.Source from to) lines
+        × ((by : Checks) → WroteAnswers result (written_on K.Sink old new)
+        (told_by (squitter_telling format) by.writers) (map (answer_by by.reader.read) lines)))) }
+{}
+
+/// A run of `track`: the tracker heard some lines, and may want memory for the next one if the run stopped there. The
+/// result says which lines, and how much of their answers was written.
+pub fn tracked_exactly<S: Source, K: Sink>()
+    ensures ran { (format : Format) (result : Result Tally RunFault) (from to : S) (old new : K) (first last : Held)
+        → IsTracked (heard_telling format) result (taken_from S.Source from to) (written_on K.Sink old new) first last
+        ↔ (IsClosedBy result (written_on K.Sink old new) × ((lines : List (List ℕ))
+        × AreAnswered (WantsAt track_manner last) result (taken_from S.Source from to) lines
+        × HasHeard (heard_telling format) first last (WroteAnswers result (written_on K.Sink old new)) lines)) }
+    ensures wants { (tracker : Held) (line : List ℕ) → WantsAt track_manner tracker line
+        ↔ ((text : List ℕ) × (content line ≡ Text text) × ((timed : Received) × IsTimedText text timed
+        × (IsPosition (squitter_parts timed.squitter).me
+        × (find (λ entry. entry.0 == (squitter_parts timed.squitter).address) (present_of tracker) ≡ None))
+        × ((h : History) → StandsFor tracker h
+        → IsAcceptable (settings tracker) h timed.moment timed.squitter))) }
+{}
+
+/// How a run of `check` or of `track` ended. At the end of its input it is good exactly if no line was refused, with
+/// nothing reported. If it stopped early it is broken, and the reason was reported in one line.
 pub fn ended_exactly<S: Source, K: Sink, F: Sink>()
-    ensures good { (format : Format) (from to : S) (old new : K) (before after : F)
-        → IsCheckRunIn format Good (effects S.Source from to (outputs K.Sink F.Sink old new before after))
-        → (tally : Tally) × (tally.refused ≡ 0)
-        × IsChecked (squitter_telling format) (Ok tally) (taken_from S.Source from to) (written_on K.Sink old new)
-        × WroteNothing (written_on F.Sink before after) }
-    ensures misused { (format : Format) (from to : S) (old new : K) (before after : F)
-        → ¬ IsCheckRunIn format Misused (effects S.Source from to (outputs K.Sink F.Sink old new before after)) }
-    ensures good_log { (options : Options) (from to : S) (old new : K) (before after : F)
-        → IsLogRun options Good (effects S.Source from to (outputs K.Sink F.Sink old new before after))
-        → (tally : Tally) × (tally.refused ≡ 0) × ((first last : Held) × StandsFor first []
-        × (settings first ≡ made_with options.limit options.window options.site)
-        × IsTracked (heard_telling options.format) (Ok tally) (taken_from S.Source from to) (written_on K.Sink old new)
-        first last) × WroteNothing (written_on F.Sink before after) }
-    ensures misused_log { (options : Options) (from to : S) (old new : K) (before after : F)
-        → ¬ IsLogRun options Misused (effects S.Source from to (outputs K.Sink F.Sink old new before after)) }
+    ensures whole { (tally : Tally) (status : Ending) (old new : K) (before after : F)
+        → EndsAs (Ok tally) status (outputs K.Sink F.Sink old new before after)
+        ↔ ((status ≡ (if tally.refused == 0 then Good else Refused)) × WroteNothing (written_on F.Sink before after)) }
+    ensures broken { (fault : RunFault) (status : Ending) (old new : K) (before after : F)
+        → EndsAs (Err fault) status (outputs K.Sink F.Sink old new before after)
+        ↔ ((status ≡ Broken)
+        × WroteOrFailed (written_on F.Sink before after) (broken_text fault ++ codes "\n")) }
+    ensures words { (broken_text Read ≡ codes "read failed") × (broken_text Write ≡ codes "write failed")
+        × (broken_text Memory ≡ codes "out of memory") }
+    ensures checked { (format : Format) (status : Ending) (from to : S) (old new : K) (before after : F)
+        → IsCheckRunIn format status (effects S.Source from to (outputs K.Sink F.Sink old new before after))
+        ↔ ((result : Result Tally RunFault)
+        × IsChecked (squitter_telling format) result (taken_from S.Source from to) (written_on K.Sink old new)
+        × EndsAs result status (outputs K.Sink F.Sink old new before after)) }
+    ensures tracked { (options : Options) (status : Ending) (from to : S) (old new : K) (before after : F)
+        → IsLogRun options status (effects S.Source from to (outputs K.Sink F.Sink old new before after))
+        ↔ ((first last : Held) × StandsFor first []
+        × (settings first ≡ made_with options.limit options.window options.site) × ((result : Result Tally RunFault)
+        × IsTracked (heard_telling options.format) result (taken_from S.Source from to) (written_on K.Sink old new)
+        first last × EndsAs result status (outputs K.Sink F.Sink old new before after))) }
 {}
 
 /// The delivery of a reply. An output was written whole and finished, with nothing reported; or its sink failed within
@@ -168,13 +209,10 @@ pub fn delivered_exactly<K: Sink, F: Sink>()
         × WroteOrFailed (written_on F.Sink before after) (line ++ codes "\n")) }
 {}
 
-/// A run that stopped early: `check` and `track` answered all lines that were read until a get failed, or the output
-/// failed within the answers, or `track` had no memory for a line. A command that reads no input left it alone. The
-/// reason was reported in one line.
-pub fn broken_exactly<S: Source, K: Sink, F: Sink>()
-    ensures check { BrokenChecks S.Source K.Sink F.Sink }
-    ensures track { BrokenLogs S.Source K.Sink F.Sink }
-    ensures aside { BrokenAside S.Source K.Sink F.Sink }
+/// A command that reads no input and stopped early left the input alone. Its output failed, and that was reported in
+/// one line.
+pub fn broken_aside_exactly<S: Source, K: Sink, F: Sink>()
+    ensures { BrokenAside S.Source K.Sink F.Sink }
 {}
 
 /// A run of `feed` is good only if all lines were written and the summary was reported. It is refused only if the input

@@ -2,17 +2,19 @@
 ghost use base.Fml.{GName};
 ghost use Rattle.std.specs.Prelude.{◌≡◌, ◌≤◌, IfOk};
 ghost use Rattle.sq_devices.specs.Changes.{TookReported, taken_from, written_on};
+ghost use Rattle.sq_lines.specs.Lines.{lines_of};
+ghost use Rattle.sq_lines.specs.Runs.{WroteAnswers};
 ghost use Rattle.sq_commands.specs.Requests.{asked_track};
 ghost use Rattle.sq_commands.specs.Formats.{Writers};
 ghost use Rattle.sq_commands.specs.Heard.{heard_lines, heard_telling};
 ghost use Rattle.sq_commands.specs.Outputs.{effects, outputs};
 ghost use Rattle.sq_commands.specs.SlowAnswers.{AreTrueAnswers};
-ghost use Rattle.sq_commands.specs.Track.{HasTracked, IsLogRun, IsTrackRun, IsTracked, hearing_manner};
-ghost use Rattle.sq_commands.specs.Tracking.{IsTimedHeard, Tracking};
+ghost use Rattle.sq_commands.specs.Track.{IsLogRun, IsTrackRun, IsTracked, hearing_manner};
+ghost use Rattle.sq_commands.specs.Tracking.{HasHeard, IsTimedHeard, Tracking};
 ghost use Rattle.sq_commands.specs.TrueAnswers.{true_answers};
 ghost use Rattle.sq_track.specs.Held.{settings};
 
-use crate::arguments::{TrackOptions, read_options};
+use crate::arguments::{ArgumentFault, TrackOptions, read_options};
 use crate::check::end_of;
 use crate::formats::{AnswerFormat, CsvRows, Format, JsonRows, Numbered};
 use crate::found::HeardSquitter;
@@ -116,8 +118,8 @@ fn hear<A: Allocator>(tracker: &mut Tracker<A>, timed: Received) -> Verdict<Hear
         Ok(heard) => Verdict::Good(HeardSquitter { timed, heard }),
         Err(TrackFault::MomentBack(last)) => Verdict::Refused(LineFault::MomentBack(last)),
         Err(TrackFault::Full) => Verdict::Refused(LineFault::Full),
-        Err(TrackFault::Memory) => Verdict::NoMemory,
-        Err(TrackFault::NoLimit) => unreachable!(),
+        // `hear` returns no `NoLimit`: that is a fault of `Tracker::new`.
+        Err(TrackFault::Memory | TrackFault::NoLimit) => Verdict::NoMemory,
     }
 }
 
@@ -137,7 +139,8 @@ pub fn run_track<S: Source, K: Sink>(
 
     // If the source reports its bytes, the answers are those to all of them.
     ensures reported { IfOk result (λ tally. TookReported (taken_from S.Source source.old source.new)
-        (HasTracked heard_lines tally (written_on K.Sink sink.old sink.new) tracker.old tracker.new)) }
+        (λ read. HasHeard heard_lines tracker.old tracker.new
+        (WroteAnswers result (written_on K.Sink sink.old sink.new)) (lines_of read))) }
 {
     run_track_as(&Numbered, source, sink, tracker)
 }
@@ -152,7 +155,8 @@ fn run_track_as<S: Source, K: Sink, F: AnswerFormat>(
     ensures ran { IsTracked (heard_telling F.chosen) result (taken_from S.Source source.old source.new)
         (written_on K.Sink sink.old sink.new) tracker.old tracker.new }
     ensures reported { IfOk result (λ tally. TookReported (taken_from S.Source source.old source.new)
-        (HasTracked (heard_telling F.chosen) tally (written_on K.Sink sink.old sink.new) tracker.old tracker.new)) }
+        (λ read. HasHeard (heard_telling F.chosen) tracker.old tracker.new
+        (WroteAnswers result (written_on K.Sink sink.old sink.new)) (lines_of read))) }
 {
     run_log(source, sink, &mut Log::new(Hearing { tracker, format }))
 }
@@ -190,7 +194,7 @@ pub(crate) fn track<S: Source, K: Sink, F: Sink>(
     }
 }
 
-// Runs `track` with options that were read.
+// Runs `track` with options that were read. A limit of 0 is a misuse.
 fn track_with<S: Source, K: Sink, F: Sink>(
     alloc: Global,
     options: &TrackOptions,
@@ -198,8 +202,7 @@ fn track_with<S: Source, K: Sink, F: Sink>(
     output: &mut K,
     faults: &mut F,
 ) -> Status
-    requires { 1 ≤ options.now.limit }
-    ensures { IsLogRun options.now result
+    ensures { 1 ≤ options.now.limit → IsLogRun options.now result
         (effects S.Source input.old input.new (outputs K.Sink F.Sink output.old output.new faults.old faults.new)) }
 {
     match Tracker::new(alloc, options.limit, options.window, options.site) {
@@ -207,6 +210,6 @@ fn track_with<S: Source, K: Sink, F: Sink>(
             Ok(tally) => end_of(tally),
             Err(fault) => break_off(fault, faults),
         },
-        Err(_) => unreachable!(),
+        Err(_) => misuse(ArgumentFault::NoLimit, output, faults),
     }
 }

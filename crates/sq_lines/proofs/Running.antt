@@ -1,26 +1,31 @@
 -- What a run has come to after one more step.
-use Rattle.std.proofs.Common.{◌≡◌, ◌+◌, ◌≤◌, ◌++◌, ◌∙◌, ℕ, List, [], ◌∷◌, None, Some, Option, Result, length}
+use Rattle.std.proofs.Common.{◌≡◌, ◌+◌, ◌≤◌, ◌++◌, ◌∙◌, ℕ, List, [], ◌∷◌, None, Some, Option, Result, Ok, Err, length}
 use Rattle.std.proofs.Common.{Bool, true, false, inl, inr}
-use Rattle.std.proofs.Common.{take, ap, sym, subst, arith, refl, append_assoc, append-nil}
+use Rattle.std.proofs.Common.{◌-◌, take, ap, sym, subst, arith, refl, append_assoc, append-nil}
 use Rattle.std.specs.List.{enumerate_from, flat_map}
-use Rattle.std.specs.Io.KnownBytes.{Appends, IsAtEnd}
+use Rattle.std.specs.Io.KnownBytes.{Appends, IsAtEnd, Keeps}
+use Rattle.std.proofs.KnownBytes.{Appends-kept}
 use Rattle.std.proofs.lemmas.List.Concat.{flat_map-append}
 use Rattle.sq_devices.specs.Calls.{HasPut}
-use Rattle.sq_devices.specs.Changes.{Taken}
+use Rattle.sq_devices.specs.Changes.{Taken, TookReported, Written, written_on}
+use Rattle.sq_devices.proofs.Ends.{took_reported}
 use Rattle.sq_devices.specs.Device.{AppendsOrHides, IsPrefixOf, KeepsOrHides, WroteFront}
 use Rattle.sq_devices.specs.declared.device.Sink.{Ghosts as SinkGhosts}
 use Rattle.sq_devices.proofs.Puts.{Appends-hidden, HasPut-trans}
 use Rattle.sq_text.specs.declared.faults.LineFault.{LineFault}
-use Rattle.sq_lines.specs.Answers.{Answerer, Manner, WantsAt, answer_text, answers_to, output_of, tally_of, texts_of}
+use Rattle.sq_lines.specs.Answers.{Manner, answer_text, answers_to, tally_of, texts_of}
 use Rattle.sq_lines.specs.Content.{Answer}
-use Rattle.sq_lines.specs.Lines.{HasNoFeed, but_last, closed, ended_lines, lines_of, with_next}
-use Rattle.sq_lines.specs.Logs.{AreAnswers, HasHeard, IsUpToDate, told_from}
-use Rattle.sq_lines.specs.Runs.{HasTold, IsPumped, OfLines, StoppedAtMemory, StoppedAtWrite, Texts, fed, told_text}
+use Rattle.sq_lines.specs.Lines.{HasNoFeed, ended_lines, lines_of}
+use Rattle.sq_lines.specs.Logs.{AreAnswers, HasHeard, told_from}
+use Rattle.sq_lines.specs.Runs.{AreAnswered, HasRun, HasTold, HasToldBy, IsPumped, OfLines, Texts, WroteIntoLast}
+use Rattle.sq_lines.specs.Runs.{fed, told_in, told_text}
+use Rattle.sq_lines.specs.declared.faults.RunFault.{RunFault}
+use Rattle.sq_lines.specs.declared.faults.RunFault.TheVariants.{Read, Write, Memory}
 use Rattle.sq_lines.specs.declared.log.Answer.{Answer as Told}
 use Rattle.sq_lines.specs.declared.log.Log.{Log}
 use Rattle.sq_lines.specs.declared.tallies.Tally.{Tally}
-use Rattle.sq_lines.proofs.Tallying.{but_last-push, output_but_last, output_none}
-use Rattle.sq_lines.proofs.Windows.{ended_lines-closed, passed_all}
+use Rattle.sq_lines.proofs.Tallying.{answers_but_last, texts_none, texts_prefix}
+use Rattle.sq_lines.proofs.Windows.{ended_lines-closed}
 
 -- ---- fronts
 
@@ -30,9 +35,6 @@ AppendsOrHides-after None b c bs cs p q = tt
 AppendsOrHides-after (Some x) None c bs cs p q = absurd p
 AppendsOrHides-after (Some x) (Some y) None bs cs p q = tt
 AppendsOrHides-after (Some x) (Some y) (Some z) bs cs p q = q ∙ ap (λ l. l ++ cs) p ∙ append_assoc x bs cs
-
-pub prefix_trans : {X : Type 0} (xs ys zs : List X) → IsPrefixOf xs ys → IsPrefixOf ys zs → IsPrefixOf xs zs
-prefix_trans xs ys zs p q = (p.0 ++ q.0, q.1 ∙ ap (λ l. l ++ q.0) p.1 ∙ append_assoc xs p.0 q.0)
 
 -- a longer text begins as the shorter one, behind a header too
 pub prefix_behind : (header xs ys : List ℕ) → IsPrefixOf xs ys → IsPrefixOf (header ++ xs) (header ++ ys)
@@ -47,12 +49,11 @@ texts_from text n [] = refl
 texts_from text n (None ∷ answers) = texts_from text (n + 1) answers
 texts_from text n (Some verdict ∷ answers) = ap (λ l. text n verdict ++ l) (texts_from text (n + 1) answers)
 
--- the texts of the answers to these lines are the output for them
-told_output : {Past Found : Type 0} (text : ℕ → Result Found LineFault → List ℕ) (way : Answerer Past Found)
-    (past : Past) (lines : List (List ℕ))
-    → told_text text (told_from 1 (answers_to way past lines)) ≡ output_of text way past lines
+-- answers with their numbers have the texts of the answers
+told_texts : {Found : Type 0} (text : ℕ → Result Found LineFault → List ℕ) (answers : List (Answer Found))
+    → told_text text (told_from 1 answers) ≡ texts_of text answers
 unfolding texts_of
-told_output text way past lines = texts_from text 1 (answers_to way past lines)
+told_texts text answers = texts_from text 1 answers
 
 text_push : {Found : Type 0} (text : ℕ → Result Found LineFault → List ℕ) (answers : List (Told Found))
     (answer : Told Found)
@@ -114,157 +115,151 @@ module _ {State Past Found Writing : Type 0} (how : Manner State Past Found) (te
         (HasPut-trans k first a b _ _ (h.put writing) (put writing));
   }
 
-  -- the answers were told, and their texts put
-  told_put : (now : State) (tally : Tally) (lines : List (List ℕ)) (answers : List (Told Found))
-      (Wrote : List ℕ → Type 0) → ((writing : Writing) → Wrote (told_text (text writing) answers))
-      → AreAnswers how start now tally lines answers → HasTold how text start now Wrote lines
-  told_put now tally lines answers Wrote put told past writing st =
-      let one = told past st in (
-        one.0,
-        subst Wrote (ap (told_text (text writing)) one.1 ∙ told_output (text writing) how.way past lines) (put writing),
-      )
-
   -- ---- behind a header
 
   module _ (header : List ℕ) (before : K) (headed : HasPut k before first header) where
-    -- the text was put behind the header
-    abbrev pub Behind : K → List ℕ → Type 0
-    Behind sink text = HasPut k before sink (header ++ text)
+    -- the header and the texts of these answers were put
+    abbrev pub Behind : K → Writing → List (Answer Found) → Type 0
+    Behind sink writing answers = HasPut k before sink (told_in header text writing answers)
 
-    behind : (sink : K) (text : List ℕ) → HasPut k first sink text → Behind sink text
-    behind sink text put = HasPut-trans k before first sink header text headed put
+    -- the same, and they were counted
+    abbrev pub Counted : K → Tally → Writing → List (Answer Found) → Type 0
+    Counted sink tally writing answers = Behind sink writing answers × (tally ≡ tally_of answers)
 
-    -- there was no memory for the next line
-    pub pumped_memory : (sink : K) (old : Log State) (now : State) (tally : Tally) (given : List ℕ)
-        (complete : List (List ℕ)) (h : IsPumped how text start k first sink old given)
-        → (next : List ℕ) × IsPrefixOf (with_next h.lines next) complete × WantsAt how now next
-        × AreAnswers how start now tally h.lines h.answers
-        → StoppedAtMemory how text start now
-        (λ output. Appends (k.written before) (k.written sink) (header ++ output)) complete
-    pumped_memory sink old now tally given complete h stop = (
-      h.lines,
-      stop.0,
-      stop.1,
-      stop.2,
-      told_put now tally h.lines h.answers
-          (λ text. Appends (k.written before) (k.written sink) (header ++ text))
-          (λ writing. (behind sink _ (h.put writing)).0) stop.3,
-    )
+    -- answers were told and counted, and their texts put
+    pub told_behind : (sink : K) (now : State) (tally : Tally) (lines : List (List ℕ)) (answers : List (Told Found))
+        → ((writing : Writing) → HasPut k first sink (told_text (text writing) answers))
+        → AreAnswers how start now tally lines answers → HasTold how start now (Counted sink tally) lines
+    told_behind sink now tally lines answers put told past writing st =
+        let one = told past st in
+        let words = text writing in
+        let same : told_text words answers ≡ texts_of words (answers_to how.way past lines) =
+        ap (told_text words) one.1 ∙ told_texts words (answers_to how.way past lines) in
+        let put_all = HasPut-trans k before first sink header (told_text words answers) headed (put writing) in
+        (one.0, (subst (λ all. HasPut k before sink (header ++ all)) same put_all, one.2))
 
-    -- the answer was not put, or in part
-    pub pumped_write : (a b : K) (old new : Log State) (given next : List ℕ) (answer : Told Found)
-        (complete : List (List ℕ)) (h : IsPumped how text start k first a old given)
-        (on : (line : List ℕ) × HasHeard how start new next (h.lines ++ line ∷ []) (h.answers ++ answer ∷ []))
-        → IsPrefixOf (h.lines ++ on.0 ∷ []) complete
-        → ((writing : Writing) → WroteFront (k.written a) (k.written b) (text writing answer.number answer.verdict))
-        → StoppedAtWrite header how text start new.job (k.written before) (k.written b) complete
-    pumped_write a b old new given next answer complete h on prefix part = (
-      h.lines ++ on.0 ∷ [],
-      prefix,
-      λ past writing st.
-          let words = text writing in
-          let one : List ℕ = words answer.number answer.verdict in
-          let told = h.heard.told past st in
-          let after = on.1.told past st in
-          let front = part writing in
-          let done : List ℕ = told_text words h.answers in
-          let done_is : done ≡ output_of words how.way past h.lines =
-          ap (told_text words) told.1 ∙ told_output words how.way past h.lines in
-          let all_is : output_of words how.way past (h.lines ++ on.0 ∷ []) ≡ done ++ one =
-          sym (told_output words how.way past (h.lines ++ on.0 ∷ [])) ∙ sym (ap (told_text words) after.1)
-          ∙ text_push words h.answers answer in (
-            after.0,
-            (
-              (header ++ done) ++ front.0,
-              λ some. (
-                front.0,
-                ap (λ l. (header ++ l) ++ front.0) (done_is
-                    ∙ ap (output_of words how.way past) (sym (but_last-push h.lines on.0))),
-              ),
-              (
-                front.1.0,
-                ap (λ l. header ++ l) all_is ∙ sym (append_assoc header done one)
-                    ∙ ap (λ l. (header ++ done) ++ l) front.1.1
-                    ∙ sym (append_assoc (header ++ done) front.0 front.1.0),
-              ),
-              AppendsOrHides-after (k.written before) (k.written a) (k.written b) (header ++ done) front.0
-                  (behind a done (h.put writing)).0 front.2,
-            ),
+    -- the run ended there: the texts were written
+    pub told_wrote : (sink : K) (now : State) (tally : Tally) (lines : List (List ℕ))
+        → HasTold how start now (Counted sink tally) lines
+        → HasToldBy header text how start now (Err Read) (written_on k before sink) lines
+    told_wrote sink now tally lines told past writing st =
+        let one = told past writing st in (one.0, one.1.0.0)
+
+    -- the sink was finished behind the texts
+    pub told_sent : (a b : K) (now : State) (tally : Tally) (lines : List (List ℕ)) → Keeps (k.written a) (k.written b)
+        → k.Finished a b → HasTold how start now (Counted a tally) lines
+        → HasToldBy header text how start now (Ok tally) (written_on k before b) lines
+    told_sent a b now tally lines keeps finished told past writing st =
+        let one = told past writing st in
+        let all : List ℕ = told_in header text writing (answers_to how.way past lines) in (
+          one.0,
+          (
+            (Appends-kept (k.written before) (k.written a) (k.written b) all one.1.0.0 keeps, (a, one.1.0, finished)),
+            one.1.1,
           ),
-    )
-
-    -- all lines were told that line feeds end
-    pub pumped_ended : (sink : K) (log : Log State) (read : List ℕ) → IsPumped how text start k first sink log read
-        → IsUpToDate log → HasTold how text start log.job (Behind sink) (ended_lines read)
-    pumped_ended sink log read h up =
-        subst (HasTold how text start log.job (Behind sink))
-        (passed_all log.window.line log.window.waiting read h.lines h.heard.kept up)
-        (told_put log.job log.tally h.lines h.answers (Behind sink) (λ writing. behind sink _ (h.put writing))
-        h.heard.told)
-
-    -- and the last part too
-    pub pumped_all : (sink : K) (log : Log State) (read : List ℕ)
-        → IsPumped how text start k first sink log (closed read) → IsUpToDate log
-        → HasTold how text start log.job (Behind sink) (lines_of read)
-        × ((past : Past) → how.stands_for start past → log.tally ≡ tally_of (answers_to how.way past (lines_of read)))
-    pumped_all sink log read h up =
-        let same = passed_all log.window.line log.window.waiting (closed read) h.lines h.heard.kept up
-        ∙ ended_lines-closed read in (
-          subst (HasTold how text start log.job (Behind sink)) same
-              (told_put log.job log.tally h.lines h.answers (Behind sink) (λ writing. behind sink _ (h.put writing))
-              h.heard.told),
-          λ past st. (h.heard.told past st).2
-              ∙ ap (λ (ls : List (List ℕ)). tally_of (answers_to how.way past ls)) same,
         )
 
-    -- all was written, and then the sink failed
-    pub told_unfinished : (now : State) (a b : K) (lines : List (List ℕ)) → HasTold how text start now (Behind a) lines
-        → KeepsOrHides (k.written a) (k.written b)
-        → StoppedAtWrite header how text start now (k.written before) (k.written b) lines
-    told_unfinished now a b lines told kept = (
-      lines,
-      ([], sym (append-nil lines)),
-      λ past writing st.
-          let one = told past writing st in
-          let words = text writing in
-          let output : List ℕ = output_of words how.way past lines in (
-            one.0,
+    -- the answer was not put, or in part
+    pub told_part : (a b : K) (old new : Log State) (given next : List ℕ) (answer : Told Found)
+        (h : IsPumped how text start k first a old given)
+        (on : (line : List ℕ) × HasHeard how start new next (h.lines ++ line ∷ []) (h.answers ++ answer ∷ []))
+        → ((writing : Writing) → WroteFront (k.written a) (k.written b) (text writing answer.number answer.verdict))
+        → HasTold how start new.job (λ writing. WroteIntoLast (written_on k before b) (told_in header text writing))
+        (h.lines ++ on.0 ∷ [])
+    told_part a b old new given next answer h on part past writing st =
+        let words = text writing in
+        let one : List ℕ = words answer.number answer.verdict in
+        let told = h.heard.told past st in
+        let after = on.1.told past st in
+        let front = part writing in
+        let done : List ℕ = told_text words h.answers in
+        let answers : List (Answer Found) = answers_to how.way past (h.lines ++ on.0 ∷ []) in
+        let done_is : texts_of words (take (length answers - 1) answers) ≡ done =
+        ap (texts_of words) (answers_but_last how.way past h.lines on.0)
+        ∙ sym (told_texts words (answers_to how.way past h.lines)) ∙ sym (ap (told_text words) told.1) in
+        let all_is : texts_of words answers ≡ done ++ one =
+        sym (told_texts words answers) ∙ sym (ap (told_text words) after.1) ∙ text_push words h.answers answer in
+        let put = HasPut-trans k before first a header done headed (h.put writing) in (
+          after.0,
+          (
+            (header ++ done) ++ front.0,
+            λ some. (front.0, ap (λ l. (header ++ l) ++ front.0) (sym done_is)),
             (
-              header ++ output,
-              λ some. prefix_behind header (output_of words how.way past (but_last lines)) output
-                  (output_but_last words how.way past lines),
-              ([], sym (append-nil (header ++ output))),
-              Appends-hidden (k.written before) (k.written a) (k.written b) (header ++ output) one.1.0 kept,
+              front.1.0,
+              ap (λ l. header ++ l) all_is ∙ sym (append_assoc header done one)
+                  ∙ ap (λ l. (header ++ done) ++ l) front.1.1
+                  ∙ sym (append_assoc (header ++ done) front.0 front.1.0),
             ),
+            AppendsOrHides-after (k.written before) (k.written a) (k.written b) (header ++ done) front.0 put.0 front.2,
           ),
-    )
+        )
+
+    -- all was put, and then the sink failed
+    pub told_unfinished : (a b : K) (now : State) (tally : Tally) (lines : List (List ℕ))
+        → KeepsOrHides (k.written a) (k.written b) → HasTold how start now (Counted a tally) lines
+        → HasTold how start now (λ writing. WroteIntoLast (written_on k before b) (told_in header text writing)) lines
+    told_unfinished a b now tally lines kept told past writing st =
+        let one = told past writing st in
+        let words = text writing in
+        let answers : List (Answer Found) = answers_to how.way past lines in
+        let all : List ℕ = header ++ texts_of words answers in (
+          one.0,
+          (
+            all,
+            λ some. prefix_behind header (texts_of words (take (length answers - 1) answers)) (texts_of words answers)
+                (texts_prefix words (length answers - 1) answers),
+            ([], sym (append-nil all)),
+            Appends-hidden (k.written before) (k.written a) (k.written b) all one.1.0.0 kept,
+          ),
+        )
 
 -- the header was not put, or in part
-pub stopped_in_header : {State Past Found Writing : Type 0} (how : Manner State Past Found)
-    (text : Texts Writing Found) (start : State) (header : List ℕ) (before after : Option (List ℕ))
-    (complete : List (List ℕ)) → WroteFront before after header
-    → StoppedAtWrite header how text start start before after complete
-stopped_in_header how text start header before after complete front = (
-  [],
-  (complete, refl),
-  λ past writing st. (
-    st,
+pub told_header : {State Past Found Writing : Type 0} (how : Manner State Past Found) (text : Texts Writing Found)
+    (start : State) (header : List ℕ) (output : Written) → WroteFront output.before output.after header
+    → HasTold how start start (λ writing. WroteIntoLast output (told_in header text writing)) []
+told_header how text start header output front past writing st = (
+  st,
+  (
+    front.0,
+    λ some. absurd (omega (arith, some)),
     (
-      front.0,
-      λ some. absurd (omega (arith, some)),
-      (
-        front.1.0,
-        ap (λ l. header ++ l) (output_none (text writing) how.way past) ∙ append-nil header ∙ front.1.1,
-      ),
-      front.2,
+      front.1.0,
+      ap (λ l. header ++ l) (texts_none (text writing)) ∙ append-nil header ∙ front.1.1,
     ),
+    front.2,
   ),
 )
 
--- what was done with the output, said in other words
-pub told_as : {State Past Found Writing : Type 0} (how : Manner State Past Found) (text : Texts Writing Found)
-    (start now : State) (Wrote Writes : List ℕ → Type 0) (lines : List (List ℕ))
-    → ((output : List ℕ) → Wrote output → Writes output)
-    → HasTold how text start now Wrote lines → HasTold how text start now Writes lines
-told_as how text start now Wrote Writes lines turn told =
-    λ past writing st. let one = told past writing st in (one.0, turn _ one.1)
+-- ---- the result of a run
+
+-- answered lines, where the wants of a line are said in other words
+answered_as : (Wants Then : List ℕ → Type 0) → ((line : List ℕ) → Wants line → Then line)
+    → (result : Result Tally RunFault) (input : Taken) (lines : List (List ℕ)) → AreAnswered Wants result input lines
+    → AreAnswered Then result input lines
+answered_as Wants Then turn (Ok tally) input lines is = is
+answered_as Wants Then turn (Err Read) input lines is = is
+answered_as Wants Then turn (Err Write) input lines is = is
+answered_as Wants Then turn (Err Memory) input lines (read, consumed, few, is) = (
+  read,
+  consumed,
+  few,
+  elim is [
+    | inl ended ↦ inl (ended.0, ended.1, turn ended.0 ended.2)
+    | inr last ↦ inr (last.0, (last.1.0, last.1.1, turn last.1.0 last.1.2))
+  ],
+)
+
+-- the result of a run, said in other words
+pub run_as : (Wants Then : List ℕ → Type 0) (Answered Says : List (List ℕ) → Type 0)
+    → ((line : List ℕ) → Wants line → Then line) → ((lines : List (List ℕ)) → Answered lines → Says lines)
+    → (result : Result Tally RunFault) (input : Taken) (output : Written)
+    → HasRun Wants Answered result input output → HasRun Then Says result input output
+run_as Wants Then Answered Says wants says result input output (closed_by, (lines, answered, is)) =
+    (closed_by, (lines, answered_as Wants Then wants result input lines answered, says lines is))
+
+-- if the source reports its bytes, all lines of these were answered
+pub run_reported : (Wants : List ℕ → Type 0) (Answered : List (List ℕ) → Type 0) (tally : Tally) (input : Taken)
+    (output : Written) → HasRun Wants Answered (Ok tally) input output
+    → TookReported input (λ read. Answered (lines_of read))
+run_reported Wants Answered tally input output (closed_by, (lines, (pieces, got, consumed, end, all), is)) =
+    took_reported input (λ read. Answered (lines_of read)) (pieces, got, consumed, end, subst Answered all is)

@@ -8,10 +8,9 @@ use Rattle.std.proofs.lemmas.List.{take_at, length_push}
 use Rattle.std.proofs.lemmas.List.Concat.{flat_map-append}
 use Rattle.std.proofs.lemmas.List.Sums.{sum_by_push}
 use Rattle.sq_devices.specs.Device.{IsPrefixOf}
-use Rattle.sq_lines.specs.Answers.{Answerer, after_line, answer_line, past_after, answers_to, answer_text, output_of}
+use Rattle.sq_lines.specs.Answers.{Answerer, after_line, answer_line, past_after, answers_to, answer_text}
 use Rattle.sq_lines.specs.Answers.{texts_of, tally_of, is_good, is_refused, noted}
 use Rattle.sq_lines.specs.Content.{Answer}
-use Rattle.sq_lines.specs.Lines.{but_last}
 use Rattle.sq_lines.specs.declared.tallies.Tally.{Tally}
 
 pub answers_append : {Past Found : Type 0} (way : Answerer Past Found) (past : Past) (xs ys : List (List ℕ))
@@ -42,42 +41,34 @@ enumerate_from_append n (x ∷ xs) ys =
 abbrev texts_from : {Found : Type 0} → (ℕ → Result Found LineFault → List ℕ) → ℕ → List (Answer Found) → List ℕ
 texts_from text n answers = flat_map (λ entry. answer_text text entry.0 entry.1) (enumerate_from n answers)
 
-module _ {Past Found : Type 0} (text : ℕ → Result Found LineFault → List ℕ) (way : Answerer Past Found) (past : Past)
-  where
-    output_append : (xs ys : List (List ℕ)) → output_of text way past (xs ++ ys) ≡ output_of text way past xs
-        ++ texts_from text (length xs + 1) (answers_to way (past_after way past xs) ys)
-    unfolding texts_of
-    output_append xs ys =
-        let told : ℕ × Answer Found → List ℕ = λ entry. answer_text text entry.0 entry.1 in
-        let first = answers_to way past xs in
-        let more = answers_to way (past_after way past xs) ys in
-        let e : 1 + length first ≡ length xs + 1 = omega (arith, length_answers way past xs) in
-        ap (λ answers. flat_map told (enumerate_from 1 answers)) (answers_append way past xs ys)
-        ∙ ap (flat_map told) (enumerate_from_append 1 first more)
-        ∙ flat_map-append told (enumerate_from 1 first) (enumerate_from (1 + length first) more)
-        ∙ ap (λ (n : ℕ). flat_map told (enumerate_from 1 first) ++ flat_map told (enumerate_from n more)) e
-
-    -- more lines leave the output for the first ones as it is
-    pub output_prefix : (lines more : List (List ℕ)) → IsPrefixOf lines more
-        → IsPrefixOf (output_of text way past lines) (output_of text way past more)
-    output_prefix lines more first = (
-      texts_from text (length lines + 1) (answers_to way (past_after way past lines) first.0),
-      ap (output_of text way past) first.1 ∙ output_append lines first.0,
+-- more answers leave the texts of the first ones unchanged
+pub texts_prefix : {Found : Type 0} (text : ℕ → Result Found LineFault → List ℕ) (n : ℕ) (answers : List (Answer Found))
+    → IsPrefixOf (texts_of text (take n answers)) (texts_of text answers)
+unfolding texts_of
+texts_prefix text n answers =
+    let told : ℕ × Answer _ → List ℕ = λ entry. answer_text text entry.0 entry.1 in
+    let first = take n answers in
+    let more = drop n answers in (
+      texts_from text (1 + length first) more,
+      ap (λ all. flat_map told (enumerate_from 1 all)) (sym (take-append-drop n answers))
+          ∙ ap (flat_map told) (enumerate_from_append 1 first more)
+          ∙ flat_map-append told (enumerate_from 1 first) (enumerate_from (1 + length first) more),
     )
 
-    pub output_none : output_of text way past [] ≡ []
-    unfolding texts_of
-    output_none = refl
+pub texts_none : {Found : Type 0} (text : ℕ → Result Found LineFault → List ℕ) → texts_of text [] ≡ []
+unfolding texts_of
+texts_none text = refl
 
-    pub output_but_last : (lines : List (List ℕ))
-        → IsPrefixOf (output_of text way past (but_last lines)) (output_of text way past lines)
-    output_but_last lines =
-        let n = length lines - 1 in output_prefix (take n lines) lines
-        (drop n lines, sym (take-append-drop n lines))
-
-pub but_last-push : (lines : List (List ℕ)) (line : List ℕ) → but_last (lines ++ line ∷ []) ≡ lines
-but_last-push lines line = take_at lines (line ∷ []) (length (lines ++ line ∷ []) - 1)
-    (omega (arith, length_push lines line))
+-- the answers to all lines but the last
+pub answers_but_last : {Past Found : Type 0} (way : Answerer Past Found) (past : Past) (lines : List (List ℕ))
+    (line : List ℕ)
+    → (let answers = answers_to way past (lines ++ line ∷ []) in
+    take (length answers - 1) answers ≡ answers_to way past lines)
+answers_but_last way past lines line =
+    let first = answers_to way past lines in
+    let last = answer_line way (past_after way past lines) line in
+    ap (λ answers. take (length answers - 1) answers) (answers_append way past lines (line ∷ []))
+    ∙ take_at first (last ∷ []) (length (first ++ last ∷ []) - 1) (omega (arith, length_push first last))
 
 pub tally_nothing : {Past Found : Type 0} (way : Answerer Past Found) (past : Past)
     → tally_of (answers_to way past []) ≡ record { good = 0; refused = 0 }

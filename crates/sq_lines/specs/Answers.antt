@@ -54,11 +54,6 @@ answer_text text number (Some verdict) = text number verdict
 unfoldable pub texts_of : {Found : Type 0} → (ℕ → Result Found LineFault → List ℕ) → List (Answer Found) → List ℕ
 texts_of text answers = flat_map (λ entry. answer_text text entry.0 entry.1) (enumerate_from 1 answers)
 
--- the output for these lines, if verdicts are written in this way
-abbrev pub output_of : {Past Found : Type 0} → (ℕ → Result Found LineFault → List ℕ) → Answerer Past Found → Past
-    → List (List ℕ) → List ℕ
-output_of text way past lines = texts_of text (answers_to way past lines)
-
 abbrev pub is_good : {Found : Type 0} → Answer Found → Bool
 is_good (Some (Ok found)) = true
 is_good (Some (Err fault)) = false

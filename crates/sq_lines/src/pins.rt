@@ -1,9 +1,9 @@
 //! Guards of the definitions: each has one value, some value or an exact condition, so none can be weakened unnoticed.
 //! A function with an empty body does nothing: its contract is the statement.
 ghost use Rattle.std.specs.Prelude.{◌≡◌, ◌↔◌, ◌⊎◌, ◌++◌, ◌+◌, ◌-◌, ◌*◌, ◌<◌, ◌≤◌, ◌∷◌, [], List, ℕ, IsTrue, Ok, Err};
-ghost use Rattle.std.specs.Prelude.{None, Option, Result, Some, length, take};
+ghost use Rattle.std.specs.Prelude.{None, Result, Some, length, take, true};
 ghost use Rattle.std.specs.Io.KnownBytes.{IsAtEnd};
-ghost use Rattle.sq_devices.specs.Changes.{taken_from};
+ghost use Rattle.sq_devices.specs.Changes.{Sent, TookAll, TookPart, TookSome, Wrote, taken_from, written_on};
 ghost use Rattle.sq_devices.specs.Device.{AppendsOrHides, IsPrefixOf};
 ghost use Rattle.sq_text.specs.declared.faults.LineFault.{LineFault as Fault};
 ghost use Rattle.sq_lines.specs.declared.job.Verdict.TheVariants.{Good, NoMemory, Refused};
@@ -12,22 +12,24 @@ ghost use Rattle.sq_lines.specs.declared.log.Log.{Log};
 ghost use Rattle.sq_lines.specs.declared.log.Step.TheVariants.{Answered, Fed, Passed};
 ghost use Rattle.sq_lines.specs.declared.log.Step.TheVariants as steps;
 ghost use Rattle.sq_lines.specs.declared.tallies.Tally.{Tally as Counts};
-ghost use Rattle.sq_lines.specs.Answers.{WantsAt, answers_to, output_of, past_after, tally_of};
-ghost use Rattle.sq_lines.specs.Content.{Empty, Long, Text, content};
+ghost use Rattle.sq_lines.specs.Answers.{WantsAt, answers_to, past_after, tally_of, texts_of};
+ghost use Rattle.sq_lines.specs.Content.{Answer as LineAnswer, Empty, Long, Text, content};
 ghost use Rattle.sq_lines.specs.Hearings.{IsHeard};
 ghost use Rattle.sq_lines.specs.Held.{IsHeldAs, KeepsRest, count_through, has_feed};
 ghost use Rattle.sq_lines.specs.Lines.{Cuts, HasNoFeed, closed, ended_lines, lines_of};
 ghost use Rattle.sq_lines.specs.Logs.{AreAnswers, HasHeard, IfAnswered, IsProgress, IsStep, IsWithin};
 ghost use Rattle.sq_lines.specs.Logs.{told_from};
 ghost use Rattle.sq_lines.specs.Pieces.{IsTake};
-ghost use Rattle.sq_lines.specs.Runs.{HasRun, HasTold, HasToldPart, OfLines, StoppedAtMemory, StoppedAtWrite};
+ghost use Rattle.sq_lines.specs.Runs.{AreAnswered, HasTold, IsClosedBy, IsRun, OfLines, WroteAnswers, told_in};
+ghost use Rattle.sq_lines.specs.declared.faults.RunFault.{RunFault as Stop};
+ghost use Rattle.sq_lines.specs.declared.faults.RunFault.TheVariants.{Memory, Read, Write};
 
 use crate::cutter::Cutter;
 use crate::faults::RunFault;
 use crate::job::Job;
 use crate::tallies::Tally;
 use crate::telling::Telling;
-use sq_devices::Source;
+use sq_devices::{Sink, Source};
 
 /// Takes a piece once, as in the law on pieces. Returns how many bytes it took, and whether a line is complete.
 pub fn one_take(cutter: &mut Cutter, piece: &[u8]) -> (usize, bool)
@@ -135,40 +137,78 @@ pub fn closed_in_numbers()
     ensures unended { closed (10 ∷ 65 ∷ []) ≡ 10 ∷ 65 ∷ 10 ∷ [] }
 {}
 
-/// The result of a run: for each past that the job represented, it now represents the past after the lines, and this
-/// output was written; the tally counts their answers. If the sink failed, a prefix was written that ends within the
-/// last text, or within the header.
+/// Lines were told: for each past that the job represented, it now represents the past after these lines. The text of
+/// their answers follows the header.
 pub fn told_exactly<J: Telling>()
-    ensures told { (start now : J) (written : List ℕ) (lines : List (List ℕ))
-        → HasTold J.how J.text start now (λ text. text ≡ written) lines
+    ensures told { (start now : J) (told : List ℕ) (lines : List (List ℕ))
+        → HasTold J.how start now (λ writing answers. told_in J.front J.text writing answers ≡ told) lines
         ↔ ((past : J.Past) (writing : J.Writing) → J.how.stands_for start past
         → J.how.stands_for now (past_after J.how.way past lines)
-        × (output_of (J.text writing) J.how.way past lines ≡ written)) }
-    ensures run { (start now : J) (written input : List ℕ) (tally : Counts)
-        → HasRun J.how J.text start now (λ text. text ≡ written) tally input
-        ↔ (HasTold J.how J.text start now (λ text. text ≡ written) (lines_of input)
-        × ((past : J.Past) → J.how.stands_for start past
-        → tally ≡ tally_of (answers_to J.how.way past (lines_of input)))) }
-    ensures part { (header : List ℕ) (start now : J) (before after : Option (List ℕ)) (lines : List (List ℕ))
-        → HasToldPart header J.how J.text start now before after lines
-        ↔ ((past : J.Past) (writing : J.Writing) → J.how.stands_for start past
-        → J.how.stands_for now (past_after J.how.way past lines) × ((part : List ℕ)
-        × (1 ≤ length lines
-        → IsPrefixOf (header ++ output_of (J.text writing) J.how.way past (take (length lines - 1) lines)) part)
-        × IsPrefixOf part (header ++ output_of (J.text writing) J.how.way past lines)
-        × AppendsOrHides before after part)) }
+        × (J.front ++ texts_of (J.text writing) (answers_to J.how.way past lines) ≡ told)) }
 {}
 
-/// Where a run stopped: within the text of the last heard line, or before a line that may need memory.
-pub fn stopped_exactly<J: Telling>()
-    ensures write { (header : List ℕ) (start now : J) (before after : Option (List ℕ)) (complete : List (List ℕ))
-        → StoppedAtWrite header J.how J.text start now before after complete
-        ↔ ((lines : List (List ℕ)) × IsPrefixOf lines complete
-        × HasToldPart header J.how J.text start now before after lines) }
-    ensures memory { (start now : J) (written : List ℕ) (complete : List (List ℕ))
-        → StoppedAtMemory J.how J.text start now (λ text. text ≡ written) complete
-        ↔ ((lines : List (List ℕ)) × (next : List ℕ) × IsPrefixOf (lines ++ next ∷ []) complete
-        × WantsAt J.how now next × HasTold J.how J.text start now (λ text. text ≡ written) lines) }
+/// The lines that a run answered. At the end of the input: all. After a failed get: those that were read whole. After a
+/// failed put: the first of those that were read. Without memory: those before a line that may need some.
+pub fn answered_lines_exactly<S: Source>()
+    ensures whole { (tally : Counts) (from to : S) (wanted : List ℕ) (lines : List (List ℕ))
+        → AreAnswered (λ line. line ≡ wanted) (Ok tally) (taken_from S.Source from to) lines
+        ↔ TookAll (taken_from S.Source from to) (λ read. lines ≡ lines_of read) }
+    ensures unread { (from to : S) (wanted : List ℕ) (lines : List (List ℕ))
+        → AreAnswered (λ line. line ≡ wanted) (Err Read) (taken_from S.Source from to) lines
+        ↔ TookPart (taken_from S.Source from to) (λ read. lines ≡ ended_lines read) }
+    ensures unwritten { (from to : S) (wanted : List ℕ) (lines : List (List ℕ))
+        → AreAnswered (λ line. line ≡ wanted) (Err Write) (taken_from S.Source from to) lines
+        ↔ TookSome (taken_from S.Source from to) (λ read. IsPrefixOf lines (ended_lines read)
+        ⊎ (IsAtEnd (S.to_come to) × IsPrefixOf lines (lines_of read))) }
+    ensures unheard { (from to : S) (wanted : List ℕ) (lines : List (List ℕ))
+        → AreAnswered (λ line. line ≡ wanted) (Err Memory) (taken_from S.Source from to) lines
+        ↔ TookSome (taken_from S.Source from to)
+        (λ read. ((next : List ℕ) × IsPrefixOf (lines ++ next ∷ []) (ended_lines read) × (next ≡ wanted))
+        ⊎ (IsAtEnd (S.to_come to)
+        × ((next : List ℕ) × IsPrefixOf (lines ++ next ∷ []) (lines_of read) × (next ≡ wanted)))) }
+{}
+
+/// A run finished its sink once if it came to the end of the input, and else never. At a write fault the sink failed.
+pub fn closed_by_exactly<K: Sink>()
+    ensures whole { (tally : Counts) (old new : K)
+        → IsClosedBy (Ok tally) (written_on K.Sink old new) ↔ (K.finishes new ≡ K.finishes old + 1) }
+    ensures unread { (old new : K)
+        → IsClosedBy (Err Read) (written_on K.Sink old new) ↔ (K.finishes new ≡ K.finishes old) }
+    ensures unwritten { (old new : K) → IsClosedBy (Err Write) (written_on K.Sink old new)
+        ↔ ((K.has_failed new ≡ true) × (K.finishes new ≡ K.finishes old)) }
+    ensures unheard { (old new : K)
+        → IsClosedBy (Err Memory) (written_on K.Sink old new) ↔ (K.finishes new ≡ K.finishes old) }
+{}
+
+/// What a run wrote of the text of its answers: all of it, and at the end of the input the tally counts them. At a
+/// write fault: a prefix that ends within the last answer's text, or within the header if there is no answer.
+pub fn wrote_exactly<K: Sink, J: Telling>()
+    ensures whole { (tally : Counts) (old new : K) (writing : J.Writing) (answers : List (LineAnswer J.Found))
+        → WroteAnswers (Ok tally) (written_on K.Sink old new) (told_in J.front J.text writing) answers
+        ↔ (Sent (written_on K.Sink old new) (told_in J.front J.text writing answers)
+        × (tally ≡ tally_of answers)) }
+    ensures unread { (old new : K) (writing : J.Writing) (answers : List (LineAnswer J.Found))
+        → WroteAnswers (Err Read) (written_on K.Sink old new) (told_in J.front J.text writing) answers
+        ↔ Wrote (written_on K.Sink old new) (told_in J.front J.text writing answers) }
+    ensures unwritten { (old new : K) (writing : J.Writing) (answers : List (LineAnswer J.Found))
+        → WroteAnswers (Err Write) (written_on K.Sink old new) (told_in J.front J.text writing) answers
+        ↔ ((part : List ℕ) × (1 ≤ length answers
+        → IsPrefixOf (told_in J.front J.text writing (take (length answers - 1) answers)) part)
+        × IsPrefixOf part (told_in J.front J.text writing answers)
+        × AppendsOrHides (K.written old) (K.written new) part) }
+    ensures unheard { (old new : K) (writing : J.Writing) (answers : List (LineAnswer J.Found))
+        → WroteAnswers (Err Memory) (written_on K.Sink old new) (told_in J.front J.text writing) answers
+        ↔ Wrote (written_on K.Sink old new) (told_in J.front J.text writing answers) }
+{}
+
+/// A run answered some lines: these are those that it says, and the sink was closed.
+pub fn ran_exactly<S: Source, K: Sink, J: Telling>()
+    ensures { (start now : J) (result : Result Counts Stop) (from to : S) (old new : K)
+        → IsRun J.front J.text J.how start now result (taken_from S.Source from to) (written_on K.Sink old new)
+        ↔ (IsClosedBy result (written_on K.Sink old new) × ((lines : List (List ℕ))
+        × AreAnswered (WantsAt J.how now) result (taken_from S.Source from to) lines
+        × HasTold J.how start now
+        (λ writing. WroteAnswers result (written_on K.Sink old new) (told_in J.front J.text writing)) lines)) }
 {}
 
 /// The lines of what was read are those that a line feed ends. At the end of the input the last part is a line too.

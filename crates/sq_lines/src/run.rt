@@ -1,10 +1,9 @@
 //! The loop that runs a log machine over devices.
-ghost use Rattle.std.specs.Prelude.{◌≡◌, ◌++◌, ◌≤◌, [], List, ℕ, IfErr, IfOk, OnErr, OnOk, length, true};
-ghost use Rattle.sq_devices.specs.Changes.{FinishedOnce, Sent, TookAll, TookPart, TookReported, TookSome, Unfinished};
-ghost use Rattle.sq_devices.specs.Changes.{Wrote, taken_from, written_on};
-ghost use Rattle.sq_lines.specs.Lines.{ended_lines};
+ghost use Rattle.std.specs.Prelude.{◌≡◌, ◌≤◌, [], List, ℕ, IfOk, length, true};
+ghost use Rattle.sq_devices.specs.Changes.{TookReported, taken_from, written_on};
+ghost use Rattle.sq_lines.specs.Lines.{lines_of};
 ghost use Rattle.sq_lines.specs.Logs.{HasHeard, IsUpToDate};
-ghost use Rattle.sq_lines.specs.Runs.{HasRun, HasTold, OfLines, StoppedAtMemory, StoppedAtWrite, fed};
+ghost use Rattle.sq_lines.specs.Runs.{HasToldBy, IsRun, fed};
 
 use crate::faults::RunFault;
 use crate::log::{Answer, Log, Step};
@@ -40,36 +39,15 @@ pub fn run_log<S: Source, K: Sink, J: Telling>(
     // The machine was given nothing.
     requires { HasHeard J.how log.old.job log.old [] [] [] }
 
-    // All bytes up to the end of the input were read, and their lines were answered and counted.
-    ensures whole { IfOk result (λ tally. TookAll (taken_from S.Source source.old source.new)
-        (HasRun J.how J.text log.old.job log.new.job
-        (λ text. Sent (written_on K.Sink sink.old sink.new) (J.front ++ text)) tally)) }
+    // Some lines were heard and answered. The result says which, and how much of their answers was written.
+    ensures ran { IsRun J.front J.text J.how log.old.job log.new.job result
+        (taken_from S.Source source.old source.new) (written_on K.Sink sink.old sink.new) }
 
-    // If the source reports its bytes, these are all of them.
+    // If the source reports its bytes, the answers are those to all of them.
     ensures reported { IfOk result (λ tally. TookReported (taken_from S.Source source.old source.new)
-        (HasRun J.how J.text log.old.job log.new.job
-        (λ text. Sent (written_on K.Sink sink.old sink.new) (J.front ++ text)) tally)) }
-
-    // The sink is finished once if the run succeeds, and else never.
-    ensures finished { OnOk result (FinishedOnce (written_on K.Sink sink.old sink.new)) }
-    ensures unfinished { OnErr result (Unfinished (written_on K.Sink sink.old sink.new)) }
+        (λ read. HasToldBy J.front J.text J.how log.old.job log.new.job result
+        (written_on K.Sink sink.old sink.new) (lines_of read))) }
     ensures lasting { J.lasting log.new.job ≡ J.lasting log.old.job }
-
-    // After a failed get, each line that was read whole is answered.
-    ensures unread { IfErr result (λ fault. fault ≡ RunFault.Read
-        → TookPart (taken_from S.Source source.old source.new) (λ read. HasTold J.how J.text log.old.job log.new.job
-        (λ text. Wrote (written_on K.Sink sink.old sink.new) (J.front ++ text)) (ended_lines read))) }
-
-    // If memory ran out at a line, the job may want some for it, and all lines before it are answered.
-    ensures unanswered { IfErr result (λ fault. fault ≡ RunFault.Memory
-        → TookSome (taken_from S.Source source.old source.new) (OfLines (taken_from S.Source source.old source.new)
-        (StoppedAtMemory J.how J.text log.old.job log.new.job
-        (λ text. Wrote (written_on K.Sink sink.old sink.new) (J.front ++ text))))) }
-
-    // If the sink failed at the answer to a line, that line was heard, and all lines before it are answered.
-    ensures unwritten { IfErr result (λ fault. fault ≡ RunFault.Write → (K.has_failed sink.new ≡ true)
-        × TookSome (taken_from S.Source source.old source.new) (OfLines (taken_from S.Source source.old source.new)
-        (StoppedAtWrite J.front J.how J.text log.old.job log.new.job (K.written sink.old) (K.written sink.new)))) }
 {
     match put_header(log.job(), sink) {
         Ok(()) => {}

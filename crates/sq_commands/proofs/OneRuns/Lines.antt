@@ -8,8 +8,9 @@ use Rattle.sq_lines.specs.Lines.{lines_of}
 use Rattle.sq_commands.specs.declared.arguments.ArgumentFault.TheVariants as faults
 use Rattle.sq_commands.specs.declared.formats.Format.{Format}
 use Rattle.sq_commands.specs.declared.status.Status.{Status}
-use Rattle.sq_commands.specs.Check.{Checks, HasChecked, IsCheckRun, IsCheckRunIn, check_output, status_of}
+use Rattle.sq_commands.specs.Check.{Checks, HasChecked, IsCheckRun, IsCheckRunIn, check_answers, status_of}
 use Rattle.sq_commands.specs.Faults.{misused}
+use Rattle.sq_commands.specs.Formats.{told_by}
 use Rattle.sq_commands.specs.Outputs.{Effects}
 use Rattle.sq_commands.specs.Squitters.{squitter_telling}
 use Rattle.sq_commands.proofs.FormatLemmas.{one_format}
@@ -26,7 +27,15 @@ pub took_bytes : (t : Taken) (bytes : List ℕ) (Of : List ℕ → Type 0) → t
 took_bytes t bytes Of is took =
     subst (λ (o : Option (List ℕ)). IfSome o (λ all. (t.after ≡ Some []) × Of all)) is (took_reported t Of took)
 
--- inputs of which nothing was taken are left alike
+-- of an input that was taken to its end nothing is left, and all of its lines were answered
+pub took_lines : (t : Taken) (bytes : List ℕ) (lines : List (List ℕ)) (Answered : List (List ℕ) → Type 0)
+    → t.before ≡ Some bytes → TookAll t (λ read. lines ≡ lines_of read) → Answered lines
+    → (t.after ≡ Some []) × Answered (lines_of bytes)
+took_lines t bytes lines Answered is took told =
+    let took_all = took_bytes t bytes (λ read. lines ≡ lines_of read) is took in
+    (took_all.0, subst Answered took_all.1 told)
+
+-- inputs that nothing was taken from are left alike
 pub left_alike : (t u : Taken) (bytes : List ℕ) → t.before ≡ Some bytes → u.before ≡ Some bytes → TookNothing t
     → TookNothing u → t.after ≡ u.after
 left_alike t u bytes t_is u_is x y = x.0 ∙ t_is ∙ sym u_is ∙ sym y.0
@@ -45,17 +54,18 @@ module _ (a b : Status) (d e : Effects) (m : IsWhole a d.outputs) (n : IsWhole b
   one_check_run_in : (format : Format) → IsCheckRunIn format a d → IsCheckRunIn format b e → RunAlike a b d e
   one_check_run_in format (Err fault, checked, ended) y = absurd (m.unbroken ended.0)
   one_check_run_in format (Ok tally, checked, ended) (Err fault, checked', ended') = absurd (n.unbroken ended'.0)
-  one_check_run_in format (Ok tally, (once, took), ended) (Ok tally', (once', took'), ended') =
+  one_check_run_in format (Ok tally, (once, (lines, took, told)), ended)
+      (Ok tally', (once', (lines', took', told')), ended') =
       let how = squitter_telling format in
-      let x = took_bytes d.input bytes (HasChecked how tally d.outputs.output) d_is took in
-      let y = took_bytes e.input bytes (HasChecked how tally' e.outputs.output) e_is took' in
-      let counted : tally ≡ tally' = x.1.1 some_reader ∙ sym (y.1.1 some_reader) in (
+      let x = took_lines d.input bytes lines (HasChecked how (Ok tally) d.outputs.output) d_is took told in
+      let y = took_lines e.input bytes lines' (HasChecked how (Ok tally') e.outputs.output) e_is took' told' in
+      let counted : tally ≡ tally' = (x.1 some_checks).1 ∙ sym (y.1 some_checks).1 in (
         (
           ended.0 ∙ ap status_of counted ∙ sym ended'.0,
           inr (
-            check_output how some_checks (lines_of bytes),
-            (x.1.0 some_checks, once),
-            (y.1.0 some_checks, once'),
+            told_by how some_checks.writers (check_answers some_checks.reader (lines_of bytes)),
+            ((x.1 some_checks).0, once),
+            ((y.1 some_checks).0, once'),
           ),
           inl (ended.1, ended'.1),
         ),

@@ -7,9 +7,7 @@ pub returns-clause-ran : goal.returns-clause-ran
 returns-clause-ran g c =
     let input = taken_from g.S.Source c.args.source.now c.run_log.new.source in
     let output = written_on g.K.Sink c.args.sink.now c.run_log.new.sink in
-    let ran = c.run_log.ensures in
-    checked (squitter_telling g.F.AnswerFormat.chosen) input output c.run_log.result ran.whole ran.finished
-    ran.unfinished ran.unread ran.unwritten ran.unanswered
+    checked (squitter_telling g.F.AnswerFormat.chosen) c.run_log.result input output c.run_log.ensures.ran
 
 pub returns-clause-reported : goal.returns-clause-reported
 returns-clause-reported g c =

@@ -11,11 +11,10 @@ returns-clause-ran g c =
     let telling = (heard_telling g.F.AnswerFormat.chosen) in
     let input = taken_from g.S.Source c.args.source.now c.run_log.new.source in
     let output = written_on g.K.Sink c.args.sink.now c.run_log.new.sink in
-    let ran = c.run_log.ensures in
     subst₂ (λ (before tracker : Held). IsTracked telling c.run_log.result input output before tracker)
     (ap (λ job. job.tracker.now) c.new.ensures.job) (search rules)
-    (tracked telling input output c.new.result.job.tracker.now c.run_log.new.log.job.tracker.now
-    c.run_log.result ran.whole ran.finished ran.unfinished ran.unread ran.unanswered ran.unwritten)
+    (tracked telling c.run_log.result input output c.new.result.job.tracker.now c.run_log.new.log.job.tracker.now
+    c.run_log.ensures.ran)
 
 pub returns-clause-reported : goal.returns-clause-reported
 returns-clause-reported g c =

@@ -1,24 +1,23 @@
-use Rattle.std.proofs.Common.{◌≡◌, ◌<◌, ◌++◌, ◌∷◌, ◌∙◌, [], ℕ, Bool, List, ap, arith, inl, inr}
+use Rattle.std.proofs.Common.{◌≡◌, ◌+◌, ◌<◌, ◌++◌, ◌∷◌, ◌∙◌, [], ℕ, Bool, List, Ok, Err, ap, append-nil, arith, inl, inr}
 use Rattle.std.proofs.Common.{false, true, length, nat_eq, refl, subst, sym}
-use Rattle.std.specs.Io.KnownBytes.{Appends, Consumes}
+use Rattle.std.specs.Io.KnownBytes.{Consumes}
 use Rattle.std.specs.List.{concat}
-use Rattle.std.proofs.KnownBytes.{Appends-kept, Consumes-nil}
+use Rattle.std.proofs.KnownBytes.{Consumes-nil}
 use Rattle.std.proofs.lemmas.Bool.{eqb-true, eqb-false}
 use Rattle.std.proofs.lemmas.List.{length-append}
-use Rattle.sq_devices.specs.Calls.{HasPut}
-use Rattle.sq_devices.specs.Changes.{Sent, taken_from, written_on}
-use Rattle.sq_devices.proofs.Ends.{took_reported}
+use Rattle.sq_devices.specs.Changes.{taken_from, written_on}
 use Rattle.sq_devices.proofs.Puts.{HasPut-nil}
 use Rattle.sq_devices.specs.Device.{IsPrefixOf}
-use Rattle.sq_lines.specs.Lines.{closed, ended_lines, with_next}
+use Rattle.sq_lines.specs.Answers.{WantsAt}
+use Rattle.sq_lines.specs.Lines.{closed, ended_lines, lines_of, with_next}
 use Rattle.sq_lines.specs.Logs.{HasHeard}
-use Rattle.sq_lines.specs.Runs.{HasGot, HasRun, HasTold, IsPumped, StoppedAtMemory, StoppedAtWrite, fed}
+use Rattle.sq_lines.specs.declared.faults.RunFault.TheVariants.{Read}
+use Rattle.sq_lines.specs.Runs.{HasGot, HasToldBy, fed}
 use Rattle.sq_lines.proofs.Gets.{consumes_hidden, got_on, got_up_to_end, made_of_more, made_of_nothing}
-use Rattle.sq_lines.proofs.Windows.{passed_first}
-use Rattle.sq_lines.proofs.Running.{fed_not, no_feeds, no_more, nothing_given, of_fed, pumped_all, pumped_answered}
-use Rattle.sq_lines.proofs.Running.{pumped_ended}
-use Rattle.sq_lines.proofs.Running.{pumped_memory, pumped_passed, pumped_write, stopped_in_header, told_as}
-use Rattle.sq_lines.proofs.Running.{told_unfinished}
+use Rattle.sq_lines.proofs.Windows.{ended_lines-closed, passed_all, passed_first}
+use Rattle.sq_lines.proofs.Running.{fed_not, no_feeds, no_more, nothing_given, of_fed, pumped_answered, pumped_passed}
+use Rattle.sq_lines.proofs.Running.{run_reported, told_behind, told_header, told_part, told_sent}
+use Rattle.sq_lines.proofs.Running.{told_unfinished, told_wrote}
 use Rattle.sq_lines.proofs.run.run_log.Goals as goal
 
 pub steps-init : goal.steps-init
@@ -124,8 +123,8 @@ steps-preserved-in-Ok-put_answer g c =
       at_end = i.at_end;
     }
 
-pub returns-in-Err-put_answer-clause-unwritten : goal.returns-in-Err-put_answer-clause-unwritten
-returns-in-Err-put_answer-clause-unwritten g c = λ is.
+pub returns-in-Err-put_answer-clause-ran : goal.returns-in-Err-put_answer-clause-ran
+returns-in-Err-put_answer-clause-ran g c =
     let i = c.steps.invariant in
     let how = g.J.Job.how in
     let text = g.J.Telling.text in
@@ -138,27 +137,30 @@ returns-in-Err-put_answer-clause-unwritten g c = λ is.
     let given : List ℕ = fed c.steps.ended i.read in
     let answer = c.in-Answered.answer in
     let on = c.in-Answered.ensures.stepped start given i.pumped.lines i.pumped.answers i.pumped.heard in
+    let lines = i.pumped.lines ++ on.0 ∷ [] in
     let same = nothing_given given c.in-Answered.field-0 c.in-Answered.ensures.within in
-    let heard = subst (λ l. HasHeard how start new l (i.pumped.lines ++ on.0 ∷ [])
-    (i.pumped.answers ++ answer ∷ [])) same on.1 in
-    let prefix = passed_first new.window.line new.window.waiting given (i.pumped.lines ++ on.0 ∷ [])
-    heard.kept in (
-      c.in-Err-put_answer.ensures.failed,
+    let heard = subst (λ l. HasHeard how start new l lines (i.pumped.answers ++ answer ∷ [])) same on.1 in
+    let prefix = passed_first new.window.line new.window.waiting given lines heard.kept in (
       (
-        i.read,
-        i.got.consumed,
-        i.got.few,
-        of_fed (taken_from g.S.Source c.args.source.now c.steps.source) c.steps.ended i.read
-            (StoppedAtWrite header how text start c.step.new.self.job (k.written before)
-            (k.written c.put_answer.new.sink)) i.at_end
-            (pumped_write how text start k first header before c.in-Ok.ensures.put c.steps.sink c.put_answer.new.sink
-            c.steps.log new given given answer _ i.pumped (on.0, heard) prefix
-            c.in-Err-put_answer.ensures.part),
+        c.in-Err-put_answer.ensures.failed,
+        c.put_answer.ensures.unfinished ∙ i.unfinished ∙ c.put_header.ensures.unfinished,
+      ),
+      (
+        lines,
+        (
+          i.read,
+          i.got.consumed,
+          i.got.few,
+          of_fed (taken_from g.S.Source c.args.source.now c.steps.source) c.steps.ended i.read (IsPrefixOf lines)
+              i.at_end prefix,
+        ),
+        told_part how text start k first header before c.in-Ok.ensures.put c.steps.sink c.put_answer.new.sink
+            c.steps.log new given given answer i.pumped (on.0, heard) c.in-Err-put_answer.ensures.part,
       ),
     )
 
-pub returns-in-NoMemory-clause-unanswered : goal.returns-in-NoMemory-clause-unanswered
-returns-in-NoMemory-clause-unanswered g c = λ is.
+pub returns-in-NoMemory-clause-ran : goal.returns-in-NoMemory-clause-ran
+returns-in-NoMemory-clause-ran g c =
     let i = c.steps.invariant in
     let how = g.J.Job.how in
     let text = g.J.Telling.text in
@@ -167,22 +169,32 @@ returns-in-NoMemory-clause-unanswered g c = λ is.
     let before = c.args.sink.now in
     let first = c.put_header.new.sink in
     let header = g.J.Telling.front in
+    let now = c.step.new.self.job in
+    let lines = i.pumped.lines in
     let given : List ℕ = fed c.steps.ended i.read in
-    let stop = c.in-NoMemory.ensures.stepped start given i.pumped.lines i.pumped.answers i.pumped.heard in
+    let stop = c.in-NoMemory.ensures.stepped start given lines i.pumped.answers i.pumped.heard in
     let same = nothing_given given c.in-NoMemory.field-0 c.in-NoMemory.ensures.within in
-    let prefix = subst (λ l. IsPrefixOf (with_next i.pumped.lines stop.1.0) (ended_lines l)) same stop.1.1 in (
-      i.read,
-      i.got.consumed,
-      i.got.few,
-      of_fed (taken_from g.S.Source c.args.source.now c.steps.source) c.steps.ended i.read
-          (StoppedAtMemory how text start c.step.new.self.job
-          (λ output. Appends (k.written before) (k.written c.steps.sink) (header ++ output))) i.at_end
-          (pumped_memory how text start k first header before c.in-Ok.ensures.put c.steps.sink c.steps.log
-          c.step.new.self.job c.step.new.self.tally given _ i.pumped (stop.1.0, prefix, stop.1.2, stop.0.told)),
+    let prefix = subst (λ l. IsPrefixOf (with_next lines stop.1.0) (ended_lines l)) same stop.1.1 in
+    let told = told_behind how text start k first header before c.in-Ok.ensures.put c.steps.sink now
+    c.step.new.self.tally lines i.pumped.answers i.pumped.put stop.0.told in (
+      i.unfinished ∙ c.put_header.ensures.unfinished,
+      (
+        lines,
+        (
+          i.read,
+          i.got.consumed,
+          i.got.few,
+          of_fed (taken_from g.S.Source c.args.source.now c.steps.source) c.steps.ended i.read
+              (λ complete. (next : List ℕ) × IsPrefixOf (with_next lines next) complete × WantsAt how now next)
+              i.at_end (stop.1.0, prefix, stop.1.2),
+        ),
+        told_wrote how text start k first header before c.in-Ok.ensures.put c.steps.sink now c.step.new.self.tally
+            lines told,
+      ),
     )
 
-pub returns-in_default-clause-unread : goal.returns-in_default-clause-unread
-returns-in_default-clause-unread g c = λ is.
+pub returns-in_default-clause-ran : goal.returns-in_default-clause-ran
+returns-in_default-clause-ran g c =
     let i = c.steps.invariant in
     let how = g.J.Job.how in
     let text = g.J.Telling.text in
@@ -192,25 +204,30 @@ returns-in_default-clause-unread g c = λ is.
     let first = c.put_header.new.sink in
     let header = g.J.Telling.front in
     let new = c.step.new.self in
+    let lines = i.pumped.lines in
     let given : List ℕ = fed c.steps.ended i.read in
-    let fed_all = c.in-Fed.ensures.stepped start given i.pumped.lines i.pumped.answers i.pumped.heard in
+    let fed_all = c.in-Fed.ensures.stepped start given lines i.pumped.answers i.pumped.heard in
     let given_is : given ≡ i.read = fed_not c.steps.ended i.read c.if-ended.false in
-    let pumped : IsPumped how text start k first c.steps.sink new given =
-    record { lines = i.pumped.lines; answers = i.pumped.answers; heard = fed_all.1; put = i.pumped.put } in
-    let told = pumped_ended how text start k first header before c.in-Ok.ensures.put c.steps.sink new given
-    pumped fed_all.2 in
-    let Wrote : List ℕ → Type 0 =
-    λ output. Appends (k.written before) (k.written c.steps.sink) (header ++ output) in (
-      c.in_default.ensures.failed,
+    let all : lines ≡ ended_lines given =
+    passed_all new.window.line new.window.waiting given lines fed_all.1.kept fed_all.2 in
+    let told = told_behind how text start k first header before c.in-Ok.ensures.put c.steps.sink new.job new.tally
+    lines i.pumped.answers i.pumped.put fed_all.1.told in (
+      i.unfinished ∙ c.put_header.ensures.unfinished,
       (
-        i.read,
-        consumes_hidden _ _ _ i.read i.got.consumed c.in_default.ensures.kept,
-        omega (arith, i.running c.if-ended.false, c.in_default.ensures.unused),
-        subst (λ job. HasTold how text start job Wrote (ended_lines i.read)) (sym c.get_from.ensures.job)
-            (told_as how text start c.step.new.self.job
-            (λ output. HasPut k before c.steps.sink (header ++ output)) Wrote (ended_lines i.read) (λ output put. put.0)
-            (subst (λ l. HasTold how text start c.step.new.self.job
-            (λ output. HasPut k before c.steps.sink (header ++ output)) (ended_lines l)) given_is told)),
+        lines,
+        (
+          c.in_default.ensures.failed,
+          (
+            i.read,
+            consumes_hidden _ _ _ i.read i.got.consumed c.in_default.ensures.kept,
+            omega (arith, i.running c.if-ended.false, c.in_default.ensures.unused),
+            all ∙ ap ended_lines given_is,
+          ),
+        ),
+        subst (λ job. HasToldBy header text how start job (Err Read) (written_on k before c.steps.sink) lines)
+            (sym c.get_from.ensures.job)
+            (told_wrote how text start k first header before c.in-Ok.ensures.put c.steps.sink new.job new.tally lines
+            told),
       ),
     )
 
@@ -276,8 +293,8 @@ steps-preserved g c =
       at_end = λ e. got.end (eqb-true more 0 e);
     }
 
-whole : goal.returns-in-Ok-finish-clause-whole
-whole g c =
+pub returns-in-Ok-finish-clause-ran : goal.returns-in-Ok-finish-clause-ran
+returns-in-Ok-finish-clause-ran g c =
     let i = c.steps.invariant in
     let how = g.J.Job.how in
     let text = g.J.Telling.text in
@@ -287,41 +304,48 @@ whole g c =
     let first = c.put_header.new.sink in
     let header = g.J.Telling.front in
     let new = c.step.new.self in
+    let lines = i.pumped.lines in
     let given : List ℕ = fed c.steps.ended i.read in
-    let fed_all = c.in-Fed.ensures.stepped start given i.pumped.lines i.pumped.answers i.pumped.heard in
+    let fed_all = c.in-Fed.ensures.stepped start given lines i.pumped.answers i.pumped.heard in
     let given_is : given ≡ closed i.read = ap (λ e. fed e i.read) c.if-ended.true in
-    let pumped : IsPumped how text start k first c.steps.sink new given =
-    record { lines = i.pumped.lines; answers = i.pumped.answers; heard = fed_all.1; put = i.pumped.put } in
-    let done = pumped_all how text start k first header before c.in-Ok.ensures.put c.steps.sink new i.read
-    (subst (IsPumped how text start k first c.steps.sink new) given_is pumped) fed_all.2 in
-    let all = i.made_all c.if-ended.true in
-    let sent = written_on k before c.finish.new.self in
-    let Run = HasRun how text start c.step.new.self.job (λ output. Sent sent (header ++ output)) c.tally.result in
+    let all : lines ≡ lines_of i.read =
+    passed_all new.window.line new.window.waiting given lines fed_all.1.kept fed_all.2 ∙ ap ended_lines given_is
+    ∙ ended_lines-closed i.read in
+    let told = told_behind how text start k first header before c.in-Ok.ensures.put c.steps.sink new.job new.tally
+    lines i.pumped.answers i.pumped.put fed_all.1.told in
+    let pieces = i.made_all c.if-ended.true in
     let input = taken_from g.S.Source c.args.source.now c.steps.source in (
-      all.0,
-      all.1,
-      subst (Consumes input.before input.after) all.2 i.got.consumed,
-      i.at_end c.if-ended.true,
-      subst Run all.2 (
-        told_as how text _ _ (λ output. HasPut k before c.steps.sink (header ++ output))
-            (λ output. Sent sent (header ++ output)) _ (λ output put. (
-              Appends-kept _ _ _ (header ++ output) put.0 c.in-Ok-finish.ensures.bytes,
-              (c.steps.sink, put, c.in-Ok-finish.ensures.sent),
-            ))
-            done.0,
-        λ past st. c.tally.ensures ∙ done.1 past st,
+      c.in-Ok-finish.ensures.counted
+          ∙ ap (λ (n : ℕ). n + 1) (i.unfinished ∙ c.put_header.ensures.unfinished),
+      (
+        lines,
+        (
+          pieces.0,
+          pieces.1,
+          subst (Consumes input.before input.after) pieces.2 i.got.consumed,
+          i.at_end c.if-ended.true,
+          all ∙ ap lines_of pieces.2,
+        ),
+        subst (λ t. HasToldBy header text how start new.job (Ok t) (written_on k before c.finish.new.self) lines)
+            (sym c.tally.ensures)
+            (told_sent how text start k first header before c.in-Ok.ensures.put c.steps.sink c.finish.new.self new.job
+            new.tally lines c.in-Ok-finish.ensures.bytes c.in-Ok-finish.ensures.sent told),
       ),
     )
-
-pub returns-in-Ok-finish-clause-whole : goal.returns-in-Ok-finish-clause-whole
-returns-in-Ok-finish-clause-whole g c = whole g c
 
 pub returns-in-Ok-finish-clause-reported : goal.returns-in-Ok-finish-clause-reported
 returns-in-Ok-finish-clause-reported g c =
-    took_reported (taken_from g.S.Source c.args.source.now c.steps.source) _ (whole g c)
+    let how = g.J.Job.how in
+    let start = c.args.log.now.job in
+    let now = c.step.new.self.job in
+    let input = taken_from g.S.Source c.args.source.now c.steps.source in
+    let output = written_on g.K.Sink c.args.sink.now c.finish.new.self in
+    run_reported (WantsAt how now)
+    (HasToldBy g.J.Telling.front g.J.Telling.text how start now (Ok c.tally.result) output) c.tally.result input output
+    (returns-in-Ok-finish-clause-ran g c)
 
-pub returns-in-Err-finish-clause-unwritten : goal.returns-in-Err-finish-clause-unwritten
-returns-in-Err-finish-clause-unwritten g c = λ is.
+pub returns-in-Err-finish-clause-ran : goal.returns-in-Err-finish-clause-ran
+returns-in-Err-finish-clause-ran g c =
     let i = c.steps.invariant in
     let how = g.J.Job.how in
     let text = g.J.Telling.text in
@@ -331,35 +355,45 @@ returns-in-Err-finish-clause-unwritten g c = λ is.
     let first = c.put_header.new.sink in
     let header = g.J.Telling.front in
     let new = c.step.new.self in
+    let lines = i.pumped.lines in
     let given : List ℕ = fed c.steps.ended i.read in
-    let fed_all = c.in-Fed.ensures.stepped start given i.pumped.lines i.pumped.answers i.pumped.heard in
+    let fed_all = c.in-Fed.ensures.stepped start given lines i.pumped.answers i.pumped.heard in
     let given_is : given ≡ closed i.read = ap (λ e. fed e i.read) c.if-ended.true in
-    let pumped : IsPumped how text start k first c.steps.sink new given =
-    record { lines = i.pumped.lines; answers = i.pumped.answers; heard = fed_all.1; put = i.pumped.put } in
-    let done = pumped_all how text start k first header before c.in-Ok.ensures.put c.steps.sink new i.read
-    (subst (IsPumped how text start k first c.steps.sink new) given_is pumped) fed_all.2 in (
-      c.in-Err-finish.ensures.failed,
+    let all : lines ≡ lines_of i.read =
+    passed_all new.window.line new.window.waiting given lines fed_all.1.kept fed_all.2 ∙ ap ended_lines given_is
+    ∙ ended_lines-closed i.read in
+    let told = told_behind how text start k first header before c.in-Ok.ensures.put c.steps.sink new.job new.tally
+    lines i.pumped.answers i.pumped.put fed_all.1.told in (
       (
-        i.read,
-        i.got.consumed,
-        i.got.few,
-        inr (
-          i.at_end c.if-ended.true,
-          told_unfinished how text start k first header before c.in-Ok.ensures.put _ _ _ _ done.0
-              c.in-Err-finish.ensures.kept,
+        c.in-Err-finish.ensures.failed,
+        c.in-Err-finish.ensures.uncounted ∙ i.unfinished ∙ c.put_header.ensures.unfinished,
+      ),
+      (
+        lines,
+        (
+          i.read,
+          i.got.consumed,
+          i.got.few,
+          inr (i.at_end c.if-ended.true, ([], sym all ∙ sym (append-nil lines))),
         ),
+        told_unfinished how text start k first header before c.in-Ok.ensures.put c.steps.sink c.finish.new.self
+            new.job new.tally lines c.in-Err-finish.ensures.kept told,
       ),
     )
 
-pub returns-in-Err-clause-unwritten : goal.returns-in-Err-clause-unwritten
-returns-in-Err-clause-unwritten g c = λ is. (
-  c.in-Err.ensures.failed,
-  (
-    [],
-    Consumes-nil (g.S.Source.to_come c.args.source.now),
-    omega arith,
-    inl (stopped_in_header g.J.Job.how g.J.Telling.text c.args.log.now.job g.J.Telling.front
-        (g.K.Sink.written c.args.sink.now)
-        (g.K.Sink.written c.put_header.new.sink) (ended_lines []) c.in-Err.ensures.part),
-  ),
-)
+pub returns-in-Err-clause-ran : goal.returns-in-Err-clause-ran
+returns-in-Err-clause-ran g c =
+    let k = g.K.Sink in
+    let output = written_on k c.args.sink.now c.put_header.new.sink in (
+      (c.in-Err.ensures.failed, c.put_header.ensures.unfinished),
+      (
+        [],
+        (
+          [],
+          Consumes-nil (g.S.Source.to_come c.args.source.now),
+          omega arith,
+          inl (ended_lines [], refl),
+        ),
+        told_header g.J.Job.how g.J.Telling.text c.args.log.now.job g.J.Telling.front output c.in-Err.ensures.part,
+      ),
+    )
