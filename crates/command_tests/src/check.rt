@@ -6,7 +6,7 @@ use crate::faulty_devices::{
 use crate::outcomes::{outcome_on, status_of};
 use sq_commands::{Request, Status, run_check};
 use sq_devices::{Reading, Sink, Source};
-use sq_lines::{RunFault, Tally};
+use sq_log::{RunFault, Tally};
 use std::alloc::Global;
 use std::io;
 use std::io::Read;

@@ -6,7 +6,7 @@ use sq_commands::{
     FeedEnd, FeedOptions, FeedWords, Request, SourceFormat, Status, Stranger, run_feed,
 };
 use sq_devices::{Clock, NoClock, Sink, Source};
-use sq_lines::RunFault;
+use sq_log::RunFault;
 use std::alloc::Global;
 use std::process::Abort;
 

@@ -1,7 +1,7 @@
 //! Lines cut out of pieces, and runs over memory and over devices that fail.
-use sq_lines::laws::takes_in_turn;
-use sq_lines::pins::{equal_run_faults, equal_tallies, one_take};
-use sq_lines::{Cutter, Line, RunFault, Tally, content_of};
+use sq_log::laws::takes_in_turn;
+use sq_log::pins::{equal_run_faults, equal_tallies, one_take};
+use sq_log::{Cutter, Line, RunFault, Tally, content_of};
 use std::process::Abort;
 
 // A piece taken, without the clauses.

@@ -1,9 +1,9 @@
 //! The log machine, by a job of its own: pieces in, answers out, in whatever pieces the log comes.
 ghost use Rattle.std.specs.Prelude.{◌≡◌, Err, List, ℕ, ⊤};
-ghost use Rattle.sq_lines.specs.Answers.{Manner};
+ghost use Rattle.sq_log.specs.Answers.{Manner};
 ghost use Rattle.sq_text.specs.declared.faults.LineFault.TheVariants.{Full};
 
-use sq_lines::{Answer, Job, LineFault, Log, Step, Tally, Verdict};
+use sq_log::{Answer, Job, LineFault, Log, Step, Tally, Verdict};
 use std::process::Abort;
 
 // Finds the first byte of a text; refuses one that begins with `?`, and has no memory for one that begins with `!`.

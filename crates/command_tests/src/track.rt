@@ -4,7 +4,7 @@ use crate::faulty_devices::{End, Pieces, lines_in, pieces_of, room_of, sink_of, 
 use crate::outcomes::{assert_outcome, assert_reported, outcome_on};
 use sq_commands::{Request, Status, TrackWords, run_track};
 use sq_devices::{Sink, Source};
-use sq_lines::{RunFault, Tally};
+use sq_log::{RunFault, Tally};
 use sq_track::Tracker;
 use std::alloc::Global;
 use std::process::Abort;

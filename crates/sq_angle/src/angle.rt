@@ -40,14 +40,14 @@ impl Angle {
         Angle { num, den }
     }
 
-    /// The numerator, as it was given.
+    /// Returns the numerator, not in lowest terms.
     pub fn num(&self) -> i64
         ensures { result ≡ (degrees self.now).num }
     {
         self.num
     }
 
-    /// The denominator, as it was given.
+    /// Returns the denominator, not in lowest terms.
     pub fn den(&self) -> u64
         ensures { result ≡ (degrees self.now).den }
     {

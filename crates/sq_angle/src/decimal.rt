@@ -14,8 +14,8 @@ use arrayvec::ArrayString;
 use sq_digits::{TextBuffer, push_digit, push_leading, push_three};
 
 impl Angle {
-    /// The value in degrees as text with seven decimals, rounded, ties away from zero. At least one digit stands before
-    /// the point, and `-` in front only where a digit is not 0. At most 12 bytes.
+    /// Returns the value in degrees as text with seven decimals, rounded half away from zero. The text has at least one
+    /// digit before the point, and begins with `-` only if a digit is not 0. At most 12 bytes.
     pub fn decimal7(&self) -> ArrayString<16>
         ensures text { IsDecimal7 (degrees self.now) result.bytes }
         ensures short { array_string_len result ≤ 12 }

@@ -41,14 +41,14 @@ impl Position {
         Position { lat, lon }
     }
 
-    /// The latitude in degrees, as it was given.
+    /// Returns the latitude in degrees, not in lowest terms.
     pub fn lat(&self) -> Angle
         ensures { result ≡ lat_of self.now }
     {
         self.lat
     }
 
-    /// The longitude in degrees, as it was given.
+    /// Returns the longitude in degrees, not in lowest terms.
     pub fn lon(&self) -> Angle
         ensures { result ≡ lon_of self.now }
     {

@@ -17,7 +17,7 @@ const MAX_DECIMALS: usize = 12;
 
 /// Why a text is no angle: the first of these that it is.
 #[derive(Clone, Copy, Debug, PartialEq, Eq, Error)]
-#[error("{text}", text = self.words())]
+#[error("{text}", text = self.label())]
 pub enum AngleFault {
     /// The text is not an optional `-`, one to three digits, and optionally a point and one or more digits.
     NotANumber,
@@ -31,7 +31,7 @@ impl AngleFault {
     ghost use Rattle.sq_angle.specs.Faults.{angle_fault_text};
 
     /// Its text, which has no number, at most 17 bytes.
-    pub fn words(self) -> &'static str
+    pub fn label(self) -> &'static str
         ensures value { result.now ≡ angle_fault_text self }
         ensures short { length result.now ≤ 17 }
     {
@@ -94,7 +94,7 @@ fn spelling_of(text: &str) -> Option<Spelling<'_>>
     })
 }
 
-// Whether the text begins with `-`, and what is left of it.
+// Returns whether the text begins with `-`, and the rest of it.
 fn without_minus(text: &str) -> (bool, &str)
     ensures parts { text.now ≡ minus result.0 ++ result.1.now }
     ensures other { OnFalse result.0 ((rest : List ℕ) → ¬ (text.now ≡ 45 ∷ rest)) }
@@ -105,7 +105,7 @@ fn without_minus(text: &str) -> (bool, &str)
     }
 }
 
-// What stands before the first point and what stands after it. None where nothing stands after it.
+// Splits the text at its first point. Returns `None` if nothing follows the point.
 fn around_point(text: &str) -> Option<(&str, &str)>
     ensures { MatchOption result (EndsInPoint text.now) (λ parts. StandsAroundPoint text.now parts.0.now parts.1.now) }
 {

@@ -5,7 +5,7 @@ use Rattle.sq_devices.specs.Changes.{TookNothing, WroteOrFailed, taken_from, wri
 use Rattle.sq_devices.specs.Clocks.{Times}
 use Rattle.sq_devices.specs.declared.device.Sink.{Ghosts as SinkGhosts}
 use Rattle.sq_devices.specs.declared.device.Source.{Ghosts as SourceGhosts}
-use Rattle.sq_lines.specs.declared.faults.RunFault.TheVariants.{Read, Write, Memory}
+use Rattle.sq_log.specs.declared.faults.RunFault.TheVariants.{Read, Write, Memory}
 use Rattle.sq_feed.specs.declared.message.Stranger.{Stranger}
 use Rattle.sq_commands.specs.Feed.{status_at_end}
 use Rattle.sq_commands.specs.Requests.{Text, Show, Encode, Local, Pair, Check, Track, Feed}

@@ -6,13 +6,13 @@ use Rattle.sq_message.specs.declared.squitter.Squitter.{Squitter}
 use Rattle.sq_text.specs.Reading.{IsSquitterReading, SquitterReader}
 use Rattle.sq_text.specs.declared.faults.LineFault.{LineFault}
 use Rattle.sq_text.proofs.OneReading.{one_squitter_reading}
-use Rattle.sq_lines.specs.Lines.{lines_of}
-use Rattle.sq_lines.specs.Content.{Content, Long, Empty, Text, answer_by, content}
-use Rattle.sq_lines.specs.Answers.{Manner, WantsAt, after_content, answers_to}
-use Rattle.sq_lines.specs.Runs.{HasToldBy, IsRun, WroteAnswers}
-use Rattle.sq_lines.specs.declared.faults.RunFault.{RunFault}
-use Rattle.sq_lines.specs.declared.tallies.Tally.{Tally}
-use Rattle.sq_lines.proofs.Running.{run_as, run_reported}
+use Rattle.sq_log.specs.Lines.{lines_of}
+use Rattle.sq_log.specs.Content.{Content, Long, Empty, Text, answer_by, content}
+use Rattle.sq_log.specs.Answers.{Manner, WantsAt, after_content, answers_to}
+use Rattle.sq_log.specs.Runs.{HasToldBy, IsRun, WroteAnswers}
+use Rattle.sq_log.specs.declared.faults.RunFault.{RunFault}
+use Rattle.sq_log.specs.declared.tallies.Tally.{Tally}
+use Rattle.sq_log.proofs.Running.{run_as, run_reported}
 use Rattle.sq_commands.specs.Check.{HasChecked, IsChecked, check_answers, check_manner, check_way}
 use Rattle.sq_commands.specs.Formats.{Telling, told_by}
 

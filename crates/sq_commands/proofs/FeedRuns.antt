@@ -27,11 +27,11 @@ use Rattle.sq_feed.specs.Ears.{Hears, ear_after, ear_after_all, ear_by, fate_of,
 use Rattle.sq_feed.specs.Feeds.{AreFed, Fed, Feeding, HasFed, bytes_in, last_fed, lines_of, told_at_end}
 use Rattle.sq_feed.specs.Orders.{Sorting, given_all, nothing_sorted, sorted_all}
 use Rattle.sq_feed.specs.Readers.{awaited}
-use Rattle.sq_lines.specs.Runs.{HasGot, IsMadeOf}
-use Rattle.sq_lines.specs.declared.faults.RunFault.{RunFault}
-use Rattle.sq_lines.specs.declared.faults.RunFault.TheVariants.{Write}
-use Rattle.sq_lines.proofs.Gets.{got_on, got_up_to_end, made_of_more, made_of_nothing}
-use Rattle.sq_lines.proofs.Running.{no_more}
+use Rattle.sq_log.specs.Runs.{HasGot, IsMadeOf}
+use Rattle.sq_log.specs.declared.faults.RunFault.{RunFault}
+use Rattle.sq_log.specs.declared.faults.RunFault.TheVariants.{Write}
+use Rattle.sq_log.proofs.Gets.{got_on, got_up_to_end, made_of_more, made_of_nothing}
+use Rattle.sq_log.proofs.Running.{no_more}
 use Rattle.sq_commands.specs.Feed.{EndsBy, FedWhole, HasFedAll, HasFedText, HasPutLast, HasPutPart, HasPutSorted, IsFed, Sorts}
 use Rattle.sq_commands.specs.Feed.{all_lines, arrivals_in, end_of, lines_in, squitters_in, start_of}
 use Rattle.sq_commands.proofs.Feeding.{arrivals_more, bytes_more, calls_fed, last_more, sent_after, squitters_more}

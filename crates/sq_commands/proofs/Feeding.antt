@@ -14,7 +14,7 @@ use Rattle.sq_feed.specs.declared.message.Found.{Found}
 use Rattle.sq_feed.specs.declared.message.Timed.{Timed}
 use Rattle.sq_feed.proofs.Feeding.{fed_on, told_on}
 use Rattle.sq_feed.proofs.Following.{follows_nothing}
-use Rattle.sq_lines.proofs.Running.{AppendsOrHides-after}
+use Rattle.sq_log.proofs.Running.{AppendsOrHides-after}
 use Rattle.sq_commands.specs.Feed.{HasFedText, arrivals_in, squitters_in}
 
 -- ---- texts that are put one after the other

@@ -13,8 +13,8 @@ use Rattle.sq_feed.specs.Readers.{Reads, awaited}
 use Rattle.sq_feed.specs.declared.message.Timed.{Timed}
 use Rattle.sq_commands.specs.declared.feed.FeedOptions.{FeedOptions}
 use Rattle.std.specs.Io.KnownBytes.{IsAtEnd}
-use Rattle.sq_lines.specs.declared.faults.RunFault.{RunFault}
-use Rattle.sq_lines.specs.declared.faults.RunFault.TheVariants.{Read, Write, Memory}
+use Rattle.sq_log.specs.declared.faults.RunFault.{RunFault}
+use Rattle.sq_log.specs.declared.faults.RunFault.TheVariants.{Read, Write, Memory}
 use Rattle.sq_commands.specs.Requests.{Asked, Show, Encode, Local, Pair, Check, Track, Feed}
 use Rattle.sq_commands.specs.declared.status.Status.{Status}
 use Rattle.sq_commands.specs.Feed.{EndsBy, FedIn, FedWhole, IsFed, all_lines, arrivals_in}

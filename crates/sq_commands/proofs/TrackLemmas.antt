@@ -6,16 +6,16 @@ use Rattle.sq_text.specs.declared.faults.LineFault.{LineFault}
 use Rattle.sq_message.specs.declared.received.Received.{Received}
 use Rattle.sq_text.specs.Timed.{IsTimedReading, TimedReader}
 use Rattle.sq_text.proofs.TimedReadings.{one_timed_reading}
-use Rattle.sq_lines.specs.Answers.{WantsAt, after_content, after_line, answer_line, answers_to, past_after}
-use Rattle.sq_lines.specs.Hearings.{IsHeard}
-use Rattle.sq_lines.specs.declared.job.Verdict.{Verdict}
-use Rattle.sq_lines.specs.declared.job.Verdict.TheVariants as verdicts
-use Rattle.sq_lines.specs.Content.{Answer, Content, Long, Empty, Text, answer_by, answer_content, content}
-use Rattle.sq_lines.specs.Lines.{lines_of}
-use Rattle.sq_lines.specs.Runs.{HasTold, HasToldBy, IsRun, WroteAnswers}
-use Rattle.sq_lines.specs.declared.faults.RunFault.{RunFault}
-use Rattle.sq_lines.specs.declared.tallies.Tally.{Tally}
-use Rattle.sq_lines.proofs.Running.{run_as, run_reported}
+use Rattle.sq_log.specs.Answers.{WantsAt, after_content, after_line, answer_line, answers_to, past_after}
+use Rattle.sq_log.specs.Hearings.{IsHeard}
+use Rattle.sq_log.specs.declared.job.Verdict.{Verdict}
+use Rattle.sq_log.specs.declared.job.Verdict.TheVariants as verdicts
+use Rattle.sq_log.specs.Content.{Answer, Content, Long, Empty, Text, answer_by, answer_content, content}
+use Rattle.sq_log.specs.Lines.{lines_of}
+use Rattle.sq_log.specs.Runs.{HasTold, HasToldBy, IsRun, WroteAnswers}
+use Rattle.sq_log.specs.declared.faults.RunFault.{RunFault}
+use Rattle.sq_log.specs.declared.tallies.Tally.{Tally}
+use Rattle.sq_log.proofs.Running.{run_as, run_reported}
 use Rattle.sq_track.specs.declared.heard.Heard.{Heard}
 use Rattle.sq_track.specs.declared.heard.TrackFault.{TrackFault}
 use Rattle.sq_track.specs.declared.heard.TrackFault.TheVariants as track_faults

@@ -3,11 +3,11 @@ use Rattle.std.specs.Prelude.{◌≡◌, ◌==◌, ◌⊎◌, ℕ, List, Option,
 use Rattle.sq_devices.specs.Changes.{Taken, TookNothing, Written, WroteNothing}
 use Rattle.sq_message.specs.declared.squitter.Squitter.{Squitter}
 use Rattle.sq_text.specs.Reading.{SquitterReader}
-use Rattle.sq_lines.specs.Content.{Answer, answer_by}
-use Rattle.sq_lines.specs.Answers.{Answerer, Manner}
-use Rattle.sq_lines.specs.Runs.{HasRun, WroteAnswers}
-use Rattle.sq_lines.specs.declared.faults.RunFault.{RunFault}
-use Rattle.sq_lines.specs.declared.tallies.Tally.{Tally}
+use Rattle.sq_log.specs.Content.{Answer, answer_by}
+use Rattle.sq_log.specs.Answers.{Answerer, Manner}
+use Rattle.sq_log.specs.Runs.{HasRun, WroteAnswers}
+use Rattle.sq_log.specs.declared.faults.RunFault.{RunFault}
+use Rattle.sq_log.specs.declared.tallies.Tally.{Tally}
 use Rattle.sq_commands.specs.declared.status.Status.{Status}
 use Rattle.sq_commands.specs.declared.status.Status.TheVariants.{Good, Refused, Broken}
 use Rattle.sq_commands.specs.declared.arguments.ArgumentFault.TheVariants as faults

@@ -4,8 +4,8 @@ use Rattle.sq_angle.specs.Decimal.{DecimalWriter}
 use Rattle.sq_digits.specs.Buffer.{TextBuffer, text_len}
 use Rattle.sq_text.specs.declared.faults.LineFault.{LineFault}
 use Rattle.sq_text.specs.Faults.{fault_text}
-use Rattle.sq_lines.specs.Content.{Answer}
-use Rattle.sq_lines.specs.Answers.{texts_of}
+use Rattle.sq_log.specs.Content.{Answer}
+use Rattle.sq_log.specs.Answers.{texts_of}
 use Rattle.sq_text.specs.declared.rows.Form.{Form}
 use Rattle.sq_text.specs.Altitudes.{AltitudeReader}
 use Rattle.sq_text.specs.Rows.{Column, header_text, room, row_text}

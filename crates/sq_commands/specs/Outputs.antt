@@ -3,8 +3,8 @@ use Rattle.std.specs.Prelude.{◌++◌, ℕ, List, codes}
 use Rattle.sq_devices.specs.declared.device.Sink.{Ghosts as SinkGhosts}
 use Rattle.sq_devices.specs.declared.device.Source.{Ghosts as SourceGhosts}
 use Rattle.sq_devices.specs.Changes.{Taken, WroteOrFailed, Written, taken_from, written_on}
-use Rattle.sq_lines.specs.declared.faults.RunFault.{RunFault}
-use Rattle.sq_lines.specs.declared.faults.RunFault.TheVariants as faults
+use Rattle.sq_log.specs.declared.faults.RunFault.{RunFault}
+use Rattle.sq_log.specs.declared.faults.RunFault.TheVariants as faults
 
 -- the bytes written to the output, and to the sink for faults
 pub record Outputs : Type 1 where

@@ -3,7 +3,7 @@ use Rattle.std.specs.Prelude.{◌≡◌, ◌⊎◌, ◌++◌, ℕ, List, Option,
 use Rattle.std.specs.Option.{option_map}
 use Rattle.sq_devices.specs.Changes.{FailedWithin, Written, WroteLast, WroteNothing, WroteOrFailed}
 use Rattle.sq_digits.specs.Buffer.{TextBuffer}
-use Rattle.sq_lines.specs.declared.faults.RunFault.TheVariants as faults
+use Rattle.sq_log.specs.declared.faults.RunFault.TheVariants as faults
 use Rattle.sq_commands.specs.declared.replies.Reply.{Reply}
 use Rattle.sq_commands.specs.declared.status.Status.{Status}
 use Rattle.sq_commands.specs.declared.status.Status.TheVariants.{Good, Broken}

@@ -3,7 +3,7 @@ use Rattle.std.specs.Prelude.{◌≡◌, List, [], ◌∷◌, Contains, Result, 
 use Rattle.std.specs.List.{AllZip}
 use Rattle.sq_message.specs.declared.received.Received.{Received}
 use Rattle.sq_text.specs.declared.faults.LineFault.{LineFault}
-use Rattle.sq_lines.specs.declared.log.Answer.{Answer as Told}
+use Rattle.sq_log.specs.declared.log.Answer.{Answer as Told}
 use Rattle.sq_track.specs.declared.heard.Heard.{Heard}
 use Rattle.sq_track.specs.declared.heard.TrackFault.{TrackFault}
 use Rattle.sq_track.specs.Held.{Held, StandsFor}

@@ -2,10 +2,10 @@
 use Rattle.std.specs.Prelude.{◌≡◌, ◌≤◌, ◌<◌, ◌^◌, ◌⊎◌, ℕ, List, [], Option, None, Some, Result, MatchResult, length}
 use Rattle.sq_devices.specs.Changes.{Taken, TookNothing, Written}
 use Rattle.sq_text.specs.Timed.{IsDecimalText}
-use Rattle.sq_lines.specs.Answers.{Manner, WantsAt}
-use Rattle.sq_lines.specs.Runs.{HasRun, WroteAnswers}
-use Rattle.sq_lines.specs.declared.faults.RunFault.{RunFault}
-use Rattle.sq_lines.specs.declared.tallies.Tally.{Tally}
+use Rattle.sq_log.specs.Answers.{Manner, WantsAt}
+use Rattle.sq_log.specs.Runs.{HasRun, WroteAnswers}
+use Rattle.sq_log.specs.declared.faults.RunFault.{RunFault}
+use Rattle.sq_log.specs.declared.tallies.Tally.{Tally}
 use Rattle.sq_commands.specs.Requests.{AskedTrack}
 use Rattle.sq_track.specs.Held.{Held, StandsFor, made_with, settings}
 use Rattle.sq_commands.specs.declared.arguments.ArgumentFault.{ArgumentFault}

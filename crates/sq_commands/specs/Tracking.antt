@@ -7,11 +7,11 @@ use Rattle.sq_text.specs.declared.faults.LineFault.{LineFault}
 use Rattle.sq_text.specs.declared.faults.LineFault.TheVariants as line_faults
 use Rattle.sq_message.specs.declared.received.Received.{Received}
 use Rattle.sq_text.specs.Timed.{IsTimedText, TimedReader}
-use Rattle.sq_lines.specs.Content.{Answer, answer_by}
-use Rattle.sq_lines.specs.Answers.{Answerer, Manner}
-use Rattle.sq_lines.specs.Logs.{told_from}
-use Rattle.sq_lines.specs.declared.job.Verdict.{Verdict}
-use Rattle.sq_lines.specs.declared.job.Verdict.TheVariants as verdicts
+use Rattle.sq_log.specs.Content.{Answer, answer_by}
+use Rattle.sq_log.specs.Answers.{Answerer, Manner}
+use Rattle.sq_log.specs.Logs.{told_from}
+use Rattle.sq_log.specs.declared.job.Verdict.{Verdict}
+use Rattle.sq_log.specs.declared.job.Verdict.TheVariants as verdicts
 use Rattle.sq_track.specs.declared.heard.Heard.{Heard}
 use Rattle.sq_track.specs.declared.heard.TrackFault.{TrackFault}
 use Rattle.sq_track.specs.declared.heard.TrackFault.TheVariants.{Memory, MomentBack}

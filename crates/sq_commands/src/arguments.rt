@@ -81,7 +81,7 @@ impl ArgumentFault {
             ArgumentFault::Address => text.push_str("bad address"),
             ArgumentFault::Feet => text.push_str("bad feet"),
             ArgumentFault::Limit => text.push_str("bad limit"),
-            ArgumentFault::NoLimit => text.push_str(TrackFault::NoLimit.words()),
+            ArgumentFault::NoLimit => text.push_str(TrackFault::NoLimit.label()),
             ArgumentFault::Window => text.push_str("bad window"),
             ArgumentFault::Site => text.push_str("site needs lat and lon"),
             ArgumentFault::Lat(fault) => push_coordinate(text, "lat ", fault),
@@ -99,7 +99,7 @@ fn push_coordinate<const N: usize>(text: &mut TextBuffer<N>, name: &str, fault: 
     ensures len { text_len text.new ≤ text_len text.old + 22 }
 {
     text.push_str(name);
-    text.push_str(fault.words());
+    text.push_str(fault.label());
 }
 
 /// Reads a format: `lines`, `csv` or `json`; lines if no word is given.

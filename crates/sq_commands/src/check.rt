@@ -1,7 +1,7 @@
 //! The command `check`: an answer to each line that is not empty.
 ghost use Rattle.std.specs.Prelude.{◌≡◌, IfOk, option_copied};
 ghost use Rattle.sq_devices.specs.Changes.{TookReported, taken_from, written_on};
-ghost use Rattle.sq_lines.specs.Lines.{lines_of};
+ghost use Rattle.sq_log.specs.Lines.{lines_of};
 ghost use Rattle.sq_commands.specs.Check.{HasChecked, IsCheckRun, IsCheckRunIn, IsChecked, check_manner, status_of};
 ghost use Rattle.sq_commands.specs.Formats.{Writers};
 ghost use Rattle.sq_commands.specs.Outputs.{effects, outputs};
@@ -14,7 +14,7 @@ use crate::formats::{AnswerFormat, CsvRows, Format, JsonRows, Numbered};
 use crate::replies::{break_off, misuse};
 use crate::status::Status;
 use sq_devices::{Sink, Source};
-use sq_lines::{Job, LineText, Log, RunFault, Tally, Telling, Verdict, run_log};
+use sq_log::{Job, LineText, Log, RunFault, Tally, Telling, Verdict, run_log};
 use sq_message::Squitter;
 use sq_text::{LineFault, read_squitter};
 

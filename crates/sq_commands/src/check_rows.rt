@@ -10,7 +10,7 @@ ghost use Rattle.sq_commands.specs.Squitters.{ground_row, message_columns, messa
 ghost use Rattle.sq_commands.specs.Squitters.{position_row, squitter_row};
 
 use crate::formats::RowForm;
-use sq_lines::LineText;
+use sq_log::LineText;
 use sq_message::{Airborne, Code, Me, Other, Parity, Squitter, Surface};
 use sq_text::{
     Form, LineFault, push_address, push_airborne_feet, push_bit, push_blank, push_end,

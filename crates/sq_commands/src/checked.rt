@@ -6,7 +6,7 @@ ghost use Rattle.sq_commands.specs.Squitters.{squitter_telling};
 use crate::check_rows::{CHECK_COLUMNS, push_refused_frame, push_squitter};
 use crate::formats::{CsvRows, Format, JsonRows};
 use crate::numbered::{push_refused_line, push_squitter_line};
-use sq_lines::LineText;
+use sq_log::LineText;
 use sq_message::Squitter;
 use sq_text::LineFault;
 

@@ -15,7 +15,7 @@ use crate::status::Status;
 use crate::summary::{stranger_text, summary};
 use sq_devices::{Clock, Failed, Sink, Source};
 use sq_feed::{Counts, Feed, Format, Manner, Stranger};
-use sq_lines::RunFault;
+use sq_log::RunFault;
 use sq_text::read_decimal;
 
 // A gap of more milliseconds is a jump of the receiver's clock: 10 minutes.

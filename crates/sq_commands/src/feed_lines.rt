@@ -11,7 +11,7 @@ use crate::feed::FeedEnd;
 use sq_devices::{Failed, Sink, put_all, put_last};
 use sq_digits::TextBuffer;
 use sq_feed::{Feed, Order, Timed, push_log_line};
-use sq_lines::RunFault;
+use sq_log::RunFault;
 
 // How many squitters are sorted at once.
 const BATCH: usize = 64;

@@ -5,7 +5,7 @@ ghost use Rattle.sq_angle.specs.Decimal.{DecimalWriter};
 ghost use Rattle.sq_digits.specs.Digits.{hexadecimal};
 ghost use Rattle.sq_commands.specs.Heard.{heard_words, place_words};
 
-use sq_lines::LineText;
+use sq_log::LineText;
 use sq_text::{push_decimal, push_decimals, push_six_places};
 use sq_track::{Heard, Place};
 

@@ -2,7 +2,7 @@
 ghost use Rattle.std.specs.Prelude.{◌≡◌, ◌∷◌, [], List, ℕ, IfSome, None, Option, Some};
 ghost use Rattle.std.specs.Prelude.{false};
 ghost use Rattle.sq_devices.specs.Clocks.{times_of};
-ghost use Rattle.sq_lines.specs.declared.tallies.Tally.{Tally};
+ghost use Rattle.sq_log.specs.declared.tallies.Tally.{Tally};
 ghost use Rattle.sq_text.specs.Timed.{TimedReader};
 ghost use Rattle.sq_track.specs.Held.{Held, StandsFor, settings};
 ghost use Rattle.sq_track.specs.History.{History};
@@ -13,16 +13,16 @@ ghost use Rattle.sq_commands.specs.OneRun.{AlikeOutputsEndAlike, AnyDevices, One
 ghost use Rattle.sq_commands.specs.Outputs.{effects, outputs};
 ghost use Rattle.sq_commands.specs.SlowAnswers.{AreTrueAfter, AreTrueAnswers};
 ghost use Rattle.sq_commands.specs.Runs.{IsRun, IsTimedRun};
-ghost use Rattle.sq_lines.specs.Content.{Answer as LineAnswer};
-ghost use Rattle.sq_lines.specs.Logs.{AreAnswers, told_from};
-ghost use Rattle.sq_lines.specs.declared.log.Answer.{Answer};
+ghost use Rattle.sq_log.specs.Content.{Answer as LineAnswer};
+ghost use Rattle.sq_log.specs.Logs.{AreAnswers, told_from};
+ghost use Rattle.sq_log.specs.declared.log.Answer.{Answer};
 ghost use Rattle.sq_commands.specs.Tracking.{AreHeardLines, HasHeard, track_manner};
 
 use crate::formats::Numbered;
 use crate::found::HeardSquitter;
 use crate::track::Hearing;
 use sq_devices::{Clock, Sink, Source};
-use sq_lines::{Log, Step};
+use sq_log::{Log, Step};
 use sq_track::Tracker;
 
 /// A request has one run, whatever the devices are. If no device failed and memory was granted, two runs on the same
@@ -62,7 +62,7 @@ pub fn true_answers()
 pub fn first_answer_is_true(
     tracker: &mut Tracker,
     piece: &[u8],
-) -> Option<sq_lines::Answer<HeardSquitter>>
+) -> Option<sq_log::Answer<HeardSquitter>>
     ensures { IfSome result (λ answer. AreTrueAnswers tracker.old (answer ∷ [])) }
 {
     let job = Hearing {

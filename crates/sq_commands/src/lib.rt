@@ -37,7 +37,7 @@ pub use replies::{Reply, ReplyText, break_off, deliver, report};
 pub use requests::{EncodeWords, FeedWords, Request, TrackWords};
 pub use sq_devices::{Clock, NoClock, Sink, Source};
 pub use sq_feed::{Counts, Format as SourceFormat, Stranger};
-pub use sq_lines::{Answer, LineText, RunFault, Tally};
+pub use sq_log::{Answer, LineText, RunFault, Tally};
 pub use sq_track::Tracker;
 pub use status::Status;
 pub use told::{heard_header, tell_heard};

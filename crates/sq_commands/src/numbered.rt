@@ -8,7 +8,7 @@ ghost use Rattle.sq_commands.specs.Squitters.{squitter_lines};
 
 use crate::found::HeardSquitter;
 use crate::heard::push_heard;
-use sq_lines::LineText;
+use sq_log::LineText;
 use sq_message::Squitter;
 use sq_text::{LineFault, push_decimal, push_fault, push_summary};
 

@@ -10,12 +10,12 @@ ghost use Rattle.sq_devices.specs.Changes.{written_on};
 ghost use Rattle.sq_devices.specs.Clocks.{times_of};
 ghost use Rattle.sq_feed.specs.Counts.{Tally as Counts};
 ghost use Rattle.sq_feed.specs.declared.machine.Format.{Format as SourceFormat};
-ghost use Rattle.sq_lines.specs.Answers.{WantsAt};
-ghost use Rattle.sq_lines.specs.Content.{Text, answer_by, content};
-ghost use Rattle.sq_lines.specs.Runs.{AreAnswered, IsClosedBy, WroteAnswers};
-ghost use Rattle.sq_lines.specs.declared.faults.RunFault.{RunFault};
-ghost use Rattle.sq_lines.specs.declared.faults.RunFault.TheVariants.{Memory, Read, Write};
-ghost use Rattle.sq_lines.specs.declared.tallies.Tally.{Tally};
+ghost use Rattle.sq_log.specs.Answers.{WantsAt};
+ghost use Rattle.sq_log.specs.Content.{Text, answer_by, content};
+ghost use Rattle.sq_log.specs.Runs.{AreAnswered, IsClosedBy, WroteAnswers};
+ghost use Rattle.sq_log.specs.declared.faults.RunFault.{RunFault};
+ghost use Rattle.sq_log.specs.declared.faults.RunFault.TheVariants.{Memory, Read, Write};
+ghost use Rattle.sq_log.specs.declared.tallies.Tally.{Tally};
 ghost use Rattle.sq_message.specs.Parts.{squitter_parts};
 ghost use Rattle.sq_message.specs.Places.{IsPosition};
 ghost use Rattle.sq_message.specs.declared.received.Received.{Received};
@@ -44,7 +44,7 @@ ghost use Rattle.sq_commands.specs.SlowAnswers.{AreTrueAfter, AreTrueAnswers, he
 ghost use Rattle.sq_commands.specs.Summary.{stranger_text, summary_text};
 ghost use Rattle.sq_feed.specs.declared.message.Stranger.{Stranger};
 ghost use Rattle.sq_commands.specs.Track.{IsLogRun, IsTracked};
-ghost use Rattle.sq_lines.specs.declared.log.Answer.{Answer};
+ghost use Rattle.sq_log.specs.declared.log.Answer.{Answer};
 ghost use Rattle.sq_commands.specs.Tracking.{HasHeard, OnePast, track_manner};
 
 use crate::found::HeardSquitter;

@@ -18,7 +18,7 @@ use crate::arguments::ArgumentFault;
 use crate::status::Status;
 use sq_devices::{Failed, Sink, put_last};
 use sq_digits::TextBuffer;
-use sq_lines::RunFault;
+use sq_log::RunFault;
 use sq_message::{Place, PlaceFault};
 use sq_text::{LineFault, place_text, push_fault, push_place_fault};
 

@@ -7,7 +7,7 @@ use crate::formats::{CsvRows, Format, JsonRows};
 use crate::found::HeardSquitter;
 use crate::numbered::{push_heard_line, push_refused_line};
 use crate::track_rows::{TRACK_COLUMNS, push_heard_row, push_refused_row};
-use sq_lines::{Answer, LineText};
+use sq_log::{Answer, LineText};
 use sq_text::LineFault;
 
 /// Returns the text before the first answer of a format.

@@ -9,7 +9,7 @@ ghost use Rattle.sq_commands.specs.Heard.{answer_word, blank_track, heard_row, p
 
 use crate::formats::RowForm;
 use crate::found::HeardSquitter;
-use sq_lines::LineText;
+use sq_log::LineText;
 use sq_message::Place;
 use sq_text::{
     Form, LineFault, kind_name, push_address, push_blank, push_degrees, push_end, push_fault_word,

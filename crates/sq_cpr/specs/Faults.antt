@@ -10,12 +10,12 @@ abbrev pub local_fault_text : LocalFault → List ℕ
 local_fault_text locals.OutOfRange = codes "latitude out of range"
 
 -- what is printed of two codes with no point, up to the numbers
-abbrev pub pair_fault_words : PairFault → List ℕ
-pair_fault_words pairs.OutOfRange = local_fault_text locals.OutOfRange
-pair_fault_words (pairs.ZoneCounts even odd) = codes "zone counts "
+abbrev pub pair_fault_label : PairFault → List ℕ
+pair_fault_label pairs.OutOfRange = local_fault_text locals.OutOfRange
+pair_fault_label (pairs.ZoneCounts even odd) = codes "zone counts "
 
 -- what is printed of two codes with no point
 abbrev pub pair_fault_text : PairFault → List ℕ
-pair_fault_text pairs.OutOfRange = pair_fault_words pairs.OutOfRange
+pair_fault_text pairs.OutOfRange = pair_fault_label pairs.OutOfRange
 pair_fault_text (pairs.ZoneCounts even odd) =
-    pair_fault_words (pairs.ZoneCounts even odd) ++ decimal even ++ codes " " ++ decimal odd
+    pair_fault_label (pairs.ZoneCounts even odd) ++ decimal even ++ codes " " ++ decimal odd

@@ -4,7 +4,7 @@ ghost use Rattle.std.specs.Prelude.{◌≡◌, ◌↔◌, ◌<◌, IsSome, IfSom
 /// The codes of a zone, in each coordinate: 2^17.
 pub(crate) const CODES: u64 = 131_072;
 
-/// What is sent of a position: the latitude's and the longitude's number, each of 17 bits (RTCA DO-260B, appendix on
+/// The code of a position: a number of 17 bits for the latitude, and one for the longitude (RTCA DO-260B, appendix on
 /// compact position reporting).
 #[derive(Clone, Copy, Debug, PartialEq, Eq)]
 pub struct Code {

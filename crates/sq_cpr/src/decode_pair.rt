@@ -94,7 +94,7 @@ fn turned_longitude<S: Span>(base: i64, zones: u8, reference: &Angle) -> u32
     ensures below { result < circle zones S.span.repeats }
 {
     let span = degrees_of::<S>();
-    // Where a span is the circle, a representative stands for the same index of the circle as the base.
+    // If the span is the whole circle, a representative and the base are the same index of the circle.
     if repeats_of::<S>() == 1 {
         return on_circle(base, zones, 1);
     }
@@ -170,12 +170,12 @@ fn origin() -> Position
     Position::new(zero, zero).unwrap()
 }
 
-/// The point of two codes that were sent from nearly one place in the air: the newest parity's of the one pair whose
-/// latitudes are close, and whose longitudes are.
+/// Decodes two codes that were sent in the air from nearly one place. Exactly one pair of points has close latitudes
+/// and close longitudes. Returns its point of the newest parity.
 ///
-/// `OutOfRange` exactly where the close latitudes do not both lie in -90 to 90 degrees, by whole turns of 360; else
-/// `ZoneCounts` exactly where their zone counts differ, the even one's first. RTCA DO-260B, appendix on compact
-/// position reporting, globally unambiguous airborne decoding.
+/// Errors, in this order: `OutOfRange` if the close latitudes, less whole turns of 360, do not both lie within -90 to
+/// 90 degrees; `ZoneCounts`, with the even count first, if their zone counts (NL) differ. RTCA DO-260B, appendix on
+/// compact position reporting, globally unambiguous airborne decoding.
 #[inline(always)]
 pub fn pair_air(even: Code, odd: Code, newest: Parity) -> Result<GridPoint<Air>, PairFault>
     ensures { AirPairAnswer (code_pair (numbers_of even) (numbers_of odd) newest) result }
@@ -183,14 +183,13 @@ pub fn pair_air(even: Code, odd: Code, newest: Parity) -> Result<GridPoint<Air>,
     pair::<Air>(even, odd, newest, &origin())
 }
 
-/// The point of two codes that were sent from nearly one place on the ground: the newest parity's of the one pair whose
-/// latitudes are close, and whose longitudes are. Of the places that these codes have, 90 degrees apart, it is the one
-/// within 45 degrees of the site in both coordinates; of two such, 45 degrees to either side, the northern or the
-/// eastern.
+/// Decodes two codes that were sent on the ground from nearly one place. They have several pairs of close points, 90
+/// degrees apart. Returns the point of the newest parity that is within 45 degrees of the site in both coordinates. If
+/// two are exactly 45 degrees away on either side, it returns the northern or the eastern one.
 ///
-/// `OutOfRange` exactly where one of the latitudes, so chosen by itself, lies outside -90 to 90 degrees; else
-/// `ZoneCounts` exactly where their zone counts differ, the even one's first. RTCA DO-260B, appendix on compact
-/// position reporting, globally unambiguous surface decoding.
+/// Errors, in this order: `OutOfRange` if a latitude, chosen by itself in this way, lies outside -90 to 90 degrees;
+/// `ZoneCounts`, with the even count first, if the zone counts (NL) differ. RTCA DO-260B, appendix on compact position
+/// reporting, globally unambiguous surface decoding.
 pub fn pair_ground(
     even: Code,
     odd: Code,

@@ -1,4 +1,4 @@
-//! The point to which a position rounds, and its code.
+//! Rounding a position to a point of the grid, and encoding it.
 ghost use Rattle.std.specs.Prelude.{◌≡◌, ◌≤◌, ◌<◌, ℤ, pos};
 ghost use Rattle.sq_angle.specs.Angle.{degrees};
 ghost use Rattle.sq_angle.specs.Fraction.{IsWithin};
@@ -17,11 +17,11 @@ use crate::span::{Span, degrees_of, repeats_of};
 use sq_angle::{Angle, Position};
 use sq_zones::{Parity, lon_zones};
 
-/// The point of the parity's grid to which a position rounds (RTCA DO-260B, appendix on compact position reporting):
-/// the nearest latitude index, a tie taken north, and by the longitude zones of that latitude the nearest longitude
-/// index, a tie taken east.
+/// Rounds a position to a point of the parity's grid (RTCA DO-260B, appendix on compact position reporting). The point
+/// has the nearest latitude index, the northern one of two. It has the nearest longitude index by the longitude zones
+/// of that latitude, the eastern one of two.
 ///
-/// Each position rounds to exactly one point; a point's own [`GridPoint::position`] rounds to that point.
+/// Each position rounds to exactly one point. A point's own [`GridPoint::position`] rounds to that point.
 pub fn nearest<S: Span>(position: &Position, parity: Parity) -> GridPoint<S>
     ensures parity { result.parity ≡ parity }
     ensures of_grid { IsGridPoint S.span result }
@@ -36,7 +36,7 @@ pub fn nearest<S: Span>(position: &Position, parity: Parity) -> GridPoint<S>
     rounded(position, parity)
 }
 
-/// The code of the point to which a position rounds.
+/// Encodes a position: returns the code of its rounded point.
 pub fn encode<S: Span>(position: &Position, parity: Parity) -> Code
     ensures code { (point : Point) × (point.parity ≡ parity)
         × PositionRoundsTo S.span position.now point × (numbers_of result ≡ code_of point) }
@@ -46,7 +46,7 @@ pub fn encode<S: Span>(position: &Position, parity: Parity) -> Code
     nearest::<S>(position, parity).code()
 }
 
-// A point to which a position rounds.
+// Rounds a position to a point.
 fn rounded<S: Span>(position: &Position, parity: Parity) -> GridPoint<S>
     ensures parity { result.parity ≡ parity }
     ensures rounds { PositionRoundsTo S.span position.now result }
@@ -66,7 +66,7 @@ fn nearest_latitude<S: Span>(lat: &Angle, parity: Parity) -> i32
     nearest_index(lat, degrees_of::<S>(), lat_zones(parity)) as i32
 }
 
-// The index of the circle that stands for the nearest number of longitude steps.
+// Returns the nearest number of longitude steps, as an index of the circle.
 fn nearest_longitude<S: Span>(lon: &Angle, zones: u8) -> u32
     requires at_least { 1 ≤ zones }
     requires at_most { zones ≤ 59 }

@@ -1,12 +1,12 @@
 //! Why codes are decoded to no point.
 ghost use Rattle.std.specs.Prelude.{◌≡◌, ◌≤◌, length};
-ghost use Rattle.sq_cpr.specs.Faults.{local_fault_text, pair_fault_words};
+ghost use Rattle.sq_cpr.specs.Faults.{local_fault_text, pair_fault_label};
 
 use thiserror::Error;
 
 /// Why a code is decoded to no point near a reference.
 #[derive(Clone, Copy, Debug, PartialEq, Eq, Error)]
-#[error("{text}", text = self.words())]
+#[error("{text}", text = self.label())]
 pub enum LocalFault {
     /// The latitude near the reference lies outside -90 to 90 degrees.
     OutOfRange,
@@ -14,7 +14,7 @@ pub enum LocalFault {
 
 impl LocalFault {
     /// Its text, which has no number, at most 21 bytes.
-    pub fn words(self) -> &'static str
+    pub fn label(self) -> &'static str
         ensures value { result.now ≡ local_fault_text self }
         ensures short { length result.now ≤ 21 }
     {
@@ -28,21 +28,21 @@ impl LocalFault {
 #[derive(Clone, Copy, Debug, PartialEq, Eq, Error)]
 pub enum PairFault {
     /// One of the two close latitudes lies outside -90 to 90 degrees.
-    #[error("{text}", text = self.words())]
+    #[error("{text}", text = self.label())]
     OutOfRange,
     /// The zone counts of the even and of the odd latitude, which differ.
-    #[error("{words}{0} {1}", words = self.words())]
+    #[error("{label}{0} {1}", label = self.label())]
     ZoneCounts(u8, u8),
 }
 
 impl PairFault {
     /// Its text up to its numbers, at most 21 bytes.
-    pub fn words(self) -> &'static str
-        ensures value { result.now ≡ pair_fault_words self }
+    pub fn label(self) -> &'static str
+        ensures value { result.now ≡ pair_fault_label self }
         ensures short { length result.now ≤ 21 }
     {
         match self {
-            PairFault::OutOfRange => LocalFault::OutOfRange.words(),
+            PairFault::OutOfRange => LocalFault::OutOfRange.label(),
             PairFault::ZoneCounts(_, _) => "zone counts ",
         }
     }

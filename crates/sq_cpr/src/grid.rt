@@ -13,10 +13,10 @@ use sq_angle::{Angle, Position};
 use sq_zones::{Parity, lon_zones};
 use std::marker::{Model, PhantomData};
 
-/// A point of a parity's grid (RTCA DO-260B, appendix on compact position reporting): its latitude is `lat_index` steps
-/// of the latitude zones, its longitude `lon_index` steps of as many longitude zones as its own latitude has.
+/// A point of a parity's grid (RTCA DO-260B, appendix on compact position reporting). Its latitude is `lat_index` steps
+/// of the latitude zones. Its longitude is `lon_index` steps of the longitude zones that its own latitude has.
 ///
-/// Two points of a span are equal exactly if their parity and both indices are.
+/// Two points of a span are equal exactly if their parities and both indices are.
 #[derive_where(Clone, Copy, Debug, PartialEq, Eq)]
 pub struct GridPoint<S: Span> {
     parity: Parity,

@@ -1,8 +1,8 @@
 //! Grid indices: rounds an angle to the nearest index, and picks the candidate index of a code nearest the reference,
 //! or of a close pair.
 //!
-//! All numbers are whole. Near a reference, whose fraction may be long, one function multiplies, divides or subtracts
-//! once, so that each fits 128 bits visibly; near 0 degrees 64 bits do.
+//! All numbers are whole. The fraction of a reference may be long. Each function near one therefore multiplies, divides
+//! or subtracts once, so that the result clearly fits 128 bits. Near 0 degrees 64 bits are enough.
 ghost use Rattle.std.specs.Prelude.{◌≡◌, ℕ, ◌*◌, ◌^◌, ◌<◌, ◌≤◌, ℤ, pos, ◌+ℤ◌, ◌-ℤ◌, ◌*ℤ◌, ◌≤ℤ◌, ◌<ℤ◌, neg_ℤ};
 ghost use Rattle.std.specs.Prelude.{unsigned_abs};
 ghost use Rattle.sq_angle.specs.Angle.{degrees};
@@ -51,7 +51,7 @@ fn long_quotient(value: i128, divisor: i128) -> i128
     value.div_euclid(divisor)
 }
 
-// The quotient, rounded down, for what is seldom needed: apart, so that the common case stays short.
+// Returns the quotient, rounded down. It is rarely needed, and apart from its callers, so that these stay short.
 #[cold]
 #[inline(never)]
 fn far_quotient(value: i128, divisor: u128) -> i128
@@ -87,7 +87,7 @@ fn turns(away: i128, width: u128) -> i128
     ensures small { unsigned_abs result < 2 ^ 102 }
 {
     let above = 2 * away + (width as i128 - 1);
-    // What is there already, as most indices are, needs no division.
+    // Most indices are within the range already, and need no division.
     if 0 <= above && above < 2 * width as i128 {
         return 0;
     }
@@ -115,7 +115,7 @@ fn distance(index: i128, zones: u8, span: u32, reference: &Angle) -> i128
     scaled(step, index) - scaled(steps, reference.num() as i128)
 }
 
-// Of the indices `count` zones apart, the one within half that many zones of 0.
+// Of candidate indices that are `count` zones apart, returns the one within half that distance of 0.
 fn index_at_zero(base: i64, count: u8) -> i64
     requires base_small { unsigned_abs base < 2 ^ 44 }
     requires some { 0 < count }
@@ -126,14 +126,14 @@ fn index_at_zero(base: i64, count: u8) -> i64
 {
     let period = count as u64 * CODES;
     let above = 2 * base + (period as i64 - 1);
-    // What is there already, as most indices are, needs no division.
+    // Most indices are within the range already, and need no division.
     if 0 <= above && above < 2 * period as i64 {
         return base;
     }
     base - period as i64 * rare_quotient(above, 2 * period)
 }
 
-// Of the indices `count` zones apart, the one within half that many zones of any reference.
+// Of candidate indices that are `count` zones apart, returns the one within half that distance of any reference.
 fn index_at(base: i128, count: u8, zones: u8, span: u32, reference: &Angle) -> i32
     requires base_small { unsigned_abs base < 2 ^ 44 }
     requires some { 0 < count }
@@ -151,7 +151,7 @@ fn index_at(base: i128, count: u8, zones: u8, span: u32, reference: &Angle) -> i
     (base - scaled(period, turns)) as i32
 }
 
-/// Of the indices `count` zones apart, the one within half that many zones of the reference.
+/// Of candidate indices that are `count` zones apart, returns the one within half that distance of the reference.
 pub(crate) fn index_within(base: i64, count: u8, zones: u8, span: u32, reference: &Angle) -> i32
     requires base_small { unsigned_abs base < 2 ^ 44 }
     requires some { 0 < count }
@@ -196,7 +196,7 @@ pub(crate) fn index_of(code: u32, zone: i64) -> i64
     code as i64 + CODES as i64 * zone
 }
 
-// The nearest whole number of steps, of which `zones * 2^17` make the span.
+// Returns the nearest whole number of steps. A span has `zones * 2^17` steps.
 pub(crate) fn nearest_index(angle: &Angle, span: u32, zones: u8) -> i64
     requires span_some { 0 < span }
     requires span_small { span ≤ 360 }

@@ -1,10 +1,10 @@
-//! Compact position reporting: the grids, the points to which positions round, and the codes that are sent of them.
+//! Compact position reporting (CPR): grids, rounding to their points, and the codes of points.
 //!
-//! [`nearest`] answers the one point of a parity's grid to which a position rounds, and [`encode`] its code, two
-//! numbers of 17 bits, which the standard calls YZ and XZ. [`local`] answers the point of a code near a reference,
-//! [`pair_air`] and [`pair_ground`] the close points of an even and an odd code. All of it is written and proved once
-//! for every lawful span; [`Air`] and [`Ground`] are the two that are sent. The standard calls [`local`] locally
-//! unambiguous decoding, and that of a pair globally unambiguous. No call takes memory.
+//! [`nearest`] rounds a position to a point of a parity's grid. [`encode`] returns the code of that point, two numbers
+//! of 17 bits, which the standard calls YZ and XZ. [`local`] decodes a code near a reference, which the standard calls
+//! locally unambiguous decoding. [`pair_air`] and [`pair_ground`] decode an even and an odd code, which it calls
+//! globally unambiguous. All of this is written and proved once for every lawful span. [`Air`] and [`Ground`] are the
+//! two in use. No call allocates.
 #![tactic(auto)]
 
 mod code;

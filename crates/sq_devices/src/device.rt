@@ -11,9 +11,9 @@ use thiserror::Error;
 #[error("the device failed")]
 pub struct Failed;
 
-/// Where bytes come from.
+/// An input.
 ///
-/// No source answers more than 10^12 gets.
+/// At most 10^12 gets of a source return data.
 pub trait Source {
     /// The bytes that are still to come, where the source reports them.
     ghost to_come: { Self → Option (List ℕ) };
@@ -21,18 +21,17 @@ pub trait Source {
     /// Whether a get has failed.
     ghost has_failed: { Self → Bool };
 
-    /// How many more gets the source answers.
+    /// The number of gets that can still succeed.
     ghost gets_left: { Self → ℕ };
 
-    /// Whether one get answered these bytes, of a source as it was before it and as it is after it. What that tells is
-    /// the source's to say; that a get was answered so, none but a get can show of any source.
+    /// One get returned these bytes: the source is in the first state before it, and in the second one after it. Each
+    /// source defines this relation. Only a get can show that it holds.
     ghost Gave: { Self → List ℕ → Self → Type 0 };
 
-    /// Moves the first bytes to come to the front of `into`, and answers how many: 0 into a buffer
-    /// that has room only where no more bytes come. An answer uses up one get.
+    /// Moves the next bytes to the front of `into`, and returns how many. Returns 0 into a buffer with room only at the
+    /// end of the input. A success uses up one get.
     ///
-    /// `Err` marks the source as failed. Its bytes stay as they were, or the source does not report
-    /// them, and no get is used up.
+    /// `Err` marks the source as failed, and uses up no get. Its bytes are unchanged, or it does not report them.
     fn get(&mut self, into: &mut [u8]) -> Result<usize, Failed>
         ensures fits { IfOk result (λ n. n ≤ length into.new) }
         ensures gave { IfOk result (λ n. Gave self.old (take n into.new) self.new) }
@@ -58,16 +57,16 @@ pub trait Sink {
     /// How often the sink was finished.
     ghost finishes: { Self → ℕ };
 
-    /// Whether one put took these bytes, of a sink as it was before it and as it is after it. What that tells is the
-    /// sink's to say; that a put took them, none but a put can show of any sink.
+    /// One put took these bytes: the sink is in the first state before it, and in the second one after it. Each sink
+    /// defines this relation. Only a put can show that it holds.
     ghost Took: { Self → List ℕ → Self → Type 0 };
 
     /// Whether one finish led from the one sink to the other.
     ghost Finished: { Self → Self → Type 0 };
 
-    /// Appends the first bytes of `from`, at least one if there is one, and answers how many.
+    /// Appends the first bytes of `from`, at least one if there is one, and returns how many.
     ///
-    /// `Err` marks the sink as failed. Its bytes stay as they were, or the sink does not report them.
+    /// `Err` marks the sink as failed. Its bytes are unchanged, or the sink does not report them.
     fn put(&mut self, from: &[u8]) -> Result<usize, Failed>
         ensures fits { IfOk result (λ n. n ≤ length from.now) }
         ensures took { IfOk result (λ n. Took self.old (take n from.now) self.new) }
@@ -78,9 +77,9 @@ pub trait Sink {
         ensures kept { OnErr result (KeepsOrHides (written self.old) (written self.new)) }
         ensures uncounted { finishes self.new ≡ finishes self.old };
 
-    /// Sends what was put on its way, since no more comes. It changes no bytes.
+    /// Flushes everything that was put, at the end of the output. It changes no bytes.
     ///
-    /// `Err` marks the sink as failed, and counts as no finish. Its bytes stay as they were, or the sink does not
+    /// `Err` marks the sink as failed, and does not count as a finish. Its bytes are unchanged, or the sink does not
     /// report them.
     fn finish(&mut self) -> Result<(), Failed>
         ensures bytes { OnOk result (Keeps (written self.old) (written self.new)) }

@@ -1,10 +1,9 @@
-//! Devices: what bytes are read from and written to, clocks, and the console of a program.
+//! Devices: inputs and outputs of bytes, clocks, and the console of a program.
 //!
-//! A [`Source`] gives bytes and a [`Sink`] takes them. Contracts over them see the bytes of a device
-//! (those still to come, those written), which it may not report, whether it has failed, and how
-//! many more gets a source answers. [`Reading`] is a source over any reader, [`Writing`] a sink over
-//! any writer, [`put_all`] puts a whole text, and [`put_last`] the last one. A [`Clock`] says when bytes arrived, and
-//! [`NoClock`] is that of a recorded input.
+//! A [`Source`] is an input and a [`Sink`] an output. Contracts see the bytes of a device, still to come or written, if
+//! it reports them. They also see whether it has failed, and how many more gets of a source can succeed. [`Reading`] is
+//! a source over any reader, and [`Writing`] a sink over any writer. [`put_all`] puts a whole text, and [`put_last`]
+//! the last one. A [`Clock`] tells when bytes arrived. [`NoClock`] is the clock of a recorded input.
 //!
 //! The console is the words of the command line ([`arguments`]) and the standard streams. [`PromptInput`] and
 //! [`PromptOutput`] are buffered, so that a file goes through in large blocks. The output is flushed before the input

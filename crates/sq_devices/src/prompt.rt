@@ -14,8 +14,8 @@ use std::simd::prelude::*;
 // How many bytes one read may bring.
 const INPUT_BYTES: usize = 65536;
 
-// How many bytes of output wait for a flush at most: more than the input of one read asks for, so
-// that a file goes through with one write for a read.
+// The size of the output buffer. It holds more than the answers to the input of one read, so that a file goes through
+// with one write for each read.
 const OUTPUT_BYTES: usize = 2 * INPUT_BYTES;
 
 // How many bytes of output stand before the writer's buffer at most.
@@ -70,7 +70,7 @@ impl<W: Write + Drop> Buffered<W> {
         }
     }
 
-    // Hands what the array holds to the writer, whose buffer is longer: it takes all of it, or nothing where it fails.
+    // Hands the array's bytes to the writer. Its buffer is longer, so it takes all of them, or none if it fails.
     fn send_front(&mut self) -> bool {
         match self.writer.write(&self.front[..self.held]) {
             Ok(count) if count == self.held => {
@@ -130,7 +130,7 @@ fn move_piece<R: Read>(reader: &mut BufReader<R>, into: &mut [u8])
 
 /// A buffered writer that an input and an output share.
 ///
-/// What is left in the buffer is written when this is dropped.
+/// Dropping it writes the rest of the buffer.
 #[derive(Drop)]
 pub struct SharedOutput<W: Write + Drop> {
     buffered: RefCell<Buffered<W>>,
@@ -153,7 +153,7 @@ impl<W: Write + Drop> SharedOutput<W> {
         })
     }
 
-    // Writes what is in the buffer. A failure is marked, for the next put or finish to report.
+    // Writes the buffer. Marks a failure, so that the next put or finish reports it.
     fn flush(&self) {
         if let Ok(mut buffered) = self.buffered.try_borrow_mut() {
             if !buffered.flush() {
@@ -175,8 +175,7 @@ pub struct PromptInput<'a, R, W: Write + Drop> {
 }
 
 impl<'a, R: Read + Drop, W: Write + Drop> PromptInput<'a, R, W> {
-    /// A source, not failed, that answers at most `gets` gets (10^12 at most). `Err` comes where a
-    /// growth was refused.
+    /// Returns a source that has not failed. At most `gets` of its gets succeed (10^12 at most). `Err`: no memory.
     pub fn new(
         alloc: Global,
         reader: R,
@@ -204,7 +203,7 @@ impl<'a, R: Read + Drop, W: Write + Drop> PromptInput<'a, R, W> {
 impl<R: Read, W: Write + Drop> PromptInput<'_, R, W> {
     ghost use Rattle.sq_devices.specs.Prompt.{IsGiven, to_come_of};
 
-    // Gets what is no piece of the buffer, and flushes the output before it waits.
+    // Reads past the buffer, and flushes the output before it waits.
     #[cold]
     #[inline(never)]
     fn get_far(&mut self, into: &mut [u8]) -> Result<usize, Failed>
@@ -261,7 +260,7 @@ impl<R: Read, W: Write + Drop> Source for PromptInput<'_, R, W> {
     }
 }
 
-/// A sink over the shared output. It does not report what was written.
+/// A sink over the shared output. It does not report the bytes that were written.
 #[derive(Drop)]
 pub struct PromptOutput<'a, W: Write + Drop> {
     output: &'a SharedOutput<W>,

@@ -16,9 +16,9 @@ pub struct Reading<R> {
 impl<R: Read> Reading<R> {
     ghost use Rattle.sq_devices.specs.Streams.{reader_of};
 
-    /// A source, not failed, that answers at most `gets` gets (10^12 at most).
+    /// Returns a source that has not failed. At most `gets` of its gets succeed (10^12 at most).
     ///
-    /// Each get after these fails, and so does one whose read answers an error.
+    /// Each later get fails. A get also fails if the reader returns an error.
     pub fn new(reader: R, gets: u64) -> Self
         requires { gets ≤ 1000000000000 }
         ensures reader { reader_of result ≡ reader }

@@ -1,4 +1,4 @@
-//! The words of the command line, and what stands in the way of a start.
+//! The words of the command line, and the errors of a start.
 ghost use Rattle.std.specs.Prelude.{◌≡◌, false};
 ghost use Rattle.std.specs.Io.KnownBytes.{Appends};
 
@@ -30,8 +30,8 @@ impl From<AllocError> for Trouble {
 impl Trouble {
     ghost use Rattle.sq_devices.specs.Start.{status_of, text_of};
 
-    /// Tells it on the sink for faults in one line, `bad words` or `out of memory`, and answers the
-    /// exit status, 2 or 3. What cannot be written there changes no status.
+    /// Reports the error in one line, `bad words` or `out of memory`, and returns the exit status, 2 or 3. A failure of
+    /// the sink changes no status.
     pub fn tell<K: Sink>(self, faults: &mut K) -> u8
         ensures status { result ≡ status_of self }
         ensures told { K.has_failed faults.new ≡ false

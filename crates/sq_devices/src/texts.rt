@@ -9,8 +9,7 @@ use crate::{Failed, Sink};
 
 /// Appends the whole text, in as many puts as it takes.
 ///
-/// `Err` comes where one of the puts failed. The sink is then marked as failed, and what was
-/// appended is a prefix of the text.
+/// `Err` if one of the puts failed. The sink is then marked as failed, and has a prefix of the text.
 pub fn put_all<K: Sink>(sink: &mut K, text: &[u8]) -> Result<(), Failed>
     ensures appended { OnOk result (Appends (K.written sink.old) (K.written sink.new) text.now) }
     ensures unmarked { OnOk result (K.has_failed sink.new ≡ K.has_failed sink.old) }
@@ -27,10 +26,9 @@ pub fn put_all<K: Sink>(sink: &mut K, text: &[u8]) -> Result<(), Failed>
     Ok(())
 }
 
-/// Appends the whole text, and then finishes the sink once, since no more comes.
+/// Appends the whole text, and then finishes the sink once.
 ///
-/// `Err` comes where one of the puts or the finish failed. The sink is then marked as failed, and
-/// what was appended is a prefix of the text.
+/// `Err` if one of the puts or the finish failed. The sink is then marked as failed, and has a prefix of the text.
 pub fn put_last<K: Sink>(sink: &mut K, text: &[u8]) -> Result<(), Failed>
     ensures appended { OnOk result (Appends (K.written sink.old) (K.written sink.new) text.now) }
     ensures unmarked { OnOk result (K.has_failed sink.new ≡ K.has_failed sink.old) }

@@ -15,10 +15,10 @@ pub struct Writing<W> {
 impl<W: Write> Writing<W> {
     ghost use Rattle.sq_devices.specs.Streams.{writer_of};
 
-    /// A sink, not failed.
+    /// Returns a sink that has not failed.
     ///
-    /// A put fails whose write answers an error, or 0 for a text that has bytes. `finish` flushes
-    /// the writer, and fails where that does, and after 2^64 - 1 finishes.
+    /// A put fails if the writer returns an error, or 0 for a text that is not empty. `finish` flushes the writer. It
+    /// fails if that does, and after 2^64 - 1 finishes.
     pub fn new(writer: W) -> Self
         ensures writer { writer_of result ≡ writer }
         ensures written { ⟦<Writing<W> as Sink>⟧.written result ≡ W.contents writer }
@@ -32,7 +32,7 @@ impl<W: Write> Writing<W> {
         }
     }
 
-    /// The writer, with what was put.
+    /// Returns the writer.
     pub fn into_inner(self) -> W
         ensures { result ≡ writer_of self }
     {

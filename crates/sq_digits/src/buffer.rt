@@ -96,8 +96,8 @@ impl<const N: usize> TextBuffer<N> {
         self.len = place + 1;
     }
 
-    /// Appends the first `count` of some ASCII characters. There must be room for all of them: they are stored as one
-    /// word, and what stands behind the text says nothing.
+    /// Appends the first `count` of some ASCII characters. There must be room for all of them, since they are stored as
+    /// one word. The bytes behind the text have no meaning.
     #[inline(always)]
     pub fn push_front(&mut self, characters: &[u8], count: usize)
         requires ascii { IsAscii characters.now }

@@ -209,7 +209,7 @@ fn push_next_three<const N: usize>(text: &mut TextBuffer<N>, number: u64)
     text.push_front(four_characters(number), 3);
 }
 
-// Four characters of the table, of which the first are the digits of a number below 1000, and how many these are.
+// Returns four characters of the table, and how many of them are digits of a number below 1000.
 #[inline(always)]
 fn leading_digits(number: u64) -> (&'static [u8], usize)
     requires { number < 1000 }
@@ -223,7 +223,7 @@ fn leading_digits(number: u64) -> (&'static [u8], usize)
     (&THREES.as_bytes()[at..at + 4], 3 - zeros)
 }
 
-// Four characters of the table, of which the first three are the digits of a number below 1000.
+// Returns four characters of the table: three digits of a number below 1000, and one without meaning.
 #[inline(always)]
 fn four_characters(number: u64) -> &'static [u8]
     requires { number < 1000 }

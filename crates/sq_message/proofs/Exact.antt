@@ -75,17 +75,29 @@ squitter_of_exactly kind head point squitter = (
 
 pub pair_place_exactly : PairPlaceExactly
 pair_place_exactly = record {
-  other = λ older newer site answer no. (
-    λ h. h.other no,
-    λ e. record { other = λ n. e; strangers = λ both n. absurd (no both); kindred = λ both n. absurd (no both) },
+  not_positions = λ older newer site answer no. (
+    λ h. h.not_positions no,
+    λ e. record {
+      not_positions = λ n. e;
+      other_address = λ both n. absurd (no both);
+      same_address = λ both n. absurd (no both);
+    },
   );
-  strangers = λ older newer site answer both differ. (
-    λ h. h.strangers both differ,
-    λ e. record { other = λ n. absurd (n both); strangers = λ b n. e; kindred = λ b same. absurd (differ same) },
+  other_address = λ older newer site answer both differ. (
+    λ h. h.other_address both differ,
+    λ e. record {
+      not_positions = λ n. absurd (n both);
+      other_address = λ b n. e;
+      same_address = λ b same. absurd (differ same);
+    },
   );
-  kindred = λ older newer site answer both same. (
-    λ h. h.kindred both same,
-    λ e. record { other = λ n. absurd (n both); strangers = λ b n. absurd (n same); kindred = λ b n. e },
+  same_address = λ older newer site answer both same. (
+    λ h. h.same_address both same,
+    λ e. record {
+      not_positions = λ n. absurd (n both);
+      other_address = λ b n. absurd (n same);
+      same_address = λ b n. e;
+    },
   );
 }
 

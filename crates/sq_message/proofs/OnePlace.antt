@@ -62,18 +62,18 @@ one_of_kind kind o n site x y h k = elim (one_or_two o.parity n.parity) [
   | inr differ ↦ one_pair_of kind o n site x y (h.1 differ) (k.1 differ)
 ]
 
-one_kindred : (m n : Me) (site : Option Position) (x y : Result Place PlaceFault) → IsPlaceOfOneAddress m n site x
+one_of_address : (m n : Me) (site : Option Position) (x y : Result Place PlaceFault) → IsPlaceOfOneAddress m n site x
     → IsPlaceOfOneAddress m n site y → x ≡ y
-one_kindred (kinds.Airborne o) (kinds.Airborne n) site x y h k = one_of_kind InAir o n site x y h k
-one_kindred (kinds.Surface o) (kinds.Surface n) site x y h k = one_of_kind OnGround o n site x y h k
-one_kindred (kinds.Airborne o) (kinds.Surface n) site x y h k = h ∙ sym k
-one_kindred (kinds.Surface o) (kinds.Airborne n) site x y h k = h ∙ sym k
-one_kindred m n site x y h k = absurd h
+one_of_address (kinds.Airborne o) (kinds.Airborne n) site x y h k = one_of_kind InAir o n site x y h k
+one_of_address (kinds.Surface o) (kinds.Surface n) site x y h k = one_of_kind OnGround o n site x y h k
+one_of_address (kinds.Airborne o) (kinds.Surface n) site x y h k = h ∙ sym k
+one_of_address (kinds.Surface o) (kinds.Airborne n) site x y h k = h ∙ sym k
+one_of_address m n site x y h k = absurd h
 
 pub one_pair_place : OnePairPlace
 one_pair_place older newer site x y h k = elim (past_or_fault (squitter_parts older) (squitter_parts newer) site) [
-  | inl here ↦ one_kindred older.me newer.me site x y (h.kindred here.positions here.address)
-      (k.kindred here.positions here.address)
+  | inl here ↦ one_of_address older.me newer.me site x y (h.same_address here.positions here.address)
+      (k.same_address here.positions here.address)
   | inr refused ↦ refused.1 x h ∙ sym (refused.1 y k)
 ]
 
@@ -115,38 +115,42 @@ some_of_kind kind o n site = elim (one_or_two o.parity n.parity) [
       (some.0, (λ same. absurd (differ same), λ _. some.1))
 ]
 
-some_kindred : (m n : Me) (site : Option Position) → IsPosition m → IsPosition n
+some_of_address : (m n : Me) (site : Option Position) → IsPosition m → IsPosition n
     → (answer : Result Place PlaceFault) × IsPlaceOfOneAddress m n site answer
-some_kindred (kinds.Airborne o) (kinds.Airborne n) site p q = some_of_kind InAir o n site
-some_kindred (kinds.Surface o) (kinds.Surface n) site p q = some_of_kind OnGround o n site
-some_kindred (kinds.Airborne o) (kinds.Surface n) site p q = (Err OtherKind, refl)
-some_kindred (kinds.Surface o) (kinds.Airborne n) site p q = (Err OtherKind, refl)
-some_kindred (kinds.Airborne o) (kinds.Other n) site p q = absurd q
-some_kindred (kinds.Surface o) (kinds.Other n) site p q = absurd q
-some_kindred (kinds.Other o) n site p q = absurd p
+some_of_address (kinds.Airborne o) (kinds.Airborne n) site p q = some_of_kind InAir o n site
+some_of_address (kinds.Surface o) (kinds.Surface n) site p q = some_of_kind OnGround o n site
+some_of_address (kinds.Airborne o) (kinds.Surface n) site p q = (Err OtherKind, refl)
+some_of_address (kinds.Surface o) (kinds.Airborne n) site p q = (Err OtherKind, refl)
+some_of_address (kinds.Airborne o) (kinds.Other n) site p q = absurd q
+some_of_address (kinds.Surface o) (kinds.Other n) site p q = absurd q
+some_of_address (kinds.Other o) n site p q = absurd p
 
 pub some_pair_place : SomePairPlace
 some_pair_place older newer site = elim (both_positions older.me newer.me) [
   | inr neither ↦ (
     Err NotPosition,
     record {
-      other = λ _. refl;
-      strangers = λ both differ. absurd (neither both);
-      kindred = λ both same. absurd (neither both);
+      not_positions = λ _. refl;
+      other_address = λ both differ. absurd (neither both);
+      same_address = λ both same. absurd (neither both);
     },
   )
   | inl both ↦ elim (eqb_tells older.address newer.address) [
     | inr differ ↦ (
       Err OtherAddress,
-      record { other = λ no. absurd (no both); strangers = λ _ _. refl; kindred = λ _ same. absurd (differ.1 same) },
+      record {
+        not_positions = λ no. absurd (no both);
+        other_address = λ _ _. refl;
+        same_address = λ _ same. absurd (differ.1 same);
+      },
     )
     | inl same ↦
-        let some = some_kindred older.me newer.me site both.0 both.1 in (
+        let some = some_of_address older.me newer.me site both.0 both.1 in (
           some.0,
           record {
-            other = λ no. absurd (no both);
-            strangers = λ _ differ. absurd (differ same.1);
-            kindred = λ _ _. some.1;
+            not_positions = λ no. absurd (no both);
+            other_address = λ _ differ. absurd (differ same.1);
+            same_address = λ _ _. some.1;
           },
         )
   ]

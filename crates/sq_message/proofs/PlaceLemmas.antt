@@ -70,9 +70,9 @@ pub past_or_fault : (older newer : SquitterParts) (site : Option Position)
 past_or_fault older newer site = elim (both_positions older.me newer.me) [
   | inl both ↦ elim (eqb_tells older.address newer.address) [
     | inl same ↦ inl (record { positions = both; address = same.1 })
-    | inr other ↦ inr (_, λ answer h. h.strangers both other.1)
+    | inr other ↦ inr (_, λ answer h. h.other_address both other.1)
   ]
-  | inr neither ↦ inr (_, λ answer h. h.other neither)
+  | inr neither ↦ inr (_, λ answer h. h.not_positions neither)
 ]
 
 -- a pair that has a place is past its first two faults
@@ -138,15 +138,15 @@ kind_point kind older newer site p h = elim (one_or_two older.parity newer.parit
 ]
 
 -- the point of a place that two positions of one address are decoded to
-kindred_point : (kind : Kind) (older : Me) (newer : PositionOf kind) (site : Option Position) (p : Point)
+one_address_point : (kind : Kind) (older : Me) (newer : PositionOf kind) (site : Option Position) (p : Point)
     → IsPlaceOfOneAddress older (me_at kind newer) site (Ok (place_at kind p))
     → IsPointOf (span_of kind) (numbers_of newer.code) newer.parity p
-kindred_point InAir (kinds.Airborne older) newer site p h = kind_point InAir older newer site p h
-kindred_point InAir (kinds.Surface older) newer site p h = no_fault (Air p) _ h
-kindred_point InAir (kinds.Other older) newer site p h = absurd h
-kindred_point OnGround (kinds.Airborne older) newer site p h = no_fault (Ground p) _ h
-kindred_point OnGround (kinds.Surface older) newer site p h = kind_point OnGround older newer site p h
-kindred_point OnGround (kinds.Other older) newer site p h = absurd h
+one_address_point InAir (kinds.Airborne older) newer site p h = kind_point InAir older newer site p h
+one_address_point InAir (kinds.Surface older) newer site p h = no_fault (Air p) _ h
+one_address_point InAir (kinds.Other older) newer site p h = absurd h
+one_address_point OnGround (kinds.Airborne older) newer site p h = no_fault (Ground p) _ h
+one_address_point OnGround (kinds.Surface older) newer site p h = kind_point OnGround older newer site p h
+one_address_point OnGround (kinds.Other older) newer site p h = absurd h
 
 -- what a position of the kind is decoded to near a reference
 pub local_of : (kind : Kind) (position : PositionOf kind) (reference : Position) (answer : Result Place PlaceFault)
@@ -166,9 +166,9 @@ decoded_point kind squitter position p is (inl (reference, h)) =
     record { of_grid = here.of_grid; of_parity = here.of_parity; has_code = here.has_code }
 decoded_point kind squitter position p is (inr (older, site, h)) =
     let here = past older squitter site (place_at kind p) h in
-    kindred_point kind older.me position site p
+    one_address_point kind older.me position site p
     (subst (λ me. IsPlaceOfOneAddress older.me me site (Ok (place_at kind p))) is
-    (h.kindred here.positions here.address))
+    (h.same_address here.positions here.address))
 
 -- ---- codes
 

@@ -79,14 +79,14 @@ is_position InAir head parity code = tt
 is_position OnGround head parity code = tt
 
 -- what two positions of one address are decoded to, by their messages
-kindred : (older newer : Squitter) (m n : Me) (site : Option Position) (answer : Result Place PlaceFault)
+same_address : (older newer : Squitter) (m n : Me) (site : Option Position) (answer : Result Place PlaceFault)
     → older.me ≡ m → newer.me ≡ n → IsPosition m → IsPosition n
     → older.address ≡ newer.address → IsPairPlace (squitter_parts older) (squitter_parts newer) site answer
     → IsPlaceOfOneAddress m n site answer
-kindred older newer m n site answer is_m is_n first second address h =
+same_address older newer m n site answer is_m is_n first second address h =
     let both : IsPosition older.me × IsPosition newer.me =
     (subst IsPosition (sym is_m) first, subst IsPosition (sym is_n) second) in
-    let here = h.kindred both address in
+    let here = h.same_address both address in
     subst (λ x. IsPlaceOfOneAddress m x site answer) is_n
     (subst (λ x. IsPlaceOfOneAddress x newer.me site answer) is_m here)
 
@@ -125,7 +125,7 @@ close_pair kind even_head odd_head x y a b even odd Even site address h k near l
       decoded_close kind site odd_head even_head b.parity a.parity Even o.code n.code answer a b
       (two b.parity a.parity k.of_parity h.of_parity) h.of_parity
       h.rounds.of_grid k.rounds.of_grid (has_code a n.code n.numbers) (has_code b o.code o.numbers) near lie
-      (kindred k.squitter h.squitter _ _ site answer o.me n.me
+      (same_address k.squitter h.squitter _ _ site answer o.me n.me
       (is_position kind odd_head b.parity o.code) (is_position kind even_head a.parity n.code)
       (o.address ∙ sym address ∙ sym n.address) is),
 )
@@ -140,7 +140,7 @@ close_pair kind even_head odd_head x y a b even odd Odd site address h k near li
       decoded_close kind site even_head odd_head a.parity b.parity Odd o.code n.code answer a b
       (two_back a.parity b.parity h.of_parity k.of_parity) k.of_parity
       h.rounds.of_grid k.rounds.of_grid (has_code a o.code o.numbers) (has_code b n.code n.numbers) near lie
-      (kindred h.squitter k.squitter _ _ site answer o.me n.me
+      (same_address h.squitter k.squitter _ _ site answer o.me n.me
       (is_position kind even_head a.parity o.code) (is_position kind odd_head b.parity n.code)
       (o.address ∙ address ∙ sym n.address) is),
 )

@@ -47,13 +47,13 @@ SquitterOfExactly =
 
 -- Of a pair: without two positions this fault; of two addresses that one; of one address what its places say.
 pub record PairPlaceExactly : Type 0 where
-  pub other : (older newer : SquitterParts) (site : Option Position) (answer : Result Place PlaceFault)
+  pub not_positions : (older newer : SquitterParts) (site : Option Position) (answer : Result Place PlaceFault)
       → ¬ (IsPosition older.me × IsPosition newer.me)
       → IsPairPlace older newer site answer ↔ (answer ≡ Err NotPosition)
-  pub strangers : (older newer : SquitterParts) (site : Option Position) (answer : Result Place PlaceFault)
+  pub other_address : (older newer : SquitterParts) (site : Option Position) (answer : Result Place PlaceFault)
       → IsPosition older.me × IsPosition newer.me → older.address ≢ newer.address
       → IsPairPlace older newer site answer ↔ (answer ≡ Err OtherAddress)
-  pub kindred : (older newer : SquitterParts) (site : Option Position) (answer : Result Place PlaceFault)
+  pub same_address : (older newer : SquitterParts) (site : Option Position) (answer : Result Place PlaceFault)
       → IsPosition older.me × IsPosition newer.me → older.address ≡ newer.address
       → IsPairPlace older newer site answer ↔ IsPlaceOfOneAddress older.me newer.me site answer
 

@@ -146,9 +146,10 @@ IsPlaceOfOneAddress (kinds.Other older) newer site answer = ⊥
 -- What two squitters are decoded to: the first fault that applies, else the place of the newer.
 pub record IsPairPlace (older newer : SquitterParts) (site : Option Position)
     (answer : Result Place PlaceFault) : Type 0 where
-  pub other : ¬ (IsPosition older.me × IsPosition newer.me) → answer ≡ Err NotPosition
-  pub strangers : IsPosition older.me × IsPosition newer.me → older.address ≢ newer.address → answer ≡ Err OtherAddress
-  pub kindred : IsPosition older.me × IsPosition newer.me → older.address ≡ newer.address
+  pub not_positions : ¬ (IsPosition older.me × IsPosition newer.me) → answer ≡ Err NotPosition
+  pub other_address : IsPosition older.me × IsPosition newer.me → older.address ≢ newer.address
+      → answer ≡ Err OtherAddress
+  pub same_address : IsPosition older.me × IsPosition newer.me → older.address ≡ newer.address
       → IsPlaceOfOneAddress older.me newer.me site answer
 
 -- the place is one that the squitter is decoded to: near some reference, or as the newer of some pair

@@ -1,11 +1,11 @@
-//! DF17 squitters that carry a position, and the frames that spell them.
+//! DF17 extended squitters that carry a position, and their frames.
 //!
-//! Frames and squitters correspond one to one: `read_frame` answers the squitter that a frame spells, and `write_frame`
-//! the one frame that spells a squitter. A squitter is of one of three kinds: air, ground, and other, which is kept
-//! raw; its message ([`Me`]) is the standard's ME field. [`send_air`] and [`send_ground`] make the squitter of a
-//! position: a head with the code of the point to which the position rounds. [`place_local`] and [`place_pair`] answer
-//! the point again, near a reference or of an even and an odd squitter, and [`send_point`] sends it again. How all of
-//! this fits together is [`laws::headline`]. No call takes memory.
+//! Frames and squitters correspond one to one: `read_frame` returns the squitter of a frame, and `write_frame` the
+//! frame of a squitter. A squitter has one of three kinds: air, ground, and other, which is kept raw. Its message
+//! ([`Me`]) is the standard's ME field. [`send_air`] and [`send_ground`] make the squitter of a position: a head, and
+//! the code of the rounded position. [`place_local`] and [`place_pair`] decode the point again, near a reference or
+//! from an even and an odd squitter. [`send_point`] sends that point again. [`laws::headline`] says how all of this
+//! fits together. No call allocates.
 #![tactic(auto)]
 
 mod air;

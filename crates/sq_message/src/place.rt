@@ -1,4 +1,4 @@
-//! Places: the points that squitters are decoded to, and what is sent of a point.
+//! Places: decoding squitters to points, and sending a point again.
 ghost use Rattle.std.specs.Prelude.{◌≡◌, ◌≤◌, ◌↔◌, IsTrue, None, length, option_copied};
 ghost use Rattle.sq_cpr.specs.Code.{numbers_of};
 ghost use Rattle.sq_message.specs.Parts.{squitter_parts};
@@ -41,34 +41,34 @@ impl Place {
 #[derive(Clone, Copy, Debug, PartialEq, Eq, Error)]
 pub enum PlaceFault {
     /// A squitter is no position: it is of kind other.
-    #[error("{text}", text = self.words())]
+    #[error("{text}", text = self.label())]
     NotPosition,
     /// The addresses of a pair differ.
-    #[error("{text}", text = self.words())]
+    #[error("{text}", text = self.label())]
     OtherAddress,
     /// One of a pair is in the air and one on the ground.
-    #[error("{text}", text = self.words())]
+    #[error("{text}", text = self.label())]
     OtherKind,
     /// Both of a pair are even, or both are odd.
-    #[error("{text}", text = self.words())]
+    #[error("{text}", text = self.label())]
     SameParity,
     /// A pair on the ground has no site.
-    #[error("{text}", text = self.words())]
+    #[error("{text}", text = self.label())]
     NoSite,
     /// The latitude near the reference, or one of the close latitudes of a pair, lies outside -90 to 90 degrees.
-    #[error("{text}", text = self.words())]
+    #[error("{text}", text = self.label())]
     OutOfRange,
     /// The zone counts of a pair's even and of its odd latitude, which differ.
-    #[error("{words}{0} {1}", words = self.words())]
+    #[error("{label}{0} {1}", label = self.label())]
     ZoneCounts(u8, u8),
 }
 
 impl PlaceFault {
-    ghost use Rattle.sq_message.specs.Faults.{place_fault_words};
+    ghost use Rattle.sq_message.specs.Faults.{place_fault_label};
 
     /// Its text up to its numbers, at most 21 bytes.
-    pub fn words(self) -> &'static str
-        ensures value { result.now ≡ place_fault_words self }
+    pub fn label(self) -> &'static str
+        ensures value { result.now ≡ place_fault_label self }
         ensures short { length result.now ≤ 21 }
     {
         match self {
@@ -77,8 +77,8 @@ impl PlaceFault {
             PlaceFault::OtherKind => "other kind",
             PlaceFault::SameParity => "same parity",
             PlaceFault::NoSite => "no site",
-            PlaceFault::OutOfRange => LocalFault::OutOfRange.words(),
-            PlaceFault::ZoneCounts(even, odd) => PairFault::ZoneCounts(even, odd).words(),
+            PlaceFault::OutOfRange => LocalFault::OutOfRange.label(),
+            PlaceFault::ZoneCounts(even, odd) => PairFault::ZoneCounts(even, odd).label(),
         }
     }
 }
@@ -126,8 +126,8 @@ impl Squitter {
     }
 }
 
-/// The squitter with the parity and the code of a place, and all else as it was (ICAO Doc 9871, registers 0,5 and 0,6).
-/// The place has to be of its kind: see [`Squitter::fits`].
+/// Returns the squitter with the parity and the code of a place, and all other fields unchanged (ICAO Doc 9871,
+/// registers 0,5 and 0,6). The place has to be of its kind: see [`Squitter::fits`].
 pub fn send_point(squitter: &Squitter, place: &Place) -> Squitter
     requires { Fits (squitter_parts squitter.now).me place.now }
     ensures { IsSentAt (squitter_parts squitter.now) place.now (squitter_parts result) }
@@ -168,12 +168,12 @@ pub fn place_local(squitter: &Squitter, reference: &Position) -> Result<Place, P
     }
 }
 
-/// The place of the newer of two squitters that were sent from nearly one place: its point of the one pair whose
-/// latitudes are close, and whose longitudes are; on the ground within 45 degrees of the site. A pair in the air does
-/// not look at the site.
+/// Decodes two squitters that were sent from nearly one place, and returns the place of the newer one. In the air,
+/// exactly one pair of points is close, and the site is not used. On the ground, the point is within 45 degrees of the
+/// site.
 ///
-/// `Err` has the first fault of [`PlaceFault`] that applies, and comes exactly where one does. RTCA DO-260B, appendix
-/// on compact position reporting, globally unambiguous decoding.
+/// Returns the first error of [`PlaceFault`] that applies. RTCA DO-260B, appendix on compact position reporting,
+/// globally unambiguous decoding.
 #[inline(always)]
 pub fn place_pair(
     older: &Squitter,
@@ -202,7 +202,7 @@ struct Codes {
     odd: Code,
 }
 
-// The codes of two parities, of which this is the newer's.
+// Orders the codes by parity. `newest` is the parity of the newer code.
 fn by_parity(newest: Parity, older: Code, newer: Code) -> Codes
     ensures even { numbers_of result.even ≡ (pair_by_parity newest older newer).even }
     ensures odd { numbers_of result.odd ≡ (pair_by_parity newest older newer).odd }

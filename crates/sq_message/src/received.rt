@@ -1,7 +1,7 @@
 //! Squitters with their moments.
 use crate::squitter::Squitter;
 
-/// A squitter, and the moment at which it was received.
+/// A squitter, and its timestamp in milliseconds.
 #[derive(Clone, Copy, Debug, PartialEq, Eq)]
 pub struct Received {
     /// The moment, in milliseconds.

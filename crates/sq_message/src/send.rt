@@ -11,8 +11,8 @@ use crate::{AirFields, AirHead, GroundFields, GroundHead, Head, Kind, Squitter};
 use sq_angle::Position;
 use sq_cpr::{Code, Parity, encode};
 
-/// The squitter of a position: the head with the code of the point of the parity's grid to which the position rounds
-/// (RTCA DO-260B section 2.2.3.2 and the appendix on compact position reporting).
+/// Returns the squitter of a position: the head, and the code of the position rounded to the parity's grid (RTCA
+/// DO-260B section 2.2.3.2 and the appendix on compact position reporting).
 pub fn send_position<F: Kind>(head: Head<F>, position: &Position, parity: Parity) -> Squitter
     ensures sent { (point : Point) × (point.parity ≡ parity) × PositionRoundsTo (span_of F.kind) position.now point
         × IsSquitterOf F.kind (head_of F.kind F.fields head) point (squitter_parts result) }

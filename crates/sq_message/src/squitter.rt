@@ -86,19 +86,19 @@ impl Squitter {
 #[derive(Clone, Copy, Debug, PartialEq, Eq, Error)]
 pub enum FrameFault {
     /// The downlink format, bits 1 to 5, is not 17 but this.
-    #[error("{words}{0}", words = self.words())]
+    #[error("{label}{0}", label = self.label())]
     NotDf17(u8),
     /// The remainder is not 0 but this.
-    #[error("{words}{0:06X}", words = self.words())]
+    #[error("{label}{0:06X}", label = self.label())]
     Parity(u32),
 }
 
 impl FrameFault {
-    ghost use Rattle.sq_message.specs.Faults.{frame_fault_words};
+    ghost use Rattle.sq_message.specs.Faults.{frame_fault_label};
 
     /// Its text up to its number, at most 9 bytes.
-    pub fn words(self) -> &'static str
-        ensures value { result.now ≡ frame_fault_words self }
+    pub fn label(self) -> &'static str
+        ensures value { result.now ≡ frame_fault_label self }
         ensures short { length result.now ≤ 9 }
     {
         match self {

@@ -26,8 +26,8 @@ fn position_of(lat: i64, lon: i64, parts: u64) -> Position
     Position::new(lat, lon).unwrap()
 }
 
-/// 52.2572021 3.9193726, sent of the even grid with any head and read near 52.258 3.918, is the point to which it
-/// rounds.
+/// The position 52.2572021 3.9193726, sent in the even format with any head and decoded near 52.258 3.918, gives its
+/// own rounded point.
 pub fn read_near(head: AirHead) -> Result<Place, PlaceFault>
     ensures { result ≡ Ok (Air (point_at Even (pos 1141576) 36 51372)) }
 {

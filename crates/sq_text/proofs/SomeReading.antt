@@ -17,7 +17,7 @@ use Rattle.sq_text.specs.declared.frame_text.TextFault.{TextFault}
 use Rattle.sq_text.specs.declared.frame_text.TextFault.TheVariants.{Wrap, Short, Length, Digit}
 use Rattle.sq_text.specs.declared.faults.LineFault.{LineFault}
 use Rattle.sq_text.specs.Faults.{of_text, of_frame}
-use Rattle.sq_text.specs.FrameText.{Begins, Ends, IsBody, IsHalfWrapped, IsFrameText, IsAnswer}
+use Rattle.sq_text.specs.FrameText.{Begins, Ends, IsBody, IsHalfWrapped, IsFrameText, IsFrameReading}
 use Rattle.sq_text.specs.Reading.{IsSquitterReading}
 
 -- a text begins with `*` or does not
@@ -72,14 +72,14 @@ some_body text = elim (begins text) [
 -- 28 digits are a frame's, or one of them is bad
 some_digits : (text body : List ℕ) → IsBody text body → length body ≡ 28 → (r : Result (List ℕ) FromHexError)
     → decode_of body ≡ r
-    → (answer : Result Frame TextFault) × IsAnswer text answer
+    → (answer : Result Frame TextFault) × IsFrameReading text answer
 some_digits text body is long (Ok bytes) gives = (Ok (record { 0 = bytes }), (body, is, long, gives))
 some_digits text body is long (Err e) gives = elim (decode_of-err body e gives) [
   | inl odd ↦ absurd (omega arith)
   | inr bad ↦ (Err (Digit (bad.0 + 1)), (body, is, long, (bad.0, refl, (bad.2, bad.3, bad.4))))
 ]
 
-pub some_answer : (text : List ℕ) → (answer : Result Frame TextFault) × IsAnswer text answer
+pub some_answer : (text : List ℕ) → (answer : Result Frame TextFault) × IsFrameReading text answer
 some_answer text = elim (some_body text) [
   | inr half ↦ (Err Wrap, half)
   | inl (body, is) ↦ elim (cases_eq (length body) 28) [
@@ -97,7 +97,7 @@ frame_is text frame (body, is, long, gives) =
     let ok = decode_of-ok body frame.0 gives in
     (omega (arith, ok.2, long), AllBelowBase-each frame.0 ok.3)
 
-of_answer : (text : List ℕ) (answer : Result Frame TextFault) → IsAnswer text answer
+of_answer : (text : List ℕ) (answer : Result Frame TextFault) → IsFrameReading text answer
     → (r : Result Squitter LineFault) × IsSquitterReading text r
 of_answer text (Err e) is = (Err (of_text e), inl (e, is, refl))
 of_answer text (Ok frame) is = of_reading text frame is (some_reading frame (frame_is text frame is))

@@ -2,7 +2,7 @@
 use Rattle.std.specs.Prelude.{ℕ, List, ◌++◌, codes, decimal}
 use Rattle.sq_message.specs.declared.squitter.FrameFault.{FrameFault}
 use Rattle.sq_message.specs.declared.squitter.FrameFault.TheVariants as of_frames
-use Rattle.sq_message.specs.Faults.{frame_fault_text, frame_fault_words}
+use Rattle.sq_message.specs.Faults.{frame_fault_text, frame_fault_label}
 use Rattle.sq_text.specs.declared.frame_text.TextFault.{TextFault}
 use Rattle.sq_text.specs.declared.frame_text.TextFault.TheVariants as of_texts
 use Rattle.sq_text.specs.declared.faults.LineFault.{LineFault}
@@ -23,23 +23,23 @@ of_frame (of_frames.NotDf17 format) = NotDf17 format
 of_frame (of_frames.Parity remainder) = Parity remainder
 
 -- the text of a fault, up to its number
-abbrev pub fault_words : LineFault → List ℕ
-fault_words LongLine = codes "long line"
-fault_words Moment = codes "bad moment"
-fault_words Wrap = codes "bad wrapping"
-fault_words Short = codes "short frame"
-fault_words (Length n) = codes "bad length "
-fault_words (Digit place) = codes "bad digit "
-fault_words (NotDf17 format) = frame_fault_words (of_frames.NotDf17 format)
-fault_words (Parity remainder) = frame_fault_words (of_frames.Parity remainder)
-fault_words (MomentBack last) = codes "moment back "
-fault_words Full = codes "table full"
+abbrev pub fault_label : LineFault → List ℕ
+fault_label LongLine = codes "long line"
+fault_label Moment = codes "bad moment"
+fault_label Wrap = codes "bad wrapping"
+fault_label Short = codes "short frame"
+fault_label (Length n) = codes "bad length "
+fault_label (Digit place) = codes "bad digit "
+fault_label (NotDf17 format) = frame_fault_label (of_frames.NotDf17 format)
+fault_label (Parity remainder) = frame_fault_label (of_frames.Parity remainder)
+fault_label (MomentBack last) = codes "moment back "
+fault_label Full = codes "table full"
 
 -- the text of a fault
 abbrev pub fault_text : LineFault → List ℕ
-fault_text (Length n) = fault_words (Length n) ++ decimal n
-fault_text (Digit place) = fault_words (Digit place) ++ decimal place
+fault_text (Length n) = fault_label (Length n) ++ decimal n
+fault_text (Digit place) = fault_label (Digit place) ++ decimal place
 fault_text (NotDf17 format) = frame_fault_text (of_frames.NotDf17 format)
-fault_text (Parity remainder) = fault_words (Parity remainder) ++ hexadecimal 6 remainder
-fault_text (MomentBack last) = fault_words (MomentBack last) ++ decimal last
-fault_text fault = fault_words fault
+fault_text (Parity remainder) = fault_label (Parity remainder) ++ hexadecimal 6 remainder
+fault_text (MomentBack last) = fault_label (MomentBack last) ++ decimal last
+fault_text fault = fault_label fault

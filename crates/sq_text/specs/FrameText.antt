@@ -47,5 +47,5 @@ IsTextFault text (Digit p) =
     (body : List ℕ) × IsBody text body × (length body ≡ 28) × ((k : ℕ) × (p ≡ k + 1) × IsFirstBadDigit body k)
 
 -- what `read_text` answers
-abbrev pub IsAnswer : List ℕ → Result Frame TextFault → Type 0
-IsAnswer text answer = MatchResult answer (IsFrameText text) (IsTextFault text)
+abbrev pub IsFrameReading : List ℕ → Result Frame TextFault → Type 0
+IsFrameReading text answer = MatchResult answer (IsFrameText text) (IsTextFault text)

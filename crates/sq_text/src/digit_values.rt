@@ -42,6 +42,6 @@ pub(crate) fn bytes_of(values: u8x16) -> [u8; 8]
 {
     let high = values.swizzle([0, 2, 4, 6, 8, 10, 12, 14]);
     let low = values.swizzle([1, 3, 5, 7, 9, 11, 13, 15]);
-    // As one word, of which a register holds all eight.
+    // One word, which a register holds.
     u64::from_le_bytes((high << u8x8::splat(4) | low).to_array()).to_le_bytes()
 }

@@ -1,7 +1,7 @@
 //! Why a line is refused.
 ghost use Rattle.std.specs.Prelude.{◌≡◌, ◌+◌, ◌≤◌, ◌++◌, length};
 ghost use Rattle.sq_digits.specs.Buffer.{text_len};
-ghost use Rattle.sq_text.specs.Faults.{fault_text, fault_words, of_frame, of_text};
+ghost use Rattle.sq_text.specs.Faults.{fault_text, fault_label, of_frame, of_text};
 
 use crate::frame_text::TextFault;
 use sq_digits::{TextBuffer, push_decimal, push_six_places};
@@ -12,41 +12,41 @@ use thiserror::Error;
 #[derive(Clone, Copy, Debug, PartialEq, Eq, Error)]
 pub enum LineFault {
     /// More than 64 bytes stand before the line feed or the end of input.
-    #[error("{text}", text = self.words())]
+    #[error("{text}", text = self.label())]
     LongLine,
-    /// What stands before the first space is no moment, or there is no space.
-    #[error("{text}", text = self.words())]
+    /// There is no space, or the text before the first one is no timestamp.
+    #[error("{text}", text = self.label())]
     Moment,
-    /// One of `*` and `;` stands without the other.
-    #[error("{text}", text = self.words())]
+    /// The text has one of `*` and `;` without the other.
+    #[error("{text}", text = self.label())]
     Wrap,
     /// The body of the frame text has 14 bytes.
-    #[error("{text}", text = self.words())]
+    #[error("{text}", text = self.label())]
     Short,
     /// The body has this many bytes, neither 28 nor 14.
-    #[error("{words}{0}", words = self.words())]
+    #[error("{label}{0}", label = self.label())]
     Length(usize),
     /// This byte of the body, counted from 1, is the first that is no hexadecimal digit.
-    #[error("{words}{0}", words = self.words())]
+    #[error("{label}{0}", label = self.label())]
     Digit(usize),
     /// The downlink format is not 17 but this.
-    #[error("{words}{0}", words = self.words())]
+    #[error("{label}{0}", label = self.label())]
     NotDf17(u8),
     /// The remainder is not 0 but this.
-    #[error("{words}{0:06X}", words = self.words())]
+    #[error("{label}{0:06X}", label = self.label())]
     Parity(u32),
     /// The moment lies before this one, the last that was accepted.
-    #[error("{words}{0}", words = self.words())]
+    #[error("{label}{0}", label = self.label())]
     MomentBack(u64),
     /// The table of addresses is full.
-    #[error("{text}", text = self.words())]
+    #[error("{text}", text = self.label())]
     Full,
 }
 
 impl LineFault {
     /// Its text up to its number, at most 12 bytes.
-    pub fn words(self) -> &'static str
-        ensures value { result.now ≡ fault_words self }
+    pub fn label(self) -> &'static str
+        ensures value { result.now ≡ fault_label self }
         ensures short { length result.now ≤ 12 }
     {
         match self {
@@ -56,8 +56,8 @@ impl LineFault {
             LineFault::Short => "short frame",
             LineFault::Length(_) => "bad length ",
             LineFault::Digit(_) => "bad digit ",
-            LineFault::NotDf17(format) => FrameFault::NotDf17(format).words(),
-            LineFault::Parity(remainder) => FrameFault::Parity(remainder).words(),
+            LineFault::NotDf17(format) => FrameFault::NotDf17(format).label(),
+            LineFault::Parity(remainder) => FrameFault::Parity(remainder).label(),
             LineFault::MomentBack(_) => "moment back ",
             LineFault::Full => "table full",
         }
@@ -94,7 +94,7 @@ pub fn push_fault<const N: usize>(text: &mut TextBuffer<N>, fault: LineFault)
     ensures bytes { text.new.bytes ≡ text.old.bytes ++ fault_text fault }
     ensures len { text_len text.new ≤ text_len text.old + 32 }
 {
-    text.push_str(fault.words());
+    text.push_str(fault.label());
     match fault {
         LineFault::Length(length) => push_decimal(text, length as u64),
         LineFault::Digit(place) => push_decimal(text, place as u64),

@@ -1,7 +1,7 @@
 //! Frame text.
 ghost use Rattle.std.specs.Prelude.{◌≡◌, length, Ok, IfSome, MatchOption, MatchResult};
 ghost use Rattle.hex.specs.Hex.{decode_of};
-ghost use Rattle.sq_text.specs.FrameText.{IsAnswer, IsBody, IsFirstBadDigit, IsFrameText, IsHalfWrapped};
+ghost use Rattle.sq_text.specs.FrameText.{IsFrameReading, IsBody, IsFirstBadDigit, IsFrameText, IsHalfWrapped};
 
 use crate::digit_values::{are_values, bytes_of, digit_values};
 use crate::faults::LineFault;
@@ -14,7 +14,7 @@ use thiserror::Error;
 #[derive(Clone, Copy, Debug, PartialEq, Eq, Error)]
 #[error("{fault}", fault = LineFault::from(*self))]
 pub enum TextFault {
-    /// One of `*` and `;` stands without the other.
+    /// The text has one of `*` and `;` without the other.
     Wrap,
     /// The body has 14 bytes: a reply of 56 bits.
     Short,
@@ -24,10 +24,12 @@ pub enum TextFault {
     Digit(usize),
 }
 
-/// The frame of a frame text: 28 hexadecimal digits of either case, bare or between `*` and `;`. The text without these
-/// two is its body. It takes no memory.
+/// Reads a frame text: 28 hexadecimal digits of either case, bare or between `*` and `;`. The text without these two is
+/// its body. Allocates nothing.
+///
+/// Errors, in this order: `Wrap`, `Short`, `Length`, `Digit`.
 pub fn read_text(text: &[u8]) -> Result<Frame, TextFault>
-    ensures { IsAnswer text.now result }
+    ensures { IsFrameReading text.now result }
 {
     let Some(body) = body_of(text) else {
         return Err(TextFault::Wrap);
@@ -50,8 +52,7 @@ pub(crate) fn frame_of_text(text: &[u8]) -> Option<Frame>
     frame_of_digits(body_of_28(text)?)
 }
 
-// The body, where it has 28 bytes. A wrapped one is looked for first, as most logs have it: its length says where the
-// wrapping stands.
+// Returns the body if it has 28 bytes. Looks for a wrapped one first, as in most logs: its length shows the wrapping.
 #[inline(always)]
 fn body_of_28(text: &[u8]) -> Option<&[u8]>
     ensures { IfSome result (λ body. IsBody text.now body.now × (length body.now ≡ 28)) }
@@ -112,7 +113,7 @@ fn decode(body: &[u8]) -> Result<Frame, usize>
     }
 }
 
-// The text without `*` and `;`, or None where one of them stands without the other.
+// Returns the text without `*` and `;`, or `None` if it has one without the other.
 fn body_of(text: &[u8]) -> Option<&[u8]>
     ensures { MatchOption result (IsHalfWrapped text.now) (λ body. IsBody text.now body.now) }
 {

@@ -7,7 +7,7 @@ ghost use Rattle.sq_message.specs.declared.squitter.Squitter.{Squitter};
 ghost use Rattle.sq_text.specs.Altitudes.{AltitudeReader};
 ghost use Rattle.sq_text.specs.declared.faults.LineFault.{LineFault};
 ghost use Rattle.sq_text.specs.declared.frame_text.TextFault.{TextFault};
-ghost use Rattle.sq_text.specs.FrameText.{IsAnswer};
+ghost use Rattle.sq_text.specs.FrameText.{IsFrameReading};
 ghost use Rattle.sq_angle.specs.declared.position.Position.{Position};
 ghost use Rattle.sq_text.specs.Place.{IsPlaceText};
 ghost use Rattle.sq_text.specs.Reading.{IsSquitterReading, SquitterReader};
@@ -19,7 +19,7 @@ use crate::{LineFault, TextFault};
 
 /// A text has one answer of `read_text`.
 pub fn one_answer()
-    ensures { (text : List ℕ) (r s : Result Frame TextFault) → IsAnswer text r → IsAnswer text s → r ≡ s }
+    ensures { (text : List ℕ) (r s : Result Frame TextFault) → IsFrameReading text r → IsFrameReading text s → r ≡ s }
 {}
 
 /// A text has one reading as a squitter.

@@ -13,7 +13,7 @@ pub fn push_place_fault<const N: usize>(text: &mut TextBuffer<N>, fault: PlaceFa
     ensures bytes { text.new.bytes ≡ text.old.bytes ++ place_fault_text fault }
     ensures len { text_len text.new ≤ text_len text.old + 32 }
 {
-    text.push_str(fault.words());
+    text.push_str(fault.label());
     if let PlaceFault::ZoneCounts(even, odd) = fault {
         push_count(text, even);
         text.push_str(" ");

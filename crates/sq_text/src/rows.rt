@@ -167,7 +167,7 @@ pub fn push_end<const N: usize>(text: &mut TextBuffer<N>, form: Form)
     });
 }
 
-// Appends what stands before a value.
+// Appends the separator and the column's name, if the form has it, before a value.
 #[inline(always)]
 pub(crate) fn push_name<const N: usize>(text: &mut TextBuffer<N>, form: Form, name: &str)
     requires { text_len text.old + length name.now + 4 ≤ N }
@@ -184,7 +184,7 @@ pub(crate) fn push_name<const N: usize>(text: &mut TextBuffer<N>, form: Form, na
     }
 }
 
-// Appends what stands before a word.
+// Appends the separator, the name and the quote before a word.
 #[inline(always)]
 pub(crate) fn push_quoted_name<const N: usize>(text: &mut TextBuffer<N>, form: Form, name: &str)
     requires { text_len text.old + length name.now + 5 ≤ N }
@@ -195,7 +195,7 @@ pub(crate) fn push_quoted_name<const N: usize>(text: &mut TextBuffer<N>, form: F
     text.push_str(quote(form));
 }
 
-// What stands at both ends of a word.
+// Returns the quote at both ends of a word, if the form has one.
 #[inline(always)]
 pub(crate) fn quote(form: Form) -> &'static str
     ensures text { result.now ≡ quote form }

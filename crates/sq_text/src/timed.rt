@@ -13,10 +13,10 @@ use sq_message::Received;
 // The most digits of a number below 2^64.
 const DIGITS: usize = 20;
 
-/// Reads a moment of 1 to 20 decimal digits, below 2^64, one space, and a frame text.
+/// Reads a timestamp of 1 to 20 decimal digits, below 2^64, one space, and a frame text.
 ///
-/// `Moment` comes where there is no space, or what stands before the first one is no moment; then the faults of the
-/// frame text and of its frame, as in `read_squitter`.
+/// Errors, in this order: `Moment` if there is no space, or no timestamp before the first one; the errors of the frame
+/// text and of its frame, as in `read_squitter`.
 #[inline(always)]
 pub fn read_timed(text: &[u8]) -> Result<Received, LineFault>
     ensures { IsTimedReading text.now result }

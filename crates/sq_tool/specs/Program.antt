@@ -2,7 +2,7 @@
 use Rattle.std.specs.Prelude.{◌≡◌, ◌⊎◌, List}
 use Rattle.sq_devices.specs.Changes.{TookNothing, WroteNothing}
 use Rattle.sq_devices.specs.Clocks.{Times, recorded}
-use Rattle.sq_lines.specs.declared.faults.RunFault.TheVariants.{Memory}
+use Rattle.sq_log.specs.declared.faults.RunFault.TheVariants.{Memory}
 use Rattle.sq_commands.specs.Requests.{Asked, Text}
 use Rattle.sq_words.specs.Requests.{Asks, IsFaulty}
 use Rattle.sq_commands.specs.declared.status.Status.{Status}

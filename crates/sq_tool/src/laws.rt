@@ -9,7 +9,7 @@ ghost use Rattle.sq_tool.specs.OneProgram.{OneProgramRun};
 ghost use Rattle.sq_tool.specs.Program.{IsProgramRun, IsTimedProgramRun};
 
 use sq_devices::{Clock, Sink, Source};
-pub use sq_lines::laws::lines_in_pieces;
+pub use sq_log::laws::lines_in_pieces;
 pub use sq_words::laws::{accepted_words_ask, one_request, refused_words_ask_nothing};
 
 /// On an input that is not live a clock changes nothing, so `one_program_run` speaks of it too. When the bytes of a

@@ -12,7 +12,7 @@ mod program;
 pub use program::{run, run_live};
 pub use sq_commands::{Counts, SourceFormat, run_check, run_feed, run_track};
 pub use sq_devices::{Clock, Failed, NoClock, Reading, Sink, Source, Writing};
-pub use sq_lines::{Cutter, RunFault, Tally};
+pub use sq_log::{Cutter, RunFault, Tally};
 pub use sq_text::{Frame, TextFault, read_text};
 pub use sq_track::Tracker;
 pub use sq_words::{EncodeWords, FeedWords, Refusal, Request, TrackWords, read_request};

@@ -8,7 +8,7 @@ ghost use Rattle.sq_tool.specs.Program.{IsProgramRun, IsTimedProgramRun};
 
 use sq_commands::{Status, answer_live, break_off, report};
 use sq_devices::{Clock, NoClock, Sink, Source};
-use sq_lines::RunFault;
+use sq_log::RunFault;
 use sq_words::{Refusal, read_request};
 use std::alloc::Global;
 

@@ -1,6 +1,6 @@
 //! What is heard of a squitter, and why a tracker refuses one.
 ghost use Rattle.std.specs.Prelude.{◌≡◌, ◌≤◌, length};
-ghost use Rattle.sq_track.specs.Faults.{track_fault_words};
+ghost use Rattle.sq_track.specs.Faults.{track_fault_label};
 
 use sq_message::Place;
 use thiserror::Error;
@@ -30,16 +30,16 @@ pub enum Heard {
 #[derive(Clone, Copy, Debug, PartialEq, Eq, Error)]
 pub enum TrackFault {
     /// The limit of addresses is 0.
-    #[error("{text}", text = self.words())]
+    #[error("{text}", text = self.label())]
     NoLimit,
     /// An allocation failed.
-    #[error("{text}", text = self.words())]
+    #[error("{text}", text = self.label())]
     Memory,
     /// The moment is below that of the last accepted call, which is this.
-    #[error("{words}{0}", words = self.words())]
+    #[error("{label}{0}", label = self.label())]
     MomentBack(u64),
     /// The squitter is a position, and as many other addresses as the limit have one that is at most the window older.
-    #[error("{text}", text = self.words())]
+    #[error("{text}", text = self.label())]
     Full,
 }
 
@@ -54,8 +54,8 @@ pub enum RestoreFault {
 
 impl TrackFault {
     /// Its text up to its number, at most 13 bytes.
-    pub fn words(self) -> &'static str
-        ensures value { result.now ≡ track_fault_words self }
+    pub fn label(self) -> &'static str
+        ensures value { result.now ≡ track_fault_label self }
         ensures short { length result.now ≤ 13 }
     {
         match self {

@@ -8,11 +8,11 @@ use Rattle.sq_commands.specs.declared.found.HeardSquitter.{HeardSquitter}
 use Rattle.sq_commands.specs.Heard.{heard_telling}
 use Rattle.sq_commands.specs.SlowAnswers.{AreTrueAnswers}
 use Rattle.sq_commands.specs.Tracking.{track_manner}
-use Rattle.sq_lines.specs.declared.log.Answer.{Answer as Told}
-use Rattle.sq_lines.specs.declared.log.Log.{Log}
-use Rattle.sq_lines.specs.Lines.{closed, ended_lines}
-use Rattle.sq_lines.specs.Logs.{HasHeard}
-use Rattle.sq_lines.specs.Runs.{told_text}
+use Rattle.sq_log.specs.declared.log.Answer.{Answer as Told}
+use Rattle.sq_log.specs.declared.log.Log.{Log}
+use Rattle.sq_log.specs.Lines.{closed, ended_lines}
+use Rattle.sq_log.specs.Logs.{HasHeard}
+use Rattle.sq_log.specs.Runs.{told_text}
 use Rattle.squitter_c.specs.declared.faults.Fault.{Fault}
 use Rattle.sq_track.specs.Held.{Held}
 use Rattle.squitter_c.specs.declared.log_take.End.TheVariants as ends

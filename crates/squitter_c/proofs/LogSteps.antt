@@ -6,15 +6,15 @@ use Rattle.sq_devices.proofs.Puts.{take_front}
 use Rattle.std.proofs.Common.{Result}
 use Rattle.std.proofs.lemmas.List.Concat.{flat_map-append}
 use Rattle.std.specs.List.{AllZip}
-use Rattle.sq_lines.specs.declared.log.Answer.{Answer as Told}
-use Rattle.sq_lines.specs.declared.log.Log.{Log}
-use Rattle.sq_lines.specs.declared.log.Step.{Step}
-use Rattle.sq_lines.specs.declared.log.Step.TheVariants as steps
-use Rattle.sq_lines.specs.Runs.{told_text}
+use Rattle.sq_log.specs.declared.log.Answer.{Answer as Told}
+use Rattle.sq_log.specs.declared.log.Log.{Log}
+use Rattle.sq_log.specs.declared.log.Step.{Step}
+use Rattle.sq_log.specs.declared.log.Step.TheVariants as steps
+use Rattle.sq_log.specs.Runs.{told_text}
 use Rattle.sq_text.specs.declared.faults.LineFault.{LineFault}
-use Rattle.sq_lines.specs.Lines.{HasNoFeed, closed, ended_lines, last_part, with_feed}
-use Rattle.sq_lines.specs.Logs.{HasHeard, IsStep, IsUpToDate}
-use Rattle.sq_lines.proofs.Cutting.{cuts_ended, cuts_itself, last_part-cut}
+use Rattle.sq_log.specs.Lines.{HasNoFeed, closed, ended_lines, last_part, with_feed}
+use Rattle.sq_log.specs.Logs.{HasHeard, IsStep, IsUpToDate}
+use Rattle.sq_log.proofs.Cutting.{cuts_ended, cuts_itself, last_part-cut}
 use Rattle.sq_track.specs.Held.{Held}
 use Rattle.sq_commands.specs.declared.track.Hearing.{Hearing}
 use Rattle.sq_commands.specs.declared.found.HeardSquitter.{HeardSquitter}

@@ -7,7 +7,7 @@ use Rattle.sq_message.specs.declared.squitter.Me.TheVariants as kinds
 use Rattle.sq_message.specs.Parts.{air_parts, squitter_parts}
 use Rattle.sq_message.specs.Places.{IsPositionOf}
 use Rattle.sq_text.specs.declared.faults.LineFault.{LineFault}
-use Rattle.sq_lines.specs.declared.log.Answer.{Answer as Told}
+use Rattle.sq_log.specs.declared.log.Answer.{Answer as Told}
 use Rattle.sq_track.specs.declared.heard.Heard.{Heard}
 use Rattle.sq_track.specs.declared.heard.Heard.TheVariants.{Fix, Followed, Waiting, Split, Far, NoSite, NotPosition}
 use Rattle.sq_commands.specs.declared.found.HeardSquitter.{HeardSquitter}

@@ -2,14 +2,14 @@
 use Rattle.std.specs.Prelude.{◌≡◌, ◌≤◌, ◌<◌, ◌⊎◌, ◌++◌, ◌^◌, ⊤, ℕ, List, [], Option, None, Some, drop, length, take}
 use Rattle.std.specs.List.{AllZip}
 use Rattle.sq_devices.specs.Device.{IsPrefixOf}
-use Rattle.sq_lines.specs.declared.log.Answer.{Answer as Told}
-use Rattle.sq_lines.specs.declared.log.Log.{Log}
-use Rattle.sq_lines.specs.declared.state.LogState.{LogState}
-use Rattle.sq_lines.specs.Answers.{WantsAt}
-use Rattle.sq_lines.specs.Lines.{closed, ended_lines, with_next}
-use Rattle.sq_lines.specs.Logs.{HasHeard, IsUpToDate}
-use Rattle.sq_lines.specs.Runs.{told_text}
-use Rattle.sq_lines.specs.States.{with_job}
+use Rattle.sq_log.specs.declared.log.Answer.{Answer as Told}
+use Rattle.sq_log.specs.declared.log.Log.{Log}
+use Rattle.sq_log.specs.declared.state.LogState.{LogState}
+use Rattle.sq_log.specs.Answers.{WantsAt}
+use Rattle.sq_log.specs.Lines.{closed, ended_lines, with_next}
+use Rattle.sq_log.specs.Logs.{HasHeard, IsUpToDate}
+use Rattle.sq_log.specs.Runs.{told_text}
+use Rattle.sq_log.specs.States.{with_job}
 use Rattle.sq_track.specs.Held.{Held}
 use Rattle.sq_commands.specs.declared.track.Hearing.{Hearing}
 use Rattle.sq_commands.specs.declared.found.HeardSquitter.{HeardSquitter}

@@ -7,10 +7,10 @@ use Rattle.sq_commands.specs.Formats.{Writers}
 use Rattle.sq_commands.specs.Heard.{heard_telling}
 use Rattle.sq_commands.specs.SlowAnswers.{AreTrueAnswers}
 use Rattle.sq_commands.specs.Tracking.{track_manner}
-use Rattle.sq_lines.specs.declared.log.Answer.{Answer as Told}
-use Rattle.sq_lines.specs.Lines.{closed, ended_lines}
-use Rattle.sq_lines.specs.Logs.{HasHeard}
-use Rattle.sq_lines.specs.Runs.{told_text}
+use Rattle.sq_log.specs.declared.log.Answer.{Answer as Told}
+use Rattle.sq_log.specs.Lines.{closed, ended_lines}
+use Rattle.sq_log.specs.Logs.{HasHeard}
+use Rattle.sq_log.specs.Runs.{told_text}
 use Rattle.squitter_c.specs.Faults.{none}
 use Rattle.squitter_c.specs.Seal.{Kept}
 use Rattle.sq_track.specs.Held.{Held}

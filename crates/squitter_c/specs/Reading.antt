@@ -7,7 +7,7 @@ use Rattle.sq_message.specs.declared.squitter.FrameFault.{FrameFault}
 use Rattle.sq_message.specs.Spelling.{IsReading}
 use Rattle.sq_text.specs.declared.faults.LineFault.{LineFault}
 use Rattle.sq_text.specs.declared.frame_text.TextFault.{TextFault}
-use Rattle.sq_text.specs.FrameText.{IsAnswer}
+use Rattle.sq_text.specs.FrameText.{IsFrameReading}
 use Rattle.sq_text.specs.Reading.{IsSquitterReading}
 use Rattle.squitter_c.specs.declared.faults.Fault.{Fault}
 use Rattle.squitter_c.specs.declared.fields.PlainSquitter.{PlainSquitter}
@@ -21,7 +21,7 @@ AreBytesOf frame bytes = bytes ≡ frame.0
 -- the frame of a frame text
 abbrev pub IsFrameOfText : List ℕ → (old new : List ℕ) → Fault → Type 0
 IsFrameOfText text old new fault =
-    (answer : Result Frame TextFault) × IsAnswer text answer × Tells AreBytesOf of_texts answer old new fault
+    (answer : Result Frame TextFault) × IsFrameReading text answer × Tells AreBytesOf of_texts answer old new fault
 
 -- the squitter of a frame text
 abbrev pub IsTextRead : List ℕ → (old new : PlainSquitter) → Fault → Type 0

@@ -18,7 +18,7 @@ use Rattle.squitter_c.specs.Frames.{frame_of}
 use Rattle.squitter_c.specs.Heard.{IsPlainHeard}
 use Rattle.squitter_c.specs.Plain.{IsOfDegrees, PlainIsPosition}
 use Rattle.sq_text.specs.declared.faults.LineFault.TheVariants as lines
-use Rattle.sq_lines.specs.States.{HasHeardNothing}
+use Rattle.sq_log.specs.States.{HasHeardNothing}
 use Rattle.squitter_c.specs.Seal.{Kept}
 use Rattle.squitter_c.specs.Sizes.{IsRoomFor}
 use Rattle.sq_track.specs.declared.heard.Heard.{Heard}

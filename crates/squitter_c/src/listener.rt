@@ -1,12 +1,12 @@
 //! A tracker in memory that a caller lends, and the log that it may hear.
 ghost use Rattle.std.specs.Prelude.{◌≡◌, ◌≤◌, ◌<◌, ◌*◌, ◌^◌, ◌↔◌, ◌⊎◌, ℕ, Err, IfErr, IfOk, []};
-ghost use Rattle.sq_lines.specs.States.{HasHeardNothing};
+ghost use Rattle.sq_log.specs.States.{HasHeardNothing};
 ghost use Rattle.squitter_c.specs.Sizes.{AreGroupsFor, IsRoomFor};
 ghost use Rattle.sq_track.specs.Held.{StandsFor, made_with, settings};
 
 use sq_angle::Position;
 use sq_lent::{Lent, Room};
-use sq_lines::LogState;
+use sq_log::LogState;
 use sq_track::{TrackFault, Tracker};
 
 // The bytes of a listener itself, and of the allocator in front of its tracker's memory.

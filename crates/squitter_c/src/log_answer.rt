@@ -11,7 +11,7 @@ use crate::fields::plain_altitude;
 use crate::heard::PlainHeard;
 use crate::plain::{PlainAngle, PlainPosition};
 use sq_commands::HeardSquitter;
-use sq_lines::Answer;
+use sq_log::Answer;
 use sq_message::{Me, Place, Squitter, altitude};
 use sq_text::LineFault;
 use sq_track::Heard;

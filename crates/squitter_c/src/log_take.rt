@@ -1,5 +1,5 @@
 //! The answers to the lines of a log, pushed in pieces, as many as fit an array.
-ghost use Rattle.sq_lines.specs.States.{with_job};
+ghost use Rattle.sq_log.specs.States.{with_job};
 ghost use Rattle.std.specs.Prelude.{◌≡◌, ◌↔◌, ◌+◌, ◌*◌, ◌^◌, ◌<◌, ◌≤◌, [], IsTrue, drop, length, take};
 ghost use Rattle.squitter_c.specs.LogCalls.{AsAnswers, GoesOn, GoesToTheEnd, IsEndTold, IsFinishedBy};
 ghost use Rattle.squitter_c.specs.LogCalls.{IsLogFinished, IsLogTaken};
@@ -10,7 +10,7 @@ use crate::listener::Listener;
 use crate::log_answer::{PlainAnswer, plain_answer};
 use crate::slot::Slot;
 use sq_commands::{ValueHearing, hear_values};
-use sq_lines::{Log, LogState, Step};
+use sq_log::{Log, LogState, Step};
 use sq_track::Tracker;
 use std::alloc::Allocator;
 

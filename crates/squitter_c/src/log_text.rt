@@ -1,7 +1,7 @@
 //! The answers to the lines of a log as texts, as many as fit a buffer.
 ghost use Rattle.std.specs.Prelude.{◌≡◌, ◌+◌, ◌++◌, ◌*◌, ◌^◌, ◌<◌, ◌≤◌, ◌↔◌, [], IfNone, IfSome, drop, length, take};
 ghost use Rattle.sq_commands.specs.Heard.{heard_telling};
-ghost use Rattle.sq_lines.specs.States.{with_job};
+ghost use Rattle.sq_log.specs.States.{with_job};
 ghost use Rattle.squitter_c.specs.LogCalls.{AsTexts, GoesOn, GoesToTheEnd, IsTooLong, IsWrittenTo, held_by};
 ghost use Rattle.squitter_c.specs.LogTexts.{IsEndInText, IsFormat, IsHeader, IsHeaderText, IsTextFinished};
 ghost use Rattle.squitter_c.specs.LogTexts.{IsTextFinishedBy, IsTextTaken, IsTextTakenBy};
@@ -12,7 +12,7 @@ use crate::listener::Listener;
 use crate::log_take::{Done, End, fault_at, is_too_long};
 use crate::slot::Slot;
 use sq_commands::{Format, TextHearing, hear_texts, heard_header, tell_heard};
-use sq_lines::{LineText, Log, LogState, Step};
+use sq_log::{LineText, Log, LogState, Step};
 use sq_track::Tracker;
 use std::alloc::Allocator;
 

@@ -2,7 +2,7 @@
 ghost use Rattle.std.specs.Prelude.{◌≡◌, ◌≤◌, ◌++◌, codes, decimal};
 ghost use Rattle.sq_digits.specs.Buffer.{text_len};
 ghost use Rattle.sq_message.specs.Faults.{place_fault_text};
-ghost use Rattle.sq_text.specs.Faults.{fault_text, fault_words};
+ghost use Rattle.sq_text.specs.Faults.{fault_text, fault_label};
 ghost use Rattle.squitter_c.specs.Angles.{StandsIn};
 ghost use Rattle.squitter_c.specs.Texts.{told_text, version};
 
@@ -40,18 +40,18 @@ fn push_told(text: &mut TextBuffer<63>, code: u32, first: u64, second: u32)
 {
     match code {
         0 => text.push_str("no fault"),
-        1 => text.push_str(LineFault::Wrap.words()),
-        2 => text.push_str(LineFault::Short.words()),
+        1 => text.push_str(LineFault::Wrap.label()),
+        2 => text.push_str(LineFault::Short.label()),
         3 => push_named(text, LineFault::Length(0), first),
         4 => push_named(text, LineFault::Digit(0), first),
         5 => push_named(text, LineFault::NotDf17(0), first),
         6 => push_remainder(text, first),
-        10 => text.push_str(PlaceFault::NotPosition.words()),
-        11 => text.push_str(PlaceFault::OtherAddress.words()),
-        12 => text.push_str(PlaceFault::OtherKind.words()),
-        13 => text.push_str(PlaceFault::SameParity.words()),
-        14 => text.push_str(PlaceFault::NoSite.words()),
-        15 => text.push_str(PlaceFault::OutOfRange.words()),
+        10 => text.push_str(PlaceFault::NotPosition.label()),
+        11 => text.push_str(PlaceFault::OtherAddress.label()),
+        12 => text.push_str(PlaceFault::OtherKind.label()),
+        13 => text.push_str(PlaceFault::SameParity.label()),
+        14 => text.push_str(PlaceFault::NoSite.label()),
+        15 => text.push_str(PlaceFault::OutOfRange.label()),
         16 => push_counts(text, first, u64::from(second)),
         20 => text.push_str("bad position"),
         21 => text.push_str("bad fields"),
@@ -59,15 +59,15 @@ fn push_told(text: &mut TextBuffer<63>, code: u32, first: u64, second: u32)
         23 => text.push_str("bad latitude"),
         24 => text.push_str("bad feet"),
         25 => text.push_str("bad parity"),
-        30 => text.push_str(AngleFault::NotANumber.words()),
-        31 => text.push_str(AngleFault::TooManyDecimals.words()),
-        32 => text.push_str(AngleFault::OutOfRange.words()),
-        40 => text.push_str(LineFault::LongLine.words()),
-        41 => text.push_str(LineFault::Moment.words()),
+        30 => text.push_str(AngleFault::NotANumber.label()),
+        31 => text.push_str(AngleFault::TooManyDecimals.label()),
+        32 => text.push_str(AngleFault::OutOfRange.label()),
+        40 => text.push_str(LineFault::LongLine.label()),
+        41 => text.push_str(LineFault::Moment.label()),
         42 => push_named(text, LineFault::MomentBack(0), first),
-        43 => text.push_str(LineFault::Full.words()),
-        44 => text.push_str(TrackFault::Memory.words()),
-        45 => text.push_str(TrackFault::NoLimit.words()),
+        43 => text.push_str(LineFault::Full.label()),
+        44 => text.push_str(TrackFault::Memory.label()),
+        45 => text.push_str(TrackFault::NoLimit.label()),
         46 => text.push_str("no tracker"),
         47 => text.push_str("no address"),
         48 => text.push_str("log too long"),
@@ -80,9 +80,9 @@ fn push_told(text: &mut TextBuffer<63>, code: u32, first: u64, second: u32)
 // Appends the words of a fault and a number.
 fn push_named(text: &mut TextBuffer<63>, fault: LineFault, number: u64)
     requires { text_len text.old ≤ 0 }
-    ensures { text.new.bytes ≡ text.old.bytes ++ (fault_words fault ++ decimal number) }
+    ensures { text.new.bytes ≡ text.old.bytes ++ (fault_label fault ++ decimal number) }
 {
-    text.push_str(fault.words());
+    text.push_str(fault.label());
     push_decimal(text, number);
 }
 
@@ -100,7 +100,7 @@ fn push_remainder(text: &mut TextBuffer<63>, remainder: u64)
     requires { text_len text.old ≤ 0 }
     ensures { text.new.bytes ≡ text.old.bytes ++ fault_text (LineFault.Parity remainder) }
 {
-    text.push_str(LineFault::Parity(0).words());
+    text.push_str(LineFault::Parity(0).label());
     push_hexadecimal(text, remainder, 6);
 }
 
@@ -109,7 +109,7 @@ fn push_counts(text: &mut TextBuffer<63>, even: u64, odd: u64)
     requires { text_len text.old ≤ 0 }
     ensures { text.new.bytes ≡ text.old.bytes ++ place_fault_text (PlaceFault.ZoneCounts even odd) }
 {
-    text.push_str(PlaceFault::ZoneCounts(0, 0).words());
+    text.push_str(PlaceFault::ZoneCounts(0, 0).label());
     push_decimal(text, even);
     text.push_str(" ");
     push_decimal(text, odd);

@@ -86,7 +86,7 @@ fn mix_answer(mix: &mut Mix, answer: Result<Place, PlaceFault>) {
     match answer {
         Ok(place) => mix_place(mix, &place),
         Err(PlaceFault::ZoneCounts(even, odd)) => mix_split(mix, even, odd),
-        Err(fault) => mix.add(fault.words().len() as u64),
+        Err(fault) => mix.add(fault.label().len() as u64),
     }
 }
 

@@ -70,7 +70,7 @@ fn encode(digest: &mut Digest, dice: &mut Dice) -> Option<()> {
     digest.add(&write_frame(&squitter).0);
     match place_local(&squitter, &from) {
         Ok(place) => digest.add(place_text(&place.position()).as_bytes()),
-        Err(fault) => digest.add(fault.words().as_bytes()),
+        Err(fault) => digest.add(fault.label().as_bytes()),
     }
     if dice.roll() >> 30 == 0 {
         digest.add(place_text(&from).as_bytes());

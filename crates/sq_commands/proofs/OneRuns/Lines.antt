@@ -4,7 +4,7 @@ use Rattle.sq_devices.specs.Changes.{Taken, TookAll, TookNothing}
 use Rattle.sq_devices.proofs.Ends.{took_reported}
 use Rattle.sq_text.specs.Reading.{SquitterReader}
 use Rattle.sq_text.proofs.SomeReading.{some_squitter_reading}
-use Rattle.sq_lines.specs.Lines.{lines_of}
+use Rattle.sq_log.specs.Lines.{lines_of}
 use Rattle.sq_commands.specs.declared.arguments.ArgumentFault.TheVariants as faults
 use Rattle.sq_commands.specs.declared.formats.Format.{Format}
 use Rattle.sq_commands.specs.declared.status.Status.{Status}

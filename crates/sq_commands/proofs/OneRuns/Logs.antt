@@ -3,11 +3,11 @@ use Rattle.std.proofs.Common.{◌≡◌, ◌∙◌, ◌∷◌, ℕ, [], List, Op
 use Rattle.std.proofs.Common.{inr}
 use Rattle.sq_message.specs.declared.received.Received.{Received}
 use Rattle.sq_text.specs.Timed.{TimedReader}
-use Rattle.sq_lines.specs.Answers.{tally_of}
-use Rattle.sq_lines.specs.Content.{Answer, answer_by}
-use Rattle.sq_lines.specs.Lines.{lines_of}
-use Rattle.sq_lines.specs.Runs.{WroteAnswers}
-use Rattle.sq_lines.specs.declared.tallies.Tally.{Tally}
+use Rattle.sq_log.specs.Answers.{tally_of}
+use Rattle.sq_log.specs.Content.{Answer, answer_by}
+use Rattle.sq_log.specs.Lines.{lines_of}
+use Rattle.sq_log.specs.Runs.{WroteAnswers}
+use Rattle.sq_log.specs.declared.tallies.Tally.{Tally}
 use Rattle.sq_commands.specs.Requests.{AskedTrack}
 use Rattle.sq_track.specs.declared.heard.Heard.{Heard}
 use Rattle.sq_track.specs.declared.heard.TrackFault.{TrackFault}

@@ -87,21 +87,21 @@ kind_on_grid kind o n site answer h = elim (one_or_two o.parity n.parity) [
   | inr differ ↦ parities_on_grid kind o n site answer (h.1 differ)
 ]
 
-kindred_on_grid : (m n : Me) (site : Option Position) (answer : Result Place PlaceFault)
+one_address_on_grid : (m n : Me) (site : Option Position) (answer : Result Place PlaceFault)
     → IsPlaceOfOneAddress m n site answer → IfPlace answer
-kindred_on_grid (kinds.Airborne o) (kinds.Airborne n) site answer h = kind_on_grid InAir o n site answer h
-kindred_on_grid (kinds.Surface o) (kinds.Surface n) site answer h = kind_on_grid OnGround o n site answer h
-kindred_on_grid (kinds.Airborne o) (kinds.Surface n) site answer is = subst IfPlace (sym is) tt
-kindred_on_grid (kinds.Surface o) (kinds.Airborne n) site answer is = subst IfPlace (sym is) tt
-kindred_on_grid m n site answer h = absurd h
+one_address_on_grid (kinds.Airborne o) (kinds.Airborne n) site answer h = kind_on_grid InAir o n site answer h
+one_address_on_grid (kinds.Surface o) (kinds.Surface n) site answer h = kind_on_grid OnGround o n site answer h
+one_address_on_grid (kinds.Airborne o) (kinds.Surface n) site answer is = subst IfPlace (sym is) tt
+one_address_on_grid (kinds.Surface o) (kinds.Airborne n) site answer is = subst IfPlace (sym is) tt
+one_address_on_grid m n site answer h = absurd h
 
 pair_on_grid : (older newer : SquitterParts) (site : Option Position) (answer : Result Place PlaceFault)
     → IsPairPlace older newer site answer → IfPlace answer
 pair_on_grid older newer site answer h = elim (both_positions older.me newer.me) [
-  | inr never ↦ subst IfPlace (sym (h.other never)) tt
+  | inr never ↦ subst IfPlace (sym (h.not_positions never)) tt
   | inl two ↦ elim (cases_eq older.address newer.address) [
-    | inr differ ↦ subst IfPlace (sym (h.strangers two differ)) tt
-    | inl same ↦ kindred_on_grid older.me newer.me site answer (h.kindred two same)
+    | inr differ ↦ subst IfPlace (sym (h.other_address two differ)) tt
+    | inl same ↦ one_address_on_grid older.me newer.me site answer (h.same_address two same)
   ]
 ]
 

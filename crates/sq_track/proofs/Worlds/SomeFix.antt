@@ -173,7 +173,7 @@ told window site a b p q together two h k only decoded heard heard_is stays =
     ap (λ t. squitter_of (if_recent window b.moment (cond t (Some entry) None))) pairs_up
     ∙ ap (λ t. squitter_of (cond t (Some entry) None)) recent in
     let some = some_pair_place a.squitter b.squitter site in
-    let here = some.1.kindred (positions_of m n a.position b.position p q h k)
+    let here = some.1.same_address (positions_of m n a.position b.position p q h k)
     (sender_parts a.squitter b.squitter together.sender).0 in
     record {
       of_pair = heard;

@@ -8,7 +8,11 @@ returns-in-Ok-run_track_in g c = λ some. (
   c.run_track_in.new.tracker,
   c.in-Ok.ensures.empty,
   c.in-Ok.ensures.settings,
-  (Ok c.in-Ok-run_track_in.tally, c.in-Ok-run_track_in.ensures, (c.end_of.ensures, (Appends-nil (g.F.Sink.written c.args.faults.now), refl))),
+  (
+    Ok c.in-Ok-run_track_in.tally,
+    c.in-Ok-run_track_in.ensures,
+    (c.end_of.ensures, (Appends-nil (g.F.Sink.written c.args.faults.now), refl)),
+  ),
 )
 
 pub returns-in-Ok : goal.returns-in-Ok

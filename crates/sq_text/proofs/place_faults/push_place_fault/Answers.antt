@@ -8,6 +8,6 @@ returns-in-ZoneCounts-clause-bytes g c =
       c.push_str-in-ZoneCounts.ensures.bytes,
       c.push_count.ensures.bytes,
       c.push_str.ensures.bytes,
-      c.words.ensures.value,
+      c.label.ensures.value,
       c.in-ZoneCounts.is,
     ) (simp append_assoc refl)

@@ -1,6 +1,6 @@
 use Rattle.std.proofs.Common.{[], ap, rules, subst₂, sym, take}
-use Rattle.sq_lines.specs.declared.log.Log.{Log}
-use Rattle.sq_lines.specs.States.{with_job}
+use Rattle.sq_log.specs.declared.log.Log.{Log}
+use Rattle.sq_log.specs.States.{with_job}
 use Rattle.sq_track.specs.Held.{Held}
 use Rattle.squitter_c.specs.LogCalls.{AsAnswers, GoesOn, held_by}
 use Rattle.squitter_c.proofs.log_take.take_with.Goals as goal

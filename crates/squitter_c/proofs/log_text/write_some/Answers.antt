@@ -1,6 +1,6 @@
 use Rattle.std.proofs.Common.{◌≡◌, ◌-◌, ◌∙◌, ◌+◌, ◌++◌, ℕ, ap, arith, drop, length, refl, subst, sym, take}
 use Rattle.sq_commands.specs.Heard.{heard_telling}
-use Rattle.sq_lines.specs.Runs.{told_text}
+use Rattle.sq_log.specs.Runs.{told_text}
 use Rattle.squitter_c.specs.declared.log_take.End.TheVariants as ends
 use Rattle.squitter_c.specs.LogCalls.{AsTexts, GoesOn, held_by}
 use Rattle.squitter_c.proofs.LogSteps.{all_taken, goes_further, goes_no_further, on_answered, on_fed, on_memory}

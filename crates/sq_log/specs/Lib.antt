@@ -1,0 +1,11 @@
+pub mod Lines
+pub mod Content
+pub mod Rests
+pub mod Answers
+pub mod Pieces
+pub mod Windows
+pub mod Marked
+pub mod Hearings
+pub mod Logs
+pub mod Runs
+pub mod States
