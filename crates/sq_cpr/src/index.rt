@@ -136,11 +136,9 @@ fn index_at_zero(base: i64, count: u8) -> i64
 // Of candidate indices that are `count` zones apart, returns the one within half that distance of any reference.
 fn index_at(base: i128, count: u8, zones: u8, span: u32, reference: &Angle) -> i32
     requires base_small { unsigned_abs base < 2 ^ 44 }
-    requires some { 0 < count }
-    requires count_small { count ≤ 60 }
+    requires count { (0 < count) × (count ≤ 60) }
     requires zones_small { zones ≤ 60 }
-    requires span_some { 0 < span }
-    requires span_small { span ≤ 360 }
+    requires span { (0 < span) × (span ≤ 360) }
     requires reference_small { IsWithin 180 (degrees reference.now) }
     ensures congruent { IsCongruent (count * codes_of_zone) result base }
     ensures within { LiesWithin count span zones result (degrees reference.now) }
@@ -154,11 +152,9 @@ fn index_at(base: i128, count: u8, zones: u8, span: u32, reference: &Angle) -> i
 /// Of candidate indices that are `count` zones apart, returns the one within half that distance of the reference.
 pub(crate) fn index_within(base: i64, count: u8, zones: u8, span: u32, reference: &Angle) -> i32
     requires base_small { unsigned_abs base < 2 ^ 44 }
-    requires some { 0 < count }
-    requires count_small { count ≤ 60 }
+    requires count { (0 < count) × (count ≤ 60) }
     requires zones_small { zones ≤ 60 }
-    requires span_some { 0 < span }
-    requires span_small { span ≤ 360 }
+    requires span { (0 < span) × (span ≤ 360) }
     requires reference_small { IsWithin 180 (degrees reference.now) }
     ensures congruent { IsCongruent (count * codes_of_zone) result base }
     ensures within { LiesWithin count span zones result (degrees reference.now) }

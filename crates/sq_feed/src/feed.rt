@@ -181,15 +181,13 @@ impl Feed {
         frames: &mut [[u8; 14]],
     ) -> (usize, usize)
         requires some { (0 < length piece.now) ⊎ (0 < calls_left self.old.reader) }
-        requires moments { given < length moments.old }
-        requires frames { given < length frames.old }
+        requires room { (given < length moments.old) × (given < length frames.old) }
         ensures fits { result.0 ≤ length piece.now }
         ensures goes_on { calls_left self.new.reader < calls_left self.old.reader + 7 * result.0 }
-        ensures few { result.1 ≤ given + 1 }
+        ensures few { (given ≤ result.1) × (result.1 ≤ given + 1) }
         ensures given { HasGiven arrival self.old (take result.0 piece.now) (take given moments.old)
             (take given frames.old)
             (take result.1 moments.new) (take result.1 frames.new) self.new }
-        ensures more { given ≤ result.1 }
         ensures rest { (drop result.1 moments.new ≡ drop result.1 moments.old)
             × (drop result.1 frames.new ≡ drop result.1 frames.old) }
         ensures long { (length moments.new ≡ length moments.old) × (length frames.new ≡ length frames.old) }
@@ -220,16 +218,14 @@ impl Feed {
         moments: &mut [u64],
         frames: &mut [[u8; 14]],
     ) -> usize
-        requires moments { given < length moments.old }
-        requires frames { given < length frames.old }
+        requires room { (given < length moments.old) × (given < length frames.old) }
         ensures reader { self.new.reader ≡ self.old.reader }
         ensures heard { self.new.ear ≡ ear_after arrival self.old.ear (Found.Whole message.now) }
-        ensures few { result ≤ given + 1 }
+        ensures few { (given ≤ result) × (result ≤ given + 1) }
         ensures moments { take result moments.new ≡ take given moments.old
             ++ moments_of (told_of arrival self.old.ear (Found.Whole message.now)) }
         ensures frames { take result frames.new ≡ take given frames.old
             ++ frames_of (told_of arrival self.old.ear (Found.Whole message.now)) }
-        ensures more { given ≤ result }
         ensures rest { (drop result moments.new ≡ drop result moments.old)
             × (drop result frames.new ≡ drop result frames.old) }
         ensures long { (length moments.new ≡ length moments.old) × (length frames.new ≡ length frames.old) }
@@ -254,16 +250,14 @@ impl Feed {
         moments: &mut [u64],
         frames: &mut [[u8; 14]],
     ) -> usize
-        requires moments { given < length moments.old }
-        requires frames { given < length frames.old }
+        requires room { (given < length moments.old) × (given < length frames.old) }
         ensures reader { self.new.reader ≡ self.old.reader }
         ensures heard { self.new.ear ≡ ear_after arrival self.old.ear (Found.Whole message.now) }
-        ensures few { result ≤ given + 1 }
+        ensures few { (given ≤ result) × (result ≤ given + 1) }
         ensures moments { take result moments.new ≡ take given moments.old
             ++ moments_of (told_of arrival self.old.ear (Found.Whole message.now)) }
         ensures frames { take result frames.new ≡ take given frames.old
             ++ frames_of (told_of arrival self.old.ear (Found.Whole message.now)) }
-        ensures more { given ≤ result }
         ensures rest { (drop result moments.new ≡ drop result moments.old)
             × (drop result frames.new ≡ drop result frames.old) }
         ensures long { (length moments.new ≡ length moments.old) × (length frames.new ≡ length frames.old) }
@@ -282,15 +276,13 @@ impl Feed {
         frames: &mut [[u8; 14]],
     ) -> (usize, usize)
         requires some { (0 < length piece.now) ⊎ (0 < calls_left self.old.reader) }
-        requires moments { given < length moments.old }
-        requires frames { given < length frames.old }
+        requires room { (given < length moments.old) × (given < length frames.old) }
         ensures fits { result.0 ≤ length piece.now }
         ensures goes_on { calls_left self.new.reader < calls_left self.old.reader + 7 * result.0 }
-        ensures few { result.1 ≤ given + 1 }
+        ensures few { (given ≤ result.1) × (result.1 ≤ given + 1) }
         ensures given { HasGiven arrival self.old (take result.0 piece.now) (take given moments.old)
             (take given frames.old)
             (take result.1 moments.new) (take result.1 frames.new) self.new }
-        ensures more { given ≤ result.1 }
         ensures rest { (drop result.1 moments.new ≡ drop result.1 moments.old)
             × (drop result.1 frames.new ≡ drop result.1 frames.old) }
         ensures long { (length moments.new ≡ length moments.old) × (length frames.new ≡ length frames.old) }

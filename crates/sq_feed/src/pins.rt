@@ -123,7 +123,7 @@ pub fn formats_in_letters()
     ensures other { any_found (codes "MSG,3" ++ 10 ∷ codes "7 2040") ≡ Found.Foreign Stranger.Sbs ∷ [] }
 {}
 
-/// The words of orders: timestamps that rise, squitters that come in time, and calls.
+/// The words of orders: timestamps that rise, and squitters that come in time.
 pub fn orders_exactly()
     ensures nothing { (moment : ℕ) → RiseFrom moment [] }
     ensures rising { (moment : ℕ) (one : Timed) (more : List Timed)
@@ -139,6 +139,10 @@ pub fn orders_exactly()
         ↔ ((before : List Timed) (one : Timed) (after : List Timed) → came ≡ before ++ one ∷ after
         → (latest_of 0 before ≤ one.moment + reorder)
         × (count_of (is_recent reorder (latest_of 0 (before ++ one ∷ []))) (before ++ one ∷ []) < room)) }
+{}
+
+/// Calls of an order: squitters that came and were given, in parts of any size, and what a flush gives.
+pub fn sortings_exactly()
     ensures sorted { (room : ℕ) (old new : Sorting) (came given : List Timed) → HasSorted room old came given new
         ↔ (((more : List Timed) → given_all room old (came ++ more) ≡ given ++ given_all room new more)
         × ((more : List Timed) → sorted_all room old (came ++ more) ≡ sorted_all room new more)) }

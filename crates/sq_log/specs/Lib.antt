@@ -5,6 +5,7 @@ pub mod Answers
 pub mod Pieces
 pub mod Windows
 pub mod Marked
+pub mod Gets
 pub mod Hearings
 pub mod Logs
 pub mod Runs

@@ -1,7 +1,7 @@
 //! A state machine that takes pieces of a log, and returns the answers to its lines as values.
-ghost use Rattle.std.specs.Prelude.{◌≡◌, ◌+◌, ◌++◌, ◌^◌, ◌<◌, ◌≤◌, ◌∷◌, [], List, ℕ, IfOk, OnErr, OnOk, length, true};
-ghost use Rattle.std.specs.Io.KnownBytes.{Consumes, IsAtEnd};
-ghost use Rattle.sq_devices.specs.Device.{KeepsOrHides};
+ghost use Rattle.std.specs.Prelude.{◌≡◌, ◌+◌, ◌++◌, ◌^◌, ◌<◌, ◌≤◌, ◌∷◌, [], List, ℕ, IfOk, OnErr, OnOk, length};
+ghost use Rattle.std.specs.Io.KnownBytes.{IsAtEnd};
+ghost use Rattle.sq_log.specs.Gets.{HasGiven, HasGivenNothing};
 ghost use Rattle.sq_log.specs.Hearings.{IsLineHeard};
 ghost use Rattle.sq_log.specs.Lines.{closed};
 ghost use Rattle.sq_log.specs.Windows.{IsFeedPlace, next_line};
@@ -183,14 +183,9 @@ impl<J: Job> Log<J> {
             answers) }
         ensures count { IfOk result (λ count. length self.new.window.waiting ≡ count) }
         ensures short { length self.new.window.waiting ≤ 64 }
-        ensures gave { OnOk result (S.Gave source.old self.new.window.waiting source.new) }
-        ensures moved { OnOk result
-            (Consumes (S.to_come source.old) (S.to_come source.new) self.new.window.waiting) }
         ensures end { IfOk result (λ count. count ≡ 0 → IsAtEnd (S.to_come source.new)) }
-        ensures used { OnOk result (S.gets_left source.new + 1 ≡ S.gets_left source.old) }
-        ensures failed { OnErr result (S.has_failed source.new ≡ true) }
-        ensures kept { OnErr result (KeepsOrHides (S.to_come source.old) (S.to_come source.new)) }
-        ensures unused { OnErr result (S.gets_left source.new ≡ S.gets_left source.old) }
+        ensures ok { OnOk result (HasGiven S.Source source.old source.new self.new.window.waiting) }
+        ensures err { OnErr result (HasGivenNothing S.Source source.old source.new) }
         ensures number { self.new.number ≡ self.old.number }
         ensures job { self.new.job ≡ self.old.job }
     {

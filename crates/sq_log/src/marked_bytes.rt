@@ -1,9 +1,9 @@
 //! The last bytes that a log machine was given, with marks at the line feeds among those not yet looked at.
 ghost use Rattle.std.specs.Prelude.{◌≡◌, ◌+◌, ◌-◌, ◌<◌, ◌≤◌, ◌++◌, ◌^◌, [], List, ℕ, IfOk, OnErr, OnOk};
 ghost use Rattle.std.specs.Prelude.{drop, false, length, min, take, true};
-ghost use Rattle.std.specs.Io.KnownBytes.{Consumes, IsAtEnd};
+ghost use Rattle.std.specs.Io.KnownBytes.{IsAtEnd};
 ghost use Rattle.std.specs.List.{before_first};
-ghost use Rattle.sq_devices.specs.Device.{KeepsOrHides};
+ghost use Rattle.sq_log.specs.Gets.{HasGiven, HasGivenNothing};
 ghost use Rattle.sq_log.specs.Rests.{IsHeldAs, KeepsRest};
 ghost use Rattle.sq_log.specs.Lines.{HasNoFeed, MarksFeeds, closed, is_feed};
 ghost use Rattle.sq_log.specs.Windows.{IsFeedPlace, feed_place};
@@ -185,13 +185,9 @@ impl MarkedBytes {
             → OnOk result (KeepsRest (front_of self.new) (waiting_of self.new) (given ++ waiting_of self.new) lines) }
         ensures count { IfOk result (λ count. length (waiting_of self.new) ≡ count) }
         ensures short { length (waiting_of self.new) ≤ 64 }
-        ensures gave { OnOk result (S.Gave source.old (waiting_of self.new) source.new) }
-        ensures moved { OnOk result (Consumes (S.to_come source.old) (S.to_come source.new) (waiting_of self.new)) }
         ensures end { IfOk result (λ count. count ≡ 0 → IsAtEnd (S.to_come source.new)) }
-        ensures used { OnOk result (S.gets_left source.new + 1 ≡ S.gets_left source.old) }
-        ensures failed { OnErr result (S.has_failed source.new ≡ true) }
-        ensures kept { OnErr result (KeepsOrHides (S.to_come source.old) (S.to_come source.new)) }
-        ensures unused { OnErr result (S.gets_left source.new ≡ S.gets_left source.old) }
+        ensures ok { OnOk result (HasGiven S.Source source.old source.new (waiting_of self.new)) }
+        ensures err { OnErr result (HasGivenNothing S.Source source.old source.new) }
     {
         self.slide();
         let Ok(count) = source.get(&mut self.bytes[FRONT..]) else {

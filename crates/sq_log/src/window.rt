@@ -1,8 +1,8 @@
 //! The end of what a log machine was given.
 ghost use Rattle.std.specs.Prelude.{◌≡◌, ◌+◌, ◌<◌, ◌≤◌, ◌++◌, [], List, ℕ, IfOk, OnErr, OnOk, drop};
 ghost use Rattle.std.specs.Prelude.{false, length, take, true};
-ghost use Rattle.std.specs.Io.KnownBytes.{Consumes, IsAtEnd};
-ghost use Rattle.sq_devices.specs.Device.{KeepsOrHides};
+ghost use Rattle.std.specs.Io.KnownBytes.{IsAtEnd};
+ghost use Rattle.sq_log.specs.Gets.{HasGiven, HasGivenNothing};
 ghost use Rattle.sq_log.specs.Rests.{KeepsRest};
 ghost use Rattle.sq_log.specs.Lines.{HasNoFeed, closed};
 ghost use Rattle.sq_log.specs.Windows.{IsFeedPlace, feed_place, next_line};
@@ -102,13 +102,9 @@ impl Window {
             → OnOk result (KeepsRest self.new.line self.new.waiting (given ++ self.new.waiting) lines) }
         ensures count { IfOk result (λ count. length self.new.waiting ≡ count) }
         ensures short { length self.new.waiting ≤ 64 }
-        ensures gave { OnOk result (S.Gave source.old self.new.waiting source.new) }
-        ensures moved { OnOk result (Consumes (S.to_come source.old) (S.to_come source.new) self.new.waiting) }
         ensures end { IfOk result (λ count. count ≡ 0 → IsAtEnd (S.to_come source.new)) }
-        ensures used { OnOk result (S.gets_left source.new + 1 ≡ S.gets_left source.old) }
-        ensures failed { OnErr result (S.has_failed source.new ≡ true) }
-        ensures kept { OnErr result (KeepsOrHides (S.to_come source.old) (S.to_come source.new)) }
-        ensures unused { OnErr result (S.gets_left source.new ≡ S.gets_left source.old) }
+        ensures ok { OnOk result (HasGiven S.Source source.old source.new self.new.waiting) }
+        ensures err { OnErr result (HasGivenNothing S.Source source.old source.new) }
     {
         self.bytes.get_from(source)
     }

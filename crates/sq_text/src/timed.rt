@@ -80,8 +80,7 @@ fn more_digits(text: &[u8], number: u64, start: usize) -> (u64, usize)
     requires few { start < 20 }
     requires digits { AllByRecursion IsAsciiDigit (take start text.now) }
     requires value { number ≡ digits_value 10 (take start text.now) }
-    ensures within { result.1 ≤ length text.now }
-    ensures few { result.1 < 20 }
+    ensures few { (result.1 ≤ length text.now) × (result.1 < 20) }
     ensures digits { AllByRecursion IsAsciiDigit (take result.1 text.now) }
     ensures last { result.1 < 19 → result.1 < length text.now → ¬ IsAsciiDigit (slice_index text.now result.1) }
     ensures value { result.0 ≡ digits_value 10 (take result.1 text.now) }

@@ -16,7 +16,7 @@ back_by c = rw (back c.turns-turns.result c.turns-turns.type_inv) at c.scaled.en
 
 back_size : (c : goal.After-scaled) → unsigned_abs c.scaled.result ≤ 60 * codes_of_zone * 2 ^ 102
 back_size c = rw (back_by c) (scaled_size (c.args.count * codes_of_zone) (60 * codes_of_zone)
-    (2 ^ 102) c.turns-turns.result (omega (arith, c.requires.count_small)) (omega (arith, c.turns-turns.ensures.small)))
+    (2 ^ 102) c.turns-turns.result (omega (arith, c.requires.count.1)) (omega (arith, c.turns-turns.ensures.small)))
 
 pub overflow_sub-result : goal.overflow_sub-result
 overflow_sub-result c = omega (arith, ints, back_size c)
@@ -46,7 +46,7 @@ within c =
 small : (c : goal.After-scaled) → unsigned_abs (answer c) < 2 ^ 31
 small c =
     index_small c.args.count c.args.span c.args.zones (answer c)
-    (degrees c.args.reference.now) c.requires.count_small c.requires.zones_small c.requires.span_some
+    (degrees c.args.reference.now) c.requires.count.1 c.requires.zones_small c.requires.span.0
     c.args.reference.now.in_range.positive c.requires.reference_small (within c)
 
 pub overflow_cast-result : goal.overflow_cast-result

@@ -216,11 +216,11 @@ returns-in_default-clause-ran g c =
       (
         lines,
         (
-          c.in_default.ensures.failed,
+          c.in_default.ensures.err.failed,
           (
             i.read,
-            consumes_hidden _ _ _ i.read i.got.consumed c.in_default.ensures.kept,
-            omega (arith, i.running c.if-ended.false, c.in_default.ensures.unused),
+            consumes_hidden _ _ _ i.read i.got.consumed c.in_default.ensures.err.kept,
+            omega (arith, i.running c.if-ended.false, c.in_default.ensures.err.unused),
             all ∙ ap ended_lines given_is,
           ),
         ),
@@ -261,7 +261,7 @@ steps-preserved g c =
       room = omega (
         arith,
         i.room,
-        got.used,
+        got.ok.used,
         got.number,
         got.short,
         c.in-Fed.ensures.number,
@@ -278,16 +278,16 @@ steps-preserved g c =
             (got.got start i.read i.pumped.lines i.pumped.answers heard fed_all.2) (λ e. no_feeds piece (none e));
         put = i.pumped.put;
       };
-      got = got_on old_input input 1 i.read piece got_now refl refl got.used got.moved (omega arith);
-      running = λ e. (got_on old_input input 0 i.read piece got_now refl refl got.used got.moved
+      got = got_on old_input input 1 i.read piece got_now refl refl got.ok.used got.ok.moved (omega arith);
+      running = λ e. (got_on old_input input 0 i.read piece got_now refl refl got.ok.used got.ok.moved
           (omega (arith, some e))).few;
       made = λ e. made_of_more g.S.Source c.args.source.now c.steps.source c.get_from.new.source i.read piece
-          (i.made c.if-ended.false) got.gave got.used (some e);
+          (i.made c.if-ended.false) got.ok.gave got.ok.used (some e);
       made_all = λ e.
           let made = i.made c.if-ended.false in (
             made.pieces,
             got_up_to_end g.S.Source c.args.source.now c.steps.source c.get_from.new.source i.read piece made
-                got.gave got.used (none e),
+                got.ok.gave got.ok.used (none e),
             no_more i.read piece (concat made.pieces) made.whole (none e),
           );
       at_end = λ e. got.end (eqb-true more 0 e);

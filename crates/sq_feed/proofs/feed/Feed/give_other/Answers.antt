@@ -24,8 +24,8 @@ returns-in-Some-hear-clause-given c =
     (ap (λ (f : List ℕ). record { moment = c.in-Some-hear.moment; frame = f } ∷ []) c.frame_in.ensures
     ∙ sym c.in-Some-hear.ensures.told
     ∙ ap (λ (v : Feeding). told_of c.args.arrival v.ear c.in-Some.found) c.self.view_is)
-    (take_more_set c.args.moments.now c.args.given c.in-Some-hear.moment c.requires.moments)
-    (take_more_set c.args.frames.now c.args.given c.frame_in.result c.requires.frames)
+    (take_more_set c.args.moments.now c.args.given c.in-Some-hear.moment c.requires.room.0)
+    (take_more_set c.args.frames.now c.args.given c.frame_in.result c.requires.room.1)
 
 pub returns-in_default-hear-clause-given : goal.returns-in_default-hear-clause-given
 returns-in_default-hear-clause-given c =

@@ -26,7 +26,7 @@ loop-self-preserved c =
     let few : count ≤ length (drop at piece) = subst (λ l. count ≤ length l) rest c.give_one-count.ensures.fits in
     record {
       fits = omega (arith, few, length-drop at piece, c.loop-self.invariant.fits);
-      few = omega (arith, c.give_one-count.ensures.few, c.if-given-room.true);
+      few = omega (arith, c.give_one-count.ensures.few.1, c.if-given-room.true);
       moved = inl (moved_more (calls_left c.args.self.now.reader) (calls_left c.loop-self.self.reader)
           (calls_left c.give_one-count.new.self.reader) _ _ at count c.loop-self.invariant.moved
           c.give_one-count.ensures.goes_on);
@@ -40,10 +40,10 @@ loop-self-preserved c =
           (take more c.give_one-count.new.frames) c.give_one-count.new.self) rest c.give_one-count.ensures.given);
       rest = (
         c.give_one-count.ensures.rest.0
-            ∙ rest_further c.loop-self.moments c.args.moments.now c.loop-self.given more c.give_one-count.ensures.more
+            ∙ rest_further c.loop-self.moments c.args.moments.now c.loop-self.given more c.give_one-count.ensures.few.0
             c.loop-self.invariant.rest.0,
         c.give_one-count.ensures.rest.1
-            ∙ rest_further c.loop-self.frames c.args.frames.now c.loop-self.given more c.give_one-count.ensures.more
+            ∙ rest_further c.loop-self.frames c.args.frames.now c.loop-self.given more c.give_one-count.ensures.few.0
             c.loop-self.invariant.rest.1,
       );
       long = (

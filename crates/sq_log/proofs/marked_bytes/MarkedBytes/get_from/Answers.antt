@@ -40,8 +40,8 @@ returns-clause-count g c =
     c.mark.ensures.waiting ∙ ap (take count) (got_behind bytes got all) in
     ap length is ∙ length-take-le count got c.in-Ok.ensures.fits
 
-pub returns-clause-gave : goal.returns-clause-gave
-returns-clause-gave g c =
+pub returns-clause-ok : goal.returns-clause-ok
+returns-clause-ok g c =
     let window = c.slide.new.self in
     let bytes : List ℕ = window.bytes in
     let got : List ℕ = c.get.new.into in
@@ -50,17 +50,9 @@ returns-clause-gave g c =
     let all : length bytes ≡ 129 = c.slide.ensures.all in
     let is : waiting_of new ≡ take count got =
     c.mark.ensures.waiting ∙ ap (take count) (got_behind bytes got all) in
-    subst (λ (l : List ℕ). g.S.Source.Gave c.args.source.now l c.get.new.self) (sym is) c.in-Ok.ensures.gave
-
-pub returns-clause-moved : goal.returns-clause-moved
-returns-clause-moved g c =
-    let window = c.slide.new.self in
-    let bytes : List ℕ = window.bytes in
-    let got : List ℕ = c.get.new.into in
-    let count : ℕ = c.in-Ok.count in
-    let new = c.mark.new.self in
-    let all : length bytes ≡ 129 = c.slide.ensures.all in
-    let is : waiting_of new ≡ take count got =
-    c.mark.ensures.waiting ∙ ap (take count) (got_behind bytes got all) in
-    subst (λ (l : List ℕ). Consumes (g.S.Source.to_come c.args.source.now) (g.S.Source.to_come c.get.new.self) l)
-    (sym is) c.in-Ok.ensures.moved
+    record {
+      gave = subst (λ (l : List ℕ). g.S.Source.Gave c.args.source.now l c.get.new.self) (sym is) c.in-Ok.ensures.gave;
+      moved = subst (λ (l : List ℕ). Consumes (g.S.Source.to_come c.args.source.now)
+          (g.S.Source.to_come c.get.new.self) l) (sym is) c.in-Ok.ensures.moved;
+      used = c.in-Ok.ensures.used;
+    }
