@@ -21,9 +21,9 @@ import squitter  # noqa: E402
 CC = os.environ.get("CC", "cc")
 NUMBERS = {"u8": "uint8_t", "u16": "uint16_t", "u32": "uint32_t", "u64": "uint64_t", "i32": "int32_t", "i64": "int64_t",
            "usize": "size_t", "*mut u8": "void *"}
-# What C holds, its file, the pointer in it, and its file: their fields are private.
-SLOTS = (("Slot", "slot", "Seal", "seal"), ("FeedSlot", "feed_slot", "FeedSeal", "feed_seal"),
-         ("OrderSlot", "order_slot", "OrderSeal", "order_seal"))
+# What C holds, and its file, and the pointer in each of them, and its file: their fields are private.
+SLOTS = (("Slot", "slot"), ("FeedSlot", "feed_slot"), ("OrderSlot", "order_slot"))
+SEAL = ("Seal", "seal")
 # The crate's structs, as C names them.
 STRUCTS = {
     "Fault": "squitter_fault", "PlainAngle": "squitter_angle", "PlainPosition": "squitter_position",
@@ -79,15 +79,16 @@ def fields_of(crate, name, file):
 
 def structs():
     """Yields each #[repr(C)] struct with its fields, in order. Seals and memories are replaced by their own fields."""
-    for slot, file, seal, sealed in SLOTS:
+    sealed = fields_of("squitter_c", *SEAL)
+    for slot, file in SLOTS:
         yield slot, [field for name, kind in fields_of("squitter_c", slot, file)
-                     for field in (fields_of("squitter_c", seal, sealed) if kind == seal else [(name, kind)])]
+                     for field in (sealed if kind == SEAL[0] else [(name, kind)])]
     memory = [kind for _, kind in fields_of("sq_lent", "Memory", "memory")]
     room = fields_of("sq_lent", "Room", "memory")
     yield "Room", [(name, memory[0] if kind == "Memory" else kind) for name, kind in room]
     for source in sources():
         for name, body in re.findall(r"#\[repr\(C\)\]\n(?:#\[[^\n]*\]\n)*pub struct (\w+) \{\n(.*?)\n\}", source, re.S):
-            if not any(name in (slot, seal) for slot, _, seal, _ in SLOTS):
+            if not any(name == private for private, _ in (SEAL, *SLOTS)):
                 yield name, re.findall(r"^    pub (\w+): (.*),$", body, re.M)
 
 

@@ -30,7 +30,7 @@ pub fn push_log_line<const N: usize>(text: &mut TextBuffer<N>, moment: u64, fram
     if frame[0] >> 3 < FIRST_LONG {
         push_short_tail(text, frame);
     } else {
-        push_tail(text, frame);
+        push_tail::<TAIL, N>(text, frame);
     }
 }
 
@@ -41,28 +41,23 @@ fn push_short_tail<const N: usize>(text: &mut TextBuffer<N>, frame: &[u8; 14])
     ensures bytes { text.new.bytes ≡ text.old.bytes ++ tail_of (take 7 frame.now) }
     ensures len { text_len text.new ≡ text_len text.old + 16 }
 {
-    let mut tail = TextBuffer::<16>::new();
-    tail.push(b' ');
-    for byte in &frame[..7] {
-        push_byte(&mut tail, *byte);
-    }
-    tail.push(b'\n');
-    text.push_front(tail.as_bytes(), SHORT_TAIL);
+    push_tail::<SHORT_TAIL, N>(text, &frame[..7]);
 }
 
-// Appends the part after the timestamp of a long frame. It is built in a separate text, so that the compiler knows its
-// length at each byte.
+// Appends a space, the digits of bytes, and a line feed: `LEN` bytes. They are built in a separate text, so that the
+// compiler knows their number at each byte.
 #[inline(always)]
-fn push_tail<const N: usize>(text: &mut TextBuffer<N>, frame: &[u8; 14])
-    requires { text_len text.old + 30 ≤ N }
-    ensures bytes { text.new.bytes ≡ text.old.bytes ++ tail_of frame.now }
-    ensures len { text_len text.new ≡ text_len text.old + 30 }
+fn push_tail<const LEN: usize, const N: usize>(text: &mut TextBuffer<N>, bytes: &[u8])
+    requires all { 2 * length bytes.now + 2 ≡ LEN }
+    requires room { text_len text.old + LEN ≤ N }
+    ensures bytes { text.new.bytes ≡ text.old.bytes ++ tail_of bytes.now }
+    ensures len { text_len text.new ≡ text_len text.old + LEN }
 {
-    let mut tail = TextBuffer::<30>::new();
+    let mut tail = TextBuffer::<LEN>::new();
     tail.push(b' ');
-    for byte in frame {
+    for byte in bytes {
         push_byte(&mut tail, *byte);
     }
     tail.push(b'\n');
-    text.push_front(tail.as_bytes(), TAIL);
+    text.push_front(tail.as_bytes(), LEN);
 }

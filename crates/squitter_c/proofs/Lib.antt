@@ -3,9 +3,9 @@ pub mod OneTelling
 pub mod OnePlain
 pub mod OneHeard
 pub mod Values
-pub mod FeedValues
+pub mod Sealing
+pub mod Kept
 pub mod OneSizes
-pub mod OrderValues
 pub mod AsciiTexts
 pub mod Entries
 pub mod Savings
@@ -20,6 +20,7 @@ pub mod AtPlaces
 pub mod OneTexts
 pub mod OneTrackers
 pub mod LogSteps
+pub mod LogGoing
 pub mod LogAll
 pub mod FeedSteps
 pub mod OrderSteps

@@ -46,7 +46,7 @@ to_held start log given lines answers h = record { kept = h.kept; number = h.num
 -- ---- a step
 
 -- what a step says of every past of the machine
-abbrev Stepped : {F A : Type 0} → (old : Log (Hearing F A)) → Step HeardSquitter → (piece : List ℕ)
+abbrev pub Stepped : {F A : Type 0} → (old : Log (Hearing F A)) → Step HeardSquitter → (piece : List ℕ)
     → (new : Log (Hearing F A)) → Type 0
 Stepped {F} {A} old result piece new =
     (start : Hearing F A) (given : List ℕ) (lines : List (List ℕ)) (answers : List (Told HeardSquitter))

@@ -17,8 +17,8 @@ use Rattle.sq_message.specs.Spelling.{IsReading}
 use Rattle.sq_message.proofs.One.{one_reading}
 use Rattle.sq_message.proofs.Same.{same_parity}
 use Rattle.sq_text.specs.Faults.{of_frame}
-use Rattle.squitter_c.specs.declared.faults.Refusal.{Refusal}
-use Rattle.squitter_c.specs.declared.faults.Refusal.TheVariants as refusals
+use Rattle.squitter_c.specs.declared.faults.Reason.{Reason}
+use Rattle.squitter_c.specs.declared.faults.Reason.TheVariants as reasons
 use Rattle.squitter_c.specs.declared.plain.PlainPosition.{PlainPosition}
 use Rattle.squitter_c.specs.Faults.{as_it_is}
 use Rattle.squitter_c.specs.Plain.{IsFlag, IsOfDegrees, IsParity, PlainIsPosition}
@@ -81,15 +81,15 @@ module _ (odd : ℕ) (plain : PlainPosition) where
       (subst (λ u. IsRoundedTo u x t) parity (subst (λ u. IsRoundedTo p' u t) position rounds')) from from'
 
   -- what is answered for what is read of the frame
-  abbrev OfRead : Result Squitter FrameFault → Result Frame Refusal → Type 0
-  OfRead (Ok q) answer = ((¬ (IsPosition (squitter_parts q).me)) × (answer ≡ Err (refusals.Place NotPosition)))
+  abbrev OfRead : Result Squitter FrameFault → Result Frame Reason → Type 0
+  OfRead (Ok q) answer = ((¬ (IsPosition (squitter_parts q).me)) × (answer ≡ Err (reasons.Place NotPosition)))
       ⊎ ((f : Frame) × Again q f × (answer ≡ Ok f))
-  OfRead (Err fault) answer = answer ≡ Err (refusals.Line (of_frame fault))
+  OfRead (Err fault) answer = answer ≡ Err (reasons.Line (of_frame fault))
 
   position_of_again : (q : Squitter) (f : Frame) → Again q f → IsPosition (squitter_parts q).me
   position_of_again q f (p, p_is, (x, x_is, (s, rounds, from))) = is_from_position q s f from
 
-  one_of_read : (read : Result Squitter FrameFault) (r s : Result Frame Refusal) → OfRead read r → OfRead read s → r ≡ s
+  one_of_read : (read : Result Squitter FrameFault) (r s : Result Frame Reason) → OfRead read r → OfRead read s → r ≡ s
   one_of_read (Ok q) r s (inl h) (inl k) = h.1 ∙ sym k.1
   one_of_read (Ok q) r s (inl h) (inr (f, again, is)) = absurd (h.0 (position_of_again q f again))
   one_of_read (Ok q) r s (inr (f, again, is)) (inl k) = absurd (k.0 (position_of_again q f again))
@@ -97,13 +97,13 @@ module _ (odd : ℕ) (plain : PlainPosition) where
       is ∙ ap Ok (one_again q f g again again') ∙ sym is'
   one_of_read (Err fault) r s h k = h ∙ sym k
 
-  abbrev Told : Frame → Result Frame Refusal → Type 0
-  Told frame answer = ((¬ (IsFlag odd)) × (answer ≡ Err refusals.NoParity))
-      ⊎ (IsFlag odd × (((¬ (PlainIsPosition plain)) × (answer ≡ Err refusals.NoPosition))
+  abbrev Told : Frame → Result Frame Reason → Type 0
+  Told frame answer = ((¬ (IsFlag odd)) × (answer ≡ Err reasons.NoParity))
+      ⊎ (IsFlag odd × (((¬ (PlainIsPosition plain)) × (answer ≡ Err reasons.NoPosition))
       ⊎ (PlainIsPosition plain
       × ((read : Result Squitter FrameFault) × IsReading frame read × OfRead read answer))))
 
-  one_told : (frame : Frame) (r s : Result Frame Refusal) → Told frame r → Told frame s → r ≡ s
+  one_told : (frame : Frame) (r s : Result Frame Reason) → Told frame r → Told frame s → r ≡ s
   one_told frame r s (inl h) (inl k) = h.1 ∙ sym k.1
   one_told frame r s (inl h) (inr k) = absurd (h.0 k.0)
   one_told frame r s (inr h) (inl k) = absurd (k.0 h.0)
@@ -113,7 +113,7 @@ module _ (odd : ℕ) (plain : PlainPosition) where
   one_told frame r s (inr (a, inr (_, (x, x_is, h)))) (inr (b, inr (_, (y, y_is, k)))) =
       one_of_read x r s h (subst (λ t. OfRead t s) (sym (one_reading frame x y x_is y_is)) k)
 
-  told : (frame : Frame) (r : Result Frame Refusal) → IsAgainAnswer frame odd plain r → Told frame r
+  told : (frame : Frame) (r : Result Frame Reason) → IsAgainAnswer frame odd plain r → Told frame r
   unfolding IsAgainAnswer
   told frame (Ok f) (p, p_is, (x, x_is, (q, spells, (s, rounds, from)))) = inr (
     parity_is_flag odd p p_is,
@@ -122,15 +122,15 @@ module _ (odd : ℕ) (plain : PlainPosition) where
       (Ok q, spells, inr (f, (p, p_is, (x, x_is, (s, rounds, from))), refl)),
     ),
   )
-  told frame (Err refusals.NoParity) h = inl (h, refl)
-  told frame (Err refusals.NoPosition) h = inr (h.0, inl (h.1, refl))
-  told frame (Err (refusals.Line fault)) (flag, position, (of, of_is, is)) =
-      inr (flag, inr (position, (Err of, of_is, ap (λ e. Err (refusals.Line e)) is)))
-  told frame (Err (refusals.Place fault)) (flag, position, (q, spells, none, is)) =
-      inr (flag, inr (position, (Ok q, spells, inl (none, ap (λ e. Err (refusals.Place e)) is))))
+  told frame (Err reasons.NoParity) h = inl (h, refl)
+  told frame (Err reasons.NoPosition) h = inr (h.0, inl (h.1, refl))
+  told frame (Err (reasons.Line fault)) (flag, position, (of, of_is, is)) =
+      inr (flag, inr (position, (Err of, of_is, ap (λ e. Err (reasons.Line e)) is)))
+  told frame (Err (reasons.Place fault)) (flag, position, (q, spells, none, is)) =
+      inr (flag, inr (position, (Ok q, spells, inl (none, ap (λ e. Err (reasons.Place e)) is))))
   told frame (Err other) h = absurd h
 
-  one_again_answer : (frame : Frame) (r s : Result Frame Refusal) → IsAgainAnswer frame odd plain r
+  one_again_answer : (frame : Frame) (r s : Result Frame Reason) → IsAgainAnswer frame odd plain r
       → IsAgainAnswer frame odd plain s → r ≡ s
   one_again_answer frame r s h k = one_told frame r s (told frame r h) (told frame s k)
 

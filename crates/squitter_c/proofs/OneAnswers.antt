@@ -23,7 +23,7 @@ use Rattle.sq_text.proofs.One.{one_answer}
 use Rattle.sq_text.proofs.OneReading.{one_squitter_reading}
 use Rattle.squitter_c.specs.declared.altitudes.PlainAltitude.{PlainAltitude}
 use Rattle.squitter_c.specs.declared.e7.DegreesE7.{DegreesE7}
-use Rattle.squitter_c.specs.declared.faults.Refusal.{Refusal}
+use Rattle.squitter_c.specs.declared.faults.Reason.{Reason}
 use Rattle.squitter_c.specs.declared.fields.PlainSquitter.{PlainSquitter}
 use Rattle.squitter_c.specs.declared.plain.PlainAngle.{PlainAngle}
 use Rattle.squitter_c.specs.declared.plain.PlainPosition.{PlainPosition}
@@ -52,113 +52,57 @@ one_meaning code field f g x y (a, a_is, h) (b, b_is, k) =
     one_plain_altitude a f g x y h
     (subst (λ m. IsPlainAltitude m g y) (sym (one_altitude code field a b a_is b_is)) k)
 
+-- squitters with the same fields are the same
+same_squitter : (x y : PlainSquitter) → x.raw ≡ y.raw → x.address ≡ y.address → x.lat ≡ y.lat → x.lon ≡ y.lon
+    → x.feet ≡ y.feet → x.altitude ≡ y.altitude → x.altitude_form ≡ y.altitude_form → x.kind ≡ y.kind → x.ca ≡ y.ca
+    → x.type_code ≡ y.type_code → x.odd ≡ y.odd → x.time ≡ y.time → x.status ≡ y.status → x.flag ≡ y.flag
+    → x.movement ≡ y.movement → x.track_status ≡ y.track_status → x.track ≡ y.track → x ≡ y
+same_squitter x y raw address lat lon feet altitude altitude_form kind ca type_code odd time status flag movement
+    track_status track = λ i. record {
+      raw = raw i;
+      address = address i;
+      lat = lat i;
+      lon = lon i;
+      feet = feet i;
+      altitude = altitude i;
+      altitude_form = altitude_form i;
+      kind = kind i;
+      ca = ca i;
+      type_code = type_code i;
+      odd = odd i;
+      time = time i;
+      status = status i;
+      flag = flag i;
+      movement = movement i;
+      track_status = track_status i;
+      track = track i;
+    }
+
 -- what all kinds have in common, and then each field
 one_me : (me : Me) (x y : PlainSquitter) → x.ca ≡ y.ca → x.address ≡ y.address → IsPlainMe me x → IsPlainMe me y
     → x ≡ y
 one_me (kinds.Airborne a) x y ca address h k =
-    let type_code = h.fields.type_code ∙ sym k.fields.type_code in
-    let altitude = h.fields.altitude ∙ sym k.fields.altitude in
     let means = one_meaning _ _ x.altitude_form y.altitude_form x.feet y.feet h.fields.meaning k.fields.meaning in
-    let kind = h.kind ∙ sym k.kind in
-    let status = h.fields.status ∙ sym k.fields.status in
-    let flag = h.fields.flag ∙ sym k.fields.flag in
-    let time = h.fields.time ∙ sym k.fields.time in
-    let odd = h.place.odd ∙ sym k.place.odd in
-    let lat = h.place.lat ∙ sym k.place.lat in
-    let lon = h.place.lon ∙ sym k.place.lon in
-    let movement = h.others.0 ∙ sym k.others.0 in
-    let track_status = h.others.1 ∙ sym k.others.1 in
-    let track = h.others.2 ∙ sym k.others.2 in
-    let raw = h.others.3 ∙ sym k.others.3 in
-    λ i. record {
-      raw = raw i;
-      address = address i;
-      lat = lat i;
-      lon = lon i;
-      feet = means.1 i;
-      altitude = altitude i;
-      altitude_form = means.0 i;
-      kind = kind i;
-      ca = ca i;
-      type_code = type_code i;
-      odd = odd i;
-      time = time i;
-      status = status i;
-      flag = flag i;
-      movement = movement i;
-      track_status = track_status i;
-      track = track i;
-    }
+    same_squitter x y (h.others.3 ∙ sym k.others.3) address (h.place.lat ∙ sym k.place.lat)
+    (h.place.lon ∙ sym k.place.lon) means.1 (h.fields.altitude ∙ sym k.fields.altitude) means.0 (h.kind ∙ sym k.kind)
+    ca (h.fields.type_code ∙ sym k.fields.type_code) (h.place.odd ∙ sym k.place.odd)
+    (h.fields.time ∙ sym k.fields.time) (h.fields.status ∙ sym k.fields.status) (h.fields.flag ∙ sym k.fields.flag)
+    (h.others.0 ∙ sym k.others.0) (h.others.1 ∙ sym k.others.1) (h.others.2 ∙ sym k.others.2)
 one_me (kinds.Surface a) x y ca address h k =
-    let type_code = h.fields.type_code ∙ sym k.fields.type_code in
-    let kind = h.kind ∙ sym k.kind in
-    let time = h.fields.time ∙ sym k.fields.time in
-    let odd = h.place.odd ∙ sym k.place.odd in
-    let lat = h.place.lat ∙ sym k.place.lat in
-    let lon = h.place.lon ∙ sym k.place.lon in
-    let movement = h.fields.movement ∙ sym k.fields.movement in
-    let track_status = h.fields.track_status ∙ sym k.fields.track_status in
-    let track = h.fields.track ∙ sym k.fields.track in
-    let raw = h.others.1 ∙ sym k.others.1 in
-    let status = h.others.0.bits.0 ∙ sym k.others.0.bits.0 in
-    let flag = h.others.0.bits.1 ∙ sym k.others.0.bits.1 in
-    let altitude = h.others.0.altitude.0 ∙ sym k.others.0.altitude.0 in
-    let form = h.others.0.altitude.1 ∙ sym k.others.0.altitude.1 in
-    let feet = h.others.0.altitude.2 ∙ sym k.others.0.altitude.2 in
-    λ i. record {
-      raw = raw i;
-      address = address i;
-      lat = lat i;
-      lon = lon i;
-      feet = feet i;
-      altitude = altitude i;
-      altitude_form = form i;
-      kind = kind i;
-      ca = ca i;
-      type_code = type_code i;
-      odd = odd i;
-      time = time i;
-      status = status i;
-      flag = flag i;
-      movement = movement i;
-      track_status = track_status i;
-      track = track i;
-    }
+    same_squitter x y (h.others.1 ∙ sym k.others.1) address (h.place.lat ∙ sym k.place.lat)
+    (h.place.lon ∙ sym k.place.lon) (h.others.0.altitude.2 ∙ sym k.others.0.altitude.2)
+    (h.others.0.altitude.0 ∙ sym k.others.0.altitude.0) (h.others.0.altitude.1 ∙ sym k.others.0.altitude.1)
+    (h.kind ∙ sym k.kind) ca (h.fields.type_code ∙ sym k.fields.type_code) (h.place.odd ∙ sym k.place.odd)
+    (h.fields.time ∙ sym k.fields.time) (h.others.0.bits.0 ∙ sym k.others.0.bits.0)
+    (h.others.0.bits.1 ∙ sym k.others.0.bits.1) (h.fields.movement ∙ sym k.fields.movement)
+    (h.fields.track_status ∙ sym k.fields.track_status) (h.fields.track ∙ sym k.fields.track)
 one_me (kinds.Other a) x y ca address h k =
-    let type_code = h.type_code ∙ sym k.type_code in
-    let kind = h.kind ∙ sym k.kind in
-    let odd = h.place.0 ∙ sym k.place.0 in
-    let lat = h.place.1 ∙ sym k.place.1 in
-    let lon = h.place.2 ∙ sym k.place.2 in
-    let time = h.place.3 ∙ sym k.place.3 in
-    let movement = h.ground.0 ∙ sym k.ground.0 in
-    let track_status = h.ground.1 ∙ sym k.ground.1 in
-    let track = h.ground.2 ∙ sym k.ground.2 in
-    let raw = h.raw ∙ sym k.raw in
-    let status = h.air.bits.0 ∙ sym k.air.bits.0 in
-    let flag = h.air.bits.1 ∙ sym k.air.bits.1 in
-    let altitude = h.air.altitude.0 ∙ sym k.air.altitude.0 in
-    let form = h.air.altitude.1 ∙ sym k.air.altitude.1 in
-    let feet = h.air.altitude.2 ∙ sym k.air.altitude.2 in
-    λ i. record {
-      raw = raw i;
-      address = address i;
-      lat = lat i;
-      lon = lon i;
-      feet = feet i;
-      altitude = altitude i;
-      altitude_form = form i;
-      kind = kind i;
-      ca = ca i;
-      type_code = type_code i;
-      odd = odd i;
-      time = time i;
-      status = status i;
-      flag = flag i;
-      movement = movement i;
-      track_status = track_status i;
-      track = track i;
-    }
+    same_squitter x y (h.raw ∙ sym k.raw) address (h.place.1 ∙ sym k.place.1) (h.place.2 ∙ sym k.place.2)
+    (h.air.altitude.2 ∙ sym k.air.altitude.2) (h.air.altitude.0 ∙ sym k.air.altitude.0)
+    (h.air.altitude.1 ∙ sym k.air.altitude.1) (h.kind ∙ sym k.kind) ca (h.type_code ∙ sym k.type_code)
+    (h.place.0 ∙ sym k.place.0) (h.place.3 ∙ sym k.place.3) (h.air.bits.0 ∙ sym k.air.bits.0)
+    (h.air.bits.1 ∙ sym k.air.bits.1) (h.ground.0 ∙ sym k.ground.0) (h.ground.1 ∙ sym k.ground.1)
+    (h.ground.2 ∙ sym k.ground.2)
 
 one_plain_squitter : (q : Squitter) (x y : PlainSquitter) → IsPlainSquitter q x → IsPlainSquitter q y → x ≡ y
 one_plain_squitter q x y h k =
@@ -176,27 +120,27 @@ one_reading_of = record {
 is_angle : (plain : PlainAngle) (a : Angle) → degrees a ≡ fraction_of plain → PlainIsAngle plain
 is_angle plain a same = subst (λ (f : Fraction). IsAngle f.num f.den) same a.in_range
 
-pub one_angle_answer : (plain : PlainAngle) (r s : Result Angle Refusal) → IsAngleAnswer plain r → IsAngleAnswer plain s
+pub one_angle_answer : (plain : PlainAngle) (r s : Result Angle Reason) → IsAngleAnswer plain r → IsAngleAnswer plain s
     → r ≡ s
 one_angle_answer plain (Ok a) (Ok b) h k = ap Ok (one_angle a b (h ∙ sym k))
 one_angle_answer plain (Ok a) (Err e) h k = absurd (k.0 (is_angle plain a h))
 one_angle_answer plain (Err d) (Ok b) h k = absurd (h.0 (is_angle plain b k))
 one_angle_answer plain (Err d) (Err e) h k = ap Err (h.1 ∙ sym k.1)
 
-one_position_answer : (plain : PlainPosition) (r s : Result Position Refusal) → IsPositionAnswer plain r
+one_position_answer : (plain : PlainPosition) (r s : Result Position Reason) → IsPositionAnswer plain r
     → IsPositionAnswer plain s → r ≡ s
 one_position_answer plain (Ok a) (Ok b) h k = ap Ok (one_of_degrees plain a b h k)
 one_position_answer plain (Ok a) (Err e) h k = absurd (k.0 (is_position plain a h))
 one_position_answer plain (Err d) (Ok b) h k = absurd (h.0 (is_position plain b k))
 one_position_answer plain (Err d) (Err e) h k = ap Err (h.1 ∙ sym k.1)
 
-one_zone_answer : (plain : PlainAngle) (r s : Result ℕ Refusal) → IsZoneAnswer plain r → IsZoneAnswer plain s → r ≡ s
+one_zone_answer : (plain : PlainAngle) (r s : Result ℕ Reason) → IsZoneAnswer plain r → IsZoneAnswer plain s → r ≡ s
 one_zone_answer plain (Ok a) (Ok b) h k = ap Ok (h.1 ∙ sym k.1)
 one_zone_answer plain (Ok a) (Err e) h k = absurd (k.0 h.0)
 one_zone_answer plain (Err d) (Ok b) h k = absurd (h.0 k.0)
 one_zone_answer plain (Err d) (Err e) h k = ap Err (h.1 ∙ sym k.1)
 
-one_meaning_answer : (code field : ℕ) (r s : Result PlainAltitude Refusal) → IsMeaningAnswer code field r
+one_meaning_answer : (code field : ℕ) (r s : Result PlainAltitude Reason) → IsMeaningAnswer code field r
     → IsMeaningAnswer code field s → r ≡ s
 one_meaning_answer code field (Ok a) (Ok b) h k =
     let same = one_meaning code field a.form b.form a.feet b.feet h.1 k.1 in
@@ -223,7 +167,7 @@ one_e7_of p x y h k =
     let lon = one_e7 (degrees p.lon) x.lon y.lon h.lon k.lon in
     λ i. record { lat = lat i; lon = lon i }
 
-one_field_answer : (feet : ℤ) (r s : Result ℕ Refusal) → IsFieldAnswer feet r → IsFieldAnswer feet s
+one_field_answer : (feet : ℤ) (r s : Result ℕ Reason) → IsFieldAnswer feet r → IsFieldAnswer feet s
     → ((field : ℕ) → IsFieldOfFeet field feet → HasField feet) → r ≡ s
 one_field_answer feet (Ok a) (Ok b) h k has = ap Ok (one_field feet a b h k)
 one_field_answer feet (Ok a) (Err e) h k has = absurd (k.0 (has a h))

@@ -12,8 +12,8 @@ use Rattle.sq_message.specs.Spelling.{bit}
 use Rattle.sq_message.specs.TypeCodes.{IsAirCode, IsGroundCode}
 use Rattle.sq_message.proofs.SameZones.{one_sent}
 use Rattle.sq_message.proofs.Same.{same_air_fields, same_bit, same_ground_fields, same_parity}
-use Rattle.squitter_c.specs.declared.faults.Refusal.{Refusal}
-use Rattle.squitter_c.specs.declared.faults.Refusal.TheVariants as refusals
+use Rattle.squitter_c.specs.declared.faults.Reason.{Reason}
+use Rattle.squitter_c.specs.declared.faults.Reason.TheVariants as reasons
 use Rattle.squitter_c.specs.declared.plain.PlainPosition.{PlainPosition}
 use Rattle.squitter_c.specs.Faults.{as_it_is}
 use Rattle.squitter_c.specs.Heads.{IsHead, PlainHead, PlainIsHead, odd_of}
@@ -94,12 +94,12 @@ is_head OnGround plain a p ca address h parity = (
 module _ (Head : Type 0) (plain : PlainPosition) (Sent : Frame → Type 0)
     (one : (f g : Frame) → Sent f → Sent g → f ≡ g) where
   -- the head is looked at first, then the position
-  abbrev Told : Result Frame Refusal → Type 0
-  Told answer = ((¬ Head) × (answer ≡ Err refusals.NoHead))
-      ⊎ (Head × (((¬ (PlainIsPosition plain)) × (answer ≡ Err refusals.NoPosition))
+  abbrev Told : Result Frame Reason → Type 0
+  Told answer = ((¬ Head) × (answer ≡ Err reasons.NoHead))
+      ⊎ (Head × (((¬ (PlainIsPosition plain)) × (answer ≡ Err reasons.NoPosition))
       ⊎ (PlainIsPosition plain × ((f : Frame) × Sent f × (answer ≡ Ok f)))))
 
-  one_told : (r s : Result Frame Refusal) → Told r → Told s → r ≡ s
+  one_told : (r s : Result Frame Reason) → Told r → Told s → r ≡ s
   one_told r s (inl h) (inl k) = h.1 ∙ sym k.1
   one_told r s (inl h) (inr k) = absurd (h.0 k.0)
   one_told r s (inr h) (inl k) = absurd (k.0 h.0)
@@ -121,7 +121,7 @@ one_frame kind plain place f g (a, a_is, (p, p_is, (x, x_is, (m, h)))) (b, b_is,
     one_of_equals kind a b p q x y m n f g (one_head kind plain a b a_is b_is)
     (same_parity p q (sym p_is ∙ q_is)) (one_of_degrees place x y x_is y_is) h k
 
-told : (kind : Kind) (plain : PlainHead kind) (place : PlainPosition) (r : Result Frame Refusal)
+told : (kind : Kind) (plain : PlainHead kind) (place : PlainPosition) (r : Result Frame Reason)
     → IsSendAnswer kind plain place r
     → Told (PlainIsHead kind plain) place (Sent kind plain place) (one_frame kind plain place) r
 unfolding IsSendAnswer
@@ -132,11 +132,11 @@ told kind plain place (Ok f) (a, a_is, (p, p_is, (x, x_is, sent))) =
       is_head kind plain a p (omega (arith, head.ca, q.ca_in)) (omega (arith, head.address, q.address_in)) a_is p_is,
       inr (is_position place x x_is, (f, (a, a_is, (p, p_is, (x, x_is, sent))), refl)),
     )
-told kind plain place (Err refusals.NoHead) h = inl (h, refl)
-told kind plain place (Err refusals.NoPosition) h = inr (h.0, inl (h.1, refl))
+told kind plain place (Err reasons.NoHead) h = inl (h, refl)
+told kind plain place (Err reasons.NoPosition) h = inr (h.0, inl (h.1, refl))
 told kind plain place (Err other) h = absurd h
 
-one_send_answer : (kind : Kind) (plain : PlainHead kind) (place : PlainPosition) (r s : Result Frame Refusal)
+one_send_answer : (kind : Kind) (plain : PlainHead kind) (place : PlainPosition) (r s : Result Frame Reason)
     → IsSendAnswer kind plain place r → IsSendAnswer kind plain place s → r ≡ s
 one_send_answer kind plain place r s h k =
     one_told (PlainIsHead kind plain) place (Sent kind plain place) (one_frame kind plain place) r s

@@ -16,8 +16,8 @@ use Rattle.sq_message.specs.Spelling.{IsReading}
 use Rattle.sq_message.proofs.One.{one_reading}
 use Rattle.sq_message.proofs.OnePlace.{one_local_place, one_pair_place}
 use Rattle.sq_text.specs.Faults.{of_frame}
-use Rattle.squitter_c.specs.declared.faults.Refusal.{Refusal}
-use Rattle.squitter_c.specs.declared.faults.Refusal.TheVariants as refusals
+use Rattle.squitter_c.specs.declared.faults.Reason.{Reason}
+use Rattle.squitter_c.specs.declared.faults.Reason.TheVariants as reasons
 use Rattle.squitter_c.specs.declared.plain.PlainPosition.{PlainPosition}
 use Rattle.squitter_c.specs.declared.zones.PlainZones.{PlainZones}
 use Rattle.squitter_c.specs.Decoding.{IsLocalAnswer, IsLowestPlace, IsPairAnswer, IsSiteAnswer}
@@ -29,48 +29,48 @@ use Rattle.squitter_c.proofs.OnePlain.{is_position, one_lowest_place, one_of_deg
 use Rattle.squitter_c.proofs.OneTelling.{one_telling}
 
 -- what is answered for a place or its fault
-abbrev Placed : Result Place PlaceFault → Result Place Refusal → Type 0
+abbrev Placed : Result Place PlaceFault → Result Place Reason → Type 0
 Placed (Ok place) answer = answer ≡ Ok place
-Placed (Err fault) answer = answer ≡ Err (refusals.Place fault)
+Placed (Err fault) answer = answer ≡ Err (reasons.Place fault)
 
-one_placed : (found : Result Place PlaceFault) (r s : Result Place Refusal) → Placed found r → Placed found s → r ≡ s
+one_placed : (found : Result Place PlaceFault) (r s : Result Place Reason) → Placed found r → Placed found s → r ≡ s
 one_placed (Ok place) r s h k = h ∙ sym k
 one_placed (Err fault) r s h k = h ∙ sym k
 
 -- what is answered for what is read of a frame, which goes on with its squitter
-abbrev Read : Result Squitter FrameFault → (Squitter → Result Place Refusal → Type 0) → Result Place Refusal
+abbrev Read : Result Squitter FrameFault → (Squitter → Result Place Reason → Type 0) → Result Place Reason
     → Type 0
 Read (Ok q) Next answer = Next q answer
-Read (Err fault) Next answer = answer ≡ Err (refusals.Line (of_frame fault))
+Read (Err fault) Next answer = answer ≡ Err (reasons.Line (of_frame fault))
 
-one_read : (reading : Result Squitter FrameFault) (Next : Squitter → Result Place Refusal → Type 0)
-    (r s : Result Place Refusal) → ((q : Squitter) → Next q r → Next q s → r ≡ s) → Read reading Next r
+one_read : (reading : Result Squitter FrameFault) (Next : Squitter → Result Place Reason → Type 0)
+    (r s : Result Place Reason) → ((q : Squitter) → Next q r → Next q s → r ≡ s) → Read reading Next r
     → Read reading Next s → r ≡ s
 one_read (Ok q) Next r s one h k = one q h k
 one_read (Err fault) Next r s one h k = h ∙ sym k
 
-abbrev OfFrame : Frame → (Squitter → Result Place Refusal → Type 0) → Result Place Refusal → Type 0
+abbrev OfFrame : Frame → (Squitter → Result Place Reason → Type 0) → Result Place Reason → Type 0
 OfFrame frame Next answer = (reading : Result Squitter FrameFault) × IsReading frame reading × Read reading Next answer
 
-one_of_frame : (frame : Frame) (Next : Squitter → Result Place Refusal → Type 0) (r s : Result Place Refusal)
+one_of_frame : (frame : Frame) (Next : Squitter → Result Place Reason → Type 0) (r s : Result Place Reason)
     → ((q : Squitter) → Next q r → Next q s → r ≡ s) → OfFrame frame Next r → OfFrame frame Next s → r ≡ s
 one_of_frame frame Next r s one (a, a_is, h) (b, b_is, k) =
     one_read a Next r s one h (subst (λ t. Read t Next s) (sym (one_reading frame a b a_is b_is)) k)
 
 -- ---- near a reference
 
-abbrev Near : Position → Squitter → Result Place Refusal → Type 0
+abbrev Near : Position → Squitter → Result Place Reason → Type 0
 Near reference q answer = (found : Result Place PlaceFault) × IsLocalPlace (squitter_parts q).me reference found
     × Placed found answer
 
-one_near : (reference : Position) (q : Squitter) (r s : Result Place Refusal) → Near reference q r
+one_near : (reference : Position) (q : Squitter) (r s : Result Place Reason) → Near reference q r
     → Near reference q s → r ≡ s
 one_near reference q r s (a, a_is, h) (b, b_is, k) =
     one_placed a r s h (subst (λ t. Placed t s) (sym (one_local_place q reference a b a_is b_is)) k)
 
 -- the reference is looked at first
-abbrev NearPlain : Frame → PlainPosition → Result Place Refusal → Type 0
-NearPlain frame plain answer = ((¬ (PlainIsPosition plain)) × (answer ≡ Err refusals.NoPosition))
+abbrev NearPlain : Frame → PlainPosition → Result Place Reason → Type 0
+NearPlain frame plain answer = ((¬ (PlainIsPosition plain)) × (answer ≡ Err reasons.NoPosition))
     ⊎ (PlainIsPosition plain
     × ((reference : Position) → IsOfDegrees plain reference → OfFrame frame (Near reference) answer))
 
@@ -85,7 +85,7 @@ position_of plain h = (
   record { lat = refl; lon = refl },
 )
 
-near_plain : (frame : Frame) (plain : PlainPosition) (r : Result Place Refusal) → IsLocalAnswer frame plain r
+near_plain : (frame : Frame) (plain : PlainPosition) (r : Result Place Reason) → IsLocalAnswer frame plain r
     → NearPlain frame plain r
 unfolding IsLocalAnswer
 near_plain frame plain (Ok place) (reference, deg, (q, spells, local)) = inr (
@@ -101,10 +101,10 @@ near_plain frame plain (Ok place) (reference, deg, (q, spells, local)) = inr (
     ),
   ),
 )
-near_plain frame plain (Err refusals.NoPosition) h = inl (h, refl)
-near_plain frame plain (Err (refusals.Line fault)) (h, (of, of_is, is)) =
-    inr (h, λ reference deg. (Err of, of_is, ap (λ f. Err (refusals.Line f)) is))
-near_plain frame plain (Err (refusals.Place fault)) (reference, deg, (q, spells, local)) = inr (
+near_plain frame plain (Err reasons.NoPosition) h = inl (h, refl)
+near_plain frame plain (Err (reasons.Line fault)) (h, (of, of_is, is)) =
+    inr (h, λ reference deg. (Err of, of_is, ap (λ f. Err (reasons.Line f)) is))
+near_plain frame plain (Err (reasons.Place fault)) (reference, deg, (q, spells, local)) = inr (
   is_position plain reference deg,
   λ other deg'. (
     Ok q,
@@ -119,7 +119,7 @@ near_plain frame plain (Err (refusals.Place fault)) (reference, deg, (q, spells,
 )
 near_plain frame plain (Err other) h = absurd h
 
-one_near_plain : (frame : Frame) (plain : PlainPosition) (r s : Result Place Refusal) → NearPlain frame plain r
+one_near_plain : (frame : Frame) (plain : PlainPosition) (r s : Result Place Reason) → NearPlain frame plain r
     → NearPlain frame plain s → r ≡ s
 one_near_plain frame plain r s (inl h) (inl k) = h.1 ∙ sym k.1
 one_near_plain frame plain r s (inl h) (inr k) = absurd (h.0 k.0)
@@ -128,45 +128,45 @@ one_near_plain frame plain r s (inr h) (inr k) =
     let (reference, deg) = position_of plain h.0 in
     one_of_frame frame (Near reference) r s (λ q. one_near reference q r s) (h.1 reference deg) (k.1 reference deg)
 
-one_local : (frame : Frame) (plain : PlainPosition) (r s : Result Place Refusal) → IsLocalAnswer frame plain r
+one_local : (frame : Frame) (plain : PlainPosition) (r s : Result Place Reason) → IsLocalAnswer frame plain r
     → IsLocalAnswer frame plain s → r ≡ s
 one_local frame plain r s h k =
     one_near_plain frame plain r s (near_plain frame plain r h) (near_plain frame plain s k)
 
 -- ---- of a pair
 
-abbrev Paired : Option Position → (o n : Squitter) → Result Place Refusal → Type 0
+abbrev Paired : Option Position → (o n : Squitter) → Result Place Reason → Type 0
 Paired site o n answer = (found : Result Place PlaceFault)
     × IsPairPlace (squitter_parts o) (squitter_parts n) site found × Placed found answer
 
-one_paired : (site : Option Position) (o n : Squitter) (r s : Result Place Refusal) → Paired site o n r
+one_paired : (site : Option Position) (o n : Squitter) (r s : Result Place Reason) → Paired site o n r
     → Paired site o n s → r ≡ s
 one_paired site o n r s (a, a_is, h) (b, b_is, k) =
     one_placed a r s h (subst (λ t. Placed t s) (sym (one_pair_place o n site a b a_is b_is)) k)
 
-abbrev OfPair : (older newer : Frame) → Option Position → Result Place Refusal → Type 0
+abbrev OfPair : (older newer : Frame) → Option Position → Result Place Reason → Type 0
 OfPair older newer site answer = OfFrame older (λ o. OfFrame newer (Paired site o)) answer
 
-of_pair : (older newer : Frame) (site : Option Position) (r : Result Place Refusal)
+of_pair : (older newer : Frame) (site : Option Position) (r : Result Place Reason)
     → IsPairAnswer older newer site r → OfPair older newer site r
 unfolding IsPairAnswer
 of_pair older newer site (Ok place) (o, o_is, (n, n_is, pair)) = (Ok o, o_is, (Ok n, n_is, (Ok place, pair, refl)))
-of_pair older newer site (Err (refusals.Line fault)) (inl (of, of_is, is)) =
-    (Err of, of_is, ap (λ f. Err (refusals.Line f)) is)
-of_pair older newer site (Err (refusals.Line fault)) (inr ((o, o_is), (of, of_is, is))) =
-    (Ok o, o_is, (Err of, of_is, ap (λ f. Err (refusals.Line f)) is))
-of_pair older newer site (Err (refusals.Place fault)) (o, o_is, (n, n_is, pair)) =
+of_pair older newer site (Err (reasons.Line fault)) (inl (of, of_is, is)) =
+    (Err of, of_is, ap (λ f. Err (reasons.Line f)) is)
+of_pair older newer site (Err (reasons.Line fault)) (inr ((o, o_is), (of, of_is, is))) =
+    (Ok o, o_is, (Err of, of_is, ap (λ f. Err (reasons.Line f)) is))
+of_pair older newer site (Err (reasons.Place fault)) (o, o_is, (n, n_is, pair)) =
     (Ok o, o_is, (Ok n, n_is, (Err fault, pair, refl)))
 of_pair older newer site (Err other) h = absurd h
 
-one_pair : (older newer : Frame) (site : Option Position) (r s : Result Place Refusal)
+one_pair : (older newer : Frame) (site : Option Position) (r s : Result Place Reason)
     → IsPairAnswer older newer site r → IsPairAnswer older newer site s → r ≡ s
 one_pair older newer site r s h k =
     one_of_frame older (λ o. OfFrame newer (Paired site o)) r s
     (λ o. one_of_frame newer (Paired site o) r s (λ n. one_paired site o n r s)) (of_pair older newer site r h)
     (of_pair older newer site s k)
 
-one_pair_at : (older newer : Frame) (plain : PlainPosition) (r s : Result Place Refusal)
+one_pair_at : (older newer : Frame) (plain : PlainPosition) (r s : Result Place Reason)
     → IsSiteAnswer older newer plain r → IsSiteAnswer older newer plain s → r ≡ s
 one_pair_at older newer plain r s (inl h) (inl k) = h.1 ∙ sym k.1
 one_pair_at older newer plain r s (inl h) (inr (site, deg, k)) = absurd (h.0 (is_position plain site deg))

@@ -5,7 +5,7 @@ use Rattle.sq_angle.specs.declared.angle.Angle.{Angle}
 use Rattle.sq_angle.specs.Angle.{degrees}
 use Rattle.sq_angle.proofs.OneText.{one_decimal7}
 use Rattle.squitter_c.specs.declared.faults.Fault.{Fault}
-use Rattle.squitter_c.specs.declared.faults.Refusal.{Refusal}
+use Rattle.squitter_c.specs.declared.faults.Reason.{Reason}
 use Rattle.squitter_c.specs.Faults.{Tells, as_it_is}
 use Rattle.squitter_c.specs.Angles.{HoldsDecimal7}
 use Rattle.squitter_c.specs.Pinned.{OneAngleText}
@@ -16,7 +16,7 @@ one_text angle x y long (t, t_is, h) (u, u_is, k) =
     let same : t ≡ u = one_decimal7 (degrees angle) t u angle.in_range.positive t_is u_is in
     ext_get_or 0 x y long (λ i below. h.each i ∙ ap (λ z. slice_index z i) same ∙ sym (k.each i))
 
-text_twice : (r : Result Angle Refusal) (old x y : List ℕ) (d e : Fault) → length x ≡ length y
+text_twice : (r : Result Angle Reason) (old x y : List ℕ) (d e : Fault) → length x ≡ length y
     → Tells HoldsDecimal7 as_it_is r old x d → Tells HoldsDecimal7 as_it_is r old y e → (x ≡ y) × (d ≡ e)
 text_twice (Ok a) old x y d e long h k = (one_text a x y long h.0 k.0, h.1 ∙ sym k.1)
 text_twice (Err reason) old x y d e long h k = (h.0 ∙ sym k.0, h.1 ∙ sym k.1)

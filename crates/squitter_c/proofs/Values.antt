@@ -1,8 +1,5 @@
--- The machine value of a seal, and what a box and a seal own.
-use Rattle.std.proofs.Common.{IsSome}
-use Rattle.std.proofs.lemmas.Bool.{false≢true}
-use Rattle.std.proofs.Common.{◌≡◌, List, [], ◌∷◌, ◌++◌, refl, ◌∙◌, ap, Option, None, Some, lit<}
-use mir.Syntax.{impl, tnil, dnil}
+-- The machine value of a seal, and what a seal owns.
+use Rattle.std.proofs.Common.{◌≡◌, List, [], ◌∷◌, ◌++◌, refl, ◌∙◌, ap, Option, lit<}
 use mir.Val.{Val, vstruct, vcons, vnil, of_list, has_ty, WT}
 use mir.Syntax.{ty_ptr}
 use lib.Dec.{T}
@@ -16,33 +13,13 @@ use denote.Steps.{nothing}
 use denote.Signature.{Slot, plain}
 use denote.Struct.Struct.{within}
 use denote.Struct.Owning.{shape}
-use Rattle.std.proofs.BoxSteps.Form.{Bx}
-use Rattle.sq_lent.specs.contracts.lent.Lent as Lent
-use Rattle.sq_lent.specs.contracts.lent.LentAllocator.TheImpl.{ghosts, dict}
-use Rattle.sq_lent.proofs.lent.Lent.TheLaws as lent
-use Rattle.squitter_c.specs.contracts.listener.Listener as Listener
-use Rattle.squitter_c.proofs.listener.Listener.TheLaws as log
-use Rattle.squitter_c.specs.contracts.parts.Parts as Parts
 use Rattle.squitter_c.specs.contracts.seal.Seal as Seal
-use Rattle.squitter_c.specs.Seal.{Kept, seal_owns}
-
-abbrev pub E : Bx
-E = record {
-  row = Listener.the_row;
-  laws = log.the_row_laws;
-  al = record { row = Lent.the_row; laws = lent.the_row_laws; g = ghosts; d = dict; drops = impl [] tnil dnil };
-}
-
-abbrev pub FromParts : Slot 0
-FromParts = plain (λ _. Parts.the_row Listener.the_row Lent.the_row ghosts)
+use Rattle.squitter_c.specs.Seal.{Content, seal_owns}
 
 abbrev pub FromSeal : Slot 0
 FromSeal = plain (λ _. Seal.the_row)
 
-abbrev pub FromLent : Slot 0
-FromLent = plain (λ _. Lent.the_row)
-
-abbrev pub IsHeld : Option Kept → Option Kept → Type 0
+abbrev pub IsHeld : Option Content → Option Content → Type 0
 IsHeld held wanted = held ≡ wanted
 
 abbrev pub one : Ptr → Val
@@ -56,18 +33,13 @@ module _ {M : Type 1} {𝓤 : Ura M} {𝓛 : Logic 𝓤} {K : Type 0} {Γ : List
       fsplit t $ fpick t (λ vss. fsplit t $ feq_l t (λ ev. fsplit t $ feq_l t (λ ep. drop t $
       k (ev ∙ ap (λ (ps : List Val). vstruct (of_list (ps ++ [])) ∷ []) ep))))
 
-  pub seal_in : K → (p : Ptr) (h : Option Kept)
+  pub seal_in : K → (p : Ptr) (h : Option Content)
       → Step K 𝓛 (‵ (Seal.the_row.own_val (record { at = p; held = h }) (one p ∷ [])) ∷ Γ) G (‵ (seal_owns p h) ∷ Γ) G
   seal_in t p h = step (λ s.
       nothing t $ feq_i t (List Val) (ptr_val p ∷ []) (ptr_val p ∷ []) refl $ fjoin t $
       feq_i t (List Val) (one p ∷ []) (one p ∷ []) refl $ fjoin t $
       fpack t (Valss (RawPtr ∷ [])) (within (shape Seal.the_type) (p, tt) (one p ∷ [])) (ptr_val p ∷ [], tt) $
       fjoin t $ s)
-
--- the value that an option holds
-pub some_of : (o : Option Kept) → IsSome o → (x : Kept) × (o ≡ Some x)
-some_of None h = absurd (false≢true h)
-some_of (Some x) h = (x, refl)
 
 -- a pointer is one
 pub ptr_typed : (p : Ptr) → T (has_ty ty_ptr (ptr_val p)) × WT (ptr_val p)

@@ -4,8 +4,8 @@ use Rattle.sq_message.specs.Altitudes.{HasField, IsFieldOfFeet}
 use Rattle.sq_message.specs.TypeCodes.{IsAirCode}
 use Rattle.squitter_c.specs.declared.altitudes.PlainAltitude.{PlainAltitude}
 use Rattle.squitter_c.specs.declared.faults.Fault.{Fault}
-use Rattle.squitter_c.specs.declared.faults.Refusal.{Refusal}
-use Rattle.squitter_c.specs.declared.faults.Refusal.TheVariants as refusals
+use Rattle.squitter_c.specs.declared.faults.Reason.{Reason}
+use Rattle.squitter_c.specs.declared.faults.Reason.TheVariants as reasons
 use Rattle.squitter_c.specs.Angles.{IsItself}
 use Rattle.squitter_c.specs.Faults.{Tells, as_it_is}
 use Rattle.squitter_c.specs.Fields.{HasMeaning}
@@ -20,9 +20,9 @@ abbrev pub IsMeaning : (code field : ℕ) → PlainAltitude → Type 0
 IsMeaning code field plain = HasMeaning code field plain.form plain.feet
 
 -- what the altitude field of a type code means, or that it is none
-abbrev pub IsMeaningAnswer : (code field : ℕ) → Result PlainAltitude Refusal → Type 0
+abbrev pub IsMeaningAnswer : (code field : ℕ) → Result PlainAltitude Reason → Type 0
 IsMeaningAnswer code field (Ok altitude) = IsAirField code field × IsMeaning code field altitude
-IsMeaningAnswer code field (Err reason) = (¬ (IsAirField code field)) × (reason ≡ refusals.NoHead)
+IsMeaningAnswer code field (Err reason) = (¬ (IsAirField code field)) × (reason ≡ reasons.NoHead)
 
 -- the two are one
 abbrev pub IsAltitudeItself : PlainAltitude → PlainAltitude → Type 0
@@ -31,15 +31,15 @@ IsAltitudeItself answer written = written ≡ answer
 -- the feet of a field
 abbrev pub IsFeetOfField : (code field : ℕ) → (old new : PlainAltitude) → Fault → Type 0
 IsFeetOfField code field old new fault =
-    (answer : Result PlainAltitude Refusal) × IsMeaningAnswer code field answer
+    (answer : Result PlainAltitude Reason) × IsMeaningAnswer code field answer
     × Tells IsAltitudeItself as_it_is answer old new fault
 
 -- the field with Q = 1 that means these feet, or that there is none
-abbrev pub IsFieldAnswer : (feet : ℤ) → Result ℕ Refusal → Type 0
+abbrev pub IsFieldAnswer : (feet : ℤ) → Result ℕ Reason → Type 0
 IsFieldAnswer feet (Ok field) = IsFieldOfFeet field feet
-IsFieldAnswer feet (Err reason) = (¬ (HasField feet)) × (reason ≡ refusals.NoFeet)
+IsFieldAnswer feet (Err reason) = (¬ (HasField feet)) × (reason ≡ reasons.NoFeet)
 
 -- the field of feet
 abbrev pub IsFieldWritten : (feet : ℤ) → (old new : ℕ) → Fault → Type 0
 IsFieldWritten feet old new fault =
-    (answer : Result ℕ Refusal) × IsFieldAnswer feet answer × Tells IsItself as_it_is answer old new fault
+    (answer : Result ℕ Reason) × IsFieldAnswer feet answer × Tells IsItself as_it_is answer old new fault

@@ -8,8 +8,8 @@ use Rattle.sq_angle.specs.Fraction.{IsWithin}
 use Rattle.sq_angle.specs.Reading.{IsReading}
 use Rattle.sq_zones.specs.Zones.{zones_at}
 use Rattle.squitter_c.specs.declared.faults.Fault.{Fault}
-use Rattle.squitter_c.specs.declared.faults.Refusal.{Refusal}
-use Rattle.squitter_c.specs.declared.faults.Refusal.TheVariants as refusals
+use Rattle.squitter_c.specs.declared.faults.Reason.{Reason}
+use Rattle.squitter_c.specs.declared.faults.Reason.TheVariants as reasons
 use Rattle.squitter_c.specs.declared.plain.PlainAngle.{PlainAngle}
 use Rattle.squitter_c.specs.Faults.{Tells, as_it_is, of_angles}
 use Rattle.squitter_c.specs.Plain.{IsLowestOf, PlainIsAngle, fraction_of}
@@ -24,14 +24,14 @@ abbrev pub HoldsDecimal7 : Angle → List ℕ → Type 0
 HoldsDecimal7 angle bytes = (text : List ℕ) × IsDecimal7 (degrees angle) text × StandsIn text bytes
 
 -- the angle of a fraction, or that it is none
-abbrev pub IsAngleAnswer : PlainAngle → Result Angle Refusal → Type 0
+abbrev pub IsAngleAnswer : PlainAngle → Result Angle Reason → Type 0
 IsAngleAnswer plain (Ok angle) = degrees angle ≡ fraction_of plain
-IsAngleAnswer plain (Err reason) = (¬ (PlainIsAngle plain)) × (reason ≡ refusals.NoAngle)
+IsAngleAnswer plain (Err reason) = (¬ (PlainIsAngle plain)) × (reason ≡ reasons.NoAngle)
 
 -- the text with seven decimals
 abbrev pub IsAngleWritten : PlainAngle → (old new : List ℕ) → Fault → Type 0
 IsAngleWritten plain old new fault =
-    (answer : Result Angle Refusal) × IsAngleAnswer plain answer × Tells HoldsDecimal7 as_it_is answer old new fault
+    (answer : Result Angle Reason) × IsAngleAnswer plain answer × Tells HoldsDecimal7 as_it_is answer old new fault
 
 -- the angle in lowest terms
 abbrev pub IsLowestAngle : Angle → PlainAngle → Type 0
@@ -48,9 +48,9 @@ pub record IsLatitude (plain : PlainAngle) : Type 0 where
   pub within : IsWithin 90 (fraction_of plain)
 
 -- the zone count of a latitude, or that it is none
-abbrev pub IsZoneAnswer : PlainAngle → Result ℕ Refusal → Type 0
+abbrev pub IsZoneAnswer : PlainAngle → Result ℕ Reason → Type 0
 IsZoneAnswer plain (Ok count) = IsLatitude plain × (count ≡ zones_at (fraction_of plain))
-IsZoneAnswer plain (Err reason) = (¬ (IsLatitude plain)) × (reason ≡ refusals.NoLatitude)
+IsZoneAnswer plain (Err reason) = (¬ (IsLatitude plain)) × (reason ≡ reasons.NoLatitude)
 
 -- the number itself
 abbrev pub IsItself : ℕ → ℕ → Type 0
@@ -59,4 +59,4 @@ IsItself answer written = written ≡ answer
 -- the zone count
 abbrev pub IsZoneCount : PlainAngle → (old new : ℕ) → Fault → Type 0
 IsZoneCount plain old new fault =
-    (answer : Result ℕ Refusal) × IsZoneAnswer plain answer × Tells IsItself as_it_is answer old new fault
+    (answer : Result ℕ Reason) × IsZoneAnswer plain answer × Tells IsItself as_it_is answer old new fault

@@ -10,8 +10,8 @@ use Rattle.sq_angle.specs.Position.{lat_of, lon_of}
 use Rattle.sq_angle.specs.Spelling.{signed}
 use Rattle.squitter_c.specs.declared.e7.DegreesE7.{DegreesE7}
 use Rattle.squitter_c.specs.declared.faults.Fault.{Fault}
-use Rattle.squitter_c.specs.declared.faults.Refusal.{Refusal}
-use Rattle.squitter_c.specs.declared.faults.Refusal.TheVariants as refusals
+use Rattle.squitter_c.specs.declared.faults.Reason.{Reason}
+use Rattle.squitter_c.specs.declared.faults.Reason.TheVariants as reasons
 use Rattle.squitter_c.specs.declared.plain.PlainAngle.{PlainAngle}
 use Rattle.squitter_c.specs.declared.plain.PlainPosition.{PlainPosition}
 use Rattle.squitter_c.specs.Angles.{IsAngleAnswer}
@@ -29,7 +29,7 @@ IsE7Of angle k = IsE7 (degrees angle) k
 -- an angle as such a number, or that the fraction is none
 abbrev pub IsAngleE7 : PlainAngle → (old new : ℤ) → Fault → Type 0
 IsAngleE7 plain old new fault =
-    (answer : Result Angle Refusal) × IsAngleAnswer plain answer × Tells IsE7Of as_it_is answer old new fault
+    (answer : Result Angle Reason) × IsAngleAnswer plain answer × Tells IsE7Of as_it_is answer old new fault
 
 -- both coordinates
 pub record AreE7Of (position : Position) (written : DegreesE7) : Type 0 where
@@ -37,11 +37,11 @@ pub record AreE7Of (position : Position) (written : DegreesE7) : Type 0 where
   pub lon : IsE7 (degrees (lon_of position)) written.lon
 
 -- the position of these fractions, or that they are none
-abbrev pub IsPositionAnswer : PlainPosition → Result Position Refusal → Type 0
+abbrev pub IsPositionAnswer : PlainPosition → Result Position Reason → Type 0
 IsPositionAnswer plain (Ok position) = IsOfDegrees plain position
-IsPositionAnswer plain (Err reason) = (¬ (PlainIsPosition plain)) × (reason ≡ refusals.NoPosition)
+IsPositionAnswer plain (Err reason) = (¬ (PlainIsPosition plain)) × (reason ≡ reasons.NoPosition)
 
 -- a position as two such numbers
 abbrev pub IsPositionE7 : PlainPosition → (old new : DegreesE7) → Fault → Type 0
 IsPositionE7 plain old new fault =
-    (answer : Result Position Refusal) × IsPositionAnswer plain answer × Tells AreE7Of as_it_is answer old new fault
+    (answer : Result Position Reason) × IsPositionAnswer plain answer × Tells AreE7Of as_it_is answer old new fault

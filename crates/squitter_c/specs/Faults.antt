@@ -10,10 +10,10 @@ use Rattle.sq_text.specs.declared.faults.LineFault.TheVariants as lines
 use Rattle.sq_text.specs.declared.frame_text.TextFault.{TextFault}
 use Rattle.sq_text.specs.Faults.{of_frame, of_text}
 use Rattle.squitter_c.specs.declared.faults.Fault.{Fault}
-use Rattle.squitter_c.specs.declared.faults.Refusal.{Refusal}
-use Rattle.squitter_c.specs.declared.faults.Refusal.TheVariants.{Line, Place, Angle, NoPosition, NoHead, NoAngle}
-use Rattle.squitter_c.specs.declared.faults.Refusal.TheVariants.{NoLatitude, NoFeet, NoParity, Memory, NoLimit, NoTracker}
-use Rattle.squitter_c.specs.declared.faults.Refusal.TheVariants.{NoAddress, LongLog, NoFormat, Entry}
+use Rattle.squitter_c.specs.declared.faults.Reason.{Reason}
+use Rattle.squitter_c.specs.declared.faults.Reason.TheVariants.{Line, Place, Angle, NoPosition, NoHead, NoAngle}
+use Rattle.squitter_c.specs.declared.faults.Reason.TheVariants.{NoLatitude, NoFeet, NoParity, Memory, NoLimit, NoTracker}
+use Rattle.squitter_c.specs.declared.faults.Reason.TheVariants.{NoAddress, LongLog, NoFormat, Entry}
 
 -- a code with two numbers
 abbrev pub told : (code first second : ℕ) → Fault
@@ -53,7 +53,7 @@ fault_of_angle angles.TooManyDecimals = told 31 0 0
 fault_of_angle angles.OutOfRange = told 32 0 0
 
 -- of everything
-abbrev pub fault_of : Refusal → Fault
+abbrev pub fault_of : Reason → Fault
 fault_of (Line fault) = fault_of_line fault
 fault_of (Place fault) = fault_of_place fault
 fault_of (Angle fault) = fault_of_angle fault
@@ -86,46 +86,46 @@ place_with first second (places.ZoneCounts even odd) = places.ZoneCounts first s
 place_with first second fault = fault
 
 -- the reason with these numbers, where it has some
-abbrev pub with_numbers : (first second : ℕ) → Refusal → Refusal
+abbrev pub with_numbers : (first second : ℕ) → Reason → Reason
 with_numbers first second (Line fault) = Line (line_with first fault)
 with_numbers first second (Place fault) = Place (place_with first second fault)
 with_numbers first second (Entry index) = Entry first
-with_numbers first second refusal = refusal
+with_numbers first second reason = reason
 
 -- a reason with 0 for its numbers: two reasons have one kind if they differ in their numbers at most
-abbrev pub kind_of : Refusal → Refusal
-kind_of refusal = with_numbers 0 0 refusal
+abbrev pub kind_of : Reason → Reason
+kind_of reason = with_numbers 0 0 reason
 
 -- a code is that of one kind of reason, whatever the numbers
 abbrev pub OneCode : Type 0
-OneCode = (a b : Refusal) → ((fault_of a).code ≡ (fault_of b).code) ↔ (kind_of a ≡ kind_of b)
+OneCode = (a b : Reason) → ((fault_of a).code ≡ (fault_of b).code) ↔ (kind_of a ≡ kind_of b)
 
 -- a code and its numbers are those of one reason
 abbrev pub OneReason : Type 0
-OneReason = (a b : Refusal) → fault_of a ≡ fault_of b → a ≡ b
+OneReason = (a b : Reason) → fault_of a ≡ fault_of b → a ≡ b
 
 -- no reason has the code of an answer
 abbrev pub NoCodeIsZero : Type 0
-NoCodeIsZero = (a : Refusal) → (fault_of a).code ≢ none.code
+NoCodeIsZero = (a : Reason) → (fault_of a).code ≢ none.code
 
 -- a text's fault, a frame's and a line's, as reasons
-abbrev pub of_texts : TextFault → Refusal
+abbrev pub of_texts : TextFault → Reason
 of_texts fault = Line (of_text fault)
 
-abbrev pub of_frames : FrameFault → Refusal
+abbrev pub of_frames : FrameFault → Reason
 of_frames fault = Line (of_frame fault)
 
-abbrev pub of_lines : LineFault → Refusal
+abbrev pub of_lines : LineFault → Reason
 of_lines fault = Line fault
 
-abbrev pub of_angles : AngleFault → Refusal
+abbrev pub of_angles : AngleFault → Reason
 of_angles fault = Angle fault
 
-abbrev pub as_it_is : Refusal → Refusal
-as_it_is refusal = refusal
+abbrev pub as_it_is : Reason → Reason
+as_it_is reason = reason
 
 -- What is answered for an answer: what is written stands for it, and the code is 0; else the fault, and `out` is as it
 -- was.
-abbrev pub Tells : {A B E : Type 0} → (A → B → Type 0) → (E → Refusal) → Result A E → (old new : B) → Fault → Type 0
+abbrev pub Tells : {A B E : Type 0} → (A → B → Type 0) → (E → Reason) → Result A E → (old new : B) → Fault → Type 0
 Tells Stands named (Ok answer) old new fault = Stands answer new × (fault ≡ none)
 Tells Stands named (Err reason) old new fault = (new ≡ old) × (fault ≡ fault_of (named reason))

@@ -9,9 +9,9 @@ use Rattle.sq_feed.specs.Readers.{calls_left}
 use Rattle.sq_feed.specs.declared.message.Stranger.{Stranger}
 use Rattle.sq_feed.specs.declared.message.Stranger.TheVariants as strangers
 use Rattle.squitter_c.specs.declared.faults.Fault.{Fault}
-use Rattle.squitter_c.specs.declared.faults.Refusal.TheVariants as refusals
+use Rattle.squitter_c.specs.declared.faults.Reason.TheVariants as reasons
 use Rattle.squitter_c.specs.Faults.{fault_of, none}
-use Rattle.squitter_c.specs.FeedSeal.{KeptFeed}
+use Rattle.squitter_c.specs.Seal.{KeptFeed}
 use Rattle.squitter_c.specs.declared.feed_new.PlainCounts.{PlainCounts}
 use Rattle.squitter_c.specs.declared.log_take.Done.{Done}
 
@@ -44,8 +44,8 @@ manner_of leap late flags = record {
 abbrev pub IsFeedMade : (number leap late flags size : ℕ) → (made : Option KeptFeed) → Fault → Type 0
 IsFeedMade number leap late flags size (Some feed) fault = (format : Option Format) × IsFeedFormat number format
     × (feed ≡ nothing_fed format (manner_of leap late flags)) × (3072 ≤ size) × (fault ≡ none)
-IsFeedMade number leap late flags size None fault = ((4 < number) × (fault ≡ fault_of refusals.NoFormat))
-    ⊎ ((number ≤ 4) × (fault ≡ fault_of refusals.Memory))
+IsFeedMade number leap late flags size None fault = ((4 < number) × (fault ≡ fault_of reasons.NoFormat))
+    ⊎ ((number ≤ 4) × (fault ≡ fault_of reasons.Memory))
 
 -- The first elements of an array were written, so many; the others are unchanged.
 pub record IsFilled {X : Type 0} (was is : List X) (count : ℕ) : Type 0 where
@@ -83,7 +83,7 @@ IsFeedTaken arrival (Some k) new piece moments_were moments frames_were frames b
     × HasTakenFrames arrival k next piece moments_were moments frames_were frames after × (fault ≡ none)
 IsFeedTaken arrival None new piece moments_were moments frames_were frames before after fault =
     (new ≡ None) × (moments ≡ moments_were) × (frames ≡ frames_were) × (after ≡ before)
-    × (fault ≡ fault_of refusals.NoTracker)
+    × (fault ≡ fault_of reasons.NoTracker)
 
 -- the result of ending a source, if there is a feed, and else the fault
 abbrev pub IsFeedFinished : (arrival : ℕ) → (old new : Option KeptFeed) → (moments_were moments : List ℕ)
@@ -93,7 +93,7 @@ IsFeedFinished arrival (Some k) new moments_were moments frames_were frames befo
     × HasEndedInFrames arrival k next moments_were moments frames_were frames after × (fault ≡ none)
 IsFeedFinished arrival None new moments_were moments frames_were frames before after fault =
     (new ≡ None) × (moments ≡ moments_were) × (frames ≡ frames_were) × (after ≡ before)
-    × (fault ≡ fault_of refusals.NoTracker)
+    × (fault ≡ fault_of reasons.NoTracker)
 
 -- ---- lines in a buffer
 
@@ -118,7 +118,7 @@ abbrev pub IsFeedTextTaken : (arrival : ℕ) → (old new : Option KeptFeed) →
 IsFeedTextTaken arrival (Some k) new piece was is before after fault =
     (next : KeptFeed) × (new ≡ Some next) × HasTakenText arrival k next piece was is after × (fault ≡ none)
 IsFeedTextTaken arrival None new piece was is before after fault =
-    (new ≡ None) × (is ≡ was) × (after ≡ before) × (fault ≡ fault_of refusals.NoTracker)
+    (new ≡ None) × (is ≡ was) × (after ≡ before) × (fault ≡ fault_of reasons.NoTracker)
 
 -- the result of ending a source, if there is a feed, and else the fault
 abbrev pub IsFeedTextFinished : (arrival : ℕ) → (old new : Option KeptFeed) → (was is : List ℕ)
@@ -126,14 +126,14 @@ abbrev pub IsFeedTextFinished : (arrival : ℕ) → (old new : Option KeptFeed) 
 IsFeedTextFinished arrival (Some k) new was is before after fault =
     (next : KeptFeed) × (new ≡ Some next) × HasEndedInText arrival k next was is after × (fault ≡ none)
 IsFeedTextFinished arrival None new was is before after fault =
-    (new ≡ None) × (is ≡ was) × (after ≡ before) × (fault ≡ fault_of refusals.NoTracker)
+    (new ≡ None) × (is ≡ was) × (after ≡ before) × (fault ≡ fault_of reasons.NoTracker)
 
 -- ---- other calls
 
 -- the result of a lost connection, if there is a feed, and else the fault
 abbrev pub IsFeedLost : (old new : Option KeptFeed) → Fault → Type 0
 IsFeedLost (Some k) new fault = (next : KeptFeed) × (new ≡ Some next) × HasLost k next × (fault ≡ none)
-IsFeedLost None new fault = (new ≡ None) × (fault ≡ fault_of refusals.NoTracker)
+IsFeedLost None new fault = (new ≡ None) × (fault ≡ fault_of reasons.NoTracker)
 
 -- counts as plain numbers
 pub record AreCounts (tally : Tally) (plain : PlainCounts) : Type 0 where
@@ -148,7 +148,7 @@ pub record AreCounts (tally : Tally) (plain : PlainCounts) : Type 0 where
 -- the counts of a feed, if there is one, and else the fault
 abbrev pub IsFeedCounted : Option KeptFeed → (was is : PlainCounts) → Fault → Type 0
 IsFeedCounted (Some k) was is fault = AreCounts k.ear.counts is × (fault ≡ none)
-IsFeedCounted None was is fault = (is ≡ was) × (fault ≡ fault_of refusals.NoTracker)
+IsFeedCounted None was is fault = (is ≡ was) × (fault ≡ fault_of reasons.NoTracker)
 
 -- ---- the format of a source
 
@@ -170,4 +170,4 @@ source_number None None = 4
 abbrev pub IsSourceNumber : Option KeptFeed → (was is : ℕ) → Fault → Type 0
 IsSourceNumber (Some k) was is fault =
     (is ≡ source_number (format_of_source k) k.ear.stranger) × (fault ≡ none)
-IsSourceNumber None was is fault = (is ≡ was) × (fault ≡ fault_of refusals.NoTracker)
+IsSourceNumber None was is fault = (is ≡ was) × (fault ≡ fault_of reasons.NoTracker)

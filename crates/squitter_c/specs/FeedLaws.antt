@@ -3,7 +3,7 @@ use Rattle.std.specs.Prelude.{◌≡◌, ◌+◌, ◌<◌, ◌≤◌, ℕ, List,
 use Rattle.sq_feed.specs.Feeds.{HasGiven, HasWritten}
 use Rattle.squitter_c.specs.declared.faults.Fault.{Fault}
 use Rattle.squitter_c.specs.Faults.{none}
-use Rattle.squitter_c.specs.FeedSeal.{KeptFeed}
+use Rattle.squitter_c.specs.Seal.{KeptFeed}
 use Rattle.squitter_c.specs.declared.log_take.Done.{Done}
 use Rattle.squitter_c.specs.FeedCalls.{IsFeedTaken, IsFeedTextTaken}
 

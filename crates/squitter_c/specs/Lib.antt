@@ -6,8 +6,7 @@ pub mod Calls
 pub mod OneValues
 pub mod Seal
 pub mod Sizes
-pub mod FeedSeal
-pub mod OrderSeal
+pub mod Slots
 pub mod Fields
 pub mod Reading
 pub mod Decoding

@@ -1,5 +1,5 @@
 -- What calls of a log answer.
-use Rattle.std.specs.Prelude.{◌≡◌, ◌≤◌, ◌<◌, ◌⊎◌, ◌++◌, ◌^◌, ⊤, ℕ, List, [], Option, None, Some, drop, length, take}
+use Rattle.std.specs.Prelude.{◌≡◌, ◌≤◌, ◌<◌, ◌⊎◌, ◌+◌, ◌*◌, ◌++◌, ◌^◌, ⊤, ℕ, List, [], Option, None, Some, drop, length, take}
 use Rattle.std.specs.List.{AllZip}
 use Rattle.sq_devices.specs.Device.{IsPrefixOf}
 use Rattle.sq_log.specs.declared.log.Answer.{Answer as Told}
@@ -17,7 +17,7 @@ use Rattle.sq_commands.specs.Formats.{Telling, Writers}
 use Rattle.sq_commands.specs.SlowAnswers.{AreTrueAnswers}
 use Rattle.sq_commands.specs.Tracking.{track_manner}
 use Rattle.squitter_c.specs.declared.faults.Fault.{Fault}
-use Rattle.squitter_c.specs.declared.faults.Refusal.TheVariants as refusals
+use Rattle.squitter_c.specs.declared.faults.Reason.TheVariants as reasons
 use Rattle.squitter_c.specs.Faults.{fault_of, none}
 use Rattle.squitter_c.specs.Seal.{Kept}
 use Rattle.squitter_c.specs.declared.log_answer.PlainAnswer.{PlainAnswer}
@@ -99,11 +99,21 @@ IsEndTold ends.NoMemory done given room = ⊤
 abbrev pub fault_of_end : End → Fault
 fault_of_end ends.Fed = none
 fault_of_end ends.Full = none
-fault_of_end ends.NoMemory = fault_of refusals.Memory
+fault_of_end ends.NoMemory = fault_of reasons.Memory
 
 -- more lines, or bytes of a piece, than a log can have
 abbrev pub IsTooLong : LogState → ℕ → Type 0
 IsTooLong state size = (2 ^ 63 ≤ state.number) ⊎ (2 ^ 61 < size)
+
+-- The log heard more lines of a piece, and their answers are written from an index of the output on.
+pub record HasGoneOn {X F A : Type 0} (As : Written X) (end : End) (old new : Log (Hearing F A)) (piece : List ℕ)
+    (was is : List X) (from : ℕ) (done : Done) : Type 0 where
+  pub gone : GoesOn As end (held_by old) (held_by new) (take done.taken piece) (take from was) (take done.written is)
+  pub taken : done.taken ≤ length piece
+  pub written : (from ≤ done.written) × (done.written ≤ length is)
+  pub rest : drop done.written is ≡ drop done.written was
+  pub number : new.number ≤ old.number + length old.window.waiting + 2 * length piece + 1
+  pub lasting : new.job.tracker.ghost_name ≡ old.job.tracker.ghost_name
 
 -- A call wrote `done.written` elements at the front of the array, and left the rest unchanged.
 pub record IsWrittenTo {X : Type 0} (was is : List X) (done : Done) (size : ℕ) : Type 0 where
@@ -130,7 +140,7 @@ abbrev pub IsOfListener : {X : Type 0} → (old new : Kept) → (size : ℕ) →
     → Fault → Type 0 → Type 0
 IsOfListener old new size was is before after fault Going =
     ((¬ (IsTooLong old.log size)) × Going)
-    ⊎ (IsTooLong old.log size × (new ≡ old) × (is ≡ was) × (after ≡ before) × (fault ≡ fault_of refusals.LongLog))
+    ⊎ (IsTooLong old.log size × (new ≡ old) × (is ≡ was) × (after ≡ before) × (fault ≡ fault_of reasons.LongLog))
 
 -- what taking a piece made of a listener
 abbrev pub IsTakenBy : (old new : Kept) → (piece : List ℕ) → (was is : List PlainAnswer) → (before after : Done)
@@ -149,7 +159,7 @@ abbrev pub IsLogTaken : (old new : Option Kept) → (piece : List ℕ) → (was 
 IsLogTaken (Some k) new piece was is before after fault =
     (next : Kept) × (new ≡ Some next) × IsTakenBy k next piece was is before after fault
 IsLogTaken None new piece was is before after fault =
-    (new ≡ None) × (is ≡ was) × (after ≡ before) × (fault ≡ fault_of refusals.NoTracker)
+    (new ≡ None) × (is ≡ was) × (after ≡ before) × (fault ≡ fault_of reasons.NoTracker)
 
 -- what finishing made of a log, where there may be none
 abbrev pub IsLogFinished : (old new : Option Kept) → (was is : List PlainAnswer) → (before after : Done) → Fault
@@ -157,10 +167,10 @@ abbrev pub IsLogFinished : (old new : Option Kept) → (was is : List PlainAnswe
 IsLogFinished (Some k) new was is before after fault =
     (next : Kept) × (new ≡ Some next) × IsFinishedBy k next was is before after fault
 IsLogFinished None new was is before after fault =
-    (new ≡ None) × (is ≡ was) × (after ≡ before) × (fault ≡ fault_of refusals.NoTracker)
+    (new ≡ None) × (is ≡ was) × (after ≡ before) × (fault ≡ fault_of reasons.NoTracker)
 
 -- the lines that were good and those that were refused, where there is a log
 abbrev pub IsTallied : Option Kept → (was is : PlainTally) → Fault → Type 0
 IsTallied (Some k) was is fault =
     (is.good ≡ k.log.tally.good) × (is.refused ≡ k.log.tally.refused) × (fault ≡ none)
-IsTallied None was is fault = (is ≡ was) × (fault ≡ fault_of refusals.NoTracker)
+IsTallied None was is fault = (is ≡ was) × (fault ≡ fault_of reasons.NoTracker)

@@ -4,7 +4,7 @@ use Rattle.sq_commands.specs.declared.formats.Format.{Format}
 use Rattle.sq_commands.specs.declared.formats.Format.TheVariants as formats
 use Rattle.sq_commands.specs.Heard.{heard_telling}
 use Rattle.squitter_c.specs.declared.faults.Fault.{Fault}
-use Rattle.squitter_c.specs.declared.faults.Refusal.TheVariants as refusals
+use Rattle.squitter_c.specs.declared.faults.Reason.TheVariants as reasons
 use Rattle.squitter_c.specs.Faults.{fault_of}
 use Rattle.squitter_c.specs.Seal.{Kept}
 use Rattle.squitter_c.specs.declared.log_take.Done.{Done}
@@ -47,7 +47,7 @@ HasWrittenAll format old new was is done fault = (end : End)
 abbrev pub IsInFormat : (number : ℕ) → (old new : Kept) → (was is : List ℕ) → (before after : Done) → Fault
     → (Format → Type 0) → Type 0
 IsInFormat number old new was is before after fault Of =
-    ((2 < number) × (new ≡ old) × (is ≡ was) × (after ≡ before) × (fault ≡ fault_of refusals.NoFormat))
+    ((2 < number) × (new ≡ old) × (is ≡ was) × (after ≡ before) × (fault ≡ fault_of reasons.NoFormat))
     ⊎ ((format : Format) × IsFormat number format × Of format)
 
 -- what taking a piece made of a listener
@@ -71,7 +71,7 @@ abbrev pub IsTextTaken : (number : ℕ) → (old new : Option Kept) → (piece :
 IsTextTaken number (Some k) new piece was is before after fault =
     (next : Kept) × (new ≡ Some next) × IsTextTakenBy number k next piece was is before after fault
 IsTextTaken number None new piece was is before after fault =
-    (new ≡ None) × (is ≡ was) × (after ≡ before) × (fault ≡ fault_of refusals.NoTracker)
+    (new ≡ None) × (is ≡ was) × (after ≡ before) × (fault ≡ fault_of reasons.NoTracker)
 
 -- what finishing made of a log, where there may be none
 abbrev pub IsTextFinished : (number : ℕ) → (old new : Option Kept) → (was is : List ℕ) → (before after : Done)
@@ -79,7 +79,7 @@ abbrev pub IsTextFinished : (number : ℕ) → (old new : Option Kept) → (was 
 IsTextFinished number (Some k) new was is before after fault =
     (next : Kept) × (new ≡ Some next) × IsTextFinishedBy number k next was is before after fault
 IsTextFinished number None new was is before after fault =
-    (new ≡ None) × (is ≡ was) × (after ≡ before) × (fault ≡ fault_of refusals.NoTracker)
+    (new ≡ None) × (is ≡ was) × (after ≡ before) × (fault ≡ fault_of reasons.NoTracker)
 
 -- the text before the first answer in the format with this number; empty if there is no such format
 abbrev pub IsHeaderText : ℕ → List ℕ → Type 0

@@ -7,7 +7,7 @@ use Rattle.sq_message.specs.declared.squitter.Squitter.{Squitter}
 use Rattle.sq_message.specs.Parts.{squitter_parts}
 use Rattle.sq_message.specs.Places.{IsPosition}
 use Rattle.squitter_c.specs.declared.faults.Fault.{Fault}
-use Rattle.squitter_c.specs.declared.faults.Refusal.TheVariants as refusals
+use Rattle.squitter_c.specs.declared.faults.Reason.TheVariants as reasons
 use Rattle.squitter_c.specs.declared.heard.PlainHeard.{PlainHeard}
 use Rattle.squitter_c.specs.declared.plain.PlainPosition.{PlainPosition}
 use Rattle.squitter_c.specs.Faults.{fault_of}
@@ -23,7 +23,7 @@ use Rattle.squitter_c.specs.Trackers.{IsGot, IsHeardThere, IsMade, IsMadeAt, IsR
 
 -- the fault of an allocation that failed
 abbrev pub no_memory : Fault
-no_memory = fault_of refusals.Memory
+no_memory = fault_of reasons.Memory
 
 -- two trackers are made alike
 abbrev pub OneMade : Type 0

@@ -2,9 +2,9 @@
 use Rattle.std.specs.Prelude.{◌≡◌, ◌≤◌, ◌<◌, ◌⊎◌, ℕ, false, List, [], Option, None, Some, length, take}
 use Rattle.sq_feed.specs.Orders.{HasFlushed, HasSorted, Sorting, is_due, nothing_sorted, squitters_of}
 use Rattle.squitter_c.specs.declared.faults.Fault.{Fault}
-use Rattle.squitter_c.specs.declared.faults.Refusal.TheVariants as refusals
+use Rattle.squitter_c.specs.declared.faults.Reason.TheVariants as reasons
 use Rattle.squitter_c.specs.Faults.{fault_of, none}
-use Rattle.squitter_c.specs.OrderSeal.{KeptOrder}
+use Rattle.squitter_c.specs.Seal.{KeptOrder}
 use Rattle.squitter_c.specs.declared.log_take.Done.{Done}
 use Rattle.squitter_c.specs.FeedCalls.{IsFilled}
 
@@ -12,7 +12,7 @@ use Rattle.squitter_c.specs.FeedCalls.{IsFilled}
 abbrev pub IsOrderMade : (reorder size : ℕ) → (made : Option KeptOrder) → Fault → Type 0
 IsOrderMade reorder size (Some order) fault =
     (order ≡ nothing_sorted reorder) × (148480 ≤ size) × (fault ≡ none)
-IsOrderMade reorder size None fault = fault ≡ fault_of refusals.Memory
+IsOrderMade reorder size None fault = fault ≡ fault_of reasons.Memory
 
 -- The order took squitters, and those that were due were stored. Where both arrays have room for one more, all were
 -- taken, and none is due.
@@ -47,7 +47,7 @@ IsOrderTaken (Some k) new moments frames moments_were stored frames_were stored_
     × HasTakenInOrder k next moments frames moments_were stored frames_were stored_frames after × (fault ≡ none)
 IsOrderTaken None new moments frames moments_were stored frames_were stored_frames before after fault =
     (new ≡ None) × (stored ≡ moments_were) × (stored_frames ≡ frames_were) × (after ≡ before)
-    × (fault ≡ fault_of refusals.NoTracker)
+    × (fault ≡ fault_of reasons.NoTracker)
 
 -- the result of giving what is held, if there is an order, and else the fault
 abbrev pub IsOrderFlushed : (old new : Option KeptOrder) → (moments_were stored : List ℕ)
@@ -57,9 +57,9 @@ IsOrderFlushed (Some k) new moments_were stored frames_were stored_frames before
     × HasGivenHeld k next moments_were stored frames_were stored_frames after × (fault ≡ none)
 IsOrderFlushed None new moments_were stored frames_were stored_frames before after fault =
     (new ≡ None) × (stored ≡ moments_were) × (stored_frames ≡ frames_were) × (after ≡ before)
-    × (fault ≡ fault_of refusals.NoTracker)
+    × (fault ≡ fault_of reasons.NoTracker)
 
 -- how many squitters an order holds, if there is one, and else the fault
 abbrev pub IsOrderCounted : Option KeptOrder → (was is : ℕ) → Fault → Type 0
 IsOrderCounted (Some k) was is fault = (is ≡ length k.held) × (fault ≡ none)
-IsOrderCounted None was is fault = (is ≡ was) × (fault ≡ fault_of refusals.NoTracker)
+IsOrderCounted None was is fault = (is ≡ was) × (fault ≡ fault_of reasons.NoTracker)

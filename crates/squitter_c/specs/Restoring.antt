@@ -2,7 +2,7 @@
 use Rattle.std.specs.Prelude.{◌≡◌, ◌≢◌, ◌<◌, ◌⊎◌, [], ℕ, List, Option, Some, None, length, take}
 use Rattle.std.specs.Prelude.{slice_get, slice_index_or}
 use Rattle.squitter_c.specs.declared.faults.Fault.{Fault}
-use Rattle.squitter_c.specs.declared.faults.Refusal.TheVariants as refusals
+use Rattle.squitter_c.specs.declared.faults.Reason.TheVariants as reasons
 use Rattle.squitter_c.specs.Faults.{fault_of, none}
 use Rattle.squitter_c.specs.Seal.{Kept}
 use Rattle.sq_track.specs.declared.contact.Contact.{Contact}
@@ -68,19 +68,19 @@ pub record HasRestored (t : Held) (last : Option ℕ) (entries : List PlainEntry
 abbrev pub IsRestoring : (t : Held) → (last : Option ℕ) → List PlainEntry → (new : Held) → Fault → Type 0
 IsRestoring t last entries new fault =
     (HasRestored t last entries new × (fault ≡ none))
-    ⊎ ((index : ℕ) × IsRefusedAt index t last entries × (new ≡ unheard t) × (fault ≡ fault_of (refusals.Entry index)))
-    ⊎ ((new ≡ unheard t) × (fault ≡ fault_of refusals.Memory))
+    ⊎ ((index : ℕ) × IsRefusedAt index t last entries × (new ≡ unheard t) × (fault ≡ fault_of (reasons.Entry index)))
+    ⊎ ((new ≡ unheard t) × (fault ≡ fault_of reasons.Memory))
 
 -- the same where there may be no tracker
 abbrev pub IsRestored : PlainLast → List PlainEntry → (old new : Option Kept) → Fault → Type 0
 IsRestored plain entries (Some k) new fault = (last : Option ℕ) × (after : Held) × IsLast plain last
     × IsRestoring k.tracker last entries after fault × (new ≡ Some (record k { tracker = after }))
-IsRestored plain entries None new fault = (new ≡ None) × (fault ≡ fault_of refusals.NoTracker)
+IsRestored plain entries None new fault = (new ≡ None) × (fault ≡ fault_of reasons.NoTracker)
 
 -- What a tracker told is taken back by one with the same settings, all of it, unless memory runs out.
 abbrev pub RestoredAsSaved : Type 0
 RestoredAsSaved = (k t : Kept) (was is : PlainLast) (old entries : List PlainEntry) (new : Option Kept) (fault : Fault)
     → IsSaved (Some k) was is old entries → length entries ≡ length k.tracker.contacts
     → settings t.tracker ≡ settings k.tracker
-    → IsRestored is entries (Some t) new fault → fault ≢ fault_of refusals.Memory
+    → IsRestored is entries (Some t) new fault → fault ≢ fault_of reasons.Memory
     → (fault ≡ none) × (new ≡ Some (record t { tracker = k.tracker }))

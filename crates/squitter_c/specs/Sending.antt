@@ -17,8 +17,8 @@ use Rattle.sq_message.specs.Places.{IsPosition, IsSentAt}
 use Rattle.sq_message.specs.Sending.{IsSent}
 use Rattle.sq_message.specs.Spelling.{Spells}
 use Rattle.squitter_c.specs.declared.faults.Fault.{Fault}
-use Rattle.squitter_c.specs.declared.faults.Refusal.{Refusal}
-use Rattle.squitter_c.specs.declared.faults.Refusal.TheVariants as refusals
+use Rattle.squitter_c.specs.declared.faults.Reason.{Reason}
+use Rattle.squitter_c.specs.declared.faults.Reason.TheVariants as reasons
 use Rattle.squitter_c.specs.declared.plain.PlainPosition.{PlainPosition}
 use Rattle.squitter_c.specs.Decoding.{IsFrameFault}
 use Rattle.squitter_c.specs.Faults.{Tells, as_it_is}
@@ -27,13 +27,13 @@ use Rattle.squitter_c.specs.Plain.{IsFlag, IsOfDegrees, IsParity, PlainIsPositio
 use Rattle.squitter_c.specs.Reading.{AreBytesOf}
 
 -- the frame that is sent; the first fault is the head's or the parity's, then the position's
-unfoldable pub IsSendAnswer : (kind : Kind) → PlainHead kind → PlainPosition → Result Frame Refusal → Type 0
+unfoldable pub IsSendAnswer : (kind : Kind) → PlainHead kind → PlainPosition → Result Frame Reason → Type 0
 IsSendAnswer kind plain place (Ok frame) = (head : HeadParts kind) × IsHead kind plain head
     × ((parity : Parity) × IsParity (odd_of kind plain) parity
     × ((position : Position) × IsOfDegrees place position
     × ((point : Point) × IsSent kind head parity position point frame)))
-IsSendAnswer kind plain place (Err refusals.NoHead) = ¬ (PlainIsHead kind plain)
-IsSendAnswer kind plain place (Err refusals.NoPosition) = PlainIsHead kind plain × ¬ (PlainIsPosition place)
+IsSendAnswer kind plain place (Err reasons.NoHead) = ¬ (PlainIsHead kind plain)
+IsSendAnswer kind plain place (Err reasons.NoPosition) = PlainIsHead kind plain × ¬ (PlainIsPosition place)
 IsSendAnswer kind plain place (Err other) = ⊥
 
 -- the place is the point of the parity to which the position rounds
@@ -48,29 +48,29 @@ IsFrameFrom q place frame =
 
 -- The frame with the parity and the code of a position, and all else as it was. The first fault is the parity's, then
 -- the position's, then the frame's, and last that it carries no position.
-unfoldable pub IsAgainAnswer : Frame → (odd : ℕ) → PlainPosition → Result Frame Refusal → Type 0
+unfoldable pub IsAgainAnswer : Frame → (odd : ℕ) → PlainPosition → Result Frame Reason → Type 0
 IsAgainAnswer frame odd plain (Ok again) = (parity : Parity) × IsParity odd parity
     × ((position : Position) × IsOfDegrees plain position
     × ((q : Squitter) × Spells frame q × ((place : Place) × IsRoundedTo parity position place
     × IsFrameFrom q place again)))
-IsAgainAnswer frame odd plain (Err refusals.NoParity) = ¬ (IsFlag odd)
-IsAgainAnswer frame odd plain (Err refusals.NoPosition) = IsFlag odd × ¬ (PlainIsPosition plain)
-IsAgainAnswer frame odd plain (Err (refusals.Line fault)) =
+IsAgainAnswer frame odd plain (Err reasons.NoParity) = ¬ (IsFlag odd)
+IsAgainAnswer frame odd plain (Err reasons.NoPosition) = IsFlag odd × ¬ (PlainIsPosition plain)
+IsAgainAnswer frame odd plain (Err (reasons.Line fault)) =
     IsFlag odd × PlainIsPosition plain × IsFrameFault frame fault
-IsAgainAnswer frame odd plain (Err (refusals.Place fault)) = IsFlag odd × PlainIsPosition plain
+IsAgainAnswer frame odd plain (Err (reasons.Place fault)) = IsFlag odd × PlainIsPosition plain
     × ((q : Squitter) × Spells frame q × (¬ (IsPosition (squitter_parts q).me)) × (fault ≡ NotPosition))
 IsAgainAnswer frame odd plain (Err other) = ⊥
 
 -- what is answered for an answer for a frame
-abbrev pub TellsFrame : Result Frame Refusal → (old new : List ℕ) → Fault → Type 0
+abbrev pub TellsFrame : Result Frame Reason → (old new : List ℕ) → Fault → Type 0
 TellsFrame answer old new fault = Tells AreBytesOf as_it_is answer old new fault
 
 -- of a frame that is sent
 abbrev pub IsSentFrame : (kind : Kind) → PlainHead kind → PlainPosition → (old new : List ℕ) → Fault → Type 0
 IsSentFrame kind head position old new fault =
-    (answer : Result Frame Refusal) × IsSendAnswer kind head position answer × TellsFrame answer old new fault
+    (answer : Result Frame Reason) × IsSendAnswer kind head position answer × TellsFrame answer old new fault
 
 -- of a frame that is sent again
 abbrev pub IsSentAgain : Frame → (odd : ℕ) → PlainPosition → (old new : List ℕ) → Fault → Type 0
 IsSentAgain frame odd position old new fault =
-    (answer : Result Frame Refusal) × IsAgainAnswer frame odd position answer × TellsFrame answer old new fault
+    (answer : Result Frame Reason) × IsAgainAnswer frame odd position answer × TellsFrame answer old new fault

@@ -9,8 +9,8 @@ use Rattle.sq_message.specs.Parts.{squitter_parts}
 use Rattle.sq_message.specs.Places.{IsPosition}
 use Rattle.sq_message.specs.Spelling.{IsReading}
 use Rattle.squitter_c.specs.declared.faults.Fault.{Fault}
-use Rattle.squitter_c.specs.declared.faults.Refusal.{Refusal}
-use Rattle.squitter_c.specs.declared.faults.Refusal.TheVariants as refusals
+use Rattle.squitter_c.specs.declared.faults.Reason.{Reason}
+use Rattle.squitter_c.specs.declared.faults.Reason.TheVariants as reasons
 use Rattle.squitter_c.specs.declared.heard.PlainHeard.{PlainHeard}
 use Rattle.squitter_c.specs.declared.plain.PlainPosition.{PlainPosition}
 use Rattle.squitter_c.specs.Faults.{Tells, fault_of, none, of_frames}
@@ -38,8 +38,8 @@ abbrev pub IsMade : (limit window : ℕ) → Option Position → (made : Option 
 IsMade limit window site (Some k) fault =
     (limit ≢ 0) × StandsFor k.tracker [] × (settings k.tracker ≡ made_with limit window site) × (fault ≡ none)
     × HasHeardNothing k.log
-IsMade limit window site None fault = ((limit ≡ 0) × (fault ≡ fault_of refusals.NoLimit))
-    ⊎ ((limit ≢ 0) × (fault ≡ fault_of refusals.Memory))
+IsMade limit window site None fault = ((limit ≡ 0) × (fault ≡ fault_of reasons.NoLimit))
+    ⊎ ((limit ≢ 0) × (fault ≡ fault_of reasons.Memory))
 
 -- a tracker is made only in a block that is large enough for its limit
 abbrev pub IsMadeIn : (limit size : ℕ) → (made : Option Kept) → Type 0
@@ -49,15 +49,15 @@ IsMadeIn limit size None = ⊤
 -- a new tracker with a site, or the reason there is none: first, an invalid site
 abbrev pub IsMadeAt : (limit window : ℕ) → PlainPosition → (made : Option Kept) → Fault → Type 0
 IsMadeAt limit window plain made fault =
-    ((¬ (PlainIsPosition plain)) × (made ≡ None) × (fault ≡ fault_of refusals.NoPosition))
+    ((¬ (PlainIsPosition plain)) × (made ≡ None) × (fault ≡ fault_of reasons.NoPosition))
     ⊎ ((site : Position) × IsOfDegrees plain site × IsMade limit window (Some site) made fault)
 
 -- why a tracker refuses a squitter, as a reason
-abbrev pub of_tracker : TrackFault → Refusal
-of_tracker (MomentBack last) = refusals.Line (lines.MomentBack last)
-of_tracker Full = refusals.Line lines.Full
-of_tracker Memory = refusals.Memory
-of_tracker NoLimit = refusals.NoLimit
+abbrev pub of_tracker : TrackFault → Reason
+of_tracker (MomentBack last) = reasons.Line (lines.MomentBack last)
+of_tracker Full = reasons.Line lines.Full
+of_tracker Memory = reasons.Memory
+of_tracker NoLimit = reasons.NoLimit
 
 -- What a tracker makes of a squitter: by each history that it stands for its reply, and it then stands for the history
 -- after that. A refusal changes nothing. Only a position of an address that is not present may want memory.
@@ -88,7 +88,7 @@ abbrev pub IsTrackerHeard :
 IsTrackerHeard moment frame (Some k) new was is fault =
     (after : Held) × (new ≡ Some (record k { tracker = after })) × IsHeardBy moment frame k.tracker after was is fault
 IsTrackerHeard moment frame None new was is fault =
-    (new ≡ None) × (is ≡ was) × (fault ≡ fault_of refusals.NoTracker)
+    (new ≡ None) × (is ≡ was) × (fault ≡ fault_of reasons.NoTracker)
 
 -- what is heard of the frame at place k, at its moment
 abbrev pub IsHeardThere : (moments : List ℕ) → (frames : List (List ℕ)) → (k : ℕ) → (old new : Option Kept)
@@ -104,9 +104,9 @@ present_in (Some k) = present_of k.tracker
 -- the address and the moment that stand at an index, or the fault that none do
 abbrev pub IsShown : Option (ℕ × ℕ) → (was is : PlainPresent) → Fault → Type 0
 IsShown (Some one) was is fault = (is.address ≡ one.0) × (is.moment ≡ one.1) × (fault ≡ none)
-IsShown None was is fault = (is ≡ was) × (fault ≡ fault_of refusals.NoAddress)
+IsShown None was is fault = (is ≡ was) × (fault ≡ fault_of reasons.NoAddress)
 
 -- what stands at an index where there may be no tracker
 abbrev pub IsGot : Option Kept → (index : ℕ) → (was is : PlainPresent) → Fault → Type 0
 IsGot (Some k) index was is fault = IsShown (slice_get (present_of k.tracker) index) was is fault
-IsGot None index was is fault = (is ≡ was) × (fault ≡ fault_of refusals.NoTracker)
+IsGot None index was is fault = (is ≡ was) × (fault ≡ fault_of reasons.NoTracker)

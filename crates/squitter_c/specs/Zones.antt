@@ -7,7 +7,7 @@ use Rattle.sq_cpr.specs.Grid.{Point, code_of, codes_of_zone, lat_zones, latitude
 use Rattle.sq_message.specs.declared.place.Place.{Place}
 use Rattle.sq_message.specs.declared.place.Place.TheVariants.{Air, Ground}
 use Rattle.squitter_c.specs.declared.faults.Fault.{Fault}
-use Rattle.squitter_c.specs.declared.faults.Refusal.{Refusal}
+use Rattle.squitter_c.specs.declared.faults.Reason.{Reason}
 use Rattle.squitter_c.specs.declared.plain.PlainPosition.{PlainPosition}
 use Rattle.squitter_c.specs.declared.zones.PlainZones.{PlainZones}
 use Rattle.squitter_c.specs.Decoding.{IsLocalAnswer}
@@ -29,10 +29,10 @@ AreZonesOfPlace (Air point) zones = AreZonesOf air point zones
 AreZonesOfPlace (Ground point) zones = AreZonesOf ground point zones
 
 -- the zones of a place are written, or the fault told
-abbrev pub TellsZones : Result Place Refusal → (old new : PlainZones) → Fault → Type 0
+abbrev pub TellsZones : Result Place Reason → (old new : PlainZones) → Fault → Type 0
 TellsZones answer old new fault = Tells AreZonesOfPlace as_it_is answer old new fault
 
 -- the zones of a frame's place near a reference
 abbrev pub AreLocalZones : Frame → PlainPosition → (old new : PlainZones) → Fault → Type 0
 AreLocalZones frame reference old new fault =
-    (answer : Result Place Refusal) × IsLocalAnswer frame reference answer × TellsZones answer old new fault
+    (answer : Result Place Reason) × IsLocalAnswer frame reference answer × TellsZones answer old new fault

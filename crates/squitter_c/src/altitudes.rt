@@ -2,7 +2,7 @@
 ghost use Rattle.std.specs.Prelude.{◌≡◌};
 ghost use Rattle.squitter_c.specs.Altitudes.{IsFeetOfField, IsFieldAnswer, IsFieldWritten, IsMeaningAnswer};
 
-use crate::faults::{Fault, NONE, Refusal};
+use crate::faults::{Fault, NONE, Reason};
 use crate::fields::plain_altitude;
 use sq_message::{AirFields, Airborne, Code, Parity, altitude, field_of_feet};
 
@@ -30,16 +30,16 @@ pub extern "C" fn squitter_feet_of_field(
             *out = altitude;
             NONE
         }
-        Err(refusal) => Fault::of(refusal),
+        Err(reason) => Fault::of(reason),
     }
 }
 
 // The meaning of a field.
-fn meaning(type_code: u8, field: u16) -> Result<PlainAltitude, Refusal>
+fn meaning(type_code: u8, field: u16) -> Result<PlainAltitude, Reason>
     ensures { IsMeaningAnswer type_code field result }
 {
     let Some(fields) = AirFields::new(type_code, 0, false, field, false) else {
-        return Err(Refusal::NoHead);
+        return Err(Reason::NoHead);
     };
     let airborne = Airborne {
         fields,
@@ -61,16 +61,16 @@ pub extern "C" fn squitter_field_of_feet(feet: i32, out: &mut u16) -> Fault
             *out = field;
             NONE
         }
-        Err(refusal) => Fault::of(refusal),
+        Err(reason) => Fault::of(reason),
     }
 }
 
 // The field of feet.
-fn field_of(feet: i32) -> Result<u16, Refusal>
+fn field_of(feet: i32) -> Result<u16, Reason>
     ensures { IsFieldAnswer feet result }
 {
     match field_of_feet(feet) {
         Some(field) => Ok(field),
-        None => Err(Refusal::NoFeet),
+        None => Err(Reason::NoFeet),
     }
 }

@@ -3,7 +3,7 @@ ghost use Rattle.std.specs.Prelude.{◌<◌, length};
 ghost use Rattle.sq_angle.specs.Reading.{IsReading};
 ghost use Rattle.squitter_c.specs.Angles.{IsAngleRead, IsAngleWritten, IsZoneAnswer, IsZoneCount, StandsIn};
 
-use crate::faults::{Fault, NONE, Refusal};
+use crate::faults::{Fault, NONE, Reason};
 use crate::plain::{PlainAngle, angle_of, plain_angle};
 use sq_angle::{Angle, AngleFault};
 use sq_zones::zone_count;
@@ -19,19 +19,19 @@ pub extern "C" fn squitter_zone_count(lat: &PlainAngle, out: &mut u8) -> Fault
             *out = count;
             NONE
         }
-        Err(refusal) => Fault::of(refusal),
+        Err(reason) => Fault::of(reason),
     }
 }
 
 // The zone count of a latitude.
-fn zones(lat: &PlainAngle) -> Result<u8, Refusal>
+fn zones(lat: &PlainAngle) -> Result<u8, Reason>
     ensures { IsZoneAnswer lat.now result }
 {
     let Some(lat) = angle_of(lat) else {
-        return Err(Refusal::NoLatitude);
+        return Err(Reason::NoLatitude);
     };
     if !lat.is_within(90) {
-        return Err(Refusal::NoLatitude);
+        return Err(Reason::NoLatitude);
     }
     Ok(zone_count(&lat))
 }
@@ -47,7 +47,7 @@ pub extern "C" fn squitter_text_of_angle(angle: &PlainAngle, out: &mut [u8; 16])
             fill(out, text.as_str());
             NONE
         }
-        None => Fault::of(Refusal::NoAngle),
+        None => Fault::of(Reason::NoAngle),
     }
 }
 
@@ -61,7 +61,7 @@ pub extern "C" fn squitter_angle_of_text(text: &[u8], out: &mut PlainAngle) -> F
             *out = plain_angle(&angle);
             NONE
         }
-        Err(fault) => Fault::of(Refusal::Angle(fault)),
+        Err(fault) => Fault::of(Reason::Angle(fault)),
     }
 }
 

@@ -4,7 +4,7 @@ ghost use Rattle.squitter_c.specs.Frames.{frame_of};
 ghost use Rattle.squitter_c.specs.Decoding.{IsLocal, IsLocalAnswer, IsPair, IsPairAnswer, IsPairAt, IsSiteAnswer};
 ghost use Rattle.squitter_c.specs.Decoding.{TellsPosition};
 
-use crate::faults::{Fault, NONE, Refusal};
+use crate::faults::{Fault, NONE, Reason};
 use crate::plain::{PlainPosition, plain_position, position_of};
 use sq_angle::Position;
 use sq_bits::Frame;
@@ -52,7 +52,7 @@ pub extern "C" fn squitter_pair_at(
 }
 
 // Writes the position of the place, or reports why there is none.
-fn give(answer: Result<Place, Refusal>, out: &mut PlainPosition) -> Fault
+fn give(answer: Result<Place, Reason>, out: &mut PlainPosition) -> Fault
     ensures { TellsPosition answer out.old out.new result }
 {
     match answer {
@@ -60,53 +60,53 @@ fn give(answer: Result<Place, Refusal>, out: &mut PlainPosition) -> Fault
             *out = plain_position(&place.position());
             NONE
         }
-        Err(refusal) => Fault::of(refusal),
+        Err(reason) => Fault::of(reason),
     }
 }
 
 // The place of a frame near a reference.
 #[tactic(auto, unfolding(crate::specs::Decoding::IsLocalAnswer))]
-pub(crate) fn near(frame: &Frame, reference: &PlainPosition) -> Result<Place, Refusal>
+pub(crate) fn near(frame: &Frame, reference: &PlainPosition) -> Result<Place, Reason>
     ensures { IsLocalAnswer frame.now reference.now result }
 {
     let Some(reference) = position_of(reference) else {
-        return Err(Refusal::NoPosition);
+        return Err(Reason::NoPosition);
     };
     let squitter = match read_frame(frame) {
         Ok(squitter) => squitter,
-        Err(fault) => return Err(Refusal::Line(fault.into())),
+        Err(fault) => return Err(Reason::Line(fault.into())),
     };
     match place_local(&squitter, &reference) {
         Ok(place) => Ok(place),
-        Err(fault) => Err(Refusal::Place(fault)),
+        Err(fault) => Err(Reason::Place(fault)),
     }
 }
 
 // The place of the newer of two frames near a site, if that is a position.
-fn of_two_at(older: &Frame, newer: &Frame, site: &PlainPosition) -> Result<Place, Refusal>
+fn of_two_at(older: &Frame, newer: &Frame, site: &PlainPosition) -> Result<Place, Reason>
     ensures { IsSiteAnswer older.now newer.now site.now result }
 {
     let Some(site) = position_of(site) else {
-        return Err(Refusal::NoPosition);
+        return Err(Reason::NoPosition);
     };
     of_two(older, newer, Some(&site))
 }
 
 // The place of the newer of two frames.
 #[tactic(auto, unfolding(crate::specs::Decoding::IsPairAnswer))]
-fn of_two(older: &Frame, newer: &Frame, site: Option<&Position>) -> Result<Place, Refusal>
+fn of_two(older: &Frame, newer: &Frame, site: Option<&Position>) -> Result<Place, Reason>
     ensures { IsPairAnswer older.now newer.now (option_copied site.entry) result }
 {
     let older = match read_frame(older) {
         Ok(squitter) => squitter,
-        Err(fault) => return Err(Refusal::Line(fault.into())),
+        Err(fault) => return Err(Reason::Line(fault.into())),
     };
     let newer = match read_frame(newer) {
         Ok(squitter) => squitter,
-        Err(fault) => return Err(Refusal::Line(fault.into())),
+        Err(fault) => return Err(Reason::Line(fault.into())),
     };
     match place_pair(&older, &newer, site) {
         Ok(place) => Ok(place),
-        Err(fault) => Err(Refusal::Place(fault)),
+        Err(fault) => Err(Reason::Place(fault)),
     }
 }

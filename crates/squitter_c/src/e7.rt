@@ -5,7 +5,7 @@ ghost use Rattle.sq_angle.specs.Fraction.{IsWithin};
 ghost use Rattle.sq_angle.specs.Spelling.{signed as signed_number};
 ghost use Rattle.squitter_c.specs.E7.{AreE7Of, IsAngleE7, IsE7, IsPositionE7};
 
-use crate::faults::{Fault, NONE, Refusal};
+use crate::faults::{Fault, NONE, Reason};
 use crate::plain::{PlainAngle, PlainPosition, angle_of, position_of};
 use sq_angle::{Angle, Position};
 
@@ -28,7 +28,7 @@ pub extern "C" fn squitter_angle_e7(angle: &PlainAngle, out: &mut i64) -> Fault
             *out = e7_of(&angle);
             NONE
         }
-        None => Fault::of(Refusal::NoAngle),
+        None => Fault::of(Reason::NoAngle),
     }
 }
 
@@ -43,7 +43,7 @@ pub extern "C" fn squitter_position_e7(position: &PlainPosition, out: &mut Degre
             *out = both(&position);
             NONE
         }
-        None => Fault::of(Refusal::NoPosition),
+        None => Fault::of(Reason::NoPosition),
     }
 }
 

@@ -17,7 +17,7 @@ pub struct Fault {
 
 /// The reason why a call fails.
 #[derive(Clone, Copy)]
-pub enum Refusal {
+pub enum Reason {
     /// A text or a frame is invalid, or a timestamp goes back.
     Line(LineFault),
     /// A frame or a pair cannot be decoded.
@@ -61,26 +61,26 @@ pub const NONE: Fault = Fault {
 
 impl Fault {
     /// The code and the numbers of a reason, 0 where it has none.
-    pub fn of(refusal: Refusal) -> Fault
-        ensures { result ≡ fault_of refusal }
+    pub fn of(reason: Reason) -> Fault
+        ensures { result ≡ fault_of reason }
     {
-        match refusal {
-            Refusal::Line(fault) => of_line(fault),
-            Refusal::Place(fault) => of_place(fault),
-            Refusal::Angle(fault) => of_angle(fault),
-            Refusal::NoPosition => plain(20),
-            Refusal::NoHead => plain(21),
-            Refusal::NoAngle => plain(22),
-            Refusal::NoLatitude => plain(23),
-            Refusal::NoFeet => plain(24),
-            Refusal::NoParity => plain(25),
-            Refusal::Memory => plain(44),
-            Refusal::NoLimit => plain(45),
-            Refusal::NoTracker => plain(46),
-            Refusal::NoAddress => plain(47),
-            Refusal::LongLog => plain(48),
-            Refusal::NoFormat => plain(49),
-            Refusal::Entry(index) => told(50, index, 0),
+        match reason {
+            Reason::Line(fault) => of_line(fault),
+            Reason::Place(fault) => of_place(fault),
+            Reason::Angle(fault) => of_angle(fault),
+            Reason::NoPosition => plain(20),
+            Reason::NoHead => plain(21),
+            Reason::NoAngle => plain(22),
+            Reason::NoLatitude => plain(23),
+            Reason::NoFeet => plain(24),
+            Reason::NoParity => plain(25),
+            Reason::Memory => plain(44),
+            Reason::NoLimit => plain(45),
+            Reason::NoTracker => plain(46),
+            Reason::NoAddress => plain(47),
+            Reason::LongLog => plain(48),
+            Reason::NoFormat => plain(49),
+            Reason::Entry(index) => told(50, index, 0),
         }
     }
 }

@@ -2,8 +2,9 @@
 ghost use Rattle.std.specs.Prelude.{◌≡◌, IfNone, IfSome, None, ◌<◌};
 ghost use Rattle.squitter_c.specs.FeedCalls.{AreCounts, IsFeedCounted, IsFeedFormat, IsFeedLost, IsFeedMade};
 ghost use Rattle.squitter_c.specs.FeedCalls.{IsSourceNumber, manner_of, source_number};
+ghost use Rattle.squitter_c.specs.Slots.{held_feed};
 
-use crate::faults::{Fault, NONE, Refusal};
+use crate::faults::{Fault, NONE, Reason};
 use crate::feed_slot::{FEED_BYTES, FeedSlot, feed_in};
 use sq_feed::{Counts, Format, Manner, Stranger};
 use sq_lent::Room;
@@ -50,18 +51,18 @@ pub extern "C" fn squitter_feed_new(
     late: u64,
     flags: u32,
 ) -> Fault
-    ensures { IsFeedMade format leap late flags block.size feed.new.seal.held result }
+    ensures { IsFeedMade format leap late flags block.size (held_feed feed.new) result }
 {
     squitter_feed_free(feed);
     let Some(format) = feed_format(format) else {
-        return Fault::of(Refusal::NoFormat);
+        return Fault::of(Reason::NoFormat);
     };
     match feed_in(block, format, &manner_of(leap, late, flags)) {
         Some(made) => {
             feed.put(made);
             NONE
         }
-        None => Fault::of(Refusal::Memory),
+        None => Fault::of(Reason::Memory),
     }
 }
 
@@ -81,7 +82,7 @@ fn manner_of(leap: u64, late: u64, flags: u32) -> Manner
 /// Frees the feed. Its block is the caller's again. Safe to call twice, and on a feed that was never created.
 #[unsafe(no_mangle)]
 pub extern "C" fn squitter_feed_free(feed: &mut FeedSlot)
-    ensures { feed.new.seal.held ≡ None }
+    ensures { held_feed feed.new ≡ None }
 {
     drop(feed.take());
 }
@@ -90,7 +91,7 @@ pub extern "C" fn squitter_feed_free(feed: &mut FeedSlot)
 /// connection: its clock starts anew. The fault is `NoTracker` if there is no feed.
 #[unsafe(no_mangle)]
 pub extern "C" fn squitter_feed_disconnected(feed: &mut FeedSlot) -> Fault
-    ensures { IsFeedLost feed.old.seal.held feed.new.seal.held result }
+    ensures { IsFeedLost (held_feed feed.old) (held_feed feed.new) result }
 {
     match feed.take() {
         Some(mut taken) => {
@@ -98,15 +99,15 @@ pub extern "C" fn squitter_feed_disconnected(feed: &mut FeedSlot) -> Fault
             feed.put(taken);
             NONE
         }
-        None => Fault::of(Refusal::NoTracker),
+        None => Fault::of(Reason::NoTracker),
     }
 }
 
 /// Returns the counts of the items so far. The fault is `NoTracker` if there is no feed.
 #[unsafe(no_mangle)]
 pub extern "C" fn squitter_feed_counts(feed: &mut FeedSlot, out: &mut PlainCounts) -> Fault
-    ensures counted { IsFeedCounted feed.old.seal.held out.old out.new result }
-    ensures same { feed.new.seal.held ≡ feed.old.seal.held }
+    ensures counted { IsFeedCounted (held_feed feed.old) out.old out.new result }
+    ensures same { held_feed feed.new ≡ held_feed feed.old }
 {
     match feed.take() {
         Some(taken) => {
@@ -115,7 +116,7 @@ pub extern "C" fn squitter_feed_counts(feed: &mut FeedSlot, out: &mut PlainCount
             *out = plain_counts(&counts);
             NONE
         }
-        None => Fault::of(Refusal::NoTracker),
+        None => Fault::of(Reason::NoTracker),
     }
 }
 
@@ -139,8 +140,8 @@ fn plain_counts(counts: &Counts) -> PlainCounts
 /// it is known, if any byte came. The fault is `NoTracker` if there is no feed.
 #[unsafe(no_mangle)]
 pub extern "C" fn squitter_feed_format(feed: &mut FeedSlot, out: &mut u32) -> Fault
-    ensures number { IsSourceNumber feed.old.seal.held out.old out.new result }
-    ensures same { feed.new.seal.held ≡ feed.old.seal.held }
+    ensures number { IsSourceNumber (held_feed feed.old) out.old out.new result }
+    ensures same { held_feed feed.new ≡ held_feed feed.old }
 {
     match feed.take() {
         Some(taken) => {
@@ -149,7 +150,7 @@ pub extern "C" fn squitter_feed_format(feed: &mut FeedSlot, out: &mut u32) -> Fa
             *out = number;
             NONE
         }
-        None => Fault::of(Refusal::NoTracker),
+        None => Fault::of(Reason::NoTracker),
     }
 }
 

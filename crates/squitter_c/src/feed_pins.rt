@@ -6,7 +6,7 @@ ghost use Rattle.sq_feed.specs.Counts.{Tally};
 ghost use Rattle.sq_feed.specs.Feeds.{Feeding, HasClosedFeed, HasLost, format_of_source, nothing_fed};
 ghost use Rattle.squitter_c.specs.declared.faults.Fault.{Fault};
 ghost use Rattle.squitter_c.specs.Faults.{none};
-ghost use Rattle.squitter_c.specs.FeedSeal.{KeptFeed};
+ghost use Rattle.squitter_c.specs.Seal.{KeptFeed};
 ghost use Rattle.squitter_c.specs.declared.feed_new.PlainCounts.{PlainCounts};
 ghost use Rattle.squitter_c.specs.declared.log_take.Done.{Done};
 ghost use Rattle.squitter_c.specs.FeedCalls.{AreCounts, HasEndedInFrames, HasEndedInText, HasTakenFrames};
@@ -25,42 +25,14 @@ pub fn made_feeds_exactly()
     ensures few { (number : ℕ) (format : Option Format) → IsFeedFormat number format → number ≤ 4 }
     ensures room { (number leap late flags size : ℕ) (k : KeptFeed) (fault : Fault)
         → IsFeedMade number leap late flags size (Some k) fault → (number ≤ 4) × (3072 ≤ size) }
-    ensures flags { (leap late : ℕ)
-        → (manner_of leap late 0 ≡ record {
-          leap = leap;
-          late = late;
-          is_live = false;
-          ignores_clock = false;
-          all_formats = false;
-        })
-        × (manner_of leap late 1 ≡ record {
-          leap = leap;
-          late = late;
-          is_live = true;
-          ignores_clock = false;
-          all_formats = false;
-        })
-        × (manner_of leap late 2 ≡ record {
-          leap = leap;
-          late = late;
-          is_live = false;
-          ignores_clock = true;
-          all_formats = false;
-        })
-        × (manner_of leap late 4 ≡ record {
-          leap = leap;
-          late = late;
-          is_live = false;
-          ignores_clock = false;
-          all_formats = true;
-        })
-        × (manner_of leap late 15 ≡ record {
-          leap = leap;
-          late = late;
-          is_live = true;
-          ignores_clock = true;
-          all_formats = true;
-        }) }
+    ensures moments { (leap late flags : ℕ) → ((manner_of leap late flags).leap ≡ leap)
+        × ((manner_of leap late flags).late ≡ late) }
+    ensures live { (leap late : ℕ) → map (λ flags. (manner_of leap late flags).is_live) (0 ∷ 1 ∷ 2 ∷ 4 ∷ 15 ∷ [])
+        ≡ false ∷ true ∷ false ∷ false ∷ true ∷ [] }
+    ensures clock { (leap late : ℕ) → map (λ flags. (manner_of leap late flags).ignores_clock)
+        (0 ∷ 1 ∷ 2 ∷ 4 ∷ 15 ∷ []) ≡ false ∷ false ∷ true ∷ false ∷ true ∷ [] }
+    ensures formats { (leap late : ℕ) → map (λ flags. (manner_of leap late flags).all_formats)
+        (0 ∷ 1 ∷ 2 ∷ 4 ∷ 15 ∷ []) ≡ false ∷ false ∷ false ∷ true ∷ true ∷ [] }
     ensures numbers { IsFeedFormat 0 (Some Format.Beast) × IsFeedFormat 1 (Some Format.Avr)
         × IsFeedFormat 2 (Some Format.Csv) × IsFeedFormat 3 (Some Format.Log) × IsFeedFormat 4 None }
 {}

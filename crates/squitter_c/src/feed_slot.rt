@@ -1,10 +1,10 @@
 //! What C holds: a feed, or none.
 ghost use Rattle.std.specs.Prelude.{◌≡◌, ◌≤◌, IfSome, Option, Some, None, option_map};
 ghost use Rattle.sq_feed.specs.Feeds.{nothing_fed};
-ghost use Rattle.squitter_c.specs.Seal.{flag};
+ghost use Rattle.squitter_c.specs.Seal.{a_feed, feed_of, flag};
 
-use crate::feed_seal::FeedSeal;
 use crate::parts::Parts;
+use crate::seal::Seal;
 use sq_feed::{Feed, Format, Manner};
 use sq_lent::{Lent, Room};
 use std::mem::replace;
@@ -16,8 +16,9 @@ pub const FEED_BYTES: usize = 3072;
 #[repr(C)]
 pub struct FeedSlot {
     full: u64,
-    pub seal: FeedSeal,
-    ghost tied: { full ≡ flag seal.held },
+    pub seal: Seal,
+    ghost tied: { full ≡ flag (feed_of seal.held) },
+    ghost kind: { seal.held ≡ option_map a_feed (feed_of seal.held) },
 }
 
 /// Returns a feed at the start of a source of this format, or of a source whose first bytes show it, in a box over
@@ -39,50 +40,30 @@ pub fn feed_in(room: Room, format: Option<Format>, manner: &Manner) -> Option<Bo
 }
 
 impl FeedSlot {
-    /// No feed.
-    pub fn none() -> FeedSlot
-        ensures { result.seal.held ≡ None }
+    /// Takes the feed out, if there is one. There is none afterwards.
+    pub fn take(&mut self) -> Option<Box<Feed, Lent>>
+        ensures taken { option_map (λ b. b.value) result ≡ feed_of self.old.seal.held }
+        ensures none { feed_of self.new.seal.held ≡ None }
     {
-        FeedSlot {
+        let none = FeedSlot {
             full: 0,
-            seal: FeedSeal::none(),
-        }
-    }
-
-    /// The feed of a box.
-    pub fn of(feed: Box<Feed, Lent>) -> FeedSlot
-        ensures { result.seal.held ≡ Some feed.value }
-    {
-        let (seal, _handle) = FeedSeal::of_parts(Parts::of(feed));
-        FeedSlot { full: 1, seal }
-    }
-
-    /// The box of the feed, if there is one.
-    pub fn into_feed(self) -> Option<Box<Feed, Lent>>
-        ensures { option_map (λ b. b.value) result ≡ self.seal.held }
-    {
-        let FeedSlot { full, seal } = self;
+            seal: Seal::none(),
+        };
+        let FeedSlot { full, seal } = replace(self, none);
         if full == 0 {
             seal.let_go();
             return None;
         }
-        Some(seal.into_parts(Lent::empty()).into_box())
-    }
-
-    /// Takes the feed out, if there is one. There is none afterwards.
-    pub fn take(&mut self) -> Option<Box<Feed, Lent>>
-        ensures taken { option_map (λ b. b.value) result ≡ self.old.seal.held }
-        ensures none { self.new.seal.held ≡ None }
-    {
-        replace(self, FeedSlot::none()).into_feed()
+        Some(seal.into_feed(Lent::empty()).into_box())
     }
 
     /// Puts a feed where there is none.
     pub fn put(&mut self, feed: Box<Feed, Lent>)
-        requires { self.old.seal.held ≡ None }
-        ensures { self.new.seal.held ≡ Some feed.value }
+        requires { feed_of self.old.seal.held ≡ None }
+        ensures { feed_of self.new.seal.held ≡ Some feed.value }
     {
-        let FeedSlot { full: _, seal } = replace(self, FeedSlot::of(feed));
+        let (seal, _handle) = Seal::of_feed(Parts::of(feed));
+        let FeedSlot { full: _, seal } = replace(self, FeedSlot { full: 1, seal });
         seal.let_go();
     }
 }

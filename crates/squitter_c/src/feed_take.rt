@@ -1,8 +1,9 @@
 //! The squitters of a source, pushed in pieces, with their timestamps: as many as fit arrays.
 ghost use Rattle.std.specs.Prelude.{◌≡◌};
 ghost use Rattle.squitter_c.specs.FeedCalls.{HasEndedInFrames, HasTakenFrames, IsFeedFinished, IsFeedTaken};
+ghost use Rattle.squitter_c.specs.Slots.{held_feed};
 
-use crate::faults::{Fault, NONE, Refusal};
+use crate::faults::{Fault, NONE, Reason};
 use crate::feed_slot::FeedSlot;
 use crate::log_take::Done;
 use sq_feed::Feed;
@@ -22,7 +23,7 @@ pub extern "C" fn squitter_feed_take(
     frames: &mut [[u8; 14]],
     done: &mut Done,
 ) -> Fault
-    ensures { IsFeedTaken arrival feed.old.seal.held feed.new.seal.held piece.now moments.old moments.new frames.old
+    ensures { IsFeedTaken arrival (held_feed feed.old) (held_feed feed.new) piece.now moments.old moments.new frames.old
         frames.new done.old done.new result }
 {
     match feed.take() {
@@ -31,7 +32,7 @@ pub extern "C" fn squitter_feed_take(
             feed.put(taken);
             NONE
         }
-        None => Fault::of(Refusal::NoTracker),
+        None => Fault::of(Reason::NoTracker),
     }
 }
 
@@ -48,7 +49,7 @@ pub extern "C" fn squitter_feed_finish(
     frames: &mut [[u8; 14]],
     done: &mut Done,
 ) -> Fault
-    ensures { IsFeedFinished arrival feed.old.seal.held feed.new.seal.held moments.old moments.new frames.old
+    ensures { IsFeedFinished arrival (held_feed feed.old) (held_feed feed.new) moments.old moments.new frames.old
         frames.new done.old done.new result }
 {
     match feed.take() {
@@ -57,7 +58,7 @@ pub extern "C" fn squitter_feed_finish(
             feed.put(taken);
             NONE
         }
-        None => Fault::of(Refusal::NoTracker),
+        None => Fault::of(Reason::NoTracker),
     }
 }
 

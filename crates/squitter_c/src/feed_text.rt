@@ -4,8 +4,9 @@ ghost use Rattle.sq_feed.specs.Feeds.{HasWritten};
 ghost use Rattle.sq_feed.specs.Lines.{log_line};
 ghost use Rattle.sq_feed.specs.Readers.{calls_left};
 ghost use Rattle.squitter_c.specs.FeedCalls.{HasEndedInText, HasTakenText, IsFeedTextFinished, IsFeedTextTaken};
+ghost use Rattle.squitter_c.specs.Slots.{held_feed};
 
-use crate::faults::{Fault, NONE, Refusal};
+use crate::faults::{Fault, NONE, Reason};
 use crate::feed_slot::FeedSlot;
 use crate::log_take::Done;
 use crate::log_text::put_at;
@@ -30,8 +31,8 @@ pub extern "C" fn squitter_feed_take_text(
     out: &mut [u8],
     done: &mut Done,
 ) -> Fault
-    ensures { IsFeedTextTaken arrival feed.old.seal.held feed.new.seal.held piece.now out.old out.new done.old done.new
-        result }
+    ensures { IsFeedTextTaken arrival (held_feed feed.old) (held_feed feed.new) piece.now out.old out.new
+        done.old done.new result }
 {
     match feed.take() {
         Some(mut taken) => {
@@ -39,7 +40,7 @@ pub extern "C" fn squitter_feed_take_text(
             feed.put(taken);
             NONE
         }
-        None => Fault::of(Refusal::NoTracker),
+        None => Fault::of(Reason::NoTracker),
     }
 }
 
@@ -55,7 +56,7 @@ pub extern "C" fn squitter_feed_finish_text(
     out: &mut [u8],
     done: &mut Done,
 ) -> Fault
-    ensures { IsFeedTextFinished arrival feed.old.seal.held feed.new.seal.held out.old out.new done.old done.new
+    ensures { IsFeedTextFinished arrival (held_feed feed.old) (held_feed feed.new) out.old out.new done.old done.new
         result }
 {
     match feed.take() {
@@ -64,7 +65,7 @@ pub extern "C" fn squitter_feed_finish_text(
             feed.put(taken);
             NONE
         }
-        None => Fault::of(Refusal::NoTracker),
+        None => Fault::of(Reason::NoTracker),
     }
 }
 

@@ -6,7 +6,7 @@ ghost use Rattle.squitter_c.specs.LogAnswers.{IsToldNowhere, IsToldPlace};
 
 use crate::e7::{DegreesE7, both};
 use crate::entry::as_given;
-use crate::faults::{Fault, NONE, Refusal};
+use crate::faults::{Fault, NONE, Reason};
 use crate::fields::plain_altitude;
 use crate::heard::PlainHeard;
 use crate::plain::{PlainAngle, PlainPosition};
@@ -171,7 +171,7 @@ fn refused(number: u64, fault: LineFault) -> PlainAnswer
         number,
         moment: 0,
         heard: told.heard,
-        fault: Fault::of(Refusal::Line(fault)),
+        fault: Fault::of(Reason::Line(fault)),
         degrees: told.degrees,
         address: 0,
         feet: 0,

@@ -3,8 +3,9 @@ ghost use Rattle.std.specs.Prelude.{◌≡◌, None};
 ghost use Rattle.squitter_c.specs.Sizes.{IsRoomFor};
 ghost use Rattle.squitter_c.specs.LogCalls.{IsTallied};
 ghost use Rattle.squitter_c.specs.Trackers.{IsMade, IsMadeAt, IsMadeIn};
+ghost use Rattle.squitter_c.specs.Slots.{held_listener};
 
-use crate::faults::{Fault, NONE, Refusal};
+use crate::faults::{Fault, NONE, Reason};
 use crate::plain::PlainPosition;
 use crate::slot::Slot;
 use crate::tracker_new::{
@@ -32,8 +33,8 @@ pub extern "C" fn squitter_log_size(limit: u32) -> usize
 /// the log until the log is freed. The faults are those of [`squitter_tracker_new`].
 #[unsafe(no_mangle)]
 pub extern "C" fn squitter_log_new(log: &mut Slot, block: Room, limit: u32, window: u64) -> Fault
-    ensures made { IsMade limit window None log.new.seal.held result }
-    ensures room { IsMadeIn limit block.size log.new.seal.held }
+    ensures made { IsMade limit window None (held_listener log.new) result }
+    ensures room { IsMadeIn limit block.size (held_listener log.new) }
 {
     squitter_tracker_new(log, block, limit, window)
 }
@@ -47,8 +48,8 @@ pub extern "C" fn squitter_log_new_at(
     window: u64,
     site: &PlainPosition,
 ) -> Fault
-    ensures made { IsMadeAt limit window site.now log.new.seal.held result }
-    ensures room { IsMadeIn limit block.size log.new.seal.held }
+    ensures made { IsMadeAt limit window site.now (held_listener log.new) result }
+    ensures room { IsMadeIn limit block.size (held_listener log.new) }
 {
     squitter_tracker_new_at(log, block, limit, window, site)
 }
@@ -56,7 +57,7 @@ pub extern "C" fn squitter_log_new_at(
 /// Frees the log. Its block is the caller's again. Safe to call twice, and on a log that was never created.
 #[unsafe(no_mangle)]
 pub extern "C" fn squitter_log_free(log: &mut Slot)
-    ensures { log.new.seal.held ≡ None }
+    ensures { held_listener log.new ≡ None }
 {
     squitter_tracker_free(log);
 }
@@ -64,8 +65,8 @@ pub extern "C" fn squitter_log_free(log: &mut Slot)
 /// Returns the numbers of good and of refused lines so far. The fault is `NoTracker` if there is no log.
 #[unsafe(no_mangle)]
 pub extern "C" fn squitter_log_tally(log: &mut Slot, out: &mut PlainTally) -> Fault
-    ensures tallied { IsTallied log.old.seal.held out.old out.new result }
-    ensures same { log.new.seal.held ≡ log.old.seal.held }
+    ensures tallied { IsTallied (held_listener log.old) out.old out.new result }
+    ensures same { held_listener log.new ≡ held_listener log.old }
 {
     match log.take() {
         Some(taken) => {
@@ -77,6 +78,6 @@ pub extern "C" fn squitter_log_tally(log: &mut Slot, out: &mut PlainTally) -> Fa
             };
             NONE
         }
-        None => Fault::of(Refusal::NoTracker),
+        None => Fault::of(Reason::NoTracker),
     }
 }

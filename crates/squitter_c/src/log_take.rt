@@ -1,11 +1,12 @@
 //! The answers to the lines of a log, pushed in pieces, as many as fit an array.
 ghost use Rattle.sq_log.specs.States.{with_job};
-ghost use Rattle.std.specs.Prelude.{◌≡◌, ◌↔◌, ◌+◌, ◌*◌, ◌^◌, ◌<◌, ◌≤◌, [], IsTrue, drop, length, take};
+ghost use Rattle.std.specs.Prelude.{◌≡◌, ◌↔◌, ◌+◌, ◌*◌, ◌^◌, ◌<◌, ◌≤◌, [], IsTrue, length, take};
 ghost use Rattle.squitter_c.specs.LogCalls.{AsAnswers, GoesOn, GoesToTheEnd, IsEndTold, IsFinishedBy};
-ghost use Rattle.squitter_c.specs.LogCalls.{IsLogFinished, IsLogTaken};
-ghost use Rattle.squitter_c.specs.LogCalls.{IsTakenBy, IsTooLong, IsWrittenTo, fault_of_end, held_by};
+ghost use Rattle.squitter_c.specs.LogCalls.{HasGoneOn, IsLogFinished, IsLogTaken, IsTakenBy, IsTooLong, IsWrittenTo};
+ghost use Rattle.squitter_c.specs.LogCalls.{fault_of_end, held_by};
+ghost use Rattle.squitter_c.specs.Slots.{held_listener};
 
-use crate::faults::{Fault, NONE, Refusal};
+use crate::faults::{Fault, NONE, Reason};
 use crate::listener::Listener;
 use crate::log_answer::{PlainAnswer, plain_answer};
 use crate::slot::Slot;
@@ -47,7 +48,8 @@ pub extern "C" fn squitter_log_take(
     out: &mut [PlainAnswer],
     done: &mut Done,
 ) -> Fault
-    ensures { IsLogTaken log.old.seal.held log.new.seal.held piece.now out.old out.new done.old done.new result }
+    ensures { IsLogTaken (held_listener log.old) (held_listener log.new) piece.now out.old out.new done.old done.new
+        result }
 {
     match log.take() {
         Some(mut taken) => {
@@ -55,7 +57,7 @@ pub extern "C" fn squitter_log_take(
             log.put(taken);
             fault
         }
-        None => Fault::of(Refusal::NoTracker),
+        None => Fault::of(Reason::NoTracker),
     }
 }
 
@@ -68,7 +70,7 @@ pub extern "C" fn squitter_log_finish(
     out: &mut [PlainAnswer],
     done: &mut Done,
 ) -> Fault
-    ensures { IsLogFinished log.old.seal.held log.new.seal.held out.old out.new done.old done.new result }
+    ensures { IsLogFinished (held_listener log.old) (held_listener log.new) out.old out.new done.old done.new result }
 {
     match log.take() {
         Some(mut taken) => {
@@ -76,7 +78,7 @@ pub extern "C" fn squitter_log_finish(
             log.put(taken);
             fault
         }
-        None => Fault::of(Refusal::NoTracker),
+        None => Fault::of(Reason::NoTracker),
     }
 }
 
@@ -85,7 +87,7 @@ fn take_by(listener: &mut Listener, piece: &[u8], out: &mut [PlainAnswer], done:
     ensures { IsTakenBy listener.old listener.new piece.now out.old out.new done.old done.new result }
 {
     if is_too_long(&listener.log, piece.len()) {
-        return Fault::of(Refusal::LongLog);
+        return Fault::of(Reason::LongLog);
     }
     let (told, end) = take_with(&mut listener.tracker, &mut listener.log, piece, out);
     *done = told;
@@ -97,7 +99,7 @@ fn finish_by(listener: &mut Listener, out: &mut [PlainAnswer], done: &mut Done) 
     ensures { IsFinishedBy listener.old listener.new out.old out.new done.old done.new result }
 {
     if is_too_long(&listener.log, 0) {
-        return Fault::of(Refusal::LongLog);
+        return Fault::of(Reason::LongLog);
     }
     let (told, end) = finish_with(&mut listener.tracker, &mut listener.log, out);
     *done = told;
@@ -113,15 +115,9 @@ fn answer_some<A: Allocator>(
 ) -> (Done, End)
     requires few { log.old.number + length log.old.window.waiting + 2 * length piece.now + 1 < 2 ^ 64 }
     requires from { from ≤ length out.old }
-    ensures gone { GoesOn AsAnswers result.1 (held_by log.old) (held_by log.new)
-        (take result.0.taken piece.now) (take from out.old) (take result.0.written out.new) }
-    ensures taken { result.0.taken ≤ length piece.now }
-    ensures written { (from ≤ result.0.written) × (result.0.written ≤ length out.new) }
-    ensures rest { drop result.0.written out.new ≡ drop result.0.written out.old }
+    ensures goes_on { HasGoneOn AsAnswers result.1 log.old log.new piece.now out.old out.new from result.0 }
     ensures end { IsEndTold result.1 result.0 (length piece.now) (length out.new) }
     ensures long { length out.new ≡ length out.old }
-    ensures number { log.new.number ≤ log.old.number + length log.old.window.waiting + 2 * length piece.now + 1 }
-    ensures lasting { log.new.job.tracker.ghost_name ≡ log.old.job.tracker.ghost_name }
 {
     let mut taken = 0;
     let mut written = from;
@@ -217,6 +213,6 @@ pub(crate) fn fault_at(end: End) -> Fault
 {
     match end {
         End::Fed | End::Full => NONE,
-        End::NoMemory => Fault::of(Refusal::Memory),
+        End::NoMemory => Fault::of(Reason::Memory),
     }
 }

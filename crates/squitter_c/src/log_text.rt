@@ -2,12 +2,14 @@
 ghost use Rattle.std.specs.Prelude.{◌≡◌, ◌+◌, ◌++◌, ◌*◌, ◌^◌, ◌<◌, ◌≤◌, ◌↔◌, [], IfNone, IfSome, drop, length, take};
 ghost use Rattle.sq_commands.specs.Heard.{heard_telling};
 ghost use Rattle.sq_log.specs.States.{with_job};
-ghost use Rattle.squitter_c.specs.LogCalls.{AsTexts, GoesOn, GoesToTheEnd, IsTooLong, IsWrittenTo, held_by};
+ghost use Rattle.squitter_c.specs.LogCalls.{AsTexts, GoesOn, GoesToTheEnd, HasGoneOn, IsTooLong, IsWrittenTo};
+ghost use Rattle.squitter_c.specs.LogCalls.{held_by};
 ghost use Rattle.squitter_c.specs.LogTexts.{IsEndInText, IsFormat, IsHeader, IsHeaderText, IsTextFinished};
 ghost use Rattle.squitter_c.specs.LogTexts.{IsTextFinishedBy, IsTextTaken, IsTextTakenBy};
+ghost use Rattle.squitter_c.specs.Slots.{held_listener};
 
 use crate::angles::fill;
-use crate::faults::{Fault, Refusal};
+use crate::faults::{Fault, Reason};
 use crate::listener::Listener;
 use crate::log_take::{Done, End, fault_at, is_too_long};
 use crate::slot::Slot;
@@ -43,8 +45,8 @@ pub extern "C" fn squitter_log_take_text(
     out: &mut [u8],
     done: &mut Done,
 ) -> Fault
-    ensures { IsTextTaken format log.old.seal.held log.new.seal.held piece.now out.old out.new done.old done.new
-        result }
+    ensures { IsTextTaken format (held_listener log.old) (held_listener log.new) piece.now out.old out.new
+        done.old done.new result }
 {
     match log.take() {
         Some(mut taken) => {
@@ -52,7 +54,7 @@ pub extern "C" fn squitter_log_take_text(
             log.put(taken);
             fault
         }
-        None => Fault::of(Refusal::NoTracker),
+        None => Fault::of(Reason::NoTracker),
     }
 }
 
@@ -66,7 +68,8 @@ pub extern "C" fn squitter_log_finish_text(
     out: &mut [u8],
     done: &mut Done,
 ) -> Fault
-    ensures { IsTextFinished format log.old.seal.held log.new.seal.held out.old out.new done.old done.new result }
+    ensures { IsTextFinished format (held_listener log.old) (held_listener log.new) out.old out.new done.old done.new
+        result }
 {
     match log.take() {
         Some(mut taken) => {
@@ -74,7 +77,7 @@ pub extern "C" fn squitter_log_finish_text(
             log.put(taken);
             fault
         }
-        None => Fault::of(Refusal::NoTracker),
+        None => Fault::of(Reason::NoTracker),
     }
 }
 
@@ -89,10 +92,10 @@ fn take_by(
     ensures { IsTextTakenBy format listener.old listener.new piece.now out.old out.new done.old done.new result }
 {
     let Some(format) = format_of(format) else {
-        return Fault::of(Refusal::NoFormat);
+        return Fault::of(Reason::NoFormat);
     };
     if is_too_long(&listener.log, piece.len()) {
-        return Fault::of(Refusal::LongLog);
+        return Fault::of(Reason::LongLog);
     }
     let (told, end) = take_with(&mut listener.tracker, &mut listener.log, format, piece, out);
     *done = told;
@@ -104,10 +107,10 @@ fn finish_by(listener: &mut Listener, format: u32, out: &mut [u8], done: &mut Do
     ensures { IsTextFinishedBy format listener.old listener.new out.old out.new done.old done.new result }
 {
     let Some(format) = format_of(format) else {
-        return Fault::of(Refusal::NoFormat);
+        return Fault::of(Reason::NoFormat);
     };
     if is_too_long(&listener.log, 0) {
-        return Fault::of(Refusal::LongLog);
+        return Fault::of(Reason::LongLog);
     }
     let (told, end) = finish_with(&mut listener.tracker, &mut listener.log, format, out);
     *done = told;
@@ -230,15 +233,10 @@ fn write_some<A: Allocator>(
 ) -> (Done, End)
     requires few { log.old.number + length log.old.window.waiting + 2 * length piece.now + 1 < 2 ^ 64 }
     requires from { from ≤ length out.old }
-    ensures gone { GoesOn (AsTexts (heard_telling format)) result.1 (held_by log.old) (held_by log.new)
-        (take result.0.taken piece.now) (take from out.old) (take result.0.written out.new) }
-    ensures taken { result.0.taken ≤ length piece.now }
-    ensures written { (from ≤ result.0.written) × (result.0.written ≤ length out.new) }
-    ensures rest { drop result.0.written out.new ≡ drop result.0.written out.old }
+    ensures goes_on { HasGoneOn (AsTexts (heard_telling format)) result.1 log.old log.new piece.now out.old out.new
+        from result.0 }
     ensures end { IsEndInText result.1 result.0 (length piece.now) (length out.new) }
     ensures long { length out.new ≡ length out.old }
-    ensures number { log.new.number ≤ log.old.number + length log.old.window.waiting + 2 * length piece.now + 1 }
-    ensures lasting { log.new.job.tracker.ghost_name ≡ log.old.job.tracker.ghost_name }
 {
     let mut text = LineText::new();
     let mut taken = 0;

@@ -1,9 +1,10 @@
 //! Sorting squitters by timestamp: an order, made and freed, and what it takes and gives.
 ghost use Rattle.std.specs.Prelude.{◌≡◌, None};
-ghost use Rattle.squitter_c.specs.OrderCalls.{HasGivenHeld, HasTakenInOrder, IsOrderCounted, IsOrderFlushed, IsOrderMade};
-ghost use Rattle.squitter_c.specs.OrderCalls.{IsOrderTaken};
+ghost use Rattle.squitter_c.specs.OrderCalls.{HasGivenHeld, HasTakenInOrder, IsOrderCounted, IsOrderFlushed};
+ghost use Rattle.squitter_c.specs.OrderCalls.{IsOrderMade, IsOrderTaken};
+ghost use Rattle.squitter_c.specs.Slots.{held_order};
 
-use crate::faults::{Fault, NONE, Refusal};
+use crate::faults::{Fault, NONE, Reason};
 use crate::log_take::Done;
 use crate::order_slot::{ORDER_BYTES, OrderSlot, order_in};
 use sq_feed::Order;
@@ -22,7 +23,7 @@ pub extern "C" fn squitter_order_size() -> usize
 /// [`squitter_order_size`]; then there is no order.
 #[unsafe(no_mangle)]
 pub extern "C" fn squitter_order_new(order: &mut OrderSlot, block: Room, reorder: u64) -> Fault
-    ensures { IsOrderMade reorder block.size order.new.seal.held result }
+    ensures { IsOrderMade reorder block.size (held_order order.new) result }
 {
     squitter_order_free(order);
     match order_in(block, reorder) {
@@ -30,14 +31,14 @@ pub extern "C" fn squitter_order_new(order: &mut OrderSlot, block: Room, reorder
             order.put(made);
             NONE
         }
-        None => Fault::of(Refusal::Memory),
+        None => Fault::of(Reason::Memory),
     }
 }
 
 /// Frees the order. Its block is the caller's again. Safe to call twice, and on an order that was never created.
 #[unsafe(no_mangle)]
 pub extern "C" fn squitter_order_free(order: &mut OrderSlot)
-    ensures { order.new.seal.held ≡ None }
+    ensures { held_order order.new ≡ None }
 {
     drop(order.take());
 }
@@ -56,7 +57,7 @@ pub extern "C" fn squitter_order_take(
     out_frames: &mut [[u8; 14]],
     done: &mut Done,
 ) -> Fault
-    ensures { IsOrderTaken order.old.seal.held order.new.seal.held moments.now frames.now out_moments.old
+    ensures { IsOrderTaken (held_order order.old) (held_order order.new) moments.now frames.now out_moments.old
         out_moments.new out_frames.old out_frames.new done.old done.new result }
 {
     match order.take() {
@@ -65,7 +66,7 @@ pub extern "C" fn squitter_order_take(
             order.put(taken);
             NONE
         }
-        None => Fault::of(Refusal::NoTracker),
+        None => Fault::of(Reason::NoTracker),
     }
 }
 
@@ -80,8 +81,8 @@ pub extern "C" fn squitter_order_flush(
     out_frames: &mut [[u8; 14]],
     done: &mut Done,
 ) -> Fault
-    ensures { IsOrderFlushed order.old.seal.held order.new.seal.held out_moments.old out_moments.new out_frames.old
-        out_frames.new done.old done.new result }
+    ensures { IsOrderFlushed (held_order order.old) (held_order order.new) out_moments.old out_moments.new
+        out_frames.old out_frames.new done.old done.new result }
 {
     match order.take() {
         Some(mut taken) => {
@@ -89,15 +90,15 @@ pub extern "C" fn squitter_order_flush(
             order.put(taken);
             NONE
         }
-        None => Fault::of(Refusal::NoTracker),
+        None => Fault::of(Reason::NoTracker),
     }
 }
 
 /// Returns how many squitters are held: at most 4096. The fault is `NoTracker` if there is no order.
 #[unsafe(no_mangle)]
 pub extern "C" fn squitter_order_held(order: &mut OrderSlot, out: &mut u64) -> Fault
-    ensures counted { IsOrderCounted order.old.seal.held out.old out.new result }
-    ensures same { order.new.seal.held ≡ order.old.seal.held }
+    ensures counted { IsOrderCounted (held_order order.old) out.old out.new result }
+    ensures same { held_order order.new ≡ held_order order.old }
 {
     match order.take() {
         Some(taken) => {
@@ -106,7 +107,7 @@ pub extern "C" fn squitter_order_held(order: &mut OrderSlot, out: &mut u64) -> F
             *out = held as u64;
             NONE
         }
-        None => Fault::of(Refusal::NoTracker),
+        None => Fault::of(Reason::NoTracker),
     }
 }
 

@@ -4,7 +4,7 @@ ghost use Rattle.std.specs.Prelude.{◌≡◌, ◌↔◌, ◌≤◌, List, ℕ, 
 ghost use Rattle.sq_feed.specs.Orders.{nothing_sorted};
 ghost use Rattle.squitter_c.specs.declared.faults.Fault.{Fault};
 ghost use Rattle.squitter_c.specs.Faults.{none};
-ghost use Rattle.squitter_c.specs.OrderSeal.{KeptOrder};
+ghost use Rattle.squitter_c.specs.Seal.{KeptOrder};
 ghost use Rattle.squitter_c.specs.declared.log_take.Done.{Done};
 ghost use Rattle.squitter_c.specs.OrderCalls.{HasGivenHeld, HasTakenInOrder, IsOrderCounted, IsOrderFlushed};
 ghost use Rattle.squitter_c.specs.OrderCalls.{IsOrderMade};

@@ -1,10 +1,10 @@
 //! What C holds: an order, or none.
 ghost use Rattle.std.specs.Prelude.{◌≡◌, ◌≤◌, IfSome, Option, Some, None, option_map};
 ghost use Rattle.sq_feed.specs.Orders.{nothing_sorted};
-ghost use Rattle.squitter_c.specs.Seal.{flag};
+ghost use Rattle.squitter_c.specs.Seal.{an_order, order_of, flag};
 
-use crate::order_seal::OrderSeal;
 use crate::parts::Parts;
+use crate::seal::Seal;
 use sq_feed::Order;
 use sq_lent::{Lent, Room};
 use std::mem::replace;
@@ -16,8 +16,9 @@ pub const ORDER_BYTES: usize = 148_480;
 #[repr(C)]
 pub struct OrderSlot {
     full: u64,
-    pub seal: OrderSeal,
-    ghost tied: { full ≡ flag seal.held },
+    pub seal: Seal,
+    ghost tied: { full ≡ flag (order_of seal.held) },
+    ghost kind: { seal.held ≡ option_map an_order (order_of seal.held) },
 }
 
 /// Returns an order that holds nothing, in a box over this memory; `None` if the room has fewer than `ORDER_BYTES`
@@ -39,50 +40,30 @@ pub fn order_in(room: Room, reorder: u64) -> Option<Box<Order, Lent>>
 }
 
 impl OrderSlot {
-    /// No order.
-    pub fn none() -> OrderSlot
-        ensures { result.seal.held ≡ None }
+    /// Takes the order out, if there is one. There is none afterwards.
+    pub fn take(&mut self) -> Option<Box<Order, Lent>>
+        ensures taken { option_map (λ b. b.value) result ≡ order_of self.old.seal.held }
+        ensures none { order_of self.new.seal.held ≡ None }
     {
-        OrderSlot {
+        let none = OrderSlot {
             full: 0,
-            seal: OrderSeal::none(),
-        }
-    }
-
-    /// The order of a box.
-    pub fn of(order: Box<Order, Lent>) -> OrderSlot
-        ensures { result.seal.held ≡ Some order.value }
-    {
-        let (seal, _handle) = OrderSeal::of_parts(Parts::of(order));
-        OrderSlot { full: 1, seal }
-    }
-
-    /// The box of the order, if there is one.
-    pub fn into_order(self) -> Option<Box<Order, Lent>>
-        ensures { option_map (λ b. b.value) result ≡ self.seal.held }
-    {
-        let OrderSlot { full, seal } = self;
+            seal: Seal::none(),
+        };
+        let OrderSlot { full, seal } = replace(self, none);
         if full == 0 {
             seal.let_go();
             return None;
         }
-        Some(seal.into_parts(Lent::empty()).into_box())
-    }
-
-    /// Takes the order out, if there is one. There is none afterwards.
-    pub fn take(&mut self) -> Option<Box<Order, Lent>>
-        ensures taken { option_map (λ b. b.value) result ≡ self.old.seal.held }
-        ensures none { self.new.seal.held ≡ None }
-    {
-        replace(self, OrderSlot::none()).into_order()
+        Some(seal.into_order(Lent::empty()).into_box())
     }
 
     /// Puts an order where there is none.
     pub fn put(&mut self, order: Box<Order, Lent>)
-        requires { self.old.seal.held ≡ None }
-        ensures { self.new.seal.held ≡ Some order.value }
+        requires { order_of self.old.seal.held ≡ None }
+        ensures { order_of self.new.seal.held ≡ Some order.value }
     {
-        let OrderSlot { full: _, seal } = replace(self, OrderSlot::of(order));
+        let (seal, _handle) = Seal::of_order(Parts::of(order));
+        let OrderSlot { full: _, seal } = replace(self, OrderSlot { full: 1, seal });
         seal.let_go();
     }
 }

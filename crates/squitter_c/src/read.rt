@@ -4,7 +4,7 @@ ghost use Rattle.hex.specs.Hex.{upper_digits};
 ghost use Rattle.squitter_c.specs.Frames.{frame_of};
 ghost use Rattle.squitter_c.specs.Reading.{IsFrameOfText, IsFrameRead, IsTextRead, text_of};
 
-use crate::faults::{Fault, NONE, Refusal};
+use crate::faults::{Fault, NONE, Reason};
 use crate::fields::{PlainSquitter, plain_squitter};
 use sq_bits::Frame;
 use sq_message::read_frame;
@@ -21,7 +21,7 @@ pub extern "C" fn squitter_frame_of_text(text: &[u8], out: &mut [u8; 14]) -> Fau
             *out = bytes;
             NONE
         }
-        Err(fault) => Fault::of(Refusal::Line(fault.into())),
+        Err(fault) => Fault::of(Reason::Line(fault.into())),
     }
 }
 
@@ -35,7 +35,7 @@ pub extern "C" fn squitter_read_text(text: &[u8], out: &mut PlainSquitter) -> Fa
             *out = plain_squitter(&squitter);
             NONE
         }
-        Err(fault) => Fault::of(Refusal::Line(fault)),
+        Err(fault) => Fault::of(Reason::Line(fault)),
     }
 }
 
@@ -49,7 +49,7 @@ pub extern "C" fn squitter_read_frame(frame: &[u8; 14], out: &mut PlainSquitter)
             *out = plain_squitter(&squitter);
             NONE
         }
-        Err(fault) => Fault::of(Refusal::Line(fault.into())),
+        Err(fault) => Fault::of(Reason::Line(fault.into())),
     }
 }
 

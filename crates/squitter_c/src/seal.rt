@@ -1,18 +1,20 @@
-//! A boxed listener, or none, behind a pointer that names no type.
+//! A boxed value, or none, behind a pointer that names no type.
 ghost use Rattle.std.specs.Prelude.{◌≡◌, IsSome, Option, Some, None};
 ghost use Rattle.std.specs.Coded.{coded_option};
-ghost use Rattle.squitter_c.specs.Seal.{Kept, kept_coded, seal_owns};
+ghost use Rattle.squitter_c.specs.Seal.{Content, a_feed, a_listener, an_order, content_coded, feed_of, listener_of};
+ghost use Rattle.squitter_c.specs.Seal.{order_of, seal_owns};
 
 use crate::listener::Listener;
 use crate::parts::Parts;
+use sq_feed::{Feed, Order};
 use sq_lent::Lent;
 use std::marker::Model;
 
-/// The pointer of a boxed listener, or null. `held` is the listener, if there is one.
+/// The pointer of a box, or null. `held` is the value in the box, if there is one.
 #[repr(C)]
 pub struct Seal {
     at: *mut u8,
-    pub ghost held: { Option Kept } by { coded_option kept_coded },
+    pub ghost held: { Option Content } by { coded_option content_coded },
 }
 
 impl Model for Seal {
@@ -20,7 +22,7 @@ impl Model for Seal {
 }
 
 impl Seal {
-    /// Null: no listener.
+    /// Null: no value.
     pub fn none() -> Seal
         ensures { result.held ≡ None }
     {
@@ -29,29 +31,72 @@ impl Seal {
         }
     }
 
-    /// Takes away a seal that holds nothing.
+    /// Drops a seal that holds nothing.
     pub fn let_go(self)
         requires { self.held ≡ None }
     {
         let Seal { at } = self;
     }
 
-    /// Seals what the parts own, and returns the allocator.
-    pub fn of_parts(parts: Parts<Listener, Lent>) -> (Seal, Lent)
-        ensures { result.0.held ≡ Some parts.value }
+    /// Seals what the parts of a boxed listener own, and returns the allocator.
+    pub fn of_listener(parts: Parts<Listener, Lent>) -> (Seal, Lent)
+        ensures { result.0.held ≡ Some (a_listener parts.value) }
     {
         let Parts { ptr, alloc } = parts;
-        (Seal { at: ptr as *mut u8 }, alloc)
+        let listener = ptr as *mut u8;
+        (Seal { at: listener }, alloc)
     }
 
     /// Opens a seal that holds a listener. The parts own it again, with any allocator.
-    pub fn into_parts(self, alloc: Lent) -> Parts<Listener, Lent>
-        requires { IsSome self.held }
-        ensures { Some result.value ≡ self.held }
+    pub fn into_listener(self, alloc: Lent) -> Parts<Listener, Lent>
+        requires { IsSome (listener_of self.held) }
+        ensures { Some result.value ≡ listener_of self.held }
     {
         let Seal { at } = self;
         Parts {
             ptr: at as *mut Listener,
+            alloc,
+        }
+    }
+
+    /// Seals what the parts of a boxed feed own, and returns the allocator.
+    pub fn of_feed(parts: Parts<Feed, Lent>) -> (Seal, Lent)
+        ensures { result.0.held ≡ Some (a_feed parts.value) }
+    {
+        let Parts { ptr, alloc } = parts;
+        let feed = ptr as *mut u8;
+        (Seal { at: feed }, alloc)
+    }
+
+    /// Opens a seal that holds a feed. The parts own it again, with any allocator.
+    pub fn into_feed(self, alloc: Lent) -> Parts<Feed, Lent>
+        requires { IsSome (feed_of self.held) }
+        ensures { Some result.value ≡ feed_of self.held }
+    {
+        let Seal { at } = self;
+        Parts {
+            ptr: at as *mut Feed,
+            alloc,
+        }
+    }
+
+    /// Seals what the parts of a boxed order own, and returns the allocator.
+    pub fn of_order(parts: Parts<Order, Lent>) -> (Seal, Lent)
+        ensures { result.0.held ≡ Some (an_order parts.value) }
+    {
+        let Parts { ptr, alloc } = parts;
+        let order = ptr as *mut u8;
+        (Seal { at: order }, alloc)
+    }
+
+    /// Opens a seal that holds an order. The parts own it again, with any allocator.
+    pub fn into_order(self, alloc: Lent) -> Parts<Order, Lent>
+        requires { IsSome (order_of self.held) }
+        ensures { Some result.value ≡ order_of self.held }
+    {
+        let Seal { at } = self;
+        Parts {
+            ptr: at as *mut Order,
             alloc,
         }
     }

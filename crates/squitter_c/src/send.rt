@@ -7,7 +7,7 @@ ghost use Rattle.squitter_c.specs.Frames.{frame_of};
 ghost use Rattle.squitter_c.specs.Sending.{IsAgainAnswer, IsFrameFrom, IsRoundedTo, IsSendAnswer, IsSentAgain};
 ghost use Rattle.squitter_c.specs.Sending.{IsSentFrame, TellsFrame};
 
-use crate::faults::{Fault, NONE, Refusal};
+use crate::faults::{Fault, NONE, Reason};
 use crate::heads::{PlainAirHead, PlainGroundHead, air_head, ground_head};
 use crate::plain::{PlainPosition, parity_of, position_of};
 use sq_angle::Position;
@@ -59,7 +59,7 @@ pub extern "C" fn squitter_send_again(
 }
 
 // Writes the frame, or reports why there is none.
-fn give(answer: Result<Frame, Refusal>, out: &mut [u8; 14]) -> Fault
+fn give(answer: Result<Frame, Reason>, out: &mut [u8; 14]) -> Fault
     ensures { TellsFrame answer out.old out.new result }
 {
     match answer {
@@ -68,23 +68,23 @@ fn give(answer: Result<Frame, Refusal>, out: &mut [u8; 14]) -> Fault
             *out = bytes;
             NONE
         }
-        Err(refusal) => Fault::of(refusal),
+        Err(reason) => Fault::of(reason),
     }
 }
 
 // The frame that is sent in the air.
 #[tactic(auto, unfolding(crate::specs::Sending::IsSendAnswer))]
-fn air_frame(plain: &PlainAirHead, position: &PlainPosition) -> Result<Frame, Refusal>
+fn air_frame(plain: &PlainAirHead, position: &PlainPosition) -> Result<Frame, Reason>
     ensures { IsSendAnswer InAir plain.now position.now result }
 {
     let Some(head) = air_head(plain) else {
-        return Err(Refusal::NoHead);
+        return Err(Reason::NoHead);
     };
     let Some(parity) = parity_of(plain.odd) else {
-        return Err(Refusal::NoHead);
+        return Err(Reason::NoHead);
     };
     let Some(position) = position_of(position) else {
-        return Err(Refusal::NoPosition);
+        return Err(Reason::NoPosition);
     };
     let frame = write_frame(&send_air(head, &position, parity));
     each_frame(&frame);
@@ -93,17 +93,17 @@ fn air_frame(plain: &PlainAirHead, position: &PlainPosition) -> Result<Frame, Re
 
 // The frame that is sent on the ground.
 #[tactic(auto, unfolding(crate::specs::Sending::IsSendAnswer))]
-fn ground_frame(plain: &PlainGroundHead, position: &PlainPosition) -> Result<Frame, Refusal>
+fn ground_frame(plain: &PlainGroundHead, position: &PlainPosition) -> Result<Frame, Reason>
     ensures { IsSendAnswer OnGround plain.now position.now result }
 {
     let Some(head) = ground_head(plain) else {
-        return Err(Refusal::NoHead);
+        return Err(Reason::NoHead);
     };
     let Some(parity) = parity_of(plain.odd) else {
-        return Err(Refusal::NoHead);
+        return Err(Reason::NoHead);
     };
     let Some(position) = position_of(position) else {
-        return Err(Refusal::NoPosition);
+        return Err(Reason::NoPosition);
     };
     let frame = write_frame(&send_ground(head, &position, parity));
     each_frame(&frame);
@@ -112,22 +112,22 @@ fn ground_frame(plain: &PlainGroundHead, position: &PlainPosition) -> Result<Fra
 
 // The frame that is sent again.
 #[tactic(auto, unfolding(crate::specs::Sending::IsAgainAnswer))]
-fn again(frame: &Frame, odd: u8, position: &PlainPosition) -> Result<Frame, Refusal>
+fn again(frame: &Frame, odd: u8, position: &PlainPosition) -> Result<Frame, Reason>
     ensures { IsAgainAnswer frame.now odd position.now result }
 {
     let Some(parity) = parity_of(odd) else {
-        return Err(Refusal::NoParity);
+        return Err(Reason::NoParity);
     };
     let Some(position) = position_of(position) else {
-        return Err(Refusal::NoPosition);
+        return Err(Reason::NoPosition);
     };
     let squitter = match read_frame(frame) {
         Ok(squitter) => squitter,
-        Err(fault) => return Err(Refusal::Line(fault.into())),
+        Err(fault) => return Err(Reason::Line(fault.into())),
     };
     match rounded(&squitter, &position, parity) {
         Some(place) => Ok(frame_from(&squitter, &place)),
-        None => Err(Refusal::Place(PlaceFault::NotPosition)),
+        None => Err(Reason::Place(PlaceFault::NotPosition)),
     }
 }
 

@@ -2,8 +2,9 @@
 ghost use Rattle.std.specs.Prelude.{◌≡◌, length, slice_get};
 ghost use Rattle.sq_track.specs.Held.{present_of};
 ghost use Rattle.squitter_c.specs.Trackers.{IsGot, IsShown, present_in};
+ghost use Rattle.squitter_c.specs.Slots.{held_listener};
 
-use crate::faults::{Fault, NONE, Refusal};
+use crate::faults::{Fault, NONE, Reason};
 use crate::slot::Slot;
 use sq_track::Tracker;
 use std::alloc::Allocator;
@@ -19,8 +20,8 @@ pub struct PlainPresent {
 /// How many addresses are present, never more than the limit; 0 where there is no tracker.
 #[unsafe(no_mangle)]
 pub extern "C" fn squitter_tracker_len(tracker: &mut Slot) -> usize
-    ensures len { result ≡ length (present_in tracker.old.seal.held) }
-    ensures same { tracker.new.seal.held ≡ tracker.old.seal.held }
+    ensures len { result ≡ length (present_in (held_listener tracker.old)) }
+    ensures same { held_listener tracker.new ≡ held_listener tracker.old }
 {
     match tracker.take() {
         Some(taken) => {
@@ -40,8 +41,8 @@ pub extern "C" fn squitter_tracker_get(
     index: usize,
     out: &mut PlainPresent,
 ) -> Fault
-    ensures got { IsGot tracker.old.seal.held index out.old out.new result }
-    ensures same { tracker.new.seal.held ≡ tracker.old.seal.held }
+    ensures got { IsGot (held_listener tracker.old) index out.old out.new result }
+    ensures same { held_listener tracker.new ≡ held_listener tracker.old }
 {
     match tracker.take() {
         Some(taken) => {
@@ -49,7 +50,7 @@ pub extern "C" fn squitter_tracker_get(
             tracker.put(taken);
             fault
         }
-        None => Fault::of(Refusal::NoTracker),
+        None => Fault::of(Reason::NoTracker),
     }
 }
 
@@ -62,6 +63,6 @@ fn show<A: Allocator>(tracker: &Tracker<A>, index: usize, out: &mut PlainPresent
             *out = PlainPresent { moment, address };
             NONE
         }
-        None => Fault::of(Refusal::NoAddress),
+        None => Fault::of(Reason::NoAddress),
     }
 }

@@ -4,8 +4,9 @@ ghost use Rattle.squitter_c.specs.Frames.{frame_of};
 ghost use Rattle.squitter_c.specs.Heard.{IsPlainHeard};
 ghost use Rattle.std.specs.Prelude.{◌≡◌, option_map};
 ghost use Rattle.squitter_c.specs.Trackers.{IsHeardBy, IsTrackerHeard, of_tracker};
+ghost use Rattle.squitter_c.specs.Slots.{held_listener};
 
-use crate::faults::{Fault, NONE, Refusal};
+use crate::faults::{Fault, NONE, Reason};
 use crate::heard::{PlainHeard, plain_heard};
 use crate::listener::Listener;
 use crate::slot::Slot;
@@ -27,7 +28,7 @@ pub extern "C" fn squitter_tracker_hear(
     frame: &[u8; 14],
     out: &mut PlainHeard,
 ) -> Fault
-    ensures { IsTrackerHeard moment (frame_of frame.now) tracker.old.seal.held tracker.new.seal.held
+    ensures { IsTrackerHeard moment (frame_of frame.now) (held_listener tracker.old) (held_listener tracker.new)
         out.old out.new result }
 {
     let mut held = tracker.take();
@@ -49,7 +50,7 @@ pub(crate) fn hear_in(
 {
     match held {
         Some(taken) => hear_by(&mut taken.tracker, moment, &Frame(*frame), out),
-        None => Fault::of(Refusal::NoTracker),
+        None => Fault::of(Reason::NoTracker),
     }
 }
 
@@ -68,7 +69,7 @@ fn hear_by<A: Allocator>(
             let answer = tracker.hear(moment, &squitter);
             tell(&answer, out)
         }
-        Err(fault) => Fault::of(Refusal::Line(fault.into())),
+        Err(fault) => Fault::of(Reason::Line(fault.into())),
     }
 }
 
@@ -93,9 +94,9 @@ pub(crate) fn fault_of_tracker(fault: &TrackFault) -> Fault
     ensures { result ≡ fault_of (of_tracker fault.now) }
 {
     match fault {
-        TrackFault::MomentBack(last) => Fault::of(Refusal::Line(LineFault::MomentBack(*last))),
-        TrackFault::Full => Fault::of(Refusal::Line(LineFault::Full)),
-        TrackFault::Memory => Fault::of(Refusal::Memory),
-        TrackFault::NoLimit => Fault::of(Refusal::NoLimit),
+        TrackFault::MomentBack(last) => Fault::of(Reason::Line(LineFault::MomentBack(*last))),
+        TrackFault::Full => Fault::of(Reason::Line(LineFault::Full)),
+        TrackFault::Memory => Fault::of(Reason::Memory),
+        TrackFault::NoLimit => Fault::of(Reason::NoLimit),
     }
 }

@@ -2,6 +2,7 @@
 ghost use Rattle.std.specs.Prelude.{◌≡◌, length, min};
 ghost use Rattle.squitter_c.specs.Calls.{IsBelow, Leads, shortest};
 ghost use Rattle.squitter_c.specs.Trackers.{IsHeardThere};
+ghost use Rattle.squitter_c.specs.Slots.{held_listener};
 
 use crate::faults::Fault;
 use crate::heard::PlainHeard;
@@ -21,8 +22,8 @@ pub extern "C" fn squitter_tracker_hear_many(
 ) -> usize
     ensures count { result ≡ min (length moments.now)
         (shortest (length frames.now) (length out.old) (length faults.old)) }
-    ensures each { Leads (IsHeardThere moments.now frames.now) tracker.old.seal.held out.old out.new faults.new
-        result tracker.new.seal.held }
+    ensures each { Leads (IsHeardThere moments.now frames.now) (held_listener tracker.old) out.old out.new faults.new
+        result (held_listener tracker.new) }
     ensures rest { IsBelow out.old out.new faults.old faults.new result }
 {
     let count = moments

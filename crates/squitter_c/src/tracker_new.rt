@@ -2,8 +2,9 @@
 ghost use Rattle.std.specs.Prelude.{◌≡◌, None};
 ghost use Rattle.squitter_c.specs.Sizes.{IsRoomFor};
 ghost use Rattle.squitter_c.specs.Trackers.{IsMade, IsMadeAt, IsMadeIn};
+ghost use Rattle.squitter_c.specs.Slots.{held_listener};
 
-use crate::faults::{Fault, NONE, Refusal};
+use crate::faults::{Fault, NONE, Reason};
 use crate::listener::{Listener, bytes_for};
 use crate::plain::{PlainPosition, position_of};
 use crate::slot::Slot;
@@ -32,8 +33,8 @@ pub extern "C" fn squitter_tracker_new(
     limit: u32,
     window: u64,
 ) -> Fault
-    ensures made { IsMade limit window None tracker.new.seal.held result }
-    ensures room { IsMadeIn limit block.size tracker.new.seal.held }
+    ensures made { IsMade limit window None (held_listener tracker.new) result }
+    ensures room { IsMadeIn limit block.size (held_listener tracker.new) }
 {
     make(tracker, block, limit, window, None)
 }
@@ -48,22 +49,22 @@ pub extern "C" fn squitter_tracker_new_at(
     window: u64,
     site: &PlainPosition,
 ) -> Fault
-    ensures made { IsMadeAt limit window site.now tracker.new.seal.held result }
-    ensures room { IsMadeIn limit block.size tracker.new.seal.held }
+    ensures made { IsMadeAt limit window site.now (held_listener tracker.new) result }
+    ensures room { IsMadeIn limit block.size (held_listener tracker.new) }
 {
     match position_of(site) {
         Some(site) => make(tracker, block, limit, window, Some(site)),
         None => {
             squitter_tracker_free(tracker);
-            Fault::of(Refusal::NoPosition)
+            Fault::of(Reason::NoPosition)
         }
     }
 }
 
 // Makes an empty tracker, in place of an existing one.
 fn make(slot: &mut Slot, block: Room, limit: u32, window: u64, site: Option<Position>) -> Fault
-    ensures made { IsMade limit window site slot.new.seal.held result }
-    ensures room { IsMadeIn limit block.size slot.new.seal.held }
+    ensures made { IsMade limit window site (held_listener slot.new) result }
+    ensures room { IsMadeIn limit block.size (held_listener slot.new) }
 {
     squitter_tracker_free(slot);
     match Listener::new(block, limit, window, site) {
@@ -78,7 +79,7 @@ fn make(slot: &mut Slot, block: Room, limit: u32, window: u64, site: Option<Posi
 /// Frees the tracker. Its block is the caller's again. Safe to call twice, and on a tracker that was never created.
 #[unsafe(no_mangle)]
 pub extern "C" fn squitter_tracker_free(tracker: &mut Slot)
-    ensures { tracker.new.seal.held ≡ None }
+    ensures { held_listener tracker.new ≡ None }
 {
     drop(tracker.take());
 }

@@ -1,9 +1,10 @@
 //! Restoring a saved tracker.
 ghost use Rattle.std.specs.Prelude.{◌≡◌, Option, None, Some};
 ghost use Rattle.squitter_c.specs.Restoring.{IsLast, IsRestored, IsRestoring};
+ghost use Rattle.squitter_c.specs.Slots.{held_listener};
 
 use crate::entry::{PlainEntry, contact_of};
-use crate::faults::{Fault, NONE, Refusal};
+use crate::faults::{Fault, NONE, Reason};
 use crate::slot::Slot;
 use crate::tracker_save::PlainLast;
 use sq_track::{RestoreFault, Tracker};
@@ -21,7 +22,7 @@ pub extern "C" fn squitter_tracker_restore(
     last: &PlainLast,
     entries: &[PlainEntry],
 ) -> Fault
-    ensures { IsRestored last.now entries.now tracker.old.seal.held tracker.new.seal.held result }
+    ensures { IsRestored last.now entries.now (held_listener tracker.old) (held_listener tracker.new) result }
 {
     match tracker.take() {
         Some(taken) => {
@@ -30,7 +31,7 @@ pub extern "C" fn squitter_tracker_restore(
             tracker.put(taken);
             fault
         }
-        None => Fault::of(Refusal::NoTracker),
+        None => Fault::of(Reason::NoTracker),
     }
 }
 
@@ -60,11 +61,11 @@ fn restore<A: Allocator>(
             Ok(()) => {}
             Err(RestoreFault::Refused) => {
                 tracker.resume(None);
-                return Fault::of(Refusal::Entry(at as u64));
+                return Fault::of(Reason::Entry(at as u64));
             }
             Err(RestoreFault::Memory) => {
                 tracker.resume(None);
-                return Fault::of(Refusal::Memory);
+                return Fault::of(Reason::Memory);
             }
         }
     }

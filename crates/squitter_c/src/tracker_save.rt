@@ -2,6 +2,7 @@
 ghost use Rattle.std.specs.Prelude.{◌≡◌, length};
 ghost use Rattle.squitter_c.specs.Restoring.{AreTold, IsLast, IsSaved};
 ghost use Rattle.squitter_c.specs.Trackers.{present_in};
+ghost use Rattle.squitter_c.specs.Slots.{held_listener};
 
 use crate::entry::{PlainEntry, plain_entry};
 use crate::slot::Slot;
@@ -25,9 +26,9 @@ pub extern "C" fn squitter_tracker_save(
     last: &mut PlainLast,
     entries: &mut [PlainEntry],
 ) -> usize
-    ensures count { result ≡ length (present_in tracker.old.seal.held) }
-    ensures saved { IsSaved tracker.old.seal.held last.old last.new entries.old entries.new }
-    ensures same { tracker.new.seal.held ≡ tracker.old.seal.held }
+    ensures count { result ≡ length (present_in (held_listener tracker.old)) }
+    ensures saved { IsSaved (held_listener tracker.old) last.old last.new entries.old entries.new }
+    ensures same { held_listener tracker.new ≡ held_listener tracker.old }
 {
     match tracker.take() {
         Some(taken) => {

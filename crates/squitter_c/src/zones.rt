@@ -3,7 +3,7 @@ ghost use Rattle.squitter_c.specs.Frames.{frame_of};
 ghost use Rattle.squitter_c.specs.Zones.{AreZonesOf, AreZonesOfPlace, AreLocalZones, TellsZones};
 
 use crate::decode::near;
-use crate::faults::{Fault, NONE, Refusal};
+use crate::faults::{Fault, NONE, Reason};
 use crate::plain::PlainPosition;
 use sq_bits::Frame;
 use sq_cpr::{GridPoint, Span};
@@ -50,7 +50,7 @@ pub extern "C" fn squitter_local_zones(
 }
 
 // Writes the zones of the place, or reports why there is none.
-fn give(answer: Result<Place, Refusal>, out: &mut PlainZones) -> Fault
+fn give(answer: Result<Place, Reason>, out: &mut PlainZones) -> Fault
     ensures { TellsZones answer out.old out.new result }
 {
     match answer {
@@ -58,7 +58,7 @@ fn give(answer: Result<Place, Refusal>, out: &mut PlainZones) -> Fault
             *out = zones_of_place(&place);
             NONE
         }
-        Err(refusal) => Fault::of(refusal),
+        Err(reason) => Fault::of(reason),
     }
 }
 

@@ -6,7 +6,7 @@ use Rattle.sq_feed.proofs.lines.push_tail.Goals as goal
 
 pub push_front-requires : goal.push_front-requires
 push_front-requires g c =
-    let long : length c.as_bytes.result.now ≡ 30 =
+    let long : length c.as_bytes.result.now ≡ g.row.LEN =
     omega (
       arith,
       ap length c.as_bytes.ensures.value,
@@ -14,20 +14,21 @@ push_front-requires g c =
       c.loop-byte.invariant.len,
       c.loop-byte-test.false,
       c.loop-byte.auto,
+      c.requires.all,
     ) in (
       search rules,
       (
-        subst IsAscii (sym (tail_is c.args.frame.now c.as_bytes.result.now c.loop-byte.tail.bytes _
+        subst IsAscii (sym (tail_is c.args.bytes.now c.as_bytes.result.now c.loop-byte.tail.bytes _
             c.loop-byte.byte-index
             (search rules) c.as_bytes.ensures.value c.push-2.ensures.bytes c.loop-byte.invariant.bytes))
-            (ascii_tail c.args.frame.now),
-        (omega (arith, long), omega (arith, long, c.requires)),
+            (ascii_tail c.args.bytes.now),
+        (omega (arith, long), omega (arith, long, c.requires.room)),
       ),
     )
 
 pub returns-clause-bytes : goal.returns-clause-bytes
 returns-clause-bytes g c =
     c.push_front.ensures.bytes
-    ∙ ap (λ t. c.args.text.now.bytes ++ t) (take_all 30 c.as_bytes.result.now (search rules)
-    ∙ tail_is c.args.frame.now c.as_bytes.result.now c.loop-byte.tail.bytes _ c.loop-byte.byte-index (search rules)
+    ∙ ap (λ t. c.args.text.now.bytes ++ t) (take_all g.row.LEN c.as_bytes.result.now (search rules)
+    ∙ tail_is c.args.bytes.now c.as_bytes.result.now c.loop-byte.tail.bytes _ c.loop-byte.byte-index (search rules)
     c.as_bytes.ensures.value c.push-2.ensures.bytes c.loop-byte.invariant.bytes)

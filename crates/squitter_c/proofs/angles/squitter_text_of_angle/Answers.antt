@@ -1,5 +1,5 @@
 use Rattle.std.proofs.Common.{rules, List, ℕ, Ok, Err, refl, subst}
-use Rattle.squitter_c.specs.declared.faults.Refusal.TheVariants as refusals
+use Rattle.squitter_c.specs.declared.faults.Reason.TheVariants as reasons
 use Rattle.squitter_c.specs.Angles.{StandsIn}
 use Rattle.squitter_c.proofs.angles.squitter_text_of_angle.Goals as goal
 
@@ -12,4 +12,4 @@ returns-in-Some c =
     )
 
 pub returns-in-None : goal.returns-in-None
-returns-in-None c = (Err refusals.NoAngle, (search rules, refl), (refl, c.of.ensures))
+returns-in-None c = (Err reasons.NoAngle, (search rules, refl), (refl, c.of.ensures))

@@ -1,6 +1,6 @@
 use Rattle.std.proofs.Common.{ℤ, SFits, w64, to_z-of_z, Ok, Err, refl, rules, subst, sym}
 use Rattle.sq_angle.specs.Angle.{degrees}
-use Rattle.squitter_c.specs.declared.faults.Refusal.TheVariants as refusals
+use Rattle.squitter_c.specs.declared.faults.Reason.TheVariants as reasons
 use Rattle.squitter_c.specs.E7.{IsE7}
 use Rattle.squitter_c.proofs.e7.squitter_angle_e7.Goals as goal
 
@@ -13,4 +13,4 @@ returns-in-Some c =
     )
 
 pub returns-in-None : goal.returns-in-None
-returns-in-None c = (Err refusals.NoAngle, (search rules, refl), (refl, c.of.ensures))
+returns-in-None c = (Err reasons.NoAngle, (search rules, refl), (refl, c.of.ensures))

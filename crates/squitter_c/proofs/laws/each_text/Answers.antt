@@ -2,9 +2,9 @@ use Rattle.std.proofs.Common.{refl}
 use Rattle.sq_angle.specs.declared.read.AngleFault.TheVariants as angles
 use Rattle.sq_message.specs.declared.place.PlaceFault.TheVariants as places
 use Rattle.sq_text.specs.declared.faults.LineFault.TheVariants as lines
-use Rattle.squitter_c.specs.declared.faults.Refusal.TheVariants.{Line, Place, Angle, NoPosition, NoHead, NoAngle}
-use Rattle.squitter_c.specs.declared.faults.Refusal.TheVariants.{NoLatitude, NoFeet, NoParity, Memory, NoLimit, NoTracker}
-use Rattle.squitter_c.specs.declared.faults.Refusal.TheVariants.{NoAddress, LongLog, NoFormat, Entry}
+use Rattle.squitter_c.specs.declared.faults.Reason.TheVariants.{Line, Place, Angle, NoPosition, NoHead, NoAngle}
+use Rattle.squitter_c.specs.declared.faults.Reason.TheVariants.{NoLatitude, NoFeet, NoParity, Memory, NoLimit, NoTracker}
+use Rattle.squitter_c.specs.declared.faults.Reason.TheVariants.{NoAddress, LongLog, NoFormat, Entry}
 use Rattle.squitter_c.specs.Texts.{EachText, told_text}
 use Rattle.squitter_c.proofs.laws.each_text.Goals as goal
 

@@ -12,7 +12,7 @@ returns-clause-gone g c =
     let bytes = take told.result.0.taken c.args.piece.now in
     let written = take told.result.0.written told.new.out in
     let gone = subst₂ (λ (old new : Log Held). GoesOn AsAnswers end old new bytes [] written)
-    (ap held_by c.resume-log.ensures.log) (sym (ap held_by c.state.ensures)) told.ensures.gone in
+    (ap held_by c.resume-log.ensures.log) (sym (ap held_by c.state.ensures)) told.ensures.goes_on.gone in
     subst₂ (λ (first last : Held). GoesOn AsAnswers end (with_job first c.args.state.now)
     (with_job last c.state.result) bytes [] written) (ap (λ tracker. tracker.now) c.hear_values.ensures) (search rules)
     gone

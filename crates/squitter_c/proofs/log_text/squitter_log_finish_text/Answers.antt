@@ -1,11 +1,12 @@
 use Rattle.std.proofs.Common.{◌∙◌, ap, option_map, rules, subst, sym}
 use Rattle.squitter_c.specs.LogTexts.{IsTextFinishedBy, IsTextFinished}
+use Rattle.squitter_c.specs.Seal.{listener_of}
 use Rattle.squitter_c.proofs.log_text.squitter_log_finish_text.Goals as goal
 
 pub returns-in-Some : goal.returns-in-Some
 returns-in-Some c =
     let told = c.finish_by-fault in
-    subst (λ held. IsTextFinished c.args.format held c.put.new.self.seal.held c.args.out.now told.new.out
+    subst (λ held. IsTextFinished c.args.format held (listener_of c.put.new.self.seal.held) c.args.out.now told.new.out
     c.args.done.now told.new.done told.result)
     (sym (ap (option_map (λ b. b.value)) c.in-Some.is) ∙ c.take.ensures.taken) (
       told.new.listener,

@@ -14,7 +14,7 @@ returns-clause-gone g c =
     let written = take told.result.0.written told.new.out in
     let gone = subst₂ (λ (old new : Log Held). GoesOn (AsTexts (heard_telling c.args.format)) end old new bytes []
     written)
-    (ap held_by c.resume-log.ensures.log) (sym (ap held_by c.state.ensures)) told.ensures.gone in
+    (ap held_by c.resume-log.ensures.log) (sym (ap held_by c.state.ensures)) told.ensures.goes_on.gone in
     subst₂ (λ (first last : Held). GoesOn (AsTexts (heard_telling c.args.format)) end (with_job first c.args.state.now)
     (with_job last c.state.result) bytes [] written) (ap (λ tracker. tracker.now) c.hear_texts.ensures) (search rules)
     gone
