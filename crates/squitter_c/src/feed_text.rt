@@ -100,8 +100,7 @@ fn take_some(
     ensures written { HasWritten arrival feed.old (take result.0 piece.now) (take at out.old) (take result.1 out.new)
         feed.new }
     ensures end { (at ≤ result.1) × (result.1 ≤ length out.new) }
-    ensures rest { drop result.1 out.new ≡ drop result.1 out.old }
-    ensures long { length out.new ≡ length out.old }
+    ensures rest { (drop result.1 out.new ≡ drop result.1 out.old) × (length out.new ≡ length out.old) }
 {
     if out.len() - at < LINES || piece.len() < SEVERAL {
         take_line(feed, piece, arrival, out, at)
@@ -126,8 +125,7 @@ fn take_lines(
     ensures written { HasWritten arrival feed.old (take result.0 piece.now) (take at out.old) (take result.1 out.new)
         feed.new }
     ensures end { (at ≤ result.1) × (result.1 ≤ length out.new) }
-    ensures rest { drop result.1 out.new ≡ drop result.1 out.old }
-    ensures long { length out.new ≡ length out.old }
+    ensures rest { (drop result.1 out.new ≡ drop result.1 out.old) × (length out.new ≡ length out.old) }
 {
     let mut lines = TextBuffer::<LINES>::new();
     let count = feed.take(piece, arrival, &mut lines);
@@ -152,8 +150,7 @@ fn take_line(
     ensures written { HasWritten arrival feed.old (take result.0 piece.now) (take at out.old) (take result.1 out.new)
         feed.new }
     ensures end { (at ≤ result.1) × (result.1 ≤ length out.new) }
-    ensures rest { drop result.1 out.new ≡ drop result.1 out.old }
-    ensures long { length out.new ≡ length out.old }
+    ensures rest { (drop result.1 out.new ≡ drop result.1 out.old) × (length out.new ≡ length out.old) }
 {
     let mut moments = [0u64];
     let mut frames = [[0u8; 14]];

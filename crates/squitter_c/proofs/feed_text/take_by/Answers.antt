@@ -32,8 +32,8 @@ loop-feed-preserved c =
           (subst (λ l. HasWritten c.args.arrival c.loop-feed.feed (take count l)
           (take c.loop-feed.written c.loop-feed.out) (take end out) c.take_some-count.new.feed) rest
           c.take_some-count.ensures.written);
-      rest = c.take_some-count.ensures.rest
+      rest = c.take_some-count.ensures.rest.0
           ∙ rest_further c.loop-feed.out c.args.out.now c.loop-feed.written end c.take_some-count.ensures.end.0
           i.rest;
-      long = c.take_some-count.ensures.long ∙ i.long;
+      long = c.take_some-count.ensures.rest.1 ∙ i.long;
     }
