@@ -2,10 +2,14 @@
 use Rattle.std.specs.Prelude.{ℕ, ◌^◌, ◌≤◌, ℤ}
 use Rattle.sq_angle.specs.Fraction.{Fraction, IsWithin}
 
+-- the greatest denominator of an angle
+abbrev pub most_den : ℕ
+most_den = 10 ^ 12
+
 -- num/den may be an angle: its denominator is from 1 to 10^12, and its magnitude is at most 360 degrees
 pub record IsAngle (num : ℤ) (den : ℕ) : Type 0 where
   pub positive : 1 ≤ den
-  pub at_most : den ≤ 10 ^ 12
+  pub at_most : den ≤ most_den
   pub within : IsWithin 360 (record { num = num; den = den })
 
 -- a position has at most 90 degrees of latitude and at most 180 of longitude, on both sides

@@ -142,7 +142,7 @@ GridPointExactly span =
     (point : Point) → IsGridPoint span point
     ↔ (IsLatitude span.degrees point.parity point.lat_index
     × (point.zones ≡ max (zones_at (latitude span point) - parity_index point.parity) 1)
-    × (point.lon_index < point.zones * 131072 * span.repeats))
+    × (point.lon_index < point.zones * codes_of_zone * span.repeats))
 
 -- an even grid has 60 zones of latitude, and an odd one 59
 abbrev pub ZonesAsNumbers : Type 0
@@ -169,11 +169,11 @@ thousandths n = record { num = pos n; den = 1000 }
 
 -- an even point of the air at 52.2572 degrees north and 3.9194 east
 abbrev pub even_point : Point
-even_point = record { parity = Even; lat_index = pos (8 * 131072 + 93000); zones = 36; lon_index = 51372 }
+even_point = record { parity = Even; lat_index = pos (8 * codes_of_zone + 93000); zones = 36; lon_index = 51372 }
 
 -- an odd point of the air at 52.2658 degrees north and 3.9389 east
 abbrev pub odd_point : Point
-odd_point = record { parity = Odd; lat_index = pos (8 * 131072 + 74158); zones = 35; lon_index = 50194 }
+odd_point = record { parity = Odd; lat_index = pos (8 * codes_of_zone + 74158); zones = 35; lon_index = 50194 }
 
 -- References of three decimals, which are no points of a grid: both points are strictly near 52.258 3.918, the even
 -- one not near 55.258 3.918, and both are close.

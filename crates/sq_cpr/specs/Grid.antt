@@ -1,10 +1,11 @@
 -- The grid of a span and a parity (RTCA DO-260B, appendix on compact position reporting).
-use Rattle.std.specs.Prelude.{◌≡◌, ℕ, ◌-◌, ◌*◌, ◌%◌, ◌^◌, ◌<◌, ℤ, pos, ◌-ℤ◌, ◌*ℤ◌, unsigned_abs, nat_lt, if◌then◌else◌}
+use Rattle.std.specs.Prelude.{◌≡◌, ℕ, ◌-◌, ◌*◌, ◌%◌, ◌<◌, ℤ, pos, ◌-ℤ◌, ◌*ℤ◌, unsigned_abs, nat_lt, if◌then◌else◌}
 use Rattle.std.specs.Int.{int_rem_euclid}
 use Rattle.sq_angle.specs.Fraction.{Fraction, IsWithin}
 use Rattle.sq_angle.specs.Whole.{IsCongruent}
 use Rattle.sq_zones.specs.Zones.{lon_zones_at, parity_index}
 use Rattle.sq_zones.specs.declared.parity.Parity.{Parity}
+pub use Rattle.sq_cpr.specs.Sizes.{codes_of_zone}
 use Rattle.sq_cpr.specs.Code.{CodeNumbers}
 use Rattle.sq_cpr.specs.Span.{Span}
 
@@ -19,10 +20,6 @@ pub record Point : Type 0 where
 abbrev pub point_at : Parity → (lat_index : ℤ) → (zones lon_index : ℕ) → Point
 point_at parity lat_index zones lon_index =
     record { parity = parity; lat_index = lat_index; zones = zones; lon_index = lon_index }
-
--- the codes of one zone, in each coordinate
-abbrev pub codes_of_zone : ℕ
-codes_of_zone = 2 ^ 17
 
 -- a number of steps of a grid
 abbrev pub steps : (k : ℤ) → (step : Fraction) → Fraction

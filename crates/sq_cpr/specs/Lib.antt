@@ -1,5 +1,6 @@
 pub mod Code
 pub mod Span
+pub mod Sizes
 pub mod Grid
 pub mod Rounds
 pub mod Zones

@@ -1,5 +1,6 @@
 //! The code of a point, as it is sent.
 ghost use Rattle.std.specs.Prelude.{◌≡◌, ◌↔◌, ◌<◌, IsSome, IfSome};
+ghost use Rattle.sq_cpr.specs.Sizes.{codes_of_zone};
 
 /// The codes of a zone, in each coordinate: 2^17.
 pub(crate) const CODES: u64 = 131_072;
@@ -10,16 +11,16 @@ pub(crate) const CODES: u64 = 131_072;
 pub struct Code {
     lat: u32,
     lon: u32,
-    pub ghost lat_below: { lat < 131072 },
-    pub ghost lon_below: { lon < 131072 },
+    pub ghost lat_below: { lat < codes_of_zone },
+    pub ghost lon_below: { lon < codes_of_zone },
 }
 
 impl Code {
     ghost use Rattle.sq_cpr.specs.Code.{numbers_of};
 
-    /// The code of these two numbers; `None` unless both are below 131072.
+    /// Returns the code with these numbers: `None` unless both are below 2^17.
     pub fn new(lat: u32, lon: u32) -> Option<Code>
-        ensures variant { IsSome result ↔ ((lat < 131072) × (lon < 131072)) }
+        ensures variant { IsSome result ↔ ((lat < codes_of_zone) × (lon < codes_of_zone)) }
         ensures value { IfSome result (λ code. numbers_of code ≡ record { lat = lat; lon = lon }) }
     {
         if u64::from(lat) < CODES && u64::from(lon) < CODES {
@@ -29,18 +30,18 @@ impl Code {
         }
     }
 
-    /// The latitude's number, below 131072.
+    /// Returns the latitude's number, below 2^17.
     pub fn lat(&self) -> u32
         ensures value { result ≡ (numbers_of self.now).lat }
-        ensures small { result < 131072 }
+        ensures small { result < codes_of_zone }
     {
         self.lat
     }
 
-    /// The longitude's number, below 131072.
+    /// Returns the longitude's number, below 2^17.
     pub fn lon(&self) -> u32
         ensures value { result ≡ (numbers_of self.now).lon }
-        ensures small { result < 131072 }
+        ensures small { result < codes_of_zone }
     {
         self.lon
     }

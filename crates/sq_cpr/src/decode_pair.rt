@@ -43,7 +43,7 @@ impl Indices {
 // The longitude's number in the code of the parity.
 fn lon_of_newest(newest: Parity, even: Code, odd: Code) -> u32
     ensures value { result ≡ of_parity newest (numbers_of even).lon (numbers_of odd).lon }
-    ensures small { result < 131072 }
+    ensures small { result < codes_of_zone }
 {
     match newest {
         Parity::Even => even.lon(),

@@ -170,8 +170,8 @@ pub(crate) fn index_within(base: i64, count: u8, zones: u8, span: u32, reference
 pub(crate) fn pair_zone(even_zones: u8, odd_zones: u8, even: u32, odd: u32) -> i64
     requires even_zones_small { even_zones ≤ 60 }
     requires odd_zones_small { odd_zones ≤ 60 }
-    requires even_small { even < 2 ^ 17 }
-    requires odd_small { odd < 2 ^ 17 }
+    requires even_small { even < codes_of_zone }
+    requires odd_small { odd < codes_of_zone }
     ensures zone { IsZoneIndex even_zones odd_zones even odd result }
     ensures small { unsigned_abs result ≤ 120 }
 {
@@ -184,7 +184,7 @@ pub(crate) fn pair_zone(even_zones: u8, odd_zones: u8, even: u32, odd: u32) -> i
 
 /// The index of a code, so many zones up.
 pub(crate) fn index_of(code: u32, zone: i64) -> i64
-    requires code_small { code < 2 ^ 17 }
+    requires code_small { code < codes_of_zone }
     requires zone_small { unsigned_abs zone ≤ 120 }
     ensures value { result ≡ pos code +ℤ pos codes_of_zone *ℤ zone }
     ensures small { unsigned_abs result < 2 ^ 44 }

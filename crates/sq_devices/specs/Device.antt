@@ -1,6 +1,10 @@
 -- What a call that failed does to the bytes of a device, which may not report them. `None` stands for bytes that are
 -- not reported.
-use Rattle.std.specs.Prelude.{◌≡◌, ◌++◌, ℕ, List, ⊤, Option, None, Some}
+use Rattle.std.specs.Prelude.{◌≡◌, ◌++◌, ◌^◌, ℕ, List, ⊤, Option, None, Some}
+
+-- the most gets of a source that return data
+abbrev pub most_gets : ℕ
+most_gets = 10 ^ 12
 
 -- the device's bytes are as before, or it does not report them
 abbrev pub KeepsOrHides : Option (List ℕ) → Option (List ℕ) → Type 0

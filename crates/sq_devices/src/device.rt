@@ -2,7 +2,7 @@
 ghost use Rattle.std.specs.Prelude.{◌≡◌, ◌+◌, ◌<◌, ◌≤◌, ℕ, Bool, List, true, length, take, Option};
 ghost use Rattle.std.specs.Prelude.{IfOk, OnOk, OnErr};
 ghost use Rattle.std.specs.Io.KnownBytes.{Appends, Consumes, IsAtEnd, Keeps};
-ghost use Rattle.sq_devices.specs.Device.{KeepsOrHides};
+ghost use Rattle.sq_devices.specs.Device.{KeepsOrHides, most_gets};
 
 use thiserror::Error;
 
@@ -43,7 +43,7 @@ pub trait Source {
         ensures kept { OnErr result (KeepsOrHides (to_come self.old) (to_come self.new)) }
         ensures unused { OnErr result (gets_left self.new ≡ gets_left self.old) };
 
-    ghost few_gets: { (s : Self) → gets_left s ≤ 1000000000000 };
+    ghost few_gets: { (s : Self) → gets_left s ≤ most_gets };
 }
 
 /// Where bytes go to.

@@ -2,7 +2,7 @@
 ghost use Rattle.std.specs.Prelude.{◌≡◌, ◌<◌, ◌≤◌, IfOk, IfSome, OnErr, OnOk, None, false, length, take, true};
 ghost use Rattle.std.specs.Io.Buffered.{reader_buffer, reader_remaining};
 ghost use Rattle.std.specs.Io.KnownBytes.{Consumes, IsAtEnd};
-ghost use Rattle.sq_devices.specs.Device.{KeepsOrHides};
+ghost use Rattle.sq_devices.specs.Device.{KeepsOrHides, most_gets};
 
 use crate::{Failed, Sink, Source};
 use std::alloc::{AllocError, Global};
@@ -171,7 +171,7 @@ pub struct PromptInput<'a, R, W: Write + Drop> {
     output: &'a SharedOutput<W>,
     gets: u64,
     failed: bool,
-    ghost few: { gets ≤ 1000000000000 },
+    ghost few: { gets ≤ most_gets },
 }
 
 impl<'a, R: Read + Drop, W: Write + Drop> PromptInput<'a, R, W> {
@@ -182,7 +182,7 @@ impl<'a, R: Read + Drop, W: Write + Drop> PromptInput<'a, R, W> {
         output: &'a SharedOutput<W>,
         gets: u64,
     ) -> Result<Self, AllocError>
-        requires { gets ≤ 1000000000000 }
+        requires { gets ≤ most_gets }
         ensures to_come { IfOk result (λ input. ⟦<PromptInput<'a, R, W> as Source>⟧.to_come input
             ≡ R.remaining reader) }
         ensures gets { IfOk result (λ input. ⟦<PromptInput<'a, R, W> as Source>⟧.gets_left input ≡ gets) }

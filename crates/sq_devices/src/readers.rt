@@ -1,5 +1,6 @@
 //! A source over any reader.
 ghost use Rattle.std.specs.Prelude.{◌≡◌, ◌≤◌, false};
+ghost use Rattle.sq_devices.specs.Device.{most_gets};
 
 use crate::{Failed, Source};
 use std::io::Read;
@@ -10,7 +11,7 @@ pub struct Reading<R> {
     reader: R,
     gets: u64,
     failed: bool,
-    ghost few: { gets ≤ 1000000000000 },
+    ghost few: { gets ≤ most_gets },
 }
 
 impl<R: Read> Reading<R> {
@@ -20,7 +21,7 @@ impl<R: Read> Reading<R> {
     ///
     /// Each later get fails. A get also fails if the reader returns an error.
     pub fn new(reader: R, gets: u64) -> Self
-        requires { gets ≤ 1000000000000 }
+        requires { gets ≤ most_gets }
         ensures reader { reader_of result ≡ reader }
         ensures to_come { ⟦<Reading<R> as Source>⟧.to_come result ≡ R.remaining reader }
         ensures gets { ⟦<Reading<R> as Source>⟧.gets_left result ≡ gets }

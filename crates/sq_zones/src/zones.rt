@@ -2,6 +2,7 @@
 ghost use Rattle.std.specs.Prelude.{◌≡◌, ◌≤◌, ◌*◌, ◌/◌, ◌^◌, count_by, nat_le, slice_index};
 ghost use Rattle.std.specs.Int.{div_ceil};
 ghost use Rattle.sq_angle.specs.Angle.{degrees};
+ghost use Rattle.sq_angle.specs.Bounds.{most_den};
 ghost use Rattle.sq_angle.specs.Fraction.{IsWithin};
 ghost use Rattle.sq_zones.specs.Zones.{zones_at, lon_zones_at};
 
@@ -122,7 +123,7 @@ pub fn lon_zones(lat: &Angle, parity: Parity) -> u8
 fn scaled_up(magnitude: u64, den: u64) -> u64
     requires positive { 1 ≤ den }
     requires within { magnitude ≤ 90 * den }
-    requires at_most { den ≤ 10 ^ 12 }
+    requires at_most { den ≤ most_den }
     ensures value { result ≡ div_ceil (magnitude * 10 ^ 8) den }
     ensures small { result ≤ 9 * 10 ^ 9 }
 {

@@ -2,6 +2,7 @@
 #![tactic(auto)]
 
 ghost use Rattle.std.specs.Prelude.{◌≡◌, IfOk};
+ghost use Rattle.sq_devices.specs.Device.{most_gets};
 
 use sq_devices::{
     ConsoleClock, PromptInput, PromptOutput, SharedOutput, Trouble, arguments, is_input_live,
@@ -48,7 +49,7 @@ fn input_of<'a, R: Read + Drop, W: Write + Drop>(
     reader: R,
     shared: &'a SharedOutput<W>,
 ) -> Result<PromptInput<'a, R, W>, AllocError>
-    ensures { IfOk result (λ input. ⟦<PromptInput<'a, R, W> as Source>⟧.gets_left input ≡ 1000000000000) }
+    ensures { IfOk result (λ input. ⟦<PromptInput<'a, R, W> as Source>⟧.gets_left input ≡ most_gets) }
 {
     PromptInput::new(alloc, reader, shared, GETS)
 }
