@@ -78,7 +78,12 @@ def land(tries: Tries) -> str:
     browser.evaluate("squitterLog.map.move(-900, 0); squitterLog.map.draw()")
     expect(browser.evaluate(f"{PIXEL}(66.4, 48.3)") == "land", "Kazakhstan after a long move")
     browser.evaluate(f"{AROUND}('plain', 2.5, 46.6, 3000)")
-    expect(browser.evaluate(f"{PIXEL}(2.5, 46.6)") not in ("land", "sea"), "land on a map that is too close for it")
+    # (off the lines of the grid, which are 0.05 degrees apart)
+    expect(browser.evaluate(f"{PIXEL}(2.512, 46.612)") not in ("land", "sea"), "land on a map that is too close for it")
+    for view, lon, lat in (("plain", 0.7, 93), ("north", 44, -20), ("south", 44, 20)):
+        browser.evaluate(f"{AROUND}('{view}', {lon} + 1, {lat} + 0.3, 3)")
+        expect(browser.evaluate(f"{PIXEL}({lon}, {lat})") not in ("land", "sea", "outside"), "sea beyond the map of",
+               view)
     pictures = pictured_land(browser)
     silent(browser)
     return f"{count} places, {pictures} pictures"
@@ -350,6 +355,7 @@ def saved_rows(tries: Tries) -> str:
     clicked(browser, "#log-csv")
     got, wanted = tries.downloaded("answers.csv"), tracked(tries.program, flights(), (10_000, 1000, SITE), "csv")
     expect(got == wanted, got[:300], wanted[:300])
+    expect(browser.evaluate("document.querySelectorAll('a[download]').length") == 0, "a link to the file is left")
     rows = [line.split(",") for line in wanted.decode().splitlines()[1:]]
     count = 0
     while True:
@@ -393,6 +399,10 @@ CLOCKS = (
     (1_700_000_000_123, 1_709_251_199_999, "Time (UTC)", "2024-02-29 23:59:59.999", "2024-02-29 23:59:59"),
     (4_102_444_799_999, 4_102_444_799_999, "Time (UTC)", "2099-12-31 23:59:59.999", "2099-12-31 23:59:59"),
     (4_102_444_800_000, 4_102_444_800_500, "Time", "0:00:00.500", "0:00:00"),
+    # moments outside 2000 to 2100 of a log that has dates, and one within of a log that has none
+    (946_684_800_000, 946_684_799_999, "Time (UTC)", "-0:00:00.001", "-0:00:00"),
+    (4_102_444_799_999, 4_102_444_800_000, "Time (UTC)", "0:00:00.001", "0:00:00"),
+    (0, 1_700_000_000_123, "Time", "472222:13:20.123", "472222:13:20"),
 )
 
 
@@ -404,6 +414,8 @@ def times(tries: Tries) -> str:
         got = browser.evaluate(f"((clock) => [clock.title, clock.text({moment}n), clock.text({moment}n, false)])("
                                f"new LogClock({first}n))")
         expect(got == wanted, first, moment, "is", got, "and not", wanted)
+        got = browser.evaluate(f"[true, false].map((isExact) => new LogClock({first}n).named({moment}n, isExact))")
+        expect(got == [text + (" UTC" if text[4] == "-" else "") for text in wanted[1:]], first, moment, "is", got)
     log = flights().decode().splitlines()
     for later, titles, first, last, end in (
         (0, "Time", "0:00:00.000", "0:03:49.930", "0:03:49"),

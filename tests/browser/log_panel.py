@@ -245,6 +245,7 @@ def heard_again(tries: Tries) -> str:
         changed(browser, **fields)
         got, wanted = heard(browser), tracked(tries.program, log, settings)
         expect(got == wanted, fields, first_difference(got, wanted))
+        expect(browser.evaluate("squitterLog.tracks.window") == settings[0], "the gap of a track with", fields)
     changed(browser, log_lat="91", log_lon="4")
     expect(shown(browser, "#log-state").startswith("Refused: "), shown(browser, "#log-state"))
     changed(browser, log_lat=SITE[0], log_lon=SITE[1])
@@ -257,8 +258,14 @@ def heard_again(tries: Tries) -> str:
     changed(browser, log_window="400")
     got, wanted = heard(browser), tracked(tries.program, of_address(log, "484004"), (400, 1000, SITE))
     expect(got == wanted, "another file since:", first_difference(got, wanted))
+    clicked(browser, "#log-example")
+    heard(browser)
+    changed(browser, log_window="300")
+    got, wanted = heard(browser), tracked(tries.program, log, (300, 1000, SITE))
+    expect(got == wanted and "near 52.31" in shown(browser, "#log-state"), "the example",
+           first_difference(got, wanted))
     silent(browser)
-    return "ten times"
+    return "eleven times"
 
 
 def huge_line(tries: Tries) -> str:

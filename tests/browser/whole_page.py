@@ -201,7 +201,8 @@ def without_memory(tries: Tries) -> str:
     added = browser.call("Page.addScriptToEvaluateOnNewDocument", source=script)["identifier"]
     try:
         browser = tries.page()
-        said, hidden = shown(browser, "#notice"), browser.evaluate("document.querySelector('main').hidden")
+        said = shown(browser, "#notice")
+        hidden = browser.evaluate("document.querySelector('main').hidden && document.getElementById('tabs').hidden")
         expect("64-bit memory" in said and hidden, said, hidden)
         silent(browser)
     finally:
