@@ -142,5 +142,6 @@ def no_times() -> None:
         same(len(fed([(data, 5)], False, **options)[2]), 1, data)
     for data in (b"*%s;\n" % E, clocked(AIR_EVEN, 11_999) + clocked(AIR_EVEN, 12_000), log(0, 1)):
         same(fed([(data, 5)], False)[2], [], data)
+    same(fed([(log(0, 0, 0), 5)], True)[2], [], "a live log of zeros")
     rows, feed, _ = fed([(beast(AIR_EVEN) + beast(AIR_ODD, 1) + beast(AIR_EVEN), 5)], live=True)
     same((feed.summary(), [moment for moment, _ in rows]), ("3 printed", [5, 5, 5]))

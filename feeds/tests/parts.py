@@ -439,6 +439,10 @@ def silence() -> None:
     same(feed.summary(), "2 printed, 1 late, 1 damaged; try --reorder=2000")
     file = Feed(Options(500), False, print)
     same((file.hear(log(1000), 1000), file.wait(9999), file.due(9999)), (b"", None, b""))
+    several = Feed(Options(500), True, print)
+    same(several.hear(log(100, 200, 300), 1000) + several.due(1500), log(100, 200, 300), "three at once")
+    same((several.hear(log(299), 1600) + several.due(2100), several.late), (b"", 1), "before the last of three")
+    same((several.hear(log(300), 2200) + several.due(2700), several.late), (log(300), 1), "with the last of three")
 
 
 def other_formats() -> None:
@@ -520,6 +524,12 @@ def units() -> None:
     others = spaced(500, address="40621E") + spaced(500, address="40621F")
     both = sorted(spaced(1) + others, key=lambda line: int(line.split()[0]))
     same(told_of(both), [], "one aircraft of three")
+    rows = [([500, 500, 10**6], []), ([500, 10**6, 10**6], micros), ([1, 500, 500], []), ([1, 1, 500], seconds)]
+    for gaps, said in rows:
+        lines = [line for number, gap in enumerate(gaps) for line in spaced(gap, address=f"40621{number}")]
+        same(told_of(sorted(lines, key=lambda line: int(line.split()[0]))), said, "most of three aircraft", gaps)
+    again = f"10000000000 {spaced(500)[0].split()[1]}\n"
+    same(told_of([*spaced(500), again]), [], "a frame that comes again much later")
     same(told_of(spaced(1), reorder=1000), seconds, "sorted")
     long = spaced(1, 30_000)
     same(told_of(long), seconds, "once, in a long log")

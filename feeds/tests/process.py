@@ -108,13 +108,16 @@ def refusals() -> None:
         (["a", "b"], 2, "usage"),
         (["-", "--reorder=-1"], 2, "milliseconds"),
         (["-", "--leap=1.5"], 2, "milliseconds"),
-        (["-", "--lea=5"], 2, "usage"),
+        (["-", "--lea=5"], 2, "\nusage: squitter-feed SOURCE [--reorder=MS]"),
+        (["-", "--reorder="], 2, "milliseconds"),
+        (["-", f"--leap={10**15}"], 2, "1000000000000000 is no number of milliseconds\n"),
         (["-", "--save=/nonesuch/log"], 3, "/nonesuch/log"),
     ]
     for words, wanted, part in rows:
         status, printed, said = ran(words)
         expect((status, printed) == (wanted, "") and part in said and "Traceback" not in said, words, status, said)
     same(ran(["-"])[:2], (0, ""), "nothing")
+    same(ran(["-", f"--leap={10**15 - 1}"])[:2], (0, ""), "the longest leap")
     same(ran(["--help"])[0], 0, "help")
     status, printed, said = ran(["--version"])
     expect(status == 0 and re.fullmatch(r"squitter-feed \d+\.\d+\.\d+\n", printed) and not said, printed, said)

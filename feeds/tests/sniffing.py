@@ -155,6 +155,16 @@ def fast() -> None:
         expect(time.process_time() - begun < 3, data, "took", time.process_time() - begun)
 
 
+# The first bytes of files without a feed, as the descriptions of their formats have them.
+FOREIGN = {
+    "504B0304": "a zip archive", "504B0506": "an empty zip archive", "28B52FFD": "compressed by zstd",
+    "04224D18": "compressed by lz4", "4C5A4950": "compressed by lzip", "5D0000": "compressed by lzma",
+    "1F9D": "compressed by compress", "1FA0": "compressed by compress", "377ABCAF271C": "a 7z archive",
+    "526172211A07": "a rar archive", "53514C69746520666F726D6174203300": "an SQLite database",
+    "50415231": "a Parquet file", **dict.fromkeys(("D4C3B2A1", "A1B2C3D4", "0A0D0D0A"), "a capture of network packets"),
+}
+
+
 def refused_by_name() -> None:
     """What is no feed is refused by its name, in any pieces."""
     tar = BytesIO()
@@ -162,7 +172,8 @@ def refused_by_name() -> None:
         member = tarfile.TarInfo("feed.csv")
         member.size = 1000
         archive.addfile(member, BytesIO(row("1") * 50))
-    rows = [(magic + bytes(30), text) for magic, text in squitter_unpack.REFUSED.items()]
+    same({magic.hex().upper() for magic in squitter_unpack.REFUSED}, set(FOREIGN), "first bytes")
+    rows = [(bytes.fromhex(magic) + bytes(30), f"this is {text}") for magic, text in FOREIGN.items()]
     rows += [(tar.getvalue(), "a tar archive"), (b"MSG,3,1,1,4B1001,1,2026/11/23\n", "SBS"), (b"STA,,1\n", "SBS")]
     rows += [(b'{"hex":"40621d"}\n', "JSON"), ("5 8D".encode("utf-16"), "UTF-16")]
     for data, text in rows:
@@ -282,15 +293,42 @@ def damaged() -> None:
     same(heard([b"\x1f"])[1], heard([b"x"])[1], "one byte")
 
 
+def little_is_lost() -> None:
+    """A fault of a bzip2 or an xz archive takes at most 512 bytes with it that could be unpacked."""
+    data = many_rows(5000)
+    archives = (("bzip2", bz2.compress(data, 1), bz2.BZ2Decompressor()),
+                ("xz", lzma.compress(data), lzma.LZMADecompressor()))
+    for name, packed, inner in archives:
+        place, most, kept = len(packed) * 3 // 4, 0, 0
+        harmed = packed[:place] + bytes(40) + packed[place + 40 :]
+        try:
+            for byte in harmed:
+                most += len(inner.decompress(bytes([byte]), 1))
+                while not inner.needs_input:
+                    most += len(inner.decompress(b"", 1))
+        except (OSError, lzma.LZMAError):
+            pass
+        try:
+            for piece in Unpacking().pieces(harmed):
+                kept += len(piece)
+        except Refused:
+            pass
+        expect(90_000 < most and most - 512 <= kept <= most, name, "has", kept, "of", most)
+
+
 def too_large() -> None:
     """An xz archive that wants more memory than there may be taken is refused; a very small one of much is not kept."""
     packed = bytearray(lzma.compress(LINE * 10))
     head = 12  # of the stream; then comes the head of the block, with the size of the dictionary, and its sum
     size = (packed[head] + 1) * 4
     place = packed.index(b"\x21\x01", head) + 2
-    packed[place] = 39  # 3 GiB
-    packed[head + size - 4 : head + size] = struct.pack("<I", zlib.crc32(packed[head : head + size - 4]))
-    same(heard([bytes(packed)]), (b"", "the xz archive wants too much memory"))
+    too_much = (b"", "the xz archive wants too much memory")
+    whole = heard([LINE * 10])
+    for code, wanted in ((28, whole), (29, too_much), (39, too_much)):  # 64 MiB, 96 MiB and 3 GiB
+        packed[place] = code
+        packed[head + size - 4 : head + size] = struct.pack("<I", zlib.crc32(packed[head : head + size - 4]))
+        same(heard([bytes(packed)]), wanted, code)
+    same(heard([lzma.compress(LINE * 10, preset=9 | lzma.PRESET_EXTREME)]), whole, "the highest preset")
     same(squitter_unpack.ROOM, 65_536)
     for name, pack in ARCHIVES.items():
         packed_zeros = pack(b"\n" * 50_000_000)
