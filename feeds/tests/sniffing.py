@@ -297,7 +297,8 @@ def little_is_lost() -> None:
     """A fault of a bzip2 or an xz archive takes at most 512 bytes with it that could be unpacked."""
     data = many_rows(5000)
     archives = (("bzip2", bz2.compress(data, 1), bz2.BZ2Decompressor()),
-                ("xz", lzma.compress(data), lzma.LZMADecompressor()))
+                ("xz", lzma.compress(data), lzma.LZMADecompressor()),
+                ("xz of like lines", lzma.compress(LINE * 10_000), lzma.LZMADecompressor()))
     for name, packed, inner in archives:
         place, most, kept = len(packed) * 3 // 4, 0, 0
         harmed = packed[:place] + bytes(40) + packed[place + 40 :]
@@ -332,8 +333,8 @@ def too_large() -> None:
     same(squitter_unpack.ROOM, 65_536)
     for name, pack in ARCHIVES.items():
         packed_zeros = pack(b"\n" * 50_000_000)
-        largest = max(len(piece) for piece in Unpacking().pieces(packed_zeros))
-        expect(largest <= squitter_unpack.ROOM, name, largest)
+        sizes = [len(piece) for piece in Unpacking().pieces(packed_zeros)]
+        expect(max(sizes) <= squitter_unpack.ROOM and sum(sizes) == 50_000_000, name, max(sizes), sum(sizes))
 
 
 def never_well() -> None:

@@ -6,7 +6,7 @@ import re
 import shutil
 import subprocess
 import threading
-from typing import List
+from typing import List, Tuple
 
 import firefox
 from logs import flights, tracked
@@ -41,7 +41,47 @@ def embedded(tries: Tries) -> str:
         same = ["node", "--input-type=module", "-e", SAME_CODE]
         done = subprocess.run(same, cwd=f"{TOP}/web", capture_output=True, text=True)
         expect(done.returncode == 0, done.stdout, done.stderr)
-    return f"{count} files"
+    return f"{count} files, {embedded_again(tries.work)} edits"
+
+
+def embedded_again(work: str) -> int:
+    """web/embed in a folder of its own: it names what differs, writes it, and refuses parts in another form. Returns
+    how many edits are tried."""
+    top = f"{work}/embed"
+    shutil.copytree(f"{TOP}/web", f"{top}/web", ignore=shutil.ignore_patterns("coastlines"))
+    for name in ("dist/squitter.wasm", "examples/flights.log"):
+        os.makedirs(os.path.dirname(f"{top}/{name}"))
+        shutil.copy(f"{TOP}/{name}", f"{top}/{name}")
+
+    def ran(*words: str) -> Tuple[int, str]:
+        done = subprocess.run([f"{top}/web/embed", *words], capture_output=True, text=True)
+        return done.returncode, done.stdout + done.stderr
+
+    other = re.findall(r"^export function (\w+)", read_text("web/squitter_layout.js"), re.M)[0]
+    order = "squitter_order.js"
+    rows = (
+        ("flights.js", "x\n", "web/flights.js: FAILED: web/embed writes something else\n"),
+        (order, "const text = `\n`;\n", f"web/{order} has a template literal that spans lines\n"),
+        (order, "export default 1;\n", f"web/{order} exports or imports in another form\n"),
+        (order, f"function {other}() {{}}\n", f"web/{order} has a function of another part: {other}\n"),
+        (order, "async function load() {}\n", "web/squitter.js has a function of another part: load\n"),
+    )
+    for name, added, said in rows:
+        with open(f"{top}/web/{name}", "a", encoding="ascii") as file:
+            file.write(added)
+        status, told = ran("--check")
+        expect(status == 1 and said in told, name, added, status, told)
+        if name != "flights.js":
+            shutil.copy(f"{TOP}/web/{name}", f"{top}/web/{name}")
+            continue
+        expect(told.count("as web/embed writes it\n") == 2, told)
+        expect(ran() == (0, "") and read_text("web/flights.js") == bytes_of(f"{top}/web/flights.js").decode(),
+               "written")
+        expect(ran("--check")[0] == 0, "after it is written")
+    for words in (("--chek",), ("--check", "x")):
+        status, told = ran(*words)
+        expect(status == 1 and told.startswith("embed [--check]: writes"), words, status, told)
+    return len(rows)
 
 
 def contrast(tries: Tries) -> str:
