@@ -223,7 +223,7 @@ class OfAnEdit(unittest.TestCase):
 
     def test_enums(self) -> None:
         self.refused("  SQUITTER_FEED_TAR = 6, ", "  SQUITTER_FEED_TAR, ", "SQUITTER_FEED_TAR,",
-                     "without a number")
+                     "a member of an enum without a number: SQUITTER_FEED_TAR$")
         enum = "/* The formats of `squitter track --format`. */\nenum {\n  SQUITTER_LINES = 0,"
         self.refused(enum, enum.replace("LINES", "LINE"), "enum {\n  SQUITTER_LINE =", "no name for this enum")
         self.refused(enum, enum.partition("\n")[2], "enum {\n  SQUITTER_LINES", "no comment above it")
