@@ -209,6 +209,14 @@ def as_floats() -> None:
     same(of_rows(as_pandas.replace("\n", "\r\n")), wanted)
     same(of_rows(as_pandas[:-1]), wanted, "no last line feed")
     same(of_rows(as_pandas.replace(",fix,", ',"fix",')), wanted, "quotes")
+    in_front = (HEADER + "01,000,fix,40621D,air,052.2572021,03.9193726,038000\n"
+                "002,0400,followed,40621D,air,052.5000000,-00.0000004,-025\n"
+                "3,500,followed,40621E,,-0.0000000,4.0000000,\n")
+    same(of_rows(in_front), wanted, "zeros in front")
+    for cell, feet in (("-0", 0), ("0", 0), ("-000025", -25), ("999999", 999_999), ("-999999", -999_999)):
+        same(features(of_rows(HEADER + GOOD.replace("-25", cell))[1])["40621D"]["properties"]["feet"], feet, cell)
+    zero = features(of_rows(HEADER + GOOD.replace("52.0000000,4.0000000", "0.0000000,-0.0000000"))[1])["40621D"]
+    same(zero["geometry"]["coordinates"], ["0.0000000", "0.0000000"])
 
 
 def named() -> None:
@@ -227,7 +235,8 @@ def named() -> None:
             told = f"row {before + 1} is no answer of track: {name} is {cell!r}, expected "
             expect((status, printed) == (1, "") and told in said and wanted in said, text[-200:], said)
             expect(said.count("\n") == 1, said)
-    for text, cell in ((GOOD.strip() + ",x\n", 9), ("1,0\n", 2), ("\n", 1)):
+    for text, cell in ((GOOD.strip() + ",x\n", 9), ("1,0\n", 2), ("\n", 1), ("1,0,waiting,40621D,air,,\n", 7),
+                       ("1,0,waiting,40621D,air,,,,\n", 9)):
         said = of_rows(HEADER + GOOD + text + GOOD)[2]
         told = f"row 2 is no answer of track: it has {cell} cells, expected 8: {HEADER.strip()}"
         expect(told in said or not text.strip(), said)
@@ -302,6 +311,26 @@ def one_place() -> None:
     for east, kind in (("89.9999999", "LineString"), ("90.0000000", "LineString"), ("90.0000001", "MultiLineString")):
         log, text = log_of_places((0, "4B1001", "1.0000000", "-90.0000000"), (1, "4B1001", "1.0000000", east))
         same(features(drawn(log, text)[1])["4B1001"]["geometry"]["type"], kind, east)
+
+
+def many_answers() -> None:
+    """Each of thousands of answers, as rows and beside their log, has its place. One that is wrong has its number."""
+    places = [(moment, f"{0x400000 + moment % 7:06X}", f"{moment % 90}.0000000", "1.0000000") for moment in range(9000)]
+    log, text = log_of_places(*places)
+    rows = HEADER + "".join(f"{line},{moment},fix,{address},,{lat},{lon},\n"
+                            for line, (moment, address, lat, lon) in enumerate(places, 1))
+    for drawing in (drawn(log, text), of_rows(rows)):
+        same((drawing[0], drawing[2]), (0, ""))
+        for address, one in features(drawing[1]).items():
+            wanted = [[lon, lat, moment] for moment, of, lat, lon in places if of == address]
+            same(lines_of(one), [wanted], address)
+            same(one["properties"]["line"], [moment + 1 for _, _, moment in wanted])
+    for number in (1, 4096, 4097, 9000):
+        lines = text.splitlines(True)
+        lines[number - 1] = lines[number - 1].replace(".0000000 1.", ".0000000 181.")
+        told = f"row {number} is no answer of track: lon is '181.0000000', expected degrees from -180 to 180"
+        status, printed, said = drawn(log, "".join(lines))
+        expect((status, printed) == (1, "") and told in said, number, said)
 
 
 def date_of(moment: int) -> str:
