@@ -1,4 +1,4 @@
-/* labels.js: places for labels on a map, none of which overlaps another, and pictures of labels. */
+/* labels.js: places for labels on a map, so that no label overlaps another, and pictures of labels. */
 "use strict";
 
 /** @typedef {{x: number, y: number, wide: number, high: number}} LabelBox  its left and top, in CSS pixels */

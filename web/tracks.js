@@ -199,7 +199,7 @@ function goesOn(before, piece) {
   return piece.joined && Math.abs(piece.lons[0] - before.lons[before.count - 1]) <= 180;
 }
 
-/** Returns the pieces in runs, each of which is one line. @param {Piece[]} pieces */
+/** Returns the pieces in runs: each run is one line. @param {Piece[]} pieces */
 function runsOf(pieces) {
   /** @type {Piece[][]} */
   const runs = [];

@@ -213,6 +213,11 @@ def as_floats() -> None:
                 "002,0400,followed,40621D,air,052.5000000,-00.0000004,-025\n"
                 "3,500,followed,40621E,,-0.0000000,4.0000000,\n")
     same(of_rows(in_front), wanted, "zeros in front")
+    spelled = {"line": ("1", "01", "1.0"), "moment": ("0", "00", "0.0"), "feet": ("-25", "-025", "-25.0"),
+               "lat": ("52.0000000", "052.0000000", "52"), "lon": ("4.0000000", "004.0000000", "4.0")}
+    for name, cells in spelled.items():
+        rows = [",".join({**dict(zip(COLUMNS, GOOD.strip().split(","))), name: cell}.values()) + "\n" for cell in cells]
+        same([of_rows(HEADER + row) for row in rows], [of_rows(HEADER + GOOD)] * 3, name)
     for cell, feet in (("-0", 0), ("0", 0), ("-000025", -25), ("999999", 999_999), ("-999999", -999_999)):
         same(features(of_rows(HEADER + GOOD.replace("-25", cell))[1])["40621D"]["properties"]["feet"], feet, cell)
     zero = features(of_rows(HEADER + GOOD.replace("52.0000000,4.0000000", "0.0000000,-0.0000000"))[1])["40621D"]
