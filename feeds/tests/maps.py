@@ -149,6 +149,8 @@ def columns() -> None:
         same((status, said), (0, ""), names)
         same(list(features(drawing)["40621D"]["properties"]),
              [name for name in [*COLUMNS[:5], "feet", "places"] if name not in names])
+    same(of_rows(HEADER.replace(",", " , ") + GOOD), of_rows(HEADER + GOOD), "spaces in the header")
+    expect("the header has no moment, answer, address, lat, lon; " in of_rows("kind,feet\nair,5\n")[2], "two columns")
     for name in ("moment", "answer", "address", "lat", "lon"):
         left = [other for other in COLUMNS if other != name]
         status, drawing, said = of_rows(",".join(left) + "\n" + ",".join(cells[other] for other in left) + "\n")
@@ -170,7 +172,8 @@ def foreign() -> None:
     same(drawn("x\n" * 99 + f"5 8D40621D{'0' * 20}\n", "")[0], 0, "a log whose first lines are damaged")
     same(drawn("x\n" * 100 + f"5 8D40621D{'0' * 20}\n", "")[0], 1, "a log whose first lines are all damaged")
     bad_cells = {
-        "lat": ["", "x", "90.0000001", "-90.0000001", "1234", "1.12345678", "\u0665.0000000", "1e1", "nan"],
+        "lat": ["", "x", "90.0000001", "-90.0000001", "1234", "1.12345678", "\u0665.0000000", "1e1", "nan",
+                "9" * 400],
         "lon": ["", "180.0000001", "-180.0000001", "+1"], "moment": ["", "-1", "1.5", "1" * 21, "\u0665"],
         "address": ["", "x", "40621d", "40621DD"], "kind": ["x"], "feet": ["high", "1.5", "1234567"],
         "line": ["x", "-1"],
@@ -218,6 +221,10 @@ def as_floats() -> None:
     for name, cells in spelled.items():
         rows = [",".join({**dict(zip(COLUMNS, GOOD.strip().split(","))), name: cell}.values()) + "\n" for cell in cells]
         same([of_rows(HEADER + row) for row in rows], [of_rows(HEADER + GOOD)] * 3, name)
+    late = GOOD.replace(",0,", f",{10**20 - 1},")
+    same(of_rows(HEADER + late.replace("9,fix", "9.0,fix")), of_rows(HEADER + late), "the longest timestamp as a float")
+    many = of_rows(HEADER + GOOD.replace("fix", '"fix"') + GOOD * 3000)
+    same(features(many[1])["40621D"]["properties"]["places"], 3001, "rows after a quote")
     for cell, feet in (("-0", 0), ("0", 0), ("-000025", -25), ("999999", 999_999), ("-999999", -999_999)):
         same(features(of_rows(HEADER + GOOD.replace("-25", cell))[1])["40621D"]["properties"]["feet"], feet, cell)
     zero = features(of_rows(HEADER + GOOD.replace("52.0000000,4.0000000", "0.0000000,-0.0000000"))[1])["40621D"]
@@ -302,6 +309,9 @@ def cut() -> None:
     same(found["A00002"]["geometry"], {"type": "Point", "coordinates": ["-0.5000000", "-33.9000000"]})
     same(found["A00002"]["properties"]["moment"], 16_003)
     same(len(lines_of(features(drawn(log, text, "--silence=10001")[1])["4B1001"])), 3, "--silence")
+    log, text = log_of_places((0, "4B1001", "0.0000000", "179.0000000"), (2, "4B1001", "0.0000000", "-179.0000000"))
+    same([line[at] for line, at in zip(lines_of(features(drawn(log, text)[1])["4B1001"]), (1, 0))],
+         [["180.0000000", "0.0000000", 1], ["-180.0000000", "0.0000000", 1]], "on the equator")
     same(features(drawn("", "")[1]), {}, "nothing")
 
 
@@ -376,6 +386,9 @@ def refusals() -> None:
     for other in (log[:2] + log[3:], "", log.replace("4B1001", "4B1002"), f"x\n{log}", log.splitlines(True)[0]):
         status, printed, said = drawn(other, text)
         expect((status, printed) == (1, "") and "not of this log" in said, other, status, said)
+    same(drawn(log.lower(), text), drawn(log, text), "a log in lower case")
+    said = drawn(log, f"{10**18} fix 4B1001 1.0000000 2.0000000\n")[2]
+    expect(f"answer {10**18} is not of this log" in said, "an answer beyond the log", said)
     for wrong in ("no answers\n", "{}\n", "\n", log):
         same(drawn("", wrong)[:2], (1, ""), wrong)
     same(drawn(log, text.replace("2 fix", "1 fix"))[0], 0, "an answer twice is no matter")
