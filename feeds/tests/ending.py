@@ -297,6 +297,17 @@ def ports() -> None:
         same(place_of(name), None, name)
 
 
+def pauses() -> None:
+    """A source is tried again after 1, 2, 4, 8, 16 and 32 seconds, and then after 60 each time."""
+    network = runpy.run_path(FEED)["NetworkSource"]
+    told: List[str] = []
+    network.lost.__globals__["tell"] = told.append
+    source = network("host", 5, None)
+    for _ in range(9):
+        source.lost("gone")
+    same(told, [f"gone; again in {seconds} s" for seconds in (1, 2, 4, 8, 16, 32, 60, 60, 60)])
+
+
 def closed_output() -> None:
     """Where the reader of the output goes away, what it did not take is counted; the status is 0."""
     with tempfile.TemporaryDirectory() as work:

@@ -247,11 +247,13 @@ def named() -> None:
             told = f"row {before + 1} is no answer of track: {name} is {cell!r}, expected "
             expect((status, printed) == (1, "") and told in said and wanted in said, text[-200:], said)
             expect(said.count("\n") == 1, said)
-    for text, cell in ((GOOD.strip() + ",x\n", 9), ("1,0\n", 2), ("\n", 1), ("1,0,waiting,40621D,air,,\n", 7),
+    for text, cell in ((GOOD.strip() + ",x\n", 9), ("1,0\n", 2), ("\n", 0), ("1,0,waiting,40621D,air,,\n", 7),
                        ("1,0,waiting,40621D,air,,,,\n", 9)):
         said = of_rows(HEADER + GOOD + text + GOOD)[2]
         told = f"row 2 is no answer of track: it has {cell} cells, expected 8: {HEADER.strip()}"
-        expect(told in said or not text.strip(), said)
+        expect(told in said, said)
+    said = of_rows(HEADER + GOOD.replace("fix", '"fix"') * 5000 + "\n")[2]
+    expect("row 5001 is no answer of track: it has 0 cells" in said, "rows with quotes", said)
     same(of_rows(HEADER + GOOD + "1,0,fix,40621D,air,52,4\n" + GOOD.strip() + ",x\n")[0], 1, "one less and one more")
     big = GOOD.replace(",0,", f",{10**20 - 1},", 1)
     found = features(of_rows(HEADER + GOOD * 3 + big + GOOD)[1])["40621D"]
@@ -312,6 +314,11 @@ def cut() -> None:
     log, text = log_of_places((0, "4B1001", "0.0000000", "179.0000000"), (2, "4B1001", "0.0000000", "-179.0000000"))
     same([line[at] for line, at in zip(lines_of(features(drawn(log, text)[1])["4B1001"]), (1, 0))],
          [["180.0000000", "0.0000000", 1], ["-180.0000000", "0.0000000", 1]], "on the equator")
+    for gap, east, at in ((10_000, "179.0000000", ("11.0000000", 5000)), (2, "180.0000000", ("10.0000000", 0))):
+        west = f"-{east}"
+        log, text = log_of_places((0, "4B1001", "10.0000000", east), (gap, "4B1001", "12.0000000", west))
+        lines = lines_of(features(drawn(log, text)[1])["4B1001"])
+        same((lines[0][1], lines[1][0]), (["180.0000000", *at], ["-180.0000000", *at]), gap, east)
     same(features(drawn("", "")[1]), {}, "nothing")
 
 

@@ -14,7 +14,7 @@ import time
 from contextlib import ExitStack, contextmanager
 from typing import Dict, Iterator, List, Sequence, Tuple
 
-from trying import AIR_EVEN, AIR_ODD, beast, clocked, expect, row, same
+from trying import AIR_EVEN, AIR_ODD, REPLY, beast, clocked, expect, row, same
 
 TOP = os.path.dirname(os.path.dirname(os.path.dirname(os.path.abspath(__file__))))
 FEED = f"{TOP}/feeds/squitter-feed"
@@ -28,6 +28,9 @@ def program() -> str:
 def ran(words: List[str], data: bytes = b"") -> Tuple[int, str, str]:
     done = subprocess.run([FEED, *words], input=data, capture_output=True, timeout=30)
     return done.returncode, done.stdout.decode(), done.stderr.decode()
+
+
+OF_TRACK = ("lat", "lon", "limit", "window", "format")
 
 
 def track(log: str, *words: str) -> str:
@@ -89,10 +92,31 @@ def files() -> None:
             same(track(printed), wanted, name, "by a pipe")
 
 
+def options() -> None:
+    """Each option by itself, and what is the rule without it."""
+    both = clocked(AIR_EVEN, 12_000 * 5000) + clocked(REPLY, 12_000 * 5001)
+    near, far = (log_of([(5000, AIR_EVEN), (5001, AIR_ODD), (5002, AIR_EVEN), (moment, AIR_ODD)]).encode()
+                 for moment in (605_002, 605_003))
+    late = log_of([(5000, AIR_EVEN), (5001, AIR_ODD), (4999, AIR_ODD)]).encode()
+    for data, words, wanted in (
+        (both, [], f"5000 {AIR_EVEN}\n"), (both, ["--all"], f"5000 {AIR_EVEN}\n5001 {REPLY}\n"),
+        (both, ["--arrival"], f"0 {AIR_EVEN}\n"), (both, ["--arrival", "--all"], f"0 {AIR_EVEN}\n0 {REPLY}\n"),
+        (near, [], near.decode()), (far, [], "".join(far.decode().splitlines(True)[:3])),
+        (far, ["--leap=600001"], far.decode()), (near, ["--leap=599999"], "".join(near.decode().splitlines(True)[:3])),
+        (late, [], f"5000 {AIR_EVEN}\n5001 {AIR_ODD}\n5001 {AIR_ODD}\n"),
+        (late, ["--reorder=2"], f"4999 {AIR_ODD}\n5000 {AIR_EVEN}\n5001 {AIR_ODD}\n"),
+    ):
+        with tempfile.NamedTemporaryFile() as file:
+            file.write(data)
+            file.flush()
+            same(ran([file.name, *words])[:2], (0, wanted), words)
+
+
 def refusals() -> None:
     """Statuses and texts: SBS, what is no feed, files that are not there, devices that are full, bad command lines."""
     status, printed, said = ran(["-"], b"MSG,3,1,1,4B1001,1,2026/11/23,22:00:00.000,,,,38000,,,52.1,4.2,,,0,0,0,0\n")
     expect((status, printed) == (1, "") and "SBS" in said and "30005" in said, said)
+    expect(said.startswith("squitter-feed: -: this is SBS"), said)
     rows: List[Tuple[List[str], int, str]] = [
         (["/nonesuch"], 3, "cannot read /nonesuch: No such file or directory; a port is given as HOST:PORT"),
         (["localhost"], 3, "cannot read localhost: No such file or directory; a port is given as HOST:PORT"),
@@ -102,6 +126,7 @@ def refusals() -> None:
         (["localhost:0"], 3, "a port is from 1 to 65535"),
         ([], 2, "the following arguments are required: SOURCE; give - for standard input"),
         (["-", "--lat=52.3"], 2, "unrecognized arguments: --lat=52.3; --lat is an option of squitter track"),
+        *((["-", f"--{name}=5"], 2, f"--{name} is an option of squitter track") for name in OF_TRACK),
         (["-", "--limits=5"], 2, "unrecognized arguments: --limits=5\n"),
         (["/"], 3, "Is a directory"),
         ([], 2, "SOURCE"),
