@@ -418,7 +418,7 @@ def addresses(browser: Chromium) -> None:
         expect(listed == ["", *(f"{16 * at:06X}" for at in range(1, 5001))], count, len(listed), listed[:3])
 
 
-# A panel that decodes, and answers to it: positions, in lines from a number on.
+# A panel that decodes, and answers to it: positions in lines from a number on, and a last one that waits.
 DECODING = """(() => {
   squitterLog.hear(exampleLog(), "example");
   squitterLog.stop();
@@ -426,7 +426,7 @@ DECODING = """(() => {
   byId("log-progress").value = 0;
   window.positions = (from, count) => {
     const all = (value) => new Array(count).fill(value), numbers = Array.from({ length: count }, (_, at) => from + at);
-    return { numbers, whats: all(1), addresses: all(1), kinds: all(1), lats: all(1), lons: all(2), evens: all(0),
+    return { numbers, whats: all(1).fill(3, -1), addresses: all(1), kinds: all(1), lats: all(1), lons: all(2), evens: all(0),
       odds: all(0), codes: all(0), firsts: all(0), feet: all(NaN), moments: BigUint64Array.from(numbers, BigInt) };
   };
   return [byId("play-button").disabled, byId("log-cancel").disabled, byId("log-state").textContent];
@@ -440,20 +440,23 @@ def while_decoding(browser: Chromium) -> None:
     look = "[byId('log-rows').textContent, byId('log-progress').value, byId('log-state').textContent, " \
            "squitterLog.tracks.count()]"
     rows = (
-        ("told({ answers: positions(1, 3) })", ["Results 1 to 3 of 3.", 0, "Decoding example.", 3]),
-        ("told({ done: 0.25 })", ["Results 1 to 3 of 3.", 0.25, "Decoding a.log: 3 results.", 3]),
-        ("told({ answers: positions(4, 2) })", ["Results 1 to 3 of 3.", 0.25, "Decoding a.log: 3 results.", 5]),
-        ("told({ done: 0.5 })", ["Results 1 to 3 of 3.", 0.5, "Decoding a.log: 5 results.", 5]),
-        ("end('cancelled')", ["Results 1 to 5 of 5.", 0.5, None, 5]),
+        ("told({ answers: positions(1, 3) })", ["Results 1 to 3 of 3.", 0, "Decoding example.", 2]),
+        ("told({ done: 0.25 })", ["Results 1 to 3 of 3.", 0.25, "Decoding a.log: 3 results.", 2]),
+        ("told({ answers: positions(4, 2) })", ["Results 1 to 3 of 3.", 0.25, "Decoding a.log: 3 results.", 3]),
+        ("told({ done: 0.5 })", ["Results 1 to 3 of 3.", 0.5, "Decoding a.log: 5 results.", 3]),
+        ("map.select(1)", ["Results 1 to 3 of 3.", 0.5, "Decoding a.log: 5 results.", 3]),
+        ("end('cancelled')", ["Results 1 to 5 of 5.", 0.5, None, 3]),
     )
     for call, wanted in rows:
         got = browser.evaluate(f"(squitterLog.{call}, {look})")
         expect(got[:2] == wanted[:2] and got[3] == wanted[3] and wanted[2] in (None, got[2]), call, got, wanted)
-    expect(got[2].startswith("a.log: cancelled. 5 lines, 5 positions, 0 refused, in "), got)
+    expect(got[2].startswith("a.log: cancelled. 5 lines, 3 positions, 0 refused, in "), got)
     shown_now = browser.evaluate("['play-button', 'log-cancel', 'log-csv'].map((name) => byId(name).disabled)")
     expect(shown_now == [False, True, False], "a cancelled log:", shown_now)
     names = browser.evaluate("[...byId('map-address').options].map((one) => one.value)")
     expect(names == ["", "000001"], "the aircraft of a cancelled log:", names)
+    chosen = browser.evaluate("[squitterLog.map.address, byId('map-address').value]")
+    expect(chosen == [1, "000001"], "selected while it is decoded:", chosen)
     failed = browser.evaluate("(squitterLog.told({ failed: 'why' }), byId('log-state').textContent)")
     expect(failed.startswith("a.log: not decoded to its end (why). 5 lines"), failed)
 

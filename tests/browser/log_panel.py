@@ -258,6 +258,7 @@ def heard_again(tries: Tries) -> str:
     changed(browser, log_window="400")
     got, wanted = heard(browser), tracked(tries.program, of_address(log, "484004"), (400, 1000, SITE))
     expect(got == wanted, "another file since:", first_difference(got, wanted))
+    typed(browser, log_lat="", log_lon="")
     clicked(browser, "#log-example")
     heard(browser)
     changed(browser, log_window="300")
