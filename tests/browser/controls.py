@@ -426,7 +426,8 @@ DECODING = """(() => {
   byId("log-progress").value = 0;
   window.positions = (from, count) => {
     const all = (value) => new Array(count).fill(value), numbers = Array.from({ length: count }, (_, at) => from + at);
-    return { numbers, whats: all(1).fill(3, -1), addresses: all(1), kinds: all(1), lats: all(1), lons: all(2), evens: all(0),
+    return { numbers, whats: all(1).fill(3, -1), addresses: all(1),
+      kinds: all(1), lats: all(1), lons: all(2), evens: all(0),
       odds: all(0), codes: all(0), firsts: all(0), feet: all(NaN), moments: BigUint64Array.from(numbers, BigInt) };
   };
   return [byId("play-button").disabled, byId("log-cancel").disabled, byId("log-state").textContent];
