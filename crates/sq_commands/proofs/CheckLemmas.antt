@@ -1,6 +1,5 @@
 -- From a run of any lines to one of `check`.
 use Rattle.std.proofs.Common.{◌≡◌, ◌∙◌, ℕ, List, [], ◌∷◌, Result, Ok, Err, IfOk, ap, subst, refl}
-use Rattle.std.specs.Prelude.{map}
 use Rattle.sq_devices.specs.Changes.{Taken, TookReported, Written}
 use Rattle.sq_message.specs.declared.squitter.Squitter.{Squitter}
 use Rattle.sq_text.specs.Reading.{IsSquitterReading, SquitterReader}

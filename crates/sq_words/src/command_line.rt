@@ -241,7 +241,7 @@ const CHECK: CommandHelp = CommandHelp {
        it waits for standard input; lines with a time are for 'squitter track'",
     after: "Prints the number of each line, and then 'ok' with the address, the kind, the parity and the encoded
 position, or the error:
-  long line       the line has more than 64 bytes
+  long line       more than 64 bytes; for a receiver's bytes, such as Beast, see 'squitter feed'
   bad wrapping    there is '*' without ';', or ';' without '*'
   short frame     14 digits: a message of 56 bits, which carries no position
   bad length N    the frame has N characters, not 28; lines with a time are for 'squitter track'
@@ -285,6 +285,7 @@ const TRACK: CommandHelp = CommandHelp {
   split, far      the even and the odd frame give no position
   no site         an aircraft on the ground; give your receiver's position by --lat and --lon
   no position     a message of another kind
+  long line       more than 64 bytes; 'squitter feed' makes a log of a receiver's bytes (Beast, AVR)
   bad moment      the line has no time; 'squitter-feed' adds one
   moment back N   the time is before N, that of an earlier line
   table full      more aircraft than --limit within the window; raise --limit
