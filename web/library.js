@@ -530,7 +530,7 @@ class Log {
     this.#columnRoom = null;
   }
   #pieces(piece, hear) {
-    const bytes = bytesOf(piece);
+    const bytes = typeof piece === "string" ? new TextEncoder().encode(piece) : bytesOf(piece);
     if (!this.#listener.rooms.piece) return hear(this.#library.memory.zerosAt, 0);
     for (let from = 0; from < bytes.length; from += PIECE_BYTES) {
       const part = bytes.subarray(from, from + PIECE_BYTES);

@@ -240,12 +240,12 @@ export interface Tally {
 export declare class Log {
   /** Creates a log without lines. Faults: BAD_POSITION (the site), NO_LIMIT. */
   constructor(library: Squitter, settings?: Settings);
-  /** Returns the results of the lines that end in this piece. Fault: NO_TRACKER. */
-  take(piece: BufferSource): Answers;
+  /** Returns the results of the lines that end in this piece. A text counts as its UTF-8 bytes. Fault: NO_TRACKER. */
+  take(piece: BufferSource | string): Answers;
   /** Returns the result of the last line if it has no line feed. Fault: NO_TRACKER. */
   finish(): Answers;
   /** Returns the results of the lines that end in this piece, as text. Faults: NO_TRACKER, BAD_FORMAT. */
-  takeText(piece: BufferSource, format?: Format): string;
+  takeText(piece: BufferSource | string, format?: Format): string;
   /** Returns the result of the last line if it has no line feed, as text. Faults: NO_TRACKER, BAD_FORMAT. */
   finishText(format?: Format): string;
   /** Returns the header of a format: the column names of CSV; empty for other formats. */
@@ -331,7 +331,12 @@ export interface Counts {
 }
 
 /** Finds the squitters in a receiver's bytes, with their timestamps in milliseconds. The bytes come in pieces of any
- * length, with their arrival times in milliseconds (0 by default). */
+ * length, with their arrival times in milliseconds (0 by default). This prints the positions in a recording:
+ *
+ *     const feed = new Feed(squitter), log = new Log(squitter);
+ *     process.stdout.write(log.takeText(feed.takeText(readFileSync("recording.bin"))));
+ *     process.stdout.write(log.takeText(feed.finishText()) + log.finishText());
+ */
 export declare class Feed {
   /** Creates a feed at the start of a source. Fault: BAD_FORMAT. */
   constructor(library: Squitter, settings?: FeedSettings);

@@ -116,8 +116,8 @@ export class Log {
   /** Returns the results of the lines that end in this piece, as columns: `numbers` of the lines, `moments` (ms),
    * `whats` (see What; 0 for a refused line), `addresses` (-1 for a refused line), `kinds`, `lats` and `lons` in
    * degrees (NaN without a position), `feet` (NaN without an altitude), `evens` and `odds` (NL, for SPLIT), `codes` (0
-   * for a good line) and `firsts`, the first numbers of faults. Throws a TypeError unless the piece is an ArrayBuffer
-   * or a view. Fault: NO_TRACKER. */
+   * for a good line) and `firsts`, the first numbers of faults. A text counts as its UTF-8 bytes. Throws a TypeError
+   * unless the piece is a text, an ArrayBuffer or a view. Fault: NO_TRACKER. */
   take(piece) {
     return this.#columns((hear) => this.#pieces(piece, (at, count) => hear("log_take", at, count)));
   }
@@ -159,7 +159,7 @@ export class Log {
 
   /** Passes a piece to `hear` in parts that fit the memory. */
   #pieces(piece, hear) {
-    const bytes = bytesOf(piece);
+    const bytes = typeof piece === "string" ? new TextEncoder().encode(piece) : bytesOf(piece);
     if (!this.#listener.rooms.piece) return hear(this.#library.memory.zerosAt, 0);
     for (let from = 0; from < bytes.length; from += PIECE_BYTES) {
       const part = bytes.subarray(from, from + PIECE_BYTES);

@@ -105,12 +105,9 @@ const REFUSED = [
   [Code.BAD_FORMAT, () => new Log(library).finishText(3)],
   [Code.NO_TRACKER, () => gone.take([1n], new Uint8Array(14))],
   [Code.NO_TRACKER, () => gone.take([], new Uint8Array(0))],
-  [Code.NO_TRACKER, () => gone.flush()],
-  [Code.NO_TRACKER, () => gone.held],
-  [RangeError, () => new Order(library, -1)],
-  [RangeError, () => new Order(library, 1n << 64n)],
-  [TypeError, () => new Order(library, 1.5)],
-  [TypeError, () => new Order(library)],
+  [Code.NO_TRACKER, () => gone.flush()], [Code.NO_TRACKER, () => gone.held],
+  [RangeError, () => new Order(library, -1)], [RangeError, () => new Order(library, 1n << 64n)],
+  [TypeError, () => new Order(library, 1.5)], [TypeError, () => new Order(library)],
   [RangeError, () => new Order(library, 0).take([1n], new Uint8Array(13))],
   [RangeError, () => new Order(library, 0).take([1n], new Uint8Array(28))],
   [RangeError, () => new Order(library, 0).take([-1], new Uint8Array(14))],
@@ -120,8 +117,7 @@ const REFUSED = [
   [Code.NO_TRACKER, () => over.takeText(new Uint8Array(1))],
   [Code.NO_TRACKER, () => over.finishText()],
   [Code.NO_TRACKER, () => over.disconnected()],
-  [Code.NO_TRACKER, () => over.counts],
-  [Code.NO_TRACKER, () => over.format],
+  [Code.NO_TRACKER, () => over.counts], [Code.NO_TRACKER, () => over.format],
   [Code.NO_TRACKER, () => over.stranger],
   [Code.BAD_FORMAT, () => new Feed(library, { format: 5 })],
   [Code.BAD_FORMAT, () => new Feed(library, { format: -1 })],
@@ -135,7 +131,6 @@ const REFUSED = [
   [RangeError, () => new Feed(library).finishText(1n << 64n)],
   [TypeError, () => new Feed(library).take("x")],
   [TypeError, () => new Feed(library).takeText([1])],
-  [TypeError, () => new Log(library).take("5 x")],
   [TypeError, () => new Log(library).take([53])],
   [TypeError, () => new Log(library).takeText(5)],
   [TypeError, () => new Log(library).take(null)],
@@ -229,7 +224,7 @@ const DEGREES = [
 
 /** Calls, each with the words of its error. */
 const HINTS = [
-  [() => new Log(library).takeText("5 x"),
+  [() => new Feed(library).takeText("5 x"),
     "a piece is an ArrayBuffer or a view of one; new TextEncoder().encode(text) makes one of a text"],
   [() => new Log(library).take(5), "a piece is an ArrayBuffer or a view of one"],
   [() => library.local(FRAME, { lat: 52, lng: 4 }), "a position is {lat, lon}, in degrees"],
@@ -548,6 +543,15 @@ function piecesOfBytes() {
   }
 }
 
+/** Tests a log in texts: the lines of a feed, and letters of two bytes in UTF-8. */
+function piecesOfText() {
+  const feed = new Feed(library), log = new Log(library), beast = [[1, EVEN], [2, ODD]];
+  const source = together(beast.map(([seconds, frame]) => beastMessage("3", 12_000_000 * seconds, frame)));
+  const texts = [log.takeText(feed.takeText(source)), log.takeText(feed.finishText()), log.takeText("5 \u00e9\u00e9\n")];
+  const wanted = "1 waiting 40621D\n2 fix 40621D 52.2657802 3.9389125\n3 bad length 4\n";
+  if (texts.join("") !== wanted || log.take(`9 ${EVEN}\n\n9`).whats.length !== 1) throw new Error(texts.join(""));
+}
+
 const EVEN = FRAME, ODD = "8D40621D58C386435CC412692AD6", ALL_CALL = "5D4840D6F83D31";
 const hexadecimalBytes = (text) => Uint8Array.from(text.match(/../g), (digits) => parseInt(digits, 16));
 
@@ -769,6 +773,7 @@ async function refusals() {
   statesInMemory();
   copiesOfSettings();
   piecesOfBytes();
+  piecesOfText();
   formatsOfSources();
   feedsInPieces();
   largeFeeds();
