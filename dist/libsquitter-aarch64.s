@@ -256,8 +256,8 @@
 	adrp	x8, ".Lswitch.table.sq_text::faults::push_fault::<=512>"
 	add	x8, x8, :lo12:".Lswitch.table.sq_text::faults::push_fault::<=512>"
 	ldr	x9, [x0, #64]
-	adrp	x11, ".Lswitch.table.sq_text::faults::push_fault::<=512>.330"
-	add	x11, x11, :lo12:".Lswitch.table.sq_text::faults::push_fault::<=512>.330"
+	adrp	x11, ".Lswitch.table.sq_text::faults::push_fault::<=512>.328"
+	add	x11, x11, :lo12:".Lswitch.table.sq_text::faults::push_fault::<=512>.328"
 	ldr	x8, [x8, x10, lsl #3]
 	ldr	x10, [x11, x10, lsl #3]
 	mov	x12, x9
@@ -7681,8 +7681,8 @@
 	cbnz	w8, .LBB26_8
 	ldrb	w9, [x22, #2]
 	ldr	x8, [x22, #32]
-	adrp	x10, ".Lswitch.table.sq_feed::beast::Beast::take_byte.322"
-	add	x10, x10, :lo12:".Lswitch.table.sq_feed::beast::Beast::take_byte.322"
+	adrp	x10, ".Lswitch.table.sq_feed::beast::Beast::take_byte.320"
+	add	x10, x10, :lo12:".Lswitch.table.sq_feed::beast::Beast::take_byte.320"
 	ldr	x10, [x10, x9, lsl #3]
 	add	x9, x8, #1
 	cmp	x10, x9
@@ -7766,8 +7766,8 @@
 	add	x11, x1, x10
 	add	x12, x10, #1
 	strb	w9, [x11, #8]
-	adrp	x9, ".Lswitch.table.sq_feed::beast::Beast::take_byte.322"
-	add	x9, x9, :lo12:".Lswitch.table.sq_feed::beast::Beast::take_byte.322"
+	adrp	x9, ".Lswitch.table.sq_feed::beast::Beast::take_byte.320"
+	add	x9, x9, :lo12:".Lswitch.table.sq_feed::beast::Beast::take_byte.320"
 	str	x12, [x1, #32]
 	ldr	x9, [x9, x8, lsl #3]
 	cmp	x12, x9
@@ -7836,8 +7836,8 @@
 	add	x9, x1, x10
 	add	x11, x10, #1
 	strb	w2, [x9, #8]
-	adrp	x9, ".Lswitch.table.sq_feed::beast::Beast::take_byte.322"
-	add	x9, x9, :lo12:".Lswitch.table.sq_feed::beast::Beast::take_byte.322"
+	adrp	x9, ".Lswitch.table.sq_feed::beast::Beast::take_byte.320"
+	add	x9, x9, :lo12:".Lswitch.table.sq_feed::beast::Beast::take_byte.320"
 	str	x11, [x1, #32]
 	ldr	x9, [x9, x8, lsl #3]
 	cmp	x11, x9
@@ -19477,10 +19477,10 @@
 .Lfunc_end71:
 	.size	"sq_track::tracker::look_through::<#bd73a11ec42be588>", .Lfunc_end71-"sq_track::tracker::look_through::<#bd73a11ec42be588>"
 
-	.section	".text.unlikely.sq_lines::marked_bytes::MarkedBytes::close","ax",@progbits
+	.section	".text.unlikely.sq_log::marked_bytes::MarkedBytes::close","ax",@progbits
 	.p2align	2
-	.type	"sq_lines::marked_bytes::MarkedBytes::close",@function
-"sq_lines::marked_bytes::MarkedBytes::close":
+	.type	"sq_log::marked_bytes::MarkedBytes::close",@function
+"sq_log::marked_bytes::MarkedBytes::close":
 	ldr	x9, [x0, #152]
 	ldr	x10, [x0, #136]
 	mov	w8, #65
@@ -19504,9 +19504,9 @@
 	adrp	x1, .Lstatic.67
 	add	x1, x1, :lo12:.Lstatic.67
 	mov	w2, #1
-	b	"sq_lines::marked_bytes::MarkedBytes::fill_part"
+	b	"sq_log::marked_bytes::MarkedBytes::fill_part"
 .Lfunc_end72:
-	.size	"sq_lines::marked_bytes::MarkedBytes::close", .Lfunc_end72-"sq_lines::marked_bytes::MarkedBytes::close"
+	.size	"sq_log::marked_bytes::MarkedBytes::close", .Lfunc_end72-"sq_log::marked_bytes::MarkedBytes::close"
 
 	.section	.rodata.cst16,"aM",@progbits,16
 	.p2align	4, 0x0
@@ -19527,10 +19527,10 @@
 	.byte	32
 	.byte	64
 	.byte	128
-	.section	".text.unlikely.sq_lines::marked_bytes::MarkedBytes::fill_part","ax",@progbits
+	.section	".text.unlikely.sq_log::marked_bytes::MarkedBytes::fill_part","ax",@progbits
 	.p2align	2
-	.type	"sq_lines::marked_bytes::MarkedBytes::fill_part",@function
-"sq_lines::marked_bytes::MarkedBytes::fill_part":
+	.type	"sq_log::marked_bytes::MarkedBytes::fill_part",@function
+"sq_log::marked_bytes::MarkedBytes::fill_part":
 	stp	x29, x30, [sp, #-32]!
 	add	x8, x0, #65
 	stp	x20, x19, [sp, #16]
@@ -19628,7 +19628,7 @@
 	b.eq	.LBB73_7
 	b	.LBB73_4
 .Lfunc_end73:
-	.size	"sq_lines::marked_bytes::MarkedBytes::fill_part", .Lfunc_end73-"sq_lines::marked_bytes::MarkedBytes::fill_part"
+	.size	"sq_log::marked_bytes::MarkedBytes::fill_part", .Lfunc_end73-"sq_log::marked_bytes::MarkedBytes::fill_part"
 
 	.section	.rodata.cst16,"aM",@progbits,16
 	.p2align	4, 0x0
@@ -19970,7 +19970,7 @@
 	sub	x21, x3, x30
 	mov	x19, x6
 	mov	x20, x30
-	bl	"sq_lines::marked_bytes::MarkedBytes::fill_part"
+	bl	"sq_log::marked_bytes::MarkedBytes::fill_part"
 	ldp	x7, x3, [sp, #144]
 	mov	x1, x21
 	ldp	x4, x5, [x29, #-144]
@@ -22194,7 +22194,7 @@
 	add	x1, x8, x23
 	ldr	x8, [sp, #128]
 	sub	x2, x8, x23
-	bl	"sq_lines::marked_bytes::MarkedBytes::fill_part"
+	bl	"sq_log::marked_bytes::MarkedBytes::fill_part"
 	ldr	x8, [x26, #200]
 	cbnz	x8, .LBB77_13
 	b	.LBB77_7
@@ -22854,11 +22854,11 @@
 .LBB77_85:
 	str	x8, [sp, #688]
 .LBB77_86:
-	adrp	x8, ".Lswitch.table.squitter_c::log_text::write_some::<#bd73a11ec42be588>.324"
-	add	x8, x8, :lo12:".Lswitch.table.squitter_c::log_text::write_some::<#bd73a11ec42be588>.324"
+	adrp	x8, ".Lswitch.table.squitter_c::log_text::write_some::<#bd73a11ec42be588>.322"
+	add	x8, x8, :lo12:".Lswitch.table.squitter_c::log_text::write_some::<#bd73a11ec42be588>.322"
 	ldr	x10, [sp, #688]
-	adrp	x9, ".Lswitch.table.squitter_c::log_text::write_some::<#bd73a11ec42be588>.325"
-	add	x9, x9, :lo12:".Lswitch.table.squitter_c::log_text::write_some::<#bd73a11ec42be588>.325"
+	adrp	x9, ".Lswitch.table.squitter_c::log_text::write_some::<#bd73a11ec42be588>.323"
+	add	x9, x9, :lo12:".Lswitch.table.squitter_c::log_text::write_some::<#bd73a11ec42be588>.323"
 	ldr	x24, [x8, x22, lsl #3]
 	ldr	x1, [x9, x22, lsl #3]
 	add	x27, sp, #176
@@ -22884,15 +22884,15 @@
 	ldrh	w10, [x10, x12]
 	strb	w21, [x13]
 	sturh	w9, [x13, #1]
-	adrp	x9, ".Lswitch.table.squitter_c::log_text::write_some::<#bd73a11ec42be588>.328"
-	add	x9, x9, :lo12:".Lswitch.table.squitter_c::log_text::write_some::<#bd73a11ec42be588>.328"
+	adrp	x9, ".Lswitch.table.squitter_c::log_text::write_some::<#bd73a11ec42be588>.326"
+	add	x9, x9, :lo12:".Lswitch.table.squitter_c::log_text::write_some::<#bd73a11ec42be588>.326"
 	sturh	w10, [x13, #3]
 	ldr	w10, [sp, #152]
 	strb	w21, [x13, #7]
 	add	x21, x8, #8
 	ldr	x24, [x9, w10, uxtw #3]
-	adrp	x9, ".Lswitch.table.squitter_c::log_text::write_some::<#bd73a11ec42be588>.329"
-	add	x9, x9, :lo12:".Lswitch.table.squitter_c::log_text::write_some::<#bd73a11ec42be588>.329"
+	adrp	x9, ".Lswitch.table.squitter_c::log_text::write_some::<#bd73a11ec42be588>.327"
+	add	x9, x9, :lo12:".Lswitch.table.squitter_c::log_text::write_some::<#bd73a11ec42be588>.327"
 	ldr	x1, [x9, w10, uxtw #3]
 	add	x0, x27, x21
 	sturh	w11, [x13, #5]
@@ -23273,15 +23273,15 @@
 .LBB77_113:
 	str	x8, [sp, #688]
 .LBB77_114:
-	adrp	x8, ".Lswitch.table.squitter_c::log_text::write_some::<#bd73a11ec42be588>.324"
-	add	x8, x8, :lo12:".Lswitch.table.squitter_c::log_text::write_some::<#bd73a11ec42be588>.324"
+	adrp	x8, ".Lswitch.table.squitter_c::log_text::write_some::<#bd73a11ec42be588>.322"
+	add	x8, x8, :lo12:".Lswitch.table.squitter_c::log_text::write_some::<#bd73a11ec42be588>.322"
 	ldr	x9, [sp, #688]
 	adrp	x10, .LCPI77_9
 	ldr	x24, [x8, x22, lsl #3]
 	add	x27, sp, #176
 	ldr	d0, [x10, :lo12:.LCPI77_9]
-	adrp	x10, ".Lswitch.table.squitter_c::log_text::write_some::<#bd73a11ec42be588>.325"
-	add	x10, x10, :lo12:".Lswitch.table.squitter_c::log_text::write_some::<#bd73a11ec42be588>.325"
+	adrp	x10, ".Lswitch.table.squitter_c::log_text::write_some::<#bd73a11ec42be588>.323"
+	add	x10, x10, :lo12:".Lswitch.table.squitter_c::log_text::write_some::<#bd73a11ec42be588>.323"
 	ldr	x1, [x10, x22, lsl #3]
 	add	x21, x9, #11
 	add	x11, x27, x9
@@ -23322,12 +23322,12 @@
 	ldr	w12, [sp, #152]
 	adrp	x10, .LCPI77_12
 	sturh	w11, [x9, #17]
-	adrp	x11, ".Lswitch.table.squitter_c::log_text::write_some::<#bd73a11ec42be588>.328"
-	add	x11, x11, :lo12:".Lswitch.table.squitter_c::log_text::write_some::<#bd73a11ec42be588>.328"
+	adrp	x11, ".Lswitch.table.squitter_c::log_text::write_some::<#bd73a11ec42be588>.326"
+	add	x11, x11, :lo12:".Lswitch.table.squitter_c::log_text::write_some::<#bd73a11ec42be588>.326"
 	ldr	d0, [x10, :lo12:.LCPI77_12]
 	ldr	x24, [x11, w12, uxtw #3]
-	adrp	x10, ".Lswitch.table.squitter_c::log_text::write_some::<#bd73a11ec42be588>.329"
-	add	x10, x10, :lo12:".Lswitch.table.squitter_c::log_text::write_some::<#bd73a11ec42be588>.329"
+	adrp	x10, ".Lswitch.table.squitter_c::log_text::write_some::<#bd73a11ec42be588>.327"
+	add	x10, x10, :lo12:".Lswitch.table.squitter_c::log_text::write_some::<#bd73a11ec42be588>.327"
 	ldr	x1, [x10, w12, uxtw #3]
 	mov	w10, #8762
 	mov	x2, x24
@@ -25837,8 +25837,8 @@
 	adrp	x8, ".Lswitch.table.sq_text::faults::push_fault::<=512>"
 	add	x8, x8, :lo12:".Lswitch.table.sq_text::faults::push_fault::<=512>"
 	ldr	x12, [x0, #512]
-	adrp	x13, ".Lswitch.table.sq_text::faults::push_fault::<=512>.330"
-	add	x13, x13, :lo12:".Lswitch.table.sq_text::faults::push_fault::<=512>.330"
+	adrp	x13, ".Lswitch.table.sq_text::faults::push_fault::<=512>.328"
+	add	x13, x13, :lo12:".Lswitch.table.sq_text::faults::push_fault::<=512>.328"
 	ldr	x8, [x8, x11, lsl #3]
 	ldrb	w10, [x1, #1]
 	ldr	w9, [x1, #4]
@@ -34910,7 +34910,7 @@ squitter_log_finish:
 .LBB136_12:
 	add	x8, sp, #16
 	add	x0, x8, #40
-	bl	"sq_lines::marked_bytes::MarkedBytes::close"
+	bl	"sq_log::marked_bytes::MarkedBytes::close"
 	adrp	x2, .Lstatic.0
 	add	x2, x2, :lo12:.Lstatic.0
 	sub	x0, x29, #48
@@ -35850,7 +35850,7 @@ squitter_log_finish_text:
 .LBB139_14:
 	add	x8, sp, #16
 	add	x0, x8, #40
-	bl	"sq_lines::marked_bytes::MarkedBytes::close"
+	bl	"sq_log::marked_bytes::MarkedBytes::close"
 	adrp	x3, .Lstatic.0
 	add	x3, x3, :lo12:.Lstatic.0
 	sub	x0, x29, #48
@@ -36756,14 +36756,14 @@ squitter_local_zones:
 	.ascii	"other"
 	.size	.Lstatic.92, 5
 
-	.type	".Lswitch.table.sq_feed::beast::Beast::take_byte.322",@object
-	.section	".rodata..Lswitch.table.sq_feed::beast::Beast::take_byte.322","a",@progbits
+	.type	".Lswitch.table.sq_feed::beast::Beast::take_byte.320",@object
+	.section	".rodata..Lswitch.table.sq_feed::beast::Beast::take_byte.320","a",@progbits
 	.p2align	3, 0x0
-".Lswitch.table.sq_feed::beast::Beast::take_byte.322":
+".Lswitch.table.sq_feed::beast::Beast::take_byte.320":
 	.xword	9
 	.xword	14
 	.xword	21
-	.size	".Lswitch.table.sq_feed::beast::Beast::take_byte.322", 24
+	.size	".Lswitch.table.sq_feed::beast::Beast::take_byte.320", 24
 
 	.type	".Lswitch.table.sq_feed::reader::Reader::find",@object
 	.section	".rodata..Lswitch.table.sq_feed::reader::Reader::find","a",@progbits
@@ -36774,10 +36774,10 @@ squitter_local_zones:
 	.xword	14
 	.size	".Lswitch.table.sq_feed::reader::Reader::find", 24
 
-	.type	".Lswitch.table.squitter_c::log_text::write_some::<#bd73a11ec42be588>.324",@object
-	.section	".rodata..Lswitch.table.squitter_c::log_text::write_some::<#bd73a11ec42be588>.324","a",@progbits
+	.type	".Lswitch.table.squitter_c::log_text::write_some::<#bd73a11ec42be588>.322",@object
+	.section	".rodata..Lswitch.table.squitter_c::log_text::write_some::<#bd73a11ec42be588>.322","a",@progbits
 	.p2align	3, 0x0
-".Lswitch.table.squitter_c::log_text::write_some::<#bd73a11ec42be588>.324":
+".Lswitch.table.squitter_c::log_text::write_some::<#bd73a11ec42be588>.322":
 	.xword	3
 	.xword	8
 	.xword	7
@@ -36785,12 +36785,12 @@ squitter_local_zones:
 	.xword	3
 	.xword	7
 	.xword	11
-	.size	".Lswitch.table.squitter_c::log_text::write_some::<#bd73a11ec42be588>.324", 56
+	.size	".Lswitch.table.squitter_c::log_text::write_some::<#bd73a11ec42be588>.322", 56
 
-	.type	".Lswitch.table.squitter_c::log_text::write_some::<#bd73a11ec42be588>.325",@object
-	.section	".data.rel.ro..Lswitch.table.squitter_c::log_text::write_some::<#bd73a11ec42be588>.325","aw",@progbits
+	.type	".Lswitch.table.squitter_c::log_text::write_some::<#bd73a11ec42be588>.323",@object
+	.section	".data.rel.ro..Lswitch.table.squitter_c::log_text::write_some::<#bd73a11ec42be588>.323","aw",@progbits
 	.p2align	3, 0x0
-".Lswitch.table.squitter_c::log_text::write_some::<#bd73a11ec42be588>.325":
+".Lswitch.table.squitter_c::log_text::write_some::<#bd73a11ec42be588>.323":
 	.xword	.Lstatic.83
 	.xword	.Lstatic.84
 	.xword	.Lstatic.85
@@ -36798,25 +36798,25 @@ squitter_local_zones:
 	.xword	.Lstatic.87
 	.xword	.Lstatic.19
 	.xword	.Lstatic.88
-	.size	".Lswitch.table.squitter_c::log_text::write_some::<#bd73a11ec42be588>.325", 56
+	.size	".Lswitch.table.squitter_c::log_text::write_some::<#bd73a11ec42be588>.323", 56
 
-	.type	".Lswitch.table.squitter_c::log_text::write_some::<#bd73a11ec42be588>.328",@object
-	.section	".rodata..Lswitch.table.squitter_c::log_text::write_some::<#bd73a11ec42be588>.328","a",@progbits
+	.type	".Lswitch.table.squitter_c::log_text::write_some::<#bd73a11ec42be588>.326",@object
+	.section	".rodata..Lswitch.table.squitter_c::log_text::write_some::<#bd73a11ec42be588>.326","a",@progbits
 	.p2align	3, 0x0
-".Lswitch.table.squitter_c::log_text::write_some::<#bd73a11ec42be588>.328":
+".Lswitch.table.squitter_c::log_text::write_some::<#bd73a11ec42be588>.326":
 	.xword	3
 	.xword	6
 	.xword	5
-	.size	".Lswitch.table.squitter_c::log_text::write_some::<#bd73a11ec42be588>.328", 24
+	.size	".Lswitch.table.squitter_c::log_text::write_some::<#bd73a11ec42be588>.326", 24
 
-	.type	".Lswitch.table.squitter_c::log_text::write_some::<#bd73a11ec42be588>.329",@object
-	.section	".data.rel.ro..Lswitch.table.squitter_c::log_text::write_some::<#bd73a11ec42be588>.329","aw",@progbits
+	.type	".Lswitch.table.squitter_c::log_text::write_some::<#bd73a11ec42be588>.327",@object
+	.section	".data.rel.ro..Lswitch.table.squitter_c::log_text::write_some::<#bd73a11ec42be588>.327","aw",@progbits
 	.p2align	3, 0x0
-".Lswitch.table.squitter_c::log_text::write_some::<#bd73a11ec42be588>.329":
+".Lswitch.table.squitter_c::log_text::write_some::<#bd73a11ec42be588>.327":
 	.xword	.Lstatic.90
 	.xword	.Lstatic.91
 	.xword	.Lstatic.92
-	.size	".Lswitch.table.squitter_c::log_text::write_some::<#bd73a11ec42be588>.329", 24
+	.size	".Lswitch.table.squitter_c::log_text::write_some::<#bd73a11ec42be588>.327", 24
 
 	.type	".Lswitch.table.sq_text::faults::push_fault::<=512>",@object
 	.section	".rodata..Lswitch.table.sq_text::faults::push_fault::<=512>","a",@progbits
@@ -36834,10 +36834,10 @@ squitter_local_zones:
 	.xword	10
 	.size	".Lswitch.table.sq_text::faults::push_fault::<=512>", 80
 
-	.type	".Lswitch.table.sq_text::faults::push_fault::<=512>.330",@object
-	.section	".data.rel.ro..Lswitch.table.sq_text::faults::push_fault::<=512>.330","aw",@progbits
+	.type	".Lswitch.table.sq_text::faults::push_fault::<=512>.328",@object
+	.section	".data.rel.ro..Lswitch.table.sq_text::faults::push_fault::<=512>.328","aw",@progbits
 	.p2align	3, 0x0
-".Lswitch.table.sq_text::faults::push_fault::<=512>.330":
+".Lswitch.table.sq_text::faults::push_fault::<=512>.328":
 	.xword	.Lstatic.28
 	.xword	.Lstatic.29
 	.xword	.Lstatic.30
@@ -36848,7 +36848,7 @@ squitter_local_zones:
 	.xword	.Lstatic.37
 	.xword	.Lstatic.34
 	.xword	.Lstatic.35
-	.size	".Lswitch.table.sq_text::faults::push_fault::<=512>.330", 80
+	.size	".Lswitch.table.sq_text::faults::push_fault::<=512>.328", 80
 
 	.ident	"rattle logic=dac8208d650f15bf3e2dc313a14fa4c783a3acf887bdfab66e1714b038d9e11b"
 	.section	".note.GNU-stack","",@progbits
