@@ -433,10 +433,11 @@ function settingsOf({ window = WINDOW, limit = 1000, site = null }) {
 }
 function listenerOf(owner, library, name, settings) {
   const { memory } = library, { window, limit, site } = settingsOf(settings);
+  const here = site && memory.exactPosition(site);
   return new Lent(owner, library, name, Number(memory.exports[`squitter_${name}_size`](limit)), (slot, block) => {
-    if (site) memory.putPosition(memory.placeAt, site);
-    const words = [slot, block, limit, window, ...(site ? [BigInt(memory.placeAt)] : [])];
-    ask(library, `${name}_new${site ? "_at" : ""}`, ...words);
+    if (here) memory.putPosition(memory.placeAt, here);
+    const words = [slot, block, limit, window, ...(here ? [BigInt(memory.placeAt)] : [])];
+    ask(library, `${name}_new${here ? "_at" : ""}`, ...words);
   });
 }
 const ANSWERS_AT_ONCE = 4096, TEXT_ROOM = 1 << 18, E7 = 10_000_000;

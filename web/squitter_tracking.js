@@ -20,10 +20,12 @@ function settingsOf({ window = WINDOW, limit = 1000, site = null }) {
 /** Creates a log or a tracker of the library, with its memory. */
 function listenerOf(owner, library, name, settings) {
   const { memory } = library, { window, limit, site } = settingsOf(settings);
+  // Reading the degrees of a text overwrites `outAt`, where the block is passed, so that comes first.
+  const here = site && memory.exactPosition(site);
   return new Lent(owner, library, name, Number(memory.exports[`squitter_${name}_size`](limit)), (slot, block) => {
-    if (site) memory.putPosition(memory.placeAt, site);
-    const words = [slot, block, limit, window, ...(site ? [BigInt(memory.placeAt)] : [])];
-    ask(library, `${name}_new${site ? "_at" : ""}`, ...words);
+    if (here) memory.putPosition(memory.placeAt, here);
+    const words = [slot, block, limit, window, ...(here ? [BigInt(memory.placeAt)] : [])];
+    ask(library, `${name}_new${here ? "_at" : ""}`, ...words);
   });
 }
 

@@ -32,6 +32,13 @@ def imported(tries: Tries) -> str:
     return f"3 times 10000 lines, {of_module(tries, 'refusals').decode().strip()}"
 
 
+def tracked_by_node(tries: Tries) -> str:
+    """tests/browser/tracking.mjs: limits and states of trackers and logs, and the columns of a log beside its text."""
+    done = subprocess.run([*tries.node, f"{HERE}/tracking.mjs"], capture_output=True, text=True)
+    expect(done.returncode == 0, done.stderr)
+    return done.stdout.strip()
+
+
 WITHOUT_FLAG = """
 import { load } from "TOP/web/squitter.js";
 import { readFileSync } from "node:fs";
