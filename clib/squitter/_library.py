@@ -147,8 +147,10 @@ def _binary(name: str, source: Union[bytes, bytearray, memoryview]) -> memoryvie
         if isinstance(source, (list, tuple)):
             advice = f'; join a list with b"".join(map(squitter.frame, {name}))'
         raise TypeError(f"{wanted}, not {type(source).__name__}{advice}") from None
-    if view.itemsize != 1 or not view.c_contiguous:
+    if view.itemsize != 1:
         raise ValueError(f"{wanted}, not items of {view.itemsize} bytes")
+    if not view.c_contiguous:
+        raise ValueError(f"{wanted}, not a view with gaps; bytes(view) has none")
     if view.nbytes and not view[:14].tobytes().strip(_OF_TEXT) and not view.tobytes().strip(_OF_TEXT):
         raise ValueError(f"{wanted}, not hexadecimal digits: {view[:32].tobytes().decode('ascii')!r}; "
                          "a frame text is a str")

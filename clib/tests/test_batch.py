@@ -648,6 +648,17 @@ class Arrays(unittest.TestCase):
         heard, faults = batch.track(gap, [ODD, EVEN, ODD])
         self.assertEqual(batch.csv_rows(gap, heard, faults).splitlines()[2], b"3,86400000,waiting,40621D,air,,,38000")
 
+    def test_dates_of_another_zone(self) -> None:
+        """A date without a zone is one of UTC, whatever the zone of the machine."""
+        self.addCleanup(time.tzset)
+        for zone in ("Asia/Tokyo", "America/Lima"):
+            with mock.patch.dict(os.environ, {"TZ": zone}):
+                time.tzset()
+                for given in ([datetime(1970, 1, 1, 12, 0, 5)], np.array(["1970-01-01T12:00:05"], "M8[s]")):
+                    tracker = batch.Tracker()
+                    tracker.hear(given, [ODD])
+                    self.assertEqual(tracker.last, 43_205_000)
+
     def test_numbers_of_lines(self) -> None:
         """The first number is whole, from 0, and the last below 2**64."""
         heard, faults = batch.track([0, 1], [ODD, EVEN])

@@ -83,6 +83,7 @@ class Errors(unittest.TestCase):
                 self.told(TypeError, FRAMES + text, call, given)
             for given, text in (
                 (bytes(13), "13 bytes"), (bytes(15), "15 bytes"), (array.array("H", range(7)), "items of 2 bytes"),
+                (memoryview(bytes(56))[::2], "a view with gaps; bytes(view) has none"),
                 (EVEN.encode(), f"hexadecimal digits: '{EVEN}'; a frame text is a str"),
                 (b"\x1f\x8b\x08" + bytes(12), "15 bytes of gzip: unpack it with gzip.decompress first"),
                 (b"BZh9" + bytes(9), "13 bytes of bzip2: unpack it with bz2.decompress first"),

@@ -156,6 +156,13 @@ class Errors(unittest.TestCase):
             self.told(ValueError, "this has no frame of Beast, AVR, CSV or a log in its first 16384 bytes", batch.feed,
                       data)
         self.told(ValueError, "this has no frame of Beast, AVR, CSV or a log: it is empty", batch.feed, b"")
+        for data, where in ((b"", ": it is empty"), (b"x", " in its first 16384 bytes")):
+            reader, writer = os.pipe()
+            os.write(writer, data)
+            os.close(writer)
+            name = f"/dev/fd/{reader}"
+            self.told(ValueError, f"{name} has no frame of Beast, AVR, CSV or a log{where}", batch.feed, name)
+            os.close(reader)
         # A source with squitters is read, whatever it begins with.
         self.assertEqual(batch.feed(b"\x1f\x8b" + SOURCES["beast"], "beast")[0].tolist(), MOMENTS)
 
@@ -238,6 +245,9 @@ class DataFrames(unittest.TestCase):
             if name != "log":
                 for source in (data, io.BytesIO(data)):
                     self.assertTrue(batch.dataframe(source, exact=True).equals(wanted), name)
+        # A table may have the time 0 in all rows.
+        zeros = batch.dataframe(f"time,icao24,rawmsg\n0,,{ODD}\n0.0,,{EVEN}\n".encode())
+        self.assertEqual((zeros["moment"].tolist(), zeros["answer"].tolist()), ([0, 0], ["waiting", "fix"]))
         limited = batch.dataframe(SOURCES["csv"], window=100)
         self.assertEqual(limited["answer"].tolist(), ["waiting", "waiting", "waiting", "fix"])
         with self.assertRaisesRegex(ValueError, "^this has no times"):
