@@ -16,6 +16,7 @@ SQUITTER = 17  # the downlink format of extended squitters
 LONG, SHORT = 28, 14  # digits of a frame
 SAMPLE = 1 << 20  # bytes of lines that show the unit of their timestamps
 SOME = 8  # different frames of an aircraft that show it
+FRONT = 2048  # bytes of a source that show what it is if it has no format that is read
 DENSE, SPARSE = 20, 100_000  # mean milliseconds between these that no receiver hears: one lies far below, one far above
 
 # Sources with times of their own, and the unit that these have, if they are too dense or too sparse.
@@ -35,6 +36,15 @@ STRANGERS = {
     Stranger.NO_FRAME: "no frame is in its first 16384 bytes: a feed is AVR text, Beast binary, CSV of "
                        "time,icao24,rawmsg, or a log of track",
 }
+
+# Tables that are not read, by what stands between the columns of a row with a frame, or with its name.
+FRAME_CELL = re.compile(rb"rawmsg|8[0-9a-f]{27}", re.I)
+TABLES = {
+    b";": "this table has semicolons between its columns",
+    b"\t": "this table has tabs between its columns",
+    b",": "this table has no times in seconds",
+}
+WANTED = "a table has rows of time,icao24,rawmsg, or names these columns in its first row"
 
 
 class Refused(Exception):
@@ -68,15 +78,18 @@ class Feed:
         self.refusal: Optional[Refused] = None  # why the source was refused at its end
         self.format: Optional[FeedFormat] = None  # of the source, which the library forgets at its end
         self.sample: Optional[bytearray] = bytearray()  # the first lines, until they are looked at
+        self.front = b""  # the first bytes of the source, while they show no format
 
     def hear(self, data: bytes, arrival: int) -> bytes:
         """Returns the lines of a piece of the source. Raises `Refused` if the source has no format that is read."""
         self.arrival = arrival
+        if self.format is None and len(self.front) < FRONT:
+            self.front = (self.front + data[:FRONT])[:FRONT]
         lines = self._counted(self.feed.take(data, arrival)) if self.order is None else self._sorted(
             *self.feed.take_frames(data, arrival), arrival)
         self.format, stranger = self.feed.format, self.feed.stranger
         if stranger is not None:
-            raise Refused(STRANGERS[stranger])
+            raise self._refused(stranger)
         if len(self.sample or b"") >= SAMPLE:
             self._look_at_unit()
         return lines
@@ -85,22 +98,28 @@ class Feed:
         """Drops a frame that a lost connection cut off, and counts it as damaged. The next piece belongs to another
         connection: its format is found anew, and its clock starts anew."""
         self.feed.disconnected()
+        self.format, self.front = None, b""
 
-    def end(self, now: int) -> bytes:
-        """Ends the source. Returns all lines that are left. `refusal` says if the source has no format that is read."""
+    def end(self, now: int, is_left: bool = False) -> bytes:
+        """Ends the source. Returns all lines that are left. `refusal` says if the source has no format that is read. A
+        source that `is_left` has not ended: a frame that has not come whole is left out, and is not damaged."""
         known = self.feed.stranger
         # A last line without a line feed arrived with the last piece.
-        if self.order is None:
+        if is_left:
+            lines = b""
+        elif self.order is None:
             lines = self._counted(self.feed.finish(self.arrival))
         else:
-            lines = self._sorted(*self.feed.finish_frames(self.arrival), now) + self._lines(*self.order.flush())
+            lines = self._sorted(*self.feed.finish_frames(self.arrival), now)
+        if self.order is not None:
+            lines += self._lines(*self.order.flush())
         stranger = self.feed.stranger
         if stranger is not None and known is None:
-            self.refusal = Refused(STRANGERS[stranger])
-        elif self.format is FeedFormat.CSV and 0 < self.feed.counts.found == self.feed.counts.damaged:
+            self.refusal = self._refused(stranger)
+        elif not is_left and self.format is FeedFormat.CSV and 0 < self.feed.counts.found == self.feed.counts.damaged:
             self.refusal = Refused("no row of this table has a frame, and a time in seconds of at most 12 digits")
         self._look_at_unit()
-        if not self.live and self.feed.counts.written > 1 and not self.printed:
+        if not (self.live or is_left or self.printed) and self.feed.counts.written > 1:
             self.tell("all frames of this file have the timestamp 0, as without times: old ones pair with new")
         return lines
 
@@ -168,12 +187,27 @@ class Feed:
                     self.others[number] += count
         return lines
 
+    def _refused(self, stranger: Stranger) -> Refused:
+        """Returns the refusal of a source without frames of a known format."""
+        told = table_of(self.front) if stranger is Stranger.NO_FRAME else None
+        return Refused(told or STRANGERS[stranger])
+
     def _look_at_unit(self) -> None:
         """Reports once if the timestamps of a source seem to have another unit."""
         lines, self.sample = self.sample, None
         sign = (self.format, sign_of_unit(bytes(lines[:SAMPLE])) if lines else None)
         if sign in UNITS:
             self.tell(UNITS[sign])
+
+
+def table_of(front: bytes) -> Optional[str]:
+    """Returns why a table is not read, by the first bytes of its source. Returns `None` for all other sources."""
+    for line in front.removeprefix(b"\xef\xbb\xbf").splitlines():
+        for separator, what in TABLES.items():
+            cells = [cell.strip(b' "') for cell in line.split(separator)]
+            if len(cells) > 1 and any(map(FRAME_CELL.fullmatch, cells)):
+                return f"{what}: {WANTED}"
+    return None
 
 
 def sign_of_unit(lines: bytes) -> Optional[int]:

@@ -2,6 +2,7 @@
 from __future__ import annotations
 
 import fcntl
+import gzip
 import os
 import re
 import runpy
@@ -14,10 +15,10 @@ import threading
 import time
 from contextlib import contextmanager
 from types import SimpleNamespace
-from typing import Callable, Iterator, List, Optional, Tuple
+from typing import IO, Callable, Iterator, List, Optional, Tuple, Union
 from unittest import mock
 
-from process import FEED, fault_of, line_of, listening, put, ran, started
+from process import FEED, fault_of, line_of, listening, put, ran, reported, started
 from trying import AIR_EVEN, AIR_ODD, beast, expect, same
 
 LINE = b"*%s;\n" % AIR_EVEN.encode()
@@ -149,6 +150,12 @@ def offer(run: subprocess.Popen[bytes], data: bytes) -> None:
         pass
 
 
+def held_in(pipe: Union[int, IO[bytes], None]) -> int:
+    """How many bytes a pipe holds."""
+    assert pipe is not None
+    return int.from_bytes(fcntl.ioctl(pipe, termios.FIONREAD, bytes(4)), "little")
+
+
 def full_output(count: int, words: List[str], nonblocking: bool) -> None:
     """A run of so many lines with a pipe that takes 4 KiB: by a signal, the rest is counted as not written."""
     reader, writer = os.pipe()
@@ -159,7 +166,7 @@ def full_output(count: int, words: List[str], nonblocking: bool) -> None:
     feeder = threading.Thread(target=offer, args=[run, LINE * count], daemon=True)
     feeder.start()
     try:
-        wait_until(lambda: int.from_bytes(fcntl.ioctl(reader, termios.FIONREAD, bytes(4)), "little") > 4000, "full")
+        wait_until(lambda: held_in(reader) > 4000, "full")
         expect(ended(run, signal.SIGTERM) < SOON, "a full output is waited for")
         printed = b""
         os.set_blocking(reader, True)
@@ -319,6 +326,44 @@ def closed_output() -> None:
             said = file.read()
         same(done.stdout.splitlines()[1:], [b"0"])
         expect(numbers_of(said)[1] > 0, said)
+        # The piece that was read last ends within a frame, and that is no damage.
+        expect(len(LINE) * 1000 % 65_536 and b"damaged" not in said, said)
+        # Nor does a part of the file show that all of it has no times.
+        expect(b"timestamp 0" not in said, said)
+
+
+def closed_in_an_archive() -> None:
+    """A run whose output is closed unpacks no more of the bytes that it has."""
+    with tempfile.TemporaryDirectory() as work:
+        with open(f"{work}/feed.gz", "wb") as file:
+            file.write(gzip.compress(LINE * 300_000))
+        expect(os.path.getsize(file.name) < 65_536, "the archive has more than one piece")
+        script = f"{FEED} {work}/feed.gz 2> {work}/said | head -n 1; echo ${{PIPESTATUS[0]}}"
+        done = subprocess.run(["bash", "-c", script], capture_output=True, timeout=60)
+        with open(f"{work}/said", "rb") as file:
+            said = file.read()
+        same(done.stdout.splitlines()[1:], [b"0"])
+        expect(0 < sum(numbers_of(said)[:2]) < 100_000, said)
+
+
+def closed_while_waiting() -> None:
+    """Where the reader of the output goes away, a frame that has not come whole is no damage, and what is held is
+    saved and counted as not written."""
+    of_beast = beast(AIR_EVEN, 12_000_000)
+    for words, printed, data in (([], 3, LINE * 3 + LINE[:9]), (["--reorder=60000"], 0, LINE * 3 + LINE[:9]),
+                                 ([], 3, of_beast * 3 + of_beast[:9]), ([], 0, LINE[:9])):
+        with tempfile.TemporaryDirectory() as work, started(["-", f"--save={work}/log", *words]) as run:
+            put(run, data)
+            wait_until(lambda: os.path.exists(f"{work}/log") and not held_in(run.stdin), "reading")
+            wait_until(lambda: is_waiting(run.pid), "waiting")
+            if run.stdout:
+                run.stdout.close()
+            same(run.wait(timeout=10), 0)
+            saved = 3 if len(data) > 50 else 0
+            left = f", {saved - printed} not written" if saved > printed else ""
+            same(reported(run), f"squitter-feed: {printed} printed{left}\n", words, data)
+            with open(f"{work}/log", "rb") as log:
+                same(log.read().count(b"\n"), saved, words, data)
 
 
 def keepalive() -> None:

@@ -124,6 +124,7 @@ def refusals() -> None:
         (["http://localhost:8080"], 3, "a port is given as HOST:PORT"),
         (["localhost:300055"], 3, "cannot read localhost:300055: No such file or directory; a port is from 1 to 65535"),
         (["localhost:0"], 3, "a port is from 1 to 65535"),
+        (["/nonesuch:5"], 3, "cannot read /nonesuch:5: No such file or directory; a port is given as HOST:PORT\n"),
         ([], 2, "the following arguments are required: SOURCE; give - for standard input"),
         (["-", "--lat=52.3"], 2, "unrecognized arguments: --lat=52.3; --lat is an option of squitter track"),
         *((["-", f"--{name}=5"], 2, f"--{name} is an option of squitter track") for name in OF_TRACK),

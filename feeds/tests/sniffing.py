@@ -185,6 +185,58 @@ def refused_by_name() -> None:
     same(decided([tar.getvalue()[:257] + b"ustaR"])[0], None)
 
 
+def tables() -> None:
+    """A table that is not read is refused by what stands between its columns, or by the times that it lacks."""
+    wanted = ": a table has rows of time,icao24,rawmsg, or names these columns in its first row"
+    semicolons, tabs = "this table has semicolons between its columns", "this table has tabs between its columns"
+    no_times, millis = "this table has no times in seconds", b"1700000000000,40621d,%s\n" % E
+    rows = [(b"time;icao24;rawmsg\n1.5;40621d;%s\n" % E, semicolons), (b"1.5;40621d;%s\n" % E.lower(), semicolons),
+            (b'"rawmsg";"time"\r\n"%s";"1.5"\r\n' % E, semicolons), (b"%s;1.5\n" % E, semicolons),
+            (b"time\ticao24\trawmsg\n1.5\t40621d\t%s\n" % E, tabs), (b"1.5\t\t%s\r\n" % E, tabs),
+            (b"icao24,rawmsg\n40621d,%s\n" % E, no_times), (b"Rawmsg,icao24\n%s,40621d\n" % E, no_times),
+            (b"40621d,%s\n" % E, no_times), (b"40621d,%s" % E, no_times), (millis, no_times),
+            (b"# a comment\n\n" + millis * 3, no_times), (b"x\n" * 900 + millis, no_times)]
+    others = [b"x\n" * 1100 + millis, b"icao24;lat;lon\n40621d;5;6\n", b"40621d,5,6\n", b"%s%s,5\n" % (E, E),
+              b"rawmsg\n", b"xrawmsg,5\n", b"x *%s;\n" % E, b"x %s,5\n" % E, b"5,9%s\n" % E[1:]]
+    for data, what in rows + [(data, "no frame is in its first 16384 bytes") for data in others]:
+        said = f"{what}{wanted}" if data not in others else what
+        for front in (b"", b"\xef\xbb\xbf"):
+            whole = front + data
+            for pieces in ([whole], byte_by_byte(whole), [whole, b"\n" * UNDECIDED], [whole[:1500], whole[1500:]]):
+                lines, refusal = heard(pieces)
+                expect(not lines and str(refusal).startswith(said), data, refusal)
+    for before in (LINE, b"x\n" * 1100, b"x"):
+        feed = Feed(Options(), True, print)
+        feed.hear(before, 0)
+        feed.disconnected()
+        try:
+            feed.hear(rows[0][0] + b"\n" * UNDECIDED, 0)
+            expect(False, "a table of another connection is taken")
+        except Refused as why:
+            same(str(why), semicolons + wanted, before)
+    # A table that is read is none of these, whatever its first row was.
+    same(heard([b"icao24,rawmsg\n" + row("1.5")]), (b"1500 %s\n" % E, None))
+    status, printed, told = ran(["-"], rows[0][0])
+    same((status, printed), (1, ""), told)
+    expect(told.startswith(f"squitter-feed: -: {semicolons}{wanted}\n"), told)
+
+
+def byte_order_mark() -> None:
+    """A byte order mark at the start is left out, in each format and however it is cut; the first line is read."""
+    mark, odd = b"\xef\xbb\xbf", AIR_ODD.encode()
+    rows = [(b"%s\n%s\n" % (E, odd), (7, 7)), (LINE + b"*%s;\n" % odd, (7, 7)), (b"5 %s\n6 %s\n" % (E, odd), (5, 6)),
+            (row("1.5") + row("2", AIR_ODD), (1500, 2000)),
+            (b"time,icao24,rawmsg\n" + row("1.5") + row("2", AIR_ODD), (1500, 2000)),
+            (b"rawmsg,time\r\n%s,1.5\r\n%s,2\r\n" % (E, odd), (1500, 2000))]
+    for data, (first, second) in rows:
+        wanted = b"%d %s\n%d %s\n" % (first, E, second, odd)
+        for pieces in ([mark + data], byte_by_byte(mark + data), [mark, data], [gzip.compress(mark + data)]):
+            same(heard(pieces), (wanted, None), data)
+        status, printed, said = ran(["-"], mark + data)
+        same((status, [line.split()[1] for line in printed.splitlines()]), (0, [AIR_EVEN, AIR_ODD]), data)
+        expect(said.endswith("squitter-feed: 2 printed\n"), data, said)
+
+
 def heard(pieces: Iterable[bytes], live: bool = True) -> Tuple[bytes, Optional[str]]:
     """The lines of a source in pieces, through unpacking and a feed; and the words by which it is refused."""
     feed, unpacking = Feed(Options(), live, lambda _: None), Unpacking()
