@@ -291,6 +291,22 @@ def no_clock() -> None:
     )
 
 
+def first_without_clock() -> None:
+    """Frames at the start of a file that have no clock have the timestamp 0, and all others that of their clock,
+    however late that is."""
+    hour = 3_600_000
+    for start in (1, 600_000, 600_001, 5 * hour, 1000 * hour):
+        later = [start + 100 * k for k in range(5)]
+        for count in (1, 2, 3, 5):
+            of_beast = beast(AIR_ODD, 0) * count + b"".join(beast(AIR_EVEN, 12_000 * k) for k in later)
+            of_text = [none * count + b"".join(clocked(AIR_EVEN, 12_000 * k) for k in later)
+                       for none in (clocked(AIR_ODD, 0), b"*%s;\n" % AIR_ODD.encode())]
+            for data in (of_beast, *of_text):
+                rows, feed, told = fed([(data, 5)], False)
+                same(rows, [(0, AIR_ODD)] * count + [(k, AIR_EVEN) for k in later], start, count)
+                same((feed.summary(), told), (f"{count + 5} printed", []), start, count)
+
+
 def lost_connection() -> None:
     """A connection that was lost: half a frame is counted, the clock is begun anew, and the format is found again."""
     feed = Feed(Options(), True, print)
