@@ -121,14 +121,14 @@ def receiver_files(tries: Tries) -> str:
     given_file(browser, f"{path}.raw", untimed)
     got, state = heard(browser), shown(browser, "#log-state")
     expect(got == tracked(tries.program, untimed, settings) and "The file has" not in state, got, state)
-    packed_files(browser, path, files["beast"], wanted)
+    packed_files(tries, browser, path, files["beast"], wanted)
     given_file(browser, f"{path}.zero", b"".join(map(beast, frames[:100])))
     expect("(its frames have no times)" in shown(browser, "#log-state"), shown(browser, "#log-state"))
     silent(browser)
     return f"{len(timed)} frames in {len(files)} formats"
 
 
-def packed_files(browser: Chromium, path: str, data: bytes, wanted: bytes) -> None:
+def packed_files(tries: Tries, browser: Chromium, path: str, data: bytes, wanted: bytes) -> None:
     """A file that is compressed with gzip is unpacked, and refused if it is cut; other archives are refused."""
     packed = gzip.compress(data)
     given_file(browser, f"{path}.gz", packed)
@@ -136,6 +136,10 @@ def packed_files(browser: Chromium, path: str, data: bytes, wanted: bytes) -> No
     for name, archive in (("bz2", bz2.compress(data)), ("xz", lzma.compress(data)), ("zip", b"PK\3\4" + data)):
         given_file(browser, f"{path}.{name}", archive)
         expect("only gzip is unpacked here" in shown(browser, "#log-state"), name, shown(browser, "#log-state"))
+    damaged_line = b"\x1f\n" + flights()
+    given_file(browser, f"{path}.log", damaged_line)
+    got, settings = heard(browser), (10_000, 1000, SITE)
+    expect(got == tracked(tries.program, damaged_line, settings), "a log that begins as gzip does, by one byte")
     given_file(browser, f"{path}.cut", packed[:-9])
     expect("not decoded to its end" in shown(browser, "#log-state"), shown(browser, "#log-state"))
 
@@ -258,15 +262,32 @@ def heard_again(tries: Tries) -> str:
     changed(browser, log_window="400")
     got, wanted = heard(browser), tracked(tries.program, of_address(log, "484004"), (400, 1000, SITE))
     expect(got == wanted, "another file since:", first_difference(got, wanted))
-    typed(browser, log_lat="", log_lon="")
+    count = example_again(tries, browser)
+    silent(browser)
+    return f"{10 + count} times"
+
+
+def example_again(tries: Tries, browser: Chromium) -> int:
+    """The example keeps its own site and its flight when a setting changes, whatever site is typed. Returns how often
+    it was heard again."""
+    away, log = ("-33.9", "151.2"), flights()
+    # With a shorter window no frame from the ground has a position, so all sites would give the same answers.
+    answers = {tracked(tries.program, log, (1000, 1000, site)) for site in (SITE, away, None)}
+    expect(len(answers) == 3, "the example does not depend on its site")
+    typed(browser, log_window="10000", log_limit="1000", log_lat="", log_lon="")
     clicked(browser, "#log-example")
     heard(browser)
-    changed(browser, log_window="300")
-    got, wanted = heard(browser), tracked(tries.program, log, (300, 1000, SITE))
-    expect(got == wanted and "near 52.31" in shown(browser, "#log-state"), "the example",
-           first_difference(got, wanted))
-    silent(browser)
-    return "eleven times"
+    steps = (({"log_window": "1000"}, (1000, 1000)), ({"log_lat": away[0], "log_lon": away[1]}, (1000, 1000)),
+             ({"log_window": "300"}, (300, 1000)), ({"log_limit": "3"}, (300, 3)),
+             ({"log_window": "1000"}, (1000, 3)), ({"log_lat": "", "log_lon": ""}, (1000, 3)))
+    for fields, (window, limit) in steps:
+        changed(browser, **fields)
+        got, wanted = heard(browser), tracked(tries.program, log, (window, limit, SITE))
+        expect(got == wanted, "the example after", fields, first_difference(got, wanted))
+        expect("near 52.31" in shown(browser, "#log-state"), shown(browser, "#log-state"))
+        is_placed = re.search(rb" (?:fix|followed) 484004 ", wanted) is not None
+        expect(browser.evaluate("squitterLog.map.address === 0x484004") == is_placed, "the flight after", fields)
+    return len(steps)
 
 
 def huge_line(tries: Tries) -> str:
@@ -287,12 +308,51 @@ def huge_line(tries: Tries) -> str:
     return f"{os.path.getsize(path)} bytes, {got.count(10)} answers"
 
 
+# The words of a worker that fails with these messages.
+FAILED = """((messages) => {
+  const { Worker } = window, made = [], told = [];
+  window.Worker = class {
+    constructor() { made.push(this); }
+    postMessage(task) { told.push(Object.keys(task).sort().join()); }
+  };
+  startHearing({ file: null, settings: null }, (said) => told.push(said));
+  window.Worker = Worker;
+  for (const message of messages) made[0].onerror({ message });
+  return told;
+})(["x is not defined", ""])"""
+
+
+def failed_worker(tries: Tries) -> str:
+    """A worker that fails, or does not start, is told. An empty file is decoded to its end."""
+    browser = tries.page("log")
+    told = browser.evaluate(FAILED)
+    expect(told == ["file,settings,wasm", {"failed": "x is not defined"}, {"failed": "the worker did not start"}], told)
+    browser.evaluate("document.getElementById('log-progress').value = 0.5")
+    given_file(browser, f"{tries.work}/empty.log", b"")
+    told = [shown(browser, "#log-state"), browser.evaluate("document.getElementById('log-progress').value")]
+    expect(told[0].startswith("empty.log: decoded. 0 lines, 0 positions, 0 refused, in ") and told[1] == 1, told)
+    silent(browser)
+    return "two errors, and an empty file"
+
+
+# Keeps each share of a file that its worker says is done.
+PROGRESS = """{
+  const { told } = squitterLog;
+  window.progressTold = [];
+  squitterLog.told = (said) => {
+    if (said.done !== undefined) progressTold.push(said.done);
+    told.call(squitterLog, said);
+  };
+}"""
+
+
 def long_log(tries: Tries) -> str:
     """Two hundred thousand lines: the page answers meanwhile, can cancel, and hears them all."""
     browser = tries.page("log")
     path, log = f"{tries.work}/long.log", damaged(200_000)
     with open(path, "wb") as file:
         file.write(log)
+    browser.evaluate(PROGRESS)
     browser.give("#log-file", path)
     browser.wait("squitterLog.answers.count > 0")
     slowest = 0.0
@@ -301,6 +361,9 @@ def long_log(tries: Tries) -> str:
         browser.evaluate("document.getElementById('log-progress').value")
         slowest = max(slowest, time.monotonic() - start)
     expect(slowest < 5, "the page did not answer for", slowest, "seconds")
+    ends = [*range(1 << 20, len(log), 1 << 20), len(log)]
+    told = browser.evaluate("delete squitterLog.told && [progressTold, document.getElementById('log-progress').value]")
+    expect(told == [[end / len(log) for end in ends], 1], "progress:", told)
     got, wanted = heard(browser), tracked(tries.program, log, USUAL)
     expect(got == wanted, first_difference(got, wanted))
     browser.evaluate("document.getElementById('log-file').value = ''")
