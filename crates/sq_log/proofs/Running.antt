@@ -70,11 +70,11 @@ pub of_fed : (input : Taken) (ended : Bool) (read : List ℕ) (Of : List (List �
 of_fed input true read Of at_end of = inr (at_end refl, subst Of (ended_lines-closed read) of)
 of_fed input false read Of at_end of = inl of
 
--- no line feed stands in no bytes
+-- an empty text has no line feed
 pub no_feeds : (bytes : List ℕ) → length bytes ≡ 0 → HasNoFeed bytes
 no_feeds bytes none k d within = absurd (omega (arith, none, within))
 
--- of no bytes none are taken
+-- an empty piece gives nothing
 pub nothing_given : (given : List ℕ) (taken : ℕ) → taken ≤ 0 → given ++ take taken [] ≡ given
 nothing_given given taken none =
     let is : taken ≡ 0 = omega (arith, none) in

@@ -238,3 +238,9 @@ ended_lines-closed given =
           ∙ ap (λ (l : List ℕ). ended_lines given ++ l ∷ []) (append-nil (last_part given))
           ∙ ap (λ (t : Bool). ended_lines given ++ cond t [] (last_part given ∷ [])) (sym some)
     ]
+
+-- at the end of an input where no line feed waits, they are all lines of it
+pub passed_to_end : (line waiting given read : List ℕ) (lines : List (List ℕ)) → KeepsRest line waiting given lines
+    → HasNoFeed waiting → given ≡ closed read → lines ≡ lines_of read
+passed_to_end line waiting given read lines from none same =
+    passed_all line waiting given lines from none ∙ ap ended_lines same ∙ ended_lines-closed read

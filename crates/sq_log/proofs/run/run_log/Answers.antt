@@ -9,12 +9,12 @@ use Rattle.sq_devices.specs.Changes.{taken_from, written_on}
 use Rattle.sq_devices.proofs.Puts.{HasPut-nil}
 use Rattle.sq_devices.specs.Device.{IsPrefixOf}
 use Rattle.sq_log.specs.Answers.{WantsAt}
-use Rattle.sq_log.specs.Lines.{closed, ended_lines, lines_of, with_next}
+use Rattle.sq_log.specs.Lines.{ended_lines, lines_of, with_next}
 use Rattle.sq_log.specs.Logs.{HasHeard}
 use Rattle.sq_log.specs.declared.faults.RunFault.TheVariants.{Read}
 use Rattle.sq_log.specs.Runs.{HasGot, HasToldBy, fed}
 use Rattle.sq_log.proofs.Gets.{consumes_hidden, got_on, got_up_to_end, made_of_more, made_of_nothing}
-use Rattle.sq_log.proofs.Windows.{ended_lines-closed, passed_all, passed_first}
+use Rattle.sq_log.proofs.Windows.{passed_all, passed_first, passed_to_end}
 use Rattle.sq_log.proofs.Running.{fed_not, no_feeds, no_more, nothing_given, of_fed, pumped_answered, pumped_passed}
 use Rattle.sq_log.proofs.Running.{run_reported, told_behind, told_header, told_part, told_sent}
 use Rattle.sq_log.proofs.Running.{told_unfinished, told_wrote}
@@ -307,10 +307,8 @@ returns-in-Ok-finish-clause-ran g c =
     let lines = i.pumped.lines in
     let given : List ℕ = fed c.steps.ended i.read in
     let fed_all = c.in-Fed.ensures.stepped start given lines i.pumped.answers i.pumped.heard in
-    let given_is : given ≡ closed i.read = ap (λ e. fed e i.read) c.if-ended.true in
-    let all : lines ≡ lines_of i.read =
-    passed_all new.window.line new.window.waiting given lines fed_all.1.kept fed_all.2 ∙ ap ended_lines given_is
-    ∙ ended_lines-closed i.read in
+    let all = passed_to_end new.window.line new.window.waiting given i.read lines fed_all.1.kept fed_all.2
+    (ap (λ e. fed e i.read) c.if-ended.true) in
     let told = told_behind how text start k first header before c.in-Ok.ensures.put c.steps.sink new.job new.tally
     lines i.pumped.answers i.pumped.put fed_all.1.told in
     let pieces = i.made_all c.if-ended.true in
@@ -358,10 +356,8 @@ returns-in-Err-finish-clause-ran g c =
     let lines = i.pumped.lines in
     let given : List ℕ = fed c.steps.ended i.read in
     let fed_all = c.in-Fed.ensures.stepped start given lines i.pumped.answers i.pumped.heard in
-    let given_is : given ≡ closed i.read = ap (λ e. fed e i.read) c.if-ended.true in
-    let all : lines ≡ lines_of i.read =
-    passed_all new.window.line new.window.waiting given lines fed_all.1.kept fed_all.2 ∙ ap ended_lines given_is
-    ∙ ended_lines-closed i.read in
+    let all = passed_to_end new.window.line new.window.waiting given i.read lines fed_all.1.kept fed_all.2
+    (ap (λ e. fed e i.read) c.if-ended.true) in
     let told = told_behind how text start k first header before c.in-Ok.ensures.put c.steps.sink new.job new.tally
     lines i.pumped.answers i.pumped.put fed_all.1.told in (
       (
