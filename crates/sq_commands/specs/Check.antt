@@ -3,6 +3,7 @@ use Rattle.std.specs.Prelude.{◌≡◌, ◌==◌, ◌⊎◌, ℕ, List, Option,
 use Rattle.sq_devices.specs.Changes.{Taken, TookNothing, Written, WroteNothing}
 use Rattle.sq_message.specs.declared.squitter.Squitter.{Squitter}
 use Rattle.sq_text.specs.Reading.{SquitterReader}
+use Rattle.sq_log.specs.Faults.{run_fault_text}
 use Rattle.sq_log.specs.Content.{Answer, answer_by}
 use Rattle.sq_log.specs.Answers.{Answerer, Manner}
 use Rattle.sq_log.specs.Runs.{HasRun, WroteAnswers}
@@ -14,7 +15,7 @@ use Rattle.sq_commands.specs.declared.arguments.ArgumentFault.TheVariants as fau
 use Rattle.sq_commands.specs.declared.formats.Format.{Format}
 use Rattle.sq_commands.specs.Faults.{IsMisuse}
 use Rattle.sq_commands.specs.Formats.{IsFormatWord, Telling, Writers, told_by}
-use Rattle.sq_commands.specs.Outputs.{Effects, Outputs, Reported, broken_text}
+use Rattle.sq_commands.specs.Outputs.{Effects, Outputs, Reported}
 use Rattle.sq_commands.specs.Squitters.{squitter_telling}
 
 -- how lines are read, and numbers written
@@ -51,7 +52,7 @@ status_of tally = if tally.refused == 0 then Good else Refused
 -- the status of a run by its result; if it stopped early, the reason is reported, and otherwise nothing
 abbrev pub EndsAs : Result Tally RunFault → Status → Outputs → Type 0
 EndsAs result status o = MatchResult result (λ tally. (status ≡ status_of tally) × WroteNothing o.reports)
-    (λ fault. (status ≡ Broken) × Reported o (broken_text fault))
+    (λ fault. (status ≡ Broken) × Reported o (run_fault_text fault))
 
 -- a run over the input
 abbrev pub IsCheckRunIn : Format → Status → Effects → Type 0

@@ -17,6 +17,7 @@ use Rattle.sq_feed.specs.declared.machine.Format.{Format}
 use Rattle.sq_feed.specs.declared.machine.Format.TheVariants.{Beast, Avr, Csv, Log}
 use Rattle.sq_feed.specs.declared.manner.Manner.{Manner}
 use Rattle.sq_feed.specs.declared.message.Stranger.{Stranger}
+use Rattle.sq_log.specs.Faults.{run_fault_text}
 use Rattle.sq_log.specs.declared.faults.RunFault.{RunFault}
 use Rattle.sq_log.specs.declared.faults.RunFault.TheVariants.{Read, Write, Memory}
 use Rattle.sq_commands.specs.Requests.{AskedFeed}
@@ -29,7 +30,7 @@ use Rattle.sq_commands.specs.declared.status.Status.{Status}
 use Rattle.sq_commands.specs.declared.status.Status.TheVariants.{Good, Refused, Broken}
 use Rattle.sq_commands.specs.Arguments.{IsFaultUnless}
 use Rattle.sq_commands.specs.Faults.{IsMisuse}
-use Rattle.sq_commands.specs.Outputs.{Effects, Reported, broken_text}
+use Rattle.sq_commands.specs.Outputs.{Effects, Reported}
 use Rattle.sq_commands.specs.Summary.{stranger_text, summary_text}
 
 -- ---- calls of a feed
@@ -223,7 +224,7 @@ IsFeedRunIn options clock status e =
     (answer : Result FeedEnd RunFault) × IsFed options clock answer e.input e.outputs.output
     × MatchResult answer (λ end. (status ≡ status_at_end end.stranger)
     × Reported e.outputs (text_at_end end.counts end.stranger))
-    (λ fault. (status ≡ Broken) × Reported e.outputs (broken_text fault))
+    (λ fault. (status ≡ Broken) × Reported e.outputs (run_fault_text fault))
 
 -- the input is read with the options that the words spell; if one is invalid, the first is reported, and the input is
 -- unread

@@ -3,8 +3,6 @@ use Rattle.std.specs.Prelude.{◌++◌, ℕ, List, codes}
 use Rattle.sq_devices.specs.declared.device.Sink.{Ghosts as SinkGhosts}
 use Rattle.sq_devices.specs.declared.device.Source.{Ghosts as SourceGhosts}
 use Rattle.sq_devices.specs.Changes.{Taken, WroteOrFailed, Written, taken_from, written_on}
-use Rattle.sq_log.specs.declared.faults.RunFault.{RunFault}
-use Rattle.sq_log.specs.declared.faults.RunFault.TheVariants as faults
 
 -- the bytes written to the output, and to the sink for faults
 pub record Outputs : Type 1 where
@@ -27,9 +25,3 @@ effects s input input' o = record { input = taken_from s input input'; outputs =
 -- the line was reported, or the sink for faults failed within it
 abbrev pub Reported : Outputs → List ℕ → Type 0
 Reported o line = WroteOrFailed o.reports (line ++ codes "\n")
-
--- the report on a run that stopped early
-abbrev pub broken_text : RunFault → List ℕ
-broken_text faults.Read = codes "read failed"
-broken_text faults.Write = codes "write failed"
-broken_text faults.Memory = codes "out of memory"

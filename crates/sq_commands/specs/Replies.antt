@@ -3,11 +3,12 @@ use Rattle.std.specs.Prelude.{◌≡◌, ◌⊎◌, ◌++◌, ℕ, List, Option,
 use Rattle.std.specs.Option.{option_map}
 use Rattle.sq_devices.specs.Changes.{FailedWithin, Written, WroteLast, WroteNothing, WroteOrFailed}
 use Rattle.sq_digits.specs.Buffer.{TextBuffer}
+use Rattle.sq_log.specs.Faults.{run_fault_text}
 use Rattle.sq_log.specs.declared.faults.RunFault.TheVariants as faults
 use Rattle.sq_commands.specs.declared.replies.Reply.{Reply}
 use Rattle.sq_commands.specs.declared.status.Status.{Status}
 use Rattle.sq_commands.specs.declared.status.Status.TheVariants.{Good, Broken}
-use Rattle.sq_commands.specs.Outputs.{Outputs, Reported, broken_text}
+use Rattle.sq_commands.specs.Outputs.{Outputs, Reported}
 
 -- what a reply says: how the command ends, and the texts of its output and of its error, if there are any
 pub record ReplyParts : Type 0 where
@@ -60,4 +61,4 @@ FailedOn text w = MatchOption text ⊥ (FailedWithin w)
 unfoldable pub IsDelivered : ReplyParts → Status → Outputs → Type 0
 IsDelivered reply status o =
     ((status ≡ reply.status) × Got reply.output o.output × GotOrFailed reply.error o.reports)
-    ⊎ ((status ≡ Broken) × FailedOn reply.output o.output × Reported o (broken_text faults.Write))
+    ⊎ ((status ≡ Broken) × FailedOn reply.output o.output × Reported o (run_fault_text faults.Write))

@@ -2,10 +2,11 @@
 ghost use Rattle.std.specs.Prelude.{◌≡◌, ◌<◌, ◌≤◌, ◌++◌, MatchResult, OnErr, OnOk, codes, option_copied};
 ghost use Rattle.sq_devices.specs.Changes.{WroteOrFailed, written_on};
 ghost use Rattle.sq_digits.specs.Buffer.{text_len};
+ghost use Rattle.sq_log.specs.Faults.{run_fault_text};
 ghost use Rattle.sq_commands.specs.Faults.{IsMisuse, misused};
 ghost use Rattle.sq_commands.specs.Frames.{frame_refused};
 ghost use Rattle.sq_commands.specs.Local.{IsTextOf, place_refused};
-ghost use Rattle.sq_commands.specs.Outputs.{broken_text, outputs};
+ghost use Rattle.sq_commands.specs.Outputs.{outputs};
 ghost use Rattle.sq_commands.specs.Replies.{FailedOn, Got, GotOrFailed, IsAnswer, IsDelivered, answered, bytes_in};
 ghost use Rattle.sq_commands.specs.Replies.{refused, reply_parts};
 
@@ -165,18 +166,11 @@ pub fn report<F: Sink>(text: &str, faults: &mut F)
 /// Reports in one line why a run stopped early.
 pub fn break_off<F: Sink>(fault: RunFault, faults: &mut F) -> Status
     ensures status { result ≡ Status.Broken }
-    ensures reported { WroteOrFailed (written_on F.Sink faults.old faults.new) (broken_text fault ++ codes "\n") }
+    ensures reported { WroteOrFailed (written_on F.Sink faults.old faults.new) (run_fault_text fault ++ codes "\n") }
 {
-    report(broken_line(fault), faults);
+    let mut line = TextBuffer::<14>::new();
+    line.push_str(fault.label());
+    line.push(b'\n');
+    report(line.as_str(), faults);
     Status::Broken
-}
-
-fn broken_line(fault: RunFault) -> &'static str
-    ensures { result.now ≡ broken_text fault ++ codes "\n" }
-{
-    match fault {
-        RunFault::Read => "read failed\n",
-        RunFault::Write => "write failed\n",
-        RunFault::Memory => "out of memory\n",
-    }
 }

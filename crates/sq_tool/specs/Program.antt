@@ -1,13 +1,16 @@
 -- What the program does with a command line.
-use Rattle.std.specs.Prelude.{◌≡◌, ◌⊎◌, List}
+use Rattle.std.specs.Prelude.{◌≡◌, ◌⊎◌, ℕ, List, codes}
 use Rattle.sq_devices.specs.Changes.{TookNothing, WroteNothing}
 use Rattle.sq_devices.specs.Clocks.{Times, recorded}
+use Rattle.sq_devices.specs.declared.start.Trouble.{Trouble}
+use Rattle.sq_devices.specs.declared.start.Trouble.TheVariants as troubles
+use Rattle.sq_log.specs.Faults.{run_fault_text}
 use Rattle.sq_log.specs.declared.faults.RunFault.TheVariants.{Memory}
 use Rattle.sq_commands.specs.Requests.{Asked, Text}
 use Rattle.sq_words.specs.Requests.{Asks, IsFaulty}
 use Rattle.sq_commands.specs.declared.status.Status.{Status}
 use Rattle.sq_commands.specs.declared.status.Status.TheVariants.{Broken, Misused}
-use Rattle.sq_commands.specs.Outputs.{Effects, Reported, broken_text}
+use Rattle.sq_commands.specs.Outputs.{Effects, Reported}
 use Rattle.sq_commands.specs.Runs.{IsTimedRun}
 
 -- clap finds a fault in the words, or they ask for help: nothing is read or written, and clap's text is reported
@@ -17,7 +20,16 @@ IsRefusal words status e = IsFaulty words × (status ≡ Misused) × TookNothing
 -- there is no memory to read the words: nothing is read or written, and that is reported
 abbrev pub IsUnread : Status → Effects → Type 0
 IsUnread status e = (status ≡ Broken) × TookNothing e.input × WroteNothing e.outputs.output
-    × Reported e.outputs (broken_text Memory)
+    × Reported e.outputs (run_fault_text Memory)
+
+-- what stands in the way of a start: the status, and the report
+abbrev pub trouble_status : Trouble → Status
+trouble_status troubles.Words = Misused
+trouble_status troubles.Memory = Broken
+
+abbrev pub trouble_text : Trouble → List ℕ
+trouble_text troubles.Words = codes "bad words"
+trouble_text troubles.Memory = run_fault_text Memory
 
 -- the words ask for a command, which is run by the clock; or they are refused; or there is no memory to read them
 abbrev pub IsTimedProgramRun : Times → List Text → Status → Effects → Type 0

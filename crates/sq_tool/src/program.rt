@@ -1,13 +1,14 @@
 //! The whole program over its devices.
-ghost use Rattle.std.specs.Prelude.{◌≡◌, map};
+ghost use Rattle.std.specs.Prelude.{◌≡◌, ◌++◌, codes, map};
+ghost use Rattle.sq_devices.specs.Changes.{WroteOrFailed, written_on};
 ghost use Rattle.sq_devices.specs.Clocks.{times_of};
 ghost use Rattle.sq_commands.specs.Outputs.{effects, outputs};
 ghost use Rattle.sq_commands.specs.Statuses.{exit_status};
 ghost use Rattle.sq_commands.specs.declared.status.Status.{Status};
-ghost use Rattle.sq_tool.specs.Program.{IsProgramRun, IsTimedProgramRun};
+ghost use Rattle.sq_tool.specs.Program.{IsProgramRun, IsTimedProgramRun, trouble_status, trouble_text};
 
 use sq_commands::{Status, answer_live, break_off, report};
-use sq_devices::{Clock, NoClock, Sink, Source};
+use sq_devices::{Clock, NoClock, Sink, Source, Trouble};
 use sq_log::RunFault;
 use sq_words::{Refusal, read_request};
 use std::alloc::Global;
@@ -63,10 +64,36 @@ fn follow<C: Clock, S: Source, K: Sink, F: Sink>(
 {
     match read_request(alloc, words) {
         Ok(request) => answer_live(alloc, request, clock, input, output, faults),
-        Err(Refusal::Words(text)) => {
-            report(text.as_str(), faults);
-            Status::Misused
-        }
+        Err(Refusal::Words(text)) => refuse_words(text.as_str(), faults),
         Err(Refusal::Memory) => break_off(RunFault::Memory, faults),
+    }
+}
+
+// Reports what is wrong with the words of the command line.
+fn refuse_words<F: Sink>(report_text: &str, faults: &mut F) -> Status
+    ensures status { result ≡ Status.Misused }
+    ensures reported { WroteOrFailed (written_on F.Sink faults.old faults.new) report_text.now }
+{
+    report(report_text, faults);
+    Status::Misused
+}
+
+/// Reports in one line why the program cannot begin, `bad words` or `out of memory`, and returns the exit status, 2 or
+/// 3. A failure of the sink changes no status.
+pub fn refuse_start<F: Sink>(trouble: Trouble, faults: &mut F) -> u8
+    ensures status { result ≡ exit_status (trouble_status trouble) }
+    ensures told { WroteOrFailed (written_on F.Sink faults.old faults.new) (trouble_text trouble ++ codes "\n") }
+{
+    report_trouble(trouble, faults).exit_status()
+}
+
+// Reports why the program cannot begin.
+fn report_trouble<F: Sink>(trouble: Trouble, faults: &mut F) -> Status
+    ensures status { result ≡ trouble_status trouble }
+    ensures told { WroteOrFailed (written_on F.Sink faults.old faults.new) (trouble_text trouble ++ codes "\n") }
+{
+    match trouble {
+        Trouble::Words => refuse_words("bad words\n", faults),
+        Trouble::Memory => break_off(RunFault::Memory, faults),
     }
 }

@@ -6,7 +6,7 @@ ghost use Rattle.sq_words.specs.Requests.{Asks, IsFaulty};
 
 use crate::command_line::{request_of, squitter_command};
 use clap::error::ErrorKind;
-use sq_commands::Request;
+use sq_commands::{Request, RunFault};
 use std::alloc::{AllocError, Global};
 use thiserror::Error;
 
@@ -14,7 +14,7 @@ use thiserror::Error;
 #[derive(Debug, Drop, Error)]
 pub enum Refusal {
     /// An allocation failed.
-    #[error("out of memory")]
+    #[error("{text}", text = RunFault::Memory.label())]
     Memory,
     /// clap found a fault in the words, or they ask for help: clap's text without its tips, in whole lines.
     #[error("{0}")]

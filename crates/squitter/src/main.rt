@@ -7,7 +7,7 @@ ghost use Rattle.sq_devices.specs.Device.{most_gets};
 use sq_devices::{
     ConsoleClock, PromptInput, PromptOutput, SharedOutput, Trouble, arguments, is_input_live,
 };
-use sq_tool::{Sink, Source, Writing, run_live};
+use sq_tool::{Sink, Source, Writing, refuse_start, run_live};
 use std::alloc::{AllocError, Global};
 use std::io::{Read, Write};
 use std::process::ExitCode;
@@ -19,7 +19,7 @@ fn main(rt: HostRuntime) -> ExitCode {
     let mut faults = Writing::new(rt.stderr());
     let status = match start(&rt, &mut faults) {
         Ok(status) => status,
-        Err(trouble) => trouble.tell(&mut faults),
+        Err(trouble) => refuse_start(trouble, &mut faults),
     };
     ExitCode::from(status)
 }

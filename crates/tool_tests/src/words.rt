@@ -1,5 +1,6 @@
 //! The commands that read no input, and command lines that are refused.
 use crate::runs::{Row, assert_rows, run_on, sink_of, source_of, status_of, taken};
+use sq_tool::{Trouble, refuse_start};
 use std::io;
 use std::io::{ErrorKind, Write};
 
@@ -734,4 +735,13 @@ fn tells_a_writer_that_fails(rt: HostRuntime) {
             row.name
         );
     }
+}
+
+#[test]
+fn reports_why_it_cannot_begin(rt: HostRuntime) {
+    let mut faults = sink_of(Vec::new(rt.alloc()));
+    assert!(rt; refuse_start(Trouble::Words, &mut faults) == 2);
+    assert!(rt; refuse_start(Trouble::Memory, &mut faults) == 3);
+    let told = b"bad words\nout of memory\n".as_slice();
+    assert!(rt; taken(faults).as_slice() == told);
 }
