@@ -224,8 +224,9 @@ def check_enums():
     kinds = definitions("squitter_c", "Fields.antt", r"^pub record IsPlain(\w+) .*\n  pub kind : plain\.kind ≡ (\d+)$")
     forms = definitions("squitter_c", "Fields.antt", r"^IsPlainAltitude \(?altitudes\.(\w+)[^=]*= \(form ≡ (\d+)\)")
     heard = definitions("squitter_c", "Heard.antt", r"^IsPlainHeard \(?(\w+)[^=]*= IsHeardAs (\d+) ")
-    feeds = definitions("squitter_c", "FeedCalls.antt", r"^format_number formats\.(\w+) = (\d+)$")
+    feeds = definitions("squitter_c", "FeedCalls.antt", r"^feed_format_number formats\.(\w+) = (\d+)$")
     feeds |= definitions("squitter_c", "FeedCalls.antt", r"^feed_number (None) = (\d+)$")
+    answers = definitions("sq_commands", "Formats.antt", r"^format_number \(?(\w+(?: \w+)?)\)? = (\d+)$")
     strangers = definitions("squitter_c", "FeedCalls.antt", r"^stranger_number strangers\.(\w+) = (\d+)$")
     # the definitions, and the names of their cases in the header
     rows = (
@@ -234,6 +235,7 @@ def check_enums():
         (heard, {"Fix": "FIX", "Followed": "FOLLOWED", "Waiting": "WAITING", "Split": "SPLIT", "Far": "FAR",
                  "NoSite": "WITHOUT_SITE", "NotPosition": "NO_PLACE"}),
         (feeds, {"Beast": "FEED_BEAST", "Avr": "FEED_AVR", "Csv": "FEED_CSV", "Log": "FEED_LOG", "None": "FEED_AUTO"}),
+        (answers, {"Lines": "LINES", "Rows Csv": "CSV", "Rows Json": "JSON"}),
         (strangers, {"Sbs": "FEED_SBS", "Tar": "FEED_TAR", "Packed": "FEED_PACKED", "Utf16": "FEED_UTF16",
                      "Json": "FEED_JSON", "NoFrame": "FEED_NO_FRAME"}),
     )

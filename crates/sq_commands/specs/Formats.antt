@@ -7,16 +7,23 @@ use Rattle.sq_text.specs.Faults.{fault_text}
 use Rattle.sq_log.specs.Content.{Answer}
 use Rattle.sq_log.specs.Answers.{texts_of}
 use Rattle.sq_text.specs.declared.rows.Form.{Form}
+use Rattle.sq_text.specs.declared.rows.Form.TheVariants.{Csv, Json}
 use Rattle.sq_text.specs.Altitudes.{AltitudeReader}
 use Rattle.sq_text.specs.Rows.{Column, header_text, room, row_text}
 use Rattle.sq_commands.specs.declared.formats.Format.{Format}
-use Rattle.sq_commands.specs.declared.formats.Format.TheVariants.{Lines, Csv, Json}
+use Rattle.sq_commands.specs.declared.formats.Format.TheVariants.{Lines, Rows}
 
 -- the word that names a format
 abbrev pub format_name : Format → List ℕ
 format_name Lines = codes "lines"
-format_name Csv = codes "csv"
-format_name Json = codes "json"
+format_name (Rows Csv) = codes "csv"
+format_name (Rows Json) = codes "json"
+
+-- the number of a format in the library
+abbrev pub format_number : Format → ℕ
+format_number Lines = 0
+format_number (Rows Csv) = 1
+format_number (Rows Json) = 2
 
 -- a format by its name; lines if none is given
 abbrev pub IsFormatWord : Option (List ℕ) → Format → Type 0

@@ -10,14 +10,12 @@ use Rattle.sq_digits.specs.Digits.{hexadecimal}
 use Rattle.sq_text.specs.Faults.{fault_text}
 use Rattle.sq_track.specs.declared.heard.Heard.{Heard}
 use Rattle.sq_track.specs.declared.heard.Heard.TheVariants.{Fix, Followed, Waiting, Split, Far, NoSite, NotPosition}
-use Rattle.sq_text.specs.declared.rows.Form.{Form}
-use Rattle.sq_text.specs.declared.rows.Form.TheVariants as forms
 use Rattle.sq_text.specs.Rows.{Cell, Blank, Number, Word, Column, column, degrees_width, fault_width, number_width}
 use Rattle.sq_text.specs.Rows.{signed_width, word_width}
 use Rattle.sq_text.specs.Squitters.{address_cell, feet_of, kind_name}
 pub use Rattle.sq_commands.specs.declared.found.HeardSquitter.{HeardSquitter}
 use Rattle.sq_commands.specs.declared.formats.Format.{Format}
-use Rattle.sq_commands.specs.declared.formats.Format.TheVariants.{Lines, Csv, Json}
+use Rattle.sq_commands.specs.declared.formats.Format.TheVariants.{Lines, Rows}
 use Rattle.sq_commands.specs.Formats.{Telling, Writers, in_lines, in_rows}
 
 -- ---- as a line
@@ -118,10 +116,6 @@ heard_row writers (Ok from) = record (place_row writers.decimals from.heard) {
 }
 heard_row writers (Err fault) = record blank_track { answer = Word (fault_text fault) }
 
--- a row for each answer
-abbrev pub heard_rows : Form → Telling HeardSquitter
-heard_rows form = in_rows form track_columns heard_row
-
 -- ---- in each format
 
 -- a line for each answer
@@ -130,5 +124,4 @@ heard_lines = in_lines (λ writers. heard_text writers.decimals)
 
 abbrev pub heard_telling : Format → Telling HeardSquitter
 heard_telling Lines = heard_lines
-heard_telling Csv = heard_rows forms.Csv
-heard_telling Json = heard_rows forms.Json
+heard_telling (Rows form) = in_rows form track_columns heard_row

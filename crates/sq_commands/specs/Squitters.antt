@@ -13,14 +13,12 @@ use Rattle.sq_digits.specs.Digits.{hexadecimal}
 use Rattle.sq_text.specs.Faults.{fault_text}
 use Rattle.sq_text.specs.Show.{parity_name}
 use Rattle.sq_text.specs.Summary.{summary}
-use Rattle.sq_text.specs.declared.rows.Form.{Form}
-use Rattle.sq_text.specs.declared.rows.Form.TheVariants as forms
 use Rattle.sq_text.specs.Altitudes.{AltitudeReader}
 use Rattle.sq_text.specs.Rows.{Cell, Blank, Number, Word, Column, column, fault_width, number_width, signed_width}
 use Rattle.sq_text.specs.Rows.{word_width}
 use Rattle.sq_text.specs.Squitters.{address_cell, bit_cell, feet_cell}
 use Rattle.sq_commands.specs.declared.formats.Format.{Format}
-use Rattle.sq_commands.specs.declared.formats.Format.TheVariants.{Lines, Csv, Json}
+use Rattle.sq_commands.specs.declared.formats.Format.TheVariants.{Lines, Rows}
 use Rattle.sq_commands.specs.Formats.{Telling, Writers, in_lines, in_rows}
 
 -- ---- as a row
@@ -159,10 +157,6 @@ squitter_row writers (Ok squitter) = record (message_row writers.altitudes (squi
 }
 squitter_row writers (Err fault) = record blank_check { answer = Word (fault_text fault) }
 
--- a row for each answer
-abbrev pub squitter_rows : Form → Telling Squitter
-squitter_rows form = in_rows form check_columns squitter_row
-
 -- ---- in each format
 
 -- a line for each answer
@@ -171,5 +165,4 @@ squitter_lines = in_lines (λ writers. summary)
 
 abbrev pub squitter_telling : Format → Telling Squitter
 squitter_telling Lines = squitter_lines
-squitter_telling Csv = squitter_rows forms.Csv
-squitter_telling Json = squitter_rows forms.Json
+squitter_telling (Rows form) = in_rows form check_columns squitter_row

@@ -20,7 +20,7 @@ ghost use Rattle.sq_commands.specs.Requests.{asked_track};
 ghost use Rattle.sq_commands.specs.Check.{IsNoFormat};
 ghost use Rattle.sq_commands.specs.declared.formats.Format.{Format};
 ghost use Rattle.sq_commands.specs.Encode.{IsAltitudeOf};
-ghost use Rattle.sq_commands.specs.Formats.{IsFormatWord, format_name};
+ghost use Rattle.sq_commands.specs.Formats.{IsFormatWord};
 ghost use Rattle.sq_commands.specs.Faults.{argument_text};
 ghost use Rattle.sq_commands.specs.Arguments.{IsAddress, IsAngleFault, IsFeet, IsFeetText, IsFiveDigits};
 ghost use Rattle.sq_commands.specs.Arguments.{IsPositionReading, IsSiteReading, kind_name};
@@ -102,7 +102,7 @@ fn push_coordinate<const N: usize>(text: &mut TextBuffer<N>, name: &str, fault: 
     text.push_str(fault.label());
 }
 
-/// Reads a format: `lines`, `csv` or `json`; lines if no word is given.
+/// Reads a format by its name; lines if no word is given.
 pub(crate) fn read_format(word: Option<&str>) -> Result<Format, ArgumentFault>
     ensures ok { IfOk result (IsFormatWord (option_copied word.entry)) }
     ensures err { OnErr result (IsNoFormat (option_copied word.entry)) }
@@ -110,20 +110,7 @@ pub(crate) fn read_format(word: Option<&str>) -> Result<Format, ArgumentFault>
 {
     match word {
         None => Ok(Format::Lines),
-        Some(name) => format_named(name),
-    }
-}
-
-fn format_named(name: &str) -> Result<Format, ArgumentFault>
-    ensures ok { IfOk result (λ format. name.now ≡ format_name format) }
-    ensures err { OnErr result ((format : Format) → name.now ≢ format_name format) }
-    ensures fault { IfErr result (λ fault. fault ≡ ArgumentFault.Format) }
-{
-    match name {
-        "lines" => Ok(Format::Lines),
-        "csv" => Ok(Format::Csv),
-        "json" => Ok(Format::Json),
-        _ => Err(ArgumentFault::Format),
+        Some(name) => Format::named(name).ok_or(ArgumentFault::Format),
     }
 }
 

@@ -10,13 +10,13 @@ ghost use Rattle.sq_text.specs.Reading.{SquitterReader};
 
 use crate::arguments::read_format;
 use crate::checked::{refuse_frame, squitter_header, tell_squitter};
-use crate::formats::{AnswerFormat, CsvRows, Format, JsonRows, Numbered};
+use crate::formats::{AnswerFormat, Format, Numbered, in_format};
 use crate::replies::{break_off, misuse};
 use crate::status::Status;
 use sq_devices::{Sink, Source};
 use sq_log::{Job, LineText, Log, RunFault, Tally, Telling, Verdict, run_log};
 use sq_message::Squitter;
-use sq_text::{LineFault, read_squitter};
+use sq_text::{Form, LineFault, read_squitter};
 
 // The job of `check`: answers each text by itself.
 #[derive(Drop)]
@@ -110,11 +110,7 @@ fn run_check_in<S: Source, K: Sink>(
     ensures { IsChecked (squitter_telling format) result (taken_from S.Source source.old source.new)
         (written_on K.Sink sink.old sink.new) }
 {
-    match format {
-        Format::Lines => run_check_as(&Numbered, source, sink),
-        Format::Csv => run_check_as(&CsvRows, source, sink),
-        Format::Json => run_check_as(&JsonRows, source, sink),
-    }
+    in_format!(format, run_check_as(source, sink))
 }
 
 // Runs `check` over the input, in the format that the word names.

@@ -17,11 +17,6 @@ use sq_text::{
     push_fault_word, push_hexadecimal_word, push_line, push_number, push_word,
 };
 
-/// The names of the columns, in CSV.
-pub(crate) const CHECK_COLUMNS: &str =
-    "line,answer,address,ca,type,kind,parity,lat_code,lon_code,time,\
-feet,altitude,status,flag,movement,track_status,track,me\n";
-
 /// Writes the row of a good frame into an empty text.
 pub(crate) fn push_squitter<R: RowForm>(text: &mut LineText, number: u64, squitter: &Squitter)
     requires { text.old.bytes ≡ [] }

@@ -3,12 +3,12 @@ ghost use Rattle.std.specs.Prelude.{◌≡◌, [], Ok, Err};
 ghost use Rattle.sq_commands.specs.Formats.{Writers};
 ghost use Rattle.sq_commands.specs.Squitters.{squitter_telling};
 
-use crate::check_rows::{CHECK_COLUMNS, push_refused_frame, push_squitter};
-use crate::formats::{CsvRows, Format, JsonRows};
+use crate::check_rows::{push_refused_frame, push_squitter};
+use crate::formats::{Format, check_header, in_form};
 use crate::numbered::{push_refused_line, push_squitter_line};
 use sq_log::LineText;
 use sq_message::Squitter;
-use sq_text::LineFault;
+use sq_text::{Form, LineFault};
 
 /// Returns the text before the first answer of a format.
 pub(crate) fn squitter_header(format: Format) -> &'static str
@@ -16,8 +16,7 @@ pub(crate) fn squitter_header(format: Format) -> &'static str
 {
     match format {
         Format::Lines => "",
-        Format::Csv => CHECK_COLUMNS,
-        Format::Json => "",
+        Format::Rows(form) => check_header(form),
     }
 }
 
@@ -30,8 +29,7 @@ pub(crate) fn tell_squitter(format: Format, number: u64, squitter: &Squitter, in
 {
     match format {
         Format::Lines => push_squitter_line(into, number, squitter),
-        Format::Csv => push_squitter::<CsvRows>(into, number, squitter),
-        Format::Json => push_squitter::<JsonRows>(into, number, squitter),
+        Format::Rows(form) => in_form!(form, push_squitter(into, number, squitter)),
     }
 }
 
@@ -43,7 +41,6 @@ pub(crate) fn refuse_frame(format: Format, number: u64, fault: LineFault, into: 
 {
     match format {
         Format::Lines => push_refused_line(into, number, fault),
-        Format::Csv => push_refused_frame::<CsvRows>(into, number, fault),
-        Format::Json => push_refused_frame::<JsonRows>(into, number, fault),
+        Format::Rows(form) => in_form!(form, push_refused_frame(into, number, fault)),
     }
 }

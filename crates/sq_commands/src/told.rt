@@ -3,12 +3,12 @@ ghost use Rattle.std.specs.Prelude.{◌≡◌, [], Ok, Err};
 ghost use Rattle.sq_commands.specs.Formats.{Writers};
 ghost use Rattle.sq_commands.specs.Heard.{heard_telling};
 
-use crate::formats::{CsvRows, Format, JsonRows};
+use crate::formats::{Format, in_form, track_header};
 use crate::found::HeardSquitter;
 use crate::numbered::{push_heard_line, push_refused_line};
-use crate::track_rows::{TRACK_COLUMNS, push_heard_row, push_refused_row};
+use crate::track_rows::{push_heard_row, push_refused_row};
 use sq_log::{Answer, LineText};
-use sq_text::LineFault;
+use sq_text::{Form, LineFault};
 
 /// Returns the text before the first answer of a format.
 pub fn heard_header(format: Format) -> &'static str
@@ -16,8 +16,7 @@ pub fn heard_header(format: Format) -> &'static str
 {
     match format {
         Format::Lines => "",
-        Format::Csv => TRACK_COLUMNS,
-        Format::Json => "",
+        Format::Rows(form) => track_header(form),
     }
 }
 
@@ -42,8 +41,7 @@ pub(crate) fn tell_found(format: Format, number: u64, found: &HeardSquitter, int
 {
     match format {
         Format::Lines => push_heard_line(into, number, found),
-        Format::Csv => push_heard_row::<CsvRows>(into, number, found),
-        Format::Json => push_heard_row::<JsonRows>(into, number, found),
+        Format::Rows(form) => in_form!(form, push_heard_row(into, number, found)),
     }
 }
 
@@ -55,7 +53,6 @@ pub(crate) fn refuse_text(format: Format, number: u64, fault: LineFault, into: &
 {
     match format {
         Format::Lines => push_refused_line(into, number, fault),
-        Format::Csv => push_refused_row::<CsvRows>(into, number, fault),
-        Format::Json => push_refused_row::<JsonRows>(into, number, fault),
+        Format::Rows(form) => in_form!(form, push_refused_row(into, number, fault)),
     }
 }

@@ -17,9 +17,6 @@ use sq_text::{
 };
 use sq_track::Heard;
 
-/// The names of the columns, in CSV.
-pub(crate) const TRACK_COLUMNS: &str = "line,moment,answer,address,kind,lat,lon,feet\n";
-
 /// Writes the row of a squitter that was heard into an empty text.
 pub(crate) fn push_heard_row<R: RowForm>(text: &mut LineText, number: u64, found: &HeardSquitter)
     requires { text.old.bytes ≡ [] }

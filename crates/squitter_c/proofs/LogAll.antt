@@ -3,11 +3,11 @@ use Rattle.std.proofs.Common.{◌≡◌, ◌++◌, ◌∙◌, ℕ, List, [], ap,
 use Rattle.std.proofs.Common.{refl, subst, take}
 use Rattle.std.proofs.Math.Seq.{take-length}
 use Rattle.sq_commands.specs.declared.formats.Format.{Format}
-use Rattle.sq_commands.specs.declared.formats.Format.TheVariants as formats
 use Rattle.sq_commands.specs.declared.found.HeardSquitter.{HeardSquitter}
 use Rattle.sq_commands.specs.Heard.{heard_telling}
 use Rattle.sq_commands.specs.SlowAnswers.{AreTrueAnswers}
 use Rattle.sq_commands.specs.Tracking.{track_manner}
+use Rattle.sq_commands.proofs.FormatLemmas.{one_number}
 use Rattle.sq_log.specs.declared.log.Answer.{Answer as Told}
 use Rattle.sq_log.specs.declared.log.Log.{Log}
 use Rattle.sq_log.specs.Lines.{closed, ended_lines}
@@ -18,7 +18,6 @@ use Rattle.sq_track.specs.Held.{Held}
 use Rattle.squitter_c.specs.declared.log_take.End.TheVariants as ends
 use Rattle.squitter_c.specs.LogCalls.{AsAnswers, AsTexts, GoesOn, GoesToTheEnd, HasGone, Written, log_in}
 use Rattle.squitter_c.specs.LogLaws.{AllAnswered, AllAnsweredAtEnd, AllTold, AllToldAtEnd}
-use Rattle.squitter_c.specs.LogTexts.{IsFormat}
 
 -- all lines that line feeds end were heard, and their answers are written after the answers before
 abbrev AllHeard : {X : Type 0} → Written X → (start : Held) → Log Held → (given : List ℕ)
@@ -90,18 +89,6 @@ all_answered_at_end k new was is before after start given lines answers
     (next, same, inr (long, kept, out, counts, fault)) room heard =
     absurd (omega (arith, ap (λ (f : Fault). f.code) fault))
 
--- a number is that of one format
-one_format : (number : ℕ) (f g : Format) → IsFormat number f → IsFormat number g → f ≡ g
-one_format number formats.Lines formats.Lines is also = refl
-one_format number formats.Lines formats.Csv is also = absurd (omega (arith, is, also))
-one_format number formats.Lines formats.Json is also = absurd (omega (arith, is, also))
-one_format number formats.Csv formats.Lines is also = absurd (omega (arith, is, also))
-one_format number formats.Csv formats.Csv is also = refl
-one_format number formats.Csv formats.Json is also = absurd (omega (arith, is, also))
-one_format number formats.Json formats.Lines is also = absurd (omega (arith, is, also))
-one_format number formats.Json formats.Csv is also = absurd (omega (arith, is, also))
-one_format number formats.Json formats.Json is also = refl
-
 pub all_told : AllTold
 all_told format number k new piece was is before after start given lines answers writers of
     (next, same, inl (above, kept, out, counts, fault)) room heard =
@@ -118,7 +105,7 @@ all_told format number k new piece was is before after start given lines answers
         h,
         true,
         subst (λ (g : Format). take after.written is ≡ told_text ((heard_telling g).text writers) told)
-            (one_format number f format also of) (written writers),
+            (one_number number f format also of) (written writers),
       ),
     )
 all_told format number k new piece was is before after start given lines answers writers of
@@ -145,7 +132,7 @@ all_told_at_end format number k new was is before after start given lines answer
       h,
       true,
       subst (λ (g : Format). take after.written is ≡ told_text ((heard_telling g).text writers) told)
-          (one_format number f format also of) (written writers),
+          (one_number number f format also of) (written writers),
     )
 all_told_at_end format number k new was is before after start given lines answers writers of
     (next, same, inr (f, also, inl (fits, (ends.Full, goes, wrote, counted, fault)))) room heard =

@@ -16,15 +16,15 @@ use Rattle.squitter_c.specs.declared.feed_new.PlainCounts.{PlainCounts}
 use Rattle.squitter_c.specs.declared.log_take.Done.{Done}
 
 -- 0 for Beast, 1 for AVR, 2 for CSV, 3 for a log
-abbrev pub format_number : Format → ℕ
-format_number formats.Beast = 0
-format_number formats.Avr = 1
-format_number formats.Csv = 2
-format_number formats.Log = 3
+abbrev pub feed_format_number : Format → ℕ
+feed_format_number formats.Beast = 0
+feed_format_number formats.Avr = 1
+feed_format_number formats.Csv = 2
+feed_format_number formats.Log = 3
 
 -- 4 for a source that shows its format by its first bytes
 abbrev pub feed_number : Option Format → ℕ
-feed_number (Some format) = format_number format
+feed_number (Some format) = feed_format_number format
 feed_number None = 4
 
 abbrev pub IsFeedFormat : ℕ → Option Format → Type 0
@@ -162,7 +162,7 @@ stranger_number strangers.NoFrame = 10
 
 -- the number of a format, or of what a source without one is, or 4 while neither is known
 abbrev pub source_number : Option Format → Option Stranger → ℕ
-source_number (Some format) stranger = format_number format
+source_number (Some format) stranger = feed_format_number format
 source_number None (Some stranger) = stranger_number stranger
 source_number None None = 4
 

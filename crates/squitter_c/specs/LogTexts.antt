@@ -1,7 +1,7 @@
 -- What calls of a log answer as texts.
 use Rattle.std.specs.Prelude.{◌≡◌, ◌<◌, ◌+◌, ◌⊎◌, ⊤, ℕ, List, [], Option, None, Some, length, take}
 use Rattle.sq_commands.specs.declared.formats.Format.{Format}
-use Rattle.sq_commands.specs.declared.formats.Format.TheVariants as formats
+use Rattle.sq_commands.specs.Formats.{format_number}
 use Rattle.sq_commands.specs.Heard.{heard_telling}
 use Rattle.squitter_c.specs.declared.faults.Fault.{Fault}
 use Rattle.squitter_c.specs.declared.faults.Reason.TheVariants as reasons
@@ -14,14 +14,13 @@ use Rattle.squitter_c.specs.Angles.{StandsIn}
 use Rattle.squitter_c.specs.LogCalls.{AsTexts, GoesOn, GoesToTheEnd, IsOfListener, IsWrittenTo, fault_of_end}
 use Rattle.squitter_c.specs.LogCalls.{log_in}
 
--- 0 for lines, 1 for CSV, 2 for JSON
-abbrev pub number_of : Format → ℕ
-number_of formats.Lines = 0
-number_of formats.Csv = 1
-number_of formats.Json = 2
-
+-- the format with this number
 abbrev pub IsFormat : ℕ → Format → Type 0
-IsFormat number format = number ≡ number_of format
+IsFormat number format = number ≡ format_number format
+
+-- no format has this number
+abbrev pub IsNoFormat : ℕ → Type 0
+IsNoFormat number = (format : Format) → ¬ IsFormat number format
 
 -- what the counts say of how a call ended: without room there is less than an answer may take
 abbrev pub IsEndInText : End → Done → (given room : ℕ) → Type 0
@@ -47,7 +46,7 @@ HasWrittenAll format old new was is done fault = (end : End)
 abbrev pub IsInFormat : (number : ℕ) → (old new : Kept) → (was is : List ℕ) → (before after : Done) → Fault
     → (Format → Type 0) → Type 0
 IsInFormat number old new was is before after fault Of =
-    ((2 < number) × (new ≡ old) × (is ≡ was) × (after ≡ before) × (fault ≡ fault_of reasons.NoFormat))
+    (IsNoFormat number × (new ≡ old) × (is ≡ was) × (after ≡ before) × (fault ≡ fault_of reasons.NoFormat))
     ⊎ ((format : Format) × IsFormat number format × Of format)
 
 -- what taking a piece made of a listener
@@ -84,7 +83,7 @@ IsTextFinished number None new was is before after fault =
 -- the text before the first answer in the format with this number; empty if there is no such format
 abbrev pub IsHeaderText : ℕ → List ℕ → Type 0
 IsHeaderText number text =
-    ((2 < number) × (text ≡ []))
+    (IsNoFormat number × (text ≡ []))
     ⊎ ((format : Format) × IsFormat number format × (text ≡ (heard_telling format).header))
 
 -- this text, and zeros after it

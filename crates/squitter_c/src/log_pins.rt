@@ -2,6 +2,7 @@
 //! A function with an empty body does nothing: its contract is the statement.
 ghost use Rattle.std.specs.Prelude.{◌≡◌, ◌↔◌, ◌⊎◌, ◌+◌, ◌*◌, ◌^◌, ◌<◌, ◌≤◌, [], List, ℕ, Some};
 ghost use Rattle.sq_commands.specs.declared.formats.Format.{Format};
+ghost use Rattle.sq_commands.specs.Formats.{format_number};
 ghost use Rattle.sq_commands.specs.Heard.{heard_telling};
 ghost use Rattle.squitter_c.specs.declared.faults.Fault.{Fault};
 ghost use Rattle.squitter_c.specs.Faults.{none};
@@ -11,7 +12,7 @@ ghost use Rattle.squitter_c.specs.declared.log_new.PlainTally.{PlainTally};
 ghost use Rattle.squitter_c.specs.Angles.{StandsIn};
 ghost use Rattle.squitter_c.specs.LogCalls.{IsTallied};
 ghost use Rattle.squitter_c.specs.LogLaws.{OneAnswer};
-ghost use Rattle.squitter_c.specs.LogTexts.{IsHeader};
+ghost use Rattle.squitter_c.specs.LogTexts.{IsHeader, IsNoFormat};
 ghost use Rattle.squitter_c.specs.Trackers.{IsMadeIn};
 
 /// An answer has one plain form.
@@ -25,11 +26,11 @@ pub fn tallied_exactly()
         ↔ ((is.good ≡ k.log.tally.good) × (is.refused ≡ k.log.tally.refused) × (fault ≡ none)) }
 {}
 
-/// The header of each format, by its number.
+/// The header of each format, by its number. A number without a format has an empty one.
 pub fn headers_exactly()
-    ensures none { (number : ℕ) (out : List ℕ) → 2 < number → IsHeader number out → StandsIn [] out }
+    ensures none { (number : ℕ) (out : List ℕ) → IsNoFormat number → IsHeader number out → StandsIn [] out }
     ensures some { (format : Format) (out : List ℕ) → StandsIn (heard_telling format).header out
-        → (number : ℕ) × (number ≤ 2) × IsHeader number out }
+        → IsHeader (format_number format) out }
 {}
 
 /// The size of a block; a smaller one is refused.

@@ -1,10 +1,10 @@
 //! The answers to the lines of a log as texts, as many as fit a buffer.
-ghost use Rattle.std.specs.Prelude.{◌≡◌, ◌+◌, ◌++◌, ◌*◌, ◌^◌, ◌<◌, ◌≤◌, ◌↔◌, [], IfNone, IfSome, drop, length, take};
+ghost use Rattle.std.specs.Prelude.{◌≡◌, ◌+◌, ◌++◌, ◌*◌, ◌^◌, ◌<◌, ◌≤◌, [], drop, length, take};
 ghost use Rattle.sq_commands.specs.Heard.{heard_telling};
 ghost use Rattle.sq_log.specs.States.{with_job};
 ghost use Rattle.squitter_c.specs.LogCalls.{AsTexts, GoesOn, GoesToTheEnd, HasGoneOn, IsTooLong, IsWrittenTo};
 ghost use Rattle.squitter_c.specs.LogCalls.{held_by};
-ghost use Rattle.squitter_c.specs.LogTexts.{IsEndInText, IsFormat, IsHeader, IsHeaderText, IsTextFinished};
+ghost use Rattle.squitter_c.specs.LogTexts.{IsEndInText, IsHeader, IsHeaderText, IsTextFinished};
 ghost use Rattle.squitter_c.specs.LogTexts.{IsTextFinishedBy, IsTextTaken, IsTextTakenBy};
 ghost use Rattle.squitter_c.specs.Slots.{held_listener};
 
@@ -91,7 +91,7 @@ fn take_by(
 ) -> Fault
     ensures { IsTextTakenBy format listener.old listener.new piece.now out.old out.new done.old done.new result }
 {
-    let Some(format) = format_of(format) else {
+    let Some(format) = Format::numbered(format) else {
         return Fault::of(Reason::NoFormat);
     };
     if is_too_long(&listener.log, piece.len()) {
@@ -106,7 +106,7 @@ fn take_by(
 fn finish_by(listener: &mut Listener, format: u32, out: &mut [u8], done: &mut Done) -> Fault
     ensures { IsTextFinishedBy format listener.old listener.new out.old out.new done.old done.new result }
 {
-    let Some(format) = format_of(format) else {
+    let Some(format) = Format::numbered(format) else {
         return Fault::of(Reason::NoFormat);
     };
     if is_too_long(&listener.log, 0) {
@@ -186,7 +186,7 @@ fn header_of(number: u32) -> &'static str
     ensures header { IsHeaderText number result.now }
     ensures short { length result.now < 64 }
 {
-    match format_of(number) {
+    match Format::numbered(number) {
         Some(format) => short_header(format),
         None => "",
     }
@@ -198,19 +198,6 @@ fn short_header(format: Format) -> &'static str
     ensures short { length result.now < 64 }
 {
     heard_header(format)
-}
-
-// Returns the format with this number.
-fn format_of(number: u32) -> Option<Format>
-    ensures some { IfSome result (IsFormat number) }
-    ensures none { IfNone result (2 < number) }
-{
-    match number {
-        0 => Some(Format::Lines),
-        1 => Some(Format::Csv),
-        2 => Some(Format::Json),
-        _ => None,
-    }
 }
 
 // Puts a text at a place.

@@ -1,7 +1,7 @@
-use Rattle.std.proofs.Common.{None, Some, inl, inr, refl}
+use Rattle.std.proofs.Common.{None, Some, ap, inl, inr, refl}
 use Rattle.sq_feed.specs.declared.machine.Format.TheVariants.{Beast, Avr, Csv as CsvSource, Log}
-use Rattle.sq_commands.specs.declared.formats.Format.TheVariants.{Lines, Csv, Json}
-use Rattle.sq_commands.proofs.FormatLemmas.{one_format, some_name}
+use Rattle.sq_commands.specs.declared.formats.Format.TheVariants.{Lines}
+use Rattle.sq_commands.proofs.FormatLemmas.{one_format, one_number}
 use Rattle.sq_commands.proofs.OneRuns.Feeds.{no_source, one_source}
 use Rattle.sq_commands.proofs.pins.one_format.Goals as goal
 
@@ -11,14 +11,12 @@ returns-clause-one c = one_format
 pub returns-clause-none : goal.returns-clause-none
 returns-clause-none c None = (λ none. absurd (none Lines refl), λ names. absurd (names.0 refl))
 returns-clause-none c (Some word) = (
-  λ none. (
-    λ is. absurd (cc is),
-    λ is. none Lines (cc is),
-    λ is. none Csv (cc is),
-    λ is. none Json (cc is),
-  ),
-  λ names. some_name word names.1 names.2 names.3,
+  λ none. (λ is. absurd (cc is), λ format is. none format (cc is)),
+  λ names format is. names.1 format (ap Some is),
 )
+
+pub returns-clause-number : goal.returns-clause-number
+returns-clause-number c = one_number
 
 pub returns-clause-one_source : goal.returns-clause-one_source
 returns-clause-one_source c = one_source
