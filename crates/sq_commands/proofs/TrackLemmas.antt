@@ -12,7 +12,7 @@ use Rattle.sq_log.specs.declared.job.Verdict.{Verdict}
 use Rattle.sq_log.specs.declared.job.Verdict.TheVariants as verdicts
 use Rattle.sq_log.specs.Content.{Answer, Content, Long, Empty, Text, answer_by, answer_content, content}
 use Rattle.sq_log.specs.Lines.{lines_of}
-use Rattle.sq_log.specs.Runs.{HasTold, HasToldBy, IsRun, WroteAnswers}
+use Rattle.sq_log.specs.Runs.{HasTold, HasToldBy, IsRun}
 use Rattle.sq_log.specs.declared.faults.RunFault.{RunFault}
 use Rattle.sq_log.specs.declared.tallies.Tally.{Tally}
 use Rattle.sq_log.proofs.Running.{run_as, run_reported}
@@ -24,12 +24,12 @@ use Rattle.sq_track.specs.History.{History}
 use Rattle.sq_track.specs.Replies.{Settings, IsReply, history_after}
 use Rattle.sq_track.proofs.Histories.OneReply.{one_reply}
 use Rattle.sq_commands.specs.declared.formats.Format.{Format}
-use Rattle.sq_commands.specs.Formats.{Telling, told_by}
+use Rattle.sq_commands.specs.Formats.{Telling}
 use Rattle.sq_commands.specs.Heard.{HeardSquitter, heard_telling}
 use Rattle.sq_commands.specs.TrueAnswers.{start, true_after}
 use Rattle.sq_commands.specs.declared.track.Hearing.{Hearing}
-use Rattle.sq_commands.specs.Track.{IsTracked, hearing_manner}
-use Rattle.sq_commands.specs.Tracking.{AreHeardLines, HasHeard, IsFoundOf, IsHeardLine, IsTimedHeard, IsTracking}
+use Rattle.sq_commands.specs.Track.{HasTracked, IsTracked, hearing_manner}
+use Rattle.sq_commands.specs.Tracking.{AreHeardLines, IsFoundOf, IsHeardLine, IsTimedHeard, IsTracking}
 use Rattle.sq_commands.specs.Tracking.{Tracking, answer_read, found_of, past_read}
 use Rattle.sq_commands.specs.Tracking.{past_with, reply_by, track_manner, track_way}
 
@@ -192,11 +192,10 @@ lines_heard past (line ∷ lines) =
 
 -- ---- runs
 
-pub heard_from : (telling : Telling HeardSquitter) (old new : Held)
-    (Holding : (List (Answer HeardSquitter) → List ℕ) → List (Answer HeardSquitter) → Type 0) (lines : List (List ℕ))
-    → HasTold track_manner old new (λ writers answers. Holding (told_by telling writers) answers) lines
-    → HasHeard telling old new Holding lines
-heard_from telling old new Holding lines told reader writers h stands =
+told-track : (telling : Telling HeardSquitter) (result : Result Tally RunFault) (output : Written) (old new : Held)
+    (lines : List (List ℕ)) → HasToldBy telling.header telling.text track_manner old new result output lines
+    → HasTracked telling old new result output lines
+told-track telling result output old new lines told reader writers h stands =
     let past = start reader (settings old) h stands.accepted in
     let one = told past writers (stands, refl) in (
       answers_to track_way past lines,
@@ -214,17 +213,15 @@ pub tracked : (telling : Telling HeardSquitter) (result : Result Tally RunFault)
 tracked telling result input output old new ran =
     run_as (WantsAt track_manner new) (WantsAt track_manner new)
     (HasToldBy telling.header telling.text track_manner old new result output)
-    (HasHeard telling old new (WroteAnswers result output)) (λ line wants. wants)
-    (heard_from telling old new (WroteAnswers result output)) result input output ran
+    (HasTracked telling old new result output) (λ line wants. wants) (told-track telling result output old new)
+    result input output ran
 
 -- where the source reports its bytes, the answers are those to all of them
 pub tracked_reported : (telling : Telling HeardSquitter) (result : Result Tally RunFault) (input : Taken)
     (output : Written) (old new : Held) → IsTracked telling result input output old new
-    → IfOk result (λ tally. TookReported input
-    (λ read. HasHeard telling old new (WroteAnswers result output) (lines_of read)))
+    → IfOk result (λ tally. TookReported input (λ read. HasTracked telling old new result output (lines_of read)))
 tracked_reported telling (Ok tally) input output old new is =
-    run_reported (WantsAt track_manner new) (HasHeard telling old new (WroteAnswers (Ok tally) output)) tally input
-    output is
+    run_reported (WantsAt track_manner new) (HasTracked telling old new (Ok tally) output) tally input output is
 tracked_reported telling (Err fault) input output old new is = tt
 
 -- a run in one format, by another name of it

@@ -1,13 +1,16 @@
 -- The command `track`.
 use Rattle.std.specs.Prelude.{◌≡◌, ◌≤◌, ◌<◌, ◌^◌, ◌⊎◌, ℕ, List, [], Option, None, Some, Result, MatchResult, length}
 use Rattle.sq_devices.specs.Changes.{Taken, TookNothing, Written}
-use Rattle.sq_text.specs.Timed.{IsDecimalText}
+use Rattle.sq_text.specs.Timed.{IsDecimalText, TimedReader}
 use Rattle.sq_log.specs.Answers.{Manner, WantsAt}
+use Rattle.sq_log.specs.Content.{Answer}
+use Rattle.sq_log.specs.Logs.{told_from}
 use Rattle.sq_log.specs.Runs.{HasRun, WroteAnswers}
 use Rattle.sq_log.specs.declared.faults.RunFault.{RunFault}
 use Rattle.sq_log.specs.declared.tallies.Tally.{Tally}
 use Rattle.sq_commands.specs.Requests.{AskedTrack}
 use Rattle.sq_track.specs.Held.{Held, StandsFor, made_with, settings}
+use Rattle.sq_track.specs.History.{History}
 use Rattle.sq_commands.specs.declared.arguments.ArgumentFault.{ArgumentFault}
 use Rattle.sq_commands.specs.declared.arguments.ArgumentFault.TheVariants as faults
 use Rattle.sq_commands.specs.declared.arguments.TrackOptions.{TrackOptions}
@@ -18,16 +21,27 @@ use Rattle.sq_commands.specs.Check.{EndsAs}
 use Rattle.sq_commands.specs.Faults.{IsMisuse}
 use Rattle.sq_commands.specs.Outputs.{Effects}
 use Rattle.sq_commands.specs.declared.track.Hearing.{Hearing}
-use Rattle.sq_commands.specs.Formats.{IsFormatWord, Telling}
+use Rattle.sq_commands.specs.Formats.{IsFormatWord, Telling, Writers, told_by}
 use Rattle.sq_commands.specs.Heard.{HeardSquitter, heard_telling}
-use Rattle.sq_commands.specs.Tracking.{HasHeard, Tracking, track_manner}
+use Rattle.sq_commands.specs.SlowAnswers.{AreTrueAfter}
+use Rattle.sq_commands.specs.Tracking.{AreHeardLines, Tracking, track_manner}
 
 -- ---- a run over a log
+
+-- A tracker has heard these lines, and so much of their answers was written as the result says: for each history that
+-- it represented, it now represents the history after them. The answers are true in slow worlds.
+abbrev pub HasTracked : Telling HeardSquitter → (old new : Held) → Result Tally RunFault → Written → List (List ℕ)
+    → Type 0
+HasTracked telling old new result output lines = (reader : TimedReader) (writers : Writers) (h : History)
+    → StandsFor old h → (answers : List (Answer HeardSquitter)) × (next : History)
+    × AreHeardLines reader (settings old) h lines answers next
+    × StandsFor new next × AreTrueAfter old h (told_from 1 answers)
+    × WroteAnswers result output (told_by telling writers) answers
 
 -- the result of a run over an input, with the tracker before and after it; answers are written in this way
 abbrev pub IsTracked : Telling HeardSquitter → Result Tally RunFault → Taken → Written → (old new : Held) → Type 0
 IsTracked telling result input output old new =
-    HasRun (WantsAt track_manner new) (HasHeard telling old new (WroteAnswers result output)) result input output
+    HasRun (WantsAt track_manner new) (HasTracked telling old new result output) result input output
 
 -- how `track` answers texts, by the tracker that it borrows
 abbrev pub hearing_manner : {F A : Type 0} → Manner (Hearing F A) Tracking HeardSquitter

@@ -9,7 +9,6 @@ use Rattle.sq_message.specs.declared.received.Received.{Received}
 use Rattle.sq_text.specs.Timed.{IsTimedText, TimedReader}
 use Rattle.sq_log.specs.Content.{Answer, answer_by}
 use Rattle.sq_log.specs.Answers.{Answerer, Manner}
-use Rattle.sq_log.specs.Logs.{told_from}
 use Rattle.sq_log.specs.declared.job.Verdict.{Verdict}
 use Rattle.sq_log.specs.declared.job.Verdict.TheVariants as verdicts
 use Rattle.sq_track.specs.declared.heard.Heard.{Heard}
@@ -18,9 +17,7 @@ use Rattle.sq_track.specs.declared.heard.TrackFault.TheVariants.{Memory, MomentB
 use Rattle.sq_track.specs.Held.{Held, StandsFor, present_of, settings}
 use Rattle.sq_track.specs.History.{History}
 use Rattle.sq_track.specs.Replies.{Settings, IsAcceptable, IsHistory, IsReply, history_after}
-use Rattle.sq_commands.specs.Formats.{Telling, Writers, told_by}
 use Rattle.sq_commands.specs.Heard.{HeardSquitter}
-use Rattle.sq_commands.specs.SlowAnswers.{AreTrueAfter}
 
 -- ---- by the history
 
@@ -47,15 +44,6 @@ AreHeardLines reader s h (line ∷ lines) answers next =
     (first : Answer HeardSquitter) × (then_on : History) × (rest : List (Answer HeardSquitter))
     × IsHeardLine s h (answer_by reader.read line) first then_on
     × AreHeardLines reader s then_on lines rest next × (answers ≡ first ∷ rest)
-
--- A tracker has heard these lines: for each history that it represented, it now represents the history after them. The
--- answers are true in slow worlds, and have this property, written in this way.
-abbrev pub HasHeard : Telling HeardSquitter → (old new : Held)
-    → ((List (Answer HeardSquitter) → List ℕ) → List (Answer HeardSquitter) → Type 0) → List (List ℕ) → Type 0
-HasHeard telling old new Holding lines = (reader : TimedReader) (writers : Writers) (h : History) → StandsFor old h
-    → (answers : List (Answer HeardSquitter)) × (next : History)
-    × AreHeardLines reader (settings old) h lines answers next
-    × StandsFor new next × AreTrueAfter old h (told_from 1 answers) × Holding (told_by telling writers) answers
 
 -- ---- as a function of the past
 

@@ -1,7 +1,8 @@
 //! Laws over the definitions that the contracts name.
-ghost use Rattle.std.specs.Prelude.{◌≡◌, ◌∷◌, [], List, ℕ, IfSome, None, Option, Some};
-ghost use Rattle.std.specs.Prelude.{false};
+ghost use Rattle.std.specs.Prelude.{◌≡◌, ◌∷◌, [], List, ℕ, IfSome, None, Option, Result, Some, false};
+ghost use Rattle.sq_devices.specs.Changes.{written_on};
 ghost use Rattle.sq_devices.specs.Clocks.{times_of};
+ghost use Rattle.sq_log.specs.declared.faults.RunFault.{RunFault};
 ghost use Rattle.sq_log.specs.declared.tallies.Tally.{Tally};
 ghost use Rattle.sq_text.specs.Timed.{TimedReader};
 ghost use Rattle.sq_track.specs.Held.{Held, StandsFor, settings};
@@ -16,7 +17,8 @@ ghost use Rattle.sq_commands.specs.Runs.{IsRun, IsTimedRun};
 ghost use Rattle.sq_log.specs.Content.{Answer as LineAnswer};
 ghost use Rattle.sq_log.specs.Logs.{AreAnswers, told_from};
 ghost use Rattle.sq_log.specs.declared.log.Answer.{Answer};
-ghost use Rattle.sq_commands.specs.Tracking.{AreHeardLines, HasHeard, track_manner};
+ghost use Rattle.sq_commands.specs.Track.{HasTracked};
+ghost use Rattle.sq_commands.specs.Tracking.{AreHeardLines, track_manner};
 
 use crate::formats::Numbered;
 use crate::found::HeardSquitter;
@@ -76,10 +78,11 @@ pub fn first_answer_is_true(
 }
 
 /// In a slow world, the answers of a tracker to lines after a history are true.
-pub fn heard_lines_are_true()
+pub fn heard_lines_are_true<K: Sink>()
     ensures { (telling : Telling HeardSquitter) (old new : Held) (lines : List (List ℕ)) (reader : TimedReader)
-        (writers : Writers) (history : History) → HasHeard telling old new (λ text answers. Unit {0}) lines
-        → StandsFor old history → (answers : List (LineAnswer HeardSquitter)) × (next : History)
+        (writers : Writers) (history : History) (result : Result Tally RunFault) (first last : K)
+        → HasTracked telling old new result (written_on K.Sink first last) lines → StandsFor old history
+        → (answers : List (LineAnswer HeardSquitter)) × (next : History)
         × AreHeardLines reader (settings old) history lines answers next
         × AreTrueAfter old history (told_from 1 answers) }
 {}

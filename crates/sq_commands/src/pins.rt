@@ -13,6 +13,7 @@ ghost use Rattle.sq_feed.specs.declared.machine.Format.{Format as SourceFormat};
 ghost use Rattle.sq_log.specs.Answers.{WantsAt};
 ghost use Rattle.sq_log.specs.Content.{Text, answer_by, content};
 ghost use Rattle.sq_log.specs.Runs.{AreAnswered, IsClosedBy, WroteAnswers};
+ghost use Rattle.sq_log.specs.Faults.{run_fault_text};
 ghost use Rattle.sq_log.specs.declared.faults.RunFault.{RunFault};
 ghost use Rattle.sq_log.specs.declared.faults.RunFault.TheVariants.{Memory, Read, Write};
 ghost use Rattle.sq_log.specs.declared.tallies.Tally.{Tally};
@@ -21,6 +22,8 @@ ghost use Rattle.sq_message.specs.Places.{IsPosition};
 ghost use Rattle.sq_message.specs.declared.received.Received.{Received};
 ghost use Rattle.sq_text.specs.Timed.{IsTimedText};
 ghost use Rattle.sq_text.specs.declared.faults.LineFault.{LineFault};
+ghost use Rattle.sq_track.specs.Faults.{track_fault_label};
+ghost use Rattle.sq_track.specs.declared.heard.TrackFault.TheVariants as tracks;
 ghost use Rattle.sq_track.specs.Held.{Held, StandsFor, made_with, present_of, settings};
 ghost use Rattle.sq_track.specs.History.{History};
 ghost use Rattle.sq_track.specs.Replies.{IsAcceptable};
@@ -34,18 +37,18 @@ ghost use Rattle.sq_commands.specs.BrokenOff.{BrokenAside, BrokenFeeds};
 ghost use Rattle.sq_commands.specs.Check.{Checks, EndsAs, IsCheckRunIn, IsChecked, IsNoFormat};
 ghost use Rattle.sq_commands.specs.declared.feed.FeedOptions.{FeedOptions};
 ghost use Rattle.sq_commands.specs.Feed.{IsFed, IsFeedRunIn, IsNoSource, IsSourceWord};
-ghost use Rattle.sq_commands.specs.Formats.{IsFormatWord, Writers, told_by};
+ghost use Rattle.sq_commands.specs.Formats.{IsFormatWord, Writers, format_name, format_number, told_by};
 ghost use Rattle.sq_commands.specs.Heard.{heard_telling, track_columns};
 ghost use Rattle.sq_commands.specs.Laws.{OneEncodeFault, OneFeedFault, OnePositionFault, OneSiteFault, OneTrackFault};
-ghost use Rattle.sq_commands.specs.Outputs.{broken_text, effects, outputs};
+ghost use Rattle.sq_commands.specs.Outputs.{effects, outputs};
 ghost use Rattle.sq_commands.specs.Replies.{IsDelivered, answered, refused};
 ghost use Rattle.sq_commands.specs.Squitters.{check_columns, squitter_telling};
 ghost use Rattle.sq_commands.specs.SlowAnswers.{AreTrueAfter, AreTrueAnswers, heard_in, received_in};
 ghost use Rattle.sq_commands.specs.Summary.{stranger_text, summary_text};
 ghost use Rattle.sq_feed.specs.declared.message.Stranger.{Stranger};
-ghost use Rattle.sq_commands.specs.Track.{IsLogRun, IsTracked};
+ghost use Rattle.sq_commands.specs.Track.{HasTracked, IsLogRun, IsTracked};
 ghost use Rattle.sq_log.specs.declared.log.Answer.{Answer};
-ghost use Rattle.sq_commands.specs.Tracking.{HasHeard, OnePast, track_manner};
+ghost use Rattle.sq_commands.specs.Tracking.{OnePast, track_manner};
 
 use crate::found::HeardSquitter;
 use crate::status::Status;
@@ -65,11 +68,13 @@ pub fn one_argument_fault()
     ensures feed { OneFeedFault }
 {}
 
-/// A word names at most one format: `lines`, `csv` or `json`; of `feed`, `auto`, `beast`, `avr`, `csv` or `log`.
+/// A word names at most one format, and a number of the library too. A format of `feed` is `auto`, `beast`, `avr`,
+/// `csv` or `log`.
 pub fn one_format()
     ensures one { (word : Option (List ℕ)) (a b : Format) → IsFormatWord word a → IsFormatWord word b → a ≡ b }
     ensures none { (word : Option (List ℕ)) → IsNoFormat word
-        ↔ (word ≢ None) × (word ≢ Some (codes "lines")) × (word ≢ Some (codes "csv")) × (word ≢ Some (codes "json")) }
+        ↔ (word ≢ None) × ((format : Format) → word ≢ Some (format_name format)) }
+    ensures number { (number : ℕ) (a b : Format) → number ≡ format_number a → number ≡ format_number b → a ≡ b }
     ensures one_source { (word : Option (List ℕ)) (a b : Option SourceFormat) → IsSourceWord word a
         → IsSourceWord word b → a ≡ b }
     ensures no_source { (word : Option (List ℕ)) → IsNoSource word ↔ (word ≢ None) × (word ≢ Some (codes "auto"))
@@ -159,7 +164,7 @@ pub fn tracked_exactly<S: Source, K: Sink>()
         → IsTracked (heard_telling format) result (taken_from S.Source from to) (written_on K.Sink old new) first last
         ↔ (IsClosedBy result (written_on K.Sink old new) × ((lines : List (List ℕ))
         × AreAnswered (WantsAt track_manner last) result (taken_from S.Source from to) lines
-        × HasHeard (heard_telling format) first last (WroteAnswers result (written_on K.Sink old new)) lines)) }
+        × HasTracked (heard_telling format) first last result (written_on K.Sink old new) lines)) }
     ensures wants { (tracker : Held) (line : List ℕ) → WantsAt track_manner tracker line
         ↔ ((text : List ℕ) × (content line ≡ Text text) × ((timed : Received) × IsTimedText text timed
         × (IsPosition (squitter_parts timed.squitter).me
@@ -177,9 +182,10 @@ pub fn ended_exactly<S: Source, K: Sink, F: Sink>()
     ensures broken { (fault : RunFault) (status : Ending) (old new : K) (before after : F)
         → EndsAs (Err fault) status (outputs K.Sink F.Sink old new before after)
         ↔ ((status ≡ Broken)
-        × WroteOrFailed (written_on F.Sink before after) (broken_text fault ++ codes "\n")) }
-    ensures words { (broken_text Read ≡ codes "read failed") × (broken_text Write ≡ codes "write failed")
-        × (broken_text Memory ≡ codes "out of memory") }
+        × WroteOrFailed (written_on F.Sink before after) (run_fault_text fault ++ codes "\n")) }
+    ensures words { (run_fault_text Read ≡ codes "read failed") × (run_fault_text Write ≡ codes "write failed")
+        × (run_fault_text Memory ≡ codes "out of memory") }
+    ensures memory { run_fault_text Memory ≡ track_fault_label tracks.Memory }
     ensures checked { (format : Format) (status : Ending) (from to : S) (old new : K) (before after : F)
         → IsCheckRunIn format status (effects S.Source from to (outputs K.Sink F.Sink old new before after))
         ↔ ((result : Result Tally RunFault)

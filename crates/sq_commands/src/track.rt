@@ -3,20 +3,20 @@ ghost use base.Fml.{GName};
 ghost use Rattle.std.specs.Prelude.{◌≡◌, ◌≤◌, IfOk};
 ghost use Rattle.sq_devices.specs.Changes.{TookReported, taken_from, written_on};
 ghost use Rattle.sq_log.specs.Lines.{lines_of};
-ghost use Rattle.sq_log.specs.Runs.{WroteAnswers};
 ghost use Rattle.sq_commands.specs.Requests.{asked_track};
+ghost use Rattle.sq_commands.specs.Faults.{IsMisuse};
 ghost use Rattle.sq_commands.specs.Formats.{Writers};
 ghost use Rattle.sq_commands.specs.Heard.{heard_lines, heard_telling};
 ghost use Rattle.sq_commands.specs.Outputs.{effects, outputs};
 ghost use Rattle.sq_commands.specs.SlowAnswers.{AreTrueAnswers};
-ghost use Rattle.sq_commands.specs.Track.{IsLogRun, IsTrackRun, IsTracked, hearing_manner};
-ghost use Rattle.sq_commands.specs.Tracking.{HasHeard, IsTimedHeard, Tracking};
+ghost use Rattle.sq_commands.specs.Track.{HasTracked, IsLogRun, IsTrackRun, IsTracked, hearing_manner};
+ghost use Rattle.sq_commands.specs.Tracking.{IsTimedHeard, Tracking};
 ghost use Rattle.sq_commands.specs.TrueAnswers.{true_answers};
 ghost use Rattle.sq_track.specs.Held.{settings};
 
 use crate::arguments::{ArgumentFault, TrackOptions, read_options};
 use crate::check::end_of;
-use crate::formats::{AnswerFormat, CsvRows, Format, JsonRows, Numbered};
+use crate::formats::{AnswerFormat, CsvRows, Format, Numbered, in_format};
 use crate::found::HeardSquitter;
 use crate::replies::{break_off, misuse};
 use crate::requests::TrackWords;
@@ -25,7 +25,7 @@ use crate::told::{heard_header, refuse_text, tell_found};
 use sq_devices::{Sink, Source};
 use sq_log::{Job, LineText, Log, RunFault, Tally, Telling, Verdict, run_log};
 use sq_message::Received;
-use sq_text::{LineFault, read_timed};
+use sq_text::{Form, LineFault, read_timed};
 use sq_track::{TrackFault, Tracker};
 use std::alloc::{Allocator, Global};
 
@@ -139,8 +139,8 @@ pub fn run_track<S: Source, K: Sink>(
 
     // If the source reports its bytes, the answers are those to all of them.
     ensures reported { IfOk result (λ tally. TookReported (taken_from S.Source source.old source.new)
-        (λ read. HasHeard heard_lines tracker.old tracker.new
-        (WroteAnswers result (written_on K.Sink sink.old sink.new)) (lines_of read))) }
+        (λ read. HasTracked heard_lines tracker.old tracker.new result (written_on K.Sink sink.old sink.new)
+        (lines_of read))) }
 {
     run_track_as(&Numbered, source, sink, tracker)
 }
@@ -155,8 +155,8 @@ fn run_track_as<S: Source, K: Sink, F: AnswerFormat>(
     ensures ran { IsTracked (heard_telling F.chosen) result (taken_from S.Source source.old source.new)
         (written_on K.Sink sink.old sink.new) tracker.old tracker.new }
     ensures reported { IfOk result (λ tally. TookReported (taken_from S.Source source.old source.new)
-        (λ read. HasHeard (heard_telling F.chosen) tracker.old tracker.new
-        (WroteAnswers result (written_on K.Sink sink.old sink.new)) (lines_of read))) }
+        (λ read. HasTracked (heard_telling F.chosen) tracker.old tracker.new result
+        (written_on K.Sink sink.old sink.new) (lines_of read))) }
 {
     run_log(source, sink, &mut Log::new(Hearing { tracker, format }))
 }
@@ -170,11 +170,7 @@ fn run_track_in<S: Source, K: Sink>(
     ensures { IsTracked (heard_telling format) result (taken_from S.Source source.old source.new)
         (written_on K.Sink sink.old sink.new) tracker.old tracker.new }
 {
-    match format {
-        Format::Lines => run_track_as(&Numbered, source, sink, tracker),
-        Format::Csv => run_track_as(&CsvRows, source, sink, tracker),
-        Format::Json => run_track_as(&JsonRows, source, sink, tracker),
-    }
+    in_format!(format, run_track_as(source, sink, tracker))
 }
 
 // Runs `track` over the input.
@@ -194,7 +190,7 @@ pub(crate) fn track<S: Source, K: Sink, F: Sink>(
     }
 }
 
-// Runs `track` with options that were read. A limit of 0 is a misuse.
+// Runs `track` with options that were read. A limit of 0 is a misuse, and the input is unread.
 fn track_with<S: Source, K: Sink, F: Sink>(
     alloc: Global,
     options: &TrackOptions,
@@ -202,8 +198,10 @@ fn track_with<S: Source, K: Sink, F: Sink>(
     output: &mut K,
     faults: &mut F,
 ) -> Status
-    ensures { 1 ≤ options.now.limit → IsLogRun options.now result
+    ensures ran { 1 ≤ options.now.limit → IsLogRun options.now result
         (effects S.Source input.old input.new (outputs K.Sink F.Sink output.old output.new faults.old faults.new)) }
+    ensures refused { options.now.limit ≡ 0 → (input.new ≡ input.old) × IsMisuse ArgumentFault.NoLimit result
+        (outputs K.Sink F.Sink output.old output.new faults.old faults.new) }
 {
     match Tracker::new(alloc, options.limit, options.window, options.site) {
         Ok(mut tracker) => match run_track_in(options.format, input, output, &mut tracker) {

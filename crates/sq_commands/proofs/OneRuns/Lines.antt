@@ -21,13 +21,13 @@ use Rattle.sq_commands.proofs.OneRuns.Alike.{HaveOne, IsWhole, one_delivery}
 abbrev pub RunAlike : (a b : Status) → (d e : Effects) → Type 0
 RunAlike a b d e = HaveOne a b d.outputs e.outputs × (d.input.after ≡ e.input.after)
 
--- of an input that was taken to its end nothing is left, and this holds of its bytes
+-- an input that was read to its end is empty, and this holds of its bytes
 pub took_bytes : (t : Taken) (bytes : List ℕ) (Of : List ℕ → Type 0) → t.before ≡ Some bytes → TookAll t Of
     → (t.after ≡ Some []) × Of bytes
 took_bytes t bytes Of is took =
     subst (λ (o : Option (List ℕ)). IfSome o (λ all. (t.after ≡ Some []) × Of all)) is (took_reported t Of took)
 
--- of an input that was taken to its end nothing is left, and all of its lines were answered
+-- an input that was read to its end is empty, and all of its lines were answered
 pub took_lines : (t : Taken) (bytes : List ℕ) (lines : List (List ℕ)) (Answered : List (List ℕ) → Type 0)
     → t.before ≡ Some bytes → TookAll t (λ read. lines ≡ lines_of read) → Answered lines
     → (t.after ≡ Some []) × Answered (lines_of bytes)

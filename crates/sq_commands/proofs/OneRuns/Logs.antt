@@ -6,7 +6,6 @@ use Rattle.sq_text.specs.Timed.{TimedReader}
 use Rattle.sq_log.specs.Answers.{tally_of}
 use Rattle.sq_log.specs.Content.{Answer, answer_by}
 use Rattle.sq_log.specs.Lines.{lines_of}
-use Rattle.sq_log.specs.Runs.{WroteAnswers}
 use Rattle.sq_log.specs.declared.tallies.Tally.{Tally}
 use Rattle.sq_commands.specs.Requests.{AskedTrack}
 use Rattle.sq_track.specs.declared.heard.Heard.{Heard}
@@ -24,8 +23,9 @@ use Rattle.sq_commands.specs.Faults.{IsMisuse, misused}
 use Rattle.sq_commands.specs.Formats.{Telling, told_by}
 use Rattle.sq_commands.specs.Heard.{HeardSquitter, heard_telling}
 use Rattle.sq_commands.specs.Outputs.{Effects}
-use Rattle.sq_commands.specs.Track.{IsLimit, IsLogRun, IsTrackFault, IsTrackOptions, IsTrackRun, IsWindow}
-use Rattle.sq_commands.specs.Tracking.{AreHeardLines, HasHeard, IsHeardLine, found_of}
+use Rattle.sq_commands.specs.Track.{HasTracked, IsLimit, IsLogRun, IsTrackFault, IsTrackOptions, IsTrackRun}
+use Rattle.sq_commands.specs.Track.{IsWindow}
+use Rattle.sq_commands.specs.Tracking.{AreHeardLines, IsHeardLine, found_of}
 use Rattle.sq_commands.proofs.FaultLemmas.{one_track_fault}
 use Rattle.sq_commands.proofs.FormatLemmas.{one_format}
 use Rattle.sq_commands.specs.TrueAnswers.{some_reader}
@@ -96,8 +96,8 @@ good_track words x fault p (inr (_, inr (_, inr (_, inr (_, bad))))) =
 -- trackers that were made alike, and have heard nothing, answer the same to one log
 one_log : (how : Telling HeardSquitter) (s : Settings) (v w : Written) (x y : Tally) (bytes : List ℕ)
     (old new other last : Held) → settings old ≡ s → settings other ≡ s → StandsFor old [] → StandsFor other []
-    → FinishedOnce v → FinishedOnce w → HasHeard how old new (WroteAnswers (Ok x) v) (lines_of bytes)
-    → HasHeard how other last (WroteAnswers (Ok y) w) (lines_of bytes)
+    → FinishedOnce v → FinishedOnce w → HasTracked how old new (Ok x) v (lines_of bytes)
+    → HasTracked how other last (Ok y) w (lines_of bytes)
     → (x ≡ y) × ((text : List ℕ) × WroteLast v text × WroteLast w text)
 one_log how s v w x y bytes old new other last made made' stands stands' once once' h k =
     let (xs, next, heard, _, _, (sent, counted)) = h some_reader some_writers [] stands in
@@ -123,10 +123,8 @@ module _ (a b : Status) (d e : Effects) (m : IsWhole a d.outputs) (n : IsWhole b
   one_log_run options (old, new, stands, made, (Ok x, (once, (lines, took, told)), ended))
       (other, last, stands', made', (Ok y, (once', (lines', took', told')), ended')) =
       let how = heard_telling options.format in
-      let h = took_lines d.input bytes lines (HasHeard how old new (WroteAnswers (Ok x) d.outputs.output)) d_is took
-      told in
-      let k = took_lines e.input bytes lines' (HasHeard how other last (WroteAnswers (Ok y) e.outputs.output)) e_is
-      took' told' in
+      let h = took_lines d.input bytes lines (HasTracked how old new (Ok x) d.outputs.output) d_is took told in
+      let k = took_lines e.input bytes lines' (HasTracked how other last (Ok y) e.outputs.output) e_is took' told' in
       let one = one_log how (made_with options.limit options.window options.site) d.outputs.output e.outputs.output x y
       bytes old new other last made made' stands stands' once once' h.1 k.1 in (
         (ended.0 ∙ ap status_of one.0 ∙ sym ended'.0, inr one.1, inl (ended.1, ended'.1)),

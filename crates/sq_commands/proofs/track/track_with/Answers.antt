@@ -2,8 +2,8 @@ use Rattle.std.proofs.Common.{Ok, Err, refl}
 use Rattle.std.proofs.KnownBytes.{Appends-nil}
 use Rattle.sq_commands.proofs.track.track_with.Goals as goal
 
-pub returns-in-Ok-run_track_in : goal.returns-in-Ok-run_track_in
-returns-in-Ok-run_track_in g c = λ some. (
+pub returns-in-Ok-run_track_in-clause-ran : goal.returns-in-Ok-run_track_in-clause-ran
+returns-in-Ok-run_track_in-clause-ran g c = λ some. (
   c.in-Ok.tracker,
   c.run_track_in.new.tracker,
   c.in-Ok.ensures.empty,
@@ -15,8 +15,8 @@ returns-in-Ok-run_track_in g c = λ some. (
   ),
 )
 
-pub returns-in-Ok : goal.returns-in-Ok
-returns-in-Ok g c = λ some. (
+pub returns-in-Ok-clause-ran : goal.returns-in-Ok-clause-ran
+returns-in-Ok-clause-ran g c = λ some. (
   c.in-Ok.tracker,
   c.run_track_in.new.tracker,
   c.in-Ok.ensures.empty,
