@@ -1,5 +1,5 @@
 -- A run that broke off did what its devices show.
-use Rattle.std.proofs.Common.{◌≡◌, Option, None, Some, Ok, Err, inl, inr, refl, sym}
+use Rattle.std.proofs.Common.{◌≡◌, Option, None, Some, Ok, Err, inl, inr, sym}
 use Rattle.std.specs.Prelude.{codes}
 use Rattle.sq_devices.specs.Changes.{TookNothing, WroteOrFailed, taken_from, written_on}
 use Rattle.sq_devices.specs.Clocks.{Times}
@@ -8,19 +8,14 @@ use Rattle.sq_devices.specs.declared.device.Source.{Ghosts as SourceGhosts}
 use Rattle.sq_log.specs.declared.faults.RunFault.TheVariants.{Read, Write, Memory}
 use Rattle.sq_feed.specs.declared.message.Stranger.{Stranger}
 use Rattle.sq_commands.specs.Feed.{status_at_end}
-use Rattle.sq_commands.specs.Requests.{Text, Show, Encode, Local, Pair, Check, Track, Feed}
+use Rattle.sq_commands.specs.Requests.{Text}
 use Rattle.sq_commands.specs.declared.status.Status.TheVariants.{Broken}
 use Rattle.sq_commands.specs.BrokenOff.{BrokenAside, BrokenFeeds, FailedInside}
-use Rattle.sq_commands.specs.Encode.{IsEncodeReply}
-use Rattle.sq_commands.specs.Local.{IsLocalReply}
 use Rattle.sq_commands.specs.Outputs.{effects, outputs}
-use Rattle.sq_commands.specs.Pair.{IsPairReply}
 use Rattle.sq_commands.specs.Replies.{FailedOn, IsDelivered, ReplyParts}
-use Rattle.sq_commands.specs.Runs.{IsReplied}
-use Rattle.sq_commands.specs.Show.{IsShowReply}
+use Rattle.sq_commands.specs.Runs.{IsReplied, IsReplyOf}
 use Rattle.sq_commands.proofs.SoundReplies.{IsSound}
-use Rattle.sq_commands.proofs.OneRuns.Frames.{sound_local, sound_pair, sound_show}
-use Rattle.sq_commands.proofs.OneRuns.Sent.{sound_encode}
+use Rattle.sq_commands.proofs.OneRuns.Replies.{sound}
 
 -- a run to the end of its input did not break off
 whole_feed : (stranger : Option Stranger) → Broken ≡ status_at_end stranger → ⊥
@@ -53,14 +48,4 @@ module _ {S K F : Type 0} (s : SourceGhosts S) (k : SinkGhosts K) (f : SinkGhost
       let inside = failed_inside reply.output old new failed in (took, (inside.0, inside.1, reported))
 
   pub broken_aside : BrokenAside s k f
-  broken_aside (Show frame) from to old new a b no_lines no_log no_feed =
-      broken_reply (IsShowReply frame) (sound_show frame) from to old new a b
-  broken_aside (Encode words) from to old new a b no_lines no_log no_feed =
-      broken_reply (IsEncodeReply words) (sound_encode words) from to old new a b
-  broken_aside (Local frame lat lon) from to old new a b no_lines no_log no_feed =
-      broken_reply (IsLocalReply frame lat lon) (sound_local frame lat lon) from to old new a b
-  broken_aside (Pair older newer lat lon) from to old new a b no_lines no_log no_feed =
-      broken_reply (IsPairReply older newer lat lon) (sound_pair older newer lat lon) from to old new a b
-  broken_aside (Check format) from to old new a b no_lines no_log no_feed = absurd (no_lines format refl)
-  broken_aside (Track log) from to old new a b no_lines no_log no_feed = absurd (no_log log refl)
-  broken_aside (Feed feed) from to old new a b no_lines no_log no_feed = absurd (no_feed feed refl)
+  broken_aside words from to old new a b = broken_reply (IsReplyOf words) (sound words) from to old new a b

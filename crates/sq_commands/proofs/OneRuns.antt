@@ -6,4 +6,5 @@ pub mod Lines
 pub mod Logs
 pub mod Feeds
 pub mod Sent
+pub mod Replies
 pub mod Runs

@@ -15,7 +15,7 @@ use Rattle.sq_commands.specs.declared.feed.FeedOptions.{FeedOptions}
 use Rattle.std.specs.Io.KnownBytes.{IsAtEnd}
 use Rattle.sq_log.specs.declared.faults.RunFault.{RunFault}
 use Rattle.sq_log.specs.declared.faults.RunFault.TheVariants.{Read, Write, Memory}
-use Rattle.sq_commands.specs.Requests.{Asked, Show, Encode, Local, Pair, Check, Track, Feed}
+use Rattle.sq_commands.specs.Requests.{Asked, Reply, Check, Track, Feed}
 use Rattle.sq_commands.specs.declared.status.Status.{Status}
 use Rattle.sq_commands.specs.Feed.{EndsBy, FedIn, FedWhole, IsFed, all_lines, arrivals_in}
 use Rattle.sq_commands.specs.Feed.{end_by, end_of, lines_given, lines_in, lines_whole, manner_of, squitters_in, start_of}
@@ -183,10 +183,7 @@ module _ (clock : Times) (recorded_is : clock.is_live ≡ false) (options : Feed
 -- a run on an input that is not live is one on a recorded input
 pub run_recorded : (clock : Times) → clock.is_live ≡ false → (asked : Asked) (status : Status) (e : Effects)
     → IsTimedRun clock asked status e → IsRun asked status e
-run_recorded clock is (Show frame) status e run = run
-run_recorded clock is (Encode words) status e run = run
-run_recorded clock is (Local frame lat lon) status e run = run
-run_recorded clock is (Pair older newer lat lon) status e run = run
+run_recorded clock is (Reply words) status e run = run
 run_recorded clock is (Check format) status e run = run
 run_recorded clock is (Track words) status e run = run
 run_recorded clock is (Feed words) status e (inl (options, spelled, (answer, fed, ended))) =

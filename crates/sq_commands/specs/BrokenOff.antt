@@ -1,11 +1,11 @@
 -- The effects of a run of `feed`, and of a command that reads no input, that stopped early.
-use Rattle.std.specs.Prelude.{◌≡◌, ◌≢◌, ◌⊎◌, ℕ, List, Option, codes, true}
+use Rattle.std.specs.Prelude.{◌≡◌, ◌⊎◌, ℕ, List, codes, true}
 use Rattle.sq_devices.specs.Changes.{TookNothing, TookPart, TookSome, WroteOrFailed, taken_from, written_on}
 use Rattle.sq_devices.specs.Clocks.{Times}
 use Rattle.sq_devices.specs.Device.{WroteFront}
 use Rattle.sq_devices.specs.declared.device.Sink.{Ghosts as SinkGhosts}
 use Rattle.sq_devices.specs.declared.device.Source.{Ghosts as SourceGhosts}
-use Rattle.sq_commands.specs.Requests.{Asked, AskedFeed, AskedTrack, Check, Feed, Text, Track}
+use Rattle.sq_commands.specs.Requests.{AskedReply, Reply}
 use Rattle.sq_commands.specs.declared.status.Status.TheVariants.{Broken}
 use Rattle.sq_commands.specs.declared.feed.FeedOptions.{FeedOptions}
 use Rattle.sq_commands.specs.Feed.{HasFedFront, HasFedSome, IsFeedRunIn}
@@ -32,10 +32,8 @@ module _ {S K F : Type 0} (s : SourceGhosts S) (k : SinkGhosts K) (f : SinkGhost
 
   -- a command that reads no input left it alone, and the output failed within some text
   abbrev pub BrokenAside : Type 0
-  BrokenAside = (words : Asked) (from to : S) (old new : K) (before after : F)
-      → ((format : Option Text) → words ≢ Check format) → ((log : AskedTrack) → words ≢ Track log)
-      → ((feed : AskedFeed) → words ≢ Feed feed)
-      → IsRun words Broken (effects s from to (outputs k f old new before after))
+  BrokenAside = (words : AskedReply) (from to : S) (old new : K) (before after : F)
+      → IsRun (Reply words) Broken (effects s from to (outputs k f old new before after))
       → TookNothing (taken_from s from to)
       × ((text : List ℕ) × FailedInside old new text
       × WroteOrFailed (written_on f before after) (codes "write failed\n"))

@@ -1,9 +1,9 @@
 -- Two runs of one request.
-use Rattle.std.specs.Prelude.{◌≡◌, ◌≢◌, ◌⊎◌, ℕ, List, Option, Some, false}
+use Rattle.std.specs.Prelude.{◌≡◌, ◌≢◌, ◌⊎◌, ℕ, List, Some, false}
 use Rattle.sq_devices.specs.Changes.{WroteLast, WroteNothing, Written, written_on}
 use Rattle.sq_devices.specs.declared.device.Sink.{Ghosts as SinkGhosts}
 use Rattle.sq_devices.specs.declared.device.Source.{Ghosts as SourceGhosts}
-use Rattle.sq_commands.specs.Requests.{Asked, AskedFeed, AskedTrack, Check, Feed, Text, Track}
+use Rattle.sq_commands.specs.Requests.{Asked, AskedReply, Reply}
 use Rattle.sq_commands.specs.declared.status.Status.{Status}
 use Rattle.sq_commands.specs.declared.status.Status.TheVariants.{Broken}
 use Rattle.sq_commands.specs.Outputs.{Effects, effects, outputs}
@@ -53,10 +53,8 @@ OneRun {S} {K} {F} {T} {L} {G} s k f t l g =
 abbrev pub OneRunAside : {S K F T L G : Type 0} → SourceGhosts S → SinkGhosts K → SinkGhosts F → SourceGhosts T
     → SinkGhosts L → SinkGhosts G → Type 0
 OneRunAside {S} {K} {F} {T} {L} {G} s k f t l g =
-    (words : Asked) (a b : Status) (old new : Devices S K F) (other last : Devices T L G)
-    → ((format : Option Text) → words ≢ Check format) → ((log : AskedTrack) → words ≢ Track log)
-    → ((feed : AskedFeed) → words ≢ Feed feed)
-    → IsRun words a (between s k f old new) → IsRun words b (between t l g other last)
+    (words : AskedReply) (a b : Status) (old new : Devices S K F) (other last : Devices T L G)
+    → IsRun (Reply words) a (between s k f old new) → IsRun (Reply words) b (between t l g other last)
     → a ≢ Broken → b ≢ Broken → f.has_failed new.faults ≡ false → g.has_failed last.faults ≡ false
     → (a ≡ b) × WroteAlike (written_on k old.output new.output) (written_on l other.output last.output)
     × WroteAlike (written_on f old.faults new.faults) (written_on g other.faults last.faults)

@@ -32,22 +32,26 @@ pub record AskedFeed : Type 0 where
   pub reorder : Option Text
   pub all : Bool
 
+-- a command that reads no input, with its values
+pub data AskedReply : Type 0 where
+  Show : (frame : Text) → AskedReply
+  Encode : AskedEncode → AskedReply
+  Local : (frame lat lon : Text) → AskedReply
+  Pair : (older newer : Text) (lat lon : Option Text) → AskedReply
+
 -- a command with its values, each as it was written; an option that was left out is `None`
 pub data Asked : Type 0 where
-  Show : (frame : Text) → Asked
-  Encode : AskedEncode → Asked
-  Local : (frame lat lon : Text) → Asked
-  Pair : (older newer : Text) (lat lon : Option Text) → Asked
+  Reply : AskedReply → Asked
   Check : (format : Option Text) → Asked
   Track : AskedTrack → Asked
   Feed : AskedFeed → Asked
 
 -- the word that names the command
 abbrev pub command_name : Asked → Text
-command_name (Show frame) = codes "show"
-command_name (Encode e) = codes "encode"
-command_name (Local frame lat lon) = codes "local"
-command_name (Pair older newer lat lon) = codes "pair"
+command_name (Reply (Show frame)) = codes "show"
+command_name (Reply (Encode e)) = codes "encode"
+command_name (Reply (Local frame lat lon)) = codes "local"
+command_name (Reply (Pair older newer lat lon)) = codes "pair"
 command_name (Check format) = codes "check"
 command_name (Track words) = codes "track"
 command_name (Feed words) = codes "feed"
@@ -83,11 +87,11 @@ asked_feed words = record {
 
 -- what a request stands for
 abbrev pub asked_by : Request → Asked
-asked_by (variants.Show frame) = Show frame.now
-asked_by (variants.Encode e) = Encode (asked_encode e)
-asked_by (variants.Local frame lat lon) = Local frame.now lat.now lon.now
+asked_by (variants.Show frame) = Reply (Show frame.now)
+asked_by (variants.Encode e) = Reply (Encode (asked_encode e))
+asked_by (variants.Local frame lat lon) = Reply (Local frame.now lat.now lon.now)
 asked_by (variants.Pair older newer lat lon) =
-    Pair older.now newer.now (option_copied lat) (option_copied lon)
+    Reply (Pair older.now newer.now (option_copied lat) (option_copied lon))
 asked_by (variants.Check format) = Check (option_copied format)
 asked_by (variants.Track words) = Track (asked_track words)
 asked_by (variants.Feed words) = Feed (asked_feed words)

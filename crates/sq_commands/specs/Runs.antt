@@ -1,7 +1,7 @@
 -- A run of each command.
 use Rattle.sq_devices.specs.Changes.{TookNothing}
 use Rattle.sq_devices.specs.Clocks.{Times, recorded}
-use Rattle.sq_commands.specs.Requests.{Asked, Show, Encode, Local, Pair, Check, Track, Feed}
+use Rattle.sq_commands.specs.Requests.{Asked, AskedReply, Reply, Show, Encode, Local, Pair, Check, Track, Feed}
 use Rattle.sq_commands.specs.declared.status.Status.{Status}
 use Rattle.sq_commands.specs.Check.{IsCheckRun}
 use Rattle.sq_commands.specs.Encode.{IsEncodeReply}
@@ -18,12 +18,16 @@ abbrev pub IsReplied : (ReplyParts → Type 0) → Status → Effects → Type 0
 IsReplied Is status e =
     (reply : ReplyParts) × Is reply × TookNothing e.input × IsDelivered reply status e.outputs
 
+-- the reply of each command that reads no input
+abbrev pub IsReplyOf : AskedReply → ReplyParts → Type 0
+IsReplyOf (Show frame) = IsShowReply frame
+IsReplyOf (Encode words) = IsEncodeReply words
+IsReplyOf (Local frame lat lon) = IsLocalReply frame lat lon
+IsReplyOf (Pair older newer lat lon) = IsPairReply older newer lat lon
+
 -- the effects and the status of each command, by the clock that `feed` reads
 abbrev pub IsTimedRun : Times → Asked → Status → Effects → Type 0
-IsTimedRun clock (Show frame) status e = IsReplied (IsShowReply frame) status e
-IsTimedRun clock (Encode words) status e = IsReplied (IsEncodeReply words) status e
-IsTimedRun clock (Local frame lat lon) status e = IsReplied (IsLocalReply frame lat lon) status e
-IsTimedRun clock (Pair older newer lat lon) status e = IsReplied (IsPairReply older newer lat lon) status e
+IsTimedRun clock (Reply words) status e = IsReplied (IsReplyOf words) status e
 IsTimedRun clock (Check format) status e = IsCheckRun format status e
 IsTimedRun clock (Track words) status e = IsTrackRun words status e
 IsTimedRun clock (Feed words) status e = IsFeedRun words clock status e

@@ -24,7 +24,7 @@ use Rattle.sq_words.specs.CommandLine.{squitter}
 use Rattle.sq_commands.specs.Requests.{Asked, command_name}
 use Rattle.sq_words.specs.CommandLine.{HasValues, is_given as is_set}
 use Rattle.sq_words.specs.Requests.{Asks}
-use Rattle.sq_commands.specs.Requests.{Show, Encode, Local, Pair, Check, Track, Feed}
+use Rattle.sq_commands.specs.Requests.{Reply, Show, Encode, Local, Pair, Check, Track, Feed}
 use Rattle.sq_words.proofs.Full.{AllFull, Each, IsSingle, Full-walk, Full-settled, Full-defaults, find-each, given_value}
 use Rattle.sq_words.proofs.Full.{or_else-nil}
 
@@ -258,7 +258,7 @@ help_is_quiet name answers quiet = by (bytes_eq (codes "help") name) refl answer
 -- each command of the program serves
 pub squitter-serves : Each Serves (built squitter).subs
 squitter-serves = (
-  serve _ (inl (refl, refl, refl), (inr (inl refl), tt)) (λ rows g. (Show (g.0 refl).0, refl, (g.0 refl).1)),
+  serve _ (inl (refl, refl, refl), (inr (inl refl), tt)) (λ rows g. (Reply (Show (g.0 refl).0), refl, (g.0 refl).1)),
   (
     serve _ (
       inl (refl, refl, refl),
@@ -270,21 +270,21 @@ squitter-serves = (
         ),
       ),
     ) (λ rows g. (
-      Encode (record {
+      Reply (Encode (record {
         kind = (g.0 refl).0;
         parity = (g.1.0 refl).0;
         address = (g.1.1.0 refl).0;
         feet = first_of (codes "feet") rows;
         lat = (g.1.1.1.1.0 refl).0;
         lon = (g.1.1.1.1.1.0 refl).0;
-      }),
+      })),
       refl,
       ((g.0 refl).1, (g.1.0 refl).1, (g.1.1.0 refl).1, refl, (g.1.1.1.1.0 refl).1, (g.1.1.1.1.1.0 refl).1),
     )),
     (
       serve _ (inl (refl, refl, refl), (inl (refl, refl, refl), (inl (refl, refl, refl), (inr (inl refl), tt))))
           (λ rows g. (
-            Local (g.0 refl).0 (g.1.0 refl).0 (g.1.1.0 refl).0,
+            Reply (Local (g.0 refl).0 (g.1.0 refl).0 (g.1.1.0 refl).0),
             refl,
             ((g.0 refl).1, (g.1.0 refl).1, (g.1.1.0 refl).1),
           )),
@@ -293,7 +293,7 @@ squitter-serves = (
           inl (refl, refl, refl),
           (inl (refl, refl, refl), (inl (refl, refl, refl), (inl (refl, refl, refl), (inr (inl refl), tt)))),
         ) (λ rows g. (
-          Pair (g.0 refl).0 (g.1.0 refl).0 (first_of (codes "lat") rows) (first_of (codes "lon") rows),
+          Reply (Pair (g.0 refl).0 (g.1.0 refl).0 (first_of (codes "lat") rows) (first_of (codes "lon") rows)),
           refl,
           ((g.0 refl).1, (g.1.0 refl).1, refl, refl),
         )),

@@ -1,23 +1,20 @@
 -- From what clap says of the words to what they ask for.
-use Rattle.std.proofs.Common.{◌≡◌, ◌≢◌, ◌∙◌, true, false, true≢false, List, [], Option, None, Some, ap, sym, subst}
-use Rattle.std.proofs.Common.{refl, rules, ap₂, inl, inr}
-use Rattle.std.specs.Prelude.{codes, option_map, unwrap_or}
-use Rattle.std.specs.Str.{bytes_eq}
+use Rattle.std.proofs.Common.{◌≡◌, ◌≢◌, ◌∙◌, true, List, [], Option, None, Some, ap, sym, subst}
+use Rattle.std.proofs.Common.{refl, ap₂, inl, inr}
+use Rattle.std.specs.Prelude.{option_map, unwrap_or}
 use Rattle.clap.specs.Words.{Text, Row, App, HasMatchesOf, HasKind, Kinds, is_simple, is_simple_and_free, subcommand_of}
 use Rattle.clap.specs.Words.{fault_of, first_of, first_value, kind_of, rows_of, subcommand_rows_of, subcommand_name_of}
 use Rattle.clap.specs.declared.error.Error.{Error}
 use Rattle.clap.specs.declared.error.kind.ErrorKind.TheVariants as kind
 use Rattle.clap.specs.declared.parser.ArgMatches.{ArgMatches}
 use Rattle.clap.specs.declared.parser.ArgMatches.TheViews.{out-ArgMatches}
-use Rattle.std.proofs.lemmas.Slice.Eq.{bytes_eq-Decides}
 use Rattle.clap.specs.declared.parser.matches.Found.{Found}
 use Rattle.clap.proofs.WalkLemmas.{first_value-rows}
 use Rattle.clap.proofs.OnLiterals.{clap_on_literals}
 use Rattle.sq_words.specs.CommandLine.{squitter}
-use Rattle.sq_commands.specs.Requests.{Asked, AskedEncode, command_name}
+use Rattle.sq_commands.specs.Requests.{Asked, command_name}
 use Rattle.sq_words.specs.CommandLine.{HasValues}
 use Rattle.sq_words.specs.Requests.{Asks, IsAsked}
-use Rattle.sq_commands.specs.Requests.{Show, Encode, Local, Pair, Check, Track, Feed}
 
 -- clap says of this command line what it makes of the words
 pub squitter-is_simple : is_simple squitter ≡ true
@@ -28,66 +25,6 @@ squitter-is_simple = refl
 pub squitter-is_free : is_simple_and_free squitter ≡ true
 unfolding clap_on_literals
 squitter-is_free = refl
-
--- ---- the name of a command says which one it is
-
--- texts that compare as different are not one
-other : {X : Type 0} (a b : Text) → a ≡ b → bytes_eq a b ≡ false → X
-other a b is differ = let same : bytes_eq a b
-    ≡ true = search (rules, bytes_eq-Decides) in absurd (true≢false (sym same ∙ differ))
-
-pub show_values : (rows : List Row) (asked : Asked) → IsAsked (codes "show") rows asked
-    → (frame : Text) × HasValues rows (Show frame)
-show_values rows (Show frame) is = (frame, is.values)
-show_values rows (Encode e) is = other _ _ is.named refl
-show_values rows (Local frame lat lon) is = other _ _ is.named refl
-show_values rows (Pair older newer lat lon) is = other _ _ is.named refl
-show_values rows (Check format) is = other _ _ is.named refl
-show_values rows (Track words) is = other _ _ is.named refl
-show_values rows (Feed words) is = other _ _ is.named refl
-
-pub encode_values : (rows : List Row) (asked : Asked) → IsAsked (codes "encode") rows asked
-    → (e : AskedEncode) × HasValues rows (Encode e)
-encode_values rows (Show frame) is = other _ _ is.named refl
-encode_values rows (Encode e) is = (e, is.values)
-encode_values rows (Local frame lat lon) is = other _ _ is.named refl
-encode_values rows (Pair older newer lat lon) is = other _ _ is.named refl
-encode_values rows (Check format) is = other _ _ is.named refl
-encode_values rows (Track words) is = other _ _ is.named refl
-encode_values rows (Feed words) is = other _ _ is.named refl
-
--- the values of `local`
-pub record LocalValues (rows : List Row) : Type 0 where
-  pub frame : Text
-  pub lat : Text
-  pub lon : Text
-  pub values : HasValues rows (Local frame lat lon)
-
-pub local_values : (rows : List Row) (asked : Asked) → IsAsked (codes "local") rows asked → LocalValues rows
-local_values rows (Show frame) is = other _ _ is.named refl
-local_values rows (Encode e) is = other _ _ is.named refl
-local_values rows (Local f a o) is = record { frame = f; lat = a; lon = o; values = is.values }
-local_values rows (Pair older newer lat lon) is = other _ _ is.named refl
-local_values rows (Check format) is = other _ _ is.named refl
-local_values rows (Track words) is = other _ _ is.named refl
-local_values rows (Feed words) is = other _ _ is.named refl
-
--- the values of `pair`
-pub record PairValues (rows : List Row) : Type 0 where
-  pub older : Text
-  pub newer : Text
-  pub lat : Option Text
-  pub lon : Option Text
-  pub values : HasValues rows (Pair older newer lat lon)
-
-pub pair_values : (rows : List Row) (asked : Asked) → IsAsked (codes "pair") rows asked → PairValues rows
-pair_values rows (Show frame) is = other _ _ is.named refl
-pair_values rows (Encode e) is = other _ _ is.named refl
-pair_values rows (Local frame lat lon) is = other _ _ is.named refl
-pair_values rows (Pair o n a b) is = record { older = o; newer = n; lat = a; lon = b; values = is.values }
-pair_values rows (Check format) is = other _ _ is.named refl
-pair_values rows (Track words) is = other _ _ is.named refl
-pair_values rows (Feed words) is = other _ _ is.named refl
 
 -- ---- what clap answers
 

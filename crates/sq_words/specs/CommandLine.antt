@@ -3,7 +3,7 @@ use Rattle.std.specs.Prelude.{◌≡◌, Bool, List, None, Option, Some, codes, 
 use Rattle.std.specs.Str.{bytes_eq}
 use Rattle.clap.specs.declared.builder.action.ArgAction.TheVariants.{SetTrue}
 use Rattle.clap.specs.Words.{App, Row, Rule, Text, first_of, new_app, new_rule, with_rule, with_subcommand}
-use Rattle.sq_commands.specs.Requests.{Asked, Show, Encode, Local, Pair, Check, Track, Feed}
+use Rattle.sq_commands.specs.Requests.{Asked, Reply, Show, Encode, Local, Pair, Check, Track, Feed}
 
 -- what has to be there
 abbrev pub required : Rule → Rule
@@ -90,14 +90,14 @@ is_given (Some value) = bytes_eq value (codes "true")
 
 -- clap has this value for each argument and option of the command
 abbrev pub HasValues : List Row → Asked → Type 0
-HasValues rows (Show frame) = first_of (codes "FRAME") rows ≡ Some frame
-HasValues rows (Encode e) = (first_of (codes "kind") rows ≡ Some e.kind)
+HasValues rows (Reply (Show frame)) = first_of (codes "FRAME") rows ≡ Some frame
+HasValues rows (Reply (Encode e)) = (first_of (codes "kind") rows ≡ Some e.kind)
     × (first_of (codes "parity") rows ≡ Some e.parity)
     × (first_of (codes "address") rows ≡ Some e.address) × (first_of (codes "feet") rows ≡ e.feet)
     × (first_of (codes "lat") rows ≡ Some e.lat) × (first_of (codes "lon") rows ≡ Some e.lon)
-HasValues rows (Local frame lat lon) = (first_of (codes "FRAME") rows ≡ Some frame)
+HasValues rows (Reply (Local frame lat lon)) = (first_of (codes "FRAME") rows ≡ Some frame)
     × (first_of (codes "lat") rows ≡ Some lat) × (first_of (codes "lon") rows ≡ Some lon)
-HasValues rows (Pair older newer lat lon) =
+HasValues rows (Reply (Pair older newer lat lon)) =
     (first_of (codes "OLDER") rows ≡ Some older) × (first_of (codes "NEWER") rows ≡ Some newer)
     × (first_of (codes "lat") rows ≡ lat) × (first_of (codes "lon") rows ≡ lon)
 HasValues rows (Check format) = first_of (codes "format") rows ≡ format

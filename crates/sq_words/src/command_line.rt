@@ -1,7 +1,7 @@
 //! The command line: of each command its help, its arguments and options in clap's calls, and the request that its
 //! values are. clap puts the usage and the list of options between the texts of a command.
 ghost use Rattle.std.specs.Prelude.{◌≡◌, IfNone, IfOk, IfSome, codes, false, option_copied};
-ghost use Rattle.clap.specs.Words.{app_of, found_of, new_app, new_rule, rows_of, rule_of};
+ghost use Rattle.clap.specs.Words.{app_of, first_of, found_of, new_app, new_rule, rows_of, rule_of};
 ghost use Rattle.clap.specs.declared.builder.Command.TheViews.{out-Command as fields_of};
 ghost use Rattle.sq_commands.specs.Requests.{Asked, asked_by};
 ghost use Rattle.sq_words.specs.CommandLine.{check as check_line, encode, encode_head as encode_first, feed};
@@ -113,7 +113,7 @@ fn show_request<'a>(values: &ArgMatches<'a>) -> Option<Request<'a>>
         (asked_by request)) }
     ensures none { IfNone result ((asked : Asked) → ¬ IsAsked (codes "show") (rows_of (found_of values.now)) asked) }
 {
-    let frame = values.get_str("FRAME")?;
+    let frame = value_of(values, "FRAME")?;
     Some(Request::Show { frame })
 }
 
@@ -157,12 +157,12 @@ fn encode_request<'a>(values: &ArgMatches<'a>) -> Option<Request<'a>>
     ensures none { IfNone result ((asked : Asked) → ¬ IsAsked (codes "encode") (rows_of (found_of values.now)) asked) }
 {
     Some(Request::Encode(EncodeWords {
-        kind: values.get_str("kind")?,
-        parity: values.get_str("parity")?,
-        address: values.get_str("address")?,
-        feet: values.get_str("feet"),
-        lat: values.get_str("lat")?,
-        lon: values.get_str("lon")?,
+        kind: value_of(values, "kind")?,
+        parity: value_of(values, "parity")?,
+        address: value_of(values, "address")?,
+        feet: value_of(values, "feet"),
+        lat: value_of(values, "lat")?,
+        lon: value_of(values, "lon")?,
     }))
 }
 
@@ -194,9 +194,9 @@ fn local_request<'a>(values: &ArgMatches<'a>) -> Option<Request<'a>>
     ensures none { IfNone result ((asked : Asked) → ¬ IsAsked (codes "local") (rows_of (found_of values.now)) asked) }
 {
     Some(Request::Local {
-        frame: values.get_str("FRAME")?,
-        lat: values.get_str("lat")?,
-        lon: values.get_str("lon")?,
+        frame: value_of(values, "FRAME")?,
+        lat: value_of(values, "lat")?,
+        lon: value_of(values, "lon")?,
     })
 }
 
@@ -228,10 +228,10 @@ fn pair_request<'a>(values: &ArgMatches<'a>) -> Option<Request<'a>>
     ensures none { IfNone result ((asked : Asked) → ¬ IsAsked (codes "pair") (rows_of (found_of values.now)) asked) }
 {
     Some(Request::Pair {
-        older: values.get_str("OLDER")?,
-        newer: values.get_str("NEWER")?,
-        lat: values.get_str("lat"),
-        lon: values.get_str("lon"),
+        older: value_of(values, "OLDER")?,
+        newer: value_of(values, "NEWER")?,
+        lat: value_of(values, "lat"),
+        lon: value_of(values, "lon"),
     })
 }
 
@@ -268,7 +268,7 @@ fn check_request<'a>(values: &ArgMatches<'a>) -> Request<'a>
     ensures { IsAsked (codes "check") (rows_of (found_of values.now)) (asked_by result) }
 {
     Request::Check {
-        format: values.get_str("format"),
+        format: value_of(values, "format"),
     }
 }
 
@@ -315,11 +315,11 @@ fn track_request<'a>(values: &ArgMatches<'a>) -> Request<'a>
     ensures { IsAsked (codes "track") (rows_of (found_of values.now)) (asked_by result) }
 {
     Request::Track(TrackWords {
-        format: values.get_str("format"),
-        limit: values.get_str("limit"),
-        window: values.get_str("window"),
-        lat: values.get_str("lat"),
-        lon: values.get_str("lon"),
+        format: value_of(values, "format"),
+        limit: value_of(values, "limit"),
+        window: value_of(values, "window"),
+        lat: value_of(values, "lat"),
+        lon: value_of(values, "lon"),
     })
 }
 
@@ -365,10 +365,17 @@ fn feed_request<'a>(values: &ArgMatches<'a>) -> Request<'a>
     ensures { IsAsked (codes "feed") (rows_of (found_of values.now)) (asked_by result) }
 {
     Request::Feed(FeedWords {
-        format: values.get_str("format"),
-        reorder: values.get_str("reorder"),
-        all: is_given(values.get_str("all")),
+        format: value_of(values, "format"),
+        reorder: value_of(values, "reorder"),
+        all: is_given(value_of(values, "all")),
     })
+}
+
+// Returns the value that clap has for an argument or an option, if there is one.
+fn value_of<'a>(values: &ArgMatches<'a>, name: &str) -> Option<&'a str>
+    ensures { first_of name.now (rows_of (found_of values.now)) ≡ option_copied result }
+{
+    values.get_str(name)
 }
 
 // Whether a flag with this value of clap is given.
