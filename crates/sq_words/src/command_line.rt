@@ -327,16 +327,15 @@ const FEED: CommandHelp = CommandHelp {
     about: "Reads a receiver's bytes from standard input, and prints a log for 'squitter track'",
     usage: "squitter feed [--format=<auto|beast|avr|csv|log>] [--reorder=<MS>] [--all] < BYTES
        it waits for standard input; 'nc' or 'squitter-feed' reads a receiver's port",
-    after: "Prints 'MILLISECONDS FRAME' for each extended squitter (DF17). Its time is that of the receiver's
-clock (Beast, AVR with a clock), its own (CSV, log), or that of its arrival, if the input is a pipe.
+    after: "Prints 'MILLISECONDS FRAME' for each extended squitter (DF17). The time comes from the receiver's
+clock (Beast, AVR with a clock), from the row or line (CSV, log), or on a pipe from the arrival.
 The input is one of these; without --format, its first bytes show which one:
   beast   binary messages, as from port 30005 of a dump1090
   avr     frames as '*8D..;', as from its port 30002, bare, or with a clock after '@' or '<'
   csv     rows of time (s), icao24, rawmsg; a first row may name the columns in another order
   log     lines that 'squitter track' reads
-An input without frames, such as SBS text or a compressed file, is named on standard error as soon as
-it is known, and the status is 1. Otherwise the frames are counted there at the end; counts of 0 are
-left out:
+If the input has no frames, such as SBS text or a compressed file, an error says at once what it is,
+and the status is 1. Otherwise standard error has the counts of frames at the end, without those of 0:
   N written                    lines that were printed
   N of other downlink formats  messages but DF17, and how many there are of each format
   N of Mode A/C                replies to Mode A and Mode C
