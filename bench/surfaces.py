@@ -5,9 +5,9 @@ frames, Python, Node and the page, and feeds by their format.
 The log has a million LINES of 900 aircraft (bench/gen.c). Each row has the least time and the least processor time of
 five ROUNDS, in nanoseconds a line. Rows of Python count the calls alone; all others count their whole process, and a
 pipe counts both of its programs. Calls for one frame get the first twentieth of the log. `squitter-geojson` gets the
-results of the whole log as rows of CSV. The answers of the program, also behind `squitter feed` and `squitter-feed`, of
-Python, Node and the page are compared, and the logs of the feeds too. Needs NumPy, pandas and a C compiler; skips Node
-and Chromium if missing."""
+results of the whole log as rows of CSV. `read_many` and `hear_many` make no result, since none is asked for. The
+answers of the program, also behind `squitter feed` and `squitter-feed`, of Python, Node and the page are compared, and
+the logs of the feeds too. Needs NumPy, pandas and a C compiler; skips Node and Chromium if missing."""
 import contextlib
 import hashlib
 import os
@@ -145,7 +145,7 @@ def ways_of_python(inputs: Inputs) -> Dict[str, Way]:
     site, count = squitter.Position(*map(Fraction, SITE)), inputs.count
     moments = np.array([moment for moment, _ in inputs.squitters], np.uint64)
     frames = np.frombuffer(b"".join(frame for _, frame in inputs.squitters), np.uint8).reshape(-1, 14)
-    text, first = inputs.log.read_bytes(), inputs.squitters[:inputs.part]
+    text, data, first = inputs.log.read_bytes(), frames.tobytes(), inputs.squitters[:inputs.part]
 
     def in_pieces() -> None:
         tracker = batch.Tracker(site=site)
@@ -167,6 +167,8 @@ def ways_of_python(inputs: Inputs) -> Dict[str, Way]:
         "batch.Tracker, 100 lines a call": (count, in_pieces),
         "batch.dataframe": (count, lambda: batch.dataframe(inputs.log, site=site) is None or None),
         "squitter.Log": (count, as_log),
+        "squitter.read_many": (count, lambda: squitter.read_many(data) and None),
+        "squitter.Tracker.hear_many": (count, lambda: squitter.Tracker(site=site).hear_many(moments, data) and None),
         "squitter.read, one by one": (len(first), lambda: [squitter.read(frame) for _, frame in first] and None),
         "squitter.Tracker.hear, one by one": (len(first), one_by_one),
     }

@@ -33,11 +33,12 @@ from squitter._made import (
     ANGLE_TEXT_BYTES, FAULT_TEXT_BYTES, FRAME_BYTES, FRAME_DIGITS, AltitudeForm, Code, FeedFormat, Format, Kind,
     Stranger, What, _AirHead, _Altitude, _Angle, _DegreesE7, _Fault, _Fields, _GroundHead, _Heard, _Zones,
 )
+from squitter._results import Results
 
 __all__ = [
     "AirHead", "Altitude", "AltitudeForm", "Code", "Contact", "Counts", "Fault", "Feed", "FeedFormat", "Fields",
-    "Format", "Frame", "GroundHead", "Heard", "Kind", "Log", "Order", "Position", "Present", "Tally", "Tracker",
-    "WINDOW", "What", "Zones", "angle", "angle_e7", "angle_text", "encode", "fault_text", "feet_of_field",
+    "Format", "Frame", "GroundHead", "Heard", "Kind", "Log", "Order", "Position", "Present", "Results", "Tally",
+    "Tracker", "WINDOW", "What", "Zones", "angle", "angle_e7", "angle_text", "encode", "fault_text", "feet_of_field",
     "field_of_feet", "frame", "frame_text", "local", "local_many", "local_zones", "pair", "pair_many", "position_e7",
     "read", "read_many", "send_again", "version", "zone_count",
 ]
@@ -330,22 +331,23 @@ def _heard_of(members: _Members) -> Heard:
     return made
 
 
+def _fault_of(members: _Members) -> Fault:
+    code, second, first = members
+    return Fault(code, first, second)
+
+
 _Result = TypeVar("_Result")
 
 
 def _many(
     name: str, layout: struct.Struct, made: Callable[[_Members], _Result], count: int, *before: object
-) -> List[Union[_Result, Fault]]:
+) -> Results[Union[_Result, Fault]]:
     """Makes a call of arrays. Returns for each element the result that `made` makes of its members, or the fault."""
-    if not count:
-        return []
     out, faults = bytearray(layout.size * count), bytearray(_FAULT.size * count)
-    out_at, faults_at = (ctypes.addressof(ctypes.c_char.from_buffer(room)) for room in (out, faults))
-    getattr(_lib, f"squitter_{name}")(*before, out_at, count, faults_at, count)
-    if faults == bytes(len(faults)):
-        return list(map(made, layout.iter_unpack(out)))
-    return [Fault(code, first, second) if code else made(members)
-            for (code, second, first), members in zip(_FAULT.iter_unpack(faults), layout.iter_unpack(out))]
+    if count:
+        out_at, faults_at = (ctypes.addressof(ctypes.c_char.from_buffer(room)) for room in (out, faults))
+        getattr(_lib, f"squitter_{name}")(*before, out_at, count, faults_at, count)
+    return Results(layout, made, out, _FAULT, _fault_of, faults)
 
 
 _frame_of_text, _read_text, _read_frame = map(_quick, ("frame_of_text", "read_text", "read_frame"))
@@ -455,13 +457,13 @@ def pair(older: Frame, newer: Frame, site: Optional[Point] = None) -> Position:
 # ---- arrays ----
 
 
-def read_many(frames: Frames) -> List[Union[Fields, Fault]]:
+def read_many(frames: Frames) -> Results[Union[Fields, Fault]]:
     """Returns the fields or the fault of each frame; it raises no Fault."""
     source, count = _frames(frames)
     return _many("read_many", _FIELDS, _fields_of, count, source, count)
 
 
-def local_many(frames: Frames, references: Sequence[Point]) -> List[Union[Position, Fault]]:
+def local_many(frames: Frames, references: Sequence[Point]) -> Results[Union[Position, Fault]]:
     """Returns the position of each frame near its reference, or its fault. Raises ValueError unless there is one
     reference for each frame."""
     source, count = _frames(frames)
@@ -476,7 +478,7 @@ def local_many(frames: Frames, references: Sequence[Point]) -> List[Union[Positi
     return _many("local_many", _PLACE, _position_of, count, source, count, ctypes.addressof(here), count)
 
 
-def pair_many(older: Frames, newer: Frames, site: Optional[Point] = None) -> List[Union[Position, Fault]]:
+def pair_many(older: Frames, newer: Frames, site: Optional[Point] = None) -> Results[Union[Position, Fault]]:
     """Returns the position of each pair of frames, or its fault; surface pairs need the site. Raises ValueError unless
     there is one newer frame for each older one."""
     (first, count), (second, other) = _frames(older), _frames(newer)

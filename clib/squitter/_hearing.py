@@ -19,6 +19,7 @@ from squitter._made import (
     ANSWER_TEXT_BYTES, FRAME_BYTES, HEADER_BYTES, FeedFormat, Format, _Done, _Entry, _Heard, _Last, _Log, _Present,
     _Tally, _Tracker,
 )
+from squitter._results import Results
 
 
 class _Lent:
@@ -187,9 +188,9 @@ class Tracker(_Listener):
                 _ROOMS.append(room)
         return _heard_of(members)
 
-    def hear_many(self, moments: Sequence[int], frames: Frames) -> List[Union[Heard, Fault]]:
-        """Adds frames one after the other, and returns a list of results, with a Fault for each refused frame. Raises
-        ValueError unless there is one timestamp for each frame."""
+    def hear_many(self, moments: Sequence[int], frames: Frames) -> Results[Union[Heard, Fault]]:
+        """Adds frames one after the other. Returns the results, with a Fault for each refused frame. Raises ValueError
+        unless there is one timestamp for each frame."""
         with self._lock:
             self._look_open()
             source, count = _frames(frames)

@@ -77,7 +77,7 @@ def without_flag(tries: Tries) -> str:
 
 
 # Only Python has calls of arrays: there, a call costs more than the work it asks for.
-OF_PYTHON_ALONE = {"local_many", "pair_many", "read_many", "Present"}
+OF_PYTHON_ALONE = {"local_many", "pair_many", "read_many", "Present", "Results"}
 
 
 def camel(name: str) -> str:
