@@ -37,7 +37,7 @@ STRANGERS = {
                        "time,icao24,rawmsg, or a log of track",
 }
 
-# Tables that are not read, by what stands between the columns of a row with a frame, or with its name.
+# Why a table is not read, by the separator in its first row that has a frame, or the column name rawmsg.
 FRAME_CELL = re.compile(rb"rawmsg|8[0-9a-f]{27}", re.I)
 TABLES = {
     b";": "this table has semicolons between its columns",

@@ -54,7 +54,7 @@ class Sequences(unittest.TestCase):
 
     def test_readings(self) -> None:
         """Each reading gives equal results, in any order, with and without faults among them."""
-        for frames in (MIXED, squitter.frame(EVEN) * 3, squitter.frame(DAMAGED) * 2, b""):
+        for frames in (MIXED, squitter.frame(EVEN) * 3, squitter.frame(DAMAGED) * 2, bytes(28), b""):
             results = squitter.read_many(frames)
             kinds = [type(one) for one in results]
             self.assertEqual([type(results[place]) for place in range(len(results))], kinds)
