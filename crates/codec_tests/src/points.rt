@@ -1,7 +1,7 @@
 //! Codes at and past their limits, worked points and codes, and the limits of the grids.
 use sq_cpr::{
-    Air, Angle, Code, GridPoint, Ground, LocalFault, PairFault, Parity, Position, Span, encode,
-    laws, nearest, pins,
+    Air, Angle, CODES_OF_ZONE, Code, GridPoint, Ground, LocalFault, PairFault, Parity, Position,
+    Span, encode, lat_zones, laws, nearest, pins,
 };
 use std::process::Abort;
 
@@ -15,6 +15,13 @@ fn makes_codes_of_17_bits(rt: HostRuntime) {
     assert!(rt; Code::new(131_071, 131_071).is_some());
     assert!(rt; Code::new(131_072, 0).is_none());
     assert!(rt; Code::new(0, 131_072).is_none());
+}
+
+#[test]
+fn counts_codes_and_zones_of_latitude(rt: HostRuntime) {
+    assert!(rt; CODES_OF_ZONE == 131_072);
+    assert!(rt; lat_zones(Parity::Even) == 60);
+    assert!(rt; lat_zones(Parity::Odd) == 59);
 }
 
 // The position of two fractions, each a numerator over a denominator.

@@ -3,7 +3,7 @@ ghost use Rattle.std.specs.Prelude.{◌≡◌, ◌↔◌, ◌<◌, IsSome, IfSom
 ghost use Rattle.sq_cpr.specs.Sizes.{codes_of_zone};
 
 /// The codes of a zone, in each coordinate: 2^17.
-pub(crate) const CODES: u64 = 131_072;
+pub const CODES_OF_ZONE: u64 = 131_072;
 
 /// The code of a position: a number of 17 bits for the latitude, and one for the longitude (RTCA DO-260B, appendix on
 /// compact position reporting).
@@ -23,7 +23,7 @@ impl Code {
         ensures variant { IsSome result ↔ ((lat < codes_of_zone) × (lon < codes_of_zone)) }
         ensures value { IfSome result (λ code. numbers_of code ≡ record { lat = lat; lon = lon }) }
     {
-        if u64::from(lat) < CODES && u64::from(lon) < CODES {
+        if u64::from(lat) < CODES_OF_ZONE && u64::from(lon) < CODES_OF_ZONE {
             Some(Code { lat, lon })
         } else {
             None

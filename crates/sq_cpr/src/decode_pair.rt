@@ -15,7 +15,7 @@ ghost use Rattle.sq_cpr.specs.Pair.{code_pair, of_parity, AreLatitudes, AreAt, A
 
 use crate::code::Code;
 use crate::faults::PairFault;
-use crate::grid::{GridPoint, angle_at};
+use crate::grid::{EVEN_LAT_ZONES, GridPoint, ODD_LAT_ZONES, angle_at};
 use crate::index::{index_of, index_within, on_circle, pair_zone};
 use crate::span::{Air, Ground, Span, degrees_of, repeats_of};
 use sq_angle::{Angle, Position};
@@ -74,10 +74,11 @@ fn close_latitudes(span: u32, even: Code, odd: Code, reference: &Angle) -> Indic
     ensures latitudes { AreLatitudes span (numbers_of even) (numbers_of odd) result.even result.odd }
     ensures at { AreAt span (degrees reference.now) result.even result.odd }
 {
-    let zone = pair_zone(60, 59, even.lat(), odd.lat());
+    let zone = pair_zone(EVEN_LAT_ZONES, ODD_LAT_ZONES, even.lat(), odd.lat());
+    let (even, odd) = (index_of(even.lat(), zone), index_of(odd.lat(), zone));
     Indices {
-        even: index_within(index_of(even.lat(), zone), 60, 60, span, reference),
-        odd: index_within(index_of(odd.lat(), zone), 59, 59, span, reference),
+        even: index_within(even, EVEN_LAT_ZONES, EVEN_LAT_ZONES, span, reference),
+        odd: index_within(odd, ODD_LAT_ZONES, ODD_LAT_ZONES, span, reference),
     }
 }
 

@@ -18,8 +18,8 @@ use sq_angle::{Angle, Position};
 use sq_zones::{Parity, lon_zones};
 
 /// Rounds a position to a point of the parity's grid (RTCA DO-260B, appendix on compact position reporting). The point
-/// has the nearest latitude index, the northern one of two. It has the nearest longitude index by the longitude zones
-/// of that latitude, the eastern one of two.
+/// has the nearest latitude index, and the nearest longitude index by the longitude zones of that latitude. Of two
+/// indices that are equally near it has the northern and the eastern one.
 ///
 /// Each position rounds to exactly one point. A point's own [`GridPoint::position`] rounds to that point.
 pub fn nearest<S: Span>(position: &Position, parity: Parity) -> GridPoint<S>

@@ -7,11 +7,17 @@ ghost use Rattle.sq_cpr.specs.Code.{numbers_of};
 ghost use Rattle.sq_cpr.specs.Grid.{Point, IsGridPoint, HasPoint, IsLatitude, circle, lat_zones as lat_zones_of};
 ghost use Rattle.sq_cpr.specs.Grid.{grid_latitude, grid_longitude, latitude, longitude, code_of, point_at};
 
-use crate::code::{CODES, Code};
+use crate::code::{CODES_OF_ZONE, Code};
 use crate::span::{Span, degrees_of};
 use sq_angle::{Angle, Position};
 use sq_zones::{Parity, lon_zones};
 use std::marker::{Model, PhantomData};
+
+/// The latitude zones of an even grid.
+pub(crate) const EVEN_LAT_ZONES: u8 = 60;
+
+/// The latitude zones of an odd grid.
+pub(crate) const ODD_LAT_ZONES: u8 = 59;
 
 /// A point of a parity's grid (RTCA DO-260B, appendix on compact position reporting). Its latitude is `lat_index` steps
 /// of the latitude zones. Its longitude is `lon_index` steps of the longitude zones that its own latitude has.
@@ -53,7 +59,7 @@ impl<S: Span> GridPoint<S> {
     {
         let lat = angle_at::<S>(parity, lat_index)?;
         let zones = lon_zones(&lat, parity);
-        if u64::from(lon_index) >= u64::from(zones) * CODES * u64::from(S::REPEATS) {
+        if u64::from(lon_index) >= u64::from(zones) * CODES_OF_ZONE * u64::from(S::REPEATS) {
             return None;
         }
         Some(GridPoint::of_parts(parity, lat_index, zones, lon_index))
@@ -112,8 +118,8 @@ impl<S: Span> GridPoint<S> {
     pub fn code(&self) -> Code
         ensures { numbers_of result ≡ code_of self.now }
     {
-        let lat = self.lat_index.rem_euclid(CODES as i32) as u32;
-        let lon = self.lon_index % CODES as u32;
+        let lat = self.lat_index.rem_euclid(CODES_OF_ZONE as i32) as u32;
+        let lon = self.lon_index % CODES_OF_ZONE as u32;
         Code::new(lat, lon).unwrap()
     }
 
@@ -130,11 +136,11 @@ impl<S: Span> GridPoint<S> {
     }
 }
 
-// 60 zones of latitude for even and 59 for odd.
-pub(crate) fn lat_zones(parity: Parity) -> u8
+/// Returns the number of latitude zones of a parity: 60 even, 59 odd.
+pub fn lat_zones(parity: Parity) -> u8
     ensures { result ≡ lat_zones_of parity }
 {
-    60 - parity.index()
+    EVEN_LAT_ZONES - parity.index()
 }
 
 // The latitude at an index of a point.
@@ -144,7 +150,7 @@ fn lat_angle<S: Span>(parity: Parity, lat_index: i32) -> Angle
     ensures within { IsWithin 90 (degrees result) }
 {
     let num = i64::from(degrees_of::<S>()) * i64::from(lat_index);
-    Angle::known(num, u64::from(lat_zones(parity)) * CODES)
+    Angle::known(num, u64::from(lat_zones(parity)) * CODES_OF_ZONE)
 }
 
 // The latitude at an index, where it is one.
@@ -153,7 +159,7 @@ pub(crate) fn angle_at<S: Span>(parity: Parity, lat_index: i32) -> Option<Angle>
     ensures value { IfSome result (λ a. degrees a ≡ grid_latitude S.span.degrees parity lat_index) }
 {
     let num = i64::from(degrees_of::<S>()) * i64::from(lat_index);
-    let angle = Angle::new(num, u64::from(lat_zones(parity)) * CODES)?;
+    let angle = Angle::new(num, u64::from(lat_zones(parity)) * CODES_OF_ZONE)?;
     if angle.is_within(90) {
         Some(angle)
     } else {
@@ -168,7 +174,7 @@ fn lon_angle<S: Span>(zones: u8, lon_index: u32) -> Angle
     ensures value { degrees result ≡ grid_longitude S.span.degrees zones lon_index }
     ensures within { IsWithin 180 (degrees result) }
 {
-    let den = u64::from(zones) * CODES;
+    let den = u64::from(zones) * CODES_OF_ZONE;
     let east = u64::from(degrees_of::<S>()) * u64::from(lon_index);
     let num = west_from_180(east, den);
     Angle::known(num, den)

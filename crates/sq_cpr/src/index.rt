@@ -12,7 +12,8 @@ ghost use Rattle.sq_angle.specs.Whole.{IsCongruent};
 ghost use Rattle.sq_cpr.specs.Grid.{codes_of_zone, circle, step};
 ghost use Rattle.sq_cpr.specs.Multiplied.{apart, LiesWithin, IsZoneIndex};
 
-use crate::code::CODES;
+use crate::code::CODES_OF_ZONE;
+use crate::grid::EVEN_LAT_ZONES;
 use sq_angle::Angle;
 
 // The quotient, rounded down. 64 bits divide faster, and hold all but what references of long fractions have.
@@ -111,11 +112,11 @@ fn distance(index: i128, zones: u8, span: u32, reference: &Angle) -> i128
     ensures small { unsigned_abs result < 2 ^ 100 }
 {
     let step = span as u64 * reference.den();
-    let steps = zones as u64 * CODES;
+    let steps = zones as u64 * CODES_OF_ZONE;
     scaled(step, index) - scaled(steps, reference.num() as i128)
 }
 
-// Of candidate indices that are `count` zones apart, returns the one within half that distance of 0.
+// Returns the index within half of `count` zones of 0 that differs from the base by a whole multiple of `count` zones.
 fn index_at_zero(base: i64, count: u8) -> i64
     requires base_small { unsigned_abs base < 2 ^ 44 }
     requires some { 0 < count }
@@ -124,7 +125,7 @@ fn index_at_zero(base: i64, count: u8) -> i64
     ensures above { neg_ℤ (pos (count * codes_of_zone)) <ℤ (pos 2 *ℤ result) }
     ensures at_most { (pos 2 *ℤ result) ≤ℤ pos (count * codes_of_zone) }
 {
-    let period = count as u64 * CODES;
+    let period = count as u64 * CODES_OF_ZONE;
     let above = 2 * base + (period as i64 - 1);
     // Most indices are within the range already, and need no division.
     if 0 <= above && above < 2 * period as i64 {
@@ -133,7 +134,7 @@ fn index_at_zero(base: i64, count: u8) -> i64
     base - period as i64 * rare_quotient(above, 2 * period)
 }
 
-// Of candidate indices that are `count` zones apart, returns the one within half that distance of any reference.
+// Returns what [`index_within`] does, near any reference.
 fn index_at(base: i128, count: u8, zones: u8, span: u32, reference: &Angle) -> i32
     requires base_small { unsigned_abs base < 2 ^ 44 }
     requires count { (0 < count) × (count ≤ 60) }
@@ -143,13 +144,14 @@ fn index_at(base: i128, count: u8, zones: u8, span: u32, reference: &Angle) -> i
     ensures congruent { IsCongruent (count * codes_of_zone) result base }
     ensures within { LiesWithin count span zones result (degrees reference.now) }
 {
-    let period = count as u64 * CODES;
+    let period = count as u64 * CODES_OF_ZONE;
     let width = period as u128 * (span as u64 * reference.den()) as u128;
     let turns = turns(distance(base, zones, span, reference), width);
     (base - scaled(period, turns)) as i32
 }
 
-/// Of candidate indices that are `count` zones apart, returns the one within half that distance of the reference.
+/// Returns the index within half of `count` zones of the reference that differs from the base by a whole multiple of
+/// `count` zones.
 pub(crate) fn index_within(base: i64, count: u8, zones: u8, span: u32, reference: &Angle) -> i32
     requires base_small { unsigned_abs base < 2 ^ 44 }
     requires count { (0 < count) × (count ≤ 60) }
@@ -177,9 +179,10 @@ pub(crate) fn pair_zone(even_zones: u8, odd_zones: u8, even: u32, odd: u32) -> i
 {
     let above = odd_zones as u64 * even as u64;
     let below = even_zones as u64 * odd as u64;
-    // With 60 zones more there is no sign, and the division is a shift.
-    let raised = above + (60 * CODES + CODES / 2) - below;
-    (raised / CODES) as i64 - 60
+    // With as many zones more there is no sign, and the division is a shift.
+    let more = EVEN_LAT_ZONES as u64;
+    let raised = above + (more * CODES_OF_ZONE + CODES_OF_ZONE / 2) - below;
+    (raised / CODES_OF_ZONE) as i64 - more as i64
 }
 
 /// The index of a code, so many zones up.
@@ -189,7 +192,7 @@ pub(crate) fn index_of(code: u32, zone: i64) -> i64
     ensures value { result ≡ pos code +ℤ pos codes_of_zone *ℤ zone }
     ensures small { unsigned_abs result < 2 ^ 44 }
 {
-    code as i64 + CODES as i64 * zone
+    code as i64 + CODES_OF_ZONE as i64 * zone
 }
 
 // Returns the nearest whole number of steps. A span has `zones * 2^17` steps.
@@ -201,7 +204,10 @@ pub(crate) fn nearest_index(angle: &Angle, span: u32, zones: u8) -> i64
     ensures small { unsigned_abs result < 2 ^ 40 }
 {
     let half = angle.den() * u64::from(span);
-    let steps = scaled(2 * (u64::from(zones) * CODES), i128::from(angle.num()));
+    let steps = scaled(
+        2 * (u64::from(zones) * CODES_OF_ZONE),
+        i128::from(angle.num()),
+    );
     quotient_down(steps + i128::from(half), 2 * u128::from(half)) as i64
 }
 
@@ -214,7 +220,7 @@ pub(crate) fn on_circle(index: i64, zones: u8, repeats: u32) -> u32
     ensures congruent { IsCongruent (circle zones repeats) (pos result) index }
     ensures below { result < circle zones repeats }
 {
-    let circle = (zones as u64 * CODES * repeats as u64) as i64;
+    let circle = (zones as u64 * CODES_OF_ZONE * repeats as u64) as i64;
     // Nearly each index is less than a circle away from it, and needs no division.
     let turned = if index < 0 { index + circle } else { index };
     if 0 <= turned && turned < circle {

@@ -18,12 +18,12 @@ pub mod laws;
 pub mod pins;
 mod span;
 
-pub use code::Code;
+pub use code::{CODES_OF_ZONE, Code};
 pub use decode_local::local;
 pub use decode_pair::{pair_air, pair_ground};
 pub use encoding::{encode, nearest};
 pub use faults::{LocalFault, PairFault};
-pub use grid::GridPoint;
+pub use grid::{GridPoint, lat_zones};
 pub use span::{Air, Ground, Span};
 pub use sq_angle::{Angle, Position};
 pub use sq_zones::Parity;

@@ -22,7 +22,7 @@ abbrev pub IsUnread : Status → Effects → Type 0
 IsUnread status e = (status ≡ Broken) × TookNothing e.input × WroteNothing e.outputs.output
     × Reported e.outputs (run_fault_text Memory)
 
--- what stands in the way of a start: the status, and the report
+-- why a run does not start: the status, and the report
 abbrev pub trouble_status : Trouble → Status
 trouble_status troubles.Words = Misused
 trouble_status troubles.Memory = Broken

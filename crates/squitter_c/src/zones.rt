@@ -6,12 +6,9 @@ use crate::decode::near;
 use crate::faults::{Fault, NONE, Reason};
 use crate::plain::PlainPosition;
 use sq_bits::Frame;
-use sq_cpr::{GridPoint, Span};
+use sq_cpr::{CODES_OF_ZONE, GridPoint, Span, lat_zones};
 use sq_message::Place;
 use sq_zones::zone_count;
-
-// The codes of a zone, in each coordinate: 2^17.
-const CODES: i32 = 131_072;
 
 /// The zones of a code's place. Its latitude is `degrees / lat_zones * (lat_zone + YZ / 2^17)`, and its longitude
 /// `degrees / lon_zones * (lon_zone + XZ / 2^17)`, less 360 degrees from 180 up, where YZ and XZ are the code.
@@ -76,10 +73,10 @@ fn zones_of<S: Span>(point: &GridPoint<S>) -> PlainZones
     ensures { AreZonesOf S.span point.now result }
 {
     PlainZones {
-        lat_zone: point.lat_index().div_euclid(CODES),
-        lon_zone: point.lon_index() / CODES as u32,
+        lat_zone: point.lat_index().div_euclid(CODES_OF_ZONE as i32),
+        lon_zone: point.lon_index() / CODES_OF_ZONE as u32,
         degrees: S::DEGREES,
-        lat_zones: 60 - point.parity().index(),
+        lat_zones: lat_zones(point.parity()),
         zone_count: zone_count(&point.position().lat()),
         lon_zones: point.zones(),
         odd: point.parity().index(),

@@ -9,20 +9,20 @@ use Rattle.sq_cpr.proofs.Decoding.Pairs.{close_pair, paired_latitudes}
 use Rattle.sq_cpr.proofs.decode_pair.close_latitudes.Goals as goal
 
 even_base : (c : goal.After-index_within-2)
-    → to_z w64 (of_z w64 c.index_of.result) ≡ pos c.args.even.lat +ℤ pos codes_of_zone *ℤ c.pair_zone-zone.result
-even_base c = back64 c.index_of.result (record { sfits = c.index_of.type_inv })
+    → to_z w64 (of_z w64 c.index_of-even.result) ≡ pos c.args.even.lat +ℤ pos codes_of_zone *ℤ c.pair_zone-zone.result
+even_base c = back64 c.index_of-even.result (record { sfits = c.index_of-even.type_inv })
     ∙ (rw (
       back64 c.pair_zone-zone.result (record { sfits = c.pair_zone-zone.type_inv }),
       c.lat-3.ensures.value,
-    ) at c.index_of.ensures.value)
+    ) at c.index_of-even.ensures.value)
 
 odd_base : (c : goal.After-index_within-2)
-    → to_z w64 (of_z w64 c.index_of-2.result) ≡ pos c.args.odd.lat +ℤ pos codes_of_zone *ℤ c.pair_zone-zone.result
-odd_base c = back64 c.index_of-2.result (record { sfits = c.index_of-2.type_inv })
+    → to_z w64 (of_z w64 c.index_of-odd.result) ≡ pos c.args.odd.lat +ℤ pos codes_of_zone *ℤ c.pair_zone-zone.result
+odd_base c = back64 c.index_of-odd.result (record { sfits = c.index_of-odd.type_inv })
     ∙ (rw (
       back64 c.pair_zone-zone.result (record { sfits = c.pair_zone-zone.type_inv }),
       c.lat-4.ensures.value,
-    ) at c.index_of-2.ensures.value)
+    ) at c.index_of-odd.ensures.value)
 
 pub returns-clause-latitudes : goal.returns-clause-latitudes
 returns-clause-latitudes c =
