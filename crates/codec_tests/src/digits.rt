@@ -1,7 +1,8 @@
 //! Texts in buffers, and numbers as digits in them.
 use sq_digits::{
-    TextBuffer, push_decimal, push_digit, push_hexadecimal, push_leading, push_short,
-    push_signed_decimal, push_signed_short, push_six_places, push_three,
+    DIGIT_LANES, TextBuffer, count_digits, decode_28, decode_40, push_decimal, push_digit,
+    push_hexadecimal, push_leading, push_short, push_signed_decimal, push_signed_short,
+    push_six_places, push_three,
 };
 
 // The number in decimal digits.
@@ -110,6 +111,55 @@ fn hexadecimal_places(rt: HostRuntime) {
     push_hexadecimal(&mut text, 0x1F, 12);
     assert!(rt; text.as_str() == "DCBA9800000A23AF00000000001F");
     assert!(rt; text.len() == 28);
+}
+
+#[test]
+fn counts_digits_at_the_front(rt: HostRuntime) {
+    assert!(rt; DIGIT_LANES == 16);
+    let rows: [(&[u8], usize); 5] = [
+        (b" 234567890123456", 0),
+        (b"1/34567890123456", 1),
+        (b"12345678901234:6", 14),
+        (b"123456789012345 ", 15),
+        (b"12345678901234567", 16),
+    ];
+    for (text, count) in rows {
+        assert!(rt; count_digits(text) == count);
+    }
+}
+
+#[test]
+fn decodes_digits_of_either_case(rt: HostRuntime) {
+    assert!(rt;
+        decode_28(b"00010203040506070809aAbBcCdD")
+            == Some([0, 1, 2, 3, 4, 5, 6, 7, 8, 9, 0xAA, 0xBB, 0xCC, 0xDD,])
+    );
+    assert!(rt;
+        decode_40(b"8D40621D58C382D690C8AC2863A70123456789fe")
+            == Some([
+                0x8D, 0x40, 0x62, 0x1D, 0x58, 0xC3, 0x82, 0xD6, 0x90, 0xC8, 0xAC, 0x28, 0x63, 0xA7,
+                0x01, 0x23, 0x45, 0x67, 0x89, 0xFE,
+            ])
+    );
+}
+
+// The bytes next to the digits and the letters.
+const NO_DIGITS: [u8; 6] = [b'/', b':', b'@', b'G', b'`', b'g'];
+
+#[test]
+fn decodes_digits_alone(rt: HostRuntime) {
+    for byte in NO_DIGITS {
+        for at in 0..28 {
+            let mut digits = [b'0'; 28];
+            digits[at] = byte;
+            assert!(rt; decode_28(&digits).is_none());
+        }
+        for at in 0..40 {
+            let mut digits = [b'0'; 40];
+            digits[at] = byte;
+            assert!(rt; decode_40(&digits).is_none());
+        }
+    }
 }
 
 #[test]

@@ -4,3 +4,6 @@ pub mod Decimals
 pub mod Threes
 pub mod Bytes
 pub mod Places
+pub mod HexLanes
+pub mod Spelled
+pub mod CountedDigits

@@ -1,3 +1,4 @@
 pub mod Characters
 pub mod Buffer
 pub mod Digits
+pub mod HexDigits

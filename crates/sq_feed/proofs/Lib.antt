@@ -10,11 +10,8 @@ pub mod Digits
 pub mod Numbers
 pub mod CellLemmas
 pub mod RowLemmas
-pub mod HexLanes
-pub mod Spelled
 pub mod AvrWhole
 pub mod Positions
-pub mod DigitLanes
 pub mod PlainRows
 pub mod Tallies
 pub mod Finds

@@ -1,8 +1,9 @@
 -- Numbers in digits.
 use Rattle.std.proofs.Common.{◌≡◌, ◌+◌, ◌-◌, ◌*◌, ◌<◌, ◌≤◌, ◌^◌, ◌∙◌, ℕ, zero, suc, Bool, true, false, List, [], ◌∷◌, length, take, drop}
-use Rattle.std.proofs.Common.{get_or, ap, sym, arith, rules, add-one, drop-cons, drop_of_length-le}
+use Rattle.std.proofs.Common.{get_or, ap, ap₂, refl, sym, arith, rules, add-one, drop-cons, drop_of_length-le}
 use Rattle.std.specs.Prelude.{◌&&◌, IfSome, MatchOption, Option, Some, None}
 use Rattle.std.specs.Char.{IsAsciiDigit, is_ascii_digit}
+use Rattle.std.specs.List.{AllByRecursion}
 use Rattle.std.specs.Str.Parse.{digits_value}
 use Rattle.std.proofs.lemmas.Bool.{and_parts}
 use Rattle.std.proofs.Math.Nat.{pow-le-pow_right}
@@ -33,6 +34,13 @@ digit_at (b ∷ text) (suc i) all within =
 
 pub digit_range : (byte : ℕ) → is_ascii_digit byte ≡ true → IsAsciiDigit byte
 digit_range byte is = search rules
+
+-- bytes of which each is a digit
+pub each_digit : (text : List ℕ) → AllByRecursion IsAsciiDigit text → are_digits text ≡ true
+each_digit [] each = refl
+each_digit (byte ∷ text) (is, each) =
+    let one : is_ascii_digit byte ≡ true = search rules in
+    ap₂ (λ (s t : Bool). s && t) one (each_digit text each)
 
 -- a function of the rest of a list, at its end
 pub all_gone : {B : Type 0} (f : List ℕ → B) {b : B} → f [] ≡ b → (text : List ℕ) (i : ℕ) → length text ≤ i

@@ -5,11 +5,10 @@
 -- `:`, and on a line of its own, the digits are the frame's; after `@` and `%` twelve of the clock stand before them;
 -- after `<` these and two of the signal strength. A frame has 4, 14 or 28 digits. Any other word that is not empty is
 -- damage, and so are a mark without a frame and a semicolon without a mark.
-use Rattle.std.specs.Prelude.{◌≡◌, ◌==◌, ◌<◌, ◌≤◌, ◌++◌, ◌+◌, ◌*◌, ◌/◌, ◌||◌, ◌&&◌, ℕ, Bool, true, false, List, [], ◌∷◌, length, take, drop, map}
-use Rattle.std.specs.Prelude.{Option, Some, None, slice_index, if◌then◌else◌}
-use Rattle.std.specs.Char.{digit_value, is_digit}
+use Rattle.std.specs.Prelude.{◌≡◌, ◌==◌, ◌<◌, ◌≤◌, ◌++◌, ◌+◌, ◌*◌, ◌||◌, ◌&&◌, ℕ, Bool, true, false, List, [], ◌∷◌, length, take, drop}
+use Rattle.std.specs.Prelude.{Option, Some, None, if◌then◌else◌}
 use Rattle.std.specs.Int.Digits.{number_from_digits}
-use Rattle.std.specs.List.{AllByRecursion, range_with_len}
+pub use Rattle.sq_digits.specs.HexDigits.{AreHex, byte_at, bytes_of, is_hex}
 use Rattle.sq_feed.specs.declared.avr.Mark.{Mark}
 use Rattle.sq_feed.specs.declared.avr.Mark.TheVariants.{Plain, Clocked, Signalled}
 use Rattle.sq_feed.specs.declared.avr.Edge.{Edge}
@@ -27,13 +26,6 @@ use Rattle.sq_feed.specs.Kinds.{frame_len, frame_of}
 
 -- ---- frames
 
--- 0 to 9, A to F and a to f
-abbrev pub is_hex : ℕ → Bool
-is_hex byte = is_digit byte 16
-
-abbrev pub AreHex : List ℕ → Type 0
-AreHex digits = AllByRecursion (λ byte. is_hex byte ≡ true) digits
-
 abbrev pub are_hex : List ℕ → Bool
 are_hex [] = true
 are_hex (byte ∷ more) = is_hex byte && are_hex more
@@ -50,13 +42,6 @@ size_of mark digits =
     if digits == 2 * (lead mark + 2) then Some TwoBytes
     else (if digits == 2 * (lead mark + 7) then Some SevenBytes
     else (if digits == 2 * (lead mark + 14) then Some FourteenBytes else None))
-
--- byte k is spelled by digits 2 k and 2 k + 1
-abbrev pub byte_at : List ℕ → ℕ → ℕ
-byte_at digits k = 16 * digit_value (slice_index digits (2 * k)) + digit_value (slice_index digits (2 * k + 1))
-
-abbrev pub bytes_of : List ℕ → List ℕ
-bytes_of digits = map (byte_at digits) (range_with_len 0 (length digits / 2))
 
 -- the time that the bytes before the frame state
 abbrev pub clock_of : Mark → List ℕ → Time

@@ -1,6 +1,6 @@
 -- Positions of bytes, cells of a row, and numbers in decimal digits.
 use Rattle.std.specs.Prelude.{◌==◌, ◌++◌, ◌+◌, ◌-◌, ◌*◌, ◌^◌, ◌&&◌, ℕ, zero, suc, Bool, true, List, [], ◌∷◌, length, take, drop}
-use Rattle.std.specs.Prelude.{Option, Some, None, nat_le, nat_lt, slice_index, not, if◌then◌else◌}
+use Rattle.std.specs.Prelude.{Option, Some, None, nat_le, nat_lt, slice_index, if◌then◌else◌}
 use Rattle.std.specs.Char.{is_ascii_digit}
 use Rattle.std.specs.List.{position_or_len}
 use Rattle.std.specs.Str.{str_eq_ignore_ascii_case}
@@ -15,10 +15,6 @@ position_of byte text = position_or_len (λ b. b == byte) text
 abbrev pub are_digits : List ℕ → Bool
 are_digits [] = true
 are_digits (byte ∷ more) = is_ascii_digit byte && are_digits more
-
--- the index of the first byte that is not a digit, or the length of the text
-abbrev pub digits_len : List ℕ → ℕ
-digits_len text = position_or_len (λ byte. not (is_ascii_digit byte)) text
 
 -- the number with these decimal digits, if there are 1 to `most` and the number is below 2^64
 abbrev pub number_of : ℕ → List ℕ → Option ℕ

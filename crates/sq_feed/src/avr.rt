@@ -10,8 +10,8 @@ ghost use Rattle.sq_feed.specs.declared.avr.Mark.TheVariants.{Plain, Clocked};
 ghost use Rattle.sq_feed.specs.Kinds.{frame_len};
 
 use crate::message::{self, Found, Message, RawFrame, Size, Time};
-use crate::plain_words::{fourteen_of, twenty_of};
 use arrayvec::ArrayVec;
+use sq_digits::{decode_28, decode_40};
 use std::marker::Model;
 
 // The most digits that a frame has between its mark and its semicolon.
@@ -392,7 +392,7 @@ pub(crate) fn frame_of_word(word: &[u8]) -> Option<RawFrame>
     ensures { result ≡ frame_of_word word.now }
 {
     if word.len() == LONG {
-        if let Some(frame) = fourteen_of(word) {
+        if let Some(frame) = decode_28(word) {
             return Some(RawFrame::Long(frame));
         }
     }
@@ -492,7 +492,7 @@ fn plain_word(piece: &[u8]) -> Option<(Message, usize)>
     if piece.len() < 30 || piece[29] != b';' {
         return None;
     }
-    let bytes = fourteen_of(&piece[1..29])?;
+    let bytes = decode_28(&piece[1..29])?;
     Some((message_of(Mark::Plain, Size::FourteenBytes, &bytes), 30))
 }
 
@@ -505,6 +505,6 @@ fn clocked_word(piece: &[u8]) -> Option<(Message, usize)>
     if piece.len() < 42 || piece[41] != b';' {
         return None;
     }
-    let bytes = twenty_of(&piece[1..41])?;
+    let bytes = decode_40(&piece[1..41])?;
     Some((message_of(Mark::Clocked, Size::FourteenBytes, &bytes), 42))
 }

@@ -2,7 +2,7 @@
 ghost use Rattle.std.specs.Prelude.{◌≡◌, ◌≢◌, ◌≤◌, ◌<◌, ◌+◌, ◌*◌, ◌^◌, Some, None, IfSome, MatchOption, length, slice_index, take, false, true, ℕ};
 ghost use Rattle.std.specs.Char.{IsAsciiDigit, digit_value};
 ghost use Rattle.std.specs.Str.Parse.{digits_value};
-ghost use Rattle.sq_feed.specs.Cells.{are_digits, cell_of, column_of, digits_len, is_named, millis_of, number_of, position_of, thousandths, unquoted};
+ghost use Rattle.sq_feed.specs.Cells.{are_digits, cell_of, column_of, is_named, millis_of, number_of, position_of, thousandths, unquoted};
 
 use std::simd::prelude::*;
 
@@ -74,22 +74,6 @@ fn position_from(byte: u8, text: &[u8], start: usize) -> usize
         }
     }
     text.len()
-}
-
-// Counts the digits before the first other byte among the first sixteen: 16 if all are digits.
-#[inline(always)]
-pub(crate) fn digits_in_16(text: &[u8]) -> usize
-    requires { 16 ≤ length text.now }
-    ensures value { result ≡ digits_len (take 16 text.now) }
-    ensures few { result ≤ 16 }
-    ensures digits { are_digits (take result text.now) ≡ true }
-{
-    let values = u8x16::from_slice(text) - u8x16::splat(b'0');
-    let others = values.simd_gt(u8x16::splat(9)).to_bitmask();
-    if others == 0 {
-        return LANES;
-    }
-    others.trailing_zeros() as usize
 }
 
 // Returns whether all bytes are decimal digits.

@@ -5,9 +5,9 @@ ghost use Rattle.sq_feed.specs.Avr.{AreHex, bytes_of};
 ghost use Rattle.sq_feed.specs.Cells.{are_digits};
 ghost use Rattle.sq_feed.specs.Rows.{IsLineEnd, IsRowAt, csv_start};
 
-use crate::cells::{LANES, digits_in_16, position_in_16, ten_digits, thousandths};
+use crate::cells::{LANES, position_in_16, ten_digits, thousandths};
 use crate::message::{Message, RawFrame, Time};
-use crate::plain_words::fourteen_of;
+use sq_digits::{DIGIT_LANES, count_digits, decode_28};
 
 // The maximum number of bytes read: up to 15 decimals, and up to 15 bytes in the second cell.
 const NEAR: usize = 73;
@@ -57,7 +57,7 @@ fn has_seconds(text: &[u8]) -> bool
     ensures digits { result ≡ true → are_digits (take 10 text.now) ≡ true }
     ensures point { result ≡ true → slice_index text.now 10 ≡ 46 }
 {
-    digits_in_16(text) == SECONDS && text[SECONDS] == b'.'
+    count_digits(text) == SECONDS && text[SECONDS] == b'.'
 }
 
 // Returns the number with the first ten digits.
@@ -79,8 +79,8 @@ fn decimals_before_comma(text: &[u8]) -> Option<usize>
     ensures comma { IfSome result (λ count. slice_index text.now count ≡ 44) }
     ensures few { IfSome result (λ count. count < 16) }
 {
-    let count = digits_in_16(text);
-    if count == LANES || text[count] != b',' {
+    let count = count_digits(text);
+    if count == DIGIT_LANES || text[count] != b',' {
         return None;
     }
     Some(count)
@@ -108,7 +108,7 @@ fn frame_at(text: &[u8]) -> Option<[u8; 14]>
     requires { 28 ≤ length text.now }
     ensures { IfSome result (λ frame. AreHex (take 28 text.now) × (frame ≡ bytes_of (take 28 text.now))) }
 {
-    fourteen_of(&text[..LONG])
+    decode_28(&text[..LONG])
 }
 
 // Returns the length of the line end after 28 bytes, or `None` if there is none.

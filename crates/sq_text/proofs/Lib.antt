@@ -2,11 +2,10 @@ pub mod BadDigits
 pub mod One
 pub mod OneReading
 pub mod SomeReading
-pub mod DigitLemmas
+pub mod SpelledFrames
 pub mod Moments
 pub mod WordDigits
 pub mod LeadingDigits
-pub mod CountedDigits
 pub mod TimedReadings
 pub mod PlaceTexts
 pub mod Altitudes

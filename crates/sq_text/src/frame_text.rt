@@ -3,11 +3,10 @@ ghost use Rattle.std.specs.Prelude.{◌≡◌, length, Ok, IfSome, MatchOption, 
 ghost use Rattle.hex.specs.Hex.{decode_of};
 ghost use Rattle.sq_text.specs.FrameText.{IsFrameReading, IsBody, IsFirstBadDigit, IsFrameText, IsHalfWrapped};
 
-use crate::digit_values::{are_values, bytes_of, digit_values};
 use crate::faults::LineFault;
 use hex::FromHexError;
 use sq_bits::Frame;
-use std::simd::prelude::*;
+use sq_digits::decode_28;
 use thiserror::Error;
 
 /// Why a text is no frame text: the first of these that applies.
@@ -78,24 +77,13 @@ fn read_digits(body: &[u8]) -> Result<Frame, usize>
     }
 }
 
-// The frame of 28 digits, where all of them are digits: the common case, in lanes. The last sixteen digits begin with
-// four of the first sixteen.
+// The frame of 28 digits, where all of them are digits: the common case, in lanes.
 #[inline(always)]
 fn frame_of_digits(body: &[u8]) -> Option<Frame>
     requires { length body.now ≡ 28 }
     ensures { IfSome result (λ frame. decode_of body.now ≡ Ok frame.0) }
 {
-    let front = digit_values(u8x16::from_slice(body));
-    let back = digit_values(u8x16::from_slice(&body[12..]));
-    if !are_values(front, back) {
-        return None;
-    }
-    let first = bytes_of(front);
-    let last = bytes_of(back);
-    Some(Frame([
-        first[0], first[1], first[2], first[3], first[4], first[5], first[6], first[7], last[2],
-        last[3], last[4], last[5], last[6], last[7],
-    ]))
+    Some(Frame(decode_28(body)?))
 }
 
 // The frame of 28 digits by the crate for such digits, which finds the first bad one.

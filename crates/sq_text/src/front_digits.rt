@@ -1,4 +1,4 @@
-//! Decimal digits at the front of a text, counted in lanes and joined eight at a time.
+//! Decimal digits at the front of a text, joined eight at a time.
 ghost use Rattle.std.specs.Prelude.{◌≡◌, ◌≤◌, ◌^◌, ◌<◌, ℕ, List, length, slice_index, take};
 ghost use Rattle.std.specs.Char.{IsAsciiDigit};
 ghost use Rattle.std.specs.Int.{w64, from_le_bytes};
@@ -7,9 +7,6 @@ ghost use Rattle.std.specs.List.{AllByRecursion};
 ghost use Rattle.std.specs.Str.Parse.{digits_value};
 
 use std::simd::prelude::*;
-
-// The number of bytes that `count_digits` reads, and the most digits that `front_number` joins.
-pub(crate) const FRONT: usize = 16;
 
 // The number of bytes in a word.
 const WORD: usize = 8;
@@ -35,23 +32,6 @@ const FOUR_FACTOR: u64 = 1 + (100 << 16);
 
 // Adds 10,000 times the low four bytes to the high four.
 const EIGHT_FACTOR: u64 = 1 + (10_000 << 32);
-
-// Returns the number of digits before the first other byte among the first sixteen, or 16 if all are digits. One
-// comparison in lanes tests all sixteen.
-#[inline(always)]
-pub(crate) fn count_digits(text: &[u8]) -> usize
-    requires room { 16 ≤ length text.now }
-    ensures few { result ≤ 16 }
-    ensures digits { AllByRecursion IsAsciiDigit (take result text.now) }
-    ensures first { result < 16 → ¬ IsAsciiDigit (slice_index text.now result) }
-{
-    let values = u8x16::from_slice(text) - u8x16::splat(b'0');
-    let others = values.simd_gt(u8x16::splat(9)).to_bitmask();
-    if others == 0 {
-        return FRONT;
-    }
-    others.trailing_zeros() as usize
-}
 
 // Returns the number that the first `count` bytes spell: 1 to 16 digits.
 #[inline(always)]

@@ -8,7 +8,6 @@
 //! its line ([`push_line`]). Values follow by name, and [`push_end`] ends it.
 #![tactic(auto)]
 
-mod digit_values;
 mod faults;
 mod frame_text;
 mod front_digits;

@@ -6,8 +6,9 @@ ghost use Rattle.std.specs.Str.Parse.{digits_value};
 ghost use Rattle.sq_text.specs.Timed.{HasNoMoment, IsMomentLine, IsDecimalText, IsTimedReading};
 
 use crate::faults::LineFault;
-use crate::front_digits::{FRONT, count_digits, front_number};
+use crate::front_digits::front_number;
 use crate::reading::read_squitter;
+use sq_digits::{DIGIT_LANES, count_digits};
 use sq_message::Received;
 
 // The most digits of a number below 2^64.
@@ -56,7 +57,7 @@ fn leading_number(text: &[u8]) -> (u64, usize)
     ensures last { result.1 < 19 → result.1 < length text.now → ¬ IsAsciiDigit (slice_index text.now result.1) }
     ensures value { result.0 ≡ digits_value 10 (take result.1 text.now) }
 {
-    if text.len() < FRONT {
+    if text.len() < DIGIT_LANES {
         return more_digits(text, 0, 0);
     }
     let count = count_digits(text);
@@ -64,7 +65,7 @@ fn leading_number(text: &[u8]) -> (u64, usize)
         return (0, 0);
     }
     let number = front_number(text, count);
-    if count < FRONT {
+    if count < DIGIT_LANES {
         return (number, count);
     }
     more_digits(text, number, count)
