@@ -6,6 +6,7 @@ ghost use Rattle.sq_feed.specs.Ears.{ear_after, frames_of, moments_of, told_of};
 ghost use Rattle.sq_feed.specs.Feeds.{HasClosedFeed, HasEnded, HasGiven, HasLost, HasWritten, format_of_source, lines_of};
 ghost use Rattle.sq_feed.specs.Feeds.{nothing_fed, told_at_end};
 ghost use Rattle.sq_feed.specs.Readers.{calls_left, waiting};
+ghost use Rattle.sq_feed.specs.Steps.{HasHeardOne, HasTakenOne, arrays};
 
 use crate::counts::Counts;
 use crate::ear::{Ear, frame_in, whole_of};
@@ -182,15 +183,8 @@ impl Feed {
     ) -> (usize, usize)
         requires some { (0 < length piece.now) ⊎ (0 < calls_left self.old.reader) }
         requires room { (given < length moments.old) × (given < length frames.old) }
-        ensures fits { result.0 ≤ length piece.now }
-        ensures goes_on { calls_left self.new.reader < calls_left self.old.reader + 7 * result.0 }
-        ensures few { (given ≤ result.1) × (result.1 ≤ given + 1) }
-        ensures given { HasGiven arrival self.old (take result.0 piece.now) (take given moments.old)
-            (take given frames.old)
-            (take result.1 moments.new) (take result.1 frames.new) self.new }
-        ensures rest { (drop result.1 moments.new ≡ drop result.1 moments.old)
-            × (drop result.1 frames.new ≡ drop result.1 frames.old) }
-        ensures long { (length moments.new ≡ length moments.old) × (length frames.new ≡ length frames.old) }
+        ensures { HasTakenOne arrival self.old self.new piece.now result.0 given result.1
+            (arrays moments.old frames.old) (arrays moments.new frames.new) }
     {
         if let Some((message, count)) = self.reader.whole_message(piece) {
             let more = self.give(&message, arrival, given, moments, frames);
@@ -219,16 +213,8 @@ impl Feed {
         frames: &mut [[u8; 14]],
     ) -> usize
         requires room { (given < length moments.old) × (given < length frames.old) }
-        ensures reader { self.new.reader ≡ self.old.reader }
-        ensures heard { self.new.ear ≡ ear_after arrival self.old.ear (Found.Whole message.now) }
-        ensures few { (given ≤ result) × (result ≤ given + 1) }
-        ensures moments { take result moments.new ≡ take given moments.old
-            ++ moments_of (told_of arrival self.old.ear (Found.Whole message.now)) }
-        ensures frames { take result frames.new ≡ take given frames.old
-            ++ frames_of (told_of arrival self.old.ear (Found.Whole message.now)) }
-        ensures rest { (drop result moments.new ≡ drop result moments.old)
-            × (drop result frames.new ≡ drop result frames.old) }
-        ensures long { (length moments.new ≡ length moments.old) × (length frames.new ≡ length frames.old) }
+        ensures { HasHeardOne arrival self.old self.new (Found.Whole message.now) given result
+            (arrays moments.old frames.old) (arrays moments.new frames.new) }
     {
         match self.ear.hear_message(message, arrival) {
             Some(moment) => {
@@ -251,16 +237,8 @@ impl Feed {
         frames: &mut [[u8; 14]],
     ) -> usize
         requires room { (given < length moments.old) × (given < length frames.old) }
-        ensures reader { self.new.reader ≡ self.old.reader }
-        ensures heard { self.new.ear ≡ ear_after arrival self.old.ear (Found.Whole message.now) }
-        ensures few { (given ≤ result) × (result ≤ given + 1) }
-        ensures moments { take result moments.new ≡ take given moments.old
-            ++ moments_of (told_of arrival self.old.ear (Found.Whole message.now)) }
-        ensures frames { take result frames.new ≡ take given frames.old
-            ++ frames_of (told_of arrival self.old.ear (Found.Whole message.now)) }
-        ensures rest { (drop result moments.new ≡ drop result moments.old)
-            × (drop result frames.new ≡ drop result frames.old) }
-        ensures long { (length moments.new ≡ length moments.old) × (length frames.new ≡ length frames.old) }
+        ensures { HasHeardOne arrival self.old self.new (Found.Whole message.now) given result
+            (arrays moments.old frames.old) (arrays moments.new frames.new) }
     {
         self.give(message, arrival, given, moments, frames)
     }
@@ -277,15 +255,8 @@ impl Feed {
     ) -> (usize, usize)
         requires some { (0 < length piece.now) ⊎ (0 < calls_left self.old.reader) }
         requires room { (given < length moments.old) × (given < length frames.old) }
-        ensures fits { result.0 ≤ length piece.now }
-        ensures goes_on { calls_left self.new.reader < calls_left self.old.reader + 7 * result.0 }
-        ensures few { (given ≤ result.1) × (result.1 ≤ given + 1) }
-        ensures given { HasGiven arrival self.old (take result.0 piece.now) (take given moments.old)
-            (take given frames.old)
-            (take result.1 moments.new) (take result.1 frames.new) self.new }
-        ensures rest { (drop result.1 moments.new ≡ drop result.1 moments.old)
-            × (drop result.1 frames.new ≡ drop result.1 frames.old) }
-        ensures long { (length moments.new ≡ length moments.old) × (length frames.new ≡ length frames.old) }
+        ensures { HasTakenOne arrival self.old self.new piece.now result.0 given result.1
+            (arrays moments.old frames.old) (arrays moments.new frames.new) }
     {
         let (count, found) = self.reader.take(piece);
         if let Some(found) = found {

@@ -1,5 +1,5 @@
 -- What calls of a feed answer.
-use Rattle.std.specs.Prelude.{◌≡◌, ◌==◌, ◌≤◌, ◌<◌, ◌+◌, ◌/◌, ◌%◌, ◌⊎◌, ℕ, List, [], Option, None, Some, drop, length, take}
+use Rattle.std.specs.Prelude.{◌≡◌, ◌==◌, ◌≤◌, ◌<◌, ◌+◌, ◌*◌, ◌/◌, ◌%◌, ◌⊎◌, ℕ, List, [], Option, None, Some, drop, length, take}
 use Rattle.sq_feed.specs.declared.machine.Format.{Format}
 use Rattle.sq_feed.specs.declared.machine.Format.TheVariants as formats
 use Rattle.sq_feed.specs.declared.manner.Manner.{Manner}
@@ -96,6 +96,16 @@ IsFeedFinished arrival None new moments_were moments frames_were frames before a
     × (fault ≡ fault_of reasons.NoTracker)
 
 -- ---- lines in a buffer
+
+-- So many bytes of the piece were taken, and the lines of their squitters written from index `at` up to `end`.
+pub record HasTakenSome (arrival : ℕ) (old new : Feeding) (piece : List ℕ) (count at end : ℕ) (was is : List ℕ) : Type 0
+  where
+    pub fits : count ≤ length piece
+    pub goes_on : calls_left new.reader < calls_left old.reader + 7 * count
+    pub some : 0 < length piece → (0 < count) ⊎ (at < end)
+    pub written : HasWritten arrival old (take count piece) (take at was) (take end is) new
+    pub from : (at ≤ end) × (end ≤ length is)
+    pub rest : (drop end is ≡ drop end was) × (length is ≡ length was)
 
 -- The feed went on with the bytes that were taken, and the lines of their squitters were written. Where there is room
 -- for a line more, all bytes were taken, and no line waits.

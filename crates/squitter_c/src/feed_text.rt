@@ -1,9 +1,9 @@
 //! The lines of a source's squitters, pushed in pieces: as many as fit a buffer.
-ghost use Rattle.std.specs.Prelude.{◌≡◌, ◌⊎◌, ◌*◌, ◌+◌, ◌++◌, ◌<◌, ◌≤◌, drop, length, take};
-ghost use Rattle.sq_feed.specs.Feeds.{HasWritten};
+ghost use Rattle.std.specs.Prelude.{◌≡◌, ◌⊎◌, ◌+◌, ◌++◌, ◌<◌, ◌≤◌, drop, length, take};
 ghost use Rattle.sq_feed.specs.Lines.{log_line};
 ghost use Rattle.sq_feed.specs.Readers.{calls_left};
-ghost use Rattle.squitter_c.specs.FeedCalls.{HasEndedInText, HasTakenText, IsFeedTextFinished, IsFeedTextTaken};
+ghost use Rattle.squitter_c.specs.FeedCalls.{HasEndedInText, HasTakenSome, HasTakenText, IsFeedTextFinished};
+ghost use Rattle.squitter_c.specs.FeedCalls.{IsFeedTextTaken};
 ghost use Rattle.squitter_c.specs.Slots.{held_feed};
 
 use crate::faults::{Fault, NONE, Reason};
@@ -94,13 +94,7 @@ fn take_some(
 ) -> (usize, usize)
     requires some { (0 < length piece.now) ⊎ (0 < calls_left feed.old.reader) }
     requires room { at + 50 ≤ length out.old }
-    ensures fits { result.0 ≤ length piece.now }
-    ensures goes_on { calls_left feed.new.reader < calls_left feed.old.reader + 7 * result.0 }
-    ensures some { 0 < length piece.now → (0 < result.0) ⊎ (at < result.1) }
-    ensures written { HasWritten arrival feed.old (take result.0 piece.now) (take at out.old) (take result.1 out.new)
-        feed.new }
-    ensures end { (at ≤ result.1) × (result.1 ≤ length out.new) }
-    ensures rest { (drop result.1 out.new ≡ drop result.1 out.old) × (length out.new ≡ length out.old) }
+    ensures { HasTakenSome arrival feed.old feed.new piece.now result.0 at result.1 out.old out.new }
 {
     if out.len() - at < LINES || piece.len() < SEVERAL {
         take_line(feed, piece, arrival, out, at)
@@ -119,13 +113,7 @@ fn take_lines(
 ) -> (usize, usize)
     requires some { (0 < length piece.now) ⊎ (0 < calls_left feed.old.reader) }
     requires room { at + 1024 ≤ length out.old }
-    ensures fits { result.0 ≤ length piece.now }
-    ensures goes_on { calls_left feed.new.reader < calls_left feed.old.reader + 7 * result.0 }
-    ensures some { 0 < length piece.now → (0 < result.0) ⊎ (at < result.1) }
-    ensures written { HasWritten arrival feed.old (take result.0 piece.now) (take at out.old) (take result.1 out.new)
-        feed.new }
-    ensures end { (at ≤ result.1) × (result.1 ≤ length out.new) }
-    ensures rest { (drop result.1 out.new ≡ drop result.1 out.old) × (length out.new ≡ length out.old) }
+    ensures { HasTakenSome arrival feed.old feed.new piece.now result.0 at result.1 out.old out.new }
 {
     let mut lines = TextBuffer::<LINES>::new();
     let count = feed.take(piece, arrival, &mut lines);
@@ -144,13 +132,7 @@ fn take_line(
 ) -> (usize, usize)
     requires some { (0 < length piece.now) ⊎ (0 < calls_left feed.old.reader) }
     requires room { at + 50 ≤ length out.old }
-    ensures fits { result.0 ≤ length piece.now }
-    ensures goes_on { calls_left feed.new.reader < calls_left feed.old.reader + 7 * result.0 }
-    ensures some { 0 < length piece.now → (0 < result.0) ⊎ (at < result.1) }
-    ensures written { HasWritten arrival feed.old (take result.0 piece.now) (take at out.old) (take result.1 out.new)
-        feed.new }
-    ensures end { (at ≤ result.1) × (result.1 ≤ length out.new) }
-    ensures rest { (drop result.1 out.new ≡ drop result.1 out.old) × (length out.new ≡ length out.old) }
+    ensures { HasTakenSome arrival feed.old feed.new piece.now result.0 at result.1 out.old out.new }
 {
     let mut moments = [0u64];
     let mut frames = [[0u8; 14]];

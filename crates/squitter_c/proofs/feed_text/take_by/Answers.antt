@@ -26,14 +26,14 @@ loop-feed-preserved c =
     let few : count ≤ length (drop at piece) = subst (λ l. count ≤ length l) rest c.take_some-count.ensures.fits in
     record {
       taken = omega (arith, few, length-drop at piece, i.taken);
-      fits = c.take_some-count.ensures.end.1;
+      fits = c.take_some-count.ensures.from.1;
       gone = written_piece c.args.arrival c.args.feed.now c.loop-feed.feed c.take_some-count.new.feed piece []
           (take c.loop-feed.written c.loop-feed.out) (take end out) at count i.taken i.gone
           (subst (λ l. HasWritten c.args.arrival c.loop-feed.feed (take count l)
           (take c.loop-feed.written c.loop-feed.out) (take end out) c.take_some-count.new.feed) rest
           c.take_some-count.ensures.written);
       rest = c.take_some-count.ensures.rest.0
-          ∙ rest_further c.loop-feed.out c.args.out.now c.loop-feed.written end c.take_some-count.ensures.end.0
+          ∙ rest_further c.loop-feed.out c.args.out.now c.loop-feed.written end c.take_some-count.ensures.from.0
           i.rest;
       long = c.take_some-count.ensures.rest.1 ∙ i.long;
     }
