@@ -2,7 +2,7 @@
 use crate::faulty_devices::{sink_of, taken};
 use crate::outcomes::assert_reported;
 use sq_angle::AngleFault;
-use sq_commands::{Request, RunFault, Status, break_off};
+use sq_commands::{ReplyRequest, Request, RunFault, Status, break_off};
 use std::alloc::Global;
 use std::fmt;
 use std::process::Abort;
@@ -13,11 +13,11 @@ fn line_of(alloc: Global, name: &str, fault: impl fmt::Display + Drop) -> String
 }
 
 fn near<'a>(lat: &'a str, lon: &'a str) -> Request<'a> {
-    Request::Local {
+    Request::Reply(ReplyRequest::Local {
         frame: "8D40621D58C382D690C8AC2863A7",
         lat,
         lon,
-    }
+    })
 }
 
 // Asserts what is reported of a word that is no latitude and no longitude.

@@ -1,17 +1,17 @@
 //! The command `encode`: `IsEncodeReply`. `tests/worked/encode.txt` has the replies to more command lines.
 use crate::outcomes::{assert_reported, assert_written};
-use sq_commands::{EncodeWords, Request, Status};
+use sq_commands::{EncodeWords, ReplyRequest, Request, Status};
 
 // A position in the air, of this kind.
 fn position_of(kind: &str) -> Request<'_> {
-    Request::Encode(EncodeWords {
+    Request::Reply(ReplyRequest::Encode(EncodeWords {
         kind,
         parity: "even",
         address: "40621D",
         feet: Some("38000"),
         lat: "10.4704573",
         lon: "10",
-    })
+    }))
 }
 
 #[test]

@@ -1,13 +1,13 @@
 //! The command `local`: `IsLocalReply`. `tests/worked/local.txt` has the replies to more command lines.
 use crate::outcomes::{assert_reported, assert_unreported, assert_unwritten, assert_written};
-use sq_commands::{Request, Status};
+use sq_commands::{ReplyRequest, Request, Status};
 
 const AIR_EVEN: &str = "8D40621D58C382D690C8AC2863A7";
 
 const OTHER: &str = "8D406B902015A678D4D220AA4BDA";
 
 fn near<'a>(frame: &'a str, lat: &'a str, lon: &'a str) -> Request<'a> {
-    Request::Local { frame, lat, lon }
+    Request::Reply(ReplyRequest::Local { frame, lat, lon })
 }
 
 #[test]

@@ -1,7 +1,7 @@
 //! Whole requests: `IsRun`, and `WroteOrFailed` of what is reported where the sink for faults fails; and the command
 //! `show`, of which `tests/worked/show.txt` has more.
 use crate::faulty_devices::{sink_of, source_of, taken};
-use sq_commands::{Request, Status, answer};
+use sq_commands::{ReplyRequest, Request, Status, answer};
 use sq_devices::{Sink, Source};
 use std::alloc::Global;
 use std::io;
@@ -73,18 +73,18 @@ pub(crate) fn assert_reported(
 
 #[test]
 fn shows_a_frame(rt: HostRuntime) {
-    let request = Request::Show {
+    let request = Request::Reply(ReplyRequest::Show {
         frame: "8D406B902015A678D4D220AA4BDA",
-    };
+    });
     let text = "address 406B90\nca 5\ntype 4\nkind other\nme 2015A678D4D220\n";
     assert_written(&rt, rt.alloc(), request, text);
 }
 
 #[test]
 fn refuses_a_frame(rt: HostRuntime) {
-    let request = Request::Show {
+    let request = Request::Reply(ReplyRequest::Show {
         frame: "8D40621D58C382D690C8AC2863A6",
-    };
+    });
     assert_reported(&rt, rt.alloc(), request, Status::Refused, "parity 000001\n");
 }
 
@@ -135,8 +135,8 @@ pub(crate) fn assert_unreported(
 
 #[test]
 fn tells_a_writer_that_fails(rt: HostRuntime) {
-    let request = Request::Show {
+    let request = Request::Reply(ReplyRequest::Show {
         frame: "8D40621D58C382D690C8AC2863A7",
-    };
+    });
     assert_unwritten(&rt, rt.alloc(), request);
 }

@@ -1,6 +1,6 @@
 //! The command `pair`: `IsPairReply`. `tests/worked/pair.txt` has the replies to more command lines.
 use crate::outcomes::{assert_reported, assert_unreported, assert_unwritten, assert_written};
-use sq_commands::{Request, Status};
+use sq_commands::{ReplyRequest, Request, Status};
 
 const AIR_EVEN: &str = "8D40621D58C382D690C8AC2863A7";
 
@@ -10,12 +10,12 @@ const OTHER: &str = "8D406B902015A678D4D220AA4BDA";
 
 // A pair without a site.
 fn bare<'a>(older: &'a str, newer: &'a str) -> Request<'a> {
-    Request::Pair {
+    Request::Reply(ReplyRequest::Pair {
         older,
         newer,
         lat: None,
         lon: None,
-    }
+    })
 }
 
 #[test]
@@ -46,11 +46,11 @@ fn meets_reports_that_fail(rt: HostRuntime) {
     assert_unreported(&rt, rt.alloc(), bare("zz", AIR_EVEN), Status::Refused);
     assert_unreported(&rt, rt.alloc(), bare(AIR_ODD, "zz"), Status::Refused);
     assert_unreported(&rt, rt.alloc(), bare(AIR_ODD, OTHER), Status::Refused);
-    let half = Request::Pair {
+    let half = Request::Reply(ReplyRequest::Pair {
         older: AIR_ODD,
         newer: AIR_EVEN,
         lat: Some("0"),
         lon: None,
-    };
+    });
     assert_unreported(&rt, rt.alloc(), half, Status::Misused);
 }

@@ -2,8 +2,10 @@
 use Rattle.std.specs.Prelude.{ℕ, Bool, List, Option, codes, option_copied}
 use Rattle.sq_commands.specs.declared.requests.EncodeWords.{EncodeWords}
 use Rattle.sq_commands.specs.declared.requests.FeedWords.{FeedWords}
+use Rattle.sq_commands.specs.declared.requests.ReplyRequest.{ReplyRequest}
 use Rattle.sq_commands.specs.declared.requests.Request.{Request}
 use Rattle.sq_commands.specs.declared.requests.TrackWords.{TrackWords}
+use Rattle.sq_commands.specs.declared.requests.ReplyRequest.TheVariants as replies
 use Rattle.sq_commands.specs.declared.requests.Request.TheVariants as variants
 
 abbrev pub Text : Type 0
@@ -85,13 +87,17 @@ asked_feed words = record {
   all = words.all;
 }
 
+-- what a request that reads no input stands for
+abbrev pub asked_reply : ReplyRequest → AskedReply
+asked_reply (replies.Show frame) = Show frame.now
+asked_reply (replies.Encode e) = Encode (asked_encode e)
+asked_reply (replies.Local frame lat lon) = Local frame.now lat.now lon.now
+asked_reply (replies.Pair older newer lat lon) =
+    Pair older.now newer.now (option_copied lat) (option_copied lon)
+
 -- what a request stands for
 abbrev pub asked_by : Request → Asked
-asked_by (variants.Show frame) = Reply (Show frame.now)
-asked_by (variants.Encode e) = Reply (Encode (asked_encode e))
-asked_by (variants.Local frame lat lon) = Reply (Local frame.now lat.now lon.now)
-asked_by (variants.Pair older newer lat lon) =
-    Reply (Pair older.now newer.now (option_copied lat) (option_copied lon))
+asked_by (variants.Reply request) = Reply (asked_reply request)
 asked_by (variants.Check format) = Check (option_copied format)
 asked_by (variants.Track words) = Track (asked_track words)
 asked_by (variants.Feed words) = Feed (asked_feed words)

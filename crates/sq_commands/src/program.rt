@@ -6,11 +6,7 @@ ghost use Rattle.sq_commands.specs.Runs.{IsRun, IsTimedRun};
 
 use crate::check::check;
 use crate::feed::feed;
-use crate::replies::deliver;
-use crate::replies::encode::encode;
-use crate::replies::local::local;
-use crate::replies::pair::pair;
-use crate::replies::show::show;
+use crate::replies::{deliver, reply_to};
 use crate::requests::Request;
 use crate::status::Status;
 use crate::track::track;
@@ -20,7 +16,7 @@ use std::alloc::Global;
 /// Runs a request on a recorded input and returns how it ended.
 ///
 /// Writes an answer to the output, and a fault in one line to the sink for faults. A failure there changes no status.
-/// `show`, `encode`, `local` and `pair` leave the input alone.
+/// The commands of [`ReplyRequest`](crate::requests::ReplyRequest) leave the input alone.
 pub fn answer<S: Source, K: Sink, F: Sink>(
     alloc: Global,
     request: Request<'_>,
@@ -48,15 +44,7 @@ pub fn answer_live<C: Clock, S: Source, K: Sink, F: Sink>(
         (effects S.Source input.old input.new (outputs K.Sink F.Sink output.old output.new faults.old faults.new)) }
 {
     match request {
-        Request::Show { frame } => deliver(&show(frame), output, faults),
-        Request::Encode(words) => deliver(&encode(&words), output, faults),
-        Request::Local { frame, lat, lon } => deliver(&local(frame, lat, lon), output, faults),
-        Request::Pair {
-            older,
-            newer,
-            lat,
-            lon,
-        } => deliver(&pair(older, newer, lat, lon), output, faults),
+        Request::Reply(words) => deliver(&reply_to(words), output, faults),
         Request::Check { format } => check(format, input, output, faults),
         Request::Track(words) => track(alloc, &words, input, output, faults),
         Request::Feed(words) => feed(&words, clock, input, output, faults),

@@ -9,14 +9,21 @@ ghost use Rattle.sq_commands.specs.Local.{IsTextOf, place_refused};
 ghost use Rattle.sq_commands.specs.Outputs.{outputs};
 ghost use Rattle.sq_commands.specs.Replies.{FailedOn, Got, GotOrFailed, IsAnswer, IsDelivered, answered, bytes_in};
 ghost use Rattle.sq_commands.specs.Replies.{refused, reply_parts};
+ghost use Rattle.sq_commands.specs.Requests.{asked_reply};
+ghost use Rattle.sq_commands.specs.Runs.{IsReplyOf};
 
-pub mod encode;
-pub mod local;
-pub mod pair;
-pub mod show;
+mod encode;
+mod local;
+mod pair;
+mod show;
 
 use crate::arguments::ArgumentFault;
+use crate::requests::ReplyRequest;
 use crate::status::Status;
+use encode::encode;
+use local::local;
+use pair::pair;
+use show::show;
 use sq_devices::{Failed, Sink, put_last};
 use sq_digits::TextBuffer;
 use sq_log::RunFault;
@@ -35,6 +42,23 @@ pub struct Reply {
     pub output: Option<ReplyText>,
     /// The line for the sink for faults.
     pub error: Option<ReplyText>,
+}
+
+/// Returns the reply to a request that reads no input.
+pub fn reply_to(request: ReplyRequest<'_>) -> Reply
+    ensures { IsReplyOf (asked_reply request.entry) (reply_parts result) }
+{
+    match request {
+        ReplyRequest::Show { frame } => show(frame),
+        ReplyRequest::Encode(words) => encode(&words),
+        ReplyRequest::Local { frame, lat, lon } => local(frame, lat, lon),
+        ReplyRequest::Pair {
+            older,
+            newer,
+            lat,
+            lon,
+        } => pair(older, newer, lat, lon),
+    }
 }
 
 // Returns success with this output.

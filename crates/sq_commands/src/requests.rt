@@ -43,9 +43,9 @@ pub struct FeedWords<'a> {
     pub all: bool,
 }
 
-/// A command with its values, each as it was written. An option that is left out is `None`.
+/// A command that reads no input, with its values, each as it was written. An option that is left out is `None`.
 #[derive(Clone, Copy, Debug)]
-pub enum Request<'a> {
+pub enum ReplyRequest<'a> {
     /// `show FRAME`
     Show {
         frame: &'a str,
@@ -65,10 +65,15 @@ pub enum Request<'a> {
         lat: Option<&'a str>,
         lon: Option<&'a str>,
     },
+}
+
+/// A command with its values, each as it was written. An option that is left out is `None`.
+#[derive(Clone, Copy, Debug)]
+pub enum Request<'a> {
+    /// a command that reads no input
+    Reply(ReplyRequest<'a>),
     /// `check [--format FORMAT]`
-    Check {
-        format: Option<&'a str>,
-    },
+    Check { format: Option<&'a str> },
     /// `track [--format FORMAT] [--limit N] [--window MS] [--lat LAT] [--lon LON]`
     Track(TrackWords<'a>),
     /// `feed [--format FORMAT] [--reorder MS] [--all]`

@@ -11,7 +11,7 @@ ghost use Rattle.sq_words.specs.CommandLine.{program as no_commands, required, s
 ghost use Rattle.sq_words.specs.Requests.{IsAsked};
 
 use clap::{Arg, ArgAction, ArgMatches, Command};
-use sq_commands::{EncodeWords, FeedWords, Request, TrackWords};
+use sq_commands::{EncodeWords, FeedWords, ReplyRequest, Request, TrackWords};
 use std::alloc::{AllocError, Global};
 
 /// The command line of the program.
@@ -114,7 +114,7 @@ fn show_request<'a>(values: &ArgMatches<'a>) -> Option<Request<'a>>
     ensures none { IfNone result ((asked : Asked) → ¬ IsAsked (codes "show") (rows_of (found_of values.now)) asked) }
 {
     let frame = value_of(values, "FRAME")?;
-    Some(Request::Show { frame })
+    Some(Request::Reply(ReplyRequest::Show { frame }))
 }
 
 const ENCODE: CommandHelp = CommandHelp {
@@ -156,14 +156,15 @@ fn encode_request<'a>(values: &ArgMatches<'a>) -> Option<Request<'a>>
         (asked_by request)) }
     ensures none { IfNone result ((asked : Asked) → ¬ IsAsked (codes "encode") (rows_of (found_of values.now)) asked) }
 {
-    Some(Request::Encode(EncodeWords {
+    let words = EncodeWords {
         kind: value_of(values, "kind")?,
         parity: value_of(values, "parity")?,
         address: value_of(values, "address")?,
         feet: value_of(values, "feet"),
         lat: value_of(values, "lat")?,
         lon: value_of(values, "lon")?,
-    }))
+    };
+    Some(Request::Reply(ReplyRequest::Encode(words)))
 }
 
 const LOCAL: CommandHelp = CommandHelp {
@@ -193,11 +194,11 @@ fn local_request<'a>(values: &ArgMatches<'a>) -> Option<Request<'a>>
         (asked_by request)) }
     ensures none { IfNone result ((asked : Asked) → ¬ IsAsked (codes "local") (rows_of (found_of values.now)) asked) }
 {
-    Some(Request::Local {
+    Some(Request::Reply(ReplyRequest::Local {
         frame: value_of(values, "FRAME")?,
         lat: value_of(values, "lat")?,
         lon: value_of(values, "lon")?,
-    })
+    }))
 }
 
 const PAIR: CommandHelp = CommandHelp {
@@ -227,12 +228,12 @@ fn pair_request<'a>(values: &ArgMatches<'a>) -> Option<Request<'a>>
         (asked_by request)) }
     ensures none { IfNone result ((asked : Asked) → ¬ IsAsked (codes "pair") (rows_of (found_of values.now)) asked) }
 {
-    Some(Request::Pair {
+    Some(Request::Reply(ReplyRequest::Pair {
         older: value_of(values, "OLDER")?,
         newer: value_of(values, "NEWER")?,
         lat: value_of(values, "lat"),
         lon: value_of(values, "lon"),
-    })
+    }))
 }
 
 const CHECK: CommandHelp = CommandHelp {

@@ -10,4 +10,4 @@ pub mod laws;
 mod request;
 
 pub use request::{Refusal, read_request};
-pub use sq_commands::{EncodeWords, FeedWords, Request, TrackWords};
+pub use sq_commands::{EncodeWords, FeedWords, ReplyRequest, Request, TrackWords};

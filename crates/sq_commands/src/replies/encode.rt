@@ -31,7 +31,7 @@ const GROUND_TYPE_CODE: u8 = 7;
 const GROUND_CAPABILITY: u8 = 4;
 
 /// Returns the frame that encodes a position.
-pub fn encode(words: &EncodeWords<'_>) -> Reply
+pub(crate) fn encode(words: &EncodeWords<'_>) -> Reply
     ensures { IsEncodeReply (asked_encode words.now) (reply_parts result) }
 {
     match frame_of(words) {

@@ -9,7 +9,7 @@ use sq_angle::Position;
 use sq_message::place_local;
 
 /// Decodes a frame text near the reference, and returns the place.
-pub fn local(frame: &str, lat: &str, lon: &str) -> Reply
+pub(crate) fn local(frame: &str, lat: &str, lon: &str) -> Reply
     ensures { IsLocalReply frame.now lat.now lon.now (reply_parts result) }
 {
     match read_position(lat, lon) {

@@ -12,7 +12,7 @@ use sq_message::{Squitter, place_pair};
 use sq_text::LineFault;
 
 /// Decodes two frame texts as a pair, and returns the place of the newer squitter.
-pub fn pair(older: &str, newer: &str, lat: Option<&str>, lon: Option<&str>) -> Reply
+pub(crate) fn pair(older: &str, newer: &str, lat: Option<&str>, lon: Option<&str>) -> Reply
     ensures { IsPairReply older.now newer.now (option_copied lat.entry) (option_copied lon.entry)
         (reply_parts result) }
 {

@@ -8,7 +8,7 @@ use sq_message::Squitter;
 use sq_text::{LineFault, read_squitter, show_text};
 
 /// Returns the fields of a frame text's squitter, or the frame's fault.
-pub fn show(frame: &str) -> Reply
+pub(crate) fn show(frame: &str) -> Reply
     ensures { IsShowReply frame.now (reply_parts result) }
 {
     match read_frame_text(frame) {
