@@ -1,4 +1,5 @@
 //! What the program comes to on a command line and an input.
+use arrayvec::ArrayVec;
 use sq_devices::{Reading, Sink, Source, Writing};
 use sq_tool::run;
 use std::alloc::Global;
@@ -9,7 +10,7 @@ use std::process::Abort;
 #[derive(Clone, Copy)]
 pub(crate) struct Row {
     pub(crate) name: &'static str,
-    pub(crate) words: &'static [&'static str],
+    pub(crate) line: &'static str,
     pub(crate) input: &'static [u8],
     pub(crate) status: u8,
     pub(crate) written: &'static str,
@@ -24,15 +25,22 @@ pub(crate) struct Ran {
     pub(crate) reported: Vec<u8>,
 }
 
-// `run`, whose clauses no test needs.
+// The most words of a command line.
+const MOST_WORDS: usize = 16;
+
+/// What `run` returns for the words of a command line, which spaces divide. Allocates nothing for them.
 pub(crate) fn status_of(
     alloc: Global,
-    words: &[&str],
+    line: &str,
     input: &mut impl Source,
     output: &mut impl Sink,
     faults: &mut impl Sink,
 ) -> u8 {
-    run(alloc, words, input, output, faults)
+    let mut words = ArrayVec::<&str, MOST_WORDS>::new();
+    for word in line.split(' ') {
+        let _ = words.try_push(word);
+    }
+    run(alloc, words.as_slice(), input, output, faults)
 }
 
 // A source and a sink, without the clauses.
@@ -51,7 +59,7 @@ pub(crate) fn taken<W: Write>(sink: Writing<W>) -> W {
 /// What a command line comes to on an input, with these texts to write and to report to.
 pub(crate) fn run_into(
     alloc: Global,
-    words: &[&str],
+    line: &str,
     reader: impl Read + Drop,
     written: Vec<u8>,
     reported: Vec<u8>,
@@ -59,7 +67,7 @@ pub(crate) fn run_into(
     let mut input = source_of(reader);
     let mut output = sink_of(written);
     let mut faults = sink_of(reported);
-    let status = status_of(alloc, words, &mut input, &mut output, &mut faults);
+    let status = status_of(alloc, line, &mut input, &mut output, &mut faults);
     Ran {
         status,
         written: taken(output),
@@ -68,8 +76,8 @@ pub(crate) fn run_into(
 }
 
 /// What a command line comes to on an input.
-pub(crate) fn run_on(alloc: Global, words: &[&str], reader: impl Read + Drop) -> Ran {
-    run_into(alloc, words, reader, Vec::new(alloc), Vec::new(alloc))
+pub(crate) fn run_on(alloc: Global, line: &str, reader: impl Read + Drop) -> Ran {
+    run_into(alloc, line, reader, Vec::new(alloc), Vec::new(alloc))
 }
 
 /// Asserts what a run came to.
@@ -90,6 +98,6 @@ pub(crate) fn assert_ran(rt: &impl Abort, ran: &Ran, row: &Row) {
 /// Asserts what each command line comes to.
 pub(crate) fn assert_rows(rt: &impl Abort, alloc: Global, rows: &[Row]) {
     for row in rows {
-        assert_ran(rt, &run_on(alloc, row.words, row.input), row);
+        assert_ran(rt, &run_on(alloc, row.line, row.input), row);
     }
 }

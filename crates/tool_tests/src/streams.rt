@@ -8,7 +8,7 @@ use std::process::Abort;
 const IN_PIECES: [Row; 9] = [
     Row {
         name: "check of ten lines",
-        words: &["squitter", "check"],
+        line: "squitter check",
         input: b"*8D40621D58C382D690C8AC2863A7;\n8d40621d58c386435cc412692ad6\n\n5D40621D000000\n8D40621D58C382D690C8AC2863A6\n90406B902015A678D4D220AA4BDA\n8D406B902015A678D4D220AA4BDA\n8D40621D58C382D690C8AC2863AG\n*8D40621D58C382D690C8AC2863A7\n8C4841753AAB238733C8CD4020B1",
         status: 1,
         written: "1 ok 40621D air even 93000 51372\n2 ok 40621D air odd 74158 50194\n4 short frame\n5 parity 000001\n6 not DF17 18\n7 ok 406B90 other 4\n8 bad digit 28\n9 bad wrapping\n10 ok 484175 ground even 115609 116941\n",
@@ -16,7 +16,7 @@ const IN_PIECES: [Row; 9] = [
     },
     Row {
         name: "track next to a transition",
-        words: &["squitter", "track"],
+        line: "squitter track",
         input: b"0 8D40621D58C382FAF738E411B0AA\n1 8D40621D58C386DD2D38E486BD11\n",
         status: 0,
         written: "1 waiting 40621D\n2 split 40621D 58 59\n",
@@ -24,7 +24,7 @@ const IN_PIECES: [Row; 9] = [
     },
     Row {
         name: "track within the window",
-        words: &["squitter", "track"],
+        line: "squitter track",
         input: b"0 8D40621D58C382D690C8AC2863A7\n10000 8D40621D58C386435CC412692AD6\n",
         status: 0,
         written: "1 waiting 40621D\n2 fix 40621D 52.2657802 3.9389125\n",
@@ -32,7 +32,7 @@ const IN_PIECES: [Row; 9] = [
     },
     Row {
         name: "track past the window",
-        words: &["squitter", "track"],
+        line: "squitter track",
         input: b"0 8D40621D58C382D690C8AC2863A7\n10001 8D40621D58C386435CC412692AD6\n",
         status: 0,
         written: "1 waiting 40621D\n2 waiting 40621D\n",
@@ -40,7 +40,7 @@ const IN_PIECES: [Row; 9] = [
     },
     Row {
         name: "track of two frames at one moment",
-        words: &["squitter", "track"],
+        line: "squitter track",
         input: b"5 8D40621D58C382D690C8AC2863A7\n5 8D40621D58C386435CC412692AD6\n",
         status: 0,
         written: "1 waiting 40621D\n2 fix 40621D 52.2657802 3.9389125\n",
@@ -48,7 +48,7 @@ const IN_PIECES: [Row; 9] = [
     },
     Row {
         name: "track of a moment that goes back",
-        words: &["squitter", "track"],
+        line: "squitter track",
         input: b"0 8D40621D58C382D690C8AC2863A7\n9000 8D40621D58C382D690C8AC2863A7\n15000 8D40621D58C386435CC412692AD6\n14999 8D40621D58C382D690C8AC2863A7\n",
         status: 1,
         written: "1 waiting 40621D\n2 waiting 40621D\n3 fix 40621D 52.2657802 3.9389125\n4 moment back 15000\n",
@@ -56,7 +56,7 @@ const IN_PIECES: [Row; 9] = [
     },
     Row {
         name: "track with a full table",
-        words: &["squitter", "track", "--limit", "1"],
+        line: "squitter track --limit 1",
         input: b"0 8D40621D58C382D690C8AC2863A7\n10000 8C4841753AAB238733C8CD4020B1\n10001 8C4841753AAB238733C8CD4020B1\n10001 8C4841753A8A35323FAEBDAC702D\n",
         status: 1,
         written: "1 waiting 40621D\n2 table full\n3 waiting 484175\n4 no site 484175\n",
@@ -64,7 +64,7 @@ const IN_PIECES: [Row; 9] = [
     },
     Row {
         name: "feed of text without a clock",
-        words: &["squitter", "feed", "--format=avr"],
+        line: "squitter feed --format=avr",
         input: b"*8D40621D58C382D690C8AC2863A7;\n*5D40621D000000;\n*8D40621D58C386435CC412692AD6;\n",
         status: 0,
         written: "0 8D40621D58C382D690C8AC2863A7\n0 8D40621D58C386435CC412692AD6\n",
@@ -72,7 +72,7 @@ const IN_PIECES: [Row; 9] = [
     },
     Row {
         name: "feed of a log",
-        words: &["squitter", "feed", "--format", "log"],
+        line: "squitter feed --format log",
         input: b"7 8D40621D58C382D690C8AC2863A7\n8 *8D40621D58C386435CC412692AD6;",
         status: 0,
         written: "7 8D40621D58C382D690C8AC2863A7\n8 8D40621D58C386435CC412692AD6\n",
@@ -101,7 +101,7 @@ impl Read for Pieces {
 fn assert_in_pieces(rt: &impl Abort, alloc: Global, size: usize) {
     for row in IN_PIECES {
         let text = row.input;
-        assert_ran(rt, &run_on(alloc, row.words, Pieces { text, size }), &row);
+        assert_ran(rt, &run_on(alloc, row.line, Pieces { text, size }), &row);
     }
 }
 
@@ -115,7 +115,7 @@ fn answers_lines_in_pieces(rt: HostRuntime) {
 const AT_THE_EDGES: [Row; 13] = [
     Row {
         name: "check of no input",
-        words: &["squitter", "check"],
+        line: "squitter check",
         input: b"",
         status: 0,
         written: "",
@@ -123,7 +123,7 @@ const AT_THE_EDGES: [Row; 13] = [
     },
     Row {
         name: "check of a line of 65 digits and one of 64",
-        words: &["squitter", "check"],
+        line: "squitter check",
         input: b"00000000000000000000000000000000000000000000000000000000000000000\n0000000000000000000000000000000000000000000000000000000000000000\n",
         status: 1,
         written: "1 long line\n2 bad length 64\n",
@@ -131,7 +131,7 @@ const AT_THE_EDGES: [Row; 13] = [
     },
     Row {
         name: "track of a pair on the ground",
-        words: &["squitter", "track", "--lat", "51.990", "--lon", "4.375"],
+        line: "squitter track --lat 51.990 --lon 4.375",
         input: b"0 8C4841753AAB238733C8CD4020B1\n1 8C4841753A8A35323FAEBDAC702D\n",
         status: 0,
         written: "1 waiting 484175\n2 fix 484175 52.3206071 4.7347347\n",
@@ -139,7 +139,7 @@ const AT_THE_EDGES: [Row; 13] = [
     },
     Row {
         name: "track that follows a fix",
-        words: &["squitter", "track"],
+        line: "squitter track",
         input: b"0 8D40621D58C382D690C8AC2863A7\n6000 8D40621D58C386435CC412692AD6\n12000 8D40621D58C386435CC412692AD6\n22000 8D40621D58C386435CC412692AD6\n32001 8D40621D58C386435CC412692AD6\n32001 8D40621D58C382D690C8AC2863A7\n",
         status: 0,
         written: "1 waiting 40621D\n2 fix 40621D 52.2657802 3.9389125\n3 followed 40621D 52.2657802 3.9389125\n4 followed 40621D 52.2657802 3.9389125\n5 waiting 40621D\n6 fix 40621D 52.2572021 3.9193726\n",
@@ -147,7 +147,7 @@ const AT_THE_EDGES: [Row; 13] = [
     },
     Row {
         name: "track of a moment of twenty digits",
-        words: &["squitter", "track"],
+        line: "squitter track",
         input: b"00000000000000000007 8D40621D58C382D690C8AC2863A7\n",
         status: 0,
         written: "1 waiting 40621D\n",
@@ -155,7 +155,7 @@ const AT_THE_EDGES: [Row; 13] = [
     },
     Row {
         name: "track of no moment",
-        words: &["squitter", "track"],
+        line: "squitter track",
         input: b"8D40621D58C382D690C8AC2863A7\n 8D40621D58C382D690C8AC2863A7\n-1 8D40621D58C382D690C8AC2863A7\n",
         status: 1,
         written: "1 bad moment\n2 bad moment\n3 bad moment\n",
@@ -163,7 +163,7 @@ const AT_THE_EDGES: [Row; 13] = [
     },
     Row {
         name: "track of moments that are too large",
-        words: &["squitter", "track"],
+        line: "squitter track",
         input: b"18446744073709551616 8D40621D58C382D690C8AC2863A7\n000000000000000000000 8D40621D58C382D690C8AC2863A7\n",
         status: 1,
         written: "1 bad moment\n2 bad moment\n",
@@ -171,7 +171,7 @@ const AT_THE_EDGES: [Row; 13] = [
     },
     Row {
         name: "track of a moment without a frame, and of two spaces",
-        words: &["squitter", "track"],
+        line: "squitter track",
         input: b"0 \n0  8D40621D58C382D690C8AC2863A7\n",
         status: 1,
         written: "1 bad length 0\n2 bad length 29\n",
@@ -179,7 +179,7 @@ const AT_THE_EDGES: [Row; 13] = [
     },
     Row {
         name: "check of two carriage returns",
-        words: &["squitter", "check"],
+        line: "squitter check",
         input: b"8D40621D58C382D690C8AC2863A7\r\r\n",
         status: 1,
         written: "1 bad length 29\n",
@@ -187,7 +187,7 @@ const AT_THE_EDGES: [Row; 13] = [
     },
     Row {
         name: "check of a carriage return alone",
-        words: &["squitter", "check"],
+        line: "squitter check",
         input: b"\r\n",
         status: 0,
         written: "",
@@ -195,7 +195,7 @@ const AT_THE_EDGES: [Row; 13] = [
     },
     Row {
         name: "check of 63 digits and a carriage return, and of 64",
-        words: &["squitter", "check"],
+        line: "squitter check",
         input: b"000000000000000000000000000000000000000000000000000000000000000\r\n0000000000000000000000000000000000000000000000000000000000000000\r\n",
         status: 1,
         written: "1 bad length 63\n2 long line\n",
@@ -203,7 +203,7 @@ const AT_THE_EDGES: [Row; 13] = [
     },
     Row {
         name: "check of an input that ends before a line feed",
-        words: &["squitter", "check"],
+        line: "squitter check",
         input: b"*8D40621D58C382D690C8AC2863A7;",
         status: 0,
         written: "1 ok 40621D air even 93000 51372\n",
@@ -211,7 +211,7 @@ const AT_THE_EDGES: [Row; 13] = [
     },
     Row {
         name: "check of an input that ends within a frame",
-        words: &["squitter", "check"],
+        line: "squitter check",
         input: b"*8D40621D58C382D690C8AC2863A7",
         status: 1,
         written: "1 bad wrapping\n",
