@@ -1,7 +1,7 @@
 /* faces JOBS: decodes logs with a squitter_log. The file JOBS has a line for each:
  *     LOG OUT WINDOW LIMIT LAT LON FORMAT PIECES
  * The site is LAT and LON, or none if LAT is -. PIECES are the sizes of the pieces, such as 1,64,5; they repeat. OUT
- * gets what `squitter track` prints in a format (0, 1, 2), or in format 3 rows of CSV that are written from structs. */
+ * gets what `squitter track` prints in a format. FORMAT is its number, or `rows`: rows of CSV, written from structs. */
 #include "squitter.h"
 #include <inttypes.h>
 #include <stdio.h>
@@ -9,7 +9,9 @@
 #include <string.h>
 
 /* The outputs are small, so a piece has more results than fit. */
-enum { ANSWERS = 7, ROOM = 1000, ROWS = 3 };
+enum { ANSWERS = 7, ROOM = 1000 };
+/* The format of rows that are written from structs. */
+#define ROWS UINT32_MAX
 
 static const char *const words[] = {"", "fix", "followed", "waiting", "split", "far", "no site", "no position"};
 static const char *const kinds[] = {"other", "air", "ground"};
@@ -101,7 +103,8 @@ static void run(char *job) {
   char *word[8], *next = strtok(job, " \n");
   for (int k = 0; k < 8; k++, next = strtok(NULL, " \n"))
     if (!(word[k] = next)) die("a job has eight words");
-  uint32_t limit = (uint32_t)strtoul(word[3], NULL, 10), format = (uint32_t)strtoul(word[6], NULL, 10);
+  uint32_t limit = (uint32_t)strtoul(word[3], NULL, 10);
+  uint32_t format = strcmp(word[6], "rows") ? (uint32_t)strtoul(word[6], NULL, 10) : ROWS;
   squitter_log log = {0, 0};
   squitter_block block = {squitter_log_size(limit), malloc(squitter_log_size(limit))};
   size_t length, at = 0;

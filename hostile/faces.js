@@ -14,11 +14,11 @@ function rowOf({ What, Kind }, library, columns, at) {
   return `${numbers[at]},${moments[at]},${words[what]},${address},${kind},${place},${altitude}\n`;
 }
 
-/** Decodes a log. Returns its results as text in a format, or in format 3 as rows written from columns. */
+/** Decodes a log. Returns its results as text in a format, or for "rows" as rows written from columns. */
 function facesOf(squitter, library, bytes, { window, limit, site, format, pieces }) {
   const { Log, Format } = squitter, angle = (text) => library.angle(text);
   const settings = { window: BigInt(window), limit, site: site && { lat: angle(site[0]), lon: angle(site[1]) } };
-  const log = new Log(library, settings), isRows = format === 3, told = [log.header(isRows ? Format.CSV : format)];
+  const log = new Log(library, settings), isRows = format === "rows", told = [log.header(isRows ? Format.CSV : format)];
   const tell = (answers) => {
     if (!isRows) return told.push(answers);
     for (let at = 0; at < answers.numbers.length; at++) told.push(rowOf(squitter, library, answers, at));
@@ -41,7 +41,8 @@ async function main(path) {
   for (const job of readFileSync(path, "utf8").split("\n").filter(Boolean)) {
     const [log, out, window, limit, lat, lon, format, pieces] = job.split(" ");
     const site = lat === "-" ? null : [lat, lon], sizes = pieces.split(",").map(Number);
-    const settings = { window, limit: Number(limit), site, format: Number(format), pieces: sizes };
+    const settings = { window, limit: Number(limit), site, pieces: sizes };
+    settings.format = format === "rows" ? format : Number(format);
     writeFileSync(out, facesOf(squitter, library, readFileSync(log), settings));
   }
 }

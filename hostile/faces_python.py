@@ -1,4 +1,4 @@
-"""faces_python.py JOBS: decodes logs as faces.c does, with squitter.Log, or in format 3 with squitter.batch."""
+"""faces_python.py JOBS: decodes logs as faces.c does, with squitter.Log, or for `rows` with squitter.batch."""
 import io
 import itertools
 import sys
@@ -53,7 +53,7 @@ def main() -> None:
         for job in jobs:
             path, out, window, limit, lat, lon, form, pieces = job.split()
             site = None if lat == "-" else squitter.Position(Fraction(lat), Fraction(lon))
-            if form == "3":
+            if form == "rows":
                 told = rows(path, int(window), site, int(limit))
             else:
                 with open(path, "rb") as log:

@@ -8,7 +8,7 @@ import { runInNewContext } from "node:vm";
 import * as squitter from "../../web/squitter.js";
 
 const {
-  load, AirHead, AltitudeForm, Angle, Code, Contact, Fault, Feed, FeedFormat, Format, GroundHead, Kind, Log, Order,
+  load, AirHead, AltitudeForm, Angle, Code, Contact, Fault, Feed, FeedFormat, GroundHead, Kind, Log, Order,
   Stranger, Tracker, WINDOW, What,
 } = squitter;
 const MODULE = readFileSync(new URL("../../dist/squitter.wasm", import.meta.url)), library = await load(MODULE);
@@ -432,10 +432,9 @@ function manyAnswers() {
   }
 }
 
-/** Tests the header of each format, timestamps above 2^32, and the two zone counts of a split. */
-function headersAndColumns() {
-  const log = new Log(library), headers = [Format.LINES, Format.CSV, Format.JSON].map((format) => log.header(format));
-  if (headers.join("|") !== "|line,moment,answer,address,kind,lat,lon,feet\n|") throw new Error(headers.join("|"));
+/** Tests timestamps above 2^32, and the two zone counts of a split. */
+function largeMomentsAndZones() {
+  const log = new Log(library);
   // NL changes from 59 to 58 at a latitude of 10.4704713 degrees.
   const frames = [[0, 10.4704], [1, 10.4706]].map(([odd, lat]) =>
     library.frameText(library.encode(head({ address: 1, odd }), { lat, lon: 20 })));
@@ -762,7 +761,7 @@ async function refusals() {
   fieldsOfHeads();
   defaultWindows();
   manyAnswers();
-  headersAndColumns();
+  largeMomentsAndZones();
   degrees();
   defaultFields();
   foreignBytes();

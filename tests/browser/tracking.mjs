@@ -7,6 +7,7 @@ import {
 
 const library = await load(readFileSync(new URL("../../dist/squitter.wasm", import.meta.url)));
 const FLIGHTS = readFileSync(new URL("../../examples/flights.log", import.meta.url));
+const WORKED = readFileSync(new URL("../worked/track.txt", import.meta.url), "utf8");
 const FRAME = "8D40621D58C382D690C8AC2863A7", HERE = { lat: 52.31, lon: 4.76 };
 
 function same(got, wanted, what) {
@@ -70,9 +71,18 @@ function columnsBesideText() {
     same([addresses[at], lats[at].toFixed(7), lons[at].toFixed(7)], [parseInt(found[3], 16), found[4], found[5]], line);
   });
   same([...seen].sort(), ["fix", "followed"], "answers with a position");
-  const header = "line,moment,answer,address,kind,lat,lon,feet\n";
-  same(whole.header(Format.CSV), header, "the header");
+  testHeaders(whole);
   for (const one of [whole, pieces, table]) one.close();
+}
+
+/** Tests the header of each format, if it has one: the columns, as the worked cases of `squitter track` have them. */
+function testHeaders(log) {
+  const columns = /^line,.*$/m.exec(WORKED)[0].split(",");
+  const headers = [Format.LINES, Format.CSV, Format.JSON].map((format) => log.header(format));
+  same(headers, ["", `${columns.join(",")}\n`, ""], "the headers");
+  for (const header of Object.values(Format).map((format) => log.header(format)).filter(Boolean)) {
+    same(header, `${columns.join(header[columns[0].length])}\n`, "a header");
+  }
 }
 
 /** A text has the answers of all lines, though a part of a piece has more of them than the memory holds at once. */
