@@ -462,7 +462,7 @@ enum {
 #define SQUITTER_HEADER_BYTES 64       /* room for the header of a format and the zeros after it */
 #define SQUITTER_ANSWER_TEXT_BYTES 512 /* the most that the text of one line takes */
 
-/* Writes the header of a format and zeros after it: the column names of CSV; empty for other formats. */
+/* Writes the header of a format and zeros after it: the line with the column names; empty for a format without one. */
 void squitter_log_header(uint32_t format, char SQUITTER_BYTES(out, 64)) SQUITTER_WRITE;
 
 /* Like squitter_log_take, but writes the lines that the program prints, without a zero at the end. A line is started

@@ -248,7 +248,7 @@ export declare class Log {
   takeText(piece: BufferSource | string, format?: Format): string;
   /** Returns the result of the last line if it has no line feed, as text. Faults: NO_TRACKER, BAD_FORMAT. */
   finishText(format?: Format): string;
-  /** Returns the header of a format: the column names of CSV; empty for other formats. */
+  /** Returns the header of a format: the line with the column names; empty for a format without one. */
   header(format?: Format): string;
   /** The numbers of good lines and of refused lines so far. Fault: NO_TRACKER. */
   get tally(): Tally;

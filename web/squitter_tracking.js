@@ -139,7 +139,7 @@ export class Log {
     return this.#text((hear) => hear("log_finish_text", format));
   }
 
-  /** Returns the header of a format: the column names of CSV, and an empty text otherwise. */
+  /** Returns the header of a format: the line with the column names; empty for a format without one. */
   header(format = Format.LINES) {
     const { exports, outAt } = this.#library.memory;
     exports.squitter_log_header(format, BigInt(outAt));

@@ -185,11 +185,14 @@ _KIND_TEXTS = _KINDS.astype("U").astype(object)
 _AT_ONCE = 1 << 13  # results of a call: few enough to stay in the processor's cache
 
 # The type of each column, and the condition for a value: a good line, a position, an altitude.
-_OF_TABLE = {
+_OF_ROWS = {
     "line": ("u8", ""), "moment": ("u8", "good"), "answer": ("O", ""), "address": ("O", "good"), "kind": ("O", "good"),
-    "lat": ("f8", "placed"), "lon": ("f8", "placed"), "feet": ("i8", "high"), "lat_e7": ("i8", "placed"),
-    "lon_e7": ("i8", "placed"), "fault": ("i8", ""),
+    "lat": ("f8", "placed"), "lon": ("f8", "placed"), "feet": ("i8", "high"),
 }
+_OF_TABLE = {**_OF_ROWS, "lat_e7": ("i8", "placed"), "lon_e7": ("i8", "placed"), "fault": ("i8", "")}
+
+COLUMNS = tuple(_OF_ROWS)
+"""The columns of `squitter track --format=csv`, which rows and data frames have, in this order."""
 
 
 class _Table:

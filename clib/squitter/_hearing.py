@@ -295,7 +295,7 @@ class Log(_Listener):
         format: Union[Format, str] = Format.LINES,
     ) -> None:
         """Creates a log without lines; window, site and limit as for :class:`Tracker`. The format is one of
-        :class:`Format`, or its name in lower case ("lines", "csv", "json"). Raises ValueError for any other format."""
+        :class:`Format`, or its name in lower case, such as "csv". Raises ValueError for any other format."""
         self._format = _form(Format, format)
         super().__init__("log", window, site, limit)
         header = ctypes.create_string_buffer(HEADER_BYTES)

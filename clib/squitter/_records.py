@@ -13,9 +13,6 @@ from squitter._library import _of_counts
 from squitter._made import RECORDS
 from squitter._source import refuse_file
 
-COLUMNS = ("line", "moment", "answer", "address", "kind", "lat", "lon", "feet")
-"""The columns of `squitter track --format=csv`, which rows and data frames have, in this order."""
-
 Records = npt.NDArray[np.void]
 """A structured array of one dimension."""
 

@@ -38,11 +38,11 @@ except ModuleNotFoundError as error:
 
 import squitter
 from squitter import WINDOW, Code, Point, Position, _parts
-from squitter._answers import ANSWER, columns, csv_rows, dataframe, fractions, lines
+from squitter._answers import ANSWER, COLUMNS, columns, csv_rows, dataframe, fractions, lines
 from squitter._library import _FRAME, _binary, _lib, _text
 from squitter._parts import DEGREES_E7, Room, first_words
 from squitter._records import (
-    COLUMNS, DEGREES, FAULT, FIELDS, POSITION, TRACKED, Records, _is_missing, _limit, _moments, kind_of, name_of_type,
+    DEGREES, FAULT, FIELDS, POSITION, TRACKED, Records, _is_missing, _limit, _moments, kind_of, name_of_type,
 )
 from squitter._source import feed, refuse_file
 

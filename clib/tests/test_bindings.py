@@ -122,14 +122,14 @@ class OfTheHeader(unittest.TestCase):
         self.assertEqual([f"squitter_{name}" for name in get("CALLS")], re.findall(r"\b(squitter_\w+)\(", code))
 
     def test_enums(self) -> None:
-        told = {name: {one.name: one.value for one in self.names[name]}
-                for name in ("Kind", "AltitudeForm", "Format", "FeedFormat")}
+        told = {name: {one.name: one.value for one in self.names[name]} for name in ("Kind", "AltitudeForm")}
         self.assertEqual(told, {
-            "Kind": {"OTHER": 0, "AIR": 1, "GROUND": 2}, "AltitudeForm": {"NONE": 0, "FEET": 1, "OTHER": 2},
-            "Format": {"LINES": 0, "CSV": 1, "JSON": 2},
-            "FeedFormat": {"BEAST": 0, "AVR": 1, "CSV": 2, "LOG": 3, "AUTO": 4}})
-        codes = re.findall(r"^  SQUITTER_(\w+) = (\d+)", HEADER.partition("SQUITTER_OK")[2].partition("};")[0], re.M)
-        self.assertEqual([(one.name, str(one.value)) for one in self.names["Code"]], codes)
+            "Kind": {"OTHER": 0, "AIR": 1, "GROUND": 2}, "AltitudeForm": {"NONE": 0, "FEET": 1, "OTHER": 2}})
+        for name, prefix, first in (("Code", "", "OK"), ("Format", "", "LINES"), ("FeedFormat", "FEED_", "BEAST")):
+            members = HEADER[HEADER.index(f"  SQUITTER_{prefix}{first} = "):].partition("};")[0]
+            wanted = re.findall(rf"^  SQUITTER_{prefix}(\w+) = (\d+)", members, re.M)
+            self.assertEqual([(one.name, str(one.value)) for one in self.names[name]], wanted)
+            self.assertEqual(len(wanted), members.count(" = "), name)
         self.assertEqual((self.names["Code"].__module__, self.names["Kind"].__doc__),
                          ("squitter", "The kind of a squitter, by its type code."))
         self.assertEqual([self.names[f"FEED_{name}"] for name in ("LIVE", "BY_ARRIVAL", "ALL_FORMATS")], [1, 2, 4])

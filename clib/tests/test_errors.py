@@ -261,16 +261,14 @@ class Errors(unittest.TestCase):
             self.told(ValueError, FRAMES + text, Order(5).take, [5], given)
 
     def test_formats(self):
-        for given in ("xml", "CSV", "", None, 3, -1, b"csv"):
-            self.told(ValueError, f"a format is one of 'lines', 'csv', 'json', or of Format, not {given!r}", Log,
-                      format=given)
-        for given in ("xml", "BEAST", None, 7, b"avr"):
-            self.told(ValueError, "a format is one of 'beast', 'avr', 'csv', 'log', 'auto', or of FeedFormat, not "
-                      f"{given!r}", Feed, given)
         for kind, enum in ((lambda form: Log(format=form), Format), (Feed, FeedFormat)):
+            names = ", ".join(f"'{form.name.lower()}'" for form in enum)
+            for given in ("xml", "CSV", "", None, len(enum), -1, b"csv"):
+                self.told(ValueError, f"a format is one of {names}, or of {enum.__name__}, not {given!r}", kind, given)
             for form in enum:
                 for given in (form, form.name.lower(), int(form)):
-                    kind(given).close()
+                    with kind(given) as one:
+                        one.take(b"x\n")
 
     def test_indices(self):
         tracker = Tracker()

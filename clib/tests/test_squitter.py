@@ -7,6 +7,7 @@ import gc
 import inspect
 import os
 import pickle
+import re
 import resource
 import signal
 import sys
@@ -16,8 +17,10 @@ import weakref
 from decimal import Decimal
 from fractions import Fraction
 
-sys.path.insert(0, os.path.join(os.path.dirname(os.path.abspath(__file__)), ".."))
+CLIB = os.path.join(os.path.dirname(os.path.abspath(__file__)), "..")
+sys.path[:0] = [CLIB, os.path.join(CLIB, "..", "tests")]
 import squitter  # noqa: E402
+import transcripts  # noqa: E402
 from squitter import (  # noqa: E402
     AirHead, AltitudeForm, Code, Contact, Fault, Format, GroundHead, Kind, Log, Position, Tracker, What,
 )
@@ -633,18 +636,21 @@ class Calls(unittest.TestCase):
                 Log().take(wrong)
 
     def test_formats(self):
-        line = f"5 {ODD}\n".encode()
-        header = b"line,moment,answer,address,kind,lat,lon,feet\n"
+        """Each format prints what the worked cases of `squitter track` print. The header of CSV comes once."""
+        worked, words_of = {}, re.compile(r"squitter track --format=(\w+)(?: --window=(\d+))? << END\n(.*)END\n", re.S)
+        for case in transcripts.cases("track"):
+            words = words_of.fullmatch(case.script)
+            if words:
+                worked[words[1]] = words[3].encode().splitlines(True), case.printed.encode().splitlines(True)
+                log = Log(int(words[2] or 10_000), format=words[1])
+                self.assertEqual(log.take(words[3].encode()) + log.finish(), case.printed.encode())
+        self.assertEqual({"lines", *worked}, {form.name.lower() for form in Format})
+        lines, (header, first, *rows) = worked["csv"]
         for form in ("csv", Format.CSV, 1):
             log = Log(format=form)
-            self.assertEqual(log.take(line), header + b"1,5,waiting,40621D,air,,,38000\n")
-            self.assertEqual(log.take(line), b"2,5,waiting,40621D,air,,,38000\n")
+            self.assertEqual([log.take(line) for line in lines], [header + first, *rows])
         self.assertEqual(Log(format="csv").finish(), header)
-        self.assertEqual(
-            Log(format="json").take(line),
-            b'{"line":1,"moment":5,"answer":"waiting","address":"40621D","kind":"air","lat":null,"lon":null,'
-            b'"feet":38000}\n')
-        for wrong in ("CSV", "lines ", "", 3, -1, None):
+        for wrong in ("CSV", "lines ", "", len(Format), -1, None):
             with self.assertRaises(ValueError):
                 Log(format=wrong)
 
