@@ -41,7 +41,7 @@ pub data AskedReply : Type 0 where
   Local : (frame lat lon : Text) → AskedReply
   Pair : (older newer : Text) (lat lon : Option Text) → AskedReply
 
--- a command with its values, each as it was written; an option that was left out is `None`
+-- a command and the texts of its values; an option that was not given is `None`
 pub data Asked : Type 0 where
   Reply : AskedReply → Asked
   Check : (format : Option Text) → Asked
@@ -87,7 +87,7 @@ asked_feed words = record {
   all = words.all;
 }
 
--- what a request that reads no input stands for
+-- a request that reads no input, by the texts in it
 abbrev pub asked_reply : ReplyRequest → AskedReply
 asked_reply (replies.Show frame) = Show frame.now
 asked_reply (replies.Encode e) = Encode (asked_encode e)
@@ -95,7 +95,7 @@ asked_reply (replies.Local frame lat lon) = Local frame.now lat.now lon.now
 asked_reply (replies.Pair older newer lat lon) =
     Pair older.now newer.now (option_copied lat) (option_copied lon)
 
--- what a request stands for
+-- a request, by the texts in it
 abbrev pub asked_by : Request → Asked
 asked_by (variants.Reply request) = Reply (asked_reply request)
 asked_by (variants.Check format) = Check (option_copied format)

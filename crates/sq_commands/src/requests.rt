@@ -1,6 +1,6 @@
 //! What a command line asks for: one of the commands with its values.
 
-/// The values of the command `encode`, each as it was written.
+/// The values of the command `encode`: texts of the command line.
 #[derive(Clone, Copy, Debug)]
 pub struct EncodeWords<'a> {
     /// `--kind`
@@ -17,7 +17,7 @@ pub struct EncodeWords<'a> {
     pub lon: &'a str,
 }
 
-/// The values of the command `track`, each as it was written, where it is given.
+/// The values of the command `track`: texts of the command line, or `None` if not given.
 #[derive(Clone, Copy, Debug)]
 pub struct TrackWords<'a> {
     /// `--format`
@@ -32,7 +32,7 @@ pub struct TrackWords<'a> {
     pub lon: Option<&'a str>,
 }
 
-/// The values of the command `feed`, each as it was written, where it is given.
+/// The values of the command `feed`: texts of the command line, or `None` if not given.
 #[derive(Clone, Copy, Debug)]
 pub struct FeedWords<'a> {
     /// `--format`
@@ -43,7 +43,7 @@ pub struct FeedWords<'a> {
     pub all: bool,
 }
 
-/// A command that reads no input, with its values, each as it was written. An option that is left out is `None`.
+/// A command that reads no input. Its values are the texts of the command line; an option that was not given is `None`.
 #[derive(Clone, Copy, Debug)]
 pub enum ReplyRequest<'a> {
     /// `show FRAME`
@@ -67,7 +67,7 @@ pub enum ReplyRequest<'a> {
     },
 }
 
-/// A command with its values, each as it was written. An option that is left out is `None`.
+/// A command. Its values are the texts of the command line; an option that was not given is `None`.
 #[derive(Clone, Copy, Debug)]
 pub enum Request<'a> {
     /// a command that reads no input

@@ -35,7 +35,7 @@ digit_at (b ∷ text) (suc i) all within =
 pub digit_range : (byte : ℕ) → is_ascii_digit byte ≡ true → IsAsciiDigit byte
 digit_range byte is = search rules
 
--- bytes of which each is a digit
+-- all bytes are digits if each is one
 pub each_digit : (text : List ℕ) → AllByRecursion IsAsciiDigit text → are_digits text ≡ true
 each_digit [] each = refl
 each_digit (byte ∷ text) (is, each) =
