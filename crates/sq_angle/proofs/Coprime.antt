@@ -1,4 +1,4 @@
--- A fraction has one form in lowest terms.
+-- A fraction has at most one form in lowest terms.
 use Rattle.std.proofs.Common.{◌≡◌, ℕ, zero, suc, ◌-◌, ◌*◌, ◌/◌, ◌%◌, ◌≤◌, pos, ◌*ℤ◌, unsigned_abs, refl, ap, ◌∙◌, sym}
 use Rattle.std.proofs.Common.{subst, arith, one-mul, mul_comm, div-add-mod'}
 use Rattle.std.specs.Int.{IsGcd, ◌∣◌}
@@ -12,14 +12,14 @@ use Rattle.sq_angle.specs.Scale.{same_of_scale}
 use Rattle.sq_angle.proofs.Fractions.{value_trans, value_sym}
 use Rattle.sq_angle.proofs.Orders.{same_angle-value}
 
--- what divides a multiple of two numbers divides that multiple of their remainder
+-- a divisor of a k and of b k divides (a % b) k
 remainder_divides : (a b k d : ℕ) → d ∣ (a * k) → d ∣ (b * k) → d ∣ (a % b * k)
 remainder_divides a b k d p q =
     let split = ap (λ n. n * k) (div-add-mod' a b) in
     let same : a * k - a / b * (b * k) ≡ a % b * k = omega arith in
     subst (λ n. d ∣ n) same (dvd-sub d p (dvd-mul_left_of_dvd d q (a / b)))
 
--- what divides a multiple of two numbers divides that multiple of their greatest common divisor
+-- each divisor of a k and of b k divides g k, where g is the greatest common divisor of a and b
 euclid : (n a b : ℕ) → b ≤ n → (g : ℕ) × IsGcd a b g × ((k d : ℕ) → d ∣ (a * k) → d ∣ (b * k) → d ∣ (g * k))
 euclid zero a b h = (a, IsGcd-from_zero a b (omega arith), λ k d p q. p)
 euclid (suc n) a zero h = (a, IsGcd-from_zero a zero refl, λ k d p q. p)
@@ -27,14 +27,14 @@ euclid (suc n) a (suc m) h =
     let r = euclid n (suc m) (a % suc m) (omega arith) in
     (r.0, IsGcd-from_mod a (suc m) r.0 r.1, λ k d p q. r.2 k d q (remainder_divides a (suc m) k d p q))
 
--- what divides a multiple of two coprime numbers divides the factor
+-- a divisor of a k and of b k divides k if a and b are coprime
 coprime_divides : (a b k d : ℕ) → IsGcd a b 1 → d ∣ (a * k) → d ∣ (b * k) → d ∣ k
 coprime_divides a b k d h p q =
     let r = euclid b a b (omega arith) in
     let one = same_from_IsGcd a b r.0 1 r.1 h in
     subst (λ n. d ∣ n) (ap (λ g. g * k) one ∙ one-mul k) (r.2 k d p q)
 
--- the denominator of lowest terms divides that of every fraction of the value
+-- the denominator of lowest terms divides that of every fraction of the same value
 den_divides : (x y : Fraction) → IsLowestTerms x → x ≃ y → x.den ∣ y.den
 den_divides x y p e =
     let magnitudes : y.den * unsigned_abs x.num ≡ x.den * unsigned_abs y.num =
@@ -45,14 +45,14 @@ den_divides x y p e =
     (subst (λ n. x.den ∣ n) (sym turned) (dvd-mul_right x.den (unsigned_abs y.num)))
     (dvd-mul_right x.den y.den)
 
--- lowest terms of one value are one fraction
+-- lowest terms of the same value are equal
 pub same_lowest_terms : (x y : Fraction) → IsLowestTerms x → IsLowestTerms y → x ≃ y → x ≡ y
 same_lowest_terms x y p q e =
     let dens = dvd_antisymm (den_divides x y p e) (den_divides y x q (sym e)) in
     let nums = same_of_scale y.den x.num y.num q.positive (e ∙ ap (λ n. pos n *ℤ y.num) dens) in
     ap (λ n. record { num = n; den = x.den }) nums ∙ ap (λ (d : ℕ). record { num = y.num; den = d }) dens
 
--- two fractions have one value exactly if they have one lowest form
+-- two fractions have the same value exactly if they have the same lowest form
 pub one_lowest_form : OneLowestForm
 one_lowest_form x y p q some_x some_y a b = (
   λ (e : x ≃ y).
@@ -63,7 +63,7 @@ one_lowest_form x y p q some_x some_y a b = (
       value_trans x p y a.terms.positive (value_sym p x a.value) p_is_y,
 )
 
--- one lowest form, of angles and of what `==` tests
+-- two angles are equal by `==` exactly if they have the same lowest form
 pub one_lowest_form_of_angles : OneLowestFormOfAngles
 one_lowest_form_of_angles x y p q a b =
     let fractions = one_lowest_form (record { num = x.num; den = x.den })

@@ -34,18 +34,18 @@ trans_below x y z p h k =
     let right = scale_comm y.den x.den z.num in
     lt_of_scale y.den (pos z.den *ℤ x.num) (pos x.den *ℤ z.num) (omega (arith, ints))
 
--- one value goes both ways
+-- having the same value is symmetric
 pub value_sym : (x y : Fraction) → x ≃ y → y ≃ x
 value_sym x y e = sym e
 
--- one value goes from one fraction to the next
+-- having the same value is transitive
 pub value_trans : (x y z : Fraction) → 0 < y.den → x ≃ y → y ≃ z → x ≃ z
 value_trans x y z p e f =
     same_of_scale y.den (pos z.den *ℤ x.num) (pos x.den *ℤ z.num) p
     (scale_comm y.den z.den x.num ∙ ap (λ n. pos z.den *ℤ n) e ∙ scale_comm z.den x.den y.num
     ∙ ap (λ n. pos x.den *ℤ n) f ∙ scale_comm x.den y.den z.num)
 
--- a magnitude of at most so many degrees is to lie from -degrees to degrees
+-- a magnitude is at most `degrees` exactly if the value lies from -degrees to degrees
 pub within_window : (degrees : ℕ) (x : Fraction) → IsWithin degrees x
     ↔ ((opposite (whole degrees) ≼ x) × (x ≼ whole degrees))
 within_window degrees x =

@@ -1,4 +1,4 @@
--- for the crates above as well
+-- used by the crates that depend on this one as well
 pub mod Floors
 pub mod Windows
 pub mod Congruence
@@ -6,7 +6,7 @@ pub mod Rounding
 pub mod Fractions
 pub mod Sizes
 pub mod Orders
--- of angles and their texts
+-- about angles and their texts
 pub mod LowestTerms
 pub mod Twos
 pub mod TrailingZeros

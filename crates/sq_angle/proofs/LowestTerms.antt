@@ -1,4 +1,4 @@
--- What is left of two numbers once their greatest common divisor is divided out.
+-- Two numbers divided by their greatest common divisor.
 use Rattle.std.proofs.Common.{◌≡◌, ℕ, zero, suc, zero-mul, ◌*◌, ◌/◌, ◌≤◌, arith, one-mul, ap, sym, subst, ◌∙◌}
 use Rattle.std.specs.Int.{IsGcd, ◌∣◌}
 use Rattle.std.proofs.Math.Nat.{mul-dvd-mul_right, dvd_of_mul-dvd-mul_right, div-mul_cancel, one-dvd}

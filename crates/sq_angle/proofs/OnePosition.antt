@@ -1,4 +1,4 @@
--- A position is its latitude and its longitude.
+-- A position is determined by its latitude and its longitude.
 use Rattle.std.proofs.Common.{◌≡◌}
 use Rattle.std.proofs.Props.{props}
 use mathlib.Core.HLevel.{is_prop→PathP}
@@ -6,7 +6,7 @@ use Rattle.sq_angle.specs.declared.position.Position.{Position}
 use Rattle.sq_angle.specs.Angle.{degrees}
 use Rattle.sq_angle.specs.Bounds.{IsPosition}
 
--- positions with one latitude and one longitude are one
+-- positions with the same latitude and the same longitude are equal
 pub one_position : (a b : Position) → a.lat ≡ b.lat → a.lon ≡ b.lon → a ≡ b
 one_position a b lat lon =
     λ i. record {

@@ -1,4 +1,4 @@
--- Reading a text has one answer.
+-- Reading a text has at most one result.
 use Rattle.std.proofs.Common.{◌≡◌, length, Ok, Err, refl, ap, ◌∙◌, sym, subst, arith}
 use Rattle.std.proofs.Props.{props}
 use mathlib.Core.HLevel.{is_prop→PathP}
@@ -11,7 +11,7 @@ use Rattle.sq_angle.specs.Spelling.{Parts, value_of}
 use Rattle.sq_angle.specs.Laws.{OneReading}
 use Rattle.sq_angle.proofs.OneSpelling.{one_spelling}
 
--- angles given by one numerator and one denominator are one
+-- angles with the same numerator and the same denominator are equal
 pub one_angle : (a b : Angle) → degrees a ≡ degrees b → a ≡ b
 one_angle a b e =
     let num : a.num ≡ b.num = ap (λ (x : Fraction). x.num) e in
@@ -22,11 +22,11 @@ one_angle a b e =
       in_range = is_prop→PathP (λ j. IsAngle (num j) (den j)) (λ j. hlevel props) a.in_range b.in_range i;
     }
 
--- an angle of that value is within 360 degrees
+-- parts that have the value of an angle are within 360 degrees
 within : (a : Angle) (p : Parts) → degrees a ≡ value_of p → IsWithin 360 (value_of p)
 within a p e = subst (λ (x : Fraction). IsWithin 360 x) e a.in_range.within
 
--- two answers to a text are one
+-- two results of reading a text are equal
 pub one_reading : OneReading
 one_reading text (Ok a) (Ok b) (p, s, _, e) (q, t, _, f) =
     ap Ok (one_angle a b (e ∙ ap value_of (one_spelling text p q s t) ∙ sym f))

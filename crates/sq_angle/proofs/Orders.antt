@@ -1,4 +1,4 @@
--- What the comparisons of angles test.
+-- The comparisons of angles, as facts about fractions.
 use Rattle.std.proofs.Common.{◌≡◌, ◌↔◌, IsTrue, pos, ◌*ℤ◌, ◌<ℤ◌, subst, sym, rules}
 use Rattle.std.proofs.lemmas.Bool.Decides.{Decides-int_eq}
 use Rattle.std.specs.Ordering.{MatchOrdering}
@@ -11,18 +11,18 @@ use Rattle.sq_angle.specs.Angle.{degrees}
 use Rattle.sq_angle.specs.Order.{same_angle, fraction_cmp}
 use Rattle.sq_angle.specs.Laws.{OrderedByValue}
 
--- what a comparison of fractions answers, as a fact
+-- the result of comparing two fractions, as a fact
 ranked : (x y : Fraction) (o : Ordering) → fraction_cmp x y ≡ o → MatchOrdering o (x ≺ y) (x ≃ y) (y ≺ x)
 ranked x y o e =
     let A = pos y.den *ℤ x.num in
     let B = pos x.den *ℤ y.num in
     subst (λ (r : Ordering). MatchOrdering r (A <ℤ B) (A ≡ B) (B <ℤ A)) e (int_ranks A B)
 
--- `==` tests whether the fractions have one value
+-- `==` tests whether the fractions have the same value
 pub same_angle-value : (x y : Angle) → IsTrue (same_angle x y) ↔ (degrees x ≃ degrees y)
 same_angle-value x y = search (rules, Decides-int_eq (pos y.den *ℤ x.num) (pos x.den *ℤ y.num))
 
--- `<` tests whether one fraction is below the other
+-- `==`, `<` and `>` test how the fractions compare
 pub ordered_by_value : OrderedByValue
 ordered_by_value x y = (
   same_angle-value x y,

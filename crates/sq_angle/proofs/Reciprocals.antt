@@ -16,7 +16,7 @@ reciprocal (suc z) = div_ceil (2 ^ 48) (suc z)
 table_is : RECIPROCALS ≡ map reciprocal (range_with_len 0 128)
 table_is = refl
 
--- the entry of z: from 2^48 up to less than z above it, z times
+-- z times the entry of z is at least 2^48 and below 2^48 + z
 pub entry : (z : ℕ) → 0 < z → z < 128
     → (2 ^ 48 ≤ get_or RECIPROCALS z 0 * z) × (get_or RECIPROCALS z 0 * z < 2 ^ 48 + z)
 entry zero some few = absurd (omega arith)
@@ -26,7 +26,7 @@ entry (suc z) some few =
     ∙ get_or-map-range_with_len reciprocal 0 128 (suc z) (suc z) 0 few (omega arith) in
     rw is (div_ceil_times (2 ^ 48) (suc z) some)
 
--- x / z by a factor that is little above 2^48 / z
+-- x / z, by a factor slightly above 2^48 / z
 pub by_reciprocal : (x z r : ℕ) → 0 < z → 2 ^ 48 ≤ r * z → r * z < 2 ^ 48 + z → x * z < 2 ^ 48 → x * r / 2 ^ 48 ≡ x / z
 by_reciprocal x z r some low high small =
     let q : ℕ = x / z in
@@ -40,7 +40,7 @@ by_reciprocal x z r some low high small =
     let next : x * r < q * 2 ^ 48 + 2 ^ 48 = lt_of_mul-lt-mul_right z below in
     omega (arith, least, more, next)
 
--- v / d in two steps, where d is a whole number of 2^17
+-- v / d in two steps, if d is a multiple of 2^17
 pub by_steps : (v d : ℕ) → d % 131072 ≡ 0 → v / 131072 / (d / 131072) ≡ v / d
 by_steps v d whole =
     let is : 131072 * (d / 131072) ≡ d = omega (arith, whole) in

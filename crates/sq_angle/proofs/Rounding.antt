@@ -9,30 +9,30 @@ use Rattle.sq_angle.specs.Whole.{ExactlyOne}
 use Rattle.sq_angle.specs.Scale.{scales, scale-scale}
 use Rattle.sq_angle.proofs.Floors.{div_euclid-le, div_euclid-lt, quotient_below}
 
--- a is k/2e rounded, a half taken up: (2a - 1)e ≤ k < (2a + 1)e
+-- a is k/2e rounded to the nearest, halves up: (2a - 1)e ≤ k < (2a + 1)e
 pub record IsRounded (k : ℤ) (e : ℕ) (a : ℤ) : Type 0 where
   pub from : (pos (2 * e) *ℤ a) ≤ℤ (k +ℤ pos e)
   pub below : (k +ℤ pos e) <ℤ (pos (2 * e) *ℤ a +ℤ pos (2 * e))
 
--- the quotient rounded down, half a divisor added before, rounds
+-- adding half the divisor and rounding the quotient down rounds to the nearest
 pub rounded : (k : ℤ) (e : ℕ) → 0 < e → IsRounded k e (int_div_euclid (k +ℤ pos e) (pos (2 * e)))
 rounded k e p = record {
   from = div_euclid-le (k +ℤ pos e) (2 * e) (omega arith);
   below = div_euclid-lt (k +ℤ pos e) (2 * e) (omega arith);
 }
 
--- a number rounds to one number
+-- a number rounds to at most one number
 pub rounded_once : (k : ℤ) (e : ℕ) (a b : ℤ) → IsRounded k e a → IsRounded k e b → a ≡ b
 rounded_once k e a b p q =
     let h = quotient_below a b (k +ℤ pos e) (2 * e) p.from q.below in
     let g = quotient_below b a (k +ℤ pos e) (2 * e) q.from p.below in
     omega (arith, ints)
 
--- an odd number of halves of e
+-- e (2a - 1) = 2e a - e
 pub odd_below : (a : ℤ) (e : ℕ) → pos e *ℤ (pos 2 *ℤ a -ℤ pos 1) ≡ pos (2 * e) *ℤ a -ℤ pos e
 odd_below a e = simp scales (omega (arith, ints))
 
--- an odd number of halves of e, one more than an even one
+-- e (2a + 1) = 2e a + e
 pub odd_above : (a : ℤ) (e : ℕ) → pos e *ℤ (pos 2 *ℤ a +ℤ pos 1) ≡ pos (2 * e) *ℤ a +ℤ pos e
 odd_above a e = simp scales (omega (arith, ints))
 
@@ -40,7 +40,7 @@ odd_above a e = simp scales (omega (arith, ints))
 abbrev pub step_of : ℕ → ℕ → Fraction
 step_of w d = record { num = pos w; den = d }
 
--- being nearest to x with a step of w/d is to be x * 2d / 2w rounded, x's denominator multiplied out
+-- x * 2d / 2w rounded, with x's denominator multiplied out, is the nearest number of steps of w/d
 pub nearest_from_rounded : (x : Fraction) (w d : ℕ) (a : ℤ) → IsRounded (pos (2 * d) *ℤ x.num) (x.den * w) a
     → IsNearest x (step_of w d) a
 nearest_from_rounded x w d a r =
@@ -48,7 +48,7 @@ nearest_from_rounded x w d a r =
     let above = scale-scale x.den w (pos 2 *ℤ a +ℤ pos 1) ∙ odd_above a (x.den * w) in
     record { from = omega (arith, ints); below = omega (arith, ints) }
 
--- the number of steps nearest to x is rounded
+-- the number of steps nearest to x is a rounded quotient
 pub rounded_from_nearest : (x : Fraction) (w d : ℕ) (a : ℤ) → IsNearest x (step_of w d) a
     → IsRounded (pos (2 * d) *ℤ x.num) (x.den * w) a
 rounded_from_nearest x w d a r =
@@ -58,7 +58,7 @@ rounded_from_nearest x w d a r =
     let to = r.below in
     record { from = omega (arith, ints); below = omega (arith, ints) }
 
--- each x has one nearest number of steps
+-- each x has at most one nearest number of steps
 pub nearest_once : (x : Fraction) (w d : ℕ) (a b : ℤ) → IsNearest x (step_of w d) a → IsNearest x (step_of w d) b
     → a ≡ b
 nearest_once x w d a b p q = rounded_once _ _ a b (rounded_from_nearest x w d a p) (rounded_from_nearest x w d b q)
@@ -102,7 +102,7 @@ nearest_unit n xd d p =
     nearest_quotient n xd 1 d ((2 * d * n + xd) / (2 * xd)) (ap (λ e. (2 * d * n + e) / (2 * e)) (sym one)) p
     (omega arith)
 
--- Nearest, as a distance: twice the way from a steps to x is from minus one step up to, and not at, one step.
+-- Nearest, as a distance: twice the distance from a steps to x is at least minus one step and below one step.
 pub nearest_distance : (x : Fraction) (w d : ℕ) (a : ℤ) →
     IsNearest x (step_of w d) a ↔
     ((neg_ℤ (pos (x.den * w)) ≤ℤ (pos 2 *ℤ (pos d *ℤ x.num -ℤ pos (x.den * w) *ℤ a)))

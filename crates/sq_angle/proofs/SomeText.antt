@@ -10,7 +10,7 @@ use Rattle.sq_angle.specs.Nearest.{IsNearest}
 use Rattle.sq_angle.specs.Scale.{scale-neg}
 use Rattle.sq_angle.proofs.Rounding.{one_nearest}
 
--- a magnitude has no negative number of steps nearest to it
+-- the number of steps nearest to a magnitude is not negative
 not_below : (x : Fraction) (v : ℕ) → 1 ≤ x.den → IsNearest (magnitude x) ten_millionth (negsuc v) → ⊥
 not_below x v some r =
     let k = 2 * v + 1 in
@@ -26,7 +26,7 @@ some_decimal7 x some = let one = one_nearest (magnitude x) 1 10000000 some (omeg
     by (pos v) is = (seven_places (int_lt x.num (pos 0)) v, (v, is, refl))
     by (negsuc v) is = absurd (not_below x v some is)
 
--- a text, of a fraction that has one
+-- the text of a fraction with a positive denominator, and otherwise an empty text
 written : (x : Fraction) → (1 ≤ x.den) ⊎ (¬ (1 ≤ x.den)) → List ℕ
 written x (inl some) = (some_decimal7 x some).0
 written x (inr none) = []

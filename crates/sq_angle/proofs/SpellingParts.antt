@@ -1,4 +1,4 @@
--- A spelling by its characters.
+-- The parts of a text by their characters.
 use Rattle.std.proofs.Common.{◌≡◌, ◌⊎◌, ℕ, List, [], ◌∷◌, ◌++◌, ◌≤◌, inl, inr, length, arith}
 use Rattle.std.proofs.lemmas.Bool.{cases_lt}
 use Rattle.std.specs.List.{AllByRecursion}
@@ -8,19 +8,19 @@ use Rattle.sq_angle.specs.Spelling.{IsSpelling, Parts}
 abbrev IsDigit : ℕ → Type 0
 IsDigit byte = (48 ≤ byte) × (byte ≤ 57)
 
--- what holds of two lists holds of both in one
+-- a property of all elements of two lists holds for the joined list
 all_of_both : (P : ℕ → Type 0) (xs ys : List ℕ) → AllByRecursion P xs → AllByRecursion P ys
     → AllByRecursion P (xs ++ ys)
 all_of_both P [] ys of_xs of_ys = of_ys
 all_of_both P (x ∷ xs) ys of_xs of_ys = (of_xs.0, all_of_both P xs ys of_xs.1 of_ys)
 
--- what holds of both in one holds of each
+-- a property of all elements of a joined list holds for both lists
 all_of_each : (P : ℕ → Type 0) (xs ys : List ℕ) → AllByRecursion P (xs ++ ys)
     → AllByRecursion P xs × AllByRecursion P ys
 all_of_each P [] ys all = (tt, all)
 all_of_each P (x ∷ xs) ys all = let rest = all_of_each P xs ys all.1 in ((all.0, rest.0), rest.1)
 
--- a number from 1 to 3 is one of them
+-- a number from 1 to 3 is 1, 2 or 3
 one_to_three : (n : ℕ) → 1 ≤ n → n ≤ 3 → (n ≡ 1) ⊎ (n ≡ 2) ⊎ (n ≡ 3)
 one_to_three n some few =
     elim (cases_lt n 2) [
@@ -31,13 +31,13 @@ one_to_three n some few =
       ]
     ]
 
--- each of these is from 1 to 3
+-- 1, 2 and 3 are from 1 to 3
 from_one_to_three : (n : ℕ) → (n ≡ 1) ⊎ (n ≡ 2) ⊎ (n ≡ 3) → (1 ≤ n) × (n ≤ 3)
 from_one_to_three n (inl one) = (omega arith, omega arith)
 from_one_to_three n (inr (inl two)) = (omega arith, omega arith)
 from_one_to_three n (inr (inr three)) = (omega arith, omega arith)
 
--- a spelling has one to three digits before the point, and digits throughout
+-- valid parts have one to three digits before the point, and only digits
 pub to_characters : (p : Parts) → IsSpelling p
     → ((length p.whole ≡ 1) ⊎ (length p.whole ≡ 2) ⊎ (length p.whole ≡ 3))
     × AllByRecursion IsDigit (p.whole ++ p.decimals)
@@ -46,7 +46,7 @@ to_characters p spelling = (
   all_of_both IsDigit p.whole p.decimals spelling.whole_digits spelling.decimal_digits,
 )
 
--- one to three digits before the point, and digits throughout, are a spelling
+-- parts with one to three digits before the point, and only digits, are valid
 pub of_characters : (p : Parts) → (length p.whole ≡ 1) ⊎ (length p.whole ≡ 2) ⊎ (length p.whole ≡ 3)
     → AllByRecursion IsDigit (p.whole ++ p.decimals) → IsSpelling p
 of_characters p few all =

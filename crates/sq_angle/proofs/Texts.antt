@@ -1,4 +1,4 @@
--- What the steps of reading an angle find in a text, and the number that its digits write.
+-- The steps of reading an angle from a text, and the number of its digits.
 use Rattle.std.proofs.Common.{◌≡◌, ◌≢◌, ℕ, zero, suc, ◌+◌, ◌*◌, ◌^◌, ◌<◌, ◌≤◌, List, [], ◌∷◌, ◌++◌, length, get_or}
 use Rattle.std.proofs.Common.{Result, Ok, Err, ℤ, refl, ap, ap₂, ◌∙◌, sym, arith, rules, mul-le-mul, add-mul}
 use Rattle.std.proofs.Math.Nat.{pow-le-pow_right, pow-succ'}
@@ -17,25 +17,25 @@ use Rattle.sq_angle.specs.Bounds.{IsAngle}
 ten_positive : zero < 10
 ten_positive = omega arith
 
--- no point by places is no point by recursion
+-- if there is no point at any index, no character is a point
 pub no_point_at : (xs : List ℕ) → ((i : ℕ) → i < length xs → get_or xs i 0 ≢ 46) → HasNoPoint xs
 no_point_at [] h = tt
 no_point_at (x ∷ xs) h = (h 0 (omega arith), no_point_at xs (λ i l. h (suc i) (omega arith)))
 
--- decimals stand after a point
+-- a point comes before decimals
 pub fraction_some : (ds : List ℕ) → 0 < length ds → fraction ds ≡ 46 ∷ ds
 fraction_some [] h = absurd (omega arith)
 fraction_some (d ∷ ds) h = refl
 
--- a text of digits alone, and the number that it writes
+-- texts of digits, and their numbers
 digits_model : IsNumeralModel (λ ds. AllByRecursion IsAsciiDigit ds) (digits_value 10)
 digits_model = numerals_by_value (λ ds. AllByRecursion IsAsciiDigit ds) (search rules)
 
--- what so many digits write is below that power of ten
+-- the number of n digits is below 10^n
 pub digits_small : (ds : List ℕ) → AllByRecursion IsAsciiDigit ds → digits_value 10 ds < 10 ^ length ds
 digits_small ds a = digits_value-lt 10 ds (digits_model.to ds a)
 
--- `parse` reads up to twelve digits, and 0 stands in where there are none
+-- `parse` reads up to twelve digits, and the default 0 is used if there are none
 pub parsed_digits : {E : Type 0} → (ds : List ℕ) (r : Result ℕ E) → ParsesUnsigned 64 10 ds r
     → AllByRecursion IsAsciiDigit ds → length ds ≤ 12 → result_unwrap_or r 0 ≡ digits_value 10 ds
 parsed_digits ds r h a short =
@@ -49,7 +49,7 @@ parsed_digits ds r h a short =
     by [] (Err e) h small = refl
     by (d ∷ ds) (Err e) h small = absurd (h (omega arith, small))
 
--- digits that follow others write a power of ten times these, and what they write themselves
+-- digits after a number n give n times a power of ten plus their own number
 value_after : (n : ℕ) (ds : List ℕ) → digits_value_after 10 n ds ≡ n * 10 ^ length ds + digits_value 10 ds
 value_after n [] = omega arith
 value_after n (d ∷ ds) =
@@ -58,18 +58,18 @@ value_after n (d ∷ ds) =
     let spread = add-mul (n * 10) v (10 ^ length ds) in
     omega (arith, value_after (n * 10 + v) ds, value_after (0 * 10 + v) ds, ap (λ m. n * m) power)
 
--- digits that follow others are read on from what these write
+-- reading two lists of digits continues from the number of the first list
 append_after : (n : ℕ) (xs ys : List ℕ)
     → digits_value_after 10 n (xs ++ ys) ≡ digits_value_after 10 (digits_value_after 10 n xs) ys
 append_after n [] ys = refl
 append_after n (x ∷ xs) ys = append_after (n * 10 + digit_value x) xs ys
 
--- what two texts of digits write one after another
+-- the number of two joined texts of digits
 pub digits_value-append : (xs ys : List ℕ)
     → digits_value 10 (xs ++ ys) ≡ digits_value 10 xs * 10 ^ length ys + digits_value 10 ys
 digits_value-append xs ys = append_after 0 xs ys ∙ value_after (digits_value 10 xs) ys
 
--- the magnitude of an angle as its digits write it is small
+-- the magnitude of an angle, as its digits give it, is small
 pub magnitude_small : (a b d m n : ℕ) → m ≤ 3 → n ≤ 12 → a < 10 ^ m → d ≡ 10 ^ n → b < 10 ^ n
     → (a * d < 10 ^ 16) × (a * d + b < 10 ^ 16)
 magnitude_small a b d m n h k p e q =
@@ -80,7 +80,7 @@ magnitude_small a b d m n h k p e q =
     let product : a * d ≤ 1000 * 1000000000000 = mul-le-mul a_small d_small in
     (omega arith, omega arith)
 
--- the fraction of an angle that was read, as its parts were
+-- the fraction of an angle that was read is that of its parts
 pub value_read : (p : Parts) (a b d : ℕ) (z : ℤ) → a ≡ digits_value 10 p.whole → b ≡ digits_value 10 p.decimals
     → d ≡ 10 ^ length p.decimals → z ≡ signed p.negative (a * d + b)
     → (z ≡ num_of p) × (d ≡ den_of p)
@@ -89,7 +89,7 @@ value_read p a b d z e f g h =
     ap₂ (λ m n. m + n) (ap₂ (λ m n. m * n) e g) f ∙ sym (digits_value-append p.whole p.decimals) in
     (h ∙ ap (λ n. signed p.negative n) magnitude, g)
 
--- a list of no length is empty
+-- a list of length 0 is empty
 pub nothing : (ds : List ℕ) → length ds ≡ 0 → ds ≡ []
 nothing [] e = refl
 nothing (d ∷ ds) e = absurd (omega arith)

@@ -10,7 +10,7 @@ use Rattle.std.specs.Int.Count.{count_trailing_zeros}
 use Rattle.std.proofs.lemmas.Nat.Gcd.{IsGcd-from_sub, IsGcd-swap}
 use Rattle.sq_angle.proofs.Twos.{gcd_of_rest, multiple_of_power, times_second}
 
--- the first t bits are 0, of which the number has no more, or t is z
+-- the lowest t bits are 0, and t is z or the next bit is 1
 first_zeros : (a z t : ℕ) → a < 2 ^ 64 → z < 64 → t ≡ min z (trailing_zeros w64 a)
     → ((i : ℕ) → i < t → bit_at a i ≡ 0) × ((t ≡ z) ⊎ (a / 2 ^ t % 2 ≡ 1))
 unfolding count_trailing_zeros
@@ -33,7 +33,7 @@ first_zeros a z t small within is = elim (eq-zero-or-pos a) [
       ],
     )
 
--- twos times the greatest common divisor of what is left
+-- the greatest common divisor is a power of two times that of the numbers without their factors of two
 pub gcd_by_zeros : (a b t g : ℕ) → 0 < b → a < 2 ^ 64 → b < 2 ^ 64
     → t ≡ min (trailing_zeros w64 b) (trailing_zeros w64 a)
     → IsGcd (a / 2 ^ t) (b / 2 ^ trailing_zeros w64 b) g → IsGcd a b (2 ^ t * g)

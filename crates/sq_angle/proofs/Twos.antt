@@ -1,4 +1,4 @@
--- Common divisors where powers of two are taken out.
+-- Common divisors of numbers without their powers of two.
 use Rattle.std.proofs.Common.{◌≡◌, ◌⊎◌, inl, inr, ◌+◌, ◌*◌, ◌/◌, ◌%◌, ◌<◌, ◌≤◌, ℕ, zero, suc, ap, ◌∙◌, sym, subst, refl}
 use Rattle.std.proofs.Common.{arith, ◌-◌, ◌^◌, ap₂, one-mul, subst₂, pow-add, shr-shr}
 use Rattle.std.specs.Int.{bit_at}
@@ -27,7 +27,7 @@ odd_multiple d q odd both =
     let more : (2 * (d / 2) + 1) * q ≡ d * q = ap (λ n. n * q) (omega (arith, odd)) in
     omega (arith, both, more, add-mul (2 * (d / 2)) 1 q, mul_assoc 2 (d / 2) q)
 
--- a divisor of an odd number is odd
+-- every divisor of an odd number is odd
 odd_divisor : (d x : ℕ) → d ∣ x → x % 2 ≡ 1 → d % 2 ≡ 1
 odd_divisor d x h odd = case (parity d)
   where
@@ -35,7 +35,7 @@ odd_divisor d x h odd = case (parity d)
     case (inr is) = is
     case (inl is) = absurd (omega (arith, odd, mul-div_cancel' d h, even_multiple d (x / d) is))
 
--- an odd divisor of a number twice another divides that other
+-- an odd divisor of 2 m divides m
 odd_divides_half : (d m : ℕ) → d % 2 ≡ 1 → d ∣ 2 * m → d ∣ m
 odd_divides_half d m odd h = case (parity (2 * m / d))
   where
@@ -52,7 +52,7 @@ odd_divides_half d m odd h = case (parity (2 * m / d))
         let half : d * r ≡ m = omega (arith, halved, turned) in
         subst (λ n. d ∣ n) half (dvd-mul_right d r)
 
--- twice the greatest common divisor of the halves
+-- the greatest common divisor of even numbers is twice that of their halves
 pub gcd_of_halves : (x y g : ℕ) → x % 2 ≡ 0 → y % 2 ≡ 0 → IsGcd (x / 2) (y / 2) g → IsGcd x y (2 * g)
 gcd_of_halves x y g ex ey h = (of_x, of_y, greatest)
   where
@@ -82,7 +82,7 @@ gcd_of_halves x y g ex ey h = (of_x, of_y, greatest)
     greatest : (d : ℕ) → d ∣ x → d ∣ y → d ∣ 2 * g
     greatest d p q = by_parity d (subst (λ n. d ∣ n) (sym x_is) p) (subst (λ n. d ∣ n) (sym y_is) q) (parity d)
 
--- of an odd number and an even one, that of the odd one and the half
+-- the greatest common divisor of an odd and an even number is that of the odd one and half the even one
 pub gcd_of_half : (x y g : ℕ) → x % 2 ≡ 1 → y % 2 ≡ 0 → IsGcd x (y / 2) g → IsGcd x y g
 gcd_of_half x y g odd ey h = (h.0, of_y, greatest)
   where
@@ -95,7 +95,7 @@ gcd_of_half x y g odd ey h = (h.0, of_y, greatest)
     greatest : (d : ℕ) → d ∣ x → d ∣ y → d ∣ g
     greatest d p q = h.2 d p (odd_divides_half d (y / 2) (odd_divisor d x p odd) (subst (λ n. d ∣ n) (sym y_is) q))
 
--- a number whose lowest bits are 0 is a multiple of a power of two
+-- a number with k lowest bits 0 is a multiple of 2^k
 pub multiple_of_power : (n k : ℕ) → ((i : ℕ) → i < k → bit_at n i ≡ 0) → 2 ^ k * (n / 2 ^ k) ≡ n
 multiple_of_power n zero clear = omega arith
 multiple_of_power n (suc k) clear =
@@ -107,7 +107,7 @@ multiple_of_power n (suc k) clear =
     let whole : 2 * (n / 2 ^ k / 2) ≡ n / 2 ^ k = omega (arith, even) in
     ap₂ (λ p q. p * q) (sym power) (sym half) ∙ mul_assoc (2 ^ k) 2 (n / 2 ^ k / 2) ∙ ap (λ m. 2 ^ k * m) whole ∙ rest
 
--- the greatest common divisor of two numbers times a power of two
+-- the greatest common divisor of two numbers that are both multiplied by a power of two
 times_both : (k x y g : ℕ) → IsGcd x y g → IsGcd (2 ^ k * x) (2 ^ k * y) (2 ^ k * g)
 times_both zero x y g h = rw (one-mul x, one-mul y, one-mul g) h
 times_both (suc k) x y g h =
@@ -120,7 +120,7 @@ times_both (suc k) x y g h =
     (rw (half_x, half_y) (times_both k x y g h)) in
     subst (λ n. IsGcd (n * x) (n * y) (n * g)) power (rw (mul_assoc 2 p x, mul_assoc 2 p y, mul_assoc 2 p g) twice)
 
--- an odd number has no more in common with a number times a power of two
+-- multiplying a number by a power of two does not change its greatest common divisor with an odd number
 pub times_second : (k x y g : ℕ) → x % 2 ≡ 1 → IsGcd x y g → IsGcd x (2 ^ k * y) g
 times_second zero x y g odd h = rw (one-mul y) h
 times_second (suc k) x y g odd h =
@@ -131,8 +131,8 @@ times_second (suc k) x y g odd h =
     gcd_of_half x (2 * (p * y)) g odd (omega arith) (rw half (times_second k x y g odd h)) in
     subst (λ n. IsGcd x (n * y) g) power (rw (mul_assoc 2 p y) twice)
 
--- The greatest common divisor of two numbers by that of what is left when all twos are taken of the second, and as many
--- of the first or all that it has.
+-- The greatest common divisor of two numbers, from that of their rests. The second loses z factors of two. The first
+-- loses as many, or all that it has.
 pub gcd_of_rest : (a b t z g : ℕ) → 2 ^ t * (a / 2 ^ t) ≡ a → 2 ^ z * (b / 2 ^ z) ≡ b → t ≤ z
     → (t ≡ z) ⊎ (a / 2 ^ t % 2 ≡ 1) → IsGcd (a / 2 ^ t) (b / 2 ^ z) g → IsGcd a b (2 ^ t * g)
 gcd_of_rest a b t z g of_a of_b within (inl same) h =

@@ -1,4 +1,4 @@
--- Half-open windows as long as a step: exactly one of the numbers that lie a step apart is in one.
+-- Half-open windows as long as a step: each contains exactly one of the numbers that lie a step apart.
 use Rattle.std.proofs.Common.{◌≡◌, ℕ, ◌*◌, ◌<◌, ◌≤◌, arith, ℤ, pos, unsigned_abs, neg_ℤ, ◌+ℤ◌, ◌-ℤ◌, ◌*ℤ◌, ◌≤ℤ◌, ◌<ℤ◌}
 use Rattle.std.proofs.lemmas.Int.{ints}
 use Rattle.std.specs.Int.{int_div_euclid}
@@ -42,13 +42,13 @@ one_lower h c positive =
           omega (arith, ints),
     )
 
--- what a quotient rounded down says, over plain numbers
+-- the bounds of a quotient rounded down, over plain numbers
 pub quotient_down_parts : (value q : ℤ) (divisor : ℕ) → 0 < divisor → q ≡ int_div_euclid value (pos divisor) →
     ((pos divisor *ℤ q) ≤ℤ value) × (value <ℤ (pos divisor *ℤ q +ℤ pos divisor)) × (unsigned_abs q ≤ unsigned_abs value)
 quotient_down_parts value q divisor h e =
     rw e (div_euclid-le value divisor h, div_euclid-lt value divisor h, div_euclid-small value divisor h)
 
--- the whole number of turns by which `away` comes into the window (-width/2, width/2]
+-- the whole number of turns that brings `away` into the window (-width/2, width/2]
 pub turns_parts : (away q : ℤ) (width : ℕ) → 0 < width →
     (pos (2 * width) *ℤ q) ≤ℤ (pos 2 *ℤ away +ℤ (pos width -ℤ pos 1))
     → (pos 2 *ℤ away +ℤ (pos width -ℤ pos 1)) <ℤ (pos (2 * width) *ℤ q +ℤ pos (2 * width)) →

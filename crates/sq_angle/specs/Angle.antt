@@ -2,6 +2,6 @@
 use Rattle.sq_angle.specs.declared.angle.Angle.{Angle}
 use Rattle.sq_angle.specs.Fraction.{Fraction}
 
--- the value in degrees, with the numerator and the denominator that were given
+-- the value in degrees, not reduced
 abbrev pub degrees : Angle → Fraction
 degrees a = record { num = a.num; den = a.den }

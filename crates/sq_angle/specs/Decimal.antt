@@ -6,11 +6,11 @@ use Rattle.sq_angle.specs.Nearest.{IsNearest}
 use Rattle.sq_digits.specs.Characters.{decimal_point, minus_sign}
 use Rattle.sq_digits.specs.Digits.{fixed_digits}
 
--- 10^-7, a unit of the last of seven decimals
+-- 10^-7, the unit of the last of seven decimals
 abbrev pub ten_millionth : Fraction
 ten_millionth = record { num = pos 1; den = 10 ^ 7 }
 
--- v ten-millionths as text: the sign where a digit is not 0, the whole degrees, a point and seven digits
+-- v ten-millionths as text: `-` if the value is negative and v is not 0, the whole degrees, a point and seven digits
 abbrev pub seven_places : Bool → ℕ → List ℕ
 seven_places negative v =
     (if negative && nat_lt 0 v then minus_sign ∷ [] else [])

@@ -1,5 +1,5 @@
--- Fractions of whole numbers. None is reduced: 1/2 and 2/4 are two fractions with one value.
--- An order between two is one of whole numbers, with the denominators multiplied out.
+-- Fractions of whole numbers, not reduced: 1/2 and 2/4 are two fractions with the same value. Two fractions compare
+-- as whole numbers, with the denominators multiplied out.
 use Rattle.std.specs.Prelude.{◌≡◌, ℕ, ◌*◌, ◌≤◌, ℤ, pos, neg_ℤ, ◌+ℤ◌, ◌-ℤ◌, ◌*ℤ◌, ◌≤ℤ◌, ◌<ℤ◌, unsigned_abs}
 
 -- num / den
@@ -16,7 +16,7 @@ x ≼ y = (pos y.den *ℤ x.num) ≤ℤ (pos x.den *ℤ y.num)
 abbrev pub ◌≺◌ : Fraction → Fraction → Type 0
 x ≺ y = (pos y.den *ℤ x.num) <ℤ (pos x.den *ℤ y.num)
 
--- x and y have one value
+-- x and y have the same value
 abbrev pub ◌≃◌ : Fraction → Fraction → Type 0
 x ≃ y = (pos y.den *ℤ x.num) ≡ (pos x.den *ℤ y.num)
 
@@ -40,6 +40,6 @@ opposite x = record { num = neg_ℤ x.num; den = x.den }
 abbrev pub magnitude : Fraction → Fraction
 magnitude x = record { num = pos (unsigned_abs x.num); den = x.den }
 
--- x has a magnitude of at most so many degrees
+-- the magnitude of x is at most `degrees`
 abbrev pub IsWithin : ℕ → Fraction → Type 0
 IsWithin degrees x = unsigned_abs x.num ≤ degrees * x.den

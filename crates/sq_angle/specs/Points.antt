@@ -1,10 +1,10 @@
--- Where the point stands in a text: words of the steps in which an angle is read.
+-- The decimal point in a text: definitions for the steps of reading an angle.
 use Rattle.std.specs.Prelude.{◌≡◌, ◌≢◌, ℕ, List, [], ◌∷◌, ◌++◌}
 use Rattle.std.specs.List.{AllByRecursion}
 use Rattle.sq_angle.specs.Spelling.{fraction}
 use Rattle.sq_digits.specs.Characters.{decimal_point}
 
--- no point stands among the characters
+-- no character is a point
 abbrev pub HasNoPoint : List ℕ → Type 0
 HasNoPoint cs = AllByRecursion (λ c. c ≢ decimal_point) cs
 
@@ -12,6 +12,6 @@ HasNoPoint cs = AllByRecursion (λ c. c ≢ decimal_point) cs
 abbrev pub EndsInPoint : List ℕ → Type 0
 EndsInPoint text = (whole : List ℕ) × HasNoPoint whole × (text ≡ whole ++ decimal_point ∷ [])
 
--- the text is these two, with a point between them where there are decimals
+-- the text is `whole`, followed by a point and `decimals` if there are decimals
 abbrev pub StandsAroundPoint : List ℕ → List ℕ → List ℕ → Type 0
 StandsAroundPoint text whole decimals = HasNoPoint whole × (text ≡ whole ++ fraction decimals)

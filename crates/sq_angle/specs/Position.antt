@@ -12,6 +12,6 @@ lat_of p = p.lat
 abbrev pub lon_of : Position → Angle
 lon_of p = p.lon
 
--- both angles of the two positions have one value
+-- the two positions have latitudes of the same value and longitudes of the same value
 abbrev pub HaveEqualAngles : Position → Position → Type 0
 HaveEqualAngles x y = (degrees (lat_of x) ≃ degrees (lat_of y)) × (degrees (lon_of x) ≃ degrees (lon_of y))

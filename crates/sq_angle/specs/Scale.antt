@@ -1,6 +1,5 @@
--- Whole numbers times a natural factor, which stands on the left. With the equations of `scales`, `simp scales` takes
--- every such product apart, and `omega (arith, ints)` reads what is left. The laws of the order of angles rest on
--- these.
+-- Whole numbers times a natural factor on the left. With the equations of `scales`, `simp scales` takes every such
+-- product apart, and `omega (arith, ints)` reads the rest. The laws of the order of angles are based on these.
 use Rattle.std.specs.Prelude.{◌≡◌, ℕ, ◌+◌, ◌*◌, ◌<◌, ◌≤◌, ℤ, pos, neg_ℤ, ◌+ℤ◌, ◌*ℤ◌, ◌≤ℤ◌, ◌<ℤ◌}
 use Rattle.std.specs.Ordering.{int_cmp, MatchOrdering}
 use Rattle.std.specs.declared.cmp.Ordering.{Ordering}
@@ -30,28 +29,28 @@ pub ruleset scales = (scale-sum, scale-neg, scale-scale)
 pub scale_comm : (j k : ℕ) (a : ℤ) → pos j *ℤ (pos k *ℤ a) ≡ pos k *ℤ (pos j *ℤ a)
 scale_comm j k a = scale-scale j k a ∙ ap (λ (n : ℕ). pos n *ℤ a) (mul_comm j k) ∙ sym (scale-scale k j a)
 
--- an order is kept by a factor
+-- a factor keeps an order
 pub scale-le : (k : ℕ) (a b : ℤ) → a ≤ℤ b → (pos k *ℤ a) ≤ℤ (pos k *ℤ b)
 scale-le k a b h =
     let m : k * (up a + down b) ≤ k * (up b + down a) = mul-le-mul_left k (le_out a b h) in omega (arith, ints)
 
--- a strict order is kept by a positive factor
+-- a positive factor keeps a strict order
 pub scale-lt : (k : ℕ) (a b : ℤ) → 0 < k → a <ℤ b → (pos k *ℤ a) <ℤ (pos k *ℤ b)
 scale-lt k a b p h = omega (arith, ints, mul-lt-mul_of_pos_right (lt_out a b h) p)
 
--- a factor is taken out of an order
+-- a positive factor cancels from an order
 pub le_of_scale : (k : ℕ) (a b : ℤ) → 0 < k → (pos k *ℤ a) ≤ℤ (pos k *ℤ b) → a ≤ℤ b
 le_of_scale k a b p h =
     let f : (up a + down b) * k ≤ (up b + down a) * k = omega (arith, ints) in
     at_most_in a b (le_of_mul-le-mul_right f p)
 
--- a factor comes out of a strict comparison
+-- a factor cancels from a strict order
 pub lt_of_scale : (k : ℕ) (a b : ℤ) → (pos k *ℤ a) <ℤ (pos k *ℤ b) → a <ℤ b
 lt_of_scale k a b h =
     let f : (up a + down b) * k < (up b + down a) * k = omega (arith, ints) in
     below_in a b (lt_of_mul-lt-mul_right k f)
 
--- a factor is taken out of an equation
+-- a positive factor cancels from an equation
 pub same_of_scale : (k : ℕ) (a b : ℤ) → 0 < k → pos k *ℤ a ≡ pos k *ℤ b → a ≡ b
 same_of_scale k a b p e =
     let f : (up a + down b) * k ≤ (up b + down a) * k = omega (arith, ints) in
@@ -60,14 +59,14 @@ same_of_scale k a b p e =
     let g' = le_of_mul-le-mul_right g p in
     omega (arith, ints)
 
--- a fact for each outcome, carried over
+-- implications for each outcome of a comparison carry the facts over
 rank-mono : {P Q R P' Q' R' : Type 0} (r : Ordering) → (P → P') → (Q → Q') → (R → R') → MatchOrdering r P Q R
     → MatchOrdering r P' Q' R'
 rank-mono Less f g h m = f m
 rank-mono Equal f g h m = g m
 rank-mono Greater f g h m = h m
 
--- a factor changes no comparison
+-- a positive factor changes no comparison
 pub cmp-scale : (k : ℕ) (a b : ℤ) → 0 < k → int_cmp (pos k *ℤ a) (pos k *ℤ b) ≡ int_cmp a b
 cmp-scale k a b p =
     int_cmp_is a b (int_cmp (pos k *ℤ a) (pos k *ℤ b))

@@ -6,25 +6,25 @@ use Rattle.std.specs.Str.Parse.{digits_value}
 use Rattle.sq_angle.specs.Fraction.{Fraction}
 use Rattle.sq_digits.specs.Characters.{decimal_point, minus_sign}
 
--- what a text is made of: its sign, the digits before the point and those after it
+-- the parts of a text: its sign, the digits before the point and those after it
 pub record Parts : Type 0 where
   pub negative : Bool
   pub whole : List ℕ
   pub decimals : List ℕ
 
--- one to three digits stand before the point, and digits alone after it
+-- there are one to three digits before the point, and only digits after it
 pub record IsSpelling (p : Parts) : Type 0 where
   pub one : 1 ≤ length p.whole
   pub three : length p.whole ≤ 3
   pub whole_digits : AllByRecursion IsAsciiDigit p.whole
   pub decimal_digits : AllByRecursion IsAsciiDigit p.decimals
 
--- `-` where the angle is negative
+-- `-` if the angle is negative, and otherwise nothing
 abbrev pub minus : Bool → List ℕ
 minus true = minus_sign ∷ []
 minus false = []
 
--- a point and the decimals, where there are any
+-- a point and the decimals, or nothing if there are no decimals
 abbrev pub fraction : List ℕ → List ℕ
 fraction [] = []
 fraction (d ∷ ds) = decimal_point ∷ d ∷ ds
@@ -33,7 +33,7 @@ fraction (d ∷ ds) = decimal_point ∷ d ∷ ds
 abbrev pub text_of : Parts → List ℕ
 text_of p = minus p.negative ++ p.whole ++ fraction p.decimals
 
--- the text is one of an angle, with these parts
+-- the text is that of an angle with these parts
 abbrev pub Spells : List ℕ → Parts → Type 0
 Spells text p = IsSpelling p × (text ≡ text_of p)
 
@@ -50,6 +50,6 @@ num_of p = signed p.negative (digits_value 10 (p.whole ++ p.decimals))
 abbrev pub den_of : Parts → ℕ
 den_of p = 10 ^ length p.decimals
 
--- both, as a fraction of degrees
+-- the value in degrees, as a fraction
 abbrev pub value_of : Parts → Fraction
 value_of p = record { num = num_of p; den = den_of p }

@@ -1,4 +1,4 @@
--- Whole numbers: what is unique, and what differs by a whole multiple.
+-- Unique values, and whole numbers that differ by a whole multiple.
 use Rattle.std.specs.Prelude.{◌≡◌, ℕ, ℤ, pos, ◌+ℤ◌, ◌*ℤ◌}
 
 -- exactly one value has the property

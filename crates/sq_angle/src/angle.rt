@@ -1,13 +1,13 @@
-//! An angle as a fraction, with its numerator and denominator as they were given.
+//! An angle as a fraction that is not reduced.
 ghost use Rattle.std.specs.Prelude.{◌≡◌, ◌↔◌, IsSome, IfSome};
 ghost use Rattle.sq_angle.specs.Bounds.{IsAngle};
 
-/// The most that a denominator may be.
+/// The greatest denominator of an angle.
 pub const MAX_DENOMINATOR: u64 = 1_000_000_000_000;
 
-/// An angle of `num / den` degrees, of at most 360 degrees to either side.
+/// An angle of `num / den` degrees, from -360 to 360.
 ///
-/// The denominator is from 1 to [`MAX_DENOMINATOR`]. Two angles are equal if they have one value.
+/// The denominator is from 1 to [`MAX_DENOMINATOR`]. Two angles are equal if they have the same value.
 #[derive(Clone, Copy, Debug)]
 pub struct Angle {
     num: i64,
@@ -18,8 +18,8 @@ pub struct Angle {
 impl Angle {
     ghost use Rattle.sq_angle.specs.Angle.{degrees};
 
-    /// The angle of `num / den` degrees. None exactly where the denominator is 0 or above [`MAX_DENOMINATOR`], or the
-    /// magnitude is above 360 degrees.
+    /// Returns the angle of `num / den` degrees. Returns `None` exactly if the denominator is 0 or above
+    /// [`MAX_DENOMINATOR`], or the magnitude is above 360 degrees.
     pub fn new(num: i64, den: u64) -> Option<Angle>
         ensures variant { IsSome result ↔ IsAngle num den }
         ensures value { IfSome result (λ a. degrees a ≡ record { num = num; den = den }) }
@@ -30,7 +30,7 @@ impl Angle {
         Some(Angle { num, den })
     }
 
-    /// The angle of `num / den` degrees, which is known to be one and is not tested again: the denominator is from 1 to
+    /// Returns the angle of `num / den` degrees without a test. The denominator has to be from 1 to
     /// [`MAX_DENOMINATOR`], and the magnitude at most 360 degrees.
     #[inline(always)]
     pub fn known(num: i64, den: u64) -> Angle

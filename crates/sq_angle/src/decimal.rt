@@ -44,8 +44,8 @@ impl Angle {
         push_seven(text, places % 10_000_000);
     }
 
-    /// The magnitude in whole ten-millionths of a degree, rounded, ties away from zero: the seven decimals of the text.
-    /// It is at most 180 * 10^7 where the angle is within 180 degrees.
+    /// Returns the magnitude in units of 10^-7 degree, rounded half up: the digits of the text with seven decimals.
+    /// The result is at most 180 * 10^7 if the angle is within 180 degrees.
     pub fn ten_millionths(&self) -> u64
         ensures value { IsNearest (magnitude (degrees self.now)) ten_millionth (pos result) }
         ensures small { result < 400 * 10 ^ 7 }
@@ -57,7 +57,7 @@ impl Angle {
     }
 }
 
-// Appends a number below 10^7 in seven digits.
+// Appends a number below 10^7 as seven digits.
 #[inline(always)]
 fn push_seven<const N: usize>(text: &mut TextBuffer<N>, number: u64)
     requires small { number < 10 ^ 7 }

@@ -1,12 +1,12 @@
-//! Exact angles, and positions of two of them.
+//! Exact angles, and positions made of two angles.
 //!
-//! An [`Angle`] is a fraction of whole numbers, in degrees. There is no floating point. Two angles compare by value, so
-//! 1/2 and 2/4 are equal. Reading a text returns its angle, or the first error in it. An angle is written with seven
-//! decimals, as the nearest whole number of ten-millionths. A [`Position`] is a latitude and a longitude within their
-//! limits. No call allocates or overflows, and none fails except by its result.
+//! An [`Angle`] is a fraction of whole numbers, in degrees. There is no floating point. Two angles compare by value,
+//! so 1/2 and 2/4 are equal. Reading a text returns its angle, or the first error in it. An angle is written with
+//! seven decimals, as the nearest whole number of ten-millionths. A [`Position`] is a latitude and a longitude within
+//! their limits. No call allocates, overflows or panics: errors are results.
 //!
-//! The crates above share the definitions (`specs/`) of fractions, of the nearest whole number of steps and of
-//! congruent numbers. They also share the lemmas on them (`specs/Scale.antt`, `proofs/`).
+//! The crates that depend on this one share its definitions (`specs/`) of fractions, of the nearest whole number of
+//! steps and of congruent numbers. They also share the lemmas on these (`specs/Scale.antt`, `proofs/`).
 #![tactic(auto)]
 
 pub mod angle;

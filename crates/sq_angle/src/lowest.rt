@@ -7,7 +7,7 @@ ghost use Rattle.sq_angle.specs.Lowest.{IsLowestFormOf};
 use crate::angle::Angle;
 
 impl Angle {
-    /// The numerator and the denominator in lowest terms: no number above 1 divides both. Zero is `(0, 1)`.
+    /// Returns the numerator and the denominator in lowest terms: no number above 1 divides both. Zero is `(0, 1)`.
     pub fn reduced(&self) -> (i64, u64)
         ensures { IsLowestFormOf (degrees self.now) (record { num = result.0; den = result.1 }) }
     {
@@ -18,7 +18,7 @@ impl Angle {
     }
 }
 
-// The parts of `num / den` without their common divisors.
+// Returns the parts of `num / den` without their common divisors.
 fn lowest_terms(num: u64, den: u64) -> (u64, u64)
     requires { 1 ≤ den }
     ensures num_at_most { result.0 ≤ num }
@@ -33,7 +33,8 @@ fn lowest_terms(num: u64, den: u64) -> (u64, u64)
     (num / divisor, den / divisor)
 }
 
-// The greatest common divisor. The powers of two are taken first: in the fractions of a grid they are most of it.
+// Returns the greatest common divisor. The powers of two are removed first: they are most of the divisor in the
+// fractions of a grid.
 fn gcd(a: u64, b: u64) -> u64
     requires { 0 < b }
     ensures { IsGcd a b result }

@@ -10,14 +10,14 @@ use crate::angle::Angle;
 use std::cmp::Ordering;
 
 impl Angle {
-    /// Whether the magnitude is at most so many degrees.
+    /// Returns whether the magnitude is at most `limit` degrees.
     pub fn is_within(&self, limit: u16) -> bool
         ensures { IsTrue result ↔ IsWithin limit (degrees self.now) }
     {
         self.num().unsigned_abs() <= u64::from(limit) * self.den()
     }
 
-    // This angle's numerator times the other's denominator: two angles compare as these products do.
+    // Returns this angle's numerator times the other's denominator. Two angles compare as these products do.
     fn times(&self, other: &Angle) -> i128
         ensures { result ≡ pos (degrees other.now).den *ℤ (degrees self.now).num }
     {

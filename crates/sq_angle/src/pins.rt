@@ -12,13 +12,13 @@ use crate::angle::Angle;
 use crate::position::Position;
 use crate::read::AngleFault;
 
-/// Two fractions have one value exactly if they have one form in lowest terms.
+/// Two fractions have the same value exactly if they have the same form in lowest terms.
 pub fn one_lowest_form()
     ensures fractions { OneLowestForm }
     ensures angles { OneLowestFormOfAngles }
 {}
 
-/// A fraction has one text with seven decimals.
+/// A fraction has at most one text with seven decimals.
 pub fn one_decimal7()
     ensures { OneDecimal7 }
 {}
@@ -28,43 +28,44 @@ pub fn some_decimal_writer()
     ensures { DecimalWriter }
 {}
 
-/// A text of an angle has one spelling.
+/// A text splits into the parts of an angle in at most one way.
 pub fn one_spelling()
     ensures { OneSpelling }
 {}
 
-/// The parts of a text are spelled exactly by the characters 0 to 9, one, two or three of them before the point.
+/// The parts of a text are valid exactly if all their characters are 0 to 9, and one, two or three are before the
+/// point.
 pub fn spelling_exactly()
     ensures { SpellingExactly }
 {}
 
-/// Reading a text has one answer: one angle or one fault.
+/// Reading a text has at most one result: one angle or one error.
 pub fn one_reading()
     ensures { OneReading }
 {}
 
-/// Whether two angles are equal by `==`: exactly if they have one value.
+/// Compares two angles by `==`, which is true exactly if they have the same value.
 pub fn equal_angles(a: &Angle, b: &Angle) -> bool
     ensures { IsTrue result ↔ (degrees a.now ≃ degrees b.now) }
 {
     a == b
 }
 
-/// Whether the first angle is below the second by `<`: exactly if its value is.
+/// Compares two angles by `<`, which is true exactly if the value of the first is below that of the second.
 pub fn is_below(a: &Angle, b: &Angle) -> bool
     ensures { IsTrue result ↔ (degrees a.now ≺ degrees b.now) }
 {
     a < b
 }
 
-/// Whether two positions are equal by `==`: exactly if both angles have one value.
+/// Compares two positions by `==`, which is true exactly if both latitudes and both longitudes have the same value.
 pub fn equal_positions(a: &Position, b: &Position) -> bool
     ensures { IsTrue result ↔ HaveEqualAngles a.now b.now }
 {
     a == b
 }
 
-/// Compares two faults of angles by `==`, which is true exactly if they are the same.
+/// Compares two angle errors by `==`, which is true exactly if they are the same.
 pub fn equal_angle_faults(fault: &AngleFault, other: &AngleFault) -> bool
     ensures { IsTrue result ↔ (fault.now ≡ other.now) }
 {

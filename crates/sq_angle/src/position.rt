@@ -5,9 +5,10 @@ ghost use Rattle.sq_angle.specs.Bounds.{IsPosition};
 
 use crate::angle::Angle;
 
-/// A place on the globe: at most 90 degrees of latitude, north positive, and at most 180 of longitude, east positive.
+/// A position on the globe: at most 90 degrees of latitude, north positive, and at most 180 of longitude, east
+/// positive.
 ///
-/// Two positions are equal if both angles are, by value.
+/// Two positions are equal if both angles are equal by value.
 #[derive(Clone, Copy, Debug, PartialEq, Eq)]
 pub struct Position {
     lat: Angle,
@@ -18,8 +19,8 @@ pub struct Position {
 impl Position {
     ghost use Rattle.sq_angle.specs.Position.{lat_of, lon_of};
 
-    /// The position of a latitude and a longitude. None exactly where the latitude's magnitude is above 90 degrees or
-    /// the longitude's above 180.
+    /// Returns the position of a latitude and a longitude. Returns `None` exactly if the magnitude of the latitude is
+    /// above 90 degrees or that of the longitude is above 180.
     pub fn new(lat: Angle, lon: Angle) -> Option<Position>
         ensures variant { IsSome result ↔ IsPosition (degrees lat) (degrees lon) }
         ensures value { IfSome result (λ p. (lat_of p ≡ lat) × (lon_of p ≡ lon)) }
@@ -30,8 +31,7 @@ impl Position {
         Some(Position { lat, lon })
     }
 
-    /// The position of a latitude and a longitude that are known to be within 90 and 180 degrees: they are not tested
-    /// again.
+    /// Returns the position of a latitude and a longitude without a test. They have to be within 90 and 180 degrees.
     #[inline(always)]
     pub fn known(lat: Angle, lon: Angle) -> Position
         requires { IsPosition (degrees lat) (degrees lon) }

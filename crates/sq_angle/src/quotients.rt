@@ -1,10 +1,10 @@
 //! Quotients by denominators.
 ghost use Rattle.std.specs.Prelude.{◌≡◌, ◌/◌, ◌<◌, ◌^◌};
 
-// The steps of a zone: the denominator of a grid's angles is this many times its zones.
+// The number of steps of a zone. The denominators of a grid's angles are its number of zones times this.
 const STEPS: u64 = 1 << 17;
 
-// 2^48 over each number, rounded up. Nothing is divided by 0.
+// 2^48 over each index, rounded up. Index 0 is not used.
 static RECIPROCALS: [u64; 128] = [
     0,
     281_474_976_710_656,
@@ -136,10 +136,10 @@ static RECIPROCALS: [u64; 128] = [
     2_216_338_399_297,
 ];
 
-/// `value / divisor`, rounded down.
+/// Returns `value / divisor`, rounded down.
 ///
-/// A division of 64 bits is slow. By a multiple of 2^17 below 2^24, as the denominators of a grid's points are and
-/// twice them, it multiplies instead.
+/// A 64-bit division is slow. If the divisor is a multiple of 2^17 below 2^24 and the value is below 2^56, it
+/// multiplies instead. The denominators of grid points are such divisors, and so are their doubles.
 #[inline(always)]
 pub fn quotient(value: u128, divisor: u64) -> u128
     requires { 0 < divisor }
@@ -151,7 +151,7 @@ pub fn quotient(value: u128, divisor: u64) -> u128
     divided(value, divisor)
 }
 
-// The quotient by a number below 128: the product with its reciprocal.
+// Returns the quotient by a number below 128, as the product with its reciprocal.
 #[inline(always)]
 fn by_zones(value: u64, zones: u64) -> u64
     requires value { value < 2 ^ 39 }
@@ -162,7 +162,7 @@ fn by_zones(value: u64, zones: u64) -> u64
     (u128::from(value) * u128::from(RECIPROCALS[zones as usize]) >> 48) as u64
 }
 
-// The quotient by any number. 64 bits divide faster than 128.
+// Returns the quotient by any number. A 64-bit division is faster than one of 128 bits.
 #[cold]
 #[inline(never)]
 fn divided(value: u128, divisor: u64) -> u128

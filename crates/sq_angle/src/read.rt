@@ -1,4 +1,4 @@
-//! Texts read as angles.
+//! Parsing texts as angles.
 ghost use Rattle.std.specs.Prelude.{◌≡◌, ◌↔◌, ◌≤◌, ◌<◌, ◌^◌, ◌++◌, ◌∷◌, IsTrue, false, MatchOption, List, ℕ, length};
 ghost use Rattle.std.specs.Bool.{OnFalse};
 ghost use Rattle.std.specs.Char.{IsAsciiDigit};
@@ -12,16 +12,16 @@ ghost use Rattle.sq_angle.specs.Spelling.{signed as signed_number};
 use crate::angle::Angle;
 use thiserror::Error;
 
-// The most digits that are read after the point.
+// The greatest number of digits after the point.
 const MAX_DECIMALS: usize = 12;
 
-/// Why a text is no angle: the first of these that it is.
+/// Why a text is not an angle: the first of these that applies.
 #[derive(Clone, Copy, Debug, PartialEq, Eq, Error)]
 #[error("{text}", text = self.label())]
 pub enum AngleFault {
     /// The text is not an optional `-`, one to three digits, and optionally a point and one or more digits.
     NotANumber,
-    /// More than twelve digits stand after the point.
+    /// There are more than twelve digits after the point.
     TooManyDecimals,
     /// The magnitude is above 360 degrees.
     OutOfRange,
@@ -30,7 +30,7 @@ pub enum AngleFault {
 impl AngleFault {
     ghost use Rattle.sq_angle.specs.Faults.{angle_fault_text};
 
-    /// Its text, which has no number, at most 17 bytes.
+    /// Returns the text of the error, at most 17 bytes. It has no number.
     pub fn label(self) -> &'static str
         ensures value { result.now ≡ angle_fault_text self }
         ensures short { length result.now ≤ 17 }
@@ -44,11 +44,11 @@ impl AngleFault {
 }
 
 impl Angle {
-    /// The angle that a text spells, in degrees: an optional `-`, one to three ASCII digits, and optionally a point and
-    /// one to twelve digits. The denominator is 10 to the number of decimals, so `-0.50` is -50 over 100.
+    /// Parses an angle in degrees: an optional `-`, one to three ASCII digits, and optionally a point and one to
+    /// twelve digits. The denominator is 10 to the number of decimals, so `-0.50` is -50 over 100.
     ///
-    /// The form of the whole text is looked at first, then the number of decimals, and the magnitude last. Each
-    /// [`AngleFault`] comes exactly where it is the first that the text has.
+    /// The form of the whole text is checked first, then the number of decimals, and then the magnitude. Returns an
+    /// [`AngleFault`] exactly if it is the first that applies.
     pub fn read(text: &str) -> Result<Angle, AngleFault>
         ensures { IsReading text.now result }
     {
@@ -67,7 +67,7 @@ impl Angle {
     }
 }
 
-// The parts of a text that spells an angle: its sign, the digits before the point and those after it.
+// The parts of the text of an angle: its sign, the digits before the point and those after it.
 #[derive(Clone, Copy)]
 struct Spelling<'a> {
     negative: bool,
@@ -75,7 +75,7 @@ struct Spelling<'a> {
     decimals: &'a str,
 }
 
-// The parts of the text, if it spells an angle with any number of decimals.
+// Returns the parts of the text if it has the form of an angle with any number of decimals.
 fn spelling_of(text: &str) -> Option<Spelling<'_>>
     ensures { MatchOption result ((p : Parts) → ¬ Spells text.now p)
         (λ s. Spells text.now (record { negative = s.negative; whole = s.whole.now; decimals = s.decimals.now })) }
@@ -118,21 +118,21 @@ fn around_point(text: &str) -> Option<(&str, &str)>
     Some((whole, decimals))
 }
 
-// Whether one to three digits stand before the point, and digits alone after it.
+// Returns whether `whole` is one to three digits and `decimals` has only digits.
 fn are_parts(whole: &str, decimals: &str) -> bool
     ensures { IsTrue result ↔ IsSpelling (record { negative = false; whole = whole.now; decimals = decimals.now }) }
 {
     matches!(whole.len(), 1..=3) && are_digits(whole) && are_digits(decimals)
 }
 
-// Whether each character is an ASCII digit.
+// Returns whether each character is an ASCII digit.
 fn are_digits(text: &str) -> bool
     ensures { IsTrue result ↔ AllByRecursion IsAsciiDigit text.now }
 {
     text.bytes().all(|byte| byte.is_ascii_digit())
 }
 
-// The number that at most twelve digits write, 0 where there are none.
+// Returns the number of at most twelve digits, or 0 if there are none.
 fn number_of(digits: &str) -> u64
     requires digits { AllByRecursion IsAsciiDigit digits.now }
     requires short { length digits.now ≤ 12 }
@@ -142,7 +142,7 @@ fn number_of(digits: &str) -> u64
     digits.parse().unwrap_or(0)
 }
 
-// The number with its sign.
+// Returns the magnitude with its sign.
 fn signed(negative: bool, magnitude: u64) -> i64
     requires { magnitude < 2 ^ 63 }
     ensures { result ≡ signed_number negative magnitude }

@@ -16,7 +16,7 @@ use Rattle.std.specs.List.{range_with_len}
 use Rattle.std.proofs.lemmas.List.FromFn.{map-range_with_len_more}
 use Rattle.std.proofs.Common.{map}
 
--- a bit of the lowest c bits
+-- the lowest c bits of a number are bits of the number
 low_bit : (m c k : ℕ) → k < c → bit_at (m % 2 ^ c) k ≡ bit_at m k
 low_bit m c k within =
     let j : ℕ = c - (k + 1) in
@@ -34,7 +34,7 @@ field_bit f first count k within =
 pow_byte_suc : (i : ℕ) → 2 ^ (8 * suc i) ≡ 2 ^ (8 * i) * 256
 pow_byte_suc i = subst (λ x. 2 ^ (8 * x) ≡ 2 ^ (8 * i) * 256) (add-one i) (pow_byte i)
 
--- the digits after a number stand for the lower part
+-- the digits after a number are its lower part
 after_parts : (n : ℕ) (ys : List ℕ)
     → number_from_digits_after 256 n ys ≡ n * 2 ^ (8 * length ys) + number_from_digits_after 256 0 ys
 after_parts n [] = omega arith
@@ -45,7 +45,7 @@ after_parts n (y ∷ ys) =
     let none = after_parts (0 * 256 + y) ys in
     rw wide (omega (arith, more, none))
 
--- one power to either base
+-- a power of 256 as a power of 2
 pow_256 : (k : ℕ) → 256 ^ k ≡ 2 ^ (8 * k)
 pow_256 zero = refl
 pow_256 (suc k) =
@@ -109,7 +109,7 @@ one_bit f place is begins within =
     let small = field_small f place 1 in
     omega (arith, at', small)
 
--- a field is the number that its bits spell
+-- a field is the number in its bits
 pub field_spelled : (f : Frame) (first count : ℕ) → IsFrame f → 1 ≤ first → first + count ≤ 113
     → quotient_of f first count ≡ number_from_digits 2 (map (bit_of f) (range_with_len first count))
 field_spelled f first zero is begins within = let small = field_small f first 0 in omega arith

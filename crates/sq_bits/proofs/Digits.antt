@@ -8,7 +8,7 @@ use Rattle.std.proofs.lemmas.List.{take_all}
 use Rattle.std.specs.Int.{to_le_bytes, to_be_bytes, from_le_bytes, from_be_bytes, swap_bytes, w16, w32, w64}
 use Rattle.std.specs.Int.Digits.{number_from_digits, AllBelowBase}
 
--- one more byte below it multiplies a bound by 256
+-- one more byte multiplies a bound by 256
 pub pow_byte : (i : ℕ) → 2 ^ (8 * (i + 1)) ≡ 2 ^ (8 * i) * 256
 pow_byte i = let e : 8 * (i + 1) ≡ 8 * i + 8 = omega arith in rw e (pow-add 2 (8 * i) 8)
 

@@ -11,7 +11,7 @@ use Rattle.sq_bits.proofs.Quotient.{field_at, quotient_of}
 abbrev pub replaced : ℕ → ℕ → ℕ → ℕ → ℕ
 replaced n b c v = n / 2 ^ (c + b) * 2 ^ (c + b) + (v * 2 ^ b + n % 2 ^ b)
 
--- what is below the field's upper end
+-- the bits below the field's upper end
 below_upper : (n b c v : ℕ) → v < 2 ^ c → v * 2 ^ b + n % 2 ^ b < 2 ^ (c + b)
 below_upper n b c v small =
     rw (pow-add 2 c b) (omega (arith, mul-add-lt v (2 ^ b) (n % 2 ^ b) (2 ^ c) small (mod_below n (2 ^ b) (pow_pos b))))
@@ -30,13 +30,13 @@ replaced-field n b c v small =
     ∙ ap (λ x. x / 2 ^ b) (mod_low (n / 2 ^ (c + b)) (c + b) (v * 2 ^ b + n % 2 ^ b) (below_upper n b c v small))
     ∙ shr_high v b (n % 2 ^ b) (mod_below n (2 ^ b) (pow_pos b))
 
--- a field above it is kept
+-- a field above it is unchanged
 replaced-above : (n b c v d e : ℕ) → v < 2 ^ c
     → replaced n b c v / 2 ^ ((c + b) + d) % 2 ^ e ≡ n / 2 ^ ((c + b) + d) % 2 ^ e
 replaced-above n b c v d e small =
     rw (← shr-shr (replaced n b c v) (c + b) d, ← shr-shr n (c + b) d, replaced-upper n b c v small) refl
 
--- the lowest b bits are kept
+-- the lowest b bits are unchanged
 replaced-low : (n b c v : ℕ) → replaced n b c v % 2 ^ b ≡ n % 2 ^ b
 replaced-low n b c v =
     let regrouped : replaced n b c v ≡ (n / 2 ^ (c + b) * 2 ^ c + v) * 2 ^ b + n % 2 ^ b =
@@ -44,7 +44,7 @@ replaced-low n b c v =
     ap (λ x. x % 2 ^ b) regrouped
     ∙ mod_low (n / 2 ^ (c + b) * 2 ^ c + v) b (n % 2 ^ b) (mod_below n (2 ^ b) (pow_pos b))
 
--- a remainder by a power of 2 has the smaller remainders of its number
+-- a remainder by a power of 2 has the same remainder by a smaller power as its number
 pub mod-mod_pow : (n j k : ℕ) → n % 2 ^ (j + k) % 2 ^ k ≡ n % 2 ^ k
 mod-mod_pow n j k = ap (λ x. x % 2 ^ k) (mod-pow-add n j k)
     ∙ mod_low (n / 2 ^ k % 2 ^ j) k (n % 2 ^ k) (mod_below n (2 ^ k) (pow_pos k))
@@ -61,7 +61,7 @@ same_low_field m n b e k same within =
     let same' : m % 2 ^ (d + (e + k)) ≡ n % 2 ^ (d + (e + k)) = rw whole at same in
     field_low m d e k ∙ ap (λ x. x % 2 ^ (e + k) / 2 ^ k) same' ∙ sym (field_low n d e k)
 
--- a field apart from it is kept
+-- a field apart from it is unchanged
 pub replaced-apart : (n v first count start len : ℕ) → v < 2 ^ count → 1 ≤ first → first + count ≤ 113
     → IsApart start len first count
     → field_at (replaced n (113 - first - count) count v) start len ≡ field_at n start len
@@ -76,7 +76,7 @@ replaced-apart n v first count start len small begins within (starts, ends, apar
       | inr after ↦ same_low_field (replaced n b count v) n b len k (replaced-low n b count v) (omega arith)
     ]
 
--- a number of w bits keeps them
+-- a number of w bits still has w bits
 pub replaced-lt : (w n b c v : ℕ) → n < 2 ^ w → c + b ≤ w → v < 2 ^ c → replaced n b c v < 2 ^ w
 replaced-lt w n b c v short within small =
     let j : ℕ = w - (c + b) in
@@ -87,7 +87,7 @@ replaced-lt w n b c v short within small =
     = mul-add-lt (n / 2 ^ (c + b)) (2 ^ (c + b)) (v * 2 ^ b + n % 2 ^ b) (2 ^ j) upper (below_upper n b c v small) in
     subst (λ x. replaced n b c v < 2 ^ x) (sym whole) (rw (pow-add 2 j (c + b)) (omega arith))
 
--- the code's step: the old field is taken away, and the new one added
+-- the step of the code: it subtracts the old field and adds the new one
 pub written : (n b c v : ℕ) → n < 2 ^ 112 → c + b ≤ 112 → v < 2 ^ c
     → ((n / 2 ^ b % 2 ^ c) * 2 ^ b % 2 ^ 128 ≤ n)
     × (n - (n / 2 ^ b % 2 ^ c) * 2 ^ b % 2 ^ 128 + v * 2 ^ b % 2 ^ 128 ≡ replaced n b c v)
@@ -100,7 +100,7 @@ written n b c v short within small =
     let whole = parts n b c in
     (omega arith, omega arith, replaced-lt 112 n b c v short within small)
 
--- a field is its leading bits and the ones after them
+-- a field is its leading bits followed by the others
 pub field_parts : (f : Frame) (first a b : ℕ) → 1 ≤ first → first + (a + b) ≤ 113
     → quotient_of f first (a + b) ≡ quotient_of f first a * 2 ^ b + quotient_of f (first + a) b
 unfolding quotient_of

@@ -1,4 +1,4 @@
--- Multiples of the generator: closed under sums and shifts, and none but 0 below 2^24.
+-- Multiples of the generator: they are closed under sums and shifts, and only 0 is below 2^24.
 use Rattle.std.proofs.Common.{◌≡◌, ℕ, ◌+◌, ◌*◌, ◌/◌, ◌<◌, ◌≤◌, ◌^◌, Bool, true, false, cond, List, [], ◌∷◌, bit_xor}
 use Rattle.std.proofs.Common.{refl, sym, ap, ◌∙◌, arith, inl, inr, ◌⊎◌}
 use Rattle.std.proofs.lemmas.Nat.{xor_comm, xor_lt, xor_shr}
@@ -76,7 +76,7 @@ pub IsMultiple-twice : (n : ℕ) → IsMultiple n → IsMultiple (2 * n)
 unfolding IsMultiple carryless_product
 IsMultiple-twice n (p, e) = (false ∷ p, ap (λ x. 2 * x) e)
 
--- 2 * n plus the generator
+-- twice a multiple plus the generator is a multiple
 pub IsMultiple-twice_more : (n : ℕ) → IsMultiple n → IsMultiple (bit_xor generator (2 * n))
 unfolding IsMultiple carryless_product
 IsMultiple-twice_more n (p, e) = (true ∷ p, ap (λ x. bit_xor generator (2 * x)) e)
@@ -115,7 +115,7 @@ pub same_from_xor : (a b : ℕ) → bit_xor a b ≡ 0 → a ≡ b
 same_from_xor a b none =
     sym (xor_zero_r a) ∙ ap (λ x. bit_xor a x) (sym (xor_self b)) ∙ sym (xor_assoc a b b) ∙ ap (λ x. bit_xor x b) none
 
--- a number has one remainder
+-- a number has at most one remainder
 pub IsRemainder-unique : (n r s : ℕ) → IsRemainder n r → IsRemainder n s → r ≡ s
 IsRemainder-unique n r s (small, is) (small', is') =
     let both = IsMultiple-xor (bit_xor n r) (bit_xor n s) is is' in

@@ -1,14 +1,14 @@
--- The places of fields: which lie apart.
+-- Fields that lie apart.
 use Rattle.std.proofs.Common.{◌+◌, ◌<◌, ◌≤◌, ◌⊎◌, inl, inr, ℕ, arith}
 use Rattle.std.proofs.lemmas.Bool.{cases_lt}
 
--- no place is one of both
+-- fields that lie apart share no bit
 pub no_common_place : (start len first count : ℕ) → (start + len ≤ first) ⊎ (first + count ≤ start) → (place : ℕ)
     → start ≤ place → place < start + len → first ≤ place → place < first + count → ⊥
 no_common_place start len first count (inl before) place from below first_from first_below = absurd (omega arith)
 no_common_place start len first count (inr after) place from below first_from first_below = absurd (omega arith)
 
--- where no place is common, one range ends before the other begins
+-- if two ranges share no place, one ends before the other begins
 pub ends_before : (start len first count : ℕ) → 0 < len → 0 < count
     → ((place : ℕ) → start ≤ place → place < start + len → first ≤ place → place < first + count → ⊥)
     → (start + len ≤ first) ⊎ (first + count ≤ start)

@@ -1,4 +1,4 @@
--- A field as a quotient's remainder: what the code computes.
+-- A field as the remainder of a quotient, as the code computes it.
 use Rattle.std.proofs.Common.{ℕ, ◌-◌, ◌/◌, ◌%◌, ◌^◌}
 use Rattle.sq_bits.specs.declared.frame.Frame.{Frame}
 use Rattle.sq_bits.specs.Frames.{frame_number}

@@ -1,4 +1,4 @@
--- Steps of the remainder.
+-- The steps of computing a remainder.
 use Rattle.std.proofs.Common.{◌≡◌, ℕ, ◌+◌, ◌-◌, ◌*◌, ◌/◌, ◌%◌, ◌<◌, ◌≤◌, ◌^◌, bit_xor, refl, sym, ap, ◌∙◌, arith, zero}
 use Rattle.std.proofs.Common.{suc, subst, inl, inr}
 use Rattle.std.proofs.Math.Nat.{pow-suc}
@@ -23,13 +23,13 @@ appended n r b small =
     let out : bit_xor n r * 2 ^ 1 + bit_xor b b ≡ 2 * bit_xor n r = omega (arith, xor_self b) in
     rw (left, right) (block ∙ out)
 
--- below 2 ^ 24 nothing is taken away
+-- below 2^24 nothing is subtracted
 pub IsRemainder-kept : (n r b : ℕ) → b < 2 → r * 2 + b < 2 ^ 24 → IsRemainder n r → IsRemainder (2 * n + b) (r * 2 + b)
 IsRemainder-kept n r b bit small (low, is) =
     let turned : r * 2 + b ≡ 2 * r + b = omega arith in
     (small, rw (turned, appended n r b bit) (IsMultiple-twice (bit_xor n r) is))
 
--- the generator's highest bit takes away the one that came up
+-- the highest bit of the generator cancels the highest bit of the number
 pub reduced-lt : (m : ℕ) → 2 ^ 24 ≤ m → m < 2 ^ 25 → bit_xor m generator < 2 ^ 24
 reduced-lt m high low =
     let shifted : bit_xor m generator / 2 ^ 24 ≡ bit_xor (m / 2 ^ 24) (generator / 2 ^ 24) = xor_shr m generator 24 in
@@ -46,7 +46,7 @@ IsRemainder-reduced n r b bit high (low, is) =
     ∙ ap (λ x. bit_xor x generator) (appended n r b bit) ∙ xor_comm (2 * bit_xor n r) generator in
     (reduced-lt (r * 2 + b) high (omega arith), rw sum (IsMultiple-twice_more (bit_xor n r) is))
 
--- a number with less than 24 bits added to it keeps the bits above
+-- adding a number below 2^24 leaves the bits above unchanged
 pub upper_kept : (n r : ℕ) → r < 2 ^ 24 → bit_xor n r / 2 ^ 24 ≡ n / 2 ^ 24
 upper_kept n r small =
     let none : r / 2 ^ 24 ≡ 0 = omega arith in
@@ -83,7 +83,7 @@ IsRemainder-moved m n t is (small, rest) =
     ∙ ap (λ x. bit_xor m x) (sym (xor_assoc n n t) ∙ ap (λ x. bit_xor x t) (xor_self n)) in
     (small, rw sum at both)
 
--- the three bytes of a remainder go out, and with them their remainders come in
+-- the three bytes of a remainder are replaced by their remainders
 IsRemainder-bytes : (h m l w a b c : ℕ) → m < 256 → l < 256 → w < 2 ^ 24
     → IsRemainder (h * 2 ^ 40) a → IsRemainder (m * 2 ^ 32) b → IsRemainder (l * 2 ^ 24) c
     → IsRemainder (h * 2 ^ 40 + (m * 2 ^ 32 + (l * 2 ^ 24 + w))) (bit_xor a (bit_xor b (bit_xor c w)))
@@ -100,7 +100,7 @@ IsRemainder-bytes h m l w a b c middle low word first second third =
     subst (λ k. IsRemainder k (bit_xor a (bit_xor b (bit_xor c w)))) all
     (IsRemainder-sum (h * 2 ^ 40) (m * 2 ^ 32 + (l * 2 ^ 24 + w)) a (bit_xor b (bit_xor c w)) first y)
 
--- 24 more coefficients w
+-- the remainder after 24 more coefficients w
 pub IsRemainder-word : (n r w a b c : ℕ) → w < 2 ^ 24 → IsRemainder n r
     → IsRemainder (r / 2 ^ 16 * 2 ^ 40) a → IsRemainder (r / 2 ^ 8 % 256 * 2 ^ 32) b → IsRemainder (r % 256 * 2 ^ 24) c
     → IsRemainder (n * 2 ^ 24 + w) (bit_xor a (bit_xor b (bit_xor c w)))
@@ -116,7 +116,7 @@ IsRemainder-word n r w a b c word is first second third =
     (omega arith) word first second third in
     IsRemainder-moved (n * 2 ^ 24 + w) (r * 2 ^ 24 + w) (bit_xor a (bit_xor b (bit_xor c w))) moved (rw parts at bytes)
 
--- one more bit after a number with a remainder
+-- a number with a remainder has one after one more bit
 remainder_more : (n r b : ℕ) → b < 2 → IsRemainder n r → (s : ℕ) × IsRemainder (2 * n + b) s
 remainder_more n r b bit is = elim (cases_lt (r * 2 + b) 16777216) [
   | inl low ↦ (r * 2 + b, IsRemainder-kept n r b bit (omega arith) is)

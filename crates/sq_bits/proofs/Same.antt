@@ -45,7 +45,7 @@ same_sealed f g x y p q e =
     let g_small = frame_number-lt g y in
     same_frame f g x y (same_multiple (frame_number f) (frame_number g) p q (omega arith))
 
--- the number of an exclusive or is that of the numbers
+-- the number of an exclusive or is the exclusive or of the numbers
 xor_numbers : (m n : ℕ) (xs ys : List ℕ) → length xs ≡ length ys → AllBelowBase 256 xs → AllBelowBase 256 ys
     → number_from_digits_after 256 (bit_xor m n) (xor_bytes xs ys)
     ≡ bit_xor (number_from_digits_after 256 m xs) (number_from_digits_after 256 n ys)

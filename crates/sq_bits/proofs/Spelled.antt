@@ -1,4 +1,4 @@
--- Fields as the numbers that bits spell.
+-- Fields as the numbers in their bits.
 use Rattle.std.proofs.Common.{◌≡◌, ℕ, zero, suc, ◌+◌, ◌*◌, ◌/◌, ◌<◌, ◌≤◌, ◌^◌, map, refl, sym, ap, ◌∙◌, subst, arith}
 use Rattle.std.proofs.Common.{add-one}
 use Rattle.std.proofs.Math.Nat.{pow-suc}
@@ -14,7 +14,7 @@ use Rattle.sq_bits.proofs.Quotient.{quotient_of}
 use Rattle.sq_bits.proofs.BitLaws.{field_spelled}
 use Rattle.sq_bits.proofs.Same.{same_sealed as same_sealed_quotient}
 
--- what the code computes is the field
+-- the number that the code computes is the field
 pub quotient_is : (f : Frame) (first count : ℕ) → IsFrame f → 1 ≤ first → first + count ≤ 113
     → quotient_of f first count ≡ field_of f first count
 unfolding field_of
@@ -35,7 +35,7 @@ field_none : (f : Frame) (first : ℕ) → field_of f first 0 ≡ 0
 unfolding field_of
 field_none f first = refl
 
--- a field is its leading bits and the ones after them
+-- a field is its leading bits followed by the others
 pub field_parts : (f : Frame) (first a b : ℕ)
     → field_of f first (a + b) ≡ field_of f first a * 2 ^ b + field_of f (first + a) b
 field_parts f first a zero =
@@ -80,7 +80,7 @@ same_sealed f g x y p q e =
     same_sealed_quotient f g x y p q
     (quotient_is f 1 88 x (omega arith) (omega arith) ∙ e ∙ sym (quotient_is g 1 88 y (omega arith) (omega arith)))
 
--- a field of two parts: its leading bits spell the first part, its trailing bits the second
+-- a field of two parts: its leading bits are the first part, and its trailing bits the second
 pub split_field : (f : Frame) (first a b x y : ℕ) → y < 2 ^ b → field_of f first (a + b) ≡ x * 2 ^ b + y
     → (field_of f first a ≡ x) × (field_of f (first + a) b ≡ y)
 split_field f first a b x y small is =

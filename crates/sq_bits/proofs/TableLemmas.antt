@@ -1,4 +1,5 @@
--- The tables of remainders: each entry is what eight steps make of its byte, or of the entry of the table before.
+-- The tables of remainders: each entry is the result of eight steps from its byte, or from the entry of the previous
+-- table.
 use Rattle.std.proofs.Common.{◌≡◌, ℕ, ◌+◌, ◌*◌, ◌<◌, ◌^◌, cond, ltb, map, get_or, bit_xor, refl, sym, ap, ◌∙◌, subst}
 use Rattle.std.proofs.Common.{inl, inr, arith}
 use Rattle.std.proofs.lemmas.Bool.{cases_lt, le-ltb, lt-ltb}
@@ -11,7 +12,7 @@ use Rattle.sq_bits.specs.declared.table.TheConstants.{REMAINDERS, REMAINDERS_32,
 use Rattle.sq_bits.proofs.Multiples.{IsMultiple-zero}
 use Rattle.sq_bits.proofs.Remainders.{IsRemainder-kept, IsRemainder-reduced}
 
--- one more coefficient 0
+-- the remainder after one more coefficient 0
 abbrev step : ℕ → ℕ
 step r = cond (ltb (r * 2) 16777216) (r * 2) (bit_xor (r * 2) generator)
 
@@ -56,7 +57,7 @@ IsRemainder-entry b small =
     = ap (λ t. get_or t b 0) table_is ∙ get_or-map-range_with_len of_byte 0 256 b b 0 small (omega arith) in
     subst (λ x. IsRemainder (b * 2 ^ 24) x) (sym entry) (IsRemainder-of_byte b small)
 
--- eight more coefficients 0
+-- the remainder after eight more coefficients 0
 abbrev eight : ℕ → ℕ
 eight r = step (step (step (step (step (step (step (step r)))))))
 

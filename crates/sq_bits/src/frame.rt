@@ -5,7 +5,7 @@ ghost use Rattle.std.specs.Int.Digits.{AllBelowBase};
 use crate::laws::each_frame;
 use crate::parity::remainder_of;
 
-// The numbers of three bytes.
+// The number of values of three bytes.
 const WORD: u128 = 1 << 24;
 
 /// The 112 bits of an extended squitter (ICAO Annex 10 volume IV, section 3.1.2.3), numbered from 1 to 112: bit 1 is
@@ -17,7 +17,8 @@ impl Frame {
     ghost use Rattle.sq_bits.specs.Frames.{frame_number, field_of, IsApart, IsFrame, word, word_at};
     ghost use Rattle.sq_bits.specs.Parity.{IsMultiple};
 
-    // The frame as one number of 112 bits, from two numbers of eight and six bytes: the quick way for bytes in memory.
+    // Returns the frame as one number of 112 bits, from two numbers of eight and six bytes. This is fast for bytes in
+    // memory.
     #[inline(always)]
     pub(crate) fn number(&self) -> u128
         ensures value { result ≡ frame_number self.now }
@@ -28,7 +29,8 @@ impl Frame {
         u128::from(self.front()) << 48 | u128::from(self.back())
     }
 
-    // The same number from five words: the quick way where the bytes were just set, since the compiler sees through it.
+    // Returns the frame as one number of 112 bits, from five words. This is fast if the bytes were just set, since
+    // the compiler sees through it.
     #[inline(always)]
     pub(crate) fn number_by_words(&self) -> u128
         ensures value { result ≡ frame_number self.now }
@@ -45,7 +47,7 @@ impl Frame {
         (((head * WORD + second) * WORD + third) * WORD + fourth) * WORD + fifth
     }
 
-    // The first eight bytes as a number: their words of two, three and three bytes.
+    // Returns the first eight bytes as a number, made of words of two, three and three bytes.
     #[inline(always)]
     pub(crate) fn front(&self) -> u64
         ensures first { result / 2 ^ 48 ≡ word 0 (slice_index self.now.0 0) (slice_index self.now.0 1) }
@@ -58,7 +60,7 @@ impl Frame {
         ])
     }
 
-    // The last six bytes as a number: two words of three bytes.
+    // Returns the last six bytes as a number, made of two words of three bytes.
     #[inline(always)]
     pub(crate) fn back(&self) -> u64
         ensures fourth { result / 2 ^ 24 ≡ word_at self.now.0 8 }
@@ -71,7 +73,7 @@ impl Frame {
         ])
     }
 
-    // The frame of a number of 112 bits.
+    // Returns the frame of a number of 112 bits.
     #[inline(always)]
     pub(crate) fn from_number(number: u128) -> Frame
         requires { number < 2 ^ 112 }
@@ -85,8 +87,8 @@ impl Frame {
         )
     }
 
-    // Makes a frame of its first eight bytes, the next four and the last two, each as one number. The bytes are swapped
-    // first since LLVM then stores a number as one word; with `to_be_bytes` it stored single bytes.
+    // Makes a frame of its first eight bytes, the next four and the last two, each as one number. The bytes are
+    // swapped first, since LLVM then stores a number as one word. With `to_be_bytes` it stored single bytes.
     fn from_parts(first: u64, middle: u32, last: u16) -> Frame
         ensures value { frame_number result ≡ (first * 2 ^ 32 + middle) * 2 ^ 16 + last }
         ensures frame { IsFrame result }
@@ -103,7 +105,7 @@ impl Frame {
     /// Returns the correct frame with `head` (DF, CA and address) in bits 1 to 32 and `me` in bits 33 to 88 (ICAO Annex
     /// 10 volume IV, section 3.1.2.3). Bits 89 to 112, the parity field, follow from them.
     ///
-    /// `me` is below 2^56.
+    /// `me` has to be below 2^56.
     pub fn of_words(head: u32, me: u64) -> Frame
         requires { me < 2 ^ 56 }
         ensures head { field_of result 1 32 ≡ head }
@@ -115,9 +117,9 @@ impl Frame {
         Frame::from_number(number ^ u128::from(remainder_of(number)))
     }
 
-    /// The bits `first` to `first + count - 1` as a number, the most significant first.
+    /// Returns the bits `first` to `first + count - 1` as a number, the most significant first.
     ///
-    /// `first` is at least 1, `count` is from 1 to 56, and the last of these bits is at most bit 112.
+    /// `first` has to be at least 1 and `count` from 1 to 56. The last bit has to be at most bit 112.
     #[inline(always)]
     pub fn field(&self, first: u8, count: u8) -> u64
         requires begins { 1 ≤ first }
@@ -131,9 +133,9 @@ impl Frame {
         ((self.number() >> below) % (1 << count)) as u64
     }
 
-    /// The frame with `value` in the bits `first` to `first + count - 1`; no other bit changes.
+    /// Returns the frame with `value` in the bits `first` to `first + count - 1`. All other bits are unchanged.
     ///
-    /// The bits are as for [`Frame::field`], and `value` is below 2 to the number of bits.
+    /// The limits of the bits are those of [`Frame::field`], and `value` has to be below 2^`count`.
     pub fn with_field(&self, first: u8, count: u8, value: u64) -> Frame
         requires begins { 1 ≤ first }
         requires some { 1 ≤ count }
@@ -151,7 +153,7 @@ impl Frame {
     }
 }
 
-// Three bytes as one number.
+// Returns three bytes as one number.
 #[inline(always)]
 fn word_of(high: u8, middle: u8, low: u8) -> u32
     ensures value { result ≡ (high * 256 + middle) * 256 + low }
@@ -160,7 +162,7 @@ fn word_of(high: u8, middle: u8, low: u8) -> u32
     (u32::from(high) * 256 + u32::from(middle)) * 256 + u32::from(low)
 }
 
-// What the type says of bytes.
+// States that each byte is below 256, by its type.
 pub(crate) fn are_bytes(bytes: &[u8])
     ensures { AllBelowBase 256 bytes.now }
 {}

@@ -6,7 +6,7 @@ ghost use Rattle.sq_bits.specs.Parity.{IsRemainder};
 
 use crate::frame::{Frame, are_bytes};
 
-/// Each frame of a program is 14 bytes.
+/// Every frame of a program is 14 bytes.
 pub fn each_frame(frame: &Frame)
     ensures { IsFrame frame.now }
 {

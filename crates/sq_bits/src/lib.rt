@@ -1,8 +1,8 @@
-//! Bit fields of a 112-bit frame, and its 24-bit parity, a CRC.
+//! Bit fields of a 112-bit frame, and its 24-bit parity (CRC).
 //!
-//! A field is the number that its bits spell, the most significant bit first. The remainder of a frame is the one
-//! number below 2^24 that, added to its last 24 bits, makes its polynomial a multiple of the generator, so that it is 0
-//! exactly for a correct frame. Others call it the syndrome, or the CRC's remainder. No call takes memory.
+//! A field is the number in its bits, the most significant bit first. The remainder of a frame is the one number
+//! below 2^24 that makes the frame a multiple of the generator when it is added to the last 24 bits. It is 0 exactly
+//! for a correct frame, and it is also called the syndrome or the CRC remainder. No call allocates.
 #![tactic(auto)]
 
 mod frame;

@@ -9,8 +9,8 @@ use crate::table::{remainder_of_byte, remainder_of_byte_32, remainder_of_byte_40
 // The bits of three bytes.
 const WORD_MASK: u128 = 0xFF_FFFF;
 
-/// The remainder of the frame's polynomial by the generator 0x1FFF409, below 2^24, and 0 exactly for a correct frame
-/// (ICAO Annex 10 volume IV, section 3.1.2.3.3).
+/// Returns the remainder of the frame's polynomial by the generator 0x1FFF409, below 2^24. It is 0 exactly for a
+/// correct frame (ICAO Annex 10 volume IV, section 3.1.2.3.3).
 #[inline(always)]
 pub fn remainder(frame: &Frame) -> u32
     ensures { IsRemainder (frame_number frame.now) result }
@@ -18,7 +18,7 @@ pub fn remainder(frame: &Frame) -> u32
     remainder_of(frame.number())
 }
 
-// The remainder of the polynomial of a number of 112 bits, three bytes at a time.
+// Returns the remainder of the polynomial of a number of 112 bits, three bytes at a time.
 #[inline(always)]
 pub(crate) fn remainder_of(number: u128) -> u32
     requires { number < 2 ^ 112 }
@@ -31,7 +31,7 @@ pub(crate) fn remainder_of(number: u128) -> u32
     append_word(fourth, (number & WORD_MASK) as u32)
 }
 
-// The remainder of a polynomial with 24 more coefficients after the others.
+// Returns the remainder of a polynomial with 24 more coefficients appended, from its remainder without them.
 #[inline(always)]
 fn append_word(remainder: u32, word: u32) -> u32
     requires small { remainder < 2 ^ 24 }
@@ -44,7 +44,8 @@ fn append_word(remainder: u32, word: u32) -> u32
     high ^ (middle ^ (low ^ word))
 }
 
-/// The frame with bits 89 to 112, the parity field, set so that the remainder is 0; no other bit changes.
+/// Returns the frame with bits 89 to 112, the parity field, set so that the remainder is 0. All other bits are
+/// unchanged.
 pub fn sealed(frame: &Frame) -> Frame
     ensures multiple { IsMultiple (frame_number result) }
     ensures frame { IsFrame result }

@@ -7,20 +7,19 @@ ghost use Rattle.sq_bits.specs.Parity.{IsRemainder};
 
 use crate::frame::Frame;
 
-/// A number has one remainder.
+/// A number has at most one remainder.
 pub fn one_remainder()
     ensures { (n r s : ℕ) → IsRemainder n r → IsRemainder n s → r ≡ s }
 {}
 
-/// A field lies apart from another one exactly if its places are bits of a frame and none of them is one of the
-/// other's.
+/// A field lies apart from another one exactly if its bits are bits of a frame and the two fields share no bit.
 pub fn apart_exactly()
     ensures { (start len first count : ℕ) → 0 < len → 0 < count → IsApart start len first count
         ↔ ((1 ≤ start) × (start + len ≤ 113)
         × ((place : ℕ) → start ≤ place → place < start + len → first ≤ place → place < first + count → ⊥)) }
 {}
 
-/// The fields before a bit are kept exactly if each bit before it is.
+/// All fields before a bit are unchanged exactly if each bit before it is unchanged.
 pub fn fields_kept_exactly()
     ensures { (bit : ℕ) (old new : Frame) → KeepsFieldsBefore bit old new
         ↔ ((place : ℕ) → 1 ≤ place → place < bit → bit_of new place ≡ bit_of old place) }

@@ -35,7 +35,7 @@ static REMAINDERS: [u32; 256] = [
     0x05EC92, 0xFA189B, 0x05F089, 0xFA0480,
 ];
 
-// The remainder of a byte with 24 zero bits after it.
+// Returns the remainder of a byte with 24 zero bits after it.
 pub(crate) fn remainder_of_byte(byte: u8) -> u32
     ensures { IsRemainder (byte * 2 ^ 24) result }
 {
@@ -75,7 +75,7 @@ static REMAINDERS_32: [u32; 256] = [
     0x135E3F, 0x1D53BF, 0x0F453F, 0x0148BF,
 ];
 
-// The remainder of a byte with 32 zero bits after it.
+// Returns the remainder of a byte with 32 zero bits after it.
 pub(crate) fn remainder_of_byte_32(byte: u8) -> u32
     ensures { IsRemainder (byte * 2 ^ 32) result }
 {
@@ -115,7 +115,7 @@ static REMAINDERS_40: [u32; 256] = [
     0xA137CA, 0xACE38B, 0xBA9F48, 0xB74B09,
 ];
 
-// The remainder of a byte with 40 zero bits after it.
+// Returns the remainder of a byte with 40 zero bits after it.
 pub(crate) fn remainder_of_byte_40(byte: u8) -> u32
     ensures { IsRemainder (byte * 2 ^ 40) result }
 {

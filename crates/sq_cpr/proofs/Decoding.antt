@@ -1,4 +1,4 @@
--- What codes are decoded to, near a reference and in pairs: that there is an answer, and one alone.
+-- Decoding codes near a reference and in pairs: there is a result, and only one.
 pub mod AirLaw
 pub mod Decoded
 pub mod NearLaw

@@ -1,4 +1,4 @@
--- Close, tame and slow points and positions, and what their definitions say exactly.
+-- Close, tame and slow points and positions, and the exact conditions of their definitions.
 pub mod Agree
 pub mod CloseLaw
 pub mod Exact

@@ -2,7 +2,7 @@
 use Rattle.std.specs.Prelude.{ℕ}
 use Rattle.sq_cpr.specs.declared.code.Code.{Code}
 
--- the latitude's number and the longitude's
+-- the latitude number (YZ) and the longitude number (XZ)
 pub record CodeNumbers : Type 0 where
   pub lat : ℕ
   pub lon : ℕ

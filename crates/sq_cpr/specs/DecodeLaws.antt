@@ -20,7 +20,7 @@ use Rattle.sq_cpr.specs.Pair.{CodePair, of_parity, HaveTwoCounts, AirPairAnswer,
 use Rattle.sq_cpr.specs.Rounds.{PositionRoundsTo}
 use Rattle.sq_cpr.specs.Slow.{AreSlow, AreSlowForFollowing, AreWithin, IsPointWithin}
 
--- the windows with fractions mean what their multiplied-out forms mean
+-- the windows with fractions agree with their multiplied-out forms
 pub record FractionsAgree (span : Span) : Type 0 where
   pub near : (zones : ℕ) (index : ℤ) (r : Fraction) → 0 < zones → LiesWithin 1 span.degrees zones index r
       ↔ IsNear (half_zone span.degrees zones) r (angle_at span.degrees zones index)
@@ -36,14 +36,14 @@ OneNearLatitude span =
     (parity : Parity) (lat : Fraction) (code : ℕ) → 0 < lat.den
     → ExactlyOne (IsNearLatitude span.degrees parity lat code)
 
--- exactly one longitude index on the circle with this code is near a longitude, whatever the number of zones
+-- exactly one longitude index on the circle with this code is near a longitude, for any number of zones
 abbrev pub OneNearLongitude : Span → Type 0
 OneNearLongitude span =
     (zones : ℕ) (lon : Fraction) (code : ℕ) → 0 < zones → 0 < lon.den
     → ExactlyOne (λ (index : ℕ). (index < circle zones span.repeats) × IsCongruent codes_of_zone (pos index) (pos code)
     × IsNearLongitude span zones lon index)
 
--- decoding near a reference has one answer
+-- decoding near a reference has at most one result
 abbrev pub OneLocalAnswer : Span → Type 0
 OneLocalAnswer span =
     (code : CodeNumbers) (parity : Parity) (lat lon : Fraction) (answer other : Result Point LocalFault) → 0 < lat.den
@@ -56,7 +56,7 @@ abbrev pub StrictlyNearIsNear : Span → Type 0
 StrictlyNearIsNear span = (lat lon : Fraction) (point : Point)
     → IsStrictlyNearPoint span lat lon point → IsNearPoint span lat lon point
 
--- a point with this code that is near the reference is the answer
+-- a near point with the code is the result of local decoding
 abbrev pub NearPointIsLocal : Span → Type 0
 NearPointIsLocal span =
     (code : CodeNumbers) (parity : Parity) (lat lon : Fraction) (answer : Result Point LocalFault) (point : Point)
@@ -65,7 +65,7 @@ NearPointIsLocal span =
     → IsGridPoint span point → point.parity ≡ parity → HasCode point code
     → IsNearPoint span lat lon point → answer ≡ Ok point
 
--- a strictly near point with the code is the answer of local decoding
+-- a strictly near point with the code is the result of local decoding
 abbrev pub StrictlyNearPointIsLocal : Span → Type 0
 StrictlyNearPointIsLocal span =
     (code : CodeNumbers) (parity : Parity) (lat lon : Fraction) (answer : Result Point LocalFault) (point : Point)
@@ -86,7 +86,7 @@ pub record IndexPair : Type 0 where
   pub odd : ℕ
 
 -- Any two codes have exactly one close pair on an even and an odd grid. Angles that differ by whole spans count as
--- one: each index is below the steps of a span.
+-- one: each index is below the number of steps of a span.
 abbrev pub HaveOneClosePair : (degrees even_zones odd_zones : ℕ) → Type 0
 HaveOneClosePair degrees even_zones odd_zones =
     (even odd : ℕ) → ExactlyOne (λ (pair : IndexPair). (pair.even < even_zones * codes_of_zone)
@@ -100,11 +100,11 @@ abbrev pub OneCloseLongitudes : Span → Type 0
 OneCloseLongitudes span =
     (count : ℕ) → 1 ≤ count → count ≤ 59 → HaveOneClosePair span.degrees (zones_of Even count) (zones_of Odd count)
 
--- where each grid has one zone any two angles are close
+-- if each grid has one zone, any two angles are close
 abbrev pub OneZoneIsClose : Span → Type 0
 OneZoneIsClose span = (p q : ℤ) → IsClose span.degrees 1 1 p q
 
--- decoding a pair has one answer
+-- decoding a pair has at most one result
 abbrev pub OnePairAnswer : Span → Type 0
 OnePairAnswer span =
     (codes : CodePair) (lat lon : Fraction) (answer other : Result Point PairFault)
@@ -130,14 +130,14 @@ AirPairKeepsCode =
     → AirPairAnswer codes (Ok point)
     → (point.parity ≡ codes.newest) × HasCode point (of_parity codes.newest codes.even codes.odd)
 
--- close points in the air are answered by the newest
+-- the codes of close airborne points decode to the newest point
 abbrev pub CloseAirPointsAreAnswered : Type 0
 CloseAirPointsAreAnswered =
     (codes : CodePair) (answer : Result Point PairFault) (a b : Point)
     → AirPairAnswer codes answer → IsGridPoint air a → IsGridPoint air b → HasCode a codes.even → HasCode b codes.odd
     → AreClosePoints air a b → answer ≡ Ok (of_parity codes.newest a b)
 
--- close points on the ground are answered by the newest, where both lie less than 45 degrees from the site
+-- the codes of close surface points decode to the newest point if both lie less than 45 degrees from the site
 abbrev pub CloseGroundPointsAreAnswered : Type 0
 CloseGroundPointsAreAnswered =
     (codes : CodePair) (site : Position) (answer : Result Point PairFault) (a b : Point)
@@ -146,7 +146,8 @@ CloseGroundPointsAreAnswered =
     → AreClosePoints ground a b → IsPointWithin 45 ground a site → IsPointWithin 45 ground b site
     → answer ≡ Ok (of_parity codes.newest a b)
 
--- what tame points a and b are decoded to: the newest, or their zone counts, which differ; never out of range
+-- the result of decoding the codes of tame points a and b: the newest, or their zone counts if these differ; never
+-- `OutOfRange`
 abbrev pub TameAnswer : Span → Parity → Point → Point → Result Point PairFault → Type 0
 TameAnswer span newest a b (Ok point) = point ≡ of_parity newest a b
 TameAnswer span newest a b (Err OutOfRange) = ⊥
@@ -188,19 +189,19 @@ FollowingIsNear span =
     → IsStrictlyNearPoint span (latitude span b) (longitude span b) a
     × IsStrictlyNearPoint span (latitude span a) (longitude span a) b
 
--- decoding near a reference has an answer
+-- decoding near a reference has a result
 abbrev pub SomeLocalAnswer : Span → Type 0
 SomeLocalAnswer span =
     (code : CodeNumbers) (parity : Parity) (lat lon : Fraction) → 0 < lat.den → 0 < lon.den
     → (answer : Result Point LocalFault) × LocalAnswer span code parity lat lon answer
 
--- decoding a pair at a place has an answer
+-- decoding a pair at a place has a result
 abbrev pub SomePairAnswer : Span → Type 0
 SomePairAnswer span =
     (codes : CodePair) (lat lon : Fraction) → 0 < lat.den → 0 < lon.den
     → (answer : Result Point PairFault) × PairAnswer span codes lat lon answer
 
--- decoding a pair in the air has an answer
+-- decoding an airborne pair has a result
 abbrev pub SomeAirPairAnswer : Type 0
 SomeAirPairAnswer = (codes : CodePair) → (answer : Result Point PairFault)
     × AirPairAnswer codes answer

@@ -9,7 +9,7 @@ pub use Rattle.sq_cpr.specs.Sizes.{codes_of_zone}
 use Rattle.sq_cpr.specs.Code.{CodeNumbers}
 use Rattle.sq_cpr.specs.Span.{Span}
 
--- a point by its parity, its latitude index, its number of longitude zones and its longitude index
+-- a point: its parity, its latitude index, its number of longitude zones and its longitude index
 pub record Point : Type 0 where
   pub parity : Parity
   pub lat_index : ℤ
@@ -21,19 +21,19 @@ abbrev pub point_at : Parity → (lat_index : ℤ) → (zones lon_index : ℕ) �
 point_at parity lat_index zones lon_index =
     record { parity = parity; lat_index = lat_index; zones = zones; lon_index = lon_index }
 
--- a number of steps of a grid
+-- the angle of k steps
 abbrev pub steps : (k : ℤ) → (step : Fraction) → Fraction
 steps k step = record { num = step.num *ℤ k; den = step.den }
 
--- one step is a span over its zones and over the codes of a zone
+-- one step: the degrees of a span over the number of zones and the 2^17 codes of a zone
 abbrev pub step : (degrees zones : ℕ) → Fraction
 step degrees zones = record { num = pos degrees; den = zones * codes_of_zone }
 
--- the latitude zones of a parity: 60 even, 59 odd
+-- the number of latitude zones of a parity: 60 even, 59 odd
 abbrev pub lat_zones : Parity → ℕ
 lat_zones parity = 60 - parity_index parity
 
--- the longitude steps of a circle of so many zones a span
+-- the number of longitude steps of the circle, with `zones` zones to a span
 abbrev pub circle : (zones repeats : ℕ) → ℕ
 circle zones repeats = zones * codes_of_zone * repeats
 
@@ -41,7 +41,7 @@ circle zones repeats = zones * codes_of_zone * repeats
 abbrev pub grid_latitude : (degrees : ℕ) → Parity → (lat_index : ℤ) → Fraction
 grid_latitude degrees parity lat_index = steps lat_index (step degrees (lat_zones parity))
 
--- the longitude of an index of the circle: so many steps, less 360 degrees from 180 up
+-- the longitude of an index of the circle: its steps in degrees, less 360 degrees from 180 up
 abbrev pub grid_longitude : (degrees zones lon_index : ℕ) → Fraction
 grid_longitude degrees zones lon_index =
     let den = zones * codes_of_zone in
@@ -54,12 +54,12 @@ latitude span point = grid_latitude span.degrees point.parity point.lat_index
 abbrev pub longitude : Span → Point → Fraction
 longitude span point = grid_longitude span.degrees point.zones point.lon_index
 
--- the latitude of the index lies in -90 to 90
+-- the latitude of the index lies in -90 to 90 degrees
 abbrev pub IsLatitude : (degrees : ℕ) → Parity → (lat_index : ℤ) → Type 0
 IsLatitude degrees parity lat_index = IsWithin 90 (grid_latitude degrees parity lat_index)
 
--- a point of the grid: its latitude is one, its zones are those of its own latitude, and its longitude index is on the
--- circle
+-- a point of the grid: its latitude lies in -90 to 90 degrees, its zones are those at that latitude, and its
+-- longitude index is on the circle
 pub record IsGridPoint (span : Span) (point : Point) : Type 0 where
   pub north_south : IsLatitude span.degrees point.parity point.lat_index
   pub zones : point.zones ≡ lon_zones_at point.parity (latitude span point)

@@ -28,7 +28,8 @@ OnePairOfZones span =
     (parity : Parity) (lat lon : Fraction) → 0 < lat.den → 0 < lon.den → IsPosition lat lon
     → ExactlyOne (IsInZones span parity lat lon)
 
--- where two positions lie in the same zones, the points to which they round have one code exactly if they are one point
+-- if two positions lie in the same zones, the points to which they round have equal codes exactly if the points are
+-- equal
 abbrev pub SameZones : Span → Type 0
 SameZones span =
     (parity : Parity) (lat lon lat' lon' : Fraction) (zones : ZonePair) (p q : Point)
@@ -37,13 +38,13 @@ SameZones span =
     → RoundsTo span lat lon p → RoundsTo span lat' lon' q
     → (code_of p ≡ code_of q) ↔ (p ≡ q)
 
--- two points of a grid are one exactly if their parity and both indices are
+-- two points of a grid are equal exactly if their parities and both indices are equal
 abbrev pub SamePoints : Span → Type 0
 SamePoints span =
     (p q : Point) → IsGridPoint span p → IsGridPoint span q
     → (p ≡ q) ↔ ((p.parity ≡ q.parity) × (p.lat_index ≡ q.lat_index) × (p.lon_index ≡ q.lon_index))
 
--- of the codes of 17 bits a point has exactly its own
+-- a point has exactly one code of 17-bit numbers: its own
 abbrev pub OneCode : Type 0
 OneCode =
     (point : Point) (code : CodeNumbers)

@@ -13,12 +13,12 @@ use Rattle.sq_cpr.specs.Span.{Span}
 use Rattle.sq_cpr.specs.Grid.{Point, IsGridPoint, HasCode, IsLatitude, codes_of_zone, lat_zones, grid_latitude}
 use Rattle.sq_cpr.specs.Near.{IsNear, half_zone, IsNearPoint}
 
--- the latitude index has the code and is near
+-- the latitude index has the code and is near `lat`
 pub record IsNearLatitude (degrees : ℕ) (parity : Parity) (lat : Fraction) (code : ℕ) (index : ℤ) : Type 0 where
   pub has_code : IsCongruent codes_of_zone index (pos code)
   pub near : IsNear (half_zone degrees (lat_zones parity)) lat (grid_latitude degrees parity index)
 
--- a point of the parity's grid with this code that is near
+-- a point of the parity's grid with this code that is near (lat, lon)
 pub record IsLocalPoint (span : Span) (code : CodeNumbers) (parity : Parity) (lat lon : Fraction)
     (point : Point) : Type 0 where
   pub of_grid : IsGridPoint span point
@@ -26,13 +26,14 @@ pub record IsLocalPoint (span : Span) (code : CodeNumbers) (parity : Parity) (la
   pub has_code : HasCode point code
   pub near : IsNearPoint span lat lon point
 
--- what a code is decoded to near (lat, lon): such a point, or that the near latitude lies outside -90 to 90
+-- the result of decoding a code near (lat, lon): a near point with the code, or `OutOfRange` if the near latitude
+-- lies outside -90 to 90 degrees
 abbrev pub LocalAnswer : Span → CodeNumbers → Parity → (lat lon : Fraction) → Result Point LocalFault → Type 0
 LocalAnswer span code parity lat lon (Ok point) = IsLocalPoint span code parity lat lon point
 LocalAnswer span code parity lat lon (Err OutOfRange) =
     (index : ℤ) × IsNearLatitude span.degrees parity lat code.lat index × ¬ IsLatitude span.degrees parity index
 
--- what a code is decoded to near a position
+-- the result of decoding a code near a position
 abbrev pub LocalAnswerNear : Span → CodeNumbers → Parity → Position → Result Point LocalFault → Type 0
 LocalAnswerNear span code parity reference answer =
     LocalAnswer span code parity (degrees_of (lat_of reference)) (degrees_of (lon_of reference)) answer

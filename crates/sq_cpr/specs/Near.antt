@@ -18,7 +18,7 @@ pub record IsStrictlyNear (h r x : Fraction) : Type 0 where
   pub above : minus r h ≺ x
   pub below : x ≺ plus r h
 
--- half a zone, of so many zones to a span
+-- half a zone in degrees, with `zones` zones to a span
 abbrev pub half_zone : (degrees zones : ℕ) → Fraction
 half_zone degrees zones = record { num = pos degrees; den = 2 * zones }
 
@@ -26,42 +26,43 @@ half_zone degrees zones = record { num = pos degrees; den = 2 * zones }
 abbrev pub half_span : (degrees : ℕ) → Fraction
 half_span degrees = record { num = pos degrees; den = 2 }
 
--- of the angles that differ by whole spans, x is the one that represents them at r: r - W/2 < x ≤ r + W/2
+-- x is the representative at r of the angles that differ from it by whole spans: r - W/2 < x ≤ r + W/2
 abbrev pub IsRepresentative : (degrees : ℕ) → (r x : Fraction) → Type 0
 IsRepresentative degrees r x = IsNear (half_span degrees) r x
 
--- the angle of an index of so many zones to a span
+-- the angle of an index, with `zones` zones to a span
 abbrev pub angle_at : (degrees zones : ℕ) → (index : ℤ) → Fraction
 angle_at degrees zones index = steps index (step degrees zones)
 
--- Some angle that differs from that of the index by whole turns of 360 degrees has the property: a turn is the circle's
--- steps.
+-- Some index that differs from this one by whole turns of 360 degrees has the property. A turn is the number of steps
+-- of the circle.
 abbrev pub OnSomeTurn : (circle index : ℕ) → (ℤ → Type 0) → Type 0
 OnSomeTurn circle index P = (turned : ℤ) × IsCongruent circle turned (pos index) × P turned
 
--- the longitude of the index is near, modulo 360 degrees: within half a longitude zone
+-- the longitude of the index is near `lon`: within half a longitude zone, modulo 360 degrees
 abbrev pub IsNearLongitude : Span → (zones : ℕ) → (lon : Fraction) → (index : ℕ) → Type 0
 IsNearLongitude span zones lon index =
     OnSomeTurn (circle zones span.repeats) index
     (λ turned. IsNear (half_zone span.degrees zones) lon (angle_at span.degrees zones turned))
 
--- the longitude of the index lies less than half a zone from `lon`, with both ends of the interval left out
+-- the longitude of the index lies less than half a zone from `lon`, modulo 360 degrees
 abbrev pub IsStrictlyNearLongitude : Span → (zones : ℕ) → (lon : Fraction) → (index : ℕ) → Type 0
 IsStrictlyNearLongitude span zones lon index =
     OnSomeTurn (circle zones span.repeats) index
     (λ turned. IsStrictlyNear (half_zone span.degrees zones) lon (angle_at span.degrees zones turned))
 
--- the point is near the place: within half a zone in both coordinates, of the zones that the point itself has
+-- the point is near (lat, lon): within half a zone in both coordinates, where the zones are those of the point itself
 pub record IsNearPoint (span : Span) (lat lon : Fraction) (point : Point) : Type 0 where
   pub north_south : IsNear (half_zone span.degrees (lat_zones point.parity)) lat (latitude span point)
   pub east_west : IsNearLongitude span point.zones lon point.lon_index
 
--- the point lies less than half a zone from the reference, with both ends of both intervals left out
+-- the point lies less than half a zone from (lat, lon) in both coordinates, where the zones are those of the point
+-- itself
 pub record IsStrictlyNearPoint (span : Span) (lat lon : Fraction) (point : Point) : Type 0 where
   pub north_south : IsStrictlyNear (half_zone span.degrees (lat_zones point.parity)) lat (latitude span point)
   pub east_west : IsStrictlyNearLongitude span point.zones lon point.lon_index
 
--- the point lies less than half a zone from a position
+-- the point lies less than half a zone from a position in both coordinates
 abbrev pub IsStrictlyNearPosition : Span → Position → Point → Type 0
 IsStrictlyNearPosition span reference point =
     IsStrictlyNearPoint span (degrees_of (lat_of reference)) (degrees_of (lon_of reference)) point

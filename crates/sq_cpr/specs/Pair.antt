@@ -16,7 +16,7 @@ use Rattle.sq_cpr.specs.Grid.{Point, IsGridPoint, IsLatitude, lat_zones, circle,
 use Rattle.sq_cpr.specs.Near.{IsRepresentative, angle_at}
 use Rattle.sq_cpr.specs.Close.{IsClosePair, count_at, zones_of, HaveOneCount}
 
--- the one of the parity
+-- the value of the parity: the even or the odd one
 abbrev pub of_parity : {A : Type 0} → Parity → (even odd : A) → A
 of_parity Even even odd = even
 of_parity Odd even odd = odd
@@ -34,18 +34,18 @@ code_pair even odd newest = record { even = even; odd = odd; newest = newest }
 abbrev pub AreLatitudes : (degrees : ℕ) → (even odd : CodeNumbers) → (p q : ℤ) → Type 0
 AreLatitudes degrees even odd p q = IsClosePair degrees (lat_zones Even) (lat_zones Odd) even.lat odd.lat p q
 
--- both latitudes lie in -90 to 90
+-- both latitudes lie in -90 to 90 degrees
 pub record AreInRange (degrees : ℕ) (p q : ℤ) : Type 0 where
   pub even : IsLatitude degrees Even p
   pub odd : IsLatitude degrees Odd q
 
--- both latitudes are the representatives at the reference
+-- both latitudes are their representatives at the reference latitude
 pub record AreAt (degrees : ℕ) (lat : Fraction) (p q : ℤ) : Type 0 where
   pub even : IsRepresentative degrees lat (grid_latitude degrees Even p)
   pub odd : IsRepresentative degrees lat (grid_latitude degrees Odd q)
 
--- The newest point of a close pair with these codes: both latitudes lie in -90 to 90 and have one zone count, and the
--- longitudes are close by the zones of that count.
+-- The newest point of a close pair with these codes. Both latitudes lie in -90 to 90 degrees and have one zone count,
+-- and the longitudes are close by the zones of that count.
 pub record IsPointOfPair (span : Span) (codes : CodePair) (point : Point) : Type 0 where
   pub even_lat : ℤ
   pub odd_lat : ℤ
@@ -62,15 +62,15 @@ pub record IsPointOfPair (span : Span) (codes : CodePair) (point : Point) : Type
   pub lon_index : IsCongruent (circle point.zones span.repeats) (pos point.lon_index)
       (of_parity codes.newest even_lon odd_lon)
 
--- both latitudes lie in -90 to 90, and their zone counts are these two, which differ
+-- both latitudes lie in -90 to 90 degrees, and their zone counts are these two different numbers
 pub record HaveTwoCounts (degrees : ℕ) (p q : ℤ) (even_count odd_count : ℕ) : Type 0 where
   pub in_range : AreInRange degrees p q
   pub even : even_count ≡ count_at degrees Even p
   pub odd : odd_count ≡ count_at degrees Odd q
   pub differ : even_count ≢ odd_count
 
--- What a pair of codes in the air is decoded to: the newest point of the close pair; or that the close latitudes are
--- not both in -90 to 90; or their two zone counts.
+-- The result of decoding a pair of airborne codes: the newest point of the close pair, or an error. It is
+-- `OutOfRange` if the close latitudes are not both in -90 to 90 degrees, or their two zone counts if these differ.
 abbrev pub AirPairAnswer : CodePair → Result Point PairFault → Type 0
 AirPairAnswer codes (Ok point) = IsPointOfPair air codes point
 AirPairAnswer codes (Err OutOfRange) =
@@ -78,15 +78,15 @@ AirPairAnswer codes (Err OutOfRange) =
 AirPairAnswer codes (Err (ZoneCounts even_count odd_count)) = (p q : ℤ)
     × AreLatitudes air.degrees codes.even codes.odd p q × HaveTwoCounts air.degrees p q even_count odd_count
 
--- the newest point of the close pair, each coordinate by its representative at the place
+-- the newest point of the close pair, with each coordinate at its representative at (lat, lon)
 pub record IsPointOfPairAt (span : Span) (codes : CodePair) (lat lon : Fraction) (point : Point) : Type 0 where
   pub of_pair : IsPointOfPair span codes point
   pub lat_at : AreAt span.degrees lat of_pair.even_lat of_pair.odd_lat
   pub lon_at : IsRepresentative span.degrees lon
       (angle_at span.degrees point.zones (of_parity codes.newest of_pair.even_lon of_pair.odd_lon))
 
--- What a pair of codes is decoded to at the place (lat, lon): each latitude by its representative there, whatever the
--- other's is.
+-- The result of decoding a pair of codes at (lat, lon). Each latitude is taken at its own representative there,
+-- independently of the other.
 abbrev pub PairAnswer : Span → CodePair → (lat lon : Fraction) → Result Point PairFault → Type 0
 PairAnswer span codes lat lon (Ok point) = IsPointOfPairAt span codes lat lon point
 PairAnswer span codes lat lon (Err OutOfRange) = (p q : ℤ) × AreLatitudes span.degrees codes.even codes.odd p q
@@ -95,7 +95,7 @@ PairAnswer span codes lat lon (Err (ZoneCounts even_count odd_count)) = (p q : �
     × AreLatitudes span.degrees codes.even codes.odd p q × AreAt span.degrees lat p q
     × HaveTwoCounts span.degrees p q even_count odd_count
 
--- what a pair of codes is decoded to at a position
+-- the result of decoding a pair of codes at a position
 abbrev pub PairAnswerAt : Span → CodePair → Position → Result Point PairFault → Type 0
 PairAnswerAt span codes place answer =
     PairAnswer span codes (degrees_of (lat_of place)) (degrees_of (lon_of place)) answer

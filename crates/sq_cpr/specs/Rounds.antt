@@ -9,7 +9,7 @@ use Rattle.sq_angle.specs.declared.position.Position.{Position}
 use Rattle.sq_cpr.specs.Span.{Span}
 use Rattle.sq_cpr.specs.Grid.{Point, IsGridPoint, step, circle, lat_zones}
 
--- The position rounds to the point of the grid: the latitude index is the nearest number of latitude steps, and the
+-- The position rounds to the point of the grid. The latitude index is the nearest number of latitude steps. The
 -- nearest number of longitude steps differs from the longitude index by whole circles.
 pub record RoundsTo (span : Span) (lat lon : Fraction) (point : Point) : Type 0 where
   pub of_grid : IsGridPoint span point

@@ -2,19 +2,19 @@
 -- the zones of a grid share.
 use Rattle.std.specs.Prelude.{◌≡◌, ℕ, ◌*◌}
 
--- a span covers so many degrees, and so many spans go round the circle
+-- the degrees that a span covers, and the number of spans that make up the circle
 pub record Span : Type 0 where
   pub degrees : ℕ
   pub repeats : ℕ
 
--- positions in the air: one span goes round the circle
+-- airborne positions: one span makes up the circle
 abbrev pub air : Span
 air = record { degrees = 360; repeats = 1 }
 
--- positions on the ground: a quarter of the circle, four times
+-- surface positions: a quarter of the circle, four times
 abbrev pub ground : Span
 ground = record { degrees = 90; repeats = 4 }
 
--- the spans go round the circle, which is 360 degrees
+-- the spans make up the circle of 360 degrees
 abbrev pub FitsCircle : Span → Type 0
 FitsCircle span = span.degrees * span.repeats ≡ 360

@@ -1,6 +1,6 @@
 -- The zones of a position (RTCA DO-260B, appendix on compact position reporting), shifted south and west by half a
--- step: the indices to which the angles of one zone round are then 2^17 in a row, so that no two of them have one
--- number in the code.
+-- step. The angles of one zone then round to 2^17 consecutive indices, and no two of these have the same number in
+-- the code.
 use Rattle.std.specs.Prelude.{◌≡◌, ℕ, ◌*◌, ◌<◌, ℤ, pos, ◌+ℤ◌, ◌-ℤ◌, ◌*ℤ◌}
 use Rattle.sq_angle.specs.Angle.{degrees as degrees_of}
 use Rattle.sq_angle.specs.Fraction.{Fraction, ◌≼◌, ◌≺◌}
@@ -21,17 +21,17 @@ pub record IsInZone (x step : Fraction) (zone : ℤ) : Type 0 where
   pub from : zone_start step zone ≼ x
   pub below : x ≺ zone_start step (zone +ℤ pos 1)
 
--- x and so many turns of 360 degrees
+-- x plus a number of turns of 360 degrees
 abbrev pub turned : Fraction → ℤ → Fraction
 turned x turns = record { num = x.num +ℤ pos (360 * x.den) *ℤ turns; den = x.den }
 
--- a zone of latitude, counted from the equator, and one of longitude, counted eastwards from the prime meridian
+-- a latitude zone, counted from the equator, and a longitude zone, counted eastwards from the prime meridian
 pub record ZonePair : Type 0 where
   pub lat : ℤ
   pub lon : ℕ
 
--- The position lies in these zones of the parity's grid. There are as many longitude zones a span as the point has to
--- which the position rounds.
+-- The position lies in these zones of the parity's grid. The number of longitude zones to a span is that of the point
+-- to which the position rounds.
 pub record IsInZones (span : Span) (parity : Parity) (lat lon : Fraction) (zones : ZonePair) : Type 0 where
   pub point : Point
   pub of_parity : point.parity ≡ parity
@@ -40,7 +40,7 @@ pub record IsInZones (span : Span) (parity : Parity) (lat lon : Fraction) (zones
   pub of_circle : zones.lon < point.zones * span.repeats
   pub east_west : (turns : ℤ) × IsInZone (turned lon turns) (step span.degrees point.zones) (pos zones.lon)
 
--- the zones of a position on a parity's grid
+-- the position lies in these zones of the parity's grid
 abbrev pub PositionIsInZones : Span → Parity → Position → ZonePair → Type 0
 PositionIsInZones span parity position zones =
     IsInZones span parity (degrees_of (lat_of position)) (degrees_of (lon_of position)) zones

@@ -1,12 +1,12 @@
-//! The code of a point, as it is sent.
+//! The code of a point, as a squitter carries it.
 ghost use Rattle.std.specs.Prelude.{◌≡◌, ◌↔◌, ◌<◌, IsSome, IfSome};
 ghost use Rattle.sq_cpr.specs.Sizes.{codes_of_zone};
 
-/// The codes of a zone, in each coordinate: 2^17.
+/// The number of codes of a zone, in each coordinate: 2^17.
 pub const CODES_OF_ZONE: u64 = 131_072;
 
-/// The code of a position: a number of 17 bits for the latitude, and one for the longitude (RTCA DO-260B, appendix on
-/// compact position reporting).
+/// The code of a position: 17 bits for the latitude (YZ) and 17 bits for the longitude (XZ). RTCA DO-260B, appendix
+/// on compact position reporting.
 #[derive(Clone, Copy, Debug, PartialEq, Eq)]
 pub struct Code {
     lat: u32,
@@ -18,7 +18,7 @@ pub struct Code {
 impl Code {
     ghost use Rattle.sq_cpr.specs.Code.{numbers_of};
 
-    /// Returns the code with these numbers: `None` unless both are below 2^17.
+    /// Returns the code with these numbers if both are below 2^17, and otherwise `None`.
     pub fn new(lat: u32, lon: u32) -> Option<Code>
         ensures variant { IsSome result ↔ ((lat < codes_of_zone) × (lon < codes_of_zone)) }
         ensures value { IfSome result (λ code. numbers_of code ≡ record { lat = lat; lon = lon }) }
@@ -30,7 +30,7 @@ impl Code {
         }
     }
 
-    /// Returns the latitude's number, below 2^17.
+    /// Returns the latitude number (YZ), below 2^17.
     pub fn lat(&self) -> u32
         ensures value { result ≡ (numbers_of self.now).lat }
         ensures small { result < codes_of_zone }
@@ -38,7 +38,7 @@ impl Code {
         self.lat
     }
 
-    /// Returns the longitude's number, below 2^17.
+    /// Returns the longitude number (XZ), below 2^17.
     pub fn lon(&self) -> u32
         ensures value { result ≡ (numbers_of self.now).lon }
         ensures small { result < codes_of_zone }

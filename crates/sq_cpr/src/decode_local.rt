@@ -11,12 +11,12 @@ use crate::span::{Span, degrees_of, repeats_of};
 use sq_angle::Position;
 use sq_zones::{Parity, lon_zones};
 
-/// The one point with this code that is near the reference: its latitude lies at most half a latitude zone from the
-/// reference's, its longitude, modulo 360 degrees, at most half a longitude zone, of the zones that the point's own
-/// latitude has. Of two such latitudes or longitudes, half a zone to either side, it is the northern or the eastern.
+/// Decodes a code near a reference. Returns the one point with this code within half a latitude zone and, modulo 360
+/// degrees, half a longitude zone of the reference. The longitude zones are those of the point's own latitude. If two
+/// latitudes or longitudes lie half a zone away on either side, it takes the northern or the eastern one.
 ///
-/// `OutOfRange` exactly where the near latitude lies outside -90 to 90 degrees. RTCA DO-260B, appendix on compact
-/// position reporting, local decoding.
+/// Returns `OutOfRange` exactly if the near latitude lies outside -90 to 90 degrees. RTCA DO-260B, appendix on
+/// compact position reporting, local decoding.
 pub fn local<S: Span>(
     code: Code,
     parity: Parity,

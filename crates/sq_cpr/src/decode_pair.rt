@@ -21,7 +21,7 @@ use crate::span::{Air, Ground, Span, degrees_of, repeats_of};
 use sq_angle::{Angle, Position};
 use sq_zones::{Parity, zone_count};
 
-// An index of the even and one of the odd grid.
+// An index of the even grid and one of the odd grid.
 #[derive(Clone, Copy)]
 struct Indices {
     even: i32,
@@ -29,7 +29,7 @@ struct Indices {
 }
 
 impl Indices {
-    // The index of the parity's grid.
+    // Returns the index of the parity's grid.
     fn of(self, parity: Parity) -> i32
         ensures { result ≡ of_parity parity self.even self.odd }
     {
@@ -40,7 +40,7 @@ impl Indices {
     }
 }
 
-// The longitude's number in the code of the parity.
+// Returns the longitude number of the newest code.
 fn lon_of_newest(newest: Parity, even: Code, odd: Code) -> u32
     ensures value { result ≡ of_parity newest (numbers_of even).lon (numbers_of odd).lon }
     ensures small { result < codes_of_zone }
@@ -51,7 +51,8 @@ fn lon_of_newest(newest: Parity, even: Code, odd: Code) -> u32
     }
 }
 
-// The longitude zones of a parity where the zone count is `count`.
+// Returns the number of longitude zones of a parity for the zone count (NL) `count`: one less for odd, and at least
+// one.
 fn zones_of(parity: Parity, count: u8) -> u8
     requires some { 1 ≤ count }
     requires small { count ≤ 59 }
@@ -65,7 +66,7 @@ fn zones_of(parity: Parity, count: u8) -> u8
     }
 }
 
-// The close latitudes of two codes, each by its representative at the reference.
+// Returns the indices of the close latitudes of two codes, each at its representative at the reference.
 #[inline(always)]
 fn close_latitudes(span: u32, even: Code, odd: Code, reference: &Angle) -> Indices
     requires span_some { 0 < span }
@@ -82,7 +83,8 @@ fn close_latitudes(span: u32, even: Code, odd: Code, reference: &Angle) -> Indic
     }
 }
 
-// The index on the circle of the longitude that lies whole spans from the base, by its representative at the reference.
+// Returns the longitude that lies whole spans from the base and represents it at the reference, as an index on the
+// circle.
 #[inline(always)]
 fn turned_longitude<S: Span>(base: i64, zones: u8, reference: &Angle) -> u32
     requires base_small { unsigned_abs base < 2 ^ 44 }
@@ -103,8 +105,8 @@ fn turned_longitude<S: Span>(base: i64, zones: u8, reference: &Angle) -> u32
     on_circle(i64::from(turned), zones, repeats_of::<S>())
 }
 
-// The index on the circle of the newest of the close longitudes of two codes, by its representative at the reference,
-// where both latitudes have the zone count `count`.
+// Returns the newest of the close longitudes of two codes at its representative at the reference, as an index on the
+// circle. Both latitudes have the zone count `count`.
 #[inline(always)]
 fn close_longitude<S: Span>(
     count: u8,
@@ -133,8 +135,9 @@ fn close_longitude<S: Span>(
     turned_longitude::<S>(base, zones_of(newest, count), reference)
 }
 
-// The newest point of the close pair, each coordinate by its representative at the place. It and `pair_air` are
-// inlined: a call returns the point through memory, and copying it from there waits for its stores.
+// Returns the newest point of the close pair, with each coordinate at its representative at the place. This function
+// and `pair_air` are inlined: a call would return the point through memory, and copying it from there waits for its
+// stores.
 #[inline(always)]
 fn pair<S: Span>(
     even: Code,
@@ -162,7 +165,7 @@ fn pair<S: Span>(
     Ok(GridPoint::of_parts(newest, lats.of(newest), zones, lon_index))
 }
 
-// Latitude and longitude 0.
+// Returns the position at latitude 0 and longitude 0.
 fn origin() -> Position
     ensures lat { degrees (lat_of result) ≡ whole 0 }
     ensures lon { degrees (lon_of result) ≡ whole 0 }
@@ -171,11 +174,11 @@ fn origin() -> Position
     Position::new(zero, zero).unwrap()
 }
 
-/// Decodes two codes that were sent in the air from nearly one place. Exactly one pair of points has close latitudes
-/// and close longitudes. Returns its point of the newest parity.
+/// Decodes an even and an odd airborne code sent from nearly the same position. Exactly one pair of points has close
+/// latitudes and close longitudes. Returns the point of that pair with the newest parity.
 ///
-/// Errors, in this order: `OutOfRange` if the close latitudes, less whole turns of 360, do not both lie within -90 to
-/// 90 degrees; `ZoneCounts`, with the even count first, if their zone counts (NL) differ. RTCA DO-260B, appendix on
+/// Errors, in this order: `OutOfRange` if the close latitudes, modulo 360 degrees, do not both lie within -90 to 90
+/// degrees, and `ZoneCounts` if their zone counts (NL) differ. The even count comes first. RTCA DO-260B, appendix on
 /// compact position reporting, globally unambiguous airborne decoding.
 #[inline(always)]
 pub fn pair_air(even: Code, odd: Code, newest: Parity) -> Result<GridPoint<Air>, PairFault>
@@ -184,13 +187,13 @@ pub fn pair_air(even: Code, odd: Code, newest: Parity) -> Result<GridPoint<Air>,
     pair::<Air>(even, odd, newest, &origin())
 }
 
-/// Decodes two codes that were sent on the ground from nearly one place. They have several pairs of close points, 90
-/// degrees apart. Returns the point of the newest parity that is within 45 degrees of the site in both coordinates. If
-/// two are exactly 45 degrees away on either side, it returns the northern or the eastern one.
+/// Decodes an even and an odd surface code sent from nearly the same position. They have several pairs of close
+/// points, 90 degrees apart. Returns the point of the newest parity that is within 45 degrees of the site in both
+/// coordinates. If two are exactly 45 degrees away on either side, it returns the northern or the eastern one.
 ///
-/// Errors, in this order: `OutOfRange` if a latitude, chosen by itself in this way, lies outside -90 to 90 degrees;
-/// `ZoneCounts`, with the even count first, if the zone counts (NL) differ. RTCA DO-260B, appendix on compact position
-/// reporting, globally unambiguous surface decoding.
+/// Each latitude is chosen in this way on its own. Errors, in this order: `OutOfRange` if one of the latitudes lies
+/// outside -90 to 90 degrees, and `ZoneCounts` if the zone counts (NL) differ. The even count comes first. RTCA
+/// DO-260B, appendix on compact position reporting, globally unambiguous surface decoding.
 pub fn pair_ground(
     even: Code,
     odd: Code,

@@ -17,9 +17,9 @@ use crate::span::{Span, degrees_of, repeats_of};
 use sq_angle::{Angle, Position};
 use sq_zones::{Parity, lon_zones};
 
-/// Rounds a position to a point of the parity's grid (RTCA DO-260B, appendix on compact position reporting). The point
-/// has the nearest latitude index, and the nearest longitude index by the longitude zones of that latitude. Of two
-/// indices that are equally near it has the northern and the eastern one.
+/// Rounds a position to a point of the parity's grid (RTCA DO-260B, appendix on compact position reporting). The
+/// point has the nearest latitude index, and the nearest longitude index by the longitude zones of that latitude. If
+/// two indices are equally near, it has the northern or the eastern one.
 ///
 /// Each position rounds to exactly one point. A point's own [`GridPoint::position`] rounds to that point.
 pub fn nearest<S: Span>(position: &Position, parity: Parity) -> GridPoint<S>
@@ -57,7 +57,7 @@ fn rounded<S: Span>(position: &Position, parity: Parity) -> GridPoint<S>
     GridPoint::new(parity, lat_index, lon_index).unwrap()
 }
 
-// The nearest latitude index.
+// Returns the nearest latitude index.
 fn nearest_latitude<S: Span>(lat: &Angle, parity: Parity) -> i32
     requires { IsWithin 90 (degrees lat.now) }
     ensures nearest { IsNearest (degrees lat.now) (step S.span.degrees (lat_zones_of parity)) result }

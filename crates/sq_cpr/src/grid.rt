@@ -13,16 +13,16 @@ use sq_angle::{Angle, Position};
 use sq_zones::{Parity, lon_zones};
 use std::marker::{Model, PhantomData};
 
-/// The latitude zones of an even grid.
+/// The number of latitude zones of an even grid.
 pub(crate) const EVEN_LAT_ZONES: u8 = 60;
 
-/// The latitude zones of an odd grid.
+/// The number of latitude zones of an odd grid.
 pub(crate) const ODD_LAT_ZONES: u8 = 59;
 
-/// A point of a parity's grid (RTCA DO-260B, appendix on compact position reporting). Its latitude is `lat_index` steps
-/// of the latitude zones. Its longitude is `lon_index` steps of the longitude zones that its own latitude has.
+/// A point of a parity's grid (RTCA DO-260B, appendix on compact position reporting). Its latitude is `lat_index`
+/// steps of the latitude zones. Its longitude is `lon_index` steps of the longitude zones at its own latitude.
 ///
-/// Two points of a span are equal exactly if their parities and both indices are.
+/// Two points of a span are equal exactly if their parities and both indices are equal.
 #[derive_where(Clone, Copy, Debug, PartialEq, Eq)]
 pub struct GridPoint<S: Span> {
     parity: Parity,
@@ -49,8 +49,8 @@ impl<S: Span> Model for GridPoint<S> {
 }
 
 impl<S: Span> GridPoint<S> {
-    /// The point with these indices; `None` exactly where the grid has no such point: where the latitude would lie
-    /// outside -90 to 90 degrees, or the longitude index is not below the steps of its circle.
+    /// Returns the point with these indices. Returns `None` exactly if the grid has no such point: the latitude would
+    /// lie outside -90 to 90 degrees, or the longitude index is at least the number of steps of the circle.
     pub fn new(parity: Parity, lat_index: i32, lon_index: u32) -> Option<GridPoint<S>>
         ensures variant { IsSome result ↔ HasPoint S.span parity lat_index lon_index }
         ensures value { IfSome result (λ p. (p.parity ≡ parity) × (p.lat_index ≡ lat_index)
@@ -65,7 +65,7 @@ impl<S: Span> GridPoint<S> {
         Some(GridPoint::of_parts(parity, lat_index, zones, lon_index))
     }
 
-    // The point of these parts, which are those of one.
+    // Returns the point of these parts, which have to be those of a grid point.
     pub(crate) fn of_parts(
         parity: Parity,
         lat_index: i32,
@@ -85,7 +85,7 @@ impl<S: Span> GridPoint<S> {
         }
     }
 
-    /// The parity of its grid.
+    /// Returns the parity of the point's grid.
     pub fn parity(&self) -> Parity
         ensures value { result ≡ self.now.parity }
         ensures of_grid { IsGridPoint S.span self.now }
@@ -93,28 +93,28 @@ impl<S: Span> GridPoint<S> {
         self.parity
     }
 
-    /// The latitude in steps, north positive.
+    /// Returns the latitude in steps, north positive.
     pub fn lat_index(&self) -> i32
         ensures { result ≡ self.now.lat_index }
     {
         self.lat_index
     }
 
-    /// The number of longitude zones of its own latitude, from 1 to 59.
+    /// Returns the number of longitude zones at the point's latitude, from 1 to 59.
     pub fn zones(&self) -> u8
         ensures { result ≡ self.now.zones }
     {
         self.zones
     }
 
-    /// The longitude in steps, eastwards from the prime meridian.
+    /// Returns the longitude in steps, eastwards from the prime meridian.
     pub fn lon_index(&self) -> u32
         ensures { result ≡ self.now.lon_index }
     {
         self.lon_index
     }
 
-    /// The code that is sent of this point: both indices modulo 2^17.
+    /// Returns the code of the point: both indices modulo 2^17.
     pub fn code(&self) -> Code
         ensures { numbers_of result ≡ code_of self.now }
     {
@@ -123,9 +123,9 @@ impl<S: Span> GridPoint<S> {
         Code::new(lat, lon).unwrap()
     }
 
-    /// The position of this point, exactly: the latitude is `lat_index * W` over `(60 - i) * 2^17`, and the longitude
-    /// `lon_index * W` over `zones * 2^17`, less 360 degrees from 180 up, where W is the span's degrees and i is 0 for
-    /// even and 1 for odd.
+    /// Returns the exact position of the point. W is the span's degrees, and i is 0 for even and 1 for odd. The
+    /// latitude is `lat_index * W` over `(60 - i) * 2^17`. The longitude is `lon_index * W` over `zones * 2^17`, less
+    /// 360 degrees from 180 up.
     pub fn position(&self) -> Position
         ensures lat { degrees (lat_of result) ≡ latitude S.span self.now }
         ensures lon { degrees (lon_of result) ≡ longitude S.span self.now }
@@ -143,7 +143,7 @@ pub fn lat_zones(parity: Parity) -> u8
     EVEN_LAT_ZONES - parity.index()
 }
 
-// The latitude at an index of a point.
+// Returns the latitude at an index; it has to lie in -90 to 90 degrees.
 fn lat_angle<S: Span>(parity: Parity, lat_index: i32) -> Angle
     requires { IsLatitude S.span.degrees parity lat_index }
     ensures value { degrees result ≡ grid_latitude S.span.degrees parity lat_index }
@@ -153,7 +153,7 @@ fn lat_angle<S: Span>(parity: Parity, lat_index: i32) -> Angle
     Angle::known(num, u64::from(lat_zones(parity)) * CODES_OF_ZONE)
 }
 
-// The latitude at an index, where it is one.
+// Returns the latitude at an index, or `None` if it lies outside -90 to 90 degrees.
 pub(crate) fn angle_at<S: Span>(parity: Parity, lat_index: i32) -> Option<Angle>
     ensures variant { IsSome result ↔ IsLatitude S.span.degrees parity lat_index }
     ensures value { IfSome result (λ a. degrees a ≡ grid_latitude S.span.degrees parity lat_index) }
@@ -167,7 +167,7 @@ pub(crate) fn angle_at<S: Span>(parity: Parity, lat_index: i32) -> Option<Angle>
     }
 }
 
-// The longitude at an index.
+// Returns the longitude at an index of the circle.
 fn lon_angle<S: Span>(zones: u8, lon_index: u32) -> Angle
     requires at_least { 1 ≤ zones }
     requires of_circle { lon_index < circle zones S.span.repeats }
@@ -180,7 +180,7 @@ fn lon_angle<S: Span>(zones: u8, lon_index: u32) -> Angle
     Angle::known(num, den)
 }
 
-// `east / den` degrees, less 360 degrees from 180 up, over `den`.
+// Returns the numerator over `den` of `east / den` degrees, less 360 degrees from 180 up.
 fn west_from_180(east: u64, den: u64) -> i64
     requires small { den < 2 ^ 40 }
     requires of_circle { east < 360 * den }

@@ -1,8 +1,9 @@
-//! Grid indices: rounds an angle to the nearest index, and picks the candidate index of a code nearest the reference,
-//! or of a close pair.
+//! Grid indices: rounding an angle to the nearest index, and picking the index of a code. The picked index is nearest
+//! to a reference or belongs to a close pair.
 //!
-//! All numbers are whole. The fraction of a reference may be long. Each function near one therefore multiplies, divides
-//! or subtracts once, so that the result clearly fits 128 bits. Near 0 degrees 64 bits are enough.
+//! All numbers are whole. The numerator and the denominator of a reference may be long. Each function that takes a
+//! reference therefore multiplies, divides or subtracts once, so that the result clearly fits 128 bits. Near 0
+//! degrees 64 bits are enough.
 ghost use Rattle.std.specs.Prelude.{◌≡◌, ℕ, ◌*◌, ◌^◌, ◌<◌, ◌≤◌, ℤ, pos, ◌+ℤ◌, ◌-ℤ◌, ◌*ℤ◌, ◌≤ℤ◌, ◌<ℤ◌, neg_ℤ};
 ghost use Rattle.std.specs.Prelude.{unsigned_abs};
 ghost use Rattle.sq_angle.specs.Angle.{degrees};
@@ -16,7 +17,7 @@ use crate::code::CODES_OF_ZONE;
 use crate::grid::EVEN_LAT_ZONES;
 use sq_angle::Angle;
 
-// The quotient, rounded down. 64 bits divide faster, and hold all but what references of long fractions have.
+// Returns the quotient, rounded down. A 64-bit division is faster, and only references with long fractions need more.
 fn quotient_down(value: i128, divisor: u128) -> i128
     requires value_small { unsigned_abs value < 2 ^ 120 }
     requires divisor_some { 0 < divisor }
@@ -31,7 +32,7 @@ fn quotient_down(value: i128, divisor: u128) -> i128
     }
 }
 
-// The quotient of 64 bits, rounded down.
+// Returns the quotient of 64-bit numbers, rounded down.
 fn short_quotient(value: i64, divisor: i64) -> i64
     requires { pos 0 <ℤ divisor }
     ensures reached { (divisor *ℤ result) ≤ℤ value }
@@ -41,7 +42,7 @@ fn short_quotient(value: i64, divisor: i64) -> i64
     value.div_euclid(divisor)
 }
 
-// The quotient of 128 bits, rounded down.
+// Returns the quotient of 128-bit numbers, rounded down.
 fn long_quotient(value: i128, divisor: i128) -> i128
     requires value_small { unsigned_abs value < 2 ^ 120 }
     requires divisor_some { pos 0 <ℤ divisor }
@@ -52,7 +53,7 @@ fn long_quotient(value: i128, divisor: i128) -> i128
     value.div_euclid(divisor)
 }
 
-// Returns the quotient, rounded down. It is rarely needed, and apart from its callers, so that these stay short.
+// Returns the quotient, rounded down. It is rarely needed, and it is kept out of line so that its callers stay short.
 #[cold]
 #[inline(never)]
 fn far_quotient(value: i128, divisor: u128) -> i128
@@ -66,7 +67,7 @@ fn far_quotient(value: i128, divisor: u128) -> i128
     quotient_down(value, divisor)
 }
 
-// The quotient of 64 bits, rounded down, where it is seldom needed.
+// Returns the quotient of 64-bit numbers, rounded down. It is rarely needed, and it is kept out of line.
 #[cold]
 #[inline(never)]
 fn rare_quotient(value: i64, divisor: u64) -> i64
@@ -78,7 +79,7 @@ fn rare_quotient(value: i64, divisor: u64) -> i64
     short_quotient(value, divisor as i64)
 }
 
-// How many times `2 * width` is to be taken from `2 * away`, to come into (-width, width].
+// Returns how many times `2 * width` has to be subtracted from `2 * away` to bring it into (-width, width].
 fn turns(away: i128, width: u128) -> i128
     requires away_small { unsigned_abs away < 2 ^ 100 }
     requires width_some { 0 < width }
@@ -95,7 +96,7 @@ fn turns(away: i128, width: u128) -> i128
     far_quotient(above, 2 * width)
 }
 
-// A whole number times a natural factor.
+// Returns `factor * value`.
 fn scaled(factor: u64, value: i128) -> i128
     requires { factor * unsigned_abs value < 2 ^ 127 }
     ensures { result ≡ pos factor *ℤ value }
@@ -103,7 +104,7 @@ fn scaled(factor: u64, value: i128) -> i128
     i128::from(factor) * value
 }
 
-// How far the index lies above the reference, in the parts that both are whole numbers of.
+// Returns how far the index lies above the reference, in a unit in which both are whole numbers.
 fn distance(index: i128, zones: u8, span: u32, reference: &Angle) -> i128
     requires index_small { unsigned_abs index < 2 ^ 44 }
     requires zones_small { zones ≤ 60 }
@@ -161,14 +162,14 @@ pub(crate) fn index_within(base: i64, count: u8, zones: u8, span: u32, reference
     ensures congruent { IsCongruent (count * codes_of_zone) result base }
     ensures within { LiesWithin count span zones result (degrees reference.now) }
 {
-    // At 0 degrees, where pairs in the air are, the degrees of a step fall away.
+    // At 0 degrees, the reference of airborne pairs, the degrees of a step cancel.
     if reference.num() == 0 {
         return index_at_zero(base, count) as i32;
     }
     index_at(i128::from(base), count, zones, span, reference)
 }
 
-/// How many zones a close pair lies above its codes.
+/// Returns how many zones the indices of a close pair lie above their codes.
 pub(crate) fn pair_zone(even_zones: u8, odd_zones: u8, even: u32, odd: u32) -> i64
     requires even_zones_small { even_zones ≤ 60 }
     requires odd_zones_small { odd_zones ≤ 60 }
@@ -179,13 +180,13 @@ pub(crate) fn pair_zone(even_zones: u8, odd_zones: u8, even: u32, odd: u32) -> i
 {
     let above = odd_zones as u64 * even as u64;
     let below = even_zones as u64 * odd as u64;
-    // With as many zones more there is no sign, and the division is a shift.
+    // Adding `more` zones makes the number non-negative, so that the division is a shift.
     let more = EVEN_LAT_ZONES as u64;
     let raised = above + (more * CODES_OF_ZONE + CODES_OF_ZONE / 2) - below;
     (raised / CODES_OF_ZONE) as i64 - more as i64
 }
 
-/// The index of a code, so many zones up.
+/// Returns the index of a code, `zone` zones up.
 pub(crate) fn index_of(code: u32, zone: i64) -> i64
     requires code_small { code < codes_of_zone }
     requires zone_small { unsigned_abs zone ≤ 120 }
@@ -211,7 +212,7 @@ pub(crate) fn nearest_index(angle: &Angle, span: u32, zones: u8) -> i64
     quotient_down(steps + i128::from(half), 2 * u128::from(half)) as i64
 }
 
-// The index on the circle of longitude.
+// Reduces an index to the circle of longitude.
 pub(crate) fn on_circle(index: i64, zones: u8, repeats: u32) -> u32
     requires some_zones { 0 < zones }
     requires small_zones { zones ≤ 59 }
@@ -221,7 +222,7 @@ pub(crate) fn on_circle(index: i64, zones: u8, repeats: u32) -> u32
     ensures below { result < circle zones repeats }
 {
     let circle = (zones as u64 * CODES_OF_ZONE * repeats as u64) as i64;
-    // Nearly each index is less than a circle away from it, and needs no division.
+    // Nearly every index is less than a circle away from the range, and needs no division.
     let turned = if index < 0 { index + circle } else { index };
     if 0 <= turned && turned < circle {
         return turned as u32;

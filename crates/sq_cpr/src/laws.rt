@@ -1,4 +1,4 @@
-//! Laws of grids, codes, zones and decoding, over the definitions that the calls' contracts name.
+//! Laws of grids, codes, zones and decoding, over the definitions in the contracts of the calls.
 //!
 //! A function with an empty body does nothing: its contract is the law. The others make the call that they speak of.
 ghost use Rattle.sq_cpr.specs.Laws.{RoundsToOne, RoundsToItself, SameZones, SamePoints};
@@ -23,18 +23,19 @@ pub fn rounds_to_itself<S: Span>()
     ensures { RoundsToItself S.span }
 {}
 
-/// Where two positions lie in the same zones, the points to which they round have one code exactly if they are one
-/// point.
+/// If two positions lie in the same zones, the points to which they round have equal codes exactly if the points are
+/// equal.
 pub fn same_zones<S: Span>()
     ensures { SameZones S.span }
 {}
 
-/// Two points of a grid are one exactly if their parity and both indices are.
+/// Two points of a grid are equal exactly if their parities and both indices are equal.
 pub fn same_points<S: Span>()
     ensures { SamePoints S.span }
 {}
 
-/// The windows near a reference and between close angles, with fractions, mean what their multiplied-out forms mean.
+/// The windows near a reference and between close angles, stated with fractions, agree with their multiplied-out
+/// forms.
 pub fn fractions_agree<S: Span>()
     ensures { FractionsAgree S.span }
 {}
@@ -44,55 +45,57 @@ pub fn strictly_near_is_near<S: Span>()
     ensures { StrictlyNearIsNear S.span }
 {}
 
-/// A point with the code that is near the reference is what is decoded there.
+/// A point with the code that is near the reference is the result of decoding there.
 pub fn near_point_is_local<S: Span>()
     ensures { NearPointIsLocal S.span }
 {}
 
-/// A point with the code that is strictly near the reference is what is decoded there.
+/// A point with the code that is strictly near the reference is the result of decoding there.
 pub fn strictly_near_point_is_local<S: Span>()
     ensures { StrictlyNearPointIsLocal S.span }
 {}
 
-/// What is decoded near a reference has the code that was given.
+/// A point decoded near a reference has the given code and parity.
 pub fn local_keeps_code<S: Span>()
     ensures { LocalKeepsCode S.span }
 {}
 
-/// What a pair is decoded to at a place has the newest code.
+/// A point decoded from a pair at a place has the newest code and parity.
 pub fn pair_keeps_code<S: Span>()
     ensures { PairKeepsCode S.span }
 {}
 
-/// What a pair in the air is decoded to has the newest code.
+/// A point decoded from an airborne pair has the newest code and parity.
 pub fn air_pair_keeps_code()
     ensures { AirPairKeepsCode }
 {}
 
-/// Close points in the air are answered by the newest.
+/// The codes of close airborne points decode to the newest point.
 pub fn close_air_points_are_answered()
     ensures { CloseAirPointsAreAnswered }
 {}
 
-/// Close points on the ground are answered by the newest, where both lie less than 45 degrees from the site.
+/// The codes of close surface points decode to the newest point if both lie less than 45 degrees from the site.
 pub fn close_ground_points_are_answered()
     ensures { CloseGroundPointsAreAnswered }
 {}
 
-/// Points in the air with close latitudes and, where their zone counts agree, close longitudes are answered by the
-/// newest or by their zone counts, and never as out of range.
+/// The codes of tame airborne points decode to the newest point or to `ZoneCounts`, and never to `OutOfRange`. Points
+/// are tame if their latitudes are close and, if their zone counts are equal, their longitudes are close too.
 pub fn tame_air_points_are_answered()
     ensures { TameAirPointsAreAnswered }
 {}
 
-/// Points on the ground with close latitudes and, where their zone counts agree, close longitudes, less than 45 degrees
-/// from the site, are answered by the newest or by their zone counts, and never as out of range.
+/// The codes of tame surface points less than 45 degrees from the site decode to the newest point or to `ZoneCounts`,
+/// and never to `OutOfRange`. Points are tame if their latitudes are close and, if their zone counts are equal, their
+/// longitudes are close too.
 pub fn tame_ground_points_are_answered()
     ensures { TameGroundPointsAreAnswered }
 {}
 
-/// True positions that differ by less than the closeness less the odd grid's step, in latitude and, where the zone
-/// counts agree on two or more, in longitude, round to such points.
+/// Slow positions round to tame points. Positions are slow if their latitudes differ by less than the closeness minus
+/// a step of the odd grid. If the zone counts are equal and at least two, the longitudes have to differ by less than
+/// theirs as well.
 pub fn slow_is_tame<S: Span>()
     ensures { SlowIsTame S.span }
 {}
@@ -107,7 +110,7 @@ pub fn following_is_near<S: Span>()
     ensures { FollowingIsNear S.span }
 {}
 
-/// Whole turns of either change nothing of a difference modulo 360 degrees.
+/// Adding whole turns to either angle keeps a difference modulo 360 degrees below its limit.
 pub fn turns_change_nothing()
     ensures { TurnsChangeNothing }
 {}

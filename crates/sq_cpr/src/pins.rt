@@ -34,12 +34,12 @@ pub fn one_near_latitude<S: Span>()
     ensures { OneNearLatitude S.span }
 {}
 
-/// Each longitude code has exactly one index on the circle near a reference, whatever the number of zones.
+/// Each longitude code has exactly one index on the circle near a reference, for any number of zones.
 pub fn one_near_longitude<S: Span>()
     ensures { OneNearLongitude S.span }
 {}
 
-/// Decoding near a reference has one answer.
+/// Decoding near a reference has at most one result.
 pub fn one_local_answer<S: Span>()
     ensures { OneLocalAnswer S.span }
 {}
@@ -54,39 +54,39 @@ pub fn one_close_longitudes<S: Span>()
     ensures { OneCloseLongitudes S.span }
 {}
 
-/// Where each grid has one zone, any two angles are close.
+/// If each grid has one zone, any two angles are close.
 pub fn one_zone_is_close<S: Span>()
     ensures { OneZoneIsClose S.span }
 {}
 
-/// Decoding a pair at a place has one answer.
+/// Decoding a pair at a place has at most one result.
 pub fn one_pair_answer<S: Span>()
     ensures { OnePairAnswer S.span }
 {}
 
-/// Decoding a pair in the air has one answer.
+/// Decoding an airborne pair has at most one result.
 pub fn one_air_pair_answer()
     ensures { OneAirPairAnswer }
 {}
 
-/// Two angles differ by less than a limit exactly where each lies below the other and the limit together; modulo 360
-/// degrees, exactly where some turns on they do.
+/// Two angles differ by less than a limit exactly if each lies below the other plus the limit. Modulo 360 degrees,
+/// they do exactly if they do after some whole turns are added to the first.
 pub fn differ_exactly()
     ensures straight { DifferExactly }
     ensures around { DifferAroundExactly }
 {}
 
-/// Longitudes either side of 180 degrees.
+/// Longitudes on either side of 180 degrees.
 pub fn across_180_degrees()
     ensures { Across180Degrees }
 {}
 
-/// Differences next to the limits, where points have 59 and 58 zones.
+/// Differences next to the limits, for points with 59 and 58 zones.
 pub fn at_the_limits()
     ensures { AtTheLimits }
 {}
 
-/// The limits of slow positions, as numbers and by the zones of a span.
+/// The limits for slow positions, as numbers and as formulas of the span and the zones.
 pub fn limits_of_slow()
     ensures numbers { LimitsAsNumbers }
     ensures words { LimitsInWords }
@@ -108,13 +108,13 @@ pub fn within_exactly<S: Span>()
     ensures points { PointWithinExactly S.span }
 {}
 
-/// The exact condition for being strictly near a place, for points and for each coordinate.
+/// The exact condition for being strictly near a reference, for points and for each coordinate.
 pub fn strictly_near_exactly<S: Span>()
     ensures points { StrictlyNearExactly S.span }
     ensures window { WindowExactly }
 {}
 
-/// Points next to a reference of three decimals, and of one even and one odd frame.
+/// An even and an odd point next to a reference of three decimals.
 pub fn near_three_decimals()
     ensures { NearThreeDecimals }
 {}
@@ -124,14 +124,14 @@ pub fn tame_exactly<S: Span>()
     ensures { TameExactly S.span }
 {}
 
-/// A point is on the grid exactly if its latitude, the zones there and its index on the circle say so. An even grid has
-/// 60 zones of latitude and an odd one 59.
+/// A point is on the grid exactly if its latitude is within 90 degrees, with the zones there, and its longitude index
+/// is on the circle. An even grid has 60 zones of latitude and an odd one 59.
 pub fn grid_point_exactly<S: Span>()
     ensures point { GridPointExactly S.span }
     ensures zones { ZonesAsNumbers }
 {}
 
-/// Tame points are decoded to the newest one, or to the two zone counts of their latitudes.
+/// The result for tame points is the newest one, or the two zone counts of their latitudes if these differ.
 pub fn tame_answer_exactly<S: Span>()
     ensures counts { TwoCountsExactly S.span }
     ensures answer { TameAnswerExactly S.span }
@@ -142,12 +142,12 @@ pub fn close_exactly<S: Span>()
     ensures { CloseExactly S.span }
 {}
 
-/// Decoding near a reference has an answer.
+/// Decoding near a reference has a result.
 pub fn some_local_answer<S: Span>()
     ensures { SomeLocalAnswer S.span }
 {}
 
-/// Decoding a pair has an answer, at a place and in the air.
+/// Decoding a pair has a result, at a place and in the air.
 pub fn some_pair_answer<S: Span>()
     ensures at_a_place { SomePairAnswer S.span }
     ensures in_air { SomeAirPairAnswer }
@@ -159,7 +159,7 @@ pub fn equal_points<S: Span>(a: &GridPoint<S>, b: &GridPoint<S>) -> bool
     ensures indices { IsTrue result ↔ ((a.now.parity ≡ b.now.parity) × (a.now.lat_index ≡ b.now.lat_index)
         × (a.now.lon_index ≡ b.now.lon_index)) }
 {
-    // each call says that its point is one of the grid
+    // the contract of each call says that its point is on the grid
     let _ = (a.parity(), b.parity());
     a == b
 }
@@ -171,14 +171,14 @@ pub fn equal_codes(code: &Code, other: &Code) -> bool
     code == other
 }
 
-/// Compares two faults of a code near a reference by `==`, which is true exactly if they are the same.
+/// Compares two errors of local decoding by `==`, which is true exactly if they are the same.
 pub fn equal_local_faults(local_fault: &LocalFault, other: &LocalFault) -> bool
     ensures { IsTrue result ↔ (local_fault.now ≡ other.now) }
 {
     local_fault == other
 }
 
-/// Compares two faults of pairs by `==`, which is true exactly if they are the same.
+/// Compares two errors of pair decoding by `==`, which is true exactly if they are the same.
 pub fn equal_pair_faults(pair_fault: &PairFault, other: &PairFault) -> bool
     ensures { IsTrue result ↔ (pair_fault.now ≡ other.now) }
 {

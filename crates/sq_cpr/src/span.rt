@@ -2,13 +2,13 @@
 ghost use Rattle.std.specs.Prelude.{◌≡◌, ◌<◌, ◌≤◌, ℕ, refl};
 ghost use Rattle.sq_cpr.specs.Span.{Span, FitsCircle, air, ground};
 
-/// A span of degrees which fits a whole number of times into the circle (RTCA DO-260B, appendix on compact position
+/// A span of degrees that fits a whole number of times into the circle (RTCA DO-260B, appendix on compact position
 /// reporting).
 pub trait Span {
     /// The degrees that the zones share: 360 in the air, 90 on the ground.
     const DEGREES: u32;
 
-    /// How often the span fits into the circle.
+    /// How many times the span fits into the circle.
     const REPEATS: u32;
 
     ghost DEGREES: { ℕ };
@@ -24,7 +24,7 @@ pub trait Span {
     ghost full_circle: { FitsCircle span };
 }
 
-/// Positions in the air: the whole circle.
+/// The span of airborne positions: the whole circle.
 #[derive(Clone, Copy, Debug, PartialEq, Eq)]
 pub struct Air;
 
@@ -46,7 +46,7 @@ impl Span for Air {
     ghost full_circle = { refl };
 }
 
-/// Positions on the ground: a quarter of the circle.
+/// The span of surface positions: a quarter of the circle.
 #[derive(Clone, Copy, Debug, PartialEq, Eq)]
 pub struct Ground;
 
@@ -68,7 +68,7 @@ impl Span for Ground {
     ghost full_circle = { refl };
 }
 
-// The degrees of the span.
+// Returns the degrees of the span.
 pub(crate) fn degrees_of<S: Span>() -> u32
     ensures value { result ≡ S.span.degrees }
     ensures some { 0 < result }
@@ -77,7 +77,7 @@ pub(crate) fn degrees_of<S: Span>() -> u32
     S::DEGREES
 }
 
-// How often the span fits into the circle.
+// Returns how many times the span fits into the circle.
 pub(crate) fn repeats_of<S: Span>() -> u32
     ensures value { result ≡ S.span.repeats }
     ensures some { 0 < result }

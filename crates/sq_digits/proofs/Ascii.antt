@@ -9,7 +9,7 @@ both : (a b : Bool) → (a && b) ≡ true → (a ≡ true) × (b ≡ true)
 both true b e = (refl, e)
 both false b e = absurd (true≢false (sym e))
 
--- a list whose bytes are all below 128 is of ASCII characters
+-- a list of bytes below 128 is a list of ASCII characters
 pub ascii_from : (bs : List ℕ) → list_all (λ b. nat_lt b 128) bs ≡ true → IsAscii bs
 ascii_from [] e = IsAscii-nil
 ascii_from (b ∷ bs) e =

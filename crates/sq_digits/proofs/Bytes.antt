@@ -1,4 +1,4 @@
--- The table of two hexadecimal digits each, and what is read of it.
+-- The table of all bytes as two hexadecimal digits, and reading it.
 use Rattle.std.proofs.Common.{◌≡◌, ℕ, ◌*◌, ◌/◌, ◌%◌, ◌<◌, ◌^◌, true, List, [], ◌∷◌, ◌++◌, map, take, drop, get_or}
 use Rattle.std.proofs.Common.{bit_and, refl, sym, ap, ap₂, ◌∙◌, arith}
 use Rattle.std.proofs.lemmas.List.FromFn.{get_or-map-range_with_len}
@@ -10,7 +10,7 @@ use Rattle.sq_digits.specs.Digits.{hexadecimal}
 use Rattle.sq_digits.specs.declared.hexadecimal.TheConstants.{BYTES}
 use Rattle.sq_digits.proofs.Ascii.{ascii_from}
 
--- the bytes of the two digits of a byte
+-- the two digits of a byte in the table
 abbrev pub two_at : ℕ → List ℕ
 two_at n = take 2 (drop (2 * n) BYTES.now)
 
@@ -25,7 +25,7 @@ byte_at n small =
 pub IsAscii-bytes : IsAscii BYTES.now
 IsAscii-bytes = ascii_from BYTES.now refl
 
--- the digits of a byte are those of the number that it is cut from
+-- the digits of the lowest byte of a number are the lowest two digits of the number
 byte_of : (m : ℕ) → hexadecimal 2 (bit_and m 255) ≡ hexadecimal 2 m
 byte_of m =
     let byte : bit_and m 255 ≡ m % 256 = and_mask m 8 in
@@ -33,7 +33,7 @@ byte_of m =
     let high : m % 256 / 16 % 16 ≡ m / 16 % 16 = omega arith in
     ap (hexadecimal 2) byte ∙ ap₂ (λ h l. digit_glyph true h ∷ digit_glyph true l ∷ []) high low
 
--- six places, two at a time
+-- six digits, two at a time
 pub six_places : (n : ℕ) → hexadecimal 6 n ≡ hexadecimal 2 (bit_and (n / 2 ^ 16) 255)
     ++ (hexadecimal 2 (bit_and (n / 2 ^ 8) 255) ++ hexadecimal 2 (bit_and n 255))
 six_places n =

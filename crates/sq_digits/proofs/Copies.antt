@@ -18,7 +18,7 @@ copied_more cells old source start at room within before =
     ∙ ap (λ t. take start old ++ t) (sym (take_more source at 0 within))
     )
 
--- what was stored up to a place within the source
+-- the bytes stored up to an index within the source
 pub front_of : (new old source : List ℕ) (start count : ℕ) → start ≤ length old → count ≤ length source
     → take (start + length source) new ≡ take start old ++ source
     → take (start + count) new ≡ take start old ++ take count source

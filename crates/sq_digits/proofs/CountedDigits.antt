@@ -1,4 +1,4 @@
--- How many digits stand at the front of a text, as lanes count them.
+-- The number of digits at the front of a text, as lanes count them.
 use Rattle.std.proofs.Common.{◌≡◌, ℕ, ◌%◌, ◌<◌, ◌≤◌, ◌^◌, List, [], ◌∷◌, suc, Bool, true, false, w8, Fits}
 use Rattle.std.proofs.Common.{length, take, get_or, map, replicate, cond, eqb, ltb, not}
 use Rattle.std.proofs.Common.{refl, sym, ap, ◌∙◌, subst, arith}
@@ -14,7 +14,7 @@ use Rattle.sq_digits.proofs.HexLanes.{below, less, low}
 
 -- ---- one lane, as the code computes it
 
--- whether the mask names a byte
+-- whether the mask marks a byte
 abbrev pub is_other : ℕ → Bool
 is_other x = top 7 (below 9 (less x 48))
 
@@ -56,7 +56,7 @@ mask_is lanes long =
     let few : length (map is_other lanes) ≤ 64 = omega (arith, long, length-map lanes is_other) in
     ap (λ ms. mask_l ms % 2 ^ 64) tops ∙ mask_l-mod (map is_other lanes) 64 few
 
--- the number of bytes before the first that a mask names
+-- the number of bytes before the first that a mask marks
 abbrev count_of : ℕ → ℕ
 count_of mask = cond (eqb mask 0) 16 (trailing_zeros w64 mask)
 

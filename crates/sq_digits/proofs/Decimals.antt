@@ -10,12 +10,12 @@ use Rattle.sq_digits.specs.Digits.{fixed_digits, minus_of}
 pub decimal_one : (n : ℕ) → n < 10 → decimal n ≡ (48 + n) ∷ []
 decimal_one n h = decimal_digit n h
 
--- of two digits
+-- a number of two digits
 pub decimal_two : (n : ℕ) → 10 ≤ n → n < 100 → decimal n ≡ (48 + n / 10) ∷ (48 + n % 10) ∷ []
 decimal_two n h k =
     decimal_step n h (omega arith) ∙ ap (λ ds. ds ++ (48 + n % 10) ∷ []) (decimal_digit (n / 10) (omega arith))
 
--- and of three
+-- a number of three digits
 pub decimal_three : (n : ℕ) → 100 ≤ n → n < 1000 → decimal n ≡ (48 + n / 100) ∷ (48 + n / 10 % 10) ∷ (48 + n % 10) ∷ []
 decimal_three n h k =
     let tens : 10 ≤ n / 10 = omega arith in
@@ -25,7 +25,7 @@ decimal_three n h k =
     ∙ ap (λ ds. ds ++ (48 + n % 10) ∷ []) (decimal_two (n / 10) tens tens')
     ∙ ap (λ q. (48 + q) ∷ (48 + n / 10 % 10) ∷ (48 + n % 10) ∷ []) first
 
--- the lowest three places of a number depend on its remainder by 1000 alone
+-- the lowest three digits of a number depend only on its remainder by 1000
 three_of : (n : ℕ) → fixed_digits 3 (n % 1000) ≡ fixed_digits 3 n
 three_of n =
     let a : n % 1000 / 10 / 10 % 10 ≡ n / 10 / 10 % 10 = omega arith in

@@ -24,11 +24,11 @@ more a b = (a + b) % 2 ^ 8
 abbrev pub below : ℕ → ℕ → ℕ
 below a b = cond (ltb a b) 255 0
 
--- what a mask chooses
+-- the choice of a mask
 abbrev pub choice : ℕ → ℕ → ℕ → ℕ
 choice mask a b = cond (top 7 mask) a b
 
--- the value where the byte is a decimal digit, else 16 or more
+-- the value if the byte is a decimal digit, and otherwise 16 or more
 abbrev pub decimal_of : ℕ → ℕ
 decimal_of x = less (less (choice (below (more x 198) 6) 6 (more x 198)) 6) 240
 
@@ -36,11 +36,11 @@ decimal_of x = less (less (choice (below (more x 198) 6) 6 (more x 198)) 6) 240
 abbrev pub letter : ℕ → ℕ
 letter x = less (bit_and x 223) 65
 
--- the value where the byte is a letter up to F, else more than 9
+-- the value if the byte is a letter up to F, and otherwise more than 9
 abbrev pub letter_of : ℕ → ℕ
 letter_of x = more (letter x) (choice (below 10 (255 - letter x)) 10 (255 - letter x))
 
--- the value where the byte is a digit, else 16 or more
+-- the value if the byte is a digit, and otherwise 16 or more
 abbrev pub value_of : ℕ → ℕ
 value_of x = choice (below (decimal_of x) (letter_of x)) (decimal_of x) (letter_of x)
 
@@ -52,7 +52,7 @@ each_value : map (λ x. is_value x (value_of x)) (range_with_len 0 256)
     ≡ map (λ _. true) (range_with_len 0 256)
 each_value = refl
 
--- what was evaluated for each byte
+-- a property evaluated for every byte holds for each byte
 pub at_byte : (f : ℕ → Bool) → map f (range_with_len 0 256) ≡ map (λ _. true) (range_with_len 0 256) → (x : ℕ) → x < 256
     → f x ≡ true
 at_byte f each x small =
@@ -100,7 +100,7 @@ pub low : (b : Bool) → top 7 (cond b 255 0) ≡ false → b ≡ false
 low true e = absurd (cc e)
 low false e = refl
 
--- both are below 16 where the mask does not name them
+-- both bytes are below 16 if the mask does not mark them
 both_low : (a b : ℕ) → top 7 (below 15 (bit_or a b)) ≡ false → (a < 16) × (b < 16)
 both_low a b clear =
     let most : bit_or a b ≤ 15 = ltb-false 15 (bit_or a b) (low (ltb 15 (bit_or a b)) clear) in
@@ -260,7 +260,7 @@ joined_at vs long i small =
     ∙ ap₂ joined_pair (get_or_append_left vs vs 0 (2 * i) (omega (arith, long)))
     (get_or_append_left vs vs 0 (2 * i + 1) (omega (arith, long)))
 
--- they are bytes
+-- the joined pairs are bytes
 pub joined_small : (vs : List ℕ) → length vs ≡ 16 → Each1 (Fits w8) vs → (i : ℕ) → get_or (joined vs) i 0 < 256
 joined_small vs long fits i = elim (cases_lt i 8) [
   | inl small ↦

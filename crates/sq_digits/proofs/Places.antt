@@ -1,11 +1,11 @@
--- Hexadecimal places, one after another.
+-- Hexadecimal digits, one after another.
 use Rattle.std.proofs.Common.{◌≡◌, ℕ, ◌+◌, ◌-◌, ◌*◌, ◌/◌, ◌%◌, ◌<◌, ◌^◌, [], ◌∷◌, ◌++◌, true, bit_and, refl, sym, ap}
 use Rattle.std.proofs.Common.{ap₂, ◌∙◌, subst, arith, add-one}
 use Rattle.std.proofs.lemmas.Nat.{shr-shr, and_mask}
 use Rattle.std.specs.Fmt.{digit_glyph}
 use Rattle.sq_digits.specs.Digits.{hexadecimal}
 
--- one more place of a number, below those before it
+-- one more digit of a number, below those before it
 pub place_more : (n places i : ℕ) → i < places
     → hexadecimal (i + 1) (n / 2 ^ (4 * (places - (i + 1))))
     ≡ hexadecimal i (n / 2 ^ (4 * (places - i))) ++ digit_glyph true (bit_and (n / 2 ^ (4 * (places - 1 - i))) 15) ∷ []

@@ -16,14 +16,14 @@ hex_at [] i hex within = absurd (omega (arith, within))
 hex_at (d ∷ digits) zero (is, hex) within = is
 hex_at (d ∷ digits) (suc i) (is, hex) within = hex_at digits i hex (omega (arith, within))
 
--- the values of sixteen digits at a place are below 16
+-- the values of sixteen digits from an index on are below 16
 pub all_values : (digits values : List ℕ) (at : ℕ) → AreHex digits → at + 16 ≤ length digits
     → ((k : ℕ) → k < 16 → digit_value (get_or digits (at + k) 0) < 16 → get_or values k 0 < 16)
     → (k : ℕ) → k < 16 → get_or values k 0 < 16
 all_values digits values at hex room known k small =
     known k small (ltb-true _ 16 (hex_at digits (at + k) hex (omega (arith, room, small))))
 
--- bytes that the digits spell from byte k on
+-- the bytes that the digits encode from byte k on
 abbrev pub AreFrom : List ℕ → ℕ → List ℕ → Type 0
 AreFrom digits k [] = Unit {0}
 AreFrom digits k (byte ∷ more) = (byte ≡ byte_at digits k) × AreFrom digits (k + 1) more
@@ -38,7 +38,7 @@ pub are_bytes : (digits bytes : List ℕ) → length digits / 2 ≡ length bytes
 are_bytes digits bytes half each =
     from_all digits bytes 0 each ∙ ap (λ n. map (byte_at digits) (range_with_len 0 n)) (sym half)
 
--- sixteen values of digits, and the bytes that they are joined to
+-- the bytes joined from the values of sixteen digits are those that the digits encode
 pub eight_spelled : (text values bytes : List ℕ) (at : ℕ)
     → ((k : ℕ) → k < 16 → get_or values k 0 < 16 → digit_value (get_or text (at + k) 0) ≡ get_or values k 0)
     → ((k : ℕ) → k < 16 → get_or values k 0 < 16)
@@ -56,7 +56,7 @@ eight_spelled text values bytes at known few joined = record {
       omega (arith, high, low, both);
 }
 
--- byte i of eight is byte k of all
+-- byte i of the eight is byte k of all
 pub one_byte : (digits bytes : List ℕ) (at i k : ℕ) → AreSpelled digits at bytes → i < 8 → at + 2 * i ≡ 2 * k
     → get_or bytes i 0 ≡ byte_at digits k
 one_byte digits bytes at i k spelled small same =
@@ -64,12 +64,12 @@ one_byte digits bytes at i k spelled small same =
     ∙ ap₂ (λ a b. 16 * digit_value (get_or digits a 0) + digit_value (get_or digits b 0)) same
     (omega (arith, same))
 
--- so many bytes of eight, from one on
+-- n bytes of eight, from byte j on
 abbrev pub picked : List ℕ → ℕ → ℕ → List ℕ
 picked bytes j zero = []
 picked bytes j (suc n) = get_or bytes j 0 ∷ picked bytes (suc j) n
 
--- they are bytes of all, before those that follow
+-- the picked bytes are bytes of all, followed by the others
 pub from_picked : (digits bytes more : List ℕ) (at j n k : ℕ) → AreSpelled digits at bytes → j + n ≤ 8
     → at + 2 * j ≡ 2 * k → AreFrom digits (k + n) more → AreFrom digits k (picked bytes j n ++ more)
 from_picked digits bytes more at j zero k spelled few same rest =

@@ -1,4 +1,4 @@
--- The table of three digits each, and what is read of it.
+-- The table of three digits each, and reading it.
 use Rattle.std.proofs.Common.{◌≡◌, ℕ, ◌+◌, ◌-◌, ◌*◌, ◌/◌, ◌%◌, ◌<◌, List, [], ◌∷◌, Bool, if◌then◌else◌, inl, inr, true}
 use Rattle.std.proofs.Common.{false, map, take, drop, get_or, nat_lt, decimal, refl, sym, ap, ◌∙◌, arith}
 use Rattle.std.proofs.lemmas.Bool.{cases_lt, le-ltb, lt-ltb}
@@ -36,11 +36,11 @@ three_digits : (n : ℕ) → n < 1000 → fixed_digits 3 n ≡ (48 + n / 100) �
 three_digits n small =
     let e : n / 10 / 10 % 10 ≡ n / 100 = omega arith in ap (λ d. (48 + d) ∷ (48 + n / 10 % 10) ∷ (48 + n % 10) ∷ []) e
 
--- how many zeros lead the three digits of a number, but for the last
+-- the number of leading zeros in the three digits of a number, without the last digit
 abbrev pub zeros_of : ℕ → ℕ
 zeros_of n = one_if (nat_lt n 100) + one_if (nat_lt n 10)
 
--- the digits behind them
+-- the digits after the leading zeros
 abbrev pub leading_at : ℕ → List ℕ
 leading_at n = take (3 - zeros_of n) (drop (4 * n + zeros_of n) THREES.now)
 
@@ -51,7 +51,7 @@ short_digits n = if nat_lt n 10 then fixed_digits 1 n else (if nat_lt n 100 then
 leading_are : map leading_at (range_with_len 0 1000) ≡ map short_digits (range_with_len 0 1000)
 leading_are = refl
 
--- that these are its decimal
+-- the short digits of a number are its decimal digits
 short_decimal : (n : ℕ) → n < 1000 → short_digits n ≡ decimal n
 short_decimal n small = elim (cases_lt n 10) [
   | inl one ↦ rw (lt-ltb n 10 one, decimal_one n one) (one_digit n one)

@@ -1,4 +1,4 @@
--- The characters that texts of angles and frames are made of, by their ASCII codes.
+-- The characters in the texts of angles and frames, as ASCII codes.
 use Rattle.std.specs.Prelude.{◌+◌, ℕ}
 
 abbrev pub space : ℕ
@@ -16,6 +16,6 @@ decimal_point = 46
 abbrev pub semicolon : ℕ
 semicolon = 59
 
--- the character of a number below 10
+-- the digit of a number below 10
 abbrev pub digit : ℕ → ℕ
 digit n = 48 + n

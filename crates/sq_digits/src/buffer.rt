@@ -6,10 +6,10 @@ ghost use Rattle.sq_digits.specs.Buffer.{text_len};
 use std::marker::Model;
 use std::str;
 
-/// A text of at most `N` bytes, which lie in the value itself.
+/// A text of at most `N` bytes, stored in the value itself.
 ///
-/// Unlike `ArrayString` it is appended to by stores: bytes behind the text may be overwritten, and a few bytes at once
-/// are one word.
+/// Unlike `ArrayString`, it appends by plain stores: bytes behind the text may be overwritten, and a few bytes are
+/// stored as one word.
 #[derive(Clone, Copy)]
 pub struct TextBuffer<const N: usize> {
     cells: [u8; N],
@@ -36,7 +36,7 @@ impl<const N: usize> Model for TextBuffer<N> {
 }
 
 impl<const N: usize> TextBuffer<N> {
-    /// An empty text.
+    /// Returns an empty text.
     pub fn new() -> Self
         ensures { result.bytes ≡ [] }
     {
@@ -46,7 +46,7 @@ impl<const N: usize> TextBuffer<N> {
         }
     }
 
-    /// The length in bytes.
+    /// Returns the length in bytes.
     #[inline]
     pub fn len(&self) -> usize
         ensures value { result ≡ text_len self.now }
@@ -55,7 +55,7 @@ impl<const N: usize> TextBuffer<N> {
         self.len
     }
 
-    /// Whether the text has no byte.
+    /// Returns whether the text is empty.
     #[inline]
     pub fn is_empty(&self) -> bool
         ensures { result ≡ (text_len self.now == 0) }
@@ -71,7 +71,7 @@ impl<const N: usize> TextBuffer<N> {
         self.len = 0;
     }
 
-    /// Appends a text. There must be room.
+    /// Appends a text. The buffer must have room for it.
     #[inline(always)]
     pub fn push_str(&mut self, text: &str)
         requires { text_len self.old + length text.now ≤ N }
@@ -83,7 +83,7 @@ impl<const N: usize> TextBuffer<N> {
         self.len = start + text.len();
     }
 
-    /// Appends an ASCII character. There must be room.
+    /// Appends an ASCII character. The buffer must have room for it.
     #[inline(always)]
     pub fn push(&mut self, character: u8)
         requires ascii { character < 128 }
@@ -96,8 +96,8 @@ impl<const N: usize> TextBuffer<N> {
         self.len = place + 1;
     }
 
-    /// Appends the first `count` of some ASCII characters. There must be room for all of them, since they are stored as
-    /// one word. The bytes behind the text have no meaning.
+    /// Appends the first `count` of some ASCII characters. The buffer must have room for all of the characters, since
+    /// they are stored as one word. The bytes behind the text have no meaning.
     #[inline(always)]
     pub fn push_front(&mut self, characters: &[u8], count: usize)
         requires ascii { IsAscii characters.now }
@@ -111,7 +111,7 @@ impl<const N: usize> TextBuffer<N> {
         self.len = start + count;
     }
 
-    /// The bytes of the text.
+    /// Returns the bytes of the text.
     #[inline]
     pub fn as_bytes(&self) -> &[u8]
         ensures value { result.now ≡ self.now.bytes }
@@ -120,7 +120,7 @@ impl<const N: usize> TextBuffer<N> {
         &self.cells[..self.len]
     }
 
-    /// The text.
+    /// Returns the text.
     #[inline]
     pub fn as_str(&self) -> &str
         ensures value { result.now ≡ self.now.bytes }
@@ -130,7 +130,8 @@ impl<const N: usize> TextBuffer<N> {
     }
 }
 
-// Stores the source from a place on, byte by byte: a call with a source of known length becomes stores of words.
+// Stores the source from index `start` on, byte by byte. A call with a source of known length is compiled to stores
+// of words.
 #[inline(always)]
 fn copy_in<const N: usize>(cells: &mut [u8; N], start: usize, source: &[u8])
     requires { start + length source.now ≤ N }

@@ -9,7 +9,7 @@ ghost use Rattle.sq_digits.specs.Digits.{fixed_digits, minus_of};
 use crate::buffer::TextBuffer;
 use itoa::Buffer;
 
-// The numbers from 0 to 999 in three decimal digits each, a space behind each.
+// The numbers from 0 to 999 as three decimal digits and a space each.
 const THREES: &str = "\
 000 001 002 003 004 005 006 007 008 009 010 011 012 013 014 015 016 017 018 019 020 021 022 023 \
 024 025 026 027 028 029 030 031 032 033 034 035 036 037 038 039 040 041 042 043 044 045 046 047 \
@@ -54,7 +54,7 @@ const THREES: &str = "\
 960 961 962 963 964 965 966 967 968 969 970 971 972 973 974 975 976 977 978 979 980 981 982 983 \
 984 985 986 987 988 989 990 991 992 993 994 995 996 997 998 999 ";
 
-/// Appends a number in decimal digits, at most 20, with no leading zeros.
+/// Appends a number as decimal digits, at most 20, without leading zeros.
 #[inline(always)]
 pub fn push_decimal<const N: usize>(text: &mut TextBuffer<N>, number: u64)
     requires { text_len text.old + 20 ≤ N }
@@ -68,7 +68,7 @@ pub fn push_decimal<const N: usize>(text: &mut TextBuffer<N>, number: u64)
     }
 }
 
-/// Appends a number with its sign in decimal digits, at most 21 bytes, with no leading zeros.
+/// Appends a number with its sign as decimal digits, at most 21 bytes, without leading zeros.
 #[inline(always)]
 pub fn push_signed_decimal<const N: usize>(text: &mut TextBuffer<N>, number: i64)
     requires { text_len text.old + 21 ≤ N }
@@ -79,7 +79,8 @@ pub fn push_signed_decimal<const N: usize>(text: &mut TextBuffer<N>, number: i64
     push_decimal(text, number.unsigned_abs());
 }
 
-/// Appends a number between -10^6 and 10^6 with its sign in decimal digits, at most seven bytes. Needs room for eight.
+/// Appends a number between -10^6 and 10^6 with its sign as decimal digits, at most seven bytes. The buffer must have
+/// room for eight.
 #[inline(always)]
 pub fn push_signed_short<const N: usize>(text: &mut TextBuffer<N>, number: i64)
     requires small { unsigned_abs number < 1000000 }
@@ -91,7 +92,7 @@ pub fn push_signed_short<const N: usize>(text: &mut TextBuffer<N>, number: i64)
     push_short(text, number.unsigned_abs());
 }
 
-// Appends the sign of a negative number.
+// Appends `-` if the number is negative.
 #[inline(always)]
 fn push_minus<const N: usize>(text: &mut TextBuffer<N>, number: i64)
     requires { text_len text.old + 1 ≤ N }
@@ -119,7 +120,7 @@ fn push_nine<const N: usize>(text: &mut TextBuffer<N>, number: u64)
     }
 }
 
-/// Appends a number below 10^6 in decimal digits, with no leading zeros. There must be room for seven bytes.
+/// Appends a number below 10^6 as decimal digits, without leading zeros. The buffer must have room for seven bytes.
 #[inline(always)]
 pub fn push_short<const N: usize>(text: &mut TextBuffer<N>, number: u64)
     requires small { number < 1000000 }
@@ -135,7 +136,7 @@ pub fn push_short<const N: usize>(text: &mut TextBuffer<N>, number: u64)
     }
 }
 
-// Appends a number of seven digits or more. Up to fifteen digits, as milliseconds have, are written three at a time.
+// Appends a number of seven digits or more. Up to fifteen digits, as in timestamps, are written three at a time.
 #[inline(never)]
 fn push_long<const N: usize>(text: &mut TextBuffer<N>, number: u64)
     requires long { 10 ^ 6 ≤ number }
@@ -151,7 +152,7 @@ fn push_long<const N: usize>(text: &mut TextBuffer<N>, number: u64)
     }
 }
 
-// Appends the last six decimal digits of a number. Needs room for seven characters.
+// Appends the last six decimal digits of a number. The buffer must have room for seven characters.
 #[inline(always)]
 fn push_last_six<const N: usize>(text: &mut TextBuffer<N>, number: u64)
     requires { text_len text.old + 7 ≤ N }
@@ -175,7 +176,7 @@ fn push_longest<const N: usize>(text: &mut TextBuffer<N>, number: u64)
     text.push_str(buffer.format(number));
 }
 
-/// Appends a number below 1000 in decimal digits, with no leading zeros. There must be room for four bytes.
+/// Appends a number below 1000 as decimal digits, without leading zeros. The buffer must have room for four bytes.
 #[inline(always)]
 pub fn push_leading<const N: usize>(text: &mut TextBuffer<N>, number: u64)
     requires small { number < 1000 }
@@ -187,7 +188,7 @@ pub fn push_leading<const N: usize>(text: &mut TextBuffer<N>, number: u64)
     text.push_front(characters, count);
 }
 
-/// Appends a number below 1000 in three decimal digits, zeros in front too.
+/// Appends a number below 1000 as three decimal digits, with leading zeros.
 #[inline(always)]
 pub fn push_three<const N: usize>(text: &mut TextBuffer<N>, number: u64)
     requires small { number < 1000 }
@@ -198,7 +199,8 @@ pub fn push_three<const N: usize>(text: &mut TextBuffer<N>, number: u64)
     text.push_front(three_digits(number), 3);
 }
 
-// Appends a number below 1000 in three decimal digits, where there is room for one more character: four are one store.
+// Appends a number below 1000 as three decimal digits. The buffer must have room for four characters, which are one
+// store.
 #[inline(always)]
 fn push_next_three<const N: usize>(text: &mut TextBuffer<N>, number: u64)
     requires small { number < 1000 }
@@ -209,7 +211,7 @@ fn push_next_three<const N: usize>(text: &mut TextBuffer<N>, number: u64)
     text.push_front(four_characters(number), 3);
 }
 
-// Returns four characters of the table, and how many of them are digits of a number below 1000.
+// Returns four characters of the table, and how many of them are the digits of a number below 1000.
 #[inline(always)]
 fn leading_digits(number: u64) -> (&'static [u8], usize)
     requires { number < 1000 }
@@ -223,7 +225,7 @@ fn leading_digits(number: u64) -> (&'static [u8], usize)
     (&THREES.as_bytes()[at..at + 4], 3 - zeros)
 }
 
-// Returns four characters of the table: three digits of a number below 1000, and one without meaning.
+// Returns four characters of the table: the three digits of a number below 1000, and one without meaning.
 #[inline(always)]
 fn four_characters(number: u64) -> &'static [u8]
     requires { number < 1000 }
@@ -235,7 +237,7 @@ fn four_characters(number: u64) -> &'static [u8]
     &THREES.as_bytes()[at..at + 4]
 }
 
-// The three digits of a number below 1000.
+// Returns the three digits of a number below 1000.
 #[inline(always)]
 fn three_digits(number: u64) -> &'static [u8]
     requires { number < 1000 }
@@ -246,7 +248,7 @@ fn three_digits(number: u64) -> &'static [u8]
     &THREES.as_bytes()[at..at + 3]
 }
 
-/// Appends a number below 10 in one decimal digit.
+/// Appends a number below 10 as one decimal digit.
 #[inline(always)]
 pub fn push_digit<const N: usize>(text: &mut TextBuffer<N>, digit: u64)
     requires small { digit < 10 }

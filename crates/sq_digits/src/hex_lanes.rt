@@ -4,10 +4,10 @@ ghost use Rattle.std.specs.Char.{digit_value};
 
 use std::simd::prelude::*;
 
-// What makes a letter a capital, as a mask.
+// The mask that turns a letter into upper case.
 const CAPITAL: u8 = !(b'a' - b'A');
 
-// Takes the digit nine to 255, so that the bytes above it start at 0 again.
+// Added to a byte, this takes the digit 9 to 255, so that the bytes above it wrap to 0.
 const TO_LAST: u8 = 255 - b'9';
 
 // Returns the value of each hexadecimal digit of either case, and 16 or more for each other byte. A byte is tried as a
@@ -27,7 +27,7 @@ pub(crate) fn digit_values(text: u8x16) -> u8x16
     decimals.simd_min(letters)
 }
 
-// Returns whether each byte of both is below 16.
+// Returns whether each byte of both vectors is below 16.
 #[inline(always)]
 pub(crate) fn are_values(front: u8x16, back: u8x16) -> bool
     ensures front { IsTrue result → (place : ℕ) → place < 16 → slice_index front place < 16 }

@@ -6,7 +6,7 @@ ghost use Rattle.sq_digits.specs.HexDigits.{AreHex, bytes_of as spelled_by};
 use crate::hex_lanes::{are_values, bytes_of, digit_values};
 use std::simd::prelude::*;
 
-// Returns the values of the sixteen digits at a place, and 16 or more for each other byte.
+// Returns the values of the sixteen hexadecimal digits from index `at` on, and 16 or more for each other byte.
 #[inline(always)]
 fn values_at(text: &[u8], at: usize) -> u8x16
     requires { at + 16 ≤ length text.now }
@@ -17,13 +17,13 @@ fn values_at(text: &[u8], at: usize) -> u8x16
     digit_values(u8x16::from_slice(&text[at..]))
 }
 
-/// Returns the fourteen bytes that 28 hexadecimal digits of either case spell, or `None` if any byte is no digit.
+/// Decodes 28 hexadecimal digits of either case to fourteen bytes. Returns `None` if any byte is not a digit.
 #[inline(always)]
 pub fn decode_28(digits: &[u8]) -> Option<[u8; 14]>
     requires { length digits.now ≡ 28 }
     ensures { MatchOption result (¬ AreHex digits.now) (λ bytes. AreHex digits.now × (bytes ≡ spelled_by digits.now)) }
 {
-    // The last sixteen digits begin with four of the first.
+    // The last sixteen digits begin with the last four of the first sixteen.
     let front = values_at(digits, 0);
     let back = values_at(digits, 12);
     if !are_values(front, back) {
@@ -37,13 +37,13 @@ pub fn decode_28(digits: &[u8]) -> Option<[u8; 14]>
     ])
 }
 
-/// Returns the twenty bytes that 40 hexadecimal digits of either case spell, or `None` if any byte is no digit.
+/// Decodes 40 hexadecimal digits of either case to twenty bytes. Returns `None` if any byte is not a digit.
 #[inline(always)]
 pub fn decode_40(digits: &[u8]) -> Option<[u8; 20]>
     requires { length digits.now ≡ 40 }
     ensures { MatchOption result (¬ AreHex digits.now) (λ bytes. AreHex digits.now × (bytes ≡ spelled_by digits.now)) }
 {
-    // The last sixteen digits begin with eight of the middle ones.
+    // The last sixteen digits begin with the last eight of the middle sixteen.
     let front = values_at(digits, 0);
     let inner = values_at(digits, 16);
     let back = values_at(digits, 24);

@@ -7,7 +7,7 @@ ghost use Rattle.sq_digits.specs.Digits.{hexadecimal};
 
 use crate::buffer::TextBuffer;
 
-// The bytes in two hexadecimal digits each.
+// All bytes as two hexadecimal digits each.
 const BYTES: &str = "\
 000102030405060708090A0B0C0D0E0F101112131415161718191A1B1C1D1E1F202122232425262728292A2B2C2D2E2F\
 303132333435363738393A3B3C3D3E3F404142434445464748494A4B4C4D4E4F505152535455565758595A5B5C5D5E5F\
@@ -16,7 +16,7 @@ const BYTES: &str = "\
 C0C1C2C3C4C5C6C7C8C9CACBCCCDCECFD0D1D2D3D4D5D6D7D8D9DADBDCDDDEDFE0E1E2E3E4E5E6E7E8E9EAEBECEDEEEF\
 F0F1F2F3F4F5F6F7F8F9FAFBFCFDFEFF";
 
-/// Appends the lowest six places of a number, in upper-case hexadecimal digits, two at a time.
+/// Appends the lowest six hexadecimal digits of a number in upper case, two at a time.
 #[inline(always)]
 pub fn push_six_places<const N: usize>(text: &mut TextBuffer<N>, number: u32)
     requires { text_len text.old + 6 ≤ N }
@@ -28,7 +28,7 @@ pub fn push_six_places<const N: usize>(text: &mut TextBuffer<N>, number: u32)
     push_byte(text, (number & 0xFF) as u8);
 }
 
-/// Appends a byte in two upper-case hexadecimal digits.
+/// Appends a byte as two upper-case hexadecimal digits.
 #[inline(always)]
 pub fn push_byte<const N: usize>(text: &mut TextBuffer<N>, byte: u8)
     requires { text_len text.old + 2 ≤ N }
@@ -38,7 +38,7 @@ pub fn push_byte<const N: usize>(text: &mut TextBuffer<N>, byte: u8)
     text.push_front(two_digits(byte), 2);
 }
 
-// The two digits of a byte.
+// Returns the two digits of a byte.
 #[inline(always)]
 fn two_digits(byte: u8) -> &'static [u8]
     ensures ascii { IsAscii result.now }
@@ -48,7 +48,7 @@ fn two_digits(byte: u8) -> &'static [u8]
     &BYTES.as_bytes()[at..at + 2]
 }
 
-/// Appends the lowest so many places of a number, at most 16, in upper-case hexadecimal digits.
+/// Appends the lowest `places` hexadecimal digits of a number, at most 16, in upper case.
 pub fn push_hexadecimal<const N: usize>(text: &mut TextBuffer<N>, number: u64, places: u8)
     requires some { places ≤ 16 }
     requires room { text_len text.old + places ≤ N }

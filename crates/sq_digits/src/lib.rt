@@ -1,5 +1,5 @@
-//! Digits: texts in buffers of fixed size, numbers written as digits in them, and digits read in lanes. No call takes
-//! memory.
+//! Digits: texts in buffers of fixed size, writing numbers as digits to them, and reading digits in lanes. No call
+//! allocates.
 #![tactic(auto)]
 
 mod buffer;

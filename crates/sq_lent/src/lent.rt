@@ -14,29 +14,29 @@ pub struct Lent {
 }
 
 impl Lent {
-    /// An allocator over this memory.
+    /// Returns an allocator over this memory.
     pub fn new(room: Room) -> Lent {
         Lent {
             rest: Cell::new(Some(room)),
         }
     }
 
-    /// An allocator over memory of this size.
+    /// Returns an allocator over memory of this size.
     pub fn over(size: usize, memory: Memory) -> Lent
         requires { size ≡ memory.size }
     {
         Lent::new(Room::of(size, memory))
     }
 
-    /// An allocator that has no memory.
+    /// Returns an allocator without memory.
     pub fn empty() -> Lent {
         Lent {
             rest: Cell::new(None),
         }
     }
 
-    /// An allocator that lies in the memory that it hands out, so its handle is a plain copy. The memory is its own
-    /// from then on. Returns `None` if the room has fewer than 64 bytes and the allocator's own size.
+    /// Returns an allocator that lies in the memory that it hands out, so its handle is a plain copy. The allocator
+    /// owns the memory from then on. Returns `None` if the room has fewer than 64 bytes and the allocator's own size.
     pub fn settle(room: Room) -> Option<&'static Lent> {
         let Ok((front, rest)) = room.take(64) else {
             return None;

@@ -1,7 +1,7 @@
 //! An allocator over memory that a caller lends: no heap is asked.
 //!
 //! A [`Room`] is a block as C lends it. [`Lent`] hands its bytes out once, front to back, and takes none back. It
-//! serves what takes its memory at once and keeps it, as a tracker with room for its limit does.
+//! suits a value that takes its memory at once and keeps it, such as a tracker with room for its limit.
 #![tactic(auto)]
 
 mod lent;

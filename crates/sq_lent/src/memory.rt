@@ -40,7 +40,7 @@ pub struct Room {
 }
 
 impl Room {
-    /// A room of this size.
+    /// Returns a room of this size.
     pub(crate) fn of(size: usize, memory: Memory) -> Room
         requires { size ≡ memory.size }
         ensures { result.memory ≡ memory }

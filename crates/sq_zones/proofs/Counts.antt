@@ -1,4 +1,4 @@
--- Counts over limits of a quotient rounded up.
+-- Counting limits by a quotient rounded up.
 use Rattle.std.proofs.Common.{◌≡◌, ℕ, ◌+◌, ◌*◌, ◌<◌, ◌≤◌, Bool, cond, List, [], ◌∷◌, count_by, refl, ap₂, ◌∙◌, sym}
 use Rattle.std.proofs.Common.{arith, leb, nat_le, leb-true, le-leb, mul-le-mul_right, lt_of_mul-lt-mul_right}
 use Rattle.std.proofs.lemmas.List.Sums.{sum_by-cons}
@@ -6,7 +6,7 @@ use Rattle.std.proofs.lemmas.Grind.{div_ceil_times}
 use Rattle.std.specs.Int.{div_ceil}
 use Rattle.std.specs.Cmp.{both_ways}
 
--- a quotient rounded up is at most a whole number exactly where the quotient is
+-- a quotient rounded up is at most a whole number exactly if the quotient is
 ceil_le : (n d limit : ℕ) → 1 ≤ d → leb (div_ceil n d) limit ≡ leb n (limit * d)
 ceil_le n d limit p =
     let r = div_ceil n d in
@@ -16,7 +16,7 @@ ceil_le n d limit p =
     (λ e. let below : r * d < (limit + 1) * d = omega (arith, leb-true n (limit * d) e) in le-leb r limit
     (omega (arith, lt_of_mul-lt-mul_right d below)))
 
--- a quotient rounded up is counted over limits as the quotient is
+-- a quotient rounded up gives the same count of limits as the quotient
 pub count_ceil : (n d : ℕ) (limits : List ℕ) → 1 ≤ d
     → count_by (λ limit. nat_le (div_ceil n d) limit) limits ≡ count_by (λ limit. nat_le n (limit * d)) limits
 count_ceil n d [] p = refl

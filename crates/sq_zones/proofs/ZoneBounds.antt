@@ -19,11 +19,11 @@ zones_at-most lat = omega (
   count_by-le-length (λ limit. nat_le (unsigned_abs lat.num * 10 ^ 8) (limit * lat.den)) zone_limits,
 )
 
--- of each parity there is at least one
+-- there is at least one longitude zone on either grid
 pub lon_zones_at-least : (parity : Parity) (lat : Fraction) → 1 ≤ lon_zones_at parity lat
 lon_zones_at-least parity lat = omega arith
 
--- of each parity there are at most 59
+-- there are at most 59 longitude zones on either grid
 pub lon_zones_at-most : (parity : Parity) (lat : Fraction) → lon_zones_at parity lat ≤ 59
 lon_zones_at-most Even lat = omega (arith, zones_at-most lat)
 lon_zones_at-most Odd lat = omega (arith, zones_at-most lat)

@@ -1,7 +1,6 @@
--- The number of longitude zones at a latitude, which is called NL: RTCA DO-260B, section 2.2.3.2 and the appendix on
--- compact position reporting; ICAO Doc 9871. The standard gives NL by a formula and by a table of its transition
--- latitudes. Here the table with its rounded entries is the definition, and a latitude that equals an entry has the
--- larger count.
+-- The number of longitude zones at a latitude (NL): RTCA DO-260B, section 2.2.3.2 and the appendix on compact
+-- position reporting; ICAO Doc 9871. The standard gives NL by a formula and by a table of transition latitudes. The
+-- definition here is the table with its rounded entries. A latitude that equals an entry has the larger count.
 use Rattle.std.specs.Prelude.{ℕ, ◌+◌, ◌-◌, ◌*◌, ◌^◌, max, Bool, pos, List, [], ◌∷◌, nat_le, count_by, unsigned_abs}
 use Rattle.sq_angle.specs.Fraction.{Fraction}
 use Rattle.sq_zones.specs.declared.parity.Parity.{Parity}
@@ -20,7 +19,7 @@ zone_limits =
     8653536998 ∷ 8700000000 ∷
     []
 
--- a limit of so many 10^-8 degrees, as a fraction
+-- a limit in units of 10^-8 degree, as a fraction of degrees
 abbrev pub limit_at : ℕ → Fraction
 limit_at limit = record { num = pos limit; den = 10 ^ 8 }
 
@@ -28,7 +27,7 @@ limit_at limit = record { num = pos limit; den = 10 ^ 8 }
 abbrev pub is_at_most : Fraction → ℕ → Bool
 is_at_most lat limit = nat_le (unsigned_abs lat.num * 10 ^ 8) (limit * lat.den)
 
--- 1, and one more for each limit that the magnitude of the latitude does not pass
+-- the zone count (NL): 1, plus one for each limit that is at least the magnitude of the latitude
 unfoldable pub zones_at : Fraction → ℕ
 zones_at lat = 1 + count_by (λ limit. is_at_most lat limit) zone_limits
 
@@ -37,6 +36,6 @@ abbrev pub parity_index : Parity → ℕ
 parity_index Even = 0
 parity_index Odd = 1
 
--- the longitude zones of a parity: one less for odd, and at least one
+-- the number of longitude zones of a parity: the zone count, one less for odd, and at least one
 abbrev pub lon_zones_at : Parity → Fraction → ℕ
 lon_zones_at parity lat = max (zones_at lat - parity_index parity) 1

@@ -1,9 +1,9 @@
 //! The number of longitude zones at a latitude.
 //!
-//! Compact position reporting cuts each circle of latitude into zones of longitude, fewer towards the poles.
-//! [`zone_count`] is their number at a latitude, which the standard calls NL: exactly the count over its table of
-//! transition latitudes, for every latitude that an [`Angle`] can be, with no rounding. [`lon_zones`] is
-//! their number on the grid of a [`Parity`]. No call takes memory or fails.
+//! Compact position reporting divides each circle of latitude into longitude zones, fewer towards the poles.
+//! [`zone_count`] returns their number at a latitude (NL): exactly the count over the standard's table of transition
+//! latitudes, for every latitude that an [`Angle`] can be, with no rounding. [`lon_zones`] returns their number on
+//! the grid of a [`Parity`]. No call allocates or fails.
 #![tactic(auto)]
 
 pub mod laws;

@@ -1,4 +1,4 @@
-//! The zone count of a latitude, by bands of latitudes and the table of limits.
+//! The zone count (NL) of a latitude, by bands of latitudes and the table of limits.
 ghost use Rattle.std.specs.Prelude.{◌≡◌, ◌≤◌, ◌*◌, ◌/◌, ◌^◌, count_by, nat_le, slice_index};
 ghost use Rattle.std.specs.Int.{div_ceil};
 ghost use Rattle.sq_angle.specs.Angle.{degrees};
@@ -71,8 +71,8 @@ static ZONE_LIMITS: [u64; 58] = [
     8_700_000_000,
 ];
 
-// The latitudes up to 90 degrees lie in bands of 2^25 units, about a third of a degree. Each band has at most one
-// transition latitude within.
+// The latitudes up to 90 degrees lie in bands of 2^25 units, about a third of a degree. Each band contains at most
+// one transition latitude.
 const BAND_BITS: u32 = 25;
 
 // For each band, the index of the transition latitude to compare with. Earlier ones lie below the band, later ones
@@ -91,11 +91,11 @@ static LIMIT_OF_BAND: [u8; 269] = [
     57, 57, 57,
 ];
 
-/// The number of longitude zones at a latitude, NL: from 59 at the equator to 1 at the poles.
+/// Returns the number of longitude zones at a latitude (NL): from 59 at the equator to 1 at the poles.
 ///
-/// It is 1, and one more for each limit of the table that the magnitude of the latitude does not pass: a latitude that
-/// equals a limit has the larger count. The latitude is from -90 to 90 degrees; [`Angle::is_within`] tests it, and a
-/// position's latitude always is. RTCA DO-260B, section 2.2.3.2.
+/// It is 1, plus one for each limit of the table that is at least the magnitude of the latitude. A latitude that
+/// equals a limit has the larger count. The latitude has to be from -90 to 90 degrees: [`Angle::is_within`] tests it,
+/// and a position's latitude always is. RTCA DO-260B, section 2.2.3.2.
 pub fn zone_count(lat: &Angle) -> u8
     requires { IsWithin 90 (degrees lat.now) }
     ensures value { result ≡ zones_at (degrees lat.now) }
@@ -106,10 +106,10 @@ pub fn zone_count(lat: &Angle) -> u8
     1 + limits_from(scaled)
 }
 
-/// The number of longitude zones at a latitude on the grid of a parity: [`zone_count`], for odd one less and at least
-/// 1.
+/// Returns the number of longitude zones at a latitude on the grid of a parity: [`zone_count`] for even, and one less
+/// but at least 1 for odd.
 ///
-/// The latitude is from -90 to 90 degrees.
+/// The latitude has to be from -90 to 90 degrees.
 pub fn lon_zones(lat: &Angle, parity: Parity) -> u8
     requires { IsWithin 90 (degrees lat.now) }
     ensures value { result ≡ lon_zones_at parity (degrees lat.now) }
@@ -119,7 +119,8 @@ pub fn lon_zones(lat: &Angle, parity: Parity) -> u8
     (zone_count(lat) - parity.index()).max(1)
 }
 
-// `magnitude / den` in units of 10^-8 degree, rounded up: it is at most a limit exactly where the latitude is.
+// Returns `magnitude / den` in units of 10^-8 degree, rounded up. The result is at most a limit exactly if the
+// latitude is.
 fn scaled_up(magnitude: u64, den: u64) -> u64
     requires positive { 1 ≤ den }
     requires within { magnitude ≤ 90 * den }
@@ -131,7 +132,8 @@ fn scaled_up(magnitude: u64, den: u64) -> u64
     quotient(scaled + u128::from(den - 1), den) as u64
 }
 
-// How many limits are at least the scaled latitude: those behind the limit of its band, and that one, where it is.
+// Returns the number of limits that are at least the scaled latitude: those after the limit of its band, and that
+// limit if it is one of them.
 fn limits_from(scaled: u64) -> u8
     requires { scaled ≤ 9 * 10 ^ 9 }
     ensures value { result ≡ count_by (λ limit. nat_le scaled limit) ZONE_LIMITS }
@@ -141,7 +143,7 @@ fn limits_from(scaled: u64) -> u8
     57 - place + u8::from(is_at_most(scaled, place))
 }
 
-// The place of the limit of the scaled latitude's band.
+// Returns the index of the limit of the scaled latitude's band.
 fn limit_of_band(scaled: u64) -> u8
     requires { scaled ≤ 9 * 10 ^ 9 }
     ensures value { result ≡ slice_index LIMIT_OF_BAND (scaled / 2 ^ 25) }
@@ -150,7 +152,7 @@ fn limit_of_band(scaled: u64) -> u8
     LIMIT_OF_BAND[(scaled >> BAND_BITS) as usize]
 }
 
-// Whether the scaled latitude is at most the limit at the place.
+// Returns whether the scaled latitude is at most the limit at an index.
 fn is_at_most(scaled: u64, place: u8) -> bool
     requires { place ≤ 57 }
     ensures { result ≡ nat_le scaled (slice_index ZONE_LIMITS place) }

@@ -1,4 +1,4 @@
--- In the air the reference is the origin.
+-- Airborne pairs are decoded with the origin as the reference.
 use Rattle.std.proofs.Common.{◌≡◌, ℕ, ◌*◌, ◌<◌, ◌≤◌, ℤ, pos, ◌+ℤ◌, ◌*ℤ◌, unsigned_abs, refl, arith, Result, Ok, Err}
 use Rattle.std.proofs.Math.IntN.{negsuc}
 use Rattle.std.proofs.lemmas.Int.{ints}
@@ -22,7 +22,7 @@ use Rattle.sq_cpr.proofs.Decoding.Pairs.{turned_odd}
 use Rattle.sq_cpr.proofs.Decoding.PairLaw.{out_and_in, zones_of_pair, one_pair_answer}
 use Rattle.sq_cpr.proofs.Decoding.ZonePairs.{zone_exists}
 
--- a latitude in -90 to 90 is a representative at 0
+-- a latitude in -90 to 90 degrees is a representative at 0
 pub at_zero : (zones : ℕ) (a : ℤ) → 0 < zones → unsigned_abs (pos 360 *ℤ a) ≤ 90 * (zones * codes_of_zone)
     → IsRepresentative 360 (whole 0) (angle_at 360 zones a)
 at_zero zones (pos n) h k = record { above = omega (arith, ints); at_most = omega (arith, ints) }
@@ -66,7 +66,7 @@ zones_of_newest : (newest : Parity) (count : ℕ)
 zones_of_newest Even count = refl
 zones_of_newest Odd count = refl
 
--- a point of a pair in the air, where the longitude's representative at 0 is known
+-- a point of an airborne pair, with a known representative of the longitude at 0
 air_point_with : (codes : CodePair) (p : Point) (k : IsPointOfPair air codes p)
     (b c r : ℤ) →
     IsClosePair 360 (zones_of Even (count_at 360 Even k.even_lat))

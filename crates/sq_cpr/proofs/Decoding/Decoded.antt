@@ -1,4 +1,4 @@
--- What the decoders found, over plain values.
+-- The values that the decoders find, as plain numbers.
 use Rattle.std.proofs.Common.{◌≡◌, ◌∙◌, ℕ, ◌*◌, ◌<◌, ℤ, pos, refl, arith, ap, sym, to_z, of_z, FitsSigned}
 use Rattle.std.proofs.lemmas.Int.{to_z-of_z}
 use Rattle.std.specs.Int.{w32}
@@ -28,7 +28,7 @@ some_lat_zones Odd = omega arith
 pub some_zones_of_point : (span : Span) (p : Point) → IsGridPoint span p → 0 < p.zones
 some_zones_of_point span p h = rw h.zones (lon_zones_at-least p.parity (latitude span p))
 
--- indices that differ by whole circles have one code
+-- indices that differ by whole circles have the same code
 pub code_of_circle : (zones repeats : ℕ) {a b : ℤ} → IsCongruent (circle zones repeats) a b
     → IsCongruent codes_of_zone a b
 code_of_circle zones repeats h = code_of_turn zones (congruent_factor (zones * codes_of_zone) repeats h)
@@ -82,7 +82,7 @@ point_of_pair span Odd p even odd inside counts parity index zones below =
       east_west = below;
     }
 
--- what the values of the two latitudes say of their indices
+-- facts about two latitude indices, from the values of the latitudes
 pub record FoundPair (w : ℕ) (even odd : ℤ) (count : ℕ) : Type 0 where
   pub inside : AreInRange w even odd
   pub counted : count ≡ count_at w Even even

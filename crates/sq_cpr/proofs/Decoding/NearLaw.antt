@@ -1,4 +1,4 @@
--- Exactly one index is near, and decoding near a reference has one answer.
+-- Exactly one index is near, and decoding near a reference has at most one result.
 use Rattle.std.proofs.Common.{◌≡◌, ◌∙◌, ℕ, ◌*◌, ◌<◌, ℤ, pos, sym, refl, ap, arith, Ok, Err}
 use Rattle.std.proofs.lemmas.Int.{ints}
 use Rattle.sq_angle.specs.Fraction.{Fraction}
@@ -62,7 +62,7 @@ one_near_longitude span e zones lon code q s =
           same_below around y b.0 h.0 b.2 (congruent_trans (congruent_sym here) back),
     )
 
--- two near latitudes with one code are one
+-- two near latitudes with the same code are equal
 pub same_latitude : (span : Span) → FitsCircle span → (parity : Parity) (lat : Fraction) (code : ℕ) (a b : ℤ)
     → 0 < lat.den →
     IsNearLatitude span.degrees parity lat code a → IsNearLatitude span.degrees parity lat code b → a ≡ b

@@ -1,4 +1,4 @@
--- Of the indices so many zones apart, exactly one lies within half that many zones of a reference.
+-- Exactly one of the indices that lie `count` zones apart is within half of `count` zones of a reference.
 use Rattle.std.proofs.Common.{◌≡◌, ℕ, ◌*◌, ◌<◌, refl, ap, arith, ℤ, pos, neg_ℤ, ◌+ℤ◌, ◌*ℤ◌, ◌≤ℤ◌, ◌<ℤ◌, ◌∙◌}
 use Rattle.std.proofs.lemmas.Int.{ints}
 use Rattle.sq_angle.specs.Fraction.{Fraction}
@@ -9,7 +9,7 @@ use Rattle.sq_angle.proofs.Sizes.{mul_pos}
 use Rattle.sq_cpr.specs.Grid.{codes_of_zone}
 use Rattle.sq_cpr.specs.Multiplied.{apart, LiesWithin}
 
--- twice the distance from the reference of the index j times `count` zones after the base
+-- twice the distance from the reference to the index j * `count` zones above the base
 pub shifted : (count degrees zones : ℕ) (base : ℤ) (r : Fraction) (j : ℤ) →
     (pos 2 *ℤ apart degrees zones base r) +ℤ pos (2 * (count * codes_of_zone * (degrees * r.den))) *ℤ j
     ≡ pos 2 *ℤ apart degrees zones (base +ℤ pos (count * codes_of_zone) *ℤ j) r

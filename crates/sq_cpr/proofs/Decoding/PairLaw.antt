@@ -1,4 +1,4 @@
--- Decoding a pair has one answer.
+-- Decoding a pair has at most one result.
 use Rattle.std.proofs.Common.{◌≡◌, ◌∙◌, ℕ, ◌*◌, ◌<◌, ℤ, pos, ◌+ℤ◌, ◌*ℤ◌, sym, refl, ap, arith, Ok, Err}
 use Rattle.sq_angle.specs.Fraction.{Fraction}
 use Rattle.sq_angle.specs.Whole.{IsCongruent}
@@ -23,7 +23,7 @@ use Rattle.sq_cpr.proofs.Decoding.ZonePairs.{zone_exists}
 pub some_count : (w : ℕ) (parity : Parity) (index : ℤ) → 0 < count_at w parity index
 some_count w parity index = zones_at-least (grid_latitude w parity index)
 
--- close latitudes at one reference are one pair
+-- two pairs of close latitudes at one reference are equal
 pub same_latitudes : (w : ℕ) (even odd : CodeNumbers) (lat : Fraction) (p q r s : ℤ) → 0 < w → 0 < lat.den →
     AreLatitudes w even odd p q → AreAt w lat p q → AreLatitudes w even odd r s → AreAt w lat r s → (p ≡ r) × (q ≡ s)
 same_latitudes w even odd lat p q r s h d k k_at l l_at =
@@ -49,7 +49,7 @@ newest_at w count even odd Odd t p q d h z k =
     (pair_at w (zones_of Even count) (zones_of Odd count) even odd t p q d (some_zones Even count)
     (some_zones Odd count) (paired_longitudes count h) z k).1
 
--- the newest of two close pairs of longitudes at one reference are one
+-- the newest longitudes of two close pairs at one reference are equal
 pub same_longitude : (w count even odd : ℕ) (newest : Parity) (lon : Fraction) (p q r s : ℤ) → 0 < w → 0 < count
     → 0 < lon.den →
     IsClosePair w (zones_of Even count) (zones_of Odd count) even odd p q
@@ -106,7 +106,7 @@ same_point span e codes lat lon x y d f h k =
     (congruent_trans x_here (congruent_sym b.lon_index)) in
     λ i. record { parity = parity i; lat_index = index i; zones = zones i; lon_index = lon_index i }
 
--- latitudes that are out of range are not those of a pair in range
+-- the latitudes of a pair are not both out of range and in range
 pub out_and_in : (w : ℕ) (even odd : CodeNumbers) (lat : Fraction) (p q r s : ℤ) → 0 < w → 0 < lat.den →
     AreLatitudes w even odd p q → AreAt w lat p q → (¬ AreInRange w p q) → AreLatitudes w even odd r s
     → AreAt w lat r s → AreInRange w r s → ⊥
@@ -114,7 +114,7 @@ out_and_in w even odd lat p q r s h d k k_at out l l_at inside =
     let same = same_latitudes w even odd lat p q r s h d k k_at l l_at in
     out (record { even = rw same.0 inside.even; odd = rw same.1 inside.odd })
 
--- latitudes with two counts are not those of a pair with one
+-- the latitudes of a pair do not have both two counts and one
 pub two_and_one : (w : ℕ) (even odd : CodeNumbers) (lat : Fraction) (p q r s : ℤ) (e o : ℕ) → 0 < w → 0 < lat.den →
     AreLatitudes w even odd p q → AreAt w lat p q → HaveTwoCounts w p q e o → AreLatitudes w even odd r s
     → AreAt w lat r s → HaveOneCount w r s → ⊥

@@ -1,4 +1,4 @@
--- Close points are what a pair is decoded to.
+-- The codes of close points decode to these points.
 use Rattle.std.proofs.Common.{◌≡◌, ℕ, ◌*◌, ◌<◌, ℤ, pos, neg_ℤ, ◌+ℤ◌, ◌-ℤ◌, ◌*ℤ◌, ◌<ℤ◌, refl, arith, Result, Ok, Err}
 use Rattle.sq_angle.specs.Scale.{scales}
 use Rattle.std.proofs.lemmas.Int.{ints}
@@ -30,12 +30,12 @@ use Rattle.sq_cpr.proofs.Decoding.PairLaw.{out_and_in, same_latitudes, one_pair_
 use Rattle.sq_cpr.proofs.Decoding.Pairs.{one_representative, turned_even, turned_odd}
 use Rattle.sq_cpr.proofs.Grids.Spans.{span_limits}
 
--- a turn of the circle is one of so many spans
+-- whole turns of the circle are whole spans
 turn_of_circle : (zones repeats : ℕ) {a b : ℤ} → IsCongruent (circle zones repeats) a b
     → IsCongruent (zones * codes_of_zone) a b
 turn_of_circle zones repeats h = congruent_factor (zones * codes_of_zone) repeats h
 
--- both coordinates of the point are the representatives at the place, the longitude modulo 360 degrees
+-- both coordinates of the point are representatives at (lat, lon), the longitude modulo 360 degrees
 pub record IsPointAt (span : Span) (lat lon : Fraction) (point : Point) : Type 0 where
   pub north_south : IsRepresentative span.degrees lat (grid_latitude span.degrees point.parity point.lat_index)
   pub east_west : OnSomeTurn (circle point.zones span.repeats) point.lon_index
@@ -48,7 +48,7 @@ pub record ArePointsOf (span : Span) (even odd : CodeNumbers) (a b : Point) : Ty
   pub even_code : HasCode a even
   pub odd_code : HasCode b odd
 
--- both by their representatives at the place
+-- both points are representatives at (lat, lon)
 pub record ArePointsAt (span : Span) (lat lon : Fraction) (a b : Point) : Type 0 where
   pub first : IsPointAt span lat lon a
   pub second : IsPointAt span lat lon b
@@ -195,7 +195,7 @@ at_origin p h =
       east_west = (one.0, rw full one.1.0, one.1.1);
     }
 
--- on the ground a point less than 45 degrees from the site is the representative there
+-- on the ground, a point less than 45 degrees from the site is its own representative there
 site_low : (xd rd : ℕ) (xn rn : ℤ)
     → pos xd *ℤ (pos 2 *ℤ rn -ℤ pos rd *ℤ pos 90) -ℤ pos (rd * 2) *ℤ xn
     ≡ pos 2 *ℤ (pos (xd * rd) *ℤ neg_ℤ (pos 45) -ℤ pos 1 *ℤ (pos rd *ℤ xn -ℤ pos xd *ℤ rn))

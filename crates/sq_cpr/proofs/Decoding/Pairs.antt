@@ -44,7 +44,7 @@ pub pair_at : (w n m y0 y1 : ℕ) (t p q : ℤ) → 0 < w → 0 < n → 0 < m �
 pair_at w n m y0 y1 t p q a b c e z h =
     zone_at n m y0 y1 t p q e z h.even_code h.odd_code (lies_from_close w n m p q a b c h.close)
 
--- a close pair stays one where an index is changed by whole spans
+-- a close pair remains close if one index changes by whole spans
 pub turned_even : (w n m y0 y1 : ℕ) (p q r : ℤ) → 0 < w → 0 < n → 0 < m → IsCongruent (n * codes_of_zone) r p
     → IsClosePair w n m y0 y1 p q → IsClosePair w n m y0 y1 r q
 turned_even w n m y0 y1 p q r a b c h k =
@@ -65,7 +65,7 @@ turned_odd w n m y0 y1 p q r a b c h k =
           (close_turned_odd n m p q r h (lies_from_close w n m p q a b c k.close));
     }
 
--- exactly one of the indices that differ by whole spans is the representative
+-- exactly one of the indices that differ by whole spans is a representative
 pub one_representative : (w n : ℕ) (base : ℤ) (r : Fraction) → 0 < w → 0 < n → 0 < r.den →
     ExactlyOne (λ (index : ℤ). IsCongruent (n * codes_of_zone) index base × IsRepresentative w r (angle_at w n index))
 one_representative w n base r p q s =
@@ -83,7 +83,7 @@ same_representative w n base a b r p q s j k l m =
     let one = one_representative w n base r p q s in
     one.2 a (j, k) ∙ sym (one.2 b (l, m))
 
--- the newest of a pair of indices that lie t zones above their codes
+-- an index t zones above the newest code is the newest of some close pair
 pub newest_of_pair : (w count y0 y1 : ℕ) (newest : Parity) (t index : ℤ) → 0 < w → 0 < count
     → IsZoneIndex (zones_of Even count) (zones_of Odd count) y0 y1 t →
     IsCongruent (zones_of newest count * codes_of_zone) index (pos (of_parity newest y0 y1) +ℤ pos codes_of_zone *ℤ t) →

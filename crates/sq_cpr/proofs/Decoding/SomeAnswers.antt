@@ -1,4 +1,4 @@
--- Decoding has an answer.
+-- Decoding has a result.
 use Rattle.std.proofs.Common.{◌⊎◌, inl, inr, ℕ, ◌*◌, ◌<◌, ℤ, pos, ◌+ℤ◌, ◌*ℤ◌, refl, subst, arith, Ok, Err}
 use Rattle.std.specs.Prelude.{unsigned_abs}
 use Rattle.std.proofs.lemmas.Bool.{cases_eq, cases_lt}
@@ -26,7 +26,7 @@ use Rattle.sq_cpr.proofs.Decoding.Pairs.{newest_of_pair, one_representative, som
 use Rattle.sq_cpr.proofs.Grids.Spans.{span_limits}
 use Rattle.sq_cpr.proofs.Decoding.ZonePairs.{zone_exists}
 
--- an index is that of a latitude, or is not
+-- the latitude of an index lies in -90 to 90 degrees, or it does not
 is_latitude : (w : ℕ) (parity : Parity) (index : ℤ) → IsLatitude w parity index ⊎ (¬ IsLatitude w parity index)
 is_latitude w parity index =
     let lat = grid_latitude w parity index in

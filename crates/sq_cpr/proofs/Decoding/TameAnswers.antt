@@ -1,4 +1,4 @@
--- How tame points are answered, and what a point of a grid is.
+-- The results for tame points, and the exact condition for a point of a grid.
 use Rattle.std.proofs.Common.{◌≡◌, ◌⊎◌, ℕ, Result, Ok, Err, inl, inr, ap, refl, sym, subst}
 use Rattle.sq_zones.specs.declared.parity.Parity.{Parity}
 use Rattle.sq_cpr.specs.declared.faults.PairFault.{PairFault}
@@ -26,7 +26,7 @@ two_counts_exactly span p q even odd = (
   },
 )
 
--- the newest, or two counts
+-- the result is the newest point, or two zone counts
 abbrev Parts : (span : Span) (newest : Parity) (a b : Point) (answer : Result Point PairFault) → Type 0
 Parts span newest a b answer = (answer ≡ Ok (of_parity newest a b))
     ⊎ ((even odd : ℕ) × HaveTwoCounts span.degrees a.lat_index b.lat_index even odd

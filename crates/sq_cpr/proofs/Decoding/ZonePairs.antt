@@ -10,11 +10,11 @@ use Rattle.sq_angle.proofs.Congruence.{congruent_trans}
 use Rattle.sq_cpr.specs.Grid.{codes_of_zone}
 use Rattle.sq_cpr.specs.Multiplied.{LiesClose, IsZoneIndex}
 
--- indices that differ by whole turns of n zones have one code
+-- indices that differ by whole turns of n zones have the same code
 pub code_of_turn : (n : ℕ) {a b : ℤ} → IsCongruent (n * codes_of_zone) a b → IsCongruent codes_of_zone a b
 code_of_turn n {a} {b} h = record { times = pos n *ℤ h.times; apart = simp scales (omega (arith, ints)) }
 
--- two numbers of zones that both round d are one
+-- two numbers of zones to which d rounds are equal
 within_one : (d t s : ℤ) → neg_ℤ (pos codes_of_zone) ≤ℤ (pos 2 *ℤ (d -ℤ pos codes_of_zone *ℤ t))
     → (pos 2 *ℤ (d -ℤ pos codes_of_zone *ℤ t)) <ℤ pos codes_of_zone →
     neg_ℤ (pos codes_of_zone) ≤ℤ (pos 2 *ℤ (d +ℤ pos codes_of_zone *ℤ s))
@@ -35,8 +35,8 @@ zone_apart1 n m y1 t j0 j1 w a1 e s h =
     let s' : pos m *ℤ j0 -ℤ pos (m + 1) *ℤ j1 +ℤ pos ((m + 1) * m) *ℤ w ≡ neg_ℤ t = rw e at s in
     rw e (simp scales (omega (arith, ints)))
 
--- Where the even circle has one zone more than the odd one: t zones after the codes.
--- a0 = y0 + M*t + M*n*u, a1 = y1 + M*t + M*m*v, where n = m + 1
+-- If the even circle has one zone more than the odd one, indices t zones above their codes are close. a0 = y0 + M*t +
+-- M*n*u, a1 = y1 + M*t + M*m*v, where n = m + 1
 pub close_from_zone : (n m : ℕ) (y0 y1 : ℕ) (t a0 a1 : ℤ) → n ≡ m + 1 → IsZoneIndex n m y0 y1 t →
     IsCongruent (n * codes_of_zone) a0 (pos y0 +ℤ pos codes_of_zone *ℤ t)
     → IsCongruent (m * codes_of_zone) a1 (pos y1 +ℤ pos codes_of_zone *ℤ t) → LiesClose n m a0 a1
@@ -48,7 +48,7 @@ close_from_zone n m y0 y1 t a0 a1 e z h k =
     rw e (simp scales (omega (arith, ints))) in
     (k.times -ℤ h.times, rw (h.apart, k.apart, same) (z.from, z.below))
 
--- one zone each: any two are close
+-- with one zone each, any two indices are close
 close_in_one : (y0 y1 : ℕ) (t a0 a1 : ℤ) → IsZoneIndex 1 1 y0 y1 t →
     IsCongruent (1 * codes_of_zone) a0 (pos y0 +ℤ pos codes_of_zone *ℤ t)
     → IsCongruent (1 * codes_of_zone) a1 (pos y1 +ℤ pos codes_of_zone *ℤ t) → LiesClose 1 1 a0 a1
@@ -60,7 +60,7 @@ close_in_one y0 y1 t a0 a1 z h k =
     simp scales (omega (arith, ints)) in
     (turns, rw (h.apart, k.apart, same) (z.from, z.below))
 
--- close indices of two codes lie in the zone of their index, but for turns
+-- the zones j0 and j1 of close indices of two codes agree with their zone index t, up to turns
 zone_by_turns : (n m y0 y1 : ℕ) (t j0 j1 w : ℤ) → IsZoneIndex n m y0 y1 t →
     neg_ℤ (pos codes_of_zone) ≤ℤ (pos 2 *ℤ
     (pos m *ℤ (pos y0 +ℤ pos codes_of_zone *ℤ j0) -ℤ pos n *ℤ (pos y1 +ℤ pos codes_of_zone *ℤ j1) +ℤ pos
@@ -108,7 +108,7 @@ zone_from_close_in_one y0 y1 t a0 a1 h k = (
   record { times = k.times -ℤ t; apart = simp scales (omega (arith, ints)) },
 )
 
--- the numbers of zones of a pair: one zone more for even, or one zone each
+-- the numbers of zones of a pair: one more for even than for odd, or one each
 abbrev pub Paired : ℕ → ℕ → Type 0
 Paired n m = (n ≡ m + 1) ⊎ ((n ≡ 1) × (m ≡ 1))
 
@@ -133,7 +133,7 @@ zone_at n m y0 y1 t a0 a1 e z h k c =
     ⊎_elim (λ e. zone_from_close n m y0 y1 t a0 a1 e z h k c)
     (λ e. rw (e.0, e.1) (zone_from_close_in_one y0 y1 t a0 a1 h k)) e
 
--- the zone is the quotient that rounds to the nearest, a half going up
+-- the zone index is the quotient rounded to the nearest, halves up
 pub zone_of : (n m y0 y1 : ℕ) (t : ℤ)
     → t ≡ int_div_euclid (pos (m * y0) -ℤ pos (n * y1) +ℤ pos 65536) (pos codes_of_zone) → IsZoneIndex n m y0 y1 t
 zone_of n m y0 y1 t e =
@@ -143,7 +143,7 @@ zone_of n m y0 y1 t e =
     rw e (div_euclid-lt d codes_of_zone (omega arith)) in
     record { from = omega (arith, ints); below = omega (arith, ints) }
 
--- any code is the remainder of the indices with it
+-- an index t zones above a code has that code
 code_shift : (y : ℕ) (t : ℤ) → IsCongruent codes_of_zone (pos y +ℤ pos codes_of_zone *ℤ t) (pos y)
 code_shift y t = record { times = t; apart = refl }
 
@@ -156,7 +156,7 @@ zone_exists n m y0 y1 =
     let t : ℤ = int_div_euclid (pos (m * y0) +ℤ neg_ℤ (pos (n * y1)) +ℤ pos 65536) (pos codes_of_zone) in
     (t, zone_of n m y0 y1 t refl)
 
--- closeness does not change with whole turns
+-- closeness is unchanged by whole turns
 pub close_turned_even : (n m : ℕ) (p q r : ℤ) → IsCongruent (n * codes_of_zone) r p → LiesClose n m p q
     → LiesClose n m r q
 close_turned_even n m p q r h c =

@@ -1,4 +1,4 @@
--- The windows with fractions mean what their multiplied-out forms mean.
+-- The windows with fractions agree with their multiplied-out forms.
 use Rattle.std.proofs.Common.{◌≡◌, ◌↔◌, ℕ, ◌*◌, ◌<◌, ℤ, pos, neg_ℤ, ◌+ℤ◌, ◌-ℤ◌, ◌*ℤ◌, ◌≤ℤ◌, ◌<ℤ◌, arith}
 use Rattle.std.proofs.lemmas.Int.{ints}
 use Rattle.sq_angle.specs.Fraction.{Fraction}
@@ -12,7 +12,7 @@ use Rattle.sq_cpr.specs.Multiplied.{apart, LiesWithin, LiesStrictlyWithin, LiesC
 use Rattle.sq_cpr.specs.DecodeLaws.{FractionsAgree}
 use Rattle.sq_cpr.proofs.Grids.Spans.{span_limits}
 
--- two orders between numbers whose differences are one
+-- if a - b and c - d are equal, c < d gives a < b
 pub below_by : (a b c d : ℤ) → a -ℤ b ≡ c -ℤ d → c <ℤ d → a <ℤ b
 below_by a b c d e h = omega (arith, ints)
 

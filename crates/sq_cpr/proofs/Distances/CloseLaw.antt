@@ -17,7 +17,7 @@ use Rattle.sq_cpr.proofs.Decoding.Pairs.{some_zones, paired_latitudes, paired_lo
 use Rattle.sq_cpr.proofs.Grids.Spans.{span_limits}
 use Rattle.sq_cpr.proofs.Decoding.ZonePairs.{Paired, zone_exists}
 
--- the one index of a circle
+-- every index is congruent to an index of the circle
 pub residue : (m : ℕ) (z : ℤ) → 0 < m → (r : ℕ) × (r < m) × IsCongruent m (pos r) z
 residue m z h =
     let b = rem_is_pos z m h in
@@ -52,7 +52,7 @@ one_close_longitudes span e count h k = one_close span.degrees (zones_of Even co
     (span_limits span e).0
     (some_zones Even count) (some_zones Odd count) (paired_longitudes count h)
 
--- in one zone any two are close
+-- with one zone each, any two indices are close
 any_close : (p q : ℤ) → LiesClose 1 1 p q
 any_close p q =
     let one = one_lower codes_of_zone (pos 2 *ℤ (p -ℤ q)) (omega arith) in

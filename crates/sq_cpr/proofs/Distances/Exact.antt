@@ -1,4 +1,4 @@
--- What the premises on true positions are, and no more.
+-- Proofs of the exact conditions for the premises on true positions.
 use Rattle.std.proofs.Common.{◌≡◌, ◌↔◌, ℕ, Bool, true, false, ◌*◌, ℤ, pos, neg_ℤ, ◌+ℤ◌, ◌-ℤ◌, ◌*ℤ◌, ◌<ℤ◌, arith, refl}
 use Rattle.std.proofs.Common.{sym, subst}
 use Rattle.std.specs.Prelude.{nat_lt, if◌then◌else◌}
@@ -17,7 +17,7 @@ use Rattle.sq_angle.proofs.Congruence.{congruent_refl}
 use Rattle.sq_cpr.specs.Slow.{DifferByLess, DifferByLessAround, IsSmallerThan}
 use Rattle.sq_cpr.specs.Zones.{turned}
 
--- two fractions with one numerator and one denominator
+-- two fractions with the same numerator and the same denominator are equal
 same_fraction : (x y : Fraction) → x.num ≡ y.num → x.den ≡ y.den → x ≡ y
 same_fraction x y num den = λ i. record { num = num i; den = den i }
 
@@ -32,7 +32,7 @@ under_is : (xd yd ld : ℕ) (xn yn ln : ℤ)
     ≡ (pos (xd * ld) *ℤ yn) -ℤ (pos yd *ℤ (pos ld *ℤ xn +ℤ pos xd *ℤ ln))
 under_is xd yd ld xn yn ln = simp scales (omega (arith, ints))
 
--- a below b where c is below d, and a - b and c - d are one
+-- if a - b and c - d are equal, a < b gives c < d
 below_as : (a b c d : ℤ) → a -ℤ b ≡ c -ℤ d → a <ℤ b → c <ℤ d
 below_as a b c d e h = omega (arith, ints)
 
@@ -49,7 +49,7 @@ turn_num : (xd yd : ℕ) (xn yn turns : ℤ)
     ≡ pos yd *ℤ (xn +ℤ pos (360 * xd) *ℤ turns) -ℤ pos xd *ℤ yn
 turn_num xd yd xn yn turns = simp scales (omega (arith, ints))
 
--- the difference, so many turns on, is that of the angle so many turns on
+-- a difference changed by turns is the difference from the angle changed by the same turns
 turned_is : (x y : Fraction) (turns : ℤ) → difference 360 x y turns ≡ minus (turned x turns) y
 turned_is x y turns = same_fraction (difference 360 x y turns) (minus (turned x turns) y)
     (turn_num x.den y.den x.num y.num turns) (omega arith)
@@ -102,7 +102,7 @@ at_the_limits = record {
   not_following = λ h. absurd (omega (arith, ints, h.below));
 }
 
--- a longitude of the circle, east of Greenwich or less 360 degrees, and its index some turns on
+-- a longitude, east of the prime meridian or less 360 degrees, and its index changed by turns
 east_num : (w r z b xd : ℕ) (xn t : ℤ) →
     pos xd *ℤ (pos w *ℤ (pos b +ℤ pos (z * codes_of_zone * r) *ℤ t)) -ℤ pos (z * codes_of_zone) *ℤ xn
     ≡ pos 1 *ℤ (pos xd *ℤ pos (w * b) -ℤ pos (z * codes_of_zone) *ℤ xn) +ℤ pos (z * codes_of_zone * xd) *ℤ
@@ -115,7 +115,7 @@ west_num : (w z b xd : ℕ) (xn t : ℤ) →
     (z * codes_of_zone * xd) *ℤ (pos 360 *ℤ (t +ℤ pos 1))
 west_num w z b xd xn t = simp scales (omega (arith, ints))
 
--- the longitude by which half of the circle it lies on
+-- a longitude by the half of the circle on which it lies
 lon_on : (east : Bool) → (w z b : ℕ) → Fraction
 lon_on east w z b = record {
   num = if east then pos (w * b) else (pos (w * b) -ℤ pos (360 * (z * codes_of_zone)));

@@ -22,11 +22,12 @@ use Rattle.sq_cpr.proofs.Grids.NearestPoints.{above_index, nearest_parts, follow
 use Rattle.sq_cpr.proofs.Grids.NearestPoints.{straight_is, one_more}
 use Rattle.sq_cpr.proofs.Grids.Spans.{span_limits}
 
--- twice the difference of the indices a of i zones and b of j zones, in one unit
+-- twice the difference of the index a of i zones and the index b of j zones, in one unit
 abbrev twice : ℕ → ℕ → ℕ → ℤ → ℤ → ℤ → ℤ
 twice i j r a b turns = pos 2 *ℤ (pos j *ℤ a -ℤ pos i *ℤ b +ℤ pos (i * j * codes_of_zone) *ℤ (pos r *ℤ turns))
 
--- the distances of the indices from the angles, the difference of the angles and that of the indices, in one unit
+-- an equation, in one unit, of the distances of the indices from the angles and both differences, of angles and of
+-- indices
 balance : (w r n m i j xd yd : ℕ) (a b xn yn turns : ℤ) →
     pos (n * m * (w * xd * yd)) *ℤ twice i j r a b turns +ℤ pos (n * m * (j * yd)) *ℤ
     (pos 2 *ℤ (pos (i * codes_of_zone) *ℤ xn -ℤ pos (w * xd) *ℤ a))
@@ -34,7 +35,7 @@ balance : (w r n m i j xd yd : ℕ) (a b xn yn turns : ℤ) →
     +ℤ pos (n * m * (i * xd)) *ℤ (pos 2 *ℤ (pos (j * codes_of_zone) *ℤ yn -ℤ pos (w * yd) *ℤ b))
 balance w r n m i j xd yd a b xn yn turns = simp scales (omega (arith, ints))
 
--- m ≤ i, j ≤ n; what the balance says of the difference of the indices
+-- bounds on the difference of the indices from the balance, if i and j are at least m
 bounded : (w n m i j xd yd : ℕ) (t fx fy d : ℤ) → m ≤ i → m ≤ j → 0 < i * j →
     pos (n * m * (w * xd * yd)) *ℤ t +ℤ pos (n * m * (j * yd)) *ℤ fx
     ≡ pos (i * j * (2 * n * m * codes_of_zone)) *ℤ d +ℤ pos (n * m * (i * xd)) *ℤ fy →
@@ -81,7 +82,7 @@ pub record AreBetween (i j : ℕ) (t : ℤ) : Type 0 where
   pub second_low : neg_ℤ (pos (i * codes_of_zone)) <ℤ t
   pub second_high : t <ℤ pos (i * codes_of_zone)
 
--- what the numbers of zones are: both from m to n
+-- both numbers of zones are from m to n
 record AreZones (n m i j : ℕ) : Type 0 where
   first_least : m ≤ i
   second_least : m ≤ j
@@ -130,7 +131,7 @@ apart_is : (w i j : ℕ) (a b : ℤ) →
     ≡ pos (w * codes_of_zone) *ℤ (pos 2 *ℤ (pos j *ℤ a -ℤ pos i *ℤ b))
 apart_is w i j a b = simp scales (omega (arith, ints))
 
--- an index of i zones strictly within half a zone of one of j zones
+-- an index of i zones lies strictly within half a zone of an index of j zones
 strictly : (w i j : ℕ) (a b : ℤ) → 0 < w → 0 < i
     → neg_ℤ (pos (j * codes_of_zone)) <ℤ (pos 2 *ℤ (pos j *ℤ a -ℤ pos i *ℤ b))
     → (pos 2 *ℤ (pos j *ℤ a -ℤ pos i *ℤ b)) <ℤ pos (j * codes_of_zone) →
@@ -158,7 +159,7 @@ turned_back : (r i j : ℕ) (a b turns s : ℤ) →
     (a +ℤ pos (i * codes_of_zone * r) *ℤ s)) ≡ neg_ℤ (twice i j r a b turns)
 turned_back r i j a b turns s = simp scales (omega (arith, ints))
 
--- the index a, turned, is strictly near the angle of b, s turns away
+-- the index a, changed by turns, is strictly near the angle of b changed by s turns
 first_near : (w r i j : ℕ) (a b turns s : ℤ) → 0 < w → 0 < i → AreBetween i j (twice i j r a b turns) →
     IsStrictlyNear (half_zone w i) (angle_at w j (b +ℤ pos (circle j r) *ℤ s))
     (angle_at w i (a +ℤ pos (circle i r) *ℤ (turns +ℤ s)))
@@ -195,7 +196,7 @@ longitude_turns w r zones b full = by (nat_lt (w * b) (180 * (zones * codes_of_z
         ≡ pos w *ℤ (pos b +ℤ pos (circle zones r) *ℤ neg_ℤ (pos 1)) = simp scales (omega (arith, ints)) in
         (neg_ℤ (pos 1), ap (λ (n : ℤ). let x : Fraction = record { num = n; den = zones * codes_of_zone } in x) e)
 
--- the longitude of an index that differs from another turn's
+-- a longitude is the angle of any index congruent to its own, changed by whole turns
 longitude_from : (w r zones b : ℕ) (t : ℤ) → w * r ≡ 360 → IsCongruent (circle zones r) t (pos b)
     → (s : ℤ) × (grid_longitude w zones b ≡ angle_at w zones (t +ℤ pos (circle zones r) *ℤ s))
 longitude_from w r zones b t full h =
@@ -249,7 +250,7 @@ lon_zones_between i j p q = record {
   second_some = q;
 }
 
--- an index whole turns away from one on the circle
+-- an index changed by whole turns stays congruent
 on_turn : (m : ℕ) (t s b : ℤ) → IsCongruent m t b → IsCongruent m (t +ℤ pos m *ℤ s) b
 on_turn m t s b h = congruent_trans (record { times = s; apart = refl }) h
 

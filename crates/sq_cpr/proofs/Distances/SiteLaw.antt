@@ -19,7 +19,7 @@ use Rattle.sq_cpr.proofs.Grids.NearestPoints.{above_index, nearest_parts, betwee
 use Rattle.sq_cpr.proofs.Grids.NearestPoints.{one_more}
 use Rattle.sq_cpr.proofs.Grids.Spans.{span_bounds}
 
--- the index of the same angle, so many turns of 360 degrees up
+-- an equation, in one unit, of the distances between the index, the angle and the site
 balance : (w r z xd rd : ℕ) (index xn rn turns : ℤ) →
     pos 2 *ℤ (pos xd *ℤ (pos rd *ℤ (pos w *ℤ (index +ℤ pos (z * codes_of_zone * r) *ℤ turns)) -ℤ pos
     (z * codes_of_zone) *ℤ rn))
@@ -72,7 +72,7 @@ less_apart w r z x site index turns full some positive near low high =
       below = omega (arith, ints, below);
     }
 
--- a difference below so many degrees
+-- a difference below `limit` degrees, multiplied out
 degrees_parts : (limit : ℕ) (d : Fraction) → IsSmallerThan (whole limit) d
     → (neg_ℤ (pos (limit * d.den)) <ℤ d.num) × (d.num <ℤ pos (limit * d.den))
 degrees_parts limit d h = (omega (arith, ints, h.above, scale-neg d.den (pos limit)), omega (arith, ints, h.below))

@@ -23,7 +23,8 @@ use Rattle.sq_cpr.proofs.Decoding.PairLaw.{some_count}
 use Rattle.sq_cpr.proofs.Grids.Spans.{span_limits}
 use Rattle.sq_cpr.proofs.Decoding.ZonePairs.{close_turned_even, close_turned_odd}
 
--- The distances of the indices from the angles, the difference of the angles and that of the indices, in one unit.
+-- An equation, in one unit, of the distances of the indices from the angles and both differences, of angles and of
+-- indices.
 pub balance : (w r n m xd yd : ℕ) (a b xn yn turns : ℤ) →
     pos (w * xd * yd) *ℤ (pos 2 *ℤ (pos m *ℤ a -ℤ pos n *ℤ b +ℤ pos (n * m * codes_of_zone) *ℤ (pos r *ℤ turns)))
     +ℤ pos (m * yd) *ℤ (pos 2 *ℤ (pos (n * codes_of_zone) *ℤ xn -ℤ pos (w * xd) *ℤ a))
@@ -31,7 +32,7 @@ pub balance : (w r n m xd yd : ℕ) (a b xn yn turns : ℤ) →
     +ℤ pos (n * xd) *ℤ (pos 2 *ℤ (pos (m * codes_of_zone) *ℤ yn -ℤ pos (w * yd) *ℤ b))
 balance w r n m xd yd a b xn yn turns = simp scales (omega (arith, ints))
 
--- what the balance says of the difference of the indices
+-- bounds on the difference of the indices from the balance
 bounded : (w n m xd yd : ℕ) (twice fx fy q : ℤ) → m ≤ n →
     pos (w * xd * yd) *ℤ twice +ℤ pos (m * yd) *ℤ fx ≡ q +ℤ pos (n * xd) *ℤ fy →
     neg_ℤ (pos (w * xd)) ≤ℤ fx → fx ≤ℤ pos (w * xd) → neg_ℤ (pos (w * yd)) ≤ℤ fy → fy ≤ℤ pos (w * yd) →

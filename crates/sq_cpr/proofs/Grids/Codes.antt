@@ -17,7 +17,7 @@ use Rattle.sq_cpr.specs.Laws.{OnePairOfZones, SameZones, OneCode}
 use Rattle.sq_cpr.proofs.Grids.Points.{point_same, zones_same, rounds_once, rounds_somewhere}
 use Rattle.sq_cpr.proofs.Grids.ZoneIndices.{zone_from, zone_below, zone_of_index, lon_zone_index, lon_index_zone}
 
--- the indices of a point are among those of the zones of each position that rounds to it
+-- the indices of a point lie in these zones
 record AreZonesOf (zones : ZonePair) (p : Point) : Type 0 where
   lat_from : (pos 131072 *ℤ zones.lat) ≤ℤ p.lat_index
   lat_below : p.lat_index <ℤ (pos 131072 *ℤ zones.lat +ℤ pos 131072)
@@ -44,7 +44,7 @@ zones_of span e parity lat lon zones h =
       lon_below = lon_index.1;
     }
 
--- the zones of any point to which the position rounds
+-- the indices of a point to which a position rounds lie in the zones of the position
 zones_of_point : (span : Span) → FitsCircle span → (parity : Parity) (lat lon : Fraction) (zones : ZonePair) (p : Point)
     → IsInZones span parity lat lon zones → p.parity ≡ parity → RoundsTo span lat lon p → AreZonesOf zones p
 zones_of_point span e parity lat lon zones p h same rounds =
@@ -52,7 +52,7 @@ zones_of_point span e parity lat lon zones p h same rounds =
     (rounds_once span lat lon h.point p (h.of_parity ∙ sym same) h.rounds rounds)
     (zones_of span e parity lat lon zones h)
 
--- a point's indices are those of one pair of zones
+-- the indices of a point lie in at most one pair of zones
 zones_once : (y z : ZonePair) (p : Point) → AreZonesOf y p → AreZonesOf z p → y ≡ z
 zones_once y z p a b =
     let lat = block_once y.lat z.lat p.lat_index 131072 a.lat_from a.lat_below b.lat_from b.lat_below in

@@ -1,4 +1,4 @@
--- The index that a window leaves, over plain numbers.
+-- The index that lies in a window, over plain numbers.
 use Rattle.std.proofs.Common.{◌≡◌, ℕ, ◌*◌, ◌<◌, ◌≤◌, ℤ, pos, neg_ℤ, ◌+ℤ◌, ◌-ℤ◌, ◌*ℤ◌, ◌≤ℤ◌, ◌<ℤ◌, unsigned_abs, arith}
 use Rattle.std.proofs.Common.{◌^◌, subst, mul_comm, mul-le-mul_right, le_of_mul-le-mul_right}
 use Rattle.std.proofs.Math.IntN.{negsuc}
@@ -12,13 +12,13 @@ use Rattle.sq_angle.proofs.Windows.{quotient_down_parts}
 use Rattle.sq_cpr.specs.Grid.{codes_of_zone}
 use Rattle.sq_cpr.specs.Multiplied.{LiesWithin}
 
--- twice the distance of the answer
+-- twice the distance of the resulting index from the reference
 pub settled : (count step steps : ℕ) (base num turns : ℤ) →
     pos 2 *ℤ (pos step *ℤ (base +ℤ pos (count * codes_of_zone) *ℤ neg_ℤ turns) -ℤ pos steps *ℤ num)
     ≡ pos 2 *ℤ (pos step *ℤ base -ℤ pos steps *ℤ num) -ℤ pos (2 * (count * codes_of_zone * step)) *ℤ turns
 settled count step steps base num turns = simp scales (omega (arith, ints))
 
--- The index that half a period around 0 leaves, where the quotient is taken of twice the base.
+-- The index within half a period of 0, from the quotient of twice the base.
 pub settled_at_zero : (period : ℕ) (base q : ℤ) → 0 < period →
     (pos (2 * period) *ℤ q) ≤ℤ (pos 2 *ℤ base +ℤ (pos period -ℤ pos 1))
     → (pos 2 *ℤ base +ℤ (pos period -ℤ pos 1)) <ℤ (pos (2 * period) *ℤ q +ℤ pos (2 * period)) →
@@ -27,7 +27,7 @@ settled_at_zero period base q h low high =
     let e : pos 2 *ℤ (pos period *ℤ q) ≡ pos (2 * period) *ℤ q = scale-scale 2 period q in
     (omega (arith, ints), omega (arith, ints))
 
--- within half a period of 0, as the window of a reference at 0 degrees has it
+-- an index within half a period of 0 lies in the window of a reference at 0 degrees
 pub within_at_zero : (count degrees zones : ℕ) (index : ℤ) (r : Fraction) → r.num ≡ pos 0 → 0 < degrees → 0 < r.den
     → neg_ℤ (pos (count * codes_of_zone)) <ℤ (pos 2 *ℤ index) → (pos 2 *ℤ index) ≤ℤ pos (count * codes_of_zone)
     → LiesWithin count degrees zones index r
@@ -72,7 +72,7 @@ quotient_parts value q divisor some e =
     → ((d *ℤ q) ≤ℤ value) × (value <ℤ (d *ℤ q +ℤ d)) × (unsigned_abs q ≤ unsigned_abs value)) positive
     (quotient_down_parts value q (unsigned_abs divisor) (omega (arith, ints))) e
 
--- The nearest whole number to v over 2 e is small where v is.
+-- The whole number nearest to v / (2 e) is small if v is small.
 pub rounded_small : (v q : ℤ) (e : ℕ) → 0 < e → unsigned_abs v ≤ 5662310400 * e → IsRounded v e q
     → unsigned_abs q < 2 ^ 40
 rounded_small v q e some size r =

@@ -1,4 +1,4 @@
--- What is nearest and what is smaller than a limit, with the denominators multiplied out.
+-- Nearest indices and differences below a limit, with the denominators multiplied out.
 use Rattle.std.proofs.Common.{◌≡◌, ℕ, ◌*◌, ℤ, pos, neg_ℤ, ◌+ℤ◌, ◌-ℤ◌, ◌*ℤ◌, ◌≤ℤ◌, ◌<ℤ◌, arith}
 use Rattle.std.proofs.lemmas.Int.{ints}
 use Rattle.sq_angle.specs.Fraction.{Fraction, minus}
@@ -9,7 +9,7 @@ use Rattle.sq_cpr.specs.Grid.{codes_of_zone, step}
 use Rattle.sq_cpr.specs.Close.{difference}
 use Rattle.sq_cpr.specs.Slow.{IsSmallerThan, slow_limit, following_limit}
 
--- how far x lies above the index, twice
+-- twice the distance of x above the index, multiplied out
 abbrev pub above_index : ℕ → ℕ → Fraction → ℤ → ℤ
 above_index w zones x a = pos 2 *ℤ (pos (zones * codes_of_zone) *ℤ x.num -ℤ pos (w * x.den) *ℤ a)
 
@@ -39,7 +39,7 @@ slow_opposite : (w n m den : ℕ)
     ≡ pos m *ℤ neg_ℤ (pos (w * codes_of_zone * den) -ℤ pos (2 * n * w * den))
 slow_opposite w n m den = simp scales (omega (arith, ints))
 
--- a difference below the slow limit
+-- a difference below the slow limit, multiplied out
 pub slow_parts : (w n m : ℕ) (d : Fraction) → IsSmallerThan (slow_limit w n m) d →
     (neg_ℤ (pos (w * codes_of_zone * d.den) -ℤ pos (2 * n * w * d.den)) <ℤ (pos (2 * n * m * codes_of_zone) *ℤ d.num))
     × ((pos (2 * n * m * codes_of_zone) *ℤ d.num) <ℤ (pos (w * codes_of_zone * d.den) -ℤ pos (2 * n * w * d.den)))
@@ -61,7 +61,7 @@ follow_opposite : (w n m den : ℕ)
     ≡ neg_ℤ (pos (w * (m * codes_of_zone) * den) -ℤ pos (2 * n * w * den))
 follow_opposite w n m den = simp scales (omega (arith, ints))
 
--- a difference below the limit for following
+-- a difference below the limit for following, multiplied out
 pub follow_parts : (w n m : ℕ) (d : Fraction) → IsSmallerThan (following_limit w n m) d →
     (neg_ℤ (pos (w * (m * codes_of_zone) * d.den) -ℤ pos (2 * n * w * d.den)) <ℤ
     (pos (2 * n * m * codes_of_zone) *ℤ d.num))
@@ -71,7 +71,7 @@ follow_parts w n m d h = (
   rw (follow_left n m d.num, follow_right w n m d.den) at h.below,
 )
 
--- the difference over both denominators
+-- the numerator of x - y plus turns, over both denominators
 abbrev pub between_angles : Fraction → Fraction → ℤ → ℤ
 between_angles x y turns = pos y.den *ℤ x.num -ℤ pos x.den *ℤ y.num +ℤ pos (360 * x.den * y.den) *ℤ turns
 

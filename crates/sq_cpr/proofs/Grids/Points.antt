@@ -21,19 +21,19 @@ use Rattle.sq_cpr.specs.Laws.{RoundsToOne, RoundsToItself, SamePoints}
 use Rattle.sq_cpr.proofs.Grids.Spans.{span_bounds, circle_positive, span_limits}
 use Rattle.sq_cpr.proofs.Grids.SpanBounds.{nearest_within_90, lat_zones_at-least}
 
--- a point of these parts
+-- the point of these parts
 abbrev made : Parity → ℤ → ℕ → ℕ → Point
 made parity lat_index zones lon_index =
     record { parity = parity; lat_index = lat_index; zones = zones; lon_index = lon_index }
 
--- points of the same parts are one
+-- points of the same parts are equal
 pub point_same : (p q : Point) → p.parity ≡ q.parity → p.lat_index ≡ q.lat_index → p.zones ≡ q.zones
     → p.lon_index ≡ q.lon_index → p ≡ q
 point_same p q a b c d =
     ap (λ x. made x p.lat_index p.zones p.lon_index) a ∙ ap (λ x. made q.parity x p.zones p.lon_index) b
     ∙ ap (λ x. made q.parity q.lat_index x p.lon_index) c ∙ ap (λ x. made q.parity q.lat_index q.zones x) d
 
--- the zones of a grid's point follow from its parity and its latitude index
+-- the zones of a grid point follow from its parity and its latitude index
 pub zones_same : (span : Span) (p q : Point) → IsGridPoint span p → IsGridPoint span q → p.parity ≡ q.parity
     → p.lat_index ≡ q.lat_index → p.zones ≡ q.zones
 zones_same span p q g h e f =
@@ -68,7 +68,7 @@ rounds_once span lat lon p q same a b =
     (congruent_trans (congruent_sym congruent) b.east_west.2) in
     point_same p q same lat_same zone_same lon_same
 
--- a position rounds to a point, which the nearest indices make
+-- a position rounds to a point: that of the nearest indices
 pub rounds_somewhere : (span : Span) → FitsCircle span → (parity : Parity) (lat lon : Fraction) → 0 < lat.den
     → 0 < lon.den
     → IsPosition lat lon
@@ -106,7 +106,7 @@ rounds_to_one span e parity lat lon some_lat some_lon is =
           one.2,
     )
 
--- the index of a longitude east of the prime meridian is its own, and of one west a circle less
+-- a longitude east of the prime meridian is nearest to its own index, and one west of it to that index less a circle
 own_longitude : (w r z b : ℕ) (east : Bool) → w * r ≡ 360 → 1 ≤ z →
     let d = z * 131072 in
     let x : Fraction = record { num = if east then pos (w * b) else (pos (w * b) -ℤ pos (360 * d)); den = d } in

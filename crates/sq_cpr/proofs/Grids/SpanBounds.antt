@@ -1,4 +1,4 @@
--- The nearest latitude of a span's grid lies in -90 to 90, and its index is small.
+-- The nearest latitude of a span's grid lies in -90 to 90 degrees, and its index is small.
 use Rattle.std.proofs.Common.{◌≡◌, ℕ, ◌*◌, ◌≤◌, ℤ, pos, neg_ℤ, ◌+ℤ◌, ◌*ℤ◌, ◌<ℤ◌, ap, arith, unsigned_abs}
 use Rattle.std.proofs.Common.{mul-le-mul_right}
 use Rattle.std.proofs.lemmas.Int.{ints, unsigned_abs-mul}
@@ -18,7 +18,7 @@ quarter w r z xd e =
     let f : (w * r) * (z * xd * 65536) ≡ 360 * (z * xd * 65536) = ap (λ n. n * (z * xd * 65536)) e in
     omega arith
 
--- what is nearest to a latitude within 90 degrees stands for one within 90 degrees
+-- the index nearest to a latitude within 90 degrees has a latitude within 90 degrees
 pub nearest_within_90 : (x : Fraction) (w r z : ℕ) (a : ℤ) → w * r ≡ 360 → 1 ≤ x.den → IsWithin 90 x
     → IsNearest x (step w z) a → IsWithin 90 (record { num = pos w *ℤ a; den = z * 131072 })
 nearest_within_90 x w r z a e p h n =
@@ -47,7 +47,7 @@ pub lat_zones_at-least : (parity : Parity) → 59 ≤ lat_zones parity
 lat_zones_at-least Even = omega arith
 lat_zones_at-least Odd = omega arith
 
--- of each parity there are at most 60 latitude zones
+-- there are at most 60 latitude zones
 pub lat_zones_at-most : (parity : Parity) → lat_zones parity ≤ 60
 lat_zones_at-most Even = omega arith
 lat_zones_at-most Odd = omega arith

@@ -1,4 +1,4 @@
--- The indices of the positions of one zone are 2^17 numbers in a row.
+-- The indices of the positions in one zone are 2^17 consecutive numbers.
 use Rattle.std.proofs.Common.{◌≡◌, ℕ, ◌+◌, ◌*◌, ◌<◌, ◌≤◌, ℤ, pos, neg_ℤ, ◌+ℤ◌, ◌-ℤ◌, ◌*ℤ◌, ◌≤ℤ◌, ◌<ℤ◌, ap, ◌∙◌, sym}
 use Rattle.std.proofs.Common.{arith, mul-le-mul_right}
 use Rattle.std.proofs.lemmas.Int.{ints}
@@ -12,7 +12,7 @@ use Rattle.sq_cpr.specs.Grid.{step, circle}
 use Rattle.sq_cpr.specs.Zones.{IsInZone, turned}
 
 module _ (x : Fraction) (w d : ℕ) (a j : ℤ) (n : IsNearest x (step_of w d) a) where
-  -- the index nearest to what lies in a zone is at least the zone's first
+  -- the index nearest to an angle in a zone is at least the zone's first index
   pub zone_from : IsInZone x (step_of w d) j → (pos 131072 *ℤ j) ≤ℤ a
   zone_from zone =
       let e = x.den * w in
@@ -24,7 +24,7 @@ module _ (x : Fraction) (w d : ℕ) (a j : ℤ) (n : IsNearest x (step_of w d) a
       quotient_below (pos 131072 *ℤ j) a m (2 * e) (omega (arith, ints)) r.below in
       omega (arith, ints)
 
-  -- the index lies below the next zone's first
+  -- the index nearest to an angle in a zone is below the next zone's first index
   pub zone_below : IsInZone x (step_of w d) j → a <ℤ (pos 131072 *ℤ j +ℤ pos 131072)
   zone_below zone =
       let e = x.den * w in
@@ -37,7 +37,7 @@ module _ (x : Fraction) (w d : ℕ) (a j : ℤ) (n : IsNearest x (step_of w d) a
       let h : a <ℤ next = lt_of_scale (2 * e) a next (omega (arith, ints)) in
       omega (arith, ints)
 
-  -- where the index is one of a zone's, the zone is that one
+  -- if the nearest index is one of a zone's, the angle lies in that zone
   pub zone_of_index : (pos 131072 *ℤ j) ≤ℤ a → a <ℤ (pos 131072 *ℤ j +ℤ pos 131072) → IsInZone x (step_of w d) j
   zone_of_index low high =
       let e = x.den * w in
@@ -78,7 +78,7 @@ nearest_turned x w r z k turns e n =
     nearest_from_rounded (turned x turns) w (z * 131072) (k +ℤ pos C *ℤ turns)
     (record { from = omega (arith, ints); below = omega (arith, ints) })
 
--- where b is below c, and so is b with c some times more, that is no times
+-- if b and b + c * turns both lie in [0, c), turns is 0
 still : (b c : ℕ) (turns : ℤ) → b < c → pos 0 ≤ℤ (pos b +ℤ pos c *ℤ turns) → (pos b +ℤ pos c *ℤ turns) <ℤ pos c
     → turns ≡ pos 0
 still b c turns h low high =
@@ -102,7 +102,8 @@ lon_zone_index x w r z b l k turns e n c h few zone =
     (still b C (c.times +ℤ turns) h (omega (arith, ints, c.apart)) (omega (arith, ints, c.apart))) in
     (omega (arith, ints, c.apart), omega (arith, ints, c.apart))
 
--- the zone of a longitude index is the position's, turned as the index was
+-- a position lies in the zone of its longitude index, after the turns by which that index differs from the nearest
+-- one
 pub lon_index_zone : (x : Fraction) (w r z b l : ℕ) (k : ℤ) → w * r ≡ 360 → IsNearest x (step w z) k
     → (c : IsCongruent (circle z r) k (pos b))
     → (pos 131072 *ℤ pos l) ≤ℤ pos b → pos b <ℤ (pos 131072 *ℤ pos l +ℤ pos 131072)

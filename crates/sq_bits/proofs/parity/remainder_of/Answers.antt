@@ -4,7 +4,7 @@ use Rattle.sq_bits.specs.Parity.{IsRemainder}
 use Rattle.sq_bits.proofs.Remainders.{IsRemainder-small}
 use Rattle.sq_bits.proofs.parity.remainder_of.Goals as goal
 
--- The remainder of a number is that of its front with the word after it.
+-- The remainder of a number is that of its front followed by its last word.
 joined : (n front remainder : ℕ) → front ≡ n / 2 ^ 24 → IsRemainder (front * 2 ^ 24 + bit_and n 16777215) remainder
     → IsRemainder n remainder
 joined n front remainder above is =

@@ -10,7 +10,7 @@ use Rattle.sq_angle.proofs.Sizes.{mul_pos, scaled_size}
 use Rattle.sq_cpr.proofs.Grids.Indices.{rounded_small}
 use Rattle.sq_cpr.proofs.index.nearest_index.Goals as goal
 
--- Half a step, as the code computes it, is small.
+-- Half a step, as the code computes it, has a bound.
 half_small_of : (den span d s : ℕ) → d ≡ den → s ≡ span → den ≤ 1000000000000 → span ≤ 360
     → d * s ≤ 1000000000000 * 360
 half_small_of den span d s same alike small few =
@@ -40,7 +40,7 @@ steps_small zones z steps few small is =
     subst (λ s. unsigned_abs s ≤ 2 * (60 * 131072) * (360 * 1000000000000)) (sym is)
     (scaled_size (2 * (zones * 131072)) (2 * (60 * 131072)) (360 * 1000000000000) z (omega (arith, few)) small)
 
--- Both terms of the dividend, as the code computes them, have a bound; z is the angle's number as it is scaled.
+-- Both terms of the dividend, as the code computes them, have a bound; z is the numerator of the angle.
 terms_small : (angle : Angle) (span zones d s n : ℕ) (z steps : ℤ) → span ≤ 360 → zones ≤ 60
     → d ≡ angle.den → s ≡ span → n ≡ zones → z ≡ angle.num → steps ≡ pos (2 * (n * 131072)) *ℤ z
     → (unsigned_abs steps ≤ 2 * (60 * 131072) * (360 * 1000000000000)) × (d * s ≤ 1000000000000 * 360)

@@ -6,7 +6,7 @@ use Rattle.sq_angle.specs.Lowest.{IsLowestFormOf}
 use Rattle.sq_angle.specs.Scale.{scale-neg}
 use Rattle.sq_angle.proofs.angle.Angle.reduced.Goals as goal
 
--- the lowest form of an angle that is negative, and of one that is not, by the magnitude's
+-- the lowest form of a negative angle, and of an angle that is not negative, by that of the magnitude
 negative : (n d den : ℕ) (num : ℤ) → n < 2 ^ 60 → 1 ≤ d → IsGcd n d 1 → num <ℤ pos 0 → n * den ≡ unsigned_abs num * d
     → IsLowestFormOf (record { num = num; den = den })
     (record { num = to_z w64 (of_z w64 (pos 0 -ℤ to_z w64 n)); den = d })

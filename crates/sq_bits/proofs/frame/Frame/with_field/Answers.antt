@@ -6,7 +6,7 @@ use Rattle.sq_bits.proofs.Quotient.{quotient_of, field_at}
 use Rattle.sq_bits.proofs.Fields.{replaced, written, replaced-field, replaced-apart}
 use Rattle.sq_bits.proofs.frame.Frame.with_field.Goals as goal
 
--- What the code takes out of a number.
+-- The field that the code removes from a number.
 abbrev held : (first count n : ℕ) → ℕ
 held first count n = n / 2 ^ (113 - first - count) % (1 * 2 ^ count % 2 ^ 128)
 

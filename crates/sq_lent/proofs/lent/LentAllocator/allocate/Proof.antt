@@ -1,4 +1,4 @@
--- `allocate` hands out the block as room for the type that was asked. Assumes `Logic`.
+-- `allocate` hands out the block as room for the type that was asked for. Assumes `Logic`.
 use Rattle.std.proofs.Common.{◌≡◌, true, false, List, [], ◌∷◌, ◌++◌, refl, subst, lit<, w64, Ok, Err}
 use mir.Syntax.{Ty, Fn}
 use mir.Val.{Val, vint, vptr}
