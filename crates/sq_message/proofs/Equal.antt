@@ -1,4 +1,4 @@
--- Squitters, and squitters with their moments, are equal by `==` exactly if they are one.
+-- Squitters, and squitters with their timestamps, are equal by `==` exactly if they are the same.
 use Rattle.std.proofs.Common.{◌≡◌, ◌↔◌, ◌&&◌, IsTrue, Bool, true, false, ap, refl, rules, subst}
 use Rattle.std.proofs.Math.Bool.{beq}
 use Rattle.std.proofs.lemmas.Bool.{and_from, and_parts, eq-eqb, eqb-true}

@@ -119,7 +119,7 @@ near_reference_exactly kind reference point = (λ h. h, λ h. h)
 pub lie_at_exactly : LieAtExactly
 lie_at_exactly = record { in_air = λ site a b. tt; on_ground = λ site a b. (λ h. h, λ h. h) }
 
--- ---- what calls in turn answer
+-- ---- the results of calls made in sequence
 
 pub one_answer_near : OneAnswerNear
 one_answer_near f r answer other (p, read, placed) (q, again, decoded) =
@@ -149,7 +149,7 @@ read_near_exactly f r place is = (
       (q, one_reading f reading (Ok q) h own, λ answer k. one_local_place q r answer (Ok place) k placed),
 )
 
--- the places of two frames by one reading of each, and by every one
+-- two frames are decoded to a place by some reading of each
 AreReadAs : (older newer : Frame) → Option Position → Place → Type 0
 AreReadAs older newer site place =
     (p q : Squitter) × IsReading older (Ok p) × IsReading newer (Ok q) × IsPlaceOfPair p q site (Ok place)

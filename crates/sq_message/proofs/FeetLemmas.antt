@@ -1,4 +1,4 @@
--- The meaning of a field and the field of a meaning.
+-- The meaning of an altitude field, and the field of an altitude.
 use Rattle.std.proofs.Common.{◌≡◌, ◌≢◌, ℕ, ℤ, pos, negsuc, ◌-ℤ◌, ◌*ℤ◌, ◌≤ℤ◌, ◌≤◌, ◌<◌, ◌+◌, ◌*◌, ◌/◌, ◌%◌, ◌^◌, ◌⊎◌}
 use Rattle.std.proofs.Common.{refl, sym, ap, ◌∙◌, subst, arith, inl, inr}
 use Rattle.std.specs.Prelude.{◌↔◌}
@@ -7,15 +7,15 @@ use Rattle.sq_message.specs.declared.air.Altitude.{Altitude}
 use Rattle.sq_message.specs.declared.air.Altitude.TheVariants.{Missing, Feet, Raw}
 use Rattle.sq_message.specs.Altitudes.{HasField, IsAltitude, IsField, IsFieldOfFeet, IsOtherForm}
 
--- the bits of a field, as quotients and remainders
+-- the parts of a field, as quotients and remainders
 pub split : (field : ℕ) → field < 4096 → IsField field (field / 32) (field / 16 % 2) (field % 16)
 split field small = record { seven = omega arith; one = omega arith; four = omega arith; bits = omega arith }
 
--- the bits of the field of so many steps
+-- the parts of the field of a number of steps
 pub joined : (steps : ℕ) → steps < 2048 → IsField (steps / 16 * 32 + 16 + steps % 16) (steps / 16) 1 (steps % 16)
 joined steps small = record { seven = omega arith; one = omega arith; four = omega arith; bits = omega arith }
 
--- a field has one split
+-- a field has at most one split
 pub same_split : (field h q l h' q' l' : ℕ) → IsField field h q l → IsField field h' q' l'
     → (h ≡ h') × (q ≡ q') × (l ≡ l')
 same_split field h q l h' q' l' x y = (
@@ -24,7 +24,7 @@ same_split field h q l h' q' l' x y = (
   omega (arith, x.one, x.four, x.bits, y.one, y.four, y.bits),
 )
 
--- a field means one number of feet
+-- a field means at most one number of feet
 same_feet : (field : ℕ) (feet other : ℤ) → IsFieldOfFeet field feet → IsFieldOfFeet field other → feet ≡ other
 same_feet field feet other (h, l, is, means) (h', l', is', means') =
     let same = same_split field h 1 l h' 1 l' is is' in
@@ -51,7 +51,7 @@ pub feet_exactly : (code field : ℕ) (feet : ℤ) (meaning : Altitude) → code
 feet_exactly code field feet meaning low is =
     (λ e. (subst (λ m. IsAltitude code field m) e is).1, λ y. means_feet code field feet meaning low is y)
 
--- a field that is kept raw under a type code up to 18 is not zero and has no feet
+-- a field that stays raw under a type code up to 18 is not zero and has Q = 0
 raw_form : (code field : ℕ) → code ≤ 18 → (20 ≤ code) ⊎ ((field ≢ 0) × IsOtherForm field)
     → (field ≢ 0) × IsOtherForm field
 raw_form code field low (inl high) = absurd (omega arith)
@@ -66,12 +66,12 @@ one_altitude code field (Raw raw) Missing x y = absurd ((raw_form code field y.0
 one_altitude code field (Raw raw) (Feet feet) x y = means_feet code field feet (Raw raw) y.0 x y.1
 one_altitude code field (Raw raw) (Raw other) x y = ap Raw (x.0 ∙ sym y.0)
 
--- the field of feet is one
+-- an altitude in feet has at most one field
 pub one_field : (field other : ℕ) (feet : ℤ) → IsFieldOfFeet field feet → IsFieldOfFeet other feet → field ≡ other
 one_field field other feet (h, l, is, means) (h', l', is', means') =
     omega (arith, ints, is.four, is.bits, is'.four, is'.bits, means, means')
 
--- what a field means has a field
+-- the altitude that a field means has a field
 pub has_field : (field : ℕ) (feet : ℤ) → IsFieldOfFeet field feet → HasField feet
 has_field field feet (h, l, is, means) =
     let least : negsuc 999 ≤ℤ feet = omega (arith, ints, means) in

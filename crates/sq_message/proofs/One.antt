@@ -1,4 +1,4 @@
--- A frame spells at most one squitter.
+-- A frame encodes at most one squitter.
 use Rattle.std.proofs.Common.{◌≡◌, ◌/◌, ◌^◌, Result, Ok, Err, MatchResult, sym, ◌∙◌, ap, arith}
 use Rattle.sq_bits.specs.declared.frame.Frame.{Frame}
 use Rattle.sq_bits.specs.Frames.{field_of, frame_number, IsFrame}
@@ -21,7 +21,7 @@ use Rattle.sq_message.specs.Spelling.{IsFault, IsReading, Spells, SpellsFields, 
 use Rattle.sq_message.proofs.Same.{same_bit, same_parity, same_air_fields, same_ground_fields, same_other}
 use Rattle.sq_message.proofs.Same.{same_squitter}
 
--- two places at the same bits are one
+-- two parities and codes in the same bits are equal
 same_place : (f : Frame) (p q : Parity) (a b : Code) → SpellsPlace f p (numbers_of a) → SpellsPlace f q (numbers_of b)
     → (p ≡ q) × (a ≡ b)
 same_place f p q a b x y = (
@@ -71,26 +71,26 @@ same_me f (kinds.Other a) (kinds.Other b) x y = ap kinds.Other (same_other a b (
 pub one_squitter : (f : Frame) (p q : Squitter) → Spells f p → Spells f q → p ≡ q
 one_squitter f p q x y = same_squitter p q (sym x.ca ∙ y.ca) (sym x.address ∙ y.address) (same_me f p.me q.me x.me y.me)
 
--- a frame that spells a squitter has no fault
+-- a frame that encodes a squitter has no error
 pub no_fault : (f : Frame) (q : Squitter) (e : FrameFault) → Spells f q → IsFault f e → ⊥
 no_fault f q (faults.NotDf17 format) x (is, other) = other (sym is ∙ x.format)
 no_fault f q (faults.Parity r) x (is, remainder, other) =
     other (remainder_of_multiple (frame_number f) r x.multiple remainder)
 
--- what a frame spells is what was read of it
+-- every reading of a frame that encodes a squitter is that squitter
 pub read_exactly : (f : Frame) (r : Result Squitter FrameFault) → MatchResult r (Spells f) (IsFault f) → (q : Squitter)
     → Spells f q → r ≡ Ok q
 read_exactly f (Ok p) h q x = ap Ok (one_squitter f p q h x)
 read_exactly f (Err e) h q x = absurd (no_fault f q e x h)
 
--- frames that spell one place agree on its 35 bits
+-- frames with the same parity and code agree on the 35 bits of both
 same_place_field : (f g : Frame) (parity : Parity) (code : CodeNumbers) → SpellsPlace f parity code
     → SpellsPlace g parity code → field_of f 54 35 ≡ field_of g 54 35
 same_place_field f g parity code x y =
     join_fields f g 54 1 34 (x.parity_bit ∙ sym y.parity_bit)
     (join_fields f g 55 17 17 (x.lat ∙ sym y.lat) (x.lon ∙ sym y.lon))
 
--- frames that spell one message agree on its 56 bits
+-- frames with the same message agree on its 56 bits
 same_me_field : (f g : Frame) (m : Me) → SpellsMe f m → SpellsMe g m → field_of f 33 56 ≡ field_of g 33 56
 same_me_field f g (kinds.Airborne a) x y =
     join_fields f g 33 5 51 (x.fields.type_code ∙ sym y.fields.type_code)
@@ -116,7 +116,7 @@ one_frame f g q is_f is_g x y =
     (join_fields f g 6 3 80 (x.ca ∙ sym y.ca)
     (join_fields f g 9 24 56 (x.address ∙ sym y.address) (same_me_field f g q.me x.me y.me))))
 
--- a frame has one fault
+-- a frame has at most one error
 pub same_fault : (f : Frame) (d e : FrameFault) → IsFault f d → IsFault f e → d ≡ e
 same_fault f (faults.NotDf17 a) (faults.NotDf17 b) x y = ap faults.NotDf17 (sym x.0 ∙ y.0)
 same_fault f (faults.NotDf17 a) (faults.Parity b) x y = absurd (x.1 (sym x.0 ∙ y.0))
@@ -124,7 +124,7 @@ same_fault f (faults.Parity a) (faults.NotDf17 b) x y = absurd (y.1 (sym y.0 ∙
 same_fault f (faults.Parity a) (faults.Parity b) x y =
     ap faults.Parity (IsRemainder-unique (frame_number f) a b x.1 y.1)
 
--- the reading of a frame is one
+-- a frame has at most one reading
 pub one_reading : (f : Frame) (r s : Result Squitter FrameFault) → IsReading f r → IsReading f s → r ≡ s
 one_reading f (Ok p) (Ok q) x y = ap Ok (one_squitter f p q x y)
 one_reading f (Ok p) (Err e) x y = absurd (no_fault f p e x y)

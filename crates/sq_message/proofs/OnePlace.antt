@@ -1,4 +1,4 @@
--- Squitters are decoded to exactly one place, or have exactly one fault.
+-- Decoding squitters has exactly one result: one place or one error.
 use Rattle.std.proofs.Common.{◌≡◌, ◌∙◌, Option, Some, None, Result, ap, inl, inr, refl, sym, Err}
 use Rattle.sq_angle.specs.declared.position.Position.{Position}
 use Rattle.sq_angle.specs.Angle.{degrees}
@@ -54,7 +54,7 @@ one_pair_of OnGround o n (Some site) x y (found, h, is) (other, k, be) =
     site.lat.in_range.positive site.lon.in_range.positive h k in
     is ∙ ap (place_of Ground of_pair) same ∙ sym be
 
--- an answer for one parity, and one for two
+-- at most one result for equal parities, and for different ones
 one_of_kind : (kind : Kind) (o n : PositionOf kind) (site : Option Position) (x y : Result Place PlaceFault)
     → IsPlaceOfOneKind kind o n site x → IsPlaceOfOneKind kind o n site y → x ≡ y
 one_of_kind kind o n site x y h k = elim (one_or_two o.parity n.parity) [
@@ -105,7 +105,7 @@ some_pair_of OnGround o n (Some site) =
     (degrees (lat_of site)) (degrees (lon_of site)) site.lat.in_range.positive site.lon.in_range.positive in
     (place_of Ground of_pair found.0, (found.0, found.1, refl))
 
--- one parity has a fault, and two have what there is of them
+-- some result: an error for equal parities, and that of the codes for different ones
 some_of_kind : (kind : Kind) (o n : PositionOf kind) (site : Option Position)
     → (answer : Result Place PlaceFault) × IsPlaceOfOneKind kind o n site answer
 some_of_kind kind o n site = elim (one_or_two o.parity n.parity) [

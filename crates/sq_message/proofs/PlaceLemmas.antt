@@ -1,4 +1,4 @@
--- What places and their faults say of the decoders' answers.
+-- How places and their errors follow from the results of the decoders.
 use Rattle.std.proofs.Common.{◌≡◌, ◌≢◌, ◌⊎◌, Option, Some, None, Result, Ok, Err, inl, inr, refl, sym, ap, subst}
 use Rattle.std.proofs.lemmas.Bool.Decides.{eqb_tells}
 use Rattle.sq_angle.specs.declared.position.Position.{Position}
@@ -26,12 +26,12 @@ use Rattle.sq_message.specs.Places.{IsLocalPlaceOf, IsPairPlace, IsPairPlaceOf, 
 
 -- ---- places and points
 
--- no place is a fault
+-- a place is not an error
 pub no_fault : {X : Type 0} (place : Place) (fault : PlaceFault)
     → ◌≡◌ {A = Result Place PlaceFault} (Ok place) (Err fault) → X
 no_fault place fault e = absurd (cc e)
 
--- the point of a place of the kind
+-- a result that is a place of the kind comes from the place's point
 placed : {F : Type 0} (kind : Kind) (named : F → PlaceFault) (found : Result Point F) (point : Point)
     → ◌≡◌ {A = Result Place PlaceFault} (Ok (place_at kind point)) (place_of (place_at kind) named found)
     → found ≡ Ok point
@@ -41,7 +41,7 @@ placed kind named (Err f) p e = no_fault (place_at kind p) (named f) e
 
 -- ---- pairs
 
--- a message is a position or it is none
+-- a message is a position or it is not
 positions : (me : Me) → IsPosition me ⊎ (¬ (IsPosition me))
 positions (kinds.Airborne a) = inl tt
 positions (kinds.Surface s) = inl tt
@@ -58,12 +58,12 @@ both_positions older newer = elim (positions older) [
   | inr other ↦ inr (λ (x : IsPosition older × IsPosition newer). other x.0)
 ]
 
--- what is left of a pair past its first two faults
+-- a pair without the first two errors: both squitters are positions of one address
 pub record IsPast (older newer : SquitterParts) : Type 0 where
   pub positions : IsPosition older.me × IsPosition newer.me
   pub address : older.address ≡ newer.address
 
--- a pair is past its first two faults, or one fault is every answer
+-- a pair is without the first two errors, or every result is one error
 pub past_or_fault : (older newer : SquitterParts) (site : Option Position)
     → IsPast older newer ⊎ ((fault : PlaceFault)
     × ((answer : Result Place PlaceFault) → IsPairPlace older newer site answer → answer ≡ Err fault))
@@ -75,7 +75,7 @@ past_or_fault older newer site = elim (both_positions older.me newer.me) [
   | inr neither ↦ inr (_, λ answer h. h.not_positions neither)
 ]
 
--- a pair that has a place is past its first two faults
+-- a pair with a place is without the first two errors
 pub past : (older newer : SquitterParts) (site : Option Position) (place : Place)
     → IsPairPlace older newer site (Ok place) → IsPast older newer
 past older newer site place h = elim (past_or_fault older newer site) [
@@ -90,7 +90,7 @@ one_or_two Even Odd = inr (λ (e : ◌≡◌ {A = Parity} Even Odd). absurd (cc 
 one_or_two Odd Even = inr (λ (e : ◌≡◌ {A = Parity} Odd Even). absurd (cc e))
 one_or_two Odd Odd = inl refl
 
--- ---- what is decoded
+-- ---- decoded points
 
 -- a point of the grid, with this parity and code
 pub record IsPointOf (span : Span) (code : CodeNumbers) (parity : Parity) (point : Point) : Type 0 where
@@ -98,14 +98,14 @@ pub record IsPointOf (span : Span) (code : CodeNumbers) (parity : Parity) (point
   pub of_parity : point.parity ≡ parity
   pub has_code : HasCode point code
 
--- the newer code of an even and an odd one
+-- the newest of an even and an odd code is the newer one
 newest_code : (newest : Parity) (older newer : Code)
     → of_parity newest (pair_by_parity newest older newer).even (pair_by_parity newest older newer).odd
     ≡ numbers_of newer
 newest_code Even older newer = refl
 newest_code Odd older newer = refl
 
--- what two positions of one kind and two parities are decoded to
+-- a point decoded from two positions of one kind and different parities has the newer code and parity
 pair_point : (kind : Kind) (older newer : PositionOf kind) (site : Option Position) (p : Point)
     → IsPairPlaceOf kind older newer site (Ok (place_at kind p))
     → IsPointOf (span_of kind) (numbers_of newer.code) newer.parity p
@@ -137,7 +137,7 @@ kind_point kind older newer site p h = elim (one_or_two older.parity newer.parit
   | inr differ ↦ pair_point kind older newer site p (h.1 differ)
 ]
 
--- the point of a place that two positions of one address are decoded to
+-- a point decoded from two positions of one address has the newer code and parity
 one_address_point : (kind : Kind) (older : Me) (newer : PositionOf kind) (site : Option Position) (p : Point)
     → IsPlaceOfOneAddress older (me_at kind newer) site (Ok (place_at kind p))
     → IsPointOf (span_of kind) (numbers_of newer.code) newer.parity p
@@ -148,13 +148,13 @@ one_address_point OnGround (kinds.Airborne older) newer site p h = no_fault (Gro
 one_address_point OnGround (kinds.Surface older) newer site p h = kind_point OnGround older newer site p h
 one_address_point OnGround (kinds.Other older) newer site p h = absurd h
 
--- what a position of the kind is decoded to near a reference
+-- the result of decoding a position of the kind near a reference
 pub local_of : (kind : Kind) (position : PositionOf kind) (reference : Position) (answer : Result Place PlaceFault)
     → IsLocalPlace (me_at kind position) reference answer → IsLocalPlaceOf kind position reference answer
 local_of InAir position reference answer h = h
 local_of OnGround position reference answer h = h
 
--- the point of a place that a squitter is decoded to has the squitter's code
+-- a point decoded from a squitter has the squitter's code and parity
 pub decoded_point : (kind : Kind) (squitter : SquitterParts) (position : PositionOf kind) (p : Point)
     → squitter.me ≡ me_at kind position → IsDecoded squitter (place_at kind p)
     → IsPointOf (span_of kind) (numbers_of position.code) position.parity p
@@ -172,7 +172,7 @@ decoded_point kind squitter position p is (inr (older, site, h)) =
 
 -- ---- codes
 
--- a point has its code alone
+-- a point has no code but its own
 pub own_code : (point : Point) (code : Code) → HasCode point (numbers_of code) → numbers_of code ≡ code_of point
 own_code point code h = sym ((one_code point (numbers_of code)).0 (h, code.lat_below, code.lon_below))
 

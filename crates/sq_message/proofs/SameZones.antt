@@ -22,12 +22,12 @@ use Rattle.sq_message.proofs.One.{one_squitter, one_frame}
 use Rattle.sq_cpr.proofs.Grids.Points.{rounds_once}
 use Rattle.sq_message.specs.Headline.{OneFrameSent}
 
--- the spans of both kinds go round the circle
+-- the spans of both kinds make up the circle
 pub fits : (kind : Kind) → FitsCircle (span_of kind)
 fits InAir = refl
 fits OnGround = refl
 
--- squitters of one head and one point are one
+-- squitters of one head and one point are equal
 pub same_sent : (kind : Kind) (head : HeadParts kind) (p : Point) (a b : Squitter)
     → IsSquitterOf kind head p (squitter_parts a) → IsSquitterOf kind head p (squitter_parts b) → a ≡ b
 same_sent kind head p a b h k =
@@ -37,20 +37,20 @@ same_sent kind head p a b h k =
     same_squitter a b (h.ca ∙ sym k.ca) (h.address ∙ sym k.address)
     (h.me ∙ ap (λ (c : Code). me_of kind head p.parity c) code ∙ sym k.me)
 
--- the code of a message, or another where it has none
+-- the code of a message, or `other` if it has none
 code_in : Code → Me → Code
 code_in other (kinds.Airborne airborne) = airborne.code
 code_in other (kinds.Surface surface) = surface.code
 code_in other (kinds.Other raw) = other
 
--- the message of a head has the code that it is made of
+-- the message made of a head, a parity and a code has that code
 code_in-own : (kind : Kind) (head : HeadParts kind) (parity : Parity) (code other : Code)
     → code_in other (me_of kind head parity code) ≡ code
 unfolding code_in
 code_in-own InAir head parity code other = refl
 code_in-own OnGround head parity code other = refl
 
--- a squitter has the code of one point
+-- points from which one squitter is sent have the same code
 one_code : (kind : Kind) (head : HeadParts kind) (p q : Point) (a b : Squitter) → a ≡ b
     → IsSquitterOf kind head p (squitter_parts a) → IsSquitterOf kind head q (squitter_parts b)
     → code_of p ≡ code_of q

@@ -1,4 +1,4 @@
--- Frames that are sent, and what is read of them: near a reference, of a pair, and sent again.
+-- Sent frames, and the results of reading them near a reference, reading them as a pair, and sending them again.
 use Rattle.std.proofs.Common.{◌≡◌, ◌∙◌, Result, Ok, ap, refl, subst, ◌≢◌, Option, None, Some, sym, Err}
 use Rattle.sq_bits.specs.declared.frame.Frame.{Frame}
 use Rattle.sq_bits.specs.Frames.{IsFrame}
@@ -40,7 +40,7 @@ use Rattle.sq_message.proofs.OnePlace.{one_local_place, one_pair_place}
 
 -- ---- near a reference
 
--- what was sent of a point is decoded to it with a reference that is strictly near
+-- a squitter sent from a point decodes to that point with a reference strictly near it
 local_of_sent : (kind : Kind) (q : Squitter) (head : HeadParts kind) (point : Point) (reference : Position)
     (answer : Result Place PlaceFault)
     → IsSquitterOf kind head point (squitter_parts q) → IsGridPoint (span_of kind) point
@@ -65,7 +65,7 @@ near_reference kind head parity position reference point frame h near reading re
 
 -- ---- pairs
 
--- two parities that are each other's
+-- odd and even are different
 two : (p q : Parity) → p ≡ Odd → q ≡ Even → p ≢ q
 two p q odd even same = let bad : ◌≡◌ {A = Parity} Odd Even = sym odd ∙ same ∙ even in absurd (cc bad)
 
@@ -78,7 +78,7 @@ is_position : (kind : Kind) (head : HeadParts kind) (parity : Parity) (code : Co
 is_position InAir head parity code = tt
 is_position OnGround head parity code = tt
 
--- what two positions of one address are decoded to, by their messages
+-- the result of decoding two positions of one address, by their messages
 same_address : (older newer : Squitter) (m n : Me) (site : Option Position) (answer : Result Place PlaceFault)
     → older.me ≡ m → newer.me ≡ n → IsPosition m → IsPosition n
     → older.address ≡ newer.address → IsPairPlace (squitter_parts older) (squitter_parts newer) site answer
@@ -90,7 +90,7 @@ same_address older newer m n site answer is_m is_n first second address h =
     subst (λ x. IsPlaceOfOneAddress m x site answer) is_n
     (subst (λ x. IsPlaceOfOneAddress x newer.me site answer) is_m here)
 
--- a pair of different parity with the codes of close points is decoded to the newest one's point
+-- a pair of different parities with the codes of close points decodes to the point of the newest
 decoded_close : (kind : Kind) (site : Option Position) (first second : HeadParts kind) (p q newest : Parity)
     (c d : Code) (answer : Result Place PlaceFault) (a b : Point)
     → p ≢ q → q ≡ newest → IsGridPoint (span_of kind) a → IsGridPoint (span_of kind) b
@@ -145,9 +145,9 @@ close_pair kind even_head odd_head x y a b even odd Odd site address h k near li
       (o.address ∙ address ∙ sym n.address) is),
 )
 
--- ---- what calls answer
+-- ---- the results of calls
 
--- the frame of a squitter that is sent of each point to which the position rounds
+-- the frame of a squitter that is sent from each point to which the position rounds
 pub frame_of_sent : (kind : Kind) (head : HeadParts kind) (parity : Parity) (x : Position) (f : Frame) (q : Squitter)
     → ((point : Point) → point.parity ≡ parity → PositionRoundsTo (span_of kind) x point
     → IsSquitterOf kind head point (squitter_parts q))
@@ -162,7 +162,7 @@ frame_of_sent kind head parity x f q sent is spelled = λ point same rounds.
       spelled = spelled;
     }
 
--- what is read near a reference strictly near the point is that point
+-- a sent frame read with a reference strictly near the point gives that point
 pub near_of_sent : (kind : Kind) (head : HeadParts kind) (parity : Parity) (x r : Position) (f : Frame) (q : Squitter)
     (answer : Result Place PlaceFault)
     → IsFrameOf kind head parity x f → IsReading f (Ok q) → IsLocalPlace (squitter_parts q).me r answer
@@ -173,21 +173,20 @@ near_of_sent kind head parity x r f q answer sent read placed point same rounds 
     let one : q ≡ p = cc is in
     answers answer (subst (λ (s : Squitter). IsLocalPlace (squitter_parts s).me r answer) one placed)
 
--- what two squitters are decoded to, by those that they equal
+-- equal squitters have the same result as a pair
 pub moved : (p q older newer : Squitter) (site : Option Position) (answer : Result Place PlaceFault) → p ≡ older
     → q ≡ newer → IsPlaceOfPair p q site answer → IsPlaceOfPair older newer site answer
 moved p q older newer site answer first second placed =
     subst (λ (s : Squitter). IsPlaceOfPair older s site answer) second
     (subst (λ (s : Squitter). IsPlaceOfPair s q site answer) first placed)
 
--- where the points to which the positions round are close, and lie where the kind wants it, the answer is the newest
--- one's
+-- if the points to which the positions round are close and lie as `LieAt` says, the result is the newest one's point
 abbrev IsPlaceOfClose : Kind → Option Position → Parity → (even odd : Position) → Result Place PlaceFault → Type 0
 IsPlaceOfClose kind site newest even odd answer =
     (a b : Point) → PositionRoundsTo (span_of kind) even a → PositionRoundsTo (span_of kind) odd b
     → AreClosePoints (span_of kind) a b → LieAt kind site a b → answer ≡ Ok (place_at kind (of_parity newest a b))
 
--- what is read of the frames of close points is the newest one's point
+-- the frames of close points read as a pair give the point of the newest
 pub pair_of_sent : (kind : Kind) (even_head odd_head : HeadParts kind) (x y : Position) (f g : Frame) (p q : Squitter)
     (newest : Parity) (site : Option Position) (answer : Result Place PlaceFault)
     → even_head.address ≡ odd_head.address → IsFrameOf kind even_head Even x f
@@ -205,7 +204,7 @@ pair_of_sent kind even_head odd_head x y f g p q Odd site answer address even od
     (even a close.even a_rounds) (odd b close.odd b_rounds) close lie (Ok p) (Ok q) first second in
     answers answer (moved p q older newer site answer (cc was) (cc is) placed)
 
--- what has a fault near a reference has no place there
+-- a frame with an error near a reference has no place there
 pub no_place_near : (f : Frame) (q : Squitter) (r : Position) (fault : PlaceFault) → IsReading f (Ok q)
     → IsLocalPlace (squitter_parts q).me r (Err fault) → HasNoPlaceNear f r
 no_place_near f q r fault read refused = λ p place other placed.
@@ -213,7 +212,7 @@ no_place_near f q r fault read refused = λ p place other placed.
     (one_squitter f p q other read) placed in
     no_fault place fault (one_local_place q r (Ok place) (Err fault) here refused)
 
--- what has a fault as a pair has no place
+-- two frames with an error as a pair have no place
 pub no_place : (f g : Frame) (p q : Squitter) (site : Option Position) (fault : PlaceFault) → IsReading f (Ok p)
     → IsReading g (Ok q) → IsPlaceOfPair p q site (Err fault) → HaveNoPlace f g site
 no_place f g p q site fault first second refused = λ x y place other_first other_second placed.
@@ -223,7 +222,7 @@ no_place f g p q site fault first second refused = λ x y place other_first othe
 
 -- ---- sent again
 
--- a squitter that is decoded to a point is what is sent of that point with its head
+-- a squitter that decodes to a point is the squitter sent from that point with its head
 decoded_is_sent : (kind : Kind) (head : HeadParts kind) (parity : Parity) (code : Code) (q : Squitter) (p : Point)
     → q.ca ≡ head.ca → q.address ≡ head.address → q.me ≡ me_of kind head parity code
     → IsPointOf (span_of kind) (numbers_of code) parity p → IsSquitterOf kind head p (squitter_parts q)
@@ -235,7 +234,7 @@ decoded_is_sent kind head parity code q p ca address is point = record {
   numbers = own_code p code point.has_code;
 }
 
--- a squitter's own point is sent as that squitter
+-- a point decoded from a squitter is sent as that squitter
 point_again : (kind : Kind) (q sent : Squitter) (p : Point) → IsDecoded (squitter_parts q) (place_at kind p)
     → IsSentAtPoint kind (squitter_parts q) p (squitter_parts sent) → sent ≡ q
 point_again kind q sent p h (position, is, again) =
@@ -243,7 +242,7 @@ point_again kind q sent p h (position, is, again) =
     same_sent kind head p sent q again (decoded_is_sent kind head position.parity position.code q p refl refl is
     (decoded_point kind (squitter_parts q) position p is h))
 
--- a squitter's own place is sent as that squitter
+-- a place decoded from a squitter is sent as that squitter
 pub sent_again : (q sent : Squitter) (place : Place) → IsDecoded (squitter_parts q) place
     → IsSentAt (squitter_parts q) place (squitter_parts sent) → sent ≡ q
 sent_again q sent (Air p) h again = point_again InAir q sent p h again
@@ -253,7 +252,7 @@ pub written_again : WrittenAgain
 written_again q sent place f g is_f spells h again is_g spelled =
     one_frame g f q is_g is_f (subst (Spells g) (sent_again q sent place h again) spelled) spells
 
--- a point's own position rounds to it alone
+-- a point's own position rounds to no other point of its parity
 rounds_back : (span : Span) → FitsCircle span → (lat lon : Fraction) (p q : Point) → IsGridPoint span p
     → lat ≡ latitude span p
     → lon ≡ longitude span p
@@ -264,7 +263,7 @@ rounds_back span circle lat lon p q of_grid at_lat at_lon same rounds =
     (subst (λ x. RoundsTo span x lon q) at_lat rounds) in
     rounds_once span (latitude span p) (longitude span p) q p same there own
 
--- the coordinates of a point's place are the point's
+-- the coordinates of a point's place are those of the point
 place_is_point : (kind : Kind) (p : Point)
     → (place_latitude (place_at kind p) ≡ latitude (span_of kind) p)
     × (place_longitude (place_at kind p) ≡ longitude (span_of kind) p)

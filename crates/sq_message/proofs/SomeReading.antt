@@ -27,14 +27,14 @@ use Rattle.sq_message.specs.Parts.{Airborne, Surface, air_parts, ground_parts}
 use Rattle.sq_message.specs.Spelling.{bit, IsReading, Spells, SpellsMe, SpellsAirFields, SpellsGroundFields}
 use Rattle.sq_message.specs.Spelling.{SpellsPlace}
 
--- a one-bit field is one of a Boolean
+-- every one-bit field encodes a Boolean
 some_bit : (n : ℕ) → n < 2 → (b : Bool) × (n ≡ bit b)
 some_bit n small = elim (cases_eq n 1) [
   | inl one ↦ (true, one)
   | inr other ↦ let none : n ≡ 0 = omega arith in (false, none)
 ]
 
--- a bit is that of a parity
+-- every bit encodes a parity
 some_parity : (n : ℕ) → n < 2 → (p : Parity) × (n ≡ parity_index p)
 some_parity n small = elim (cases_eq n 1) [
   | inl one ↦ (Odd, one)
@@ -44,7 +44,7 @@ some_parity n small = elim (cases_eq n 1) [
 flag : (f : Frame) (place : ℕ) → (b : Bool) × (field_of f place 1 ≡ bit b)
 flag f place = some_bit (field_of f place 1) (field_small f place 1)
 
--- the parity and the code of a frame
+-- every frame has a parity and a code
 some_place : (f : Frame) → (p : Parity) × (code : Code) × SpellsPlace f p (numbers_of code)
 some_place f =
     let parity = some_parity (field_of f 54 1) (field_small f 54 1) in
@@ -106,7 +106,7 @@ some_other f is =
     } in
     (kinds.Other other, refl)
 
--- a type code is one of the three kinds'
+-- every type code belongs to one of the three kinds
 data Kind (c : ℕ) : Type 0 where
   Air : IsAirCode c → Kind c
   Ground : IsGroundCode c → Kind c

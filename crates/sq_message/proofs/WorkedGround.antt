@@ -15,11 +15,11 @@ use Rattle.sq_cpr.specs.Slow.{DifferByLess, IsPointWithin}
 use Rattle.sq_message.specs.Places.{IsAt}
 use Rattle.sq_message.proofs.WorkedPoints.{of_position, parts, rounding}
 
--- so many parts of a degree west
+-- n/of degrees west
 abbrev pub west : ℕ → ℕ → Fraction
 west n of = record { num = neg_ℤ (pos n); den = of }
 
--- the points of the worked pair, and those 180 degrees on
+-- the points of the worked pair, and those 180 degrees further
 abbrev pub even_at : ℕ → Point
 even_at index = point_at Even (pos 4572057) 36 index
 
@@ -38,7 +38,7 @@ even_beyond = even_at 9685197
 abbrev pub odd_beyond : Point
 odd_beyond = odd_at 9416381
 
--- ---- to which points the positions round
+-- ---- the points to which the positions round
 
 even_is_point : (index : ℕ) → index < circle 36 4 → IsGridPoint ground (even_at index)
 unfolding zones_at zone_limits
@@ -94,7 +94,7 @@ pub reference_is_near : (x : Position) → IsAt (parts 51990 1000) (parts 4375 1
     → IsStrictlyNearPosition ground x odd_point
 reference_is_near x at = of_position (λ f g. IsStrictlyNearPoint ground f g odd_point) _ _ x at odd_is_near
 
--- a point less than 45 degrees from these fractions is so from a position that has them
+-- a point less than 45 degrees from these coordinates is less than 45 degrees from a position with them
 at_site : (p : Point) (lat lon : Fraction) (x : Position) → IsAt lat lon x
     → DifferByLess (whole 45) (latitude ground p) lat
     → DifferByLess (whole 45) (angle_at 90 p.zones (pos p.lon_index)) lon → IsPointWithin 45 ground p x

@@ -1,4 +1,4 @@
--- The points of worked positions in the air, in numbers; and what those on the ground share with them.
+-- The points of worked positions in the air, in numbers, and lemmas that the surface positions share with them.
 use Rattle.std.proofs.Common.{ℕ, ℤ, pos, arith, refl, sym, subst}
 use Rattle.std.proofs.lemmas.Int.{ints}
 use Rattle.sq_angle.specs.Fraction.{Fraction}
@@ -18,17 +18,17 @@ use Rattle.sq_cpr.specs.Rounds.{RoundsTo, PositionRoundsTo}
 use Rattle.sq_cpr.proofs.Distances.Exact.{near_three_decimals}
 use Rattle.sq_message.specs.Places.{IsAt}
 
--- so many parts of a degree
+-- n/of degrees
 abbrev pub parts : ℕ → ℕ → Fraction
 parts n of = record { num = pos n; den = of }
 
--- what holds of these fractions holds of a position that has them
+-- a property of these coordinates holds for a position with them
 pub of_position : (P : Fraction → Fraction → Type 0) (lat lon : Fraction) (x : Position) → IsAt lat lon x → P lat lon
     → P (degrees (lat_of x)) (degrees (lon_of x))
 of_position P lat lon x at p =
     subst (λ f. P f (degrees (lon_of x))) (sym at.lat) (subst (λ f. P lat f) (sym at.lon) p)
 
--- a position rounds to the point by its nearest latitude index, and a nearest longitude index on some turn
+-- a position rounds to a point with its nearest latitude index and, modulo turns, its nearest longitude index
 pub rounding : (span : Span) (p : Point) (lat lon : Fraction) (index : ℤ) (x : Position) → IsAt lat lon x
     → IsGridPoint span p → IsNearest lat (step span.degrees (lat_zones p.parity)) p.lat_index
     → IsNearest lon (step span.degrees p.zones) index

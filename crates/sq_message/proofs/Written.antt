@@ -1,4 +1,4 @@
--- Fields of several parts: their bits spell the parts.
+-- Fields of several parts: their bits encode the parts.
 use Rattle.std.proofs.Common.{◌≡◌, ℕ, ◌+◌, ◌*◌, ◌<◌, ◌^◌, Bool, true, false, refl, arith}
 use Rattle.std.specs.Int.{from_bool}
 use Rattle.sq_bits.specs.declared.frame.Frame.{Frame}
@@ -6,7 +6,7 @@ use Rattle.sq_bits.specs.Frames.{field_of}
 use Rattle.sq_bits.proofs.Spelled.{split_field}
 use Rattle.sq_message.specs.Spelling.{bit}
 
--- `true` spells 1, and `false` spells 0
+-- `true` is the bit 1, and `false` is the bit 0
 pub bit_is : (b : Bool) → (from_bool b ≡ bit b) × (from_bool b < 2)
 bit_is true = (refl, omega arith)
 bit_is false = (refl, omega arith)

@@ -3,23 +3,23 @@ use Rattle.std.specs.Prelude.{◌≡◌, ◌≢◌, ℕ, ℤ, pos, negsuc, ◌+�
 use Rattle.sq_message.specs.declared.air.Altitude.{Altitude}
 use Rattle.sq_message.specs.declared.air.Altitude.TheVariants.{Missing, Feet, Raw}
 
--- the seven upper bits of the field spell `high`, then comes the bit Q, and the four lower bits spell `low`
+-- the field is made of seven upper bits (`high`), the Q bit (`q`) and four lower bits (`low`)
 pub record IsField (field high q low : ℕ) : Type 0 where
   pub seven : high < 2 ^ 7
   pub one : q < 2
   pub four : low < 2 ^ 4
   pub bits : field ≡ high * 2 ^ 5 + q * 2 ^ 4 + low
 
--- Q is 1, and with N spelled by the upper bits and then the lower ones, the field means `25 * N - 1000` feet
+-- the Q bit is 1, and the field means `25 * N - 1000` feet; the upper and then the lower bits make N
 abbrev pub IsFieldOfFeet : ℕ → ℤ → Type 0
 IsFieldOfFeet field feet = (high low : ℕ) × IsField field high 1 low
     × (feet +ℤ pos 1000 ≡ pos (25 * (high * 2 ^ 4 + low)))
 
--- Q is 0
+-- the Q bit is 0
 abbrev pub IsOtherForm : ℕ → Type 0
 IsOtherForm field = (high low : ℕ) × IsField field high 0 low
 
--- the altitude of a type code and a field: from type code 20 on it is a GNSS height, and kept as it is
+-- the meaning of an altitude field under a type code; from type code 20 on it is a GNSS height and stays raw
 abbrev pub IsAltitude : ℕ → ℕ → Altitude → Type 0
 IsAltitude code field Missing = (code ≤ 18) × (field ≡ 0)
 IsAltitude code field (Feet feet) = (code ≤ 18) × IsFieldOfFeet field feet

@@ -1,4 +1,4 @@
--- Exact conditions for premises and results, so that none can be emptied unnoticed.
+-- Exact conditions for premises and results, so that none can become vacuous unnoticed.
 use Rattle.std.specs.Prelude.{◌≡◌, ◌≢◌, ◌↔◌, ◌≤◌, ℕ, Option, Result, Err, Some, Ok}
 use Rattle.sq_bits.specs.declared.frame.Frame.{Frame}
 use Rattle.sq_bits.specs.Frames.{IsFrame}
@@ -31,21 +31,23 @@ use Rattle.sq_message.specs.Calls.{HasNoPlaceNear, HaveNoPlace, IsAnswerNear, Is
 use Rattle.sq_message.specs.Calls.{IsSentAgain}
 use Rattle.sq_message.specs.Spelling.{IsReading, Spells}
 
--- Up to type code 18 a field of 0 is no altitude, and a field with Q = 0 is kept as it is. From 20 on all fields are.
+-- Up to type code 18, a field of 0 is `Missing`, and any other field is `Raw` exactly if Q is 0. From 20 on every
+-- field is `Raw`.
 pub record AltitudeExactly : Type 0 where
   pub missing : (code : ℕ) (meaning : Altitude) → code ≤ 18 → IsAltitude code 0 meaning ↔ (meaning ≡ Missing)
   pub other_form : (code field : ℕ) → code ≤ 18 → field ≢ 0 → IsAltitude code field (Raw field) ↔ IsOtherForm field
   pub height : (code field : ℕ) (meaning : Altitude) → 20 ≤ code → IsAltitude code field meaning
       ↔ (meaning ≡ Raw field)
 
--- what is sent of a point is the squitter of the head, its parity and a code with its numbers
+-- a squitter is sent from a point exactly if it has the head, the point's parity and a code with the point's numbers
 abbrev pub SquitterOfExactly : Type 0
 SquitterOfExactly =
     (kind : Kind) (head : HeadParts kind) (point : Point) (squitter : SquitterParts)
     → IsSquitterOf kind head point squitter
     ↔ ((code : Code) × (squitter ≡ squitter_of kind head point.parity code) × (numbers_of code ≡ code_of point))
 
--- Of a pair: without two positions this fault; of two addresses that one; of one address what its places say.
+-- The results of a pair. If one is no position, it is only `NotPosition`. If the addresses differ, it is only
+-- `OtherAddress`. With one address they are those of the two messages.
 pub record PairPlaceExactly : Type 0 where
   pub not_positions : (older newer : SquitterParts) (site : Option Position) (answer : Result Place PlaceFault)
       → ¬ (IsPosition older.me × IsPosition newer.me)
@@ -59,7 +61,8 @@ pub record PairPlaceExactly : Type 0 where
 
 -- ---- the premises of the headline
 
--- what a squitter is decoded to near a reference, or as the newer of a pair, is a place that it is decoded to
+-- a place that local decoding gives for a squitter, or pair decoding for the newer of a pair, is decoded
+-- (`IsDecoded`)
 pub record DecodedByCalls : Type 0 where
   pub near : (squitter : SquitterParts) (reference : Position) (place : Place)
       → IsLocalPlace squitter.me reference (Ok place) → IsDecoded squitter place
@@ -71,21 +74,21 @@ abbrev pub EachHasItsZones : Kind → Type 0
 EachHasItsZones kind =
     (parity : Parity) (position : Position) → ExactlyOne (PositionIsInZones (span_of kind) parity position)
 
--- a point is strictly near a reference exactly where it is strictly near the reference's latitude and longitude
+-- a point is strictly near a reference exactly if it is strictly near the reference's latitude and longitude
 abbrev pub NearReferenceExactly : Kind → Type 0
 NearReferenceExactly kind =
     (reference : Position) (point : Point) → IsStrictlyNearPosition (span_of kind) reference point
     ↔ IsStrictlyNearPoint (span_of kind) (degrees (lat_of reference)) (degrees (lon_of reference)) point
 
--- the points of a pair have to lie anywhere in the air, and on the ground less than 45 degrees from the site
+-- the points of a pair may lie anywhere in the air, and on the ground have to lie less than 45 degrees from the site
 pub record LieAtExactly : Type 0 where
   pub in_air : (site : Option Position) (a b : Point) → LieAt InAir site a b
   pub on_ground : (site : Position) (a b : Point) → LieAt OnGround (Some site) a b
       ↔ (IsPointWithin 45 ground a site × IsPointWithin 45 ground b site)
 
--- ---- what calls in turn answer
+-- ---- the results of calls made in sequence
 
--- a frame has one answer near a reference, and two have one as a pair
+-- decoding a frame near a reference has at most one result, and so has decoding two frames as a pair
 abbrev pub OneAnswerNear : Type 0
 OneAnswerNear =
     (frame : Frame) (reference : Position) (answer other : Result Place PlaceFault)
@@ -96,33 +99,32 @@ OneAnswerOfPair =
     (newest : Parity) (even odd : Frame) (site : Option Position) (answer other : Result Place PlaceFault)
     → IsAnswerOfPair newest even odd site answer → IsAnswerOfPair newest even odd site other → answer ≡ other
 
--- A frame is read near a reference as a place, whatever the reading and the answer are, exactly if it has a reading and
--- an answer that are this.
+-- a frame is read near a reference as a place, for all readings and results, exactly if some reading has this result
 abbrev pub ReadNearExactly : Type 0
 ReadNearExactly =
     (frame : Frame) (reference : Position) (place : Place) → IsFrame frame
     → IsReadNear frame reference place ↔ IsAnswerNear frame reference (Ok place)
 
--- Two frames are read as a pair, whatever their readings and the answer are, exactly if they have some that are this.
+-- two frames are read as a pair, for all readings and results, exactly if some readings have this result
 abbrev pub ReadAsPairExactly : Type 0
 ReadAsPairExactly =
     (newest : Parity) (even odd : Frame) (site : Option Position) (place : Place) → IsFrame even → IsFrame odd
     → IsReadAsPair (of_parity newest odd even) (of_parity newest even odd) site place
     ↔ IsAnswerOfPair newest even odd site (Ok place)
 
--- the newer of a pair has one place
+-- the newer of a pair has at most one place
 abbrev pub OnePlaceOfNewer : Type 0
 OnePlaceOfNewer =
     (older : Frame) (newer : Squitter) (site : Option Position) (p q : Place) → IsPlaceOfNewer older newer site p
     → IsPlaceOfNewer older newer site q → p ≡ q
 
--- a frame has no place near a reference exactly if none is an answer
+-- a frame has no place near a reference exactly if no place is a result of decoding it there
 abbrev pub NoPlaceNearExactly : Type 0
 NoPlaceNearExactly =
     (frame : Frame) (reference : Position) → HasNoPlaceNear frame reference
     ↔ ((place : Place) → ¬ IsAnswerNear frame reference (Ok place))
 
--- two frames have no place exactly if none is that of a squitter of the newer
+-- two frames have no place exactly if no squitter read from the newer one has a place with the older one
 abbrev pub NoPlaceExactly : Type 0
 NoPlaceExactly =
     (older newer : Frame) (site : Option Position) → HaveNoPlace older newer site

@@ -1,4 +1,4 @@
--- The texts of faults.
+-- The texts of errors.
 use Rattle.std.specs.Prelude.{◌++◌, ◌-◌, ◌^◌, ℕ, List, [], codes, decimal, false, true}
 use Rattle.std.specs.Fmt.{digits, format_spec, padded_integral}
 use Rattle.sq_cpr.specs.Faults.{local_fault_text, pair_fault_text, pair_fault_label}
@@ -10,21 +10,21 @@ use Rattle.sq_message.specs.declared.place.PlaceFault.{PlaceFault}
 use Rattle.sq_message.specs.declared.place.PlaceFault.TheVariants.{NotPosition, OtherAddress, OtherKind, SameParity}
 use Rattle.sq_message.specs.declared.place.PlaceFault.TheVariants.{NoSite, OutOfRange, ZoneCounts}
 
--- upper-case hexadecimal digits, with zeros in front of fewer than six
+-- upper-case hexadecimal digits, padded with zeros to at least six
 abbrev pub six_hexadecimal : ℕ → List ℕ
 six_hexadecimal n = padded_integral (format_spec 32 0 4 6 (2 ^ 64 - 1)) false [] (digits 16 true n)
 
--- what is printed of a frame that is no squitter, up to the number
+-- the text of a frame error before its number
 abbrev pub frame_fault_label : FrameFault → List ℕ
 frame_fault_label (NotDf17 format) = codes "not DF17 "
 frame_fault_label (Parity remainder) = codes "parity "
 
--- what is printed of a frame that is no squitter
+-- the text of a frame error
 abbrev pub frame_fault_text : FrameFault → List ℕ
 frame_fault_text (NotDf17 format) = frame_fault_label (NotDf17 format) ++ decimal format
 frame_fault_text (Parity remainder) = frame_fault_label (Parity remainder) ++ six_hexadecimal remainder
 
--- what is printed of squitters without a place, up to the numbers
+-- the text of a place error before its numbers
 abbrev pub place_fault_label : PlaceFault → List ℕ
 place_fault_label NotPosition = codes "not a position"
 place_fault_label OtherAddress = codes "other address"
@@ -34,7 +34,7 @@ place_fault_label NoSite = codes "no site"
 place_fault_label OutOfRange = local_fault_text locals.OutOfRange
 place_fault_label (ZoneCounts even odd) = pair_fault_label (pairs.ZoneCounts even odd)
 
--- what is printed of squitters without a place
+-- the text of a place error
 abbrev pub place_fault_text : PlaceFault → List ℕ
 place_fault_text (ZoneCounts even odd) = pair_fault_text (pairs.ZoneCounts even odd)
 place_fault_text fault = place_fault_label fault

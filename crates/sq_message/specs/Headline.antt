@@ -22,7 +22,7 @@ use Rattle.sq_message.specs.Places.{IsDecoded, IsLocalPlace, IsPairPlace, IsPosi
 use Rattle.sq_message.specs.Sending.{IsSent}
 use Rattle.sq_message.specs.Spelling.{IsReading, Spells}
 
--- the frame is read as a squitter, and that is decoded to this place near the reference
+-- every reading of the frame is a squitter, and every result of decoding it near the reference is this place
 abbrev pub IsReadNear : Frame → Position → Place → Type 0
 IsReadNear frame reference place =
     (reading : Result Squitter FrameFault) → IsReading frame reading
@@ -30,7 +30,7 @@ IsReadNear frame reference place =
     × ((answer : Result Place PlaceFault) → IsLocalPlace (squitter_parts squitter).me reference answer
     → answer ≡ Ok place)
 
--- both frames are read as squitters, and these are decoded to this place
+-- every reading of both frames is a squitter, and every result of decoding them as a pair is this place
 abbrev pub IsReadAsPair : (older newer : Frame) → Option Position → Place → Type 0
 IsReadAsPair older newer site place =
     (earlier later : Result Squitter FrameFault) → IsReading older earlier → IsReading newer later
@@ -38,23 +38,23 @@ IsReadAsPair older newer site place =
     × ((answer : Result Place PlaceFault) → IsPairPlace (squitter_parts first) (squitter_parts second) site answer
     → answer ≡ Ok place)
 
--- A frame that was sent, read with a reference strictly within half a zone of the point in both coordinates, by the
--- zones that the point itself has, gives that point.
+-- A frame sent from a position and read with a reference strictly within half a zone of its point, in both
+-- coordinates, gives that point. The zones are those of the point itself.
 abbrev pub NearReference : Kind → Type 0
 NearReference kind =
     (head : HeadParts kind) (parity : Parity) (position reference : Position) (point : Point) (frame : Frame)
     → IsSent kind head parity position point frame → IsStrictlyNearPosition (span_of kind) reference point
     → IsReadNear frame reference (place_at kind point)
 
--- where the points of a pair have to lie: in the air anywhere, whatever the site; on the ground there is a site, and
--- both lie less than 45 degrees from it in both coordinates
+-- The condition on where the points of a pair lie. In the air it always holds, with any site or none. On the ground
+-- there is a site, and both points lie less than 45 degrees from the site in both coordinates.
 abbrev pub LieAt : Kind → Option Position → (a b : Point) → Type 0
 LieAt InAir site a b = ⊤
 LieAt OnGround None a b = ⊥
 LieAt OnGround (Some site) a b = IsPointWithin 45 ground a site × IsPointWithin 45 ground b site
 
--- An even and an odd frame that were sent from one address, of points that are close, have one zone count and lie where
--- the kind wants it, give the newest one's point.
+-- An even and an odd frame sent with one address from close points give the point of the newest. Close points have
+-- one zone count, and they have to lie as `LieAt` says.
 abbrev pub ClosePair : Kind → Type 0
 ClosePair kind =
     (even_head odd_head : HeadParts kind) (even_position odd_position : Position) (a b : Point) (even odd : Frame)
@@ -64,7 +64,7 @@ ClosePair kind =
     → AreClosePoints (span_of kind) a b → LieAt kind site a b
     → IsReadAsPair (of_parity newest odd even) (of_parity newest even odd) site (place_at kind (of_parity newest a b))
 
--- a place that the squitter of a frame is decoded to is written again as that frame
+-- a place that the squitter of a frame decodes to is written again as that frame
 abbrev pub WrittenAgain : Type 0
 WrittenAgain =
     (squitter sent : Squitter) (place : Place) (frame again : Frame)
@@ -72,7 +72,8 @@ WrittenAgain =
     → IsSentAt (squitter_parts squitter) place (squitter_parts sent) → IsFrame again → Spells again sent
     → again ≡ frame
 
--- what is sent of the place's own position, with the head and the parity of the squitter, is that frame as well
+-- the exact position of a decoded place, sent with the head and the parity of the squitter, gives the squitter's
+-- frame
 abbrev pub SentAgain : Kind → Type 0
 SentAgain kind =
     (squitter : Squitter) (head : HeadParts kind) (parity : Parity) (code : Code) (point rounded : Point)
@@ -82,32 +83,32 @@ SentAgain kind =
     → IsSent kind head parity position rounded again
     → again ≡ frame
 
--- with one head, of one parity and one position, one frame is sent
+-- a head, a parity and a position are sent as at most one frame
 abbrev pub OneFrameSent : Kind → Type 0
 OneFrameSent kind =
     (head : HeadParts kind) (parity : Parity) (position : Position) (p q : Point) (f g : Frame)
     → IsSent kind head parity position p f → IsSent kind head parity position q g → f ≡ g
 
--- near a reference there is one answer
+-- decoding near a reference has at most one result
 abbrev pub OneLocalPlace : Type 0
 OneLocalPlace =
     (squitter : Squitter) (reference : Position) (answer other : Result Place PlaceFault)
     → IsLocalPlace (squitter_parts squitter).me reference answer
     → IsLocalPlace (squitter_parts squitter).me reference other → answer ≡ other
 
--- of a pair there is one answer
+-- decoding a pair has at most one result
 abbrev pub OnePairPlace : Type 0
 OnePairPlace =
     (older newer : Squitter) (site : Option Position) (answer other : Result Place PlaceFault)
     → IsPairPlace (squitter_parts older) (squitter_parts newer) site answer
     → IsPairPlace (squitter_parts older) (squitter_parts newer) site other → answer ≡ other
 
--- near a reference there is an answer
+-- decoding near a reference has a result
 abbrev pub SomeLocalPlace : Type 0
 SomeLocalPlace = (squitter : Squitter) (reference : Position) → (answer : Result Place PlaceFault)
     × IsLocalPlace (squitter_parts squitter).me reference answer
 
--- of a pair there is an answer
+-- decoding a pair has a result
 abbrev pub SomePairPlace : Type 0
 SomePairPlace =
     (older newer : Squitter) (site : Option Position) → (answer : Result Place PlaceFault)

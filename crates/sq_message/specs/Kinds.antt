@@ -14,7 +14,7 @@ use Rattle.sq_message.specs.declared.place.Place.TheVariants.{Air, Ground}
 use Rattle.sq_message.specs.Heads.{HeadOf}
 use Rattle.sq_message.specs.Parts.{SquitterParts}
 
--- airborne, or surface
+-- airborne or surface
 pub data Kind : Type 0 where
   InAir : Kind
   OnGround : Kind
@@ -29,20 +29,20 @@ abbrev pub place_at : Kind → Point → Place
 place_at InAir = Air
 place_at OnGround = Ground
 
--- what a position of the kind says besides where
+-- the fields of a position message of the kind, other than the encoded position
 abbrev pub FieldsOf : Kind → Type 0
 FieldsOf InAir = AirFields
 FieldsOf OnGround = GroundFields
 
--- a position of the kind
+-- a position message of the kind
 abbrev pub PositionOf : Kind → Type 0
 PositionOf kind = PositionMessage (FieldsOf kind)
 
--- all of a position squitter of the kind but its place
+-- everything in a position squitter of the kind except the encoded position
 abbrev pub HeadParts : Kind → Type 0
 HeadParts kind = HeadOf (FieldsOf kind)
 
--- a position of the kind, as a message
+-- a position message of the kind, as an ME field
 abbrev pub me_at : (kind : Kind) → PositionOf kind → Me
 me_at InAir = kinds.Airborne
 me_at OnGround = kinds.Surface
@@ -56,12 +56,12 @@ abbrev pub squitter_of : (kind : Kind) → HeadParts kind → Parity → Code �
 squitter_of kind head parity code =
     record { ca = head.ca; address = head.address; me = me_of kind head parity code }
 
--- the position with its fields as the kind has them
+-- the position message with its fields converted to those of the kind
 abbrev pub position_of : {Fields : Type 0} → (kind : Kind) → (Fields → FieldsOf kind) → PositionMessage Fields
     → PositionOf kind
 position_of kind fields position =
     record { parity = position.parity; code = position.code; fields = fields position.fields }
 
--- the head with its fields as the kind has them
+-- the head with its fields converted to those of the kind
 abbrev pub head_of : {Fields : Type 0} → (kind : Kind) → (Fields → FieldsOf kind) → HeadOf Fields → HeadParts kind
 head_of kind fields head = record { ca = head.ca; address = head.address; fields = fields head.fields }

@@ -1,4 +1,4 @@
--- The parts of the fields and of a squitter, as the calls of their names answer them.
+-- The parts of the fields and of a squitter, as the calls of the same names return them.
 use Rattle.std.specs.Prelude.{ℕ, Bool}
 use Rattle.sq_message.specs.declared.air.AirFields.{AirFields}
 use Rattle.sq_message.specs.declared.ground.GroundFields.{GroundFields}
@@ -7,7 +7,7 @@ use Rattle.sq_message.specs.declared.other.Other.{Other}
 use Rattle.sq_message.specs.declared.squitter.Me.{Me}
 use Rattle.sq_message.specs.declared.squitter.Squitter.{Squitter}
 
--- what an airborne position says besides where
+-- the fields of an airborne position, other than the encoded position
 pub record AirParts : Type 0 where
   pub type_code : ℕ
   pub status : ℕ
@@ -24,7 +24,7 @@ air_parts fields = record {
   time = fields.time;
 }
 
--- what a surface position says besides where
+-- the fields of a surface position, other than the encoded position
 pub record GroundParts : Type 0 where
   pub type_code : ℕ
   pub movement : ℕ
@@ -41,15 +41,15 @@ ground_parts fields = record {
   time = fields.time;
 }
 
--- an airborne position
+-- an airborne position message
 abbrev pub Airborne : Type 0
 Airborne = PositionMessage AirFields
 
--- a surface position
+-- a surface position message
 abbrev pub Surface : Type 0
 Surface = PositionMessage GroundFields
 
--- the 56 bits of another message
+-- the 56 bits of a message of kind other
 abbrev pub raw_of : Other → ℕ
 raw_of other = other.raw
 

@@ -1,5 +1,5 @@
--- Where squitters are: the points that their codes are decoded to, and what is sent of a point (RTCA DO-260B, appendix
--- on compact position reporting; ICAO Doc 9871).
+-- The places of squitters: decoding their codes to points, and sending a point (RTCA DO-260B, appendix on compact
+-- position reporting; ICAO Doc 9871).
 use Rattle.std.specs.Prelude.{◌≡◌, ◌≢◌, ◌⊎◌, ⊤, Option, None, Some, Result, Ok, Err}
 use Rattle.sq_angle.specs.declared.position.Position.{Position}
 use Rattle.sq_angle.specs.Angle.{degrees}
@@ -27,12 +27,12 @@ use Rattle.sq_message.specs.Kinds.{Kind, HeadParts, InAir, OnGround, PositionOf,
 use Rattle.sq_message.specs.Parts.{SquitterParts}
 use Rattle.sq_message.specs.Sending.{IsSquitterOf}
 
--- the latitude of a place is its point's
+-- the latitude of a place's point
 abbrev pub place_latitude : Place → Fraction
 place_latitude (Air point) = latitude air point
 place_latitude (Ground point) = latitude ground point
 
--- the longitude of a place is its point's
+-- the longitude of a place's point
 abbrev pub place_longitude : Place → Fraction
 place_longitude (Air point) = longitude air point
 place_longitude (Ground point) = longitude ground point
@@ -52,7 +52,7 @@ IsPosition (kinds.Airborne airborne) = ⊤
 IsPosition (kinds.Surface surface) = ⊤
 IsPosition (kinds.Other other) = ⊥
 
--- both are air or both are ground
+-- the message and the place are both air or both ground
 abbrev pub Fits : Me → Place → Type 0
 Fits (kinds.Airborne airborne) (Air point) = ⊤
 Fits (kinds.Airborne airborne) (Ground point) = ⊥
@@ -60,50 +60,50 @@ Fits (kinds.Surface surface) (Air point) = ⊥
 Fits (kinds.Surface surface) (Ground point) = ⊤
 Fits (kinds.Other other) place = ⊥
 
--- all of a squitter but its place, where this is its position
+-- the head of a squitter with this position message
 abbrev pub head_at : (kind : Kind) → SquitterParts → PositionOf kind → HeadParts kind
 head_at kind squitter position =
     record { ca = squitter.ca; address = squitter.address; fields = position.fields }
 
--- a point of the squitter's kind is sent as the squitter's head, with the parity and the code of the point
+-- `sent` has the head of the squitter, and the parity and the code of a point of the squitter's kind
 abbrev pub IsSentAtPoint : Kind → SquitterParts → Point → SquitterParts → Type 0
 IsSentAtPoint kind squitter point sent =
     (position : PositionOf kind) × (squitter.me ≡ me_at kind position)
     × IsSquitterOf kind (head_at kind squitter position) point sent
 
--- a place of the squitter's kind is sent as its point is
+-- `sent` has the head of the squitter, and the parity and the code of a place of the squitter's kind
 abbrev pub IsSentAt : SquitterParts → Place → SquitterParts → Type 0
 IsSentAt squitter (Air point) sent = IsSentAtPoint InAir squitter point sent
 IsSentAt squitter (Ground point) sent = IsSentAtPoint OnGround squitter point sent
 
--- the decoder's fault near a reference, as a place's
+-- an error of local decoding, as a place error
 abbrev pub of_local : LocalFault → PlaceFault
 of_local locals.OutOfRange = OutOfRange
 
--- the decoder's fault of a pair, as a place's
+-- an error of pair decoding, as a place error
 abbrev pub of_pair : PairFault → PlaceFault
 of_pair pairs.OutOfRange = OutOfRange
 of_pair (pairs.ZoneCounts even odd) = ZoneCounts even odd
 
--- the decoder's answer, as a place of this kind or its fault
+-- a decoder's result, as a place of this kind or a place error
 abbrev pub place_of : {Fault : Type 0} → (Point → Place) → (Fault → PlaceFault) → Result Point Fault
     → Result Place PlaceFault
 place_of kind named (Ok point) = Ok (kind point)
 place_of kind named (Err fault) = Err (named fault)
 
--- what a position is decoded to near a reference: its code, by its span and parity
+-- the result of decoding a position message near a reference, by its code, span and parity
 abbrev pub IsLocalPlaceOf : (kind : Kind) → PositionOf kind → Position → Result Place PlaceFault → Type 0
 IsLocalPlaceOf kind position reference answer = (found : Result Point LocalFault)
     × LocalAnswerNear (span_of kind) (numbers_of position.code) position.parity reference found
     × (answer ≡ place_of (place_at kind) of_local found)
 
--- what a message is decoded to near a reference
+-- the result of decoding a message near a reference
 abbrev pub IsLocalPlace : Me → Position → Result Place PlaceFault → Type 0
 IsLocalPlace (kinds.Airborne airborne) reference answer = IsLocalPlaceOf InAir airborne reference answer
 IsLocalPlace (kinds.Surface surface) reference answer = IsLocalPlaceOf OnGround surface reference answer
 IsLocalPlace (kinds.Other other) reference answer = answer ≡ Err NotPosition
 
--- the even and the odd one of two codes, where the newer is of this parity
+-- two codes of different parity as an even and an odd one; `newest` is the parity of the newer
 abbrev pub pair_by_parity : (newest : Parity) → (older newer : Code) → CodePair
 pair_by_parity newest older newer = record {
   even = numbers_of (of_parity newest newer older);
@@ -111,8 +111,8 @@ pair_by_parity newest older newer = record {
   newest = newest;
 }
 
--- two positions of one kind and of different parity: in the air their codes decide; on the ground there is no place
--- without a site, and with one the codes decide there
+-- The result for two positions of one kind and different parity. In the air it is that of the codes; on the ground it
+-- is `NoSite` without a site, and otherwise that of the codes at the site.
 abbrev pub IsPairPlaceOf : (kind : Kind) → (older newer : PositionOf kind) → Option Position → Result Place PlaceFault
     → Type 0
 IsPairPlaceOf InAir older newer site answer =
@@ -124,14 +124,14 @@ IsPairPlaceOf OnGround older newer (Some site) answer =
     × PairAnswerAt ground (pair_by_parity newer.parity older.code newer.code) site found
     × (answer ≡ place_of Ground of_pair found)
 
--- two positions of one kind: one parity is a fault
+-- the result for two positions of one kind: `SameParity` if their parities are equal
 abbrev pub IsPlaceOfOneKind : (kind : Kind) → (older newer : PositionOf kind) → Option Position
     → Result Place PlaceFault → Type 0
 IsPlaceOfOneKind kind older newer site answer =
     (older.parity ≡ newer.parity → answer ≡ Err SameParity)
     × (older.parity ≢ newer.parity → IsPairPlaceOf kind older newer site answer)
 
--- two positions of one address
+-- the result for two positions of one address
 abbrev pub IsPlaceOfOneAddress : (older newer : Me) → Option Position → Result Place PlaceFault → Type 0
 IsPlaceOfOneAddress (kinds.Airborne older) (kinds.Airborne newer) site answer =
     IsPlaceOfOneKind InAir older newer site answer
@@ -143,7 +143,7 @@ IsPlaceOfOneAddress (kinds.Airborne older) (kinds.Other newer) site answer = ⊥
 IsPlaceOfOneAddress (kinds.Surface older) (kinds.Other newer) site answer = ⊥
 IsPlaceOfOneAddress (kinds.Other older) newer site answer = ⊥
 
--- What two squitters are decoded to: the first fault that applies, else the place of the newer.
+-- The result of decoding two squitters as a pair: the first error that applies, or the place of the newer.
 pub record IsPairPlace (older newer : SquitterParts) (site : Option Position)
     (answer : Result Place PlaceFault) : Type 0 where
   pub not_positions : ¬ (IsPosition older.me × IsPosition newer.me) → answer ≡ Err NotPosition
@@ -152,7 +152,7 @@ pub record IsPairPlace (older newer : SquitterParts) (site : Option Position)
   pub same_address : IsPosition older.me × IsPosition newer.me → older.address ≡ newer.address
       → IsPlaceOfOneAddress older.me newer.me site answer
 
--- the place is one that the squitter is decoded to: near some reference, or as the newer of some pair
+-- the squitter decodes to this place near some reference, or as the newer of some pair
 abbrev pub IsDecoded : SquitterParts → Place → Type 0
 IsDecoded squitter place =
     ((reference : Position) × IsLocalPlace squitter.me reference (Ok place))

@@ -1,5 +1,5 @@
--- Which frame spells which squitter: the layouts of ICAO Doc 9871, registers 0,5 (airborne) and 0,6 (surface).
--- ME bit k is frame bit 32 + k.
+-- The encoding of squitters as frames: the layouts of ICAO Doc 9871, registers 0,5 (airborne) and 0,6 (surface). ME
+-- bit k is frame bit 32 + k.
 use Rattle.std.specs.Prelude.{◌≡◌, ◌≢◌, ℕ, Bool, if◌then◌else◌, Result, MatchResult}
 use Rattle.sq_bits.specs.declared.frame.Frame.{Frame}
 use Rattle.sq_bits.specs.Frames.{field_of, frame_number}
@@ -15,11 +15,11 @@ use Rattle.sq_message.specs.declared.squitter.Squitter.{Squitter}
 use Rattle.sq_message.specs.declared.squitter.FrameFault.{FrameFault}
 use Rattle.sq_message.specs.declared.squitter.FrameFault.TheVariants as faults
 
--- a one-bit field
+-- a Boolean as a one-bit field
 abbrev pub bit : Bool → ℕ
 bit b = if b then 1 else 0
 
--- the ME fields that an airborne position has besides its place
+-- the ME fields of an airborne position, other than the encoded position
 pub record SpellsAirFields (f : Frame) (p : AirParts) : Type 0 where
   pub type_code : field_of f 33 5 ≡ p.type_code
   pub status : field_of f 38 2 ≡ p.status
@@ -27,7 +27,7 @@ pub record SpellsAirFields (f : Frame) (p : AirParts) : Type 0 where
   pub altitude : field_of f 41 12 ≡ p.altitude
   pub time : field_of f 53 1 ≡ bit p.time
 
--- the ME fields that a surface position has besides its place
+-- the ME fields of a surface position, other than the encoded position
 pub record SpellsGroundFields (f : Frame) (p : GroundParts) : Type 0 where
   pub type_code : field_of f 33 5 ≡ p.type_code
   pub movement : field_of f 38 7 ≡ p.movement
@@ -35,13 +35,13 @@ pub record SpellsGroundFields (f : Frame) (p : GroundParts) : Type 0 where
   pub track : field_of f 46 7 ≡ p.track
   pub time : field_of f 53 1 ≡ bit p.time
 
--- the ME fields of a place, in both layouts: F, 0 even and 1 odd, and the numbers of the code
+-- the ME fields of the encoded position, in both layouts: the F bit (0 even, 1 odd) and the numbers of the code
 pub record SpellsPlace (f : Frame) (parity : Parity) (code : CodeNumbers) : Type 0 where
   pub parity_bit : field_of f 54 1 ≡ parity_index parity
   pub lat : field_of f 55 17 ≡ code.lat
   pub lon : field_of f 72 17 ≡ code.lon
 
--- the ME fields that a position of the kind has besides its place
+-- the ME fields of a position of the kind, other than the encoded position
 abbrev pub SpellsFields : (kind : Kind) → Frame → FieldsOf kind → Type 0
 SpellsFields InAir f fields = SpellsAirFields f (air_parts fields)
 SpellsFields OnGround f fields = SpellsGroundFields f (ground_parts fields)
@@ -57,7 +57,7 @@ SpellsMe f (kinds.Airborne a) = SpellsPosition InAir f a
 SpellsMe f (kinds.Surface s) = SpellsPosition OnGround f s
 SpellsMe f (kinds.Other o) = field_of f 33 56 ≡ raw_of o
 
--- the frame is correct, its DF is 17, and each field stands at its bit places
+-- the frame has a correct CRC and DF 17, and its fields hold the parts of the squitter
 pub record Spells (f : Frame) (q : Squitter) : Type 0 where
   pub multiple : IsMultiple (frame_number f)
   pub format : field_of f 1 5 ≡ 17
@@ -65,11 +65,11 @@ pub record Spells (f : Frame) (q : Squitter) : Type 0 where
   pub address : field_of f 9 24 ≡ (squitter_parts q).address
   pub me : SpellsMe f (squitter_parts q).me
 
--- why a frame spells no squitter: its DF is not 17; else its remainder is not 0
+-- why a frame encodes no squitter: DF is not 17, or DF is 17 and the remainder is not 0
 abbrev pub IsFault : Frame → FrameFault → Type 0
 IsFault f (faults.NotDf17 format) = (field_of f 1 5 ≡ format) × (format ≢ 17)
 IsFault f (faults.Parity remainder) = (field_of f 1 5 ≡ 17) × IsRemainder (frame_number f) remainder × (remainder ≢ 0)
 
--- what `read_frame` answers
+-- the result of `read_frame`
 abbrev pub IsReading : Frame → Result Squitter FrameFault → Type 0
 IsReading f answer = MatchResult answer (Spells f) (IsFault f)

@@ -2,8 +2,8 @@
 ghost use Rattle.std.specs.Prelude.{◌≡◌, ◌<◌, ◌↔◌, IfSome, IsSome};
 ghost use Rattle.sq_message.specs.TypeCodes.{IsAirCode};
 
-/// What an airborne position says besides where (ICAO Doc 9871, register 0,5): the type code, the surveillance status,
-/// bit 8 raw, the altitude field raw, and T.
+/// The fields of an airborne position other than the encoded position (ICAO Doc 9871, register 0,5): the type code,
+/// the surveillance status, ME bit 8, the altitude field and T, all raw.
 #[derive(Clone, Copy, Debug, PartialEq, Eq)]
 pub struct AirFields {
     pub(crate) type_code: u8,
@@ -19,8 +19,8 @@ pub struct AirFields {
 impl AirFields {
     ghost use Rattle.sq_message.specs.Parts.{air_parts};
 
-    /// These fields; `None` unless the type code is 9 to 18 or 20 to 22, the status is below 4 and the altitude
-    /// field is below 4096.
+    /// Returns these fields. Returns `None` if the type code is not 9 to 18 or 20 to 22, the status is above 3, or
+    /// the altitude field is above 4095.
     pub fn new(
         type_code: u8,
         status: u8,
@@ -45,7 +45,7 @@ impl AirFields {
         }
     }
 
-    /// The type code, 9 to 18 with barometric altitude or 20 to 22 with GNSS height.
+    /// Returns the type code: 9 to 18 with barometric altitude, 20 to 22 with GNSS height.
     pub fn type_code(&self) -> u8
         ensures value { result ≡ (air_parts self.now).type_code }
         ensures air { IsAirCode result }
@@ -53,7 +53,7 @@ impl AirFields {
         self.type_code
     }
 
-    /// The surveillance status, below 4, raw.
+    /// Returns the surveillance status, raw and below 4.
     pub fn status(&self) -> u8
         ensures value { result ≡ (air_parts self.now).status }
         ensures small { result < 4 }
@@ -61,14 +61,14 @@ impl AirFields {
         self.status
     }
 
-    /// ME bit 8, the single antenna flag or NIC supplement-B, raw.
+    /// Returns ME bit 8, the single antenna flag or NIC supplement-B, raw.
     pub fn flag(&self) -> bool
         ensures { result ≡ (air_parts self.now).flag }
     {
         self.flag
     }
 
-    /// The altitude field of 12 bits, raw.
+    /// Returns the altitude field of 12 bits, raw.
     pub fn altitude(&self) -> u16
         ensures value { result ≡ (air_parts self.now).altitude }
         ensures small { result < 4096 }
@@ -76,7 +76,7 @@ impl AirFields {
         self.altitude
     }
 
-    /// T, whether the time of the position is synchronised to UTC.
+    /// Returns T: whether the time of the position is synchronised to UTC.
     pub fn time(&self) -> bool
         ensures { result ≡ (air_parts self.now).time }
     {
@@ -84,13 +84,13 @@ impl AirFields {
     }
 }
 
-/// What an altitude field means (ICAO Doc 9871, register 0,5).
+/// The meaning of an altitude field (ICAO Doc 9871, register 0,5).
 #[derive(Clone, Copy, Debug, PartialEq, Eq)]
 pub enum Altitude {
-    /// No altitude is sent: a barometric field of zero.
+    /// No altitude is sent: the barometric field is 0.
     Missing,
     /// Feet, a multiple of 25 from -1000 to 50175.
     Feet(i32),
-    /// A field in another form, or a GNSS height, as its 12 bits.
+    /// A field with the Q bit 0, or a GNSS height: the 12 bits, raw.
     Raw(u16),
 }

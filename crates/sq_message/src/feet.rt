@@ -5,8 +5,8 @@ ghost use Rattle.sq_message.specs.Altitudes.{HasField, IsAltitude, IsFieldOfFeet
 
 use crate::{Airborne, Altitude};
 
-/// The altitude of an airborne position (ICAO Doc 9871, register 0,5): for type codes 9 to 18 `Missing` for a field of
-/// zero, `Feet` where the field's bit Q is 1, and else `Raw`; for type codes 20 to 22 always `Raw`.
+/// Returns the altitude of an airborne position (ICAO Doc 9871, register 0,5). For type codes 9 to 18 it is `Missing`
+/// if the field is 0, `Feet` if the Q bit is 1, and otherwise `Raw`. For type codes 20 to 22 it is always `Raw`.
 pub fn altitude(airborne: &Airborne) -> Altitude
     ensures { let fields = air_parts airborne.now.fields in IsAltitude fields.type_code fields.altitude result }
 {
@@ -22,15 +22,15 @@ pub fn altitude(airborne: &Airborne) -> Altitude
     }
 }
 
-// The altitude of a number of steps of 25 feet, the first of them at -1000.
+// Returns the altitude in feet of a number of steps of 25 feet; step 0 is -1000 feet.
 fn feet_of(steps: u16) -> i32
     ensures { result +ℤ pos 1000 ≡ pos (25 * steps) }
 {
     i32::from(steps) * 25 - 1000
 }
 
-/// The 12-bit field with Q = 1 that means an altitude in feet; `None` unless it is a multiple of 25 from -1000 to
-/// 50175.
+/// Encodes an altitude in feet as a 12-bit field with Q = 1. Returns `None` unless the altitude is a multiple of 25
+/// from -1000 to 50175.
 pub fn field_of_feet(feet: i32) -> Option<u16>
     ensures variant { IsSome result ↔ HasField feet }
     ensures field { IfSome result (λ field. IsFieldOfFeet field feet) }
@@ -41,7 +41,7 @@ pub fn field_of_feet(feet: i32) -> Option<u16>
     Some(steps / 16 * 32 + 16 + steps % 16)
 }
 
-// The steps of 25 feet from -1000 up to an altitude that has a field.
+// Returns the number of steps of 25 feet from -1000 feet up to an altitude, or `None` if the altitude has no field.
 fn steps_of(feet: i32) -> Option<u16>
     ensures variant { IsSome result ↔ HasField feet }
     ensures steps { IfSome result (λ steps. feet +ℤ pos 1000 ≡ pos (25 * steps)) }

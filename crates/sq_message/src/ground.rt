@@ -2,8 +2,8 @@
 ghost use Rattle.std.specs.Prelude.{◌≡◌, ◌<◌, ◌↔◌, IfSome, IsSome};
 ghost use Rattle.sq_message.specs.TypeCodes.{IsGroundCode};
 
-/// What a surface position says besides where (ICAO Doc 9871, register 0,6): the type code, movement, track status and
-/// track raw, and T.
+/// The fields of a surface position other than the encoded position (ICAO Doc 9871, register 0,6): the type code,
+/// movement, track status, track and T, all raw.
 #[derive(Clone, Copy, Debug, PartialEq, Eq)]
 pub struct GroundFields {
     pub(crate) type_code: u8,
@@ -19,7 +19,8 @@ pub struct GroundFields {
 impl GroundFields {
     ghost use Rattle.sq_message.specs.Parts.{ground_parts};
 
-    /// These fields; `None` unless the type code is 5 to 8, and movement and track are below 128.
+    /// Returns these fields if the type code is 5 to 8, and movement and track are below 128. Otherwise returns
+    /// `None`.
     pub fn new(
         type_code: u8,
         movement: u8,
@@ -50,7 +51,7 @@ impl GroundFields {
         }
     }
 
-    /// The type code, 5 to 8.
+    /// Returns the type code, 5 to 8.
     pub fn type_code(&self) -> u8
         ensures value { result ≡ (ground_parts self.now).type_code }
         ensures surface { IsGroundCode result }
@@ -58,7 +59,7 @@ impl GroundFields {
         self.type_code
     }
 
-    /// The movement, below 128, raw.
+    /// Returns the movement, raw and below 128.
     pub fn movement(&self) -> u8
         ensures value { result ≡ (ground_parts self.now).movement }
         ensures small { result < 128 }
@@ -66,14 +67,14 @@ impl GroundFields {
         self.movement
     }
 
-    /// Whether the track is said to be valid.
+    /// Returns the track status: whether the track is declared valid.
     pub fn track_status(&self) -> bool
         ensures { result ≡ (ground_parts self.now).track_status }
     {
         self.track_status
     }
 
-    /// The track, below 128, raw.
+    /// Returns the track, raw and below 128.
     pub fn track(&self) -> u8
         ensures value { result ≡ (ground_parts self.now).track }
         ensures small { result < 128 }
@@ -81,7 +82,7 @@ impl GroundFields {
         self.track
     }
 
-    /// T, whether the time of the position is synchronised to UTC.
+    /// Returns T: whether the time of the position is synchronised to UTC.
     pub fn time(&self) -> bool
         ensures { result ≡ (ground_parts self.now).time }
     {

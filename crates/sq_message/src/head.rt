@@ -1,4 +1,4 @@
-//! All of a position squitter but its place.
+//! Position squitters without the encoded position.
 ghost use Rattle.std.specs.Prelude.{◌≡◌, ◌<◌, ◌^◌, ◌↔◌, IfSome, IsSome};
 ghost use Rattle.sq_message.specs.Heads.{HeadOf};
 
@@ -6,7 +6,7 @@ use crate::squitter::ADDRESSES;
 use crate::{AirFields, GroundFields};
 use std::marker::Model;
 
-/// All of a position squitter but its place: the capability (CA), the address and the fields.
+/// Everything in a position squitter except the encoded position: the capability (CA), the address and the fields.
 #[derive(Clone, Copy, Debug, PartialEq, Eq)]
 pub struct Head<F> {
     pub(crate) ca: u8,
@@ -14,10 +14,10 @@ pub struct Head<F> {
     pub(crate) fields: F,
 }
 
-/// All of an airborne position squitter but its place.
+/// Everything in an airborne position squitter except the encoded position.
 pub type AirHead = Head<AirFields>;
 
-/// All of a surface position squitter but its place.
+/// Everything in a surface position squitter except the encoded position.
 pub type GroundHead = Head<GroundFields>;
 
 impl<F> Model for Head<F> {
@@ -31,7 +31,7 @@ impl<F> Model for Head<F> {
 }
 
 impl<F: Copy> Head<F> {
-    /// The head of these parts; `None` unless `ca` is below 8 and `address` is below 2^24.
+    /// Returns the head of these parts if `ca` is below 8 and `address` is below 2^24, and otherwise `None`.
     pub fn new(ca: u8, address: u32, fields: F) -> Option<Head<F>>
         ensures variant { IsSome result ↔ ((ca < 8) × (address < 2 ^ 24)) }
         ensures value { IfSome result (λ head. head ≡ record { ca = ca; address = address; fields = fields }) }
@@ -47,7 +47,7 @@ impl<F: Copy> Head<F> {
         }
     }
 
-    /// The capability, below 8.
+    /// Returns the capability (CA), below 8.
     pub fn ca(&self) -> u8
         ensures value { result ≡ self.now.ca }
         ensures small { result < 8 }
@@ -55,7 +55,7 @@ impl<F: Copy> Head<F> {
         self.ca
     }
 
-    /// The 24-bit address.
+    /// Returns the 24-bit address.
     pub fn address(&self) -> u32
         ensures value { result ≡ self.now.address }
         ensures small { result < 2 ^ 24 }
@@ -63,7 +63,7 @@ impl<F: Copy> Head<F> {
         self.address
     }
 
-    /// The fields of the kind: for example the altitude in the air, the movement on the ground.
+    /// Returns the fields of the kind: for example the altitude in the air, the movement on the ground.
     pub fn fields(&self) -> F
         ensures { result ≡ self.now.fields }
     {

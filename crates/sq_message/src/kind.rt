@@ -10,7 +10,8 @@ use crate::read::part;
 use crate::{AirFields, Airborne, Frame, GroundFields, Me, Surface};
 use sq_cpr::{Air, Code, Ground, Parity, Span};
 
-/// A kind of position squitter, airborne or surface, by the fields that its message has besides its place.
+/// A kind of position squitter, airborne or surface: the type of the message's fields other than the encoded
+/// position.
 pub trait Kind: Copy {
     /// The span of the kind's grids.
     type Span: Span;
@@ -21,16 +22,16 @@ pub trait Kind: Copy {
 
     ghost is_code: { ℕ → Type 0 };
 
-    /// The message with these fields.
+    /// Returns the message with these fields, this parity and this code.
     fn me(self, parity: Parity, code: Code) -> Me
         ensures { result ≡ me_at kind (record { parity = parity; code = code; fields = fields self }) };
 
-    /// Bits 33 to 53 of a frame with these fields.
+    /// Encodes the fields as bits 33 to 53 of a frame.
     fn bits(&self) -> u64
         ensures small { result < 2 ^ 21 }
         ensures spelled { (frame : Frame) → field_of frame 33 21 ≡ result → SpellsFields kind frame (fields self.now) };
 
-    /// The fields of a frame with a type code of the kind; `me` is its bits 33 to 88.
+    /// Parses the fields of a frame with a type code of the kind; `me` is bits 33 to 88 of the frame.
     fn read(frame: &Frame, me: u64) -> Self
         requires me { me ≡ field_of frame.now 33 56 }
         requires code { is_code (field_of frame.now 33 5) }

@@ -1,7 +1,7 @@
 //! Laws of frames, squitters and altitudes. The contracts of the calls name the same definitions.
 //!
-//! A function with an empty body does nothing: its contract is the law. The others make the calls that they speak of,
-//! and answer what each of them answered.
+//! A function with an empty body does nothing: its contract is the law. The others make the calls that the law is
+//! about and return the result of each call.
 ghost use Rattle.std.specs.Prelude.{◌≡◌, ◌↔◌, None, Some, Result, Ok, Err, IfErr, IfOk, IfSome};
 ghost use Rattle.std.specs.Prelude.{option_copied};
 ghost use Rattle.sq_bits.specs.declared.frame.Frame.{Frame};
@@ -31,12 +31,13 @@ use crate::{
 };
 use sq_bits::laws::each_frame;
 
-/// Whatever is read of a frame that spells a squitter is that squitter.
+/// A frame that encodes a squitter has no other reading than that squitter.
 pub fn spelled_is_read()
     ensures { (f : Frame) (q : Squitter) (r : Result Squitter FrameFault) → Spells f q → IsReading f r → r ≡ Ok q }
 {}
 
-/// What is written is read as what it was: the frame of a squitter, and what is read of that frame.
+/// Writes a squitter and reads the frame, which gives the same squitter. Returns the frame and the result of reading
+/// it.
 pub fn read_of_written(squitter: &Squitter) -> (Frame, Result<Squitter, FrameFault>)
     ensures written { Spells result.0 squitter.now }
     ensures read { IsReading result.0 result.1 }
@@ -47,8 +48,8 @@ pub fn read_of_written(squitter: &Squitter) -> (Frame, Result<Squitter, FrameFau
     (frame, read)
 }
 
-/// What was read is written as the frame that it was: the squitter that a frame spells, and the frame that is written
-/// of it. `Err` is the fault of [`read_frame`].
+/// Reads a frame and writes its squitter, which gives the same frame. Returns the squitter and the written frame, or
+/// the error of [`read_frame`].
 pub fn written_of_read(frame: &Frame) -> Result<(Squitter, Frame), FrameFault>
     ensures read { IfOk result (λ both. IsReading frame.now (Ok both.0)) }
     ensures written { IfOk result (λ both. Spells both.1 both.0) }
@@ -62,14 +63,14 @@ pub fn written_of_read(frame: &Frame) -> Result<(Squitter, Frame), FrameFault>
     Ok((squitter, written))
 }
 
-/// Where two positions lie in the same zones of a parity's grid, the frames that are sent of them with one head are
-/// equal exactly if the positions round to one point.
+/// Two positions in the same zones of a parity's grid, sent with one head, have equal frames exactly if they round to
+/// one point.
 pub fn same_zones<F: Kind>()
     ensures { SameZones F.kind }
 {}
 
-/// The frames that are sent of two positions with one head, in the order of the positions. Where the positions lie in
-/// the same zones, the frames are equal exactly if the positions round to one point.
+/// Encodes two positions with one head and returns their frames in order. If the positions lie in the same zones, the
+/// frames are equal exactly if the positions round to one point.
 pub fn frames<F: Kind>(
     head: Head<F>,
     parity: Parity,
@@ -90,7 +91,7 @@ pub fn frames<F: Kind>(
     (from_here, from_there)
 }
 
-// The frame that is sent of a position.
+// Encodes a position as a frame.
 fn frame_sent<F: Kind>(head: Head<F>, position: &Position, parity: Parity) -> Frame
     ensures sent { IsFrameOf F.kind (head_of F.kind F.fields head) parity position.now result }
     ensures spelled { (q : Squitter) × Spells result q }
@@ -100,13 +101,13 @@ fn frame_sent<F: Kind>(head: Head<F>, position: &Position, parity: Parity) -> Fr
     frame
 }
 
-/// What is sent of a place that a squitter is decoded to is that squitter.
+/// Sending a place that a squitter decodes to gives that squitter again.
 pub fn decoded_is_sent_again()
     ensures { DecodedIsSentAgain }
 {}
 
-/// A squitter that is decoded near a reference, and sent again: its place, and what is sent of that, which is the same
-/// squitter. `Err` is the fault of [`place_local`].
+/// Decodes a squitter near a reference and sends the place, which gives the same squitter. Returns the place and the
+/// sent squitter, or the error of [`place_local`].
 pub fn local_again(
     squitter: &Squitter,
     reference: &Position,
@@ -121,8 +122,8 @@ pub fn local_again(
     Ok((place, again))
 }
 
-/// The newer squitter of a pair that is decoded, and sent again: its place, and what is sent of that, which is the same
-/// squitter. `Err` is the fault of [`place_pair`].
+/// Decodes a pair and sends the place of the newer squitter, which gives the newer squitter again. Returns the place
+/// and the sent squitter, or the error of [`place_pair`].
 pub fn pair_again(
     older: &Squitter,
     newer: &Squitter,
@@ -140,8 +141,8 @@ pub fn pair_again(
     Ok((place, again))
 }
 
-/// What a squitter is decoded to near a reference, or as the newer of a pair, is a place that it is decoded to, as the
-/// headline says it.
+/// A place that local decoding gives for a squitter is a decoded place in the sense of the headline. So is a place
+/// that pair decoding gives for the newer of a pair.
 pub fn decoded_by_calls()
     ensures { DecodedByCalls }
 {}
@@ -156,29 +157,29 @@ pub fn each_has_its_zones<F: Kind>()
 /// coordinates gives that point exactly, as does a close even and odd pair with equal zone counts; writing any decoded
 /// point again gives the same frame.
 ///
-/// Each part stands twice below, for airborne and for surface positions. The heads of the frames are equal. Zones are
-/// shifted by half a step, and half a zone is counted with the zones of the point itself. The frames of a pair have one
-/// address and one kind; on the ground the site lies within 45 degrees of both points.
+/// Each part is stated for airborne and for surface positions. Frames that are compared have equal heads. Zones are
+/// shifted by half a step, and half a zone is measured in the zones of the point itself. The frames of a pair have
+/// one address and one kind; on the ground both points lie less than 45 degrees from the site.
 pub fn headline()
     // Two positions in the same zones have one frame exactly if they round to one point.
     ensures same_frame_in_air { SameZones InAir }
     ensures same_frame_on_ground { SameZones OnGround }
 
-    // Read with a reference strictly within half a zone of the point, a frame gives that point.
+    // A frame read with a reference strictly within half a zone of its point gives that point.
     ensures near_reference_in_air { NearReference InAir }
     ensures near_reference_on_ground { NearReference OnGround }
 
-    // An even and an odd frame of close points with one zone count give the newer one's point.
+    // An even and an odd frame of close points with one zone count give the point of the newer one.
     ensures close_pair_in_air { ClosePair InAir }
     ensures close_pair_on_ground { ClosePair OnGround }
 
-    // What is decoded is written again as the same frame, from the point and from its position.
+    // A decoded point is written again as the same frame, and so is the exact position of the point.
     ensures written_again { WrittenAgain }
     ensures sent_again_in_air { SentAgain InAir }
     ensures sent_again_on_ground { SentAgain OnGround }
 {}
 
-// The squitter that a frame spells, where it spells one.
+// Reads a frame that encodes a squitter.
 fn read_spelled(frame: &Frame) -> Squitter
     requires { (q : Squitter) × Spells frame.now q }
     ensures { IsReading frame.now (Ok result) }
@@ -186,10 +187,10 @@ fn read_spelled(frame: &Frame) -> Squitter
     read_frame(frame).unwrap()
 }
 
-/// A position that is sent and read near a reference: the frame, and what it is decoded to.
+/// Sends a position and decodes its frame near a reference. Returns the frame and the result of decoding it.
 ///
-/// Where the reference lies strictly within half a zone, in both coordinates, of the point to which the position
-/// rounds, that is this point.
+/// If the reference is strictly within half a zone, in both coordinates, of the point to which the position rounds,
+/// the result is that point.
 pub fn read_near_of_sent<F: Kind>(
     head: Head<F>,
     parity: Parity,
@@ -207,7 +208,7 @@ pub fn read_near_of_sent<F: Kind>(
     (frame, place)
 }
 
-// The place of the newest of two squitters, of which one is even and one odd.
+// Decodes an even and an odd squitter as a pair; `newest` is the parity of the newer one.
 fn place_of_newest(
     newest: Parity,
     even: &Squitter,
@@ -223,11 +224,12 @@ fn place_of_newest(
     }
 }
 
-/// Sends an even and an odd position and reads them as a pair. Returns the even frame, the odd frame, and their place
-/// if the newest has this parity. In the air the site plays no part.
+/// Sends an even and an odd position and decodes the frames as a pair. Returns the even frame, the odd frame and the
+/// result; `newest` is the parity of the newer frame. In the air the site is not used.
 ///
-/// The place is the newest one's point if the heads have one address and the positions round to points that are close,
-/// with one zone count. On the ground these also lie less than 45 degrees from the site in both coordinates.
+/// The result is the point of the newer frame if the heads have one address and the positions round to close points.
+/// Close points have one zone count. On the ground they also have to lie less than 45 degrees from the site in both
+/// coordinates.
 pub fn read_pair_of_sent<F: Kind>(
     even_head: Head<F>,
     even_position: &Position,
@@ -252,10 +254,10 @@ pub fn read_pair_of_sent<F: Kind>(
     (even, odd, place)
 }
 
-/// A frame that is read, decoded near a reference and sent again: its squitter, the place, and the frame that is
-/// written of that place, which is the same frame.
+/// Reads a frame, decodes it near a reference and sends the place, which gives the same frame. Returns the squitter,
+/// the place and the sent frame.
 ///
-/// `None` exactly where the frame spells no squitter, or this is decoded to no place.
+/// Returns `None` exactly if the frame encodes no squitter or the squitter cannot be decoded near the reference.
 pub fn sent_again_near(frame: &Frame, reference: &Position) -> Option<(Squitter, Place, Frame)>
     ensures decoded { IfSome result (λ all. IsLocalPlace (squitter_parts all.0).me reference.now (Ok all.1)) }
     ensures again { IfSome result (λ all. IsSentAgain frame.now all.0 all.1 all.2) }
@@ -270,10 +272,10 @@ pub fn sent_again_near(frame: &Frame, reference: &Position) -> Option<(Squitter,
     }
 }
 
-/// Two frames that are read and decoded as a pair, and the newer sent again: its squitter, the place, and the frame
-/// that is written of that place, which is the newer frame.
+/// Reads two frames, decodes them as a pair and sends the place, which gives the newer frame again. Returns the newer
+/// squitter, the place and the sent frame.
 ///
-/// `None` exactly where one of the frames spells no squitter, or both are decoded to no place.
+/// Returns `None` exactly if one of the frames encodes no squitter or the pair cannot be decoded.
 pub fn sent_again_of_pair(
     older: &Frame,
     newer: &Frame,
@@ -296,7 +298,7 @@ pub fn sent_again_of_pair(
     }
 }
 
-// The frame of a squitter that a frame spells, which is that frame.
+// Writes a squitter that `frame` encodes, which gives the same frame.
 fn written_as(frame: &Frame, squitter: &Squitter) -> Frame
     requires { Spells frame.now squitter.now }
     ensures written { Spells result squitter.now }

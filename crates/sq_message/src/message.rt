@@ -4,7 +4,7 @@ ghost use Rattle.std.specs.Prelude.{◌≡◌};
 use crate::{AirFields, GroundFields};
 use sq_cpr::{Code, Parity};
 
-/// The message of a position: the parity and the code of a point, and the fields besides.
+/// A position message: the parity (F bit) and the code of a point, and the other fields.
 #[derive(Clone, Copy, Debug, PartialEq, Eq)]
 pub struct PositionMessage<F> {
     pub parity: Parity,
@@ -19,21 +19,21 @@ pub type Airborne = PositionMessage<AirFields>;
 pub type Surface = PositionMessage<GroundFields>;
 
 impl<F: Copy> PositionMessage<F> {
-    /// The fields of the kind: for example the altitude in the air, the movement on the ground.
+    /// Returns the fields of the kind: for example the altitude in the air, the movement on the ground.
     pub fn fields(&self) -> F
         ensures { result ≡ self.now.fields }
     {
         self.fields
     }
 
-    /// The parity of its code.
+    /// Returns the parity of the code (F bit).
     pub fn parity(&self) -> Parity
         ensures { result ≡ self.now.parity }
     {
         self.parity
     }
 
-    /// The code of its position.
+    /// Returns the code of the position.
     pub fn code(&self) -> Code
         ensures { result ≡ self.now.code }
     {

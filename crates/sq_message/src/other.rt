@@ -1,8 +1,8 @@
-//! Messages that are no position.
+//! Messages other than positions.
 ghost use Rattle.std.specs.Prelude.{◌≡◌, ◌/◌, ◌<◌, ◌^◌, ◌↔◌, IfSome, IsSome};
 ghost use Rattle.sq_message.specs.TypeCodes.{IsOtherCode};
 
-/// The message of another type code, as its 56 bits.
+/// A message with a type code other than those of positions, as its 56 bits.
 #[derive(Clone, Copy, Debug, PartialEq, Eq)]
 pub struct Other {
     pub(crate) raw: u64,
@@ -13,8 +13,8 @@ pub struct Other {
 impl Other {
     ghost use Rattle.sq_message.specs.Parts.{raw_of};
 
-    /// The message of these bits; `None` unless `raw` is below 2^56 and its top five bits are no type code of an
-    /// airborne or a surface position.
+    /// Returns the message of these bits. Returns `None` if `raw` is 2^56 or more, or if its top five bits are the
+    /// type code of an airborne or a surface position.
     pub fn new(raw: u64) -> Option<Other>
         ensures variant { IsSome result ↔ ((raw < 2 ^ 56) × IsOtherCode (raw / 2 ^ 51)) }
         ensures value { IfSome result (λ other. raw_of other ≡ raw) }
@@ -26,7 +26,7 @@ impl Other {
         }
     }
 
-    /// The 56 bits, below 2^56.
+    /// Returns the 56 bits, below 2^56.
     pub fn raw(&self) -> u64
         ensures value { result ≡ raw_of self.now }
         ensures small { result < 2 ^ 56 }
@@ -34,7 +34,7 @@ impl Other {
         self.raw
     }
 
-    /// The type code, the top five of the 56 bits.
+    /// Returns the type code: the top five of the 56 bits.
     pub fn type_code(&self) -> u8
         ensures value { result ≡ raw_of self.now / 2 ^ 51 }
         ensures small { result < 32 }

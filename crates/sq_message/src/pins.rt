@@ -18,7 +18,7 @@ ghost use Rattle.sq_message.specs.Spelling.{IsReading, Spells};
 
 use crate::{Altitude, Frame, FrameFault, Kind, Place, PlaceFault, Received, Squitter};
 
-/// A frame has one reading.
+/// A frame has at most one reading.
 pub fn one_reading()
     ensures { (f : Frame) (r s : Result Squitter FrameFault) → IsReading f r → IsReading f s → r ≡ s }
 {}
@@ -28,59 +28,61 @@ pub fn some_reading()
     ensures { (f : Frame) → IsFrame f → (r : Result Squitter FrameFault) × IsReading f r }
 {}
 
-/// A squitter has one frame.
+/// A squitter has at most one frame.
 pub fn one_frame()
     ensures { (f g : Frame) (q : Squitter) → IsFrame f → IsFrame g → Spells f q → Spells g q → f ≡ g }
 {}
 
-/// A field has one meaning under a type code.
+/// An altitude field has at most one meaning under a type code.
 pub fn one_altitude()
     ensures { (code field : ℕ) (a b : Altitude) → IsAltitude code field a → IsAltitude code field b → a ≡ b }
 {}
 
-/// Under type codes 9 to 18 a field means a number of feet exactly if it is the field of that number.
+/// Up to type code 18, an altitude field means a number of feet exactly if it is the field of that number.
 pub fn feet_exactly()
     ensures { (code field : ℕ) (feet : ℤ) (meaning : Altitude) → code ≤ 18 → IsAltitude code field meaning
         → (meaning ≡ Feet feet) ↔ IsFieldOfFeet field feet }
 {}
 
-/// Up to type code 18 a field of 0 is no altitude, and a field with Q = 0 is kept as it is. From 20 on all fields are.
+/// Up to type code 18, a field of 0 is `Missing`, and any other field is `Raw` exactly if Q is 0. From 20 on every
+/// field is `Raw`.
 pub fn altitude_exactly()
     ensures { AltitudeExactly }
 {}
 
-/// A point is sent as exactly one squitter: that of the whole head, the point's parity and its code.
+/// A squitter is sent from a point exactly if it has the whole head, the point's parity and a code with the point's
+/// numbers.
 pub fn squitter_of_exactly()
     ensures { SquitterOfExactly }
 {}
 
-/// A pair without two positions has exactly one fault, as has one of two addresses. A pair of one address has exactly
-/// the place of its messages.
+/// If one of a pair is no position, the only result is `NotPosition`. If the addresses differ, it is `OtherAddress`.
+/// With one address the results are those of the two messages.
 pub fn pair_place_exactly()
     ensures { PairPlaceExactly }
 {}
 
-/// One head, one parity and one position are sent as one frame.
+/// A head, a parity and a position are sent as at most one frame.
 pub fn one_frame_sent<F: Kind>()
     ensures { OneFrameSent F.kind }
 {}
 
-/// Decoding a squitter near a reference has one answer.
+/// Decoding a squitter near a reference has at most one result.
 pub fn one_local_place()
     ensures { OneLocalPlace }
 {}
 
-/// Decoding a pair of squitters has one answer.
+/// Decoding a pair of squitters has at most one result.
 pub fn one_pair_place()
     ensures { OnePairPlace }
 {}
 
-/// Decoding a squitter near a reference has an answer.
+/// Decoding a squitter near a reference has a result.
 pub fn some_local_place()
     ensures { SomeLocalPlace }
 {}
 
-/// Decoding a pair of squitters has an answer.
+/// Decoding a pair of squitters has a result.
 pub fn some_pair_place()
     ensures { SomePairPlace }
 {}
@@ -92,7 +94,7 @@ pub fn equal_squitters(squitter: &Squitter, other: &Squitter) -> bool
     squitter == other
 }
 
-/// Compares two squitters with their moments by `==`, which is true exactly if they are the same.
+/// Compares two squitters with their timestamps by `==`, which is true exactly if they are the same.
 pub fn equal_received(received: &Received, other: &Received) -> bool
     ensures { IsTrue result ↔ (received.now ≡ other.now) }
 {
@@ -113,43 +115,43 @@ pub fn equal_places(place: &Place, other: &Place) -> bool
     place == other
 }
 
-/// Compares two faults of frames by `==`, which is true exactly if they are the same.
+/// Compares two frame errors by `==`, which is true exactly if they are the same.
 pub fn equal_frame_faults(fault: &FrameFault, other: &FrameFault) -> bool
     ensures { IsTrue result ↔ (fault.now ≡ other.now) }
 {
     fault == other
 }
 
-/// Compares two faults of places by `==`, which is true exactly if they are the same.
+/// Compares two place errors by `==`, which is true exactly if they are the same.
 pub fn equal_place_faults(place_fault: &PlaceFault, other: &PlaceFault) -> bool
     ensures { IsTrue result ↔ (place_fault.now ≡ other.now) }
 {
     place_fault == other
 }
 
-/// A place is strictly near a reference exactly if it is strictly near its latitude and its longitude. The points of a
-/// pair may lie anywhere in the air, and on the ground less than 45 degrees from the site.
+/// A point is strictly near a reference exactly if it is strictly near the reference's latitude and longitude. The
+/// points of a pair may lie anywhere in the air, and on the ground less than 45 degrees from the site.
 pub fn near_reference_exactly<F: Kind>()
     ensures near { NearReferenceExactly F.kind }
     ensures lie_at { LieAtExactly }
 {}
 
-/// A frame has one answer near a reference. An even and an odd frame have one answer as a pair, and the newer has one
-/// place.
+/// A frame has at most one result near a reference. An even and an odd frame have at most one result as a pair, and
+/// the newer has at most one place.
 pub fn one_answer_of_frames()
     ensures near { OneAnswerNear }
     ensures pair { OneAnswerOfPair }
     ensures newer { OnePlaceOfNewer }
 {}
 
-/// A frame is read near a reference as a place exactly if its answer there is that place. So is a pair of frames. The
-/// headline's words for all readings and the words of the calls agree.
+/// A frame is read near a reference as a place exactly if that place is the result of decoding it there. The same
+/// holds for a pair of frames. The headline's definitions, over all readings, agree with those of the calls.
 pub fn read_exactly()
     ensures near { ReadNearExactly }
     ensures pair { ReadAsPairExactly }
 {}
 
-/// Frames cannot be decoded exactly if no position is a result, near a reference and as a pair.
+/// Frames have no place exactly if no place is a result of decoding them, near a reference and as a pair.
 pub fn no_place_exactly()
     ensures near { NoPlaceNearExactly }
     ensures pair { NoPlaceExactly }

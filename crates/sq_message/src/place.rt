@@ -15,7 +15,7 @@ use sq_cpr::{
 };
 use thiserror::Error;
 
-/// Where a squitter is: a point of the air's grid or of the ground's.
+/// The decoded position of a squitter: a point of an airborne or of a surface grid.
 #[derive(Clone, Copy, Debug, PartialEq, Eq)]
 pub enum Place {
     /// In the air: a point of the grid of 360 degrees.
@@ -25,7 +25,7 @@ pub enum Place {
 }
 
 impl Place {
-    /// The position of its point, exactly.
+    /// Returns the exact position of the point.
     #[inline(always)]
     pub fn position(&self) -> Position
         ensures { IsPositionOf self.now result }
@@ -37,28 +37,28 @@ impl Place {
     }
 }
 
-/// Why squitters are decoded to no place: the first of these that applies.
+/// Why squitters cannot be decoded: the first of these that applies.
 #[derive(Clone, Copy, Debug, PartialEq, Eq, Error)]
 pub enum PlaceFault {
-    /// A squitter is no position: it is of kind other.
+    /// A squitter is not a position: its kind is other.
     #[error("{text}", text = self.label())]
     NotPosition,
     /// The addresses of a pair differ.
     #[error("{text}", text = self.label())]
     OtherAddress,
-    /// One of a pair is in the air and one on the ground.
+    /// One squitter of a pair is airborne and one is on the ground.
     #[error("{text}", text = self.label())]
     OtherKind,
-    /// Both of a pair are even, or both are odd.
+    /// Both squitters of a pair are even, or both are odd.
     #[error("{text}", text = self.label())]
     SameParity,
-    /// A pair on the ground has no site.
+    /// No site is given for a pair on the ground.
     #[error("{text}", text = self.label())]
     NoSite,
     /// The latitude near the reference, or one of the close latitudes of a pair, lies outside -90 to 90 degrees.
     #[error("{text}", text = self.label())]
     OutOfRange,
-    /// The zone counts of a pair's even and of its odd latitude, which differ.
+    /// The zone counts (NL) of a pair differ: the count of the even latitude, then that of the odd one.
     #[error("{label}{0} {1}", label = self.label())]
     ZoneCounts(u8, u8),
 }
@@ -66,7 +66,7 @@ pub enum PlaceFault {
 impl PlaceFault {
     ghost use Rattle.sq_message.specs.Faults.{place_fault_label};
 
-    /// Its text up to its numbers, at most 21 bytes.
+    /// Returns the text of the error before its numbers, at most 21 bytes.
     pub fn label(self) -> &'static str
         ensures value { result.now ≡ place_fault_label self }
         ensures short { length result.now ≤ 21 }
@@ -105,7 +105,7 @@ impl From<PairFault> for PlaceFault {
 }
 
 impl Squitter {
-    /// Whether it is an airborne or a surface position.
+    /// Returns whether the squitter is an airborne or a surface position.
     pub fn is_position(&self) -> bool
         ensures { IsTrue result ↔ IsPosition (squitter_parts self.now).me }
     {
@@ -115,7 +115,7 @@ impl Squitter {
         }
     }
 
-    /// Whether the place is of its kind: both are air or both are ground.
+    /// Returns whether the place is of the squitter's kind: both are air or both are ground.
     pub fn fits(&self, place: &Place) -> bool
         ensures { IsTrue result ↔ Fits (squitter_parts self.now).me place.now }
     {
@@ -127,7 +127,7 @@ impl Squitter {
 }
 
 /// Returns the squitter with the parity and the code of a place, and all other fields unchanged (ICAO Doc 9871,
-/// registers 0,5 and 0,6). The place has to be of its kind: see [`Squitter::fits`].
+/// registers 0,5 and 0,6). The place has to be of the squitter's kind: see [`Squitter::fits`].
 pub fn send_point(squitter: &Squitter, place: &Place) -> Squitter
     requires { Fits (squitter_parts squitter.now).me place.now }
     ensures { IsSentAt (squitter_parts squitter.now) place.now (squitter_parts result) }
@@ -139,7 +139,7 @@ pub fn send_point(squitter: &Squitter, place: &Place) -> Squitter
     }
 }
 
-// The squitter of a point: the head with the point's parity and code.
+// Returns the squitter of a point: the head with the point's parity and code.
 #[inline(always)]
 fn send_at<F: Kind>(head: Head<F>, point: &GridPoint<F::Span>) -> Squitter
     ensures { IsSquitterOf F.kind (head_of F.kind F.fields head) point.now (squitter_parts result) }
@@ -147,11 +147,12 @@ fn send_at<F: Kind>(head: Head<F>, point: &GridPoint<F::Span>) -> Squitter
     send_code(head, point.parity(), point.code())
 }
 
-/// The place of a squitter near a reference: the one point with its code, of its span and parity, that lies within half
-/// a zone of the reference in both coordinates.
+/// Decodes a squitter near a reference. Returns the one point of the squitter's span and parity with its code that
+/// lies within half a zone of the reference in both coordinates.
 ///
-/// `NotPosition` exactly for a squitter of kind other; else `OutOfRange` exactly where the latitude near the reference
-/// lies outside -90 to 90 degrees. RTCA DO-260B, appendix on compact position reporting, local decoding.
+/// Returns `NotPosition` exactly if the squitter's kind is other. Otherwise returns `OutOfRange` exactly if the
+/// latitude near the reference lies outside -90 to 90 degrees. RTCA DO-260B, appendix on compact position reporting,
+/// local decoding.
 pub fn place_local(squitter: &Squitter, reference: &Position) -> Result<Place, PlaceFault>
     ensures { IsLocalPlace (squitter_parts squitter.now).me reference.now result }
 {
@@ -168,9 +169,9 @@ pub fn place_local(squitter: &Squitter, reference: &Position) -> Result<Place, P
     }
 }
 
-/// Decodes two squitters that were sent from nearly one place, and returns the place of the newer one. In the air,
-/// exactly one pair of points is close, and the site is not used. On the ground, the point is within 45 degrees of the
-/// site.
+/// Decodes two squitters that were sent from nearly the same position, and returns the place of the newer one. In the
+/// air, exactly one pair of points is close, and the site is not used. On the ground, the point is within 45 degrees
+/// of the site in both coordinates.
 ///
 /// Returns the first error of [`PlaceFault`] that applies. RTCA DO-260B, appendix on compact position reporting,
 /// globally unambiguous decoding.
@@ -219,7 +220,7 @@ fn by_parity(newest: Parity, older: Code, newer: Code) -> Codes
     }
 }
 
-// The place of the newer of two airborne positions.
+// Decodes two airborne positions as a pair, and returns the place of the newer one.
 #[inline(always)]
 fn air_pair(older: &Airborne, newer: &Airborne) -> Result<Place, PlaceFault>
     ensures { IsPlaceOfOneKind InAir older.now newer.now None result }
@@ -232,7 +233,7 @@ fn air_pair(older: &Airborne, newer: &Airborne) -> Result<Place, PlaceFault>
     Ok(Place::Air(point))
 }
 
-// The place of the newer of two surface positions.
+// Decodes two surface positions as a pair, and returns the place of the newer one.
 #[inline(never)]
 fn ground_pair(
     older: &Surface,

@@ -1,4 +1,4 @@
-//! Reading a frame. All of it is inlined, so that the bytes of a frame that was just made stay in registers.
+//! Reading a frame. Every function here is inlined, so that the bytes of a newly made frame stay in registers.
 ghost use Rattle.std.specs.Prelude.{◌≡◌, ◌+◌, ◌<◌, ◌≤◌, ◌^◌};
 ghost use Rattle.sq_message.specs.declared.squitter.Squitter.{Squitter};
 ghost use Rattle.sq_bits.specs.Frames.{field_of};
@@ -12,10 +12,10 @@ use sq_bits::laws::each_frame;
 use sq_bits::{Frame, remainder};
 use sq_cpr::{Code, Parity};
 
-/// The squitter that a frame spells (RTCA DO-260B section 2.2.3.2).
+/// Parses a frame as a squitter (RTCA DO-260B section 2.2.3.2).
 ///
-/// `NotDf17` exactly where bits 1 to 5 are not 17, else `Parity` exactly where the remainder is not 0. Every type code
-/// is read: one that is no position's gives kind other.
+/// Returns `NotDf17` exactly if bits 1 to 5 are not 17. Otherwise returns `Parity` exactly if the remainder is not 0.
+/// Every type code is valid: one that belongs to no position gives kind other.
 #[inline(always)]
 pub fn read_frame(frame: &Frame) -> Result<Squitter, FrameFault>
     ensures read { IsReading frame.now result }
@@ -36,7 +36,7 @@ pub fn read_frame(frame: &Frame) -> Result<Squitter, FrameFault>
     })
 }
 
-// The message of a frame.
+// Parses the message of a frame.
 #[inline(always)]
 fn read_me(frame: &Frame) -> Me
     ensures { SpellsMe frame.now result }
@@ -49,7 +49,7 @@ fn read_me(frame: &Frame) -> Me
     }
 }
 
-// A field of the message, which is taken from the frame once.
+// Returns a field of the message. `me` is the whole message, so that the frame is converted to a number only once.
 #[inline(always)]
 pub(crate) fn part(frame: &Frame, me: u64, first: u8, count: u8) -> u64
     requires me { me ≡ field_of frame.now 33 56 }
@@ -63,7 +63,7 @@ pub(crate) fn part(frame: &Frame, me: u64, first: u8, count: u8) -> u64
     (me >> (89 - first - count)) % (1 << count)
 }
 
-// The position of a frame with a type code of the kind.
+// Parses the position message of a frame with a type code of the kind.
 #[inline(always)]
 fn read_position<F: Kind>(frame: &Frame, me: u64) -> PositionMessage<F>
     requires me { me ≡ field_of frame.now 33 56 }

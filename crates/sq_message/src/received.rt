@@ -1,10 +1,10 @@
-//! Squitters with their moments.
+//! Squitters with their timestamps.
 use crate::squitter::Squitter;
 
-/// A squitter, and its timestamp in milliseconds.
+/// A squitter and its timestamp in milliseconds.
 #[derive(Clone, Copy, Debug, PartialEq, Eq)]
 pub struct Received {
-    /// The moment, in milliseconds.
+    /// The timestamp (ms).
     pub moment: u64,
     /// The squitter.
     pub squitter: Squitter,

@@ -1,4 +1,4 @@
-//! The squitter that is sent of a position.
+//! Encoding a position as a squitter.
 ghost use Rattle.std.specs.Prelude.{◌≡◌};
 ghost use Rattle.sq_cpr.specs.Span.{air, ground};
 ghost use Rattle.sq_cpr.specs.Rounds.{PositionRoundsTo};
@@ -23,7 +23,7 @@ pub fn send_position<F: Kind>(head: Head<F>, position: &Position, parity: Parity
     send_code(head, parity, code)
 }
 
-/// The airborne squitter of a position, as [`send_position`].
+/// Returns the airborne squitter of a position, as [`send_position`] does.
 pub fn send_air(head: AirHead, position: &Position, parity: Parity) -> Squitter
     ensures sent { (point : Point) × (point.parity ≡ parity) × PositionRoundsTo air position.now point
         × IsSquitterOf InAir head point (squitter_parts result) }
@@ -33,7 +33,7 @@ pub fn send_air(head: AirHead, position: &Position, parity: Parity) -> Squitter
     send_position::<AirFields>(head, position, parity)
 }
 
-/// The surface squitter of a position, as [`send_position`].
+/// Returns the surface squitter of a position, as [`send_position`] does.
 pub fn send_ground(head: GroundHead, position: &Position, parity: Parity) -> Squitter
     ensures sent { (point : Point) × (point.parity ≡ parity) × PositionRoundsTo ground position.now point
         × IsSquitterOf OnGround head point (squitter_parts result) }
@@ -43,7 +43,7 @@ pub fn send_ground(head: GroundHead, position: &Position, parity: Parity) -> Squ
     send_position::<GroundFields>(head, position, parity)
 }
 
-// The squitter of a head, a parity and a code.
+// Returns the squitter of a head, a parity and a code.
 #[inline(always)]
 pub(crate) fn send_code<F: Kind>(head: Head<F>, parity: Parity, code: Code) -> Squitter
     ensures { squitter_parts result ≡ squitter_of F.kind (head_of F.kind F.fields head) parity code }

@@ -14,12 +14,12 @@ pub enum Me {
     Airborne(Airborne),
     /// A surface position, type codes 5 to 8.
     Surface(Surface),
-    /// Every other type code, its 56 bits raw.
+    /// Any other type code: the 56 bits, raw.
     Other(Other),
 }
 
-/// What a correct DF17 frame says (RTCA DO-260B section 2.2.3.2): the capability (CA), the address and the message
-/// (ME).
+/// The contents of a correct DF17 frame (RTCA DO-260B section 2.2.3.2): the capability (CA), the address and the
+/// message (ME).
 #[derive(Clone, Copy, Debug, PartialEq, Eq)]
 pub struct Squitter {
     pub(crate) ca: u8,
@@ -32,7 +32,7 @@ pub struct Squitter {
 impl Squitter {
     ghost use Rattle.sq_message.specs.Parts.{squitter_parts};
 
-    /// The squitter of these parts; `None` unless `ca` is below 8 and `address` is below 2^24.
+    /// Returns the squitter of these parts if `ca` is below 8 and `address` is below 2^24, and otherwise `None`.
     pub fn new(ca: u8, address: u32, me: Me) -> Option<Squitter>
         ensures variant { IsSome result ↔ ((ca < 8) × (address < 2 ^ 24)) }
         ensures value { IfSome result (λ squitter. squitter_parts squitter
@@ -45,7 +45,7 @@ impl Squitter {
         }
     }
 
-    /// The capability, below 8.
+    /// Returns the capability (CA), below 8.
     pub fn ca(&self) -> u8
         ensures value { result ≡ (squitter_parts self.now).ca }
         ensures small { result < 8 }
@@ -53,7 +53,7 @@ impl Squitter {
         self.ca
     }
 
-    /// The 24-bit address.
+    /// Returns the 24-bit address.
     pub fn address(&self) -> u32
         ensures value { result ≡ (squitter_parts self.now).address }
         ensures small { result < 2 ^ 24 }
@@ -61,7 +61,7 @@ impl Squitter {
         self.address
     }
 
-    // All of it but its place, where these are the fields of its message.
+    // Returns the head of the squitter: its capability and address, with these fields.
     #[inline(always)]
     pub(crate) fn head<F>(&self, fields: F) -> Head<F>
         ensures { let parts = squitter_parts self.now in
@@ -74,7 +74,7 @@ impl Squitter {
         }
     }
 
-    /// The message.
+    /// Returns the message.
     pub fn me(&self) -> Me
         ensures { result ≡ (squitter_parts self.now).me }
     {
@@ -82,13 +82,13 @@ impl Squitter {
     }
 }
 
-/// Why a frame spells no squitter: the first of these that applies.
+/// Why a frame encodes no squitter: the first of these that applies.
 #[derive(Clone, Copy, Debug, PartialEq, Eq, Error)]
 pub enum FrameFault {
-    /// The downlink format, bits 1 to 5, is not 17 but this.
+    /// The downlink format (bits 1 to 5) is this number and not 17.
     #[error("{label}{0}", label = self.label())]
     NotDf17(u8),
-    /// The remainder is not 0 but this.
+    /// The CRC remainder is this number and not 0.
     #[error("{label}{0:06X}", label = self.label())]
     Parity(u32),
 }
@@ -96,7 +96,7 @@ pub enum FrameFault {
 impl FrameFault {
     ghost use Rattle.sq_message.specs.Faults.{frame_fault_label};
 
-    /// Its text up to its number, at most 9 bytes.
+    /// Returns the text of the error before its number, at most 9 bytes.
     pub fn label(self) -> &'static str
         ensures value { result.now ≡ frame_fault_label self }
         ensures short { length result.now ≤ 9 }

@@ -1,8 +1,9 @@
 //! The headline at worked positions, in numbers.
 //!
-//! 52.2572021 3.9193726 rounds to the point of the even grid of the air with the indices 1,141,576 and 51,372, and
-//! 52.26578 3.93891 to that of the odd one with 1,122,734 and 50,194: where the frames 8D40621D58C382D690C8AC2863A7 and
-//! 8D40621D58C386435CC412692AD6, which are worked in the literature, were sent from.
+//! The frames 8D40621D58C382D690C8AC2863A7 and 8D40621D58C386435CC412692AD6 are worked in the literature. The first
+//! was sent from 52.2572021 3.9193726, which rounds to the point of the even airborne grid with the indices 1,141,576
+//! and 51,372. The second was sent from 52.26578 3.93891, which rounds to the point of the odd one with 1,122,734 and
+//! 50,194.
 ghost use Rattle.std.specs.Prelude.{◌≡◌, pos, Ok};
 ghost use Rattle.sq_angle.specs.Bounds.{IsAngle, IsPosition};
 ghost use Rattle.sq_zones.specs.declared.parity.Parity.TheVariants.{Even, Odd};
@@ -14,7 +15,7 @@ ghost use Rattle.sq_message.specs.Places.{IsAt};
 use crate::laws::{read_near_of_sent, read_pair_of_sent};
 use crate::{AirHead, Angle, GroundHead, Parity, Place, PlaceFault, Position};
 
-// The position of so many parts of a degree.
+// Returns the position at `lat` / `parts` and `lon` / `parts` degrees.
 fn position_of(lat: i64, lon: i64, parts: u64) -> Position
     requires lat { IsAngle lat parts }
     requires lon { IsAngle lon parts }
@@ -26,8 +27,8 @@ fn position_of(lat: i64, lon: i64, parts: u64) -> Position
     Position::new(lat, lon).unwrap()
 }
 
-/// The position 52.2572021 3.9193726, sent in the even format with any head and decoded near 52.258 3.918, gives its
-/// own rounded point.
+/// Sends 52.2572021 3.9193726 in the even format with any head and decodes the frame near 52.258 3.918. The result is
+/// the point to which the position rounds.
 pub fn read_near(head: AirHead) -> Result<Place, PlaceFault>
     ensures { result ≡ Ok (Air (point_at Even (pos 1141576) 36 51372)) }
 {
@@ -37,8 +38,8 @@ pub fn read_near(head: AirHead) -> Result<Place, PlaceFault>
     place
 }
 
-/// 52.2572021 3.9193726 of the even grid and 52.26578 3.93891 of the odd one, sent with any head and read as a pair,
-/// are the point of the newest.
+/// Sends 52.2572021 3.9193726 in the even format and 52.26578 3.93891 in the odd one, with any head, and decodes the
+/// frames as a pair. The result is the point of the newest.
 pub fn read_pair(head: AirHead, newest: Parity) -> Result<Place, PlaceFault>
     ensures { result ≡ Ok (Air (of_parity newest (point_at Even (pos 1141576) 36 51372)
         (point_at Odd (pos 1122734) 35 50194))) }
@@ -49,8 +50,8 @@ pub fn read_pair(head: AirHead, newest: Parity) -> Result<Place, PlaceFault>
     place
 }
 
-/// 52.3206071 4.7347347, sent of the odd grid of the ground with any head and read near 51.99 4.375, is the point to
-/// which it rounds.
+/// Sends 52.3206071 4.7347347 on the ground in the odd format with any head and decodes the frame near 51.99 4.375.
+/// The result is the point to which the position rounds.
 pub fn read_near_on_ground(head: GroundHead) -> Result<Place, PlaceFault>
     ensures { result ≡ Ok (Ground (point_at Odd (pos 4495647) 35 241341)) }
 {
@@ -60,8 +61,8 @@ pub fn read_near_on_ground(head: GroundHead) -> Result<Place, PlaceFault>
     place
 }
 
-/// 52.32304 4.7304726 of the even grid of the ground and 52.3206071 4.7347347 of the odd one, sent with any head and
-/// read as a pair with the site 51.99 4.375, are the point of the newest.
+/// Sends 52.32304 4.7304726 in the even format and 52.3206071 4.7347347 in the odd one, on the ground with any head.
+/// The frames decoded as a pair with the site 51.99 4.375 give the point of the newest.
 pub fn read_pair_on_ground(head: GroundHead, newest: Parity) -> Result<Place, PlaceFault>
     ensures { result ≡ Ok (Ground (of_parity newest (point_at Even (pos 4572057) 36 248013)
         (point_at Odd (pos 4495647) 35 241341))) }
@@ -73,9 +74,9 @@ pub fn read_pair_on_ground(head: GroundHead, newest: Parity) -> Result<Place, Pl
     place
 }
 
-/// 52.32304 -175.2695274 of the even grid of the ground and 52.3206071 -175.2652653 of the odd one have the codes of
-/// the pair before. Read with the site 51.99 179.375, on the other side of 180 degrees, they are the point of the
-/// newest.
+/// Sends 52.32304 -175.2695274 and 52.3206071 -175.2652653, which have the codes of the pair of
+/// [`read_pair_on_ground`]. Decoded with the site 51.99 179.375, on the other side of 180 degrees, they give the
+/// point of the newest.
 pub fn read_pair_across_180_degrees(head: GroundHead, newest: Parity) -> Result<Place, PlaceFault>
     ensures { result ≡ Ok (Ground (of_parity newest (point_at Even (pos 4572057) 36 9685197)
         (point_at Odd (pos 4495647) 35 9416381))) }

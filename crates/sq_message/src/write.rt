@@ -1,5 +1,6 @@
-//! Writing a frame. The 32 bits before the message are one number and the 56 bits of the message another. The frame is
-//! made of both at once: setting field by field would convert all 14 bytes to a number and back for each field.
+//! Writing a frame. The 32 bits before the message are one number and the 56 bits of the message are another. The
+//! frame is made of both at once: setting each field on its own would convert all 14 bytes to a number and back each
+//! time.
 ghost use Rattle.std.specs.Prelude.{◌≡◌, ◌<◌, ◌^◌};
 ghost use Rattle.sq_bits.specs.declared.frame.Frame.{Frame};
 ghost use Rattle.sq_bits.specs.Frames.{IsFrame, field_of};
@@ -12,7 +13,7 @@ use crate::{Kind, Me, PositionMessage, Squitter};
 use sq_bits::Frame;
 use sq_cpr::{Code, Parity};
 
-/// The one correct frame of a squitter (RTCA DO-260B section 2.2.3.2): no other frame spells it.
+/// Writes a squitter as its one correct frame (RTCA DO-260B section 2.2.3.2). No other frame encodes the squitter.
 pub fn write_frame(squitter: &Squitter) -> Frame
     ensures written { Spells result squitter.now }
     ensures one { (frame : Frame) → IsFrame frame → Spells frame squitter.now → frame ≡ result }
@@ -20,7 +21,7 @@ pub fn write_frame(squitter: &Squitter) -> Frame
     Frame::of_words(head_bits(squitter), me_bits(&squitter.me))
 }
 
-// Bits 1 to 32: DF 17, the capability and the address.
+// Returns bits 1 to 32: DF 17, the capability and the address.
 fn head_bits(squitter: &Squitter) -> u32
     ensures format { (frame : Frame) → field_of frame 1 32 ≡ result → field_of frame 1 5 ≡ 17 }
     ensures ca { (frame : Frame) → field_of frame 1 32 ≡ result
@@ -31,7 +32,7 @@ fn head_bits(squitter: &Squitter) -> u32
     (17 << 27) + (u32::from(squitter.ca) << 24) + squitter.address
 }
 
-// Bits 33 to 88: the message.
+// Returns bits 33 to 88: the message.
 fn me_bits(me: &Me) -> u64
     ensures small { result < 2 ^ 56 }
     ensures spelled { (frame : Frame) → field_of frame 33 56 ≡ result → SpellsMe frame me.now }
@@ -43,7 +44,7 @@ fn me_bits(me: &Me) -> u64
     }
 }
 
-// The message of a position.
+// Encodes the message of a position.
 fn position_bits<F: Kind>(position: &PositionMessage<F>) -> u64
     ensures small { result < 2 ^ 56 }
     ensures spelled { (frame : Frame) → field_of frame 33 56 ≡ result
@@ -52,7 +53,7 @@ fn position_bits<F: Kind>(position: &PositionMessage<F>) -> u64
     (position.fields.bits() << 35) + place_bits(position.parity, &position.code)
 }
 
-// ME bits 22 to 56: the parity and the code.
+// Returns ME bits 22 to 56: the parity (F bit) and the code.
 fn place_bits(parity: Parity, code: &Code) -> u64
     ensures small { result < 2 ^ 35 }
     ensures spelled { (frame : Frame) → field_of frame 54 35 ≡ result

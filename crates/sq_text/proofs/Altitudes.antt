@@ -12,7 +12,7 @@ use Rattle.sq_message.specs.Parts.{air_parts}
 use Rattle.sq_message.proofs.FeetLemmas.{one_altitude, split}
 use Rattle.sq_text.specs.Altitudes.{AltitudeReader}
 
--- the meaning of a barometric field that is not zero, by its bit Q
+-- the meaning of a barometric field that is not zero, by its Q bit
 with_q : (code field : ℕ) → code ≤ 18 → field < 4096 → field ≢ 0 → (q : ℕ) → q ≡ field / 16 % 2
     → (meaning : Altitude) × IsAltitude code field meaning
 with_q code field low small some zero is =

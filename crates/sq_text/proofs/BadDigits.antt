@@ -1,4 +1,4 @@
--- What an error of `hex` says of 28 bytes.
+-- The errors of `hex` on 28 bytes.
 use Rattle.std.proofs.Common.{◌≡◌, ◌+◌, ℕ, List, length, Result, Ok, Err, MatchResult, sym, ◌∙◌, ap, arith, inl, inr}
 use Rattle.std.specs.Prelude.{slice_index}
 use Rattle.hex.specs.Hex.{decode_of, decode_sized}
@@ -7,7 +7,7 @@ use Rattle.hex.specs.declared.error.FromHexError.TheVariants.{InvalidHexCharacte
 use Rattle.hex.proofs.HexLemmas.{decode_of-err, decode_sized-twice}
 use Rattle.sq_text.specs.FrameText.{IsFirstBadDigit}
 
--- the error that was answered is the one that the text gives
+-- the returned error is the one that the text gives
 pub err_of : (new : List ℕ) (r : Result (List ℕ) FromHexError) (answer : Result (Unit {0}) FromHexError)
     (e : FromHexError)
     → MatchResult r (λ bytes. (answer ≡ Ok tt) × (new ≡ bytes)) (λ f. answer ≡ Err f) → answer ≡ Err e → r ≡ Err e

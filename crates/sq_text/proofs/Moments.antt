@@ -1,4 +1,4 @@
--- Moments and the spaces after them.
+-- Timestamps and the spaces after them.
 use Rattle.std.proofs.Common.{◌≡◌, ◌+◌, ◌<◌, ◌≤◌, ◌++◌, ◌*◌, ◌^◌, ℕ, List, [], ◌∷◌, length, take, get_or, suc, zero}
 use Rattle.std.proofs.Common.{◌∙◌, ◌⊎◌, inl, inr, ap, sym, subst, arith, refl, add-one}
 use Rattle.std.proofs.lemmas.Bool.{cases_lt}
@@ -16,7 +16,7 @@ digit_at [] i all within = absurd (omega (arith, within))
 digit_at (d ∷ ds) zero all within = all.0
 digit_at (d ∷ ds) (suc i) all within = digit_at ds i all.1 (omega (arith, within))
 
--- a moment's digits stand before its space
+-- the bytes before the space of a timestamp are digits
 pub digit_before : (ds rest : List ℕ) (i : ℕ) → AllByRecursion IsAsciiDigit ds → i < length ds
     → IsAsciiDigit (get_or (ds ++ 32 ∷ rest) i 0)
 digit_before [] rest i all within = absurd (omega (arith, within))
@@ -27,7 +27,7 @@ space_after : (ds rest : List ℕ) → get_or (ds ++ 32 ∷ rest) (length ds) 0 
 space_after [] rest = refl
 space_after (d ∷ ds) rest = space_after ds rest
 
--- the space of a line with a moment
+-- the space of a line with a timestamp
 module _ (text rest : List ℕ) (moment : ℕ) (line : IsMomentLine text rest moment) where
   pub space_is : get_or text (length line.digits) 0 ≡ 32
   space_is = ap (λ l. get_or l (length line.digits) 0) line.whole ∙ space_after line.digits rest
@@ -38,7 +38,7 @@ module _ (text rest : List ℕ) (moment : ℕ) (line : IsMomentLine text rest mo
   pub digits_are : line.digits ≡ take (length line.digits) text
   digits_are = sym (ap (take (length line.digits)) line.whole ∙ take-append_seam line.digits (32 ∷ rest))
 
-  -- digits at the front of the text are digits of the moment
+  -- digits at the front of the text are digits of the timestamp
   pub no_fewer : (count : ℕ) → AllByRecursion IsAsciiDigit (take count text) → count ≤ length line.digits
   no_fewer count all = by (cases_lt (length line.digits) count)
     where
@@ -53,7 +53,7 @@ module _ (text rest : List ℕ) (moment : ℕ) (line : IsMomentLine text rest mo
           absurd (omega (arith, digit.0, digit.1, same, space_is))
       by (inr enough) = enough
 
-  -- a moment ends where the digits at the front of the text end
+  -- a timestamp ends with the digits at the front of the text
   pub no_more : (count : ℕ) → ¬ IsAsciiDigit (get_or text count 0) → length line.digits ≤ count
   no_more count ends = by (cases_lt count (length line.digits))
     where
@@ -62,7 +62,7 @@ module _ (text rest : List ℕ) (moment : ℕ) (line : IsMomentLine text rest mo
           (digit_before line.digits rest count line.of_moment.each less)))
       by (inr enough) = enough
 
-  -- behind nineteen digits without a space only a moment of twenty is left
+  -- after nineteen digits without a space, the timestamp has twenty digits
   pub twenty_digits : AllByRecursion IsAsciiDigit (take 19 text) → (19 < length text → ¬ (get_or text 19 0 ≡ 32))
       → length line.digits ≡ 20
   twenty_digits all apart = by (cases_lt 19 (length line.digits))
@@ -76,7 +76,7 @@ module _ (text rest : List ℕ) (moment : ℕ) (line : IsMomentLine text rest mo
 pub pow_ten : (n : ℕ) → 10 ^ (n + 1) ≡ 10 ^ n * 10
 pow_ten n = pow-add 10 n 1
 
--- what fits some digits fits more
+-- a number that fits i digits fits n digits if i ≤ n
 pub fits_more : (n i value : ℕ) → i ≤ n → value < 10 ^ i → value < 10 ^ n
 fits_more n i value few small =
     let most : 10 ^ i ≤ 10 ^ n = pow-le-pow_right (omega arith) few in omega (arith, most, small)

@@ -1,4 +1,4 @@
--- A text has one answer.
+-- A text has at most one result.
 use Rattle.std.proofs.Common.{◌≡◌, ◌<◌, ℕ, List, [], ◌∷◌, ◌++◌, length, take, get_or, true, Result, Ok, Err}
 use Rattle.std.proofs.Common.{MatchResult, refl, sym, ◌∙◌, ap, subst, arith, inl, inr}
 use Rattle.std.proofs.lemmas.List.{same_from_push, length-take-le, get_or-take}
@@ -11,7 +11,7 @@ use Rattle.sq_text.specs.declared.frame_text.TextFault.{TextFault}
 use Rattle.sq_text.specs.declared.frame_text.TextFault.TheVariants.{Wrap, Short, Length, Digit}
 use Rattle.sq_text.specs.FrameText.{IsBody, IsHalfWrapped, IsFrameText, IsTextFault, IsFirstBadDigit}
 
--- a text has one body
+-- a text has at most one body
 one_body : (text a b : List ℕ) → IsBody text a → IsBody text b → a ≡ b
 one_body text a b (inl x) (inl y) =
     let same : a ++ 59 ∷ [] ≡ b ++ 59 ∷ [] = cc (sym x ∙ y) in
@@ -27,7 +27,7 @@ not_half text a (inl x) (inr h) = h.1 (a ++ 59 ∷ [], x)
 not_half text a (inr x) (inl h) = x.0 h.0
 not_half text a (inr x) (inr h) = x.1 h.0
 
--- digits have no bad one
+-- a body that decodes has no bad digit
 no_bad_digit : (body : List ℕ) (bytes : List ℕ) (k : ℕ) → decode_of body ≡ Ok bytes → IsFirstBadDigit body k → ⊥
 no_bad_digit body bytes k gives bad =
     let all = (decode_of-ok body bytes gives).1 in
@@ -90,7 +90,7 @@ same_fault text (Digit m) (Digit n) (a, x, _, (j, is, bad)) (b, y, _, (k, is', b
     let place = one_bad_digit b j k (subst (λ c. IsFirstBadDigit c j) (one_body text a b x y) bad) bad' in
     ap Digit (omega arith)
 
--- the answer to a text is one
+-- a text has at most one result
 pub one_answer : (text : List ℕ) (r s : Result Frame TextFault) → MatchResult r (IsFrameText text) (IsTextFault text)
     → MatchResult s (IsFrameText text) (IsTextFault text) → r ≡ s
 one_answer text (Ok f) (Ok g) x y = ap Ok (same_text text f g x y)

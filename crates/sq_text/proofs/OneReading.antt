@@ -1,4 +1,4 @@
--- A text has one reading as a squitter, and a squitter one text.
+-- A text has at most one reading as a squitter, and a squitter at most one text.
 use Rattle.std.proofs.Common.{◌≡◌, ℕ, List, ◌++◌, Result, Ok, Err, sym, ◌∙◌, ap, subst, inl, inr}
 use Rattle.sq_message.specs.declared.squitter.Squitter.{Squitter}
 use Rattle.sq_message.specs.declared.squitter.Me.{Me}
@@ -13,19 +13,19 @@ use Rattle.sq_text.specs.Reading.{IsSquitterText, IsSquitterFault, IsSquitterRea
 use Rattle.sq_text.specs.Show.{IsShown, IsShownMe, airborne_lines, head_lines}
 use Rattle.sq_text.proofs.One.{same_text, no_fault, same_fault}
 
--- a text spells one squitter
+-- a text encodes at most one squitter
 one_text_squitter : (text : List ℕ) (p q : Squitter) → IsSquitterText text p → IsSquitterText text q → p ≡ q
 one_text_squitter text p q (f, x, is) (g, y, is') =
     one_squitter g p q (subst (λ h. Spells h p) (same_text text f g x y) is) is'
 
--- a text that spells a squitter has no fault
+-- a text that encodes a squitter has no error
 no_squitter_fault : (text : List ℕ) (q : Squitter) (fault : LineFault) → IsSquitterText text q
     → IsSquitterFault text fault → ⊥
 no_squitter_fault text q fault (f, x, is) (inl (e, bad, _)) = no_fault text f e x bad
 no_squitter_fault text q fault (f, x, is) (inr (g, e, y, bad, _)) =
     no_frame_fault g q e (subst (λ h. Spells h q) (same_text text f g x y) is) bad
 
--- a text has one fault
+-- a text has at most one error
 one_squitter_fault : (text : List ℕ) (a b : LineFault) → IsSquitterFault text a → IsSquitterFault text b → a ≡ b
 one_squitter_fault text a b (inl (d, x, is)) (inl (e, y, is')) = is ∙ ap of_text (same_fault text d e x y) ∙ sym is'
 one_squitter_fault text a b (inl (d, x, is)) (inr (g, e, y, bad, is')) = absurd (no_fault text g d y x)
@@ -40,7 +40,7 @@ one_squitter_reading text (Ok p) (Err e) x y = absurd (no_squitter_fault text p 
 one_squitter_reading text (Err d) (Ok q) x y = absurd (no_squitter_fault text q d y x)
 one_squitter_reading text (Err d) (Err e) x y = ap Err (one_squitter_fault text d e x y)
 
--- a message is shown as one text
+-- a message is shown as at most one text
 one_me_text : (me : Me) (a b : List ℕ) → IsShownMe me a → IsShownMe me b → a ≡ b
 one_me_text (kinds.Airborne airborne) a b (m, x, is) (n, y, is') =
     let fields = air_parts airborne.fields in

@@ -1,4 +1,4 @@
--- A position has one text.
+-- A position has at most one text.
 use Rattle.std.specs.Prelude.{codes, decimal}
 use Rattle.std.specs.Fmt.{signed_decimal}
 use Rattle.std.proofs.Common.{◌≡◌, ◌≤◌, ◌∙◌, ◌++◌, ℕ, List, ap, ap₂, refl, sym}

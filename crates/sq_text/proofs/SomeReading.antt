@@ -1,4 +1,4 @@
--- Each text has an answer, and a reading as a squitter.
+-- Each text has a result, and a reading as a squitter.
 use Rattle.std.proofs.Common.{◌≡◌, ◌⊎◌, ◌+◌, ℕ, List, [], ◌∷◌, ◌++◌, length, get_or, Result, Ok, Err, refl, sym, ◌∙◌}
 use Rattle.std.proofs.Common.{ap, inl, inr, arith}
 use Rattle.std.proofs.lemmas.Bool.{cases_eq}
@@ -47,7 +47,7 @@ ends (c ∷ rest) =
       | inr other ↦ inr (λ (front, is). other (same_from_push last.0 front last.1 59 (sym last.2 ∙ is)).1)
     ]
 
--- between `*` and `;` stands a body, where both are there
+-- a text with both `*` and `;` has a body between them
 between : (rest front : List ℕ) → 42 ∷ rest ≡ front ++ 59 ∷ [] → (body : List ℕ) × (42 ∷ rest ≡ 42 ∷ (body ++ 59 ∷ []))
 between rest [] is = absurd (omega (arith, ap (λ l. get_or l 0 0) is))
 between rest (c ∷ front) is =
@@ -69,7 +69,7 @@ some_body text = elim (begins text) [
   ]
 ]
 
--- 28 digits are a frame's, or one of them is bad
+-- 28 bytes are the digits of a frame, or one of them is bad
 some_digits : (text body : List ℕ) → IsBody text body → length body ≡ 28 → (r : Result (List ℕ) FromHexError)
     → decode_of body ≡ r
     → (answer : Result Frame TextFault) × IsFrameReading text answer

@@ -1,4 +1,4 @@
--- Hexadecimal digits in lanes spell the bytes that `hex` decodes.
+-- Hexadecimal digits read in lanes give the bytes that `hex` decodes.
 use Rattle.std.proofs.Common.{◌≡◌, ℕ, ◌+◌, ◌*◌, ◌/◌, ◌<◌, Ok, Some, List, zero, suc, map, get_or, length, drop}
 use Rattle.std.proofs.Common.{ap, ◌∙◌, arith}
 use Rattle.std.proofs.lemmas.Bool.{ltb-true}
@@ -27,7 +27,7 @@ value_at_index : (digits : List ℕ) (i : ℕ) → AreHex digits → i < length 
     → hex_digit_value (get_or digits i 0) ≡ Some (digit_value (get_or digits i 0))
 value_at_index digits i hex within = digit_known (get_or digits i 0) (ltb-true _ 16 (hex_at digits i hex within))
 
--- each byte is what its two digits spell
+-- each byte is the one that its two digits encode
 spells : (digits : List ℕ) (k : ℕ) → AreHex digits → 2 * k + 1 < length digits
     → SpellsByte digits k (byte_at digits k)
 spells digits k hex within =
@@ -38,7 +38,7 @@ spells digits k hex within =
     (value_at_index digits (2 * k) hex (omega (arith, within))) (value_at_index digits (2 * k + 1) hex within)
     ∙ ap Ok sum
 
--- so many bytes from byte k on are decoded
+-- n bytes from byte k on are decoded
 decoded : (digits : List ℕ) (n k : ℕ) → AreHex digits → 2 * (k + n) ≡ length digits
     → decode_pairs (2 * k) (drop (2 * k) digits) ≡ Ok (map (byte_at digits) (range_with_len k n))
 unfolding decode_pairs
@@ -53,7 +53,7 @@ decoded digits (suc n) k hex whole =
     ∙ ap (λ j. cons_byte byte (decode_pairs j more)) two
     ∙ ap (cons_byte byte) (decoded digits n (k + 1) hex (omega (arith, whole)))
 
--- 28 digits are decoded to the bytes that they spell
+-- 28 digits are decoded to the bytes that they encode
 pub decodes_28 : (digits : List ℕ) → AreHex digits → length digits ≡ 28 → decode_of digits ≡ Ok (bytes_of digits)
 decodes_28 digits hex long =
     let half : 14 ≡ length digits / 2 = omega (arith, long) in

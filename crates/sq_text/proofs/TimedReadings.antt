@@ -1,4 +1,4 @@
--- Each text has one reading as a squitter with its moment.
+-- Each text has exactly one reading as a squitter with its timestamp.
 use Rattle.std.proofs.Common.{◌≡◌, ◌^◌, ◌++◌, ◌∙◌, ◌⊎◌, ℕ, List, [], ◌∷◌, Result, Ok, Err, length, refl, sym, ap, subst}
 use Rattle.std.proofs.Common.{ap₂, inl, inr, arith}
 use Rattle.std.proofs.lemmas.Bool.{cases_eq, cases_lt}
@@ -18,12 +18,12 @@ use Rattle.sq_text.proofs.SomeReading.{some_squitter_reading}
 abbrev HasNoSpace : List ℕ → Type 0
 HasNoSpace bytes = AllByRecursion (λ byte. ¬ (byte ≡ 32)) bytes
 
--- digits have no space
+-- digits contain no space
 digits_without_space : (ds : List ℕ) → AllByRecursion IsAsciiDigit ds → HasNoSpace ds
 digits_without_space [] all = tt
 digits_without_space (d ∷ ds) all = (λ is. absurd (omega (arith, is, all.0)), digits_without_space ds all.1)
 
--- a text has one front before its first space, and one rest after it
+-- a text splits at its first space in at most one way
 one_front : (a b rest more : List ℕ) → HasNoSpace a → HasNoSpace b → a ++ 32 ∷ rest ≡ b ++ 32 ∷ more
     → (a ≡ b) × (rest ≡ more)
 one_front [] [] rest more p q is = (refl, cc is)
@@ -35,14 +35,14 @@ one_front (x ∷ xs) (y ∷ ys) rest more p q is =
     let same = one_front xs ys rest more p.1 q.1 others in
     (ap₂ (λ c (l : List ℕ). c ∷ l) first same.0, same.1)
 
--- a text without a space has no front before one
+-- a text without a space does not split at a space
 no_front : (text a rest : List ℕ) → HasNoSpace text → text ≡ a ++ 32 ∷ rest → ⊥
 no_front [] [] rest none is = absurd (cc is)
 no_front [] (y ∷ ys) rest none is = absurd (cc is)
 no_front (x ∷ xs) [] rest none is = let same : x ≡ 32 = cc is in none.0 same
 no_front (x ∷ xs) (y ∷ ys) rest none is = let others : xs ≡ ys ++ 32 ∷ rest = cc is in no_front xs ys rest none.1 others
 
--- a text has one moment, and one rest after it
+-- a text has at most one timestamp, and at most one rest after it
 one_line : (text rest more : List ℕ) (m n : ℕ) → IsMomentLine text rest m → IsMomentLine text more n
     → (m ≡ n) × (rest ≡ more)
 one_line text rest more m n x y =
@@ -51,12 +51,12 @@ one_line text rest more m n x y =
     (sym x.whole ∙ y.whole) in
     (x.of_moment.value ∙ ap (λ ds. digits_value 10 ds) same.0 ∙ sym y.of_moment.value, same.1)
 
--- what is read of the rest, with the moment
+-- the reading of the rest, with the timestamp
 abbrev with_moment : ℕ → Result Squitter LineFault → Result Received LineFault
 with_moment moment (Ok squitter) = Ok (record { moment = moment; squitter = squitter })
 with_moment moment (Err fault) = Err fault
 
--- a text with a moment is read as its rest is
+-- the reading of a text with a timestamp is that of its rest
 of_rest : (text rest : List ℕ) (m : ℕ) → IsMomentLine text rest m → (answer : Result Received LineFault)
     → IsTimedReading text answer
     → (reading : Result Squitter LineFault) × IsSquitterReading rest reading × (answer ≡ with_moment m reading)
@@ -72,16 +72,16 @@ of_rest text rest m line (Err fault) (inr (more, n, here, why)) =
     let same = one_line text rest more m n line here in
     (Err fault, subst (λ (r : List ℕ). IsSquitterReading r (Err fault)) (sym same.1) why, refl)
 
--- a text without a moment has that fault
+-- a text without a timestamp has the error `Moment`
 of_none : (text : List ℕ) → HasNoMoment text → (answer : Result Received LineFault) → IsTimedReading text answer
     → answer ≡ Err Moment
 of_none text none (Ok timed) (rest, line, spelled) = absurd (none rest timed.moment line)
 of_none text none (Err fault) (inl (is, why)) = ap Err is
 of_none text none (Err fault) (inr (rest, m, line, why)) = absurd (none rest m line)
 
--- ---- there is one
+-- ---- there is a reading
 
--- a text has a first space or none
+-- a text has a first space or no space
 first_space : (text : List ℕ) → ((front : List ℕ) × (rest : List ℕ) × HasNoSpace front × (text ≡ front ++ 32 ∷ rest))
     ⊎ HasNoSpace text
 first_space [] = inr tt
@@ -107,7 +107,7 @@ are_digits (c ∷ bytes) = elim (cases_lt c 48) [
   ]
 ]
 
--- digits are a moment or none
+-- bytes are a timestamp or not
 is_moment : (digits : List ℕ) → ((moment : ℕ) × IsDecimalText digits moment)
     ⊎ ((moment : ℕ) → ¬ IsDecimalText digits moment)
 is_moment digits = elim (cases_lt 0 (length digits)) [
@@ -133,7 +133,7 @@ is_moment digits = elim (cases_lt 0 (length digits)) [
   ]
 ]
 
--- a text has a moment or none
+-- a text has a timestamp or not
 has_moment : (text : List ℕ) → ((rest : List ℕ) × (moment : ℕ) × IsMomentLine text rest moment) ⊎ HasNoMoment text
 has_moment text = elim (first_space text) [
   | inr none ↦ inr (λ rest m line. no_front text line.digits rest none line.whole)

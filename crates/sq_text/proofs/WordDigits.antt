@@ -1,4 +1,4 @@
--- Digits in the lanes of a word, and the number that they spell.
+-- Digits in the lanes of a word, and their number.
 use Rattle.std.proofs.Common.{◌≡◌, ℕ, ◌+◌, ◌-◌, ◌*◌, ◌/◌, ◌%◌, ◌<◌, ◌≤◌, ◌^◌, List, [], ◌∷◌, zero, suc}
 use Rattle.std.proofs.Common.{length, get_or, map, replicate, bit_and}
 use Rattle.std.proofs.Common.{refl, ap, ap₂, ◌∙◌, arith}

@@ -4,7 +4,7 @@ use Rattle.sq_message.specs.declared.air.Altitude.{Altitude}
 use Rattle.sq_message.specs.Altitudes.{IsAltitude}
 use Rattle.sq_message.specs.Parts.{air_parts}
 
--- a function that reads the altitude of every airborne position: there is one, and no two differ
+-- a function that reads the altitude of every airborne position: there is one, and any two agree
 pub record AltitudeReader : Type 0 where
   pub read : AirFields → Altitude
   pub reads : (fields : AirFields) → let parts = air_parts fields in

@@ -1,4 +1,4 @@
--- The faults of a line and their texts.
+-- The errors of a line and their texts.
 use Rattle.std.specs.Prelude.{ℕ, List, ◌++◌, codes, decimal}
 use Rattle.sq_message.specs.declared.squitter.FrameFault.{FrameFault}
 use Rattle.sq_message.specs.declared.squitter.FrameFault.TheVariants as of_frames
@@ -10,19 +10,19 @@ use Rattle.sq_text.specs.declared.faults.LineFault.TheVariants.{LongLine, Moment
 use Rattle.sq_text.specs.declared.faults.LineFault.TheVariants.{Parity, MomentBack, Full}
 use Rattle.sq_digits.specs.Digits.{hexadecimal}
 
--- a text's fault, as a line's
+-- a text error, as a line error
 abbrev pub of_text : TextFault → LineFault
 of_text of_texts.Wrap = Wrap
 of_text of_texts.Short = Short
 of_text (of_texts.Length n) = Length n
 of_text (of_texts.Digit place) = Digit place
 
--- a frame's fault, as a line's
+-- a frame error, as a line error
 abbrev pub of_frame : FrameFault → LineFault
 of_frame (of_frames.NotDf17 format) = NotDf17 format
 of_frame (of_frames.Parity remainder) = Parity remainder
 
--- the text of a fault, up to its number
+-- the text of an error before its number
 abbrev pub fault_label : LineFault → List ℕ
 fault_label LongLine = codes "long line"
 fault_label Moment = codes "bad moment"
@@ -35,7 +35,7 @@ fault_label (Parity remainder) = frame_fault_label (of_frames.Parity remainder)
 fault_label (MomentBack last) = codes "moment back "
 fault_label Full = codes "table full"
 
--- the text of a fault
+-- the text of an error
 abbrev pub fault_text : LineFault → List ℕ
 fault_text (Length n) = fault_label (Length n) ++ decimal n
 fault_text (Digit place) = fault_label (Digit place) ++ decimal place

@@ -1,5 +1,5 @@
--- Frame text: 28 hexadecimal digits of either case, bare or between `*` and `;`, and the first thing
--- that is wrong with any other text.
+-- Frame text: 28 hexadecimal digits of either case, bare or between `*` and `;`, and the first error of any other
+-- text.
 use Rattle.std.specs.Prelude.{◌≡◌, ◌≢◌, ℕ, ◌+◌, ◌*◌, ◌<◌, ◌⊎◌, List, [], ◌∷◌, ◌++◌, length, take, slice_index, false}
 use Rattle.std.specs.Prelude.{Result, Ok, MatchResult}
 use Rattle.std.specs.List.{AllPass}
@@ -17,11 +17,11 @@ Begins text = (rest : List ℕ) × (text ≡ star ∷ rest)
 abbrev pub Ends : List ℕ → Type 0
 Ends text = (front : List ℕ) × (text ≡ front ++ semicolon ∷ [])
 
--- the body: what stands between `*` and `;`, or the bare text
+-- the body: the text between `*` and `;`, or the bare text
 abbrev pub IsBody : List ℕ → List ℕ → Type 0
 IsBody text body = (text ≡ star ∷ (body ++ semicolon ∷ [])) ⊎ ((¬ (Begins text)) × (¬ (Ends text)) × (text ≡ body))
 
--- one of the two without the other
+-- the text has one of `*` and `;` without the other
 abbrev pub IsHalfWrapped : List ℕ → Type 0
 IsHalfWrapped text = (Begins text × ¬ (Ends text)) ⊎ (Ends text × ¬ (Begins text))
 
@@ -29,16 +29,16 @@ IsHalfWrapped text = (Begins text × ¬ (Ends text)) ⊎ (Ends text × ¬ (Begin
 abbrev pub IsFrameText : List ℕ → Frame → Type 0
 IsFrameText text frame = (body : List ℕ) × IsBody text body × (length body ≡ 28) × (decode_of body ≡ Ok frame.0)
 
--- the two digits from place 2 * k on spell this byte
+-- the two digits from index 2 * k on encode this byte
 abbrev pub SpellsByte : List ℕ → ℕ → ℕ → Type 0
 SpellsByte body k value = pair_value (slice_index body (2 * k)) (slice_index body (2 * k + 1)) (2 * k) ≡ Ok value
 
--- byte k is the first that is no hexadecimal digit
+-- byte k, counted from 0, is the first that is not a hexadecimal digit
 abbrev pub IsFirstBadDigit : List ℕ → ℕ → Type 0
 IsFirstBadDigit body k = (k < length body) × (is_hex_digit (slice_index body k) ≡ false)
     × AllPass is_hex_digit (take k body)
 
--- the first thing that is wrong with a text
+-- the first error of a text
 abbrev pub IsTextFault : List ℕ → TextFault → Type 0
 IsTextFault text Wrap = IsHalfWrapped text
 IsTextFault text Short = (body : List ℕ) × IsBody text body × (length body ≡ 14)
@@ -46,6 +46,6 @@ IsTextFault text (Length n) = (body : List ℕ) × IsBody text body × (length b
 IsTextFault text (Digit p) =
     (body : List ℕ) × IsBody text body × (length body ≡ 28) × ((k : ℕ) × (p ≡ k + 1) × IsFirstBadDigit body k)
 
--- what `read_text` answers
+-- the result of `read_text`
 abbrev pub IsFrameReading : List ℕ → Result Frame TextFault → Type 0
 IsFrameReading text answer = MatchResult answer (IsFrameText text) (IsTextFault text)

@@ -13,7 +13,7 @@ abbrev pub IsFractionText : Fraction → List ℕ → Type 0
 IsFractionText x text = (lowest : Fraction) × IsLowestFormOf x lowest
     × (text ≡ signed_decimal lowest.num ++ codes "/" ++ decimal lowest.den)
 
--- two texts with a space between and a line feed at the end
+-- two texts with a space between them and a line feed at the end
 abbrev pub pair_line : List ℕ → List ℕ → List ℕ
 pair_line a b = a ++ codes " " ++ b ++ codes "\n"
 

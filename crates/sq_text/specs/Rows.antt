@@ -3,13 +3,13 @@ use Rattle.std.specs.Prelude.{ℕ, ◌+◌, ◌++◌, List, [], ◌∷◌, codes
 use Rattle.sq_text.specs.declared.rows.Form.{Form}
 use Rattle.sq_text.specs.declared.rows.Form.TheVariants.{Csv, Json}
 
--- a value: nothing, a number as it is written, or a word without commas, quotes and backslashes
+-- a value: empty, the digits of a number, or a word without commas, quotes and backslashes
 pub data Cell : Type 0 where
   Blank : Cell
   Number : (digits : List ℕ) → Cell
   Word : (letters : List ℕ) → Cell
 
--- the text for no value
+-- the text of an empty value
 abbrev pub no_value : Form → List ℕ
 no_value Csv = []
 no_value Json = codes "null"
@@ -30,7 +30,7 @@ abbrev pub between : Form → List ℕ → List ℕ
 between Csv name = codes ","
 between Json name = codes ",\"" ++ name ++ codes "\":"
 
--- a value that follows others, with its name
+-- the text of a value that follows others, with its name
 unfoldable pub cell : Form → List ℕ → Cell → List ℕ
 cell form name value = between form name ++ value_text form value
 
@@ -39,7 +39,7 @@ abbrev pub row_start : Form → List ℕ
 row_start Csv = []
 row_start Json = codes "{\"line\":"
 
--- the number of a line, which begins its row
+-- the start of a row with the number of its line
 unfoldable pub line_number : Form → ℕ → List ℕ
 line_number form number = row_start form ++ decimal number
 
@@ -48,11 +48,12 @@ abbrev pub row_end : Form → List ℕ
 row_end Csv = codes "\n"
 row_end Json = codes "}\n"
 
--- ---- how wide values are
+-- ---- the widths of values
 
--- A width is the most bytes of a value beside its name: quotes, commas and colons count, its digits or letters too.
+-- A width is the greatest number of bytes of a value beside its name. Quotes, commas and colons count, and so do its
+-- digits or letters.
 
--- no value
+-- an empty value
 abbrev pub blank_width : ℕ
 blank_width = 8
 
@@ -68,11 +69,11 @@ signed_width = 15
 abbrev pub degrees_width : ℕ
 degrees_width = 16
 
--- a word of at most so many letters
+-- a word of at most `letters` letters
 abbrev pub word_width : ℕ → ℕ
 word_width letters = letters + 6
 
--- the text of a fault
+-- the text of an error
 abbrev pub fault_width : ℕ
 fault_width = word_width 32
 

@@ -1,4 +1,4 @@
--- What is shown of a squitter: its fields, one a line.
+-- The text of a squitter: its fields, one for each line.
 use Rattle.std.specs.Prelude.{◌≡◌, ℕ, ◌++◌, ◌/◌, ◌^◌, List, codes, decimal}
 use Rattle.std.specs.Fmt.{signed_decimal}
 use Rattle.sq_zones.specs.declared.parity.Parity.{Parity}
@@ -36,7 +36,7 @@ abbrev pub place_lines : Parity → CodeNumbers → List ℕ
 place_lines parity code = line (codes "parity") (parity_name parity) ++ number_line (codes "lat") code.lat
     ++ number_line (codes "lon") code.lon
 
--- an airborne position of this altitude
+-- the lines of an airborne position with this altitude
 abbrev pub airborne_lines : Airborne → Altitude → List ℕ
 airborne_lines airborne altitude =
     let fields = air_parts airborne.fields in
@@ -59,7 +59,7 @@ other_lines other =
     number_line (codes "type") (raw_of other / 2 ^ 51) ++ line (codes "kind") (codes "other")
     ++ line (codes "me") (hexadecimal 14 (raw_of other))
 
--- the text is that of the airborne position with the altitude that its field means
+-- the text of an airborne position with the altitude that its field means
 abbrev pub IsShownAirborne : Airborne → List ℕ → Type 0
 IsShownAirborne airborne text =
     let fields = air_parts airborne.fields in
@@ -72,7 +72,7 @@ IsShownMe (kinds.Airborne airborne) text = IsShownAirborne airborne text
 IsShownMe (kinds.Surface surface) text = text ≡ surface_lines surface
 IsShownMe (kinds.Other other) text = text ≡ other_lines other
 
--- the address and the capability of a squitter
+-- the lines of the address and the capability of a squitter
 abbrev pub head_lines : SquitterParts → List ℕ
 head_lines parts = line (codes "address") (hexadecimal 6 parts.address) ++ number_line (codes "ca") parts.ca
 

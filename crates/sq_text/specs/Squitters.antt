@@ -18,13 +18,13 @@ kind_name (kinds.Airborne airborne) = codes "air"
 kind_name (kinds.Surface surface) = codes "ground"
 kind_name (kinds.Other other) = codes "other"
 
--- an altitude in feet, where it is one in feet
+-- an altitude in feet, or empty if it is missing or raw
 abbrev pub feet_cell : Altitude → Cell
 feet_cell Missing = Blank
 feet_cell (Feet feet) = Number (signed_decimal feet)
 feet_cell (Raw field) = Blank
 
--- the altitude of a message in feet, where it has one
+-- the altitude of a message in feet, or empty if the message has none
 abbrev pub feet_of : AltitudeReader → Me → Cell
 feet_of altitudes (kinds.Airborne airborne) = feet_cell (altitudes.read airborne.fields)
 feet_of altitudes (kinds.Surface surface) = Blank

@@ -17,13 +17,13 @@ code_words code = decimal code.lat ++ codes " " ++ decimal code.lon
 abbrev pub place_words : List ℕ → Parity → CodeNumbers → List ℕ
 place_words kind parity code = (kind ++ parity_name parity ++ codes " ") ++ code_words code
 
--- the kind of a message, and what it says in short
+-- the kind of a message, followed by the parity and code of a position or by the type code of another message
 abbrev pub me_words : Me → List ℕ
 me_words (kinds.Airborne airborne) = place_words (codes " air ") airborne.parity (numbers_of airborne.code)
 me_words (kinds.Surface surface) = place_words (codes " ground ") surface.parity (numbers_of surface.code)
 me_words (kinds.Other other) = codes " other " ++ decimal (raw_of other / 2 ^ 51)
 
--- the address, and the message in short
+-- `ok`, the address, and the message in short
 abbrev pub summary : Squitter → List ℕ
 summary squitter = let parts = squitter_parts squitter in codes "ok " ++ hexadecimal 6 parts.address
     ++ me_words parts.me

@@ -8,13 +8,13 @@ use sq_digits::{TextBuffer, push_decimal, push_six_places};
 use sq_message::FrameFault;
 use thiserror::Error;
 
-/// The first fault of a line, or of a frame argument.
+/// The first error of a line or of a frame argument.
 #[derive(Clone, Copy, Debug, PartialEq, Eq, Error)]
 pub enum LineFault {
-    /// More than 64 bytes stand before the line feed or the end of input.
+    /// There are more than 64 bytes before the line feed or the end of input.
     #[error("{text}", text = self.label())]
     LongLine,
-    /// There is no space, or the text before the first one is no timestamp.
+    /// There is no space, or the text before the first space is not a timestamp.
     #[error("{text}", text = self.label())]
     Moment,
     /// The text has one of `*` and `;` without the other.
@@ -26,16 +26,16 @@ pub enum LineFault {
     /// The body has this many bytes, neither 28 nor 14.
     #[error("{label}{0}", label = self.label())]
     Length(usize),
-    /// This byte of the body, counted from 1, is the first that is no hexadecimal digit.
+    /// This byte of the body, counted from 1, is the first that is not a hexadecimal digit.
     #[error("{label}{0}", label = self.label())]
     Digit(usize),
-    /// The downlink format is not 17 but this.
+    /// The downlink format is this number and not 17.
     #[error("{label}{0}", label = self.label())]
     NotDf17(u8),
-    /// The remainder is not 0 but this.
+    /// The CRC remainder is this number and not 0.
     #[error("{label}{0:06X}", label = self.label())]
     Parity(u32),
-    /// The moment lies before this one, the last that was accepted.
+    /// The timestamp is before this one (ms), the last that was accepted.
     #[error("{label}{0}", label = self.label())]
     MomentBack(u64),
     /// The table of addresses is full.
@@ -44,7 +44,7 @@ pub enum LineFault {
 }
 
 impl LineFault {
-    /// Its text up to its number, at most 12 bytes.
+    /// Returns the text of the error before its number, at most 12 bytes.
     pub fn label(self) -> &'static str
         ensures value { result.now ≡ fault_label self }
         ensures short { length result.now ≤ 12 }
@@ -88,7 +88,7 @@ impl From<FrameFault> for LineFault {
     }
 }
 
-/// Appends the text of a fault, at most 32 bytes.
+/// Appends the text of an error, at most 32 bytes.
 pub fn push_fault<const N: usize>(text: &mut TextBuffer<N>, fault: LineFault)
     requires { text_len text.old + 32 ≤ N }
     ensures bytes { text.new.bytes ≡ text.old.bytes ++ fault_text fault }

@@ -9,7 +9,7 @@ use sq_bits::Frame;
 use sq_digits::decode_28;
 use thiserror::Error;
 
-/// Why a text is no frame text: the first of these that applies.
+/// Why a text is not a frame text: the first of these that applies.
 #[derive(Clone, Copy, Debug, PartialEq, Eq, Error)]
 #[error("{fault}", fault = LineFault::from(*self))]
 pub enum TextFault {
@@ -19,12 +19,12 @@ pub enum TextFault {
     Short,
     /// The body has this many bytes, neither 28 nor 14.
     Length(usize),
-    /// This byte of the body, counted from 1, is the first that is no hexadecimal digit.
+    /// This byte of the body, counted from 1, is the first that is not a hexadecimal digit.
     Digit(usize),
 }
 
-/// Reads a frame text: 28 hexadecimal digits of either case, bare or between `*` and `;`. The text without these two is
-/// its body. Allocates nothing.
+/// Reads a frame text: 28 hexadecimal digits of either case, bare or between `*` and `;`. The text without these two
+/// is its body. Does not allocate.
 ///
 /// Errors, in this order: `Wrap`, `Short`, `Length`, `Digit`.
 pub fn read_text(text: &[u8]) -> Result<Frame, TextFault>
@@ -43,7 +43,7 @@ pub fn read_text(text: &[u8]) -> Result<Frame, TextFault>
     }
 }
 
-// The frame of a frame text, in the common case that nothing is wrong with it.
+// Parses a frame text in the common case that it is valid. `None` proves nothing about the text.
 #[inline(always)]
 pub(crate) fn frame_of_text(text: &[u8]) -> Option<Frame>
     ensures { IfSome result (IsFrameText text.now) }
@@ -66,7 +66,7 @@ fn body_of_28(text: &[u8]) -> Option<&[u8]>
     if body.len() == 28 { Some(body) } else { None }
 }
 
-// The frame of 28 digits, or the place of the first byte that is no digit.
+// Parses 28 digits as a frame, or returns the index of the first byte that is not a digit.
 fn read_digits(body: &[u8]) -> Result<Frame, usize>
     requires { length body.now ≡ 28 }
     ensures { MatchResult result (λ frame. decode_of body.now ≡ Ok frame.0) (IsFirstBadDigit body.now) }
@@ -77,7 +77,7 @@ fn read_digits(body: &[u8]) -> Result<Frame, usize>
     }
 }
 
-// The frame of 28 digits, where all of them are digits: the common case, in lanes.
+// Parses 28 digits as a frame in lanes, in the common case that all of them are digits.
 #[inline(always)]
 fn frame_of_digits(body: &[u8]) -> Option<Frame>
     requires { length body.now ≡ 28 }
@@ -86,7 +86,7 @@ fn frame_of_digits(body: &[u8]) -> Option<Frame>
     Some(Frame(decode_28(body)?))
 }
 
-// The frame of 28 digits by the crate for such digits, which finds the first bad one.
+// Parses 28 digits as a frame with the crate `hex`, which finds the first byte that is not a digit.
 fn decode(body: &[u8]) -> Result<Frame, usize>
     requires { length body.now ≡ 28 }
     ensures { MatchResult result (λ frame. decode_of body.now ≡ Ok frame.0) (IsFirstBadDigit body.now) }

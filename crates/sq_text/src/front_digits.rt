@@ -17,7 +17,7 @@ const WORD_RANGE: u64 = 100_000_000;
 // The low four bits of each byte: the value of an ASCII digit.
 const DIGIT_BITS: u64 = 0x0F0F_0F0F_0F0F_0F0F;
 
-// The low byte of each two.
+// The low byte of each pair.
 const PAIR_BITS: u64 = 0x00FF_00FF_00FF_00FF;
 
 // The low two bytes of each four.
@@ -33,7 +33,7 @@ const FOUR_FACTOR: u64 = 1 + (100 << 16);
 // Adds 10,000 times the low four bytes to the high four.
 const EIGHT_FACTOR: u64 = 1 + (10_000 << 32);
 
-// Returns the number that the first `count` bytes spell: 1 to 16 digits.
+// Returns the number in the first `count` bytes, 1 to 16 digits.
 #[inline(always)]
 pub(crate) fn front_number(text: &[u8], count: usize) -> u64
     requires some { 1 ≤ count }
@@ -49,8 +49,8 @@ pub(crate) fn front_number(text: &[u8], count: usize) -> u64
     few_digits(text, first) * WORD_RANGE + few_digits(&text[first..], WORD)
 }
 
-// Returns the number that the first `count` bytes spell: 1 to 8 digits. The shift drops the bytes after them and puts
-// zeros before them, so eight digits are joined whatever the count.
+// Returns the number in the first `count` bytes, 1 to 8 digits. The shift drops the bytes after them and puts zeros
+// before them, so eight digits are joined for any count.
 #[inline(always)]
 fn few_digits(text: &[u8], count: usize) -> u64
     requires some { 1 ≤ count }
@@ -64,8 +64,8 @@ fn few_digits(text: &[u8], count: usize) -> u64
     eight_digits(word << (8 * (WORD - count)) & DIGIT_BITS)
 }
 
-// Returns the number that eight values of digits spell, the first in the lowest byte. Each step joins neighbours in
-// lanes of twice the width. Three products do the work of eight, and no step reads the bits that they drop.
+// Returns the number of eight digit values, the first in the lowest byte. Each step joins neighbours in lanes of
+// twice the width. Three products do the work of eight, and no step reads the bits that they drop.
 #[inline(always)]
 fn eight_digits(word: u64) -> u64
     ensures { (values : List ℕ) → length values ≡ 8 → AllBelowBase 10 values → word ≡ from_le_bytes w64 values

@@ -1,8 +1,8 @@
-//! The texts of the program: frames read from text, squitters and places shown, rows, and the faults of lines and of
+//! The texts of the program: parsing frames, showing squitters and places, rows, and the errors of lines and of
 //! places.
 //!
-//! A frame text is 28 hexadecimal digits of either case, bare or between `*` and `;`. Any other text is reported by its
-//! first fault. Texts are made in buffers of fixed size: no call takes memory.
+//! A frame text is 28 hexadecimal digits of either case, bare or between `*` and `;`. For any other text the first
+//! error is returned. Texts are made in buffers of fixed size: no call allocates.
 //!
 //! Rows are records of CSV (RFC 4180) and objects of JSON (RFC 8259), each on a line. A row begins with the number of
 //! its line ([`push_line`]). Values follow by name, and [`push_end`] ends it.

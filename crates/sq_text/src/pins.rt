@@ -17,12 +17,12 @@ ghost use Rattle.sq_message.specs.declared.received.Received.{Received};
 
 use crate::{LineFault, TextFault};
 
-/// A text has one answer of `read_text`.
+/// A text has at most one result of `read_text`.
 pub fn one_answer()
     ensures { (text : List ℕ) (r s : Result Frame TextFault) → IsFrameReading text r → IsFrameReading text s → r ≡ s }
 {}
 
-/// A text has one reading as a squitter.
+/// A text has at most one reading as a squitter.
 pub fn one_squitter_reading()
     ensures { (text : List ℕ) (r s : Result Squitter LineFault)
         → IsSquitterReading text r → IsSquitterReading text s → r ≡ s }
@@ -33,35 +33,35 @@ pub fn some_reader()
     ensures { SquitterReader }
 {}
 
-/// A text has one reading as a squitter with its moment.
+/// A text has at most one reading as a squitter with its timestamp.
 pub fn one_timed_reading()
     ensures { (text : List ℕ) (r s : Result Received LineFault)
         → IsTimedReading text r → IsTimedReading text s → r ≡ s }
 {}
 
-/// There is a function that reads every text as a squitter with its moment.
+/// There is a function that reads every text as a squitter with its timestamp.
 pub fn some_timed_reader()
     ensures { TimedReader }
 {}
 
-/// A squitter is shown as one text.
+/// A squitter is shown as at most one text.
 pub fn one_text()
     ensures { (squitter : Squitter) (a b : List ℕ) → IsShown squitter a → IsShown squitter b → a ≡ b }
 {}
 
-/// A position has one text of two lines.
+/// A position has at most one text of two lines.
 pub fn one_place_text()
     ensures { (position : Position) (a b : List ℕ) → IsPlaceText position a → IsPlaceText position b → a ≡ b }
 {}
 
-/// Compares two faults of frame texts by `==`, which is true exactly if they are the same.
+/// Compares two errors of frame texts by `==`, which is true exactly if they are the same.
 pub fn equal_text_faults(fault: &TextFault, other: &TextFault) -> bool
     ensures { IsTrue result ↔ (fault.now ≡ other.now) }
 {
     fault == other
 }
 
-/// Compares two faults of lines by `==`, which is true exactly if they are the same.
+/// Compares two errors of lines by `==`, which is true exactly if they are the same.
 pub fn equal_line_faults(line_fault: &LineFault, other: &LineFault) -> bool
     ensures { IsTrue result ↔ (line_fault.now ≡ other.now) }
 {
@@ -73,7 +73,7 @@ pub fn some_altitude_reader()
     ensures { AltitudeReader }
 {}
 
-/// No two functions that read the altitudes of airborne positions differ.
+/// Any two functions that read the altitudes of airborne positions agree.
 pub fn one_altitude_reading()
     ensures { (a b : AltitudeReader) (fields : AirFields) → a.read fields ≡ b.read fields }
 {}

@@ -12,7 +12,8 @@ use sq_digits::{TextBuffer, push_decimal, push_signed_decimal};
 /// The text of a position: two lines.
 pub type PlaceText = TextBuffer<160>;
 
-/// The position in two lines: latitude and longitude with seven decimals, and then both in lowest terms, as `num/den`.
+/// Returns the position in two lines: latitude and longitude with seven decimals, and then both in lowest terms, as
+/// `num/den`.
 pub fn place_text(position: &Position) -> PlaceText
     ensures { IsPlaceText position.now result.bytes }
 {

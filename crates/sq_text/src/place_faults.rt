@@ -1,4 +1,4 @@
-//! Why squitters are decoded to no place.
+//! The texts of place errors.
 ghost use Rattle.std.specs.Prelude.{◌≡◌, ◌+◌, ◌≤◌, ◌++◌, decimal};
 ghost use Rattle.sq_digits.specs.Buffer.{text_len};
 ghost use Rattle.sq_message.specs.Faults.{place_fault_text};
@@ -7,7 +7,7 @@ use itoa::Buffer;
 use sq_digits::TextBuffer;
 use sq_message::PlaceFault;
 
-/// Appends the text of a place's fault, of at most 32 bytes.
+/// Appends the text of a place error, at most 32 bytes.
 pub fn push_place_fault<const N: usize>(text: &mut TextBuffer<N>, fault: PlaceFault)
     requires { text_len text.old + 32 ≤ N }
     ensures bytes { text.new.bytes ≡ text.old.bytes ++ place_fault_text fault }

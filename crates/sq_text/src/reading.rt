@@ -1,17 +1,18 @@
-//! The squitter of a text.
+//! Parsing a text as a squitter.
 ghost use Rattle.sq_text.specs.Reading.{IsSquitterReading};
 
 use crate::faults::LineFault;
 use crate::frame_text::{frame_of_text, read_text};
 use sq_message::{Squitter, read_frame};
 
-/// The squitter that a frame text spells, or the first fault: of the text, and then of its frame. It takes no memory.
+/// Parses a frame text as a squitter. Returns the first error of the text, or of its frame if the text is valid. Does
+/// not allocate.
 #[inline(always)]
 pub fn read_squitter(text: &[u8]) -> Result<Squitter, LineFault>
     ensures { IsSquitterReading text.now result }
 {
     let Some(frame) = frame_of_text(text) else {
-        // Taken apart, so that the answer of the common case is no place in memory that the call writes.
+        // The result is taken apart, so that the call does not write to the memory of the common case's result.
         return match read_any(text) {
             Ok(squitter) => Ok(squitter),
             Err(fault) => Err(fault),
@@ -21,7 +22,8 @@ pub fn read_squitter(text: &[u8]) -> Result<Squitter, LineFault>
     Ok(squitter)
 }
 
-// The squitter of any text: slower, and apart from the common case, which keeps its frame in registers.
+// Parses any text as a squitter. This is slower and kept out of line, so that the common case keeps its frame in
+// registers.
 #[cold]
 #[inline(never)]
 fn read_any(text: &[u8]) -> Result<Squitter, LineFault>

@@ -43,7 +43,7 @@ fn row_start(form: Form) -> &'static str
     }
 }
 
-/// Appends no value, with at most 8 bytes beside its name: nothing in CSV, `null` in JSON.
+/// Appends an empty value, with at most 8 bytes beside its name: nothing in CSV, `null` in JSON.
 #[tactic(auto, unfolding(crate::specs::Rows::cell))]
 #[inline(always)]
 pub fn push_blank<const N: usize>(text: &mut TextBuffer<N>, form: Form, name: &str)
@@ -121,7 +121,7 @@ pub fn push_word<const N: usize>(text: &mut TextBuffer<N>, form: Form, name: &st
     text.push_str(quote(form));
 }
 
-/// Appends the lowest so many places of a number, at most 16, as a word of upper-case hexadecimal digits.
+/// Appends the lowest `places` hexadecimal digits of a number, at most 16, as a word in upper case.
 #[tactic(auto, unfolding(crate::specs::Rows::cell))]
 #[inline(always)]
 pub fn push_hexadecimal_word<const N: usize>(
@@ -141,7 +141,7 @@ pub fn push_hexadecimal_word<const N: usize>(
     text.push_str(quote(form));
 }
 
-/// Appends an address as a word of six upper-case hexadecimal digits, its lowest places.
+/// Appends the lowest six hexadecimal digits of an address as a word in upper case.
 #[tactic(auto, unfolding(crate::specs::Rows::cell))]
 #[inline(always)]
 pub fn push_address<const N: usize>(text: &mut TextBuffer<N>, form: Form, name: &str, address: u32)

@@ -12,12 +12,12 @@ use sq_cpr::{Code, Parity};
 use sq_digits::{TextBuffer, push_decimal, push_hexadecimal};
 use sq_message::{Airborne, Altitude, Me, Other, Squitter, Surface, altitude};
 
-/// The text of a squitter: one line a field.
+/// The text of a squitter: one line for each field.
 pub type ShowText = TextBuffer<320>;
 
-/// The fields of a squitter, one a line: its address, capability and type code, its kind, and then the fields of the
-/// kind. The address and the bits of a message of kind other are upper-case hexadecimal digits, other numbers are
-/// decimal.
+/// Returns the fields of a squitter, one for each line: its address, capability and type code, its kind, and then the
+/// fields of the kind. The address, a raw altitude and the bits of a message of kind other are upper-case hexadecimal
+/// digits. Other numbers are decimal.
 pub fn show_text(squitter: &Squitter) -> ShowText
     ensures { IsShown squitter.now result.bytes }
 {

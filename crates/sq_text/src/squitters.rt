@@ -14,7 +14,7 @@ use sq_angle::Angle;
 use sq_digits::TextBuffer;
 use sq_message::{Airborne, Altitude, Me, altitude};
 
-/// The kind of a message: `air`, `ground` or `other`.
+/// Returns the kind of a message: `air`, `ground` or `other`.
 #[inline(always)]
 pub fn kind_name(me: &Me) -> &'static str
     ensures text { result.now ≡ kind_name me.now }
@@ -27,8 +27,8 @@ pub fn kind_name(me: &Me) -> &'static str
     }
 }
 
-/// Appends the altitude of a message in feet as `feet`, at most 19 bytes: no value, where it has none in steps of 25
-/// feet.
+/// Appends the altitude of a message in feet as `feet`, at most 19 bytes. The value is empty if the message has no
+/// altitude in steps of 25 feet.
 #[inline(always)]
 pub fn push_feet<const N: usize>(text: &mut TextBuffer<N>, form: Form, me: &Me)
     requires { text_len text.old + length (codes "feet") + signed_width ≤ N }
@@ -42,8 +42,8 @@ pub fn push_feet<const N: usize>(text: &mut TextBuffer<N>, form: Form, me: &Me)
     }
 }
 
-/// Appends the altitude of an airborne position in feet as `feet`, at most 19 bytes: no value, where it has none in
-/// steps of 25 feet (ICAO Doc 9871, register 0,5).
+/// Appends the altitude of an airborne position in feet as `feet`, at most 19 bytes. The value is empty if the
+/// position has no altitude in steps of 25 feet (ICAO Doc 9871, register 0,5).
 #[inline(always)]
 pub fn push_airborne_feet<const N: usize>(text: &mut TextBuffer<N>, form: Form, airborne: &Airborne)
     requires { text_len text.old + length (codes "feet") + signed_width ≤ N }
@@ -80,7 +80,7 @@ pub fn push_degrees<const N: usize>(text: &mut TextBuffer<N>, form: Form, name: 
     push_decimals(text, angle);
 }
 
-/// Appends why a line is refused, as a word, with at most 38 bytes beside its name.
+/// Appends the text of a line's error as a word, with at most 38 bytes beside its name.
 #[tactic(auto, unfolding(crate::specs::Rows::cell))]
 pub fn push_fault_word<const N: usize>(
     text: &mut TextBuffer<N>,

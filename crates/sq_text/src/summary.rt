@@ -11,8 +11,8 @@ use sq_cpr::{Code, Parity};
 use sq_digits::{TextBuffer, push_decimal, push_short, push_six_places};
 use sq_message::{Me, Squitter};
 
-/// Appends what `check` says of a good frame, at most 72 bytes: `ok`, the address, and for a position its kind, parity
-/// and code, for another message `other` and the type code.
+/// Appends the result of `check` for a valid frame, at most 72 bytes: `ok` and the address. The kind, parity and code
+/// follow for a position, and `other` and the type code for another message.
 #[inline(always)]
 pub fn push_summary<const N: usize>(text: &mut TextBuffer<N>, squitter: &Squitter)
     requires { text_len text.old + 72 ≤ N }
@@ -55,7 +55,7 @@ const AIR_WORDS: [[u8; 16]; 2] = [*b" air even       ", *b" air odd        "];
 // The kind and the parity of a surface position.
 const GROUND_WORDS: [[u8; 16]; 2] = [*b" ground even    ", *b" ground odd     "];
 
-// The row of an airborne position, and how many of its characters are the words.
+// Returns the row of an airborne position, and how many of its characters are the words.
 #[inline(always)]
 fn air_words(parity: Parity) -> (&'static [u8; 16], usize)
     ensures ascii { IsAscii result.0.now }
@@ -66,7 +66,7 @@ fn air_words(parity: Parity) -> (&'static [u8; 16], usize)
     (&AIR_WORDS[odd], 10 - odd)
 }
 
-// The row of a surface position, and how many of its characters are the words.
+// Returns the row of a surface position, and how many of its characters are the words.
 #[inline(always)]
 fn ground_words(parity: Parity) -> (&'static [u8; 16], usize)
     ensures ascii { IsAscii result.0.now }

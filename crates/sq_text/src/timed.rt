@@ -1,4 +1,4 @@
-//! Squitters with their moments.
+//! Squitters with their timestamps.
 ghost use Rattle.std.specs.Prelude.{◌≡◌, ◌≤◌, ◌↔◌, ◌^◌, ◌<◌, ℕ, List, IsTrue, IfSome, IfNone, length, slice_index, take};
 ghost use Rattle.std.specs.Char.{IsAsciiDigit};
 ghost use Rattle.std.specs.List.{AllByRecursion};
@@ -11,7 +11,7 @@ use crate::reading::read_squitter;
 use sq_digits::{DIGIT_LANES, count_digits};
 use sq_message::Received;
 
-// The most digits of a number below 2^64.
+// The greatest number of digits of a number below 2^64.
 const DIGITS: usize = 20;
 
 /// Reads a timestamp of 1 to 20 decimal digits, below 2^64, one space, and a frame text.
@@ -31,7 +31,7 @@ pub fn read_timed(text: &[u8]) -> Result<Received, LineFault>
     }
 }
 
-// The moment at the front of the text, and what follows the space after it.
+// Returns the timestamp at the front of the text, and the text behind the space that follows it.
 #[inline(always)]
 fn split_moment(text: &[u8]) -> Option<(u64, &[u8])>
     ensures some { IfSome result (λ parts. IsMomentLine text.now parts.1.now parts.0) }
@@ -47,8 +47,8 @@ fn split_moment(text: &[u8]) -> Option<(u64, &[u8])>
     split_longest(text)
 }
 
-// Returns the number that the digits at the front of a text spell, up to 19 of them, and their count. Lanes count the
-// digits among the first 16 bytes, and words join them; `more_digits` reads all others.
+// Returns the number in the digits at the front of a text, up to 19 of them, and their count. Lanes count the digits
+// among the first 16 bytes, and words join them; `more_digits` reads all others.
 #[inline(always)]
 fn leading_number(text: &[u8]) -> (u64, usize)
     ensures within { result.1 ≤ length text.now }
@@ -71,9 +71,9 @@ fn leading_number(text: &[u8]) -> (u64, usize)
     more_digits(text, number, count)
 }
 
-// Returns the number that the digits at the front of a text spell, up to 19 of them, and their count. The first `start`
-// digits spell `number`, and one turn reads each other byte: for texts below 16 bytes, and moments of 16 digits and
-// more.
+// Returns the number in the digits at the front of a text, up to 19 of them, and their count. The first `start`
+// digits have the value `number`, and the loop reads the others byte by byte. It is used for texts below 16 bytes and
+// for timestamps of 16 digits and more.
 #[cold]
 #[inline(never)]
 fn more_digits(text: &[u8], number: u64, start: usize) -> (u64, usize)
@@ -98,7 +98,8 @@ fn more_digits(text: &[u8], number: u64, start: usize) -> (u64, usize)
     (number, most)
 }
 
-// Splits a text that begins with nineteen digits and has no space after these: only a moment of twenty digits is left.
+// Splits a text that begins with nineteen digits and has no space after these: only a timestamp of twenty digits is
+// left.
 #[cold]
 #[inline(never)]
 fn split_longest(text: &[u8]) -> Option<(u64, &[u8])>
@@ -116,8 +117,8 @@ fn split_longest(text: &[u8]) -> Option<(u64, &[u8])>
     }
 }
 
-/// Returns the number that 1 to 20 decimal digits spell: a moment, or an option of the program. `None` for any other
-/// text and for numbers from 2^64 on.
+/// Parses 1 to 20 decimal digits: a timestamp, or an option of the program. Returns `None` for any other text and for
+/// numbers from 2^64 on.
 pub fn read_decimal(digits: &[u8]) -> Option<u64>
     ensures some { IfSome result (IsDecimalText digits.now) }
     ensures none { IfNone result ((number : ℕ) → ¬ IsDecimalText digits.now number) }
@@ -136,14 +137,14 @@ pub fn read_decimal(digits: &[u8]) -> Option<u64>
     Some(value as u64)
 }
 
-// Whether each byte is an ASCII digit.
+// Returns whether each byte is an ASCII digit.
 fn are_digits(bytes: &[u8]) -> bool
     ensures { IsTrue result ↔ AllByRecursion IsAsciiDigit bytes.now }
 {
     bytes.iter().all(|byte| byte.is_ascii_digit())
 }
 
-// The number that at most nineteen digits write.
+// Returns the number of at most nineteen digits.
 fn value_of(digits: &[u8]) -> u64
     requires digits { AllByRecursion IsAsciiDigit digits.now }
     requires short { length digits.now < 20 }

@@ -9,7 +9,7 @@ use Rattle.sq_message.proofs.feet.field_of_feet.Goals.{In_ok-steps}
 not_some : (o : Option ℕ) → o ≡ None → IsSome o → ⊥
 not_some o none some = absurd (cc (sym none, some))
 
--- the field that the code makes means these feet
+-- the field that the code returns means these feet
 means : (c : In_ok-steps) → IsFieldOfFeet (c.in_ok-steps.steps / 16 * 32 + 16 + c.in_ok-steps.steps % 16) c.args.feet
 means c =
     let steps = c.in_ok-steps.steps in

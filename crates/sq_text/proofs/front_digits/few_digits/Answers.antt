@@ -5,7 +5,7 @@ use Rattle.std.specs.Int.Digits.{number_from_digits}
 use Rattle.sq_text.proofs.LeadingDigits.{values, values_long, values_number, values_small, values_word}
 use Rattle.sq_text.proofs.front_digits.few_digits.Goals as goal
 
--- the digits, and how many bytes stand before them in the word
+-- the digits, and the number of bytes before them in the word
 abbrev digits_of : goal.After-eight_digits → List ℕ
 digits_of c = take c.args.count c.args.text.now
 

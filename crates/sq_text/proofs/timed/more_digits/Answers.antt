@@ -7,7 +7,7 @@ use Rattle.sq_text.proofs.LeadingDigits.{value_small}
 use Rattle.sq_text.proofs.Moments.{digits_more, fits_more, pow_ten}
 use Rattle.sq_text.proofs.timed.more_digits.Goals as goal
 
--- the byte that a turn reads is a digit
+-- the byte that an iteration reads is a digit
 is_digit : (c : goal.After-from) → IsAsciiDigit (get_or c.args.text.now c.loop-count.count 0)
 is_digit c = search rules
 

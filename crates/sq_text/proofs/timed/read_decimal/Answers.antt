@@ -8,7 +8,7 @@ use Rattle.std.proofs.lemmas.Str.{digit_value_digit}
 use Rattle.sq_text.proofs.Moments.{digit_at}
 use Rattle.sq_text.proofs.timed.read_decimal.Goals as goal
 
--- the number of digits is ten times that of all but the last, and the last
+-- the number of digits is ten times that of all but the last, plus the last
 with_last : (ds : List ℕ) → 1 ≤ length ds → AllByRecursion IsAsciiDigit ds
     → 10 * digits_value 10 (take (length ds - 1) ds) + (get_or ds (length ds - 1) 0 - 48) ≡ digits_value 10 ds
 with_last ds some each =
