@@ -1,4 +1,4 @@
--- Gets and puts, one after the other, whatever a device reports of its bytes.
+-- Gets and puts, one after the other, also of a device that does not report its bytes.
 use Rattle.std.specs.Prelude.{◌≡◌, ℕ, List, [], ◌∷◌}
 use Rattle.std.specs.List.{concat}
 use Rattle.std.specs.Io.KnownBytes.{Appends}

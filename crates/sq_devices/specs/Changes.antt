@@ -1,4 +1,4 @@
--- What calls did to a device: what a source or a sink shows of it, as it was and as it is.
+-- What calls did to a device: the values that a source or a sink reports before and after them.
 use Rattle.std.specs.Prelude.{◌≡◌, ◌⊎◌, ◌+◌, ◌++◌, ◌<◌, ◌≤◌, ℕ, Bool, List, [], ◌∷◌, Option, Some, IfSome, length, true}
 use Rattle.std.specs.List.{All, concat}
 use Rattle.std.specs.Io.KnownBytes.{Appends, Consumes, IsAtEnd}
@@ -16,7 +16,7 @@ pub record Written : Type 1 where
   -- how often it was finished, before and now
   pub finishes_before : ℕ
   pub finishes : ℕ
-  -- whether the text was put, and then the sink was finished, and nothing else done with it
+  -- whether the only calls were puts of this text, and then a finish
   pub sent : List ℕ → Type 0
 
 abbrev pub written_on : {K : Type 0} → SinkGhosts K → (old new : K) → Written
@@ -61,17 +61,17 @@ FailedWithin w text = (w.failed ≡ true) × WroteFront w.before w.after text ×
 abbrev pub WroteOrFailed : Written → List ℕ → Type 0
 WroteOrFailed w text = WroteLast w text ⊎ FailedWithin w text
 
--- what was read of a source
+-- what was read from a source
 pub record Taken : Type 1 where
   pub before : Option (List ℕ)
   pub after : Option (List ℕ)
   -- whether the source has failed, before and now
   pub failed_before : Bool
   pub failed : Bool
-  -- how many more gets it answers, before and now
+  -- the number of gets that can still succeed, before and now
   pub gets_before : ℕ
   pub gets : ℕ
-  -- whether gets of these pieces, one after the other, are all that was done with it
+  -- whether the only calls were gets of these pieces, one after the other
   pub gave : List (List ℕ) → Type 0
 
 abbrev pub taken_from : {S : Type 0} → SourceGhosts S → (old new : S) → Taken
@@ -85,7 +85,7 @@ taken_from s old new = record {
   gave = Calls s.Gave old new;
 }
 
--- nothing was read, nor asked for
+-- no get was made
 abbrev pub TookNothing : Taken → Type 0
 TookNothing t = (t.after ≡ t.before) × (t.failed ≡ t.failed_before) × (t.gets ≡ t.gets_before)
 
@@ -93,26 +93,26 @@ TookNothing t = (t.after ≡ t.before) × (t.failed ≡ t.failed_before) × (t.g
 abbrev pub GotAtMost : Taken → ℕ → Type 0
 GotAtMost t n = t.gets_before ≤ t.gets + n
 
--- gets answered these pieces, none of them empty, and then one answered an empty one
+-- gets returned these pieces, none of them empty, and then one returned no bytes
 abbrev pub GotUpToEnd : Taken → List (List ℕ) → Type 0
 GotUpToEnd t pieces = t.gave (pieces ++ [] ∷ []) × All (λ piece. 0 < length piece) pieces
     × (t.gets_before ≡ t.gets + (length pieces + 1))
 
--- the pieces that gets answered are the bytes up to the end of the input, and this holds of them: also where the source
--- reports no bytes
+-- gets returned all bytes up to the end of the input, and they have this property, also if the source does not report
+-- its bytes
 abbrev pub TookAll : Taken → (List ℕ → Type 0) → Type 0
 TookAll t Of = (pieces : List (List ℕ)) × GotUpToEnd t pieces × Consumes t.before t.after (concat pieces)
     × IsAtEnd t.after × Of (concat pieces)
 
--- bytes were taken, by at most one get a byte and one more, and this holds of them
+-- bytes with this property were taken, by at most one get for each byte and one more
 abbrev pub TookSome : Taken → (List ℕ → Type 0) → Type 0
 TookSome t Of = (bytes : List ℕ) × Consumes t.before t.after bytes × GotAtMost t (length bytes + 1) × Of bytes
 
--- bytes were taken, by at most one get a byte, and this holds of them, and then a get failed
+-- bytes with this property were taken, by at most one get for each byte, and then a get failed
 abbrev pub TookPart : Taken → (List ℕ → Type 0) → Type 0
 TookPart t Of = (t.failed ≡ true)
     × ((bytes : List ℕ) × ConsumesOrHides t.before t.after bytes × GotAtMost t (length bytes) × Of bytes)
 
--- where the source reports its bytes, all of them were taken, and this holds of them
+-- if the source reports its bytes, all of them were taken, and they have this property
 abbrev pub TookReported : Taken → (List ℕ → Type 0) → Type 0
 TookReported t Of = IfSome t.before (λ bytes. (t.after ≡ Some []) × Of bytes)

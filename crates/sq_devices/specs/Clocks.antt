@@ -1,18 +1,18 @@
--- What a clock told.
+-- The readings of a clock.
 use Rattle.std.specs.Prelude.{◌≡◌, ℕ, Bool, List, [], ◌∷◌, false}
 use Rattle.std.specs.List.{All}
 use Rattle.sq_devices.specs.declared.device.Clock.{Ghosts as ClockGhosts}
 
--- readings, one after the other, told these times and led from the one clock to the other
+-- readings, one after the other, returned these times and led from the first clock to the second
 abbrev pub Tells : {C : Type 0} → (C → ℕ → C → Type 0) → (old new : C) → List ℕ → Type 0
 Tells Told old new [] = new ≡ old
 Tells {C} Told old new (moment ∷ moments) = (next : C) × Told old moment next × Tells Told next new moments
 
--- what was read of a clock
+-- the readings of a clock during a run
 pub record Times : Type 1 where
   -- whether the input is received while it is read
   pub is_live : Bool
-  -- whether readings of these times, one after the other, are all that was done with the clock
+  -- whether the only calls were readings of these times, one after the other
   pub told : List ℕ → Type 0
 
 abbrev pub times_of : {C : Type 0} → ClockGhosts C → (old new : C) → Times

@@ -1,10 +1,14 @@
--- What a call that failed does to the bytes of a device, which may not report them. `None` stands for bytes that are
--- not reported.
-use Rattle.std.specs.Prelude.{◌≡◌, ◌++◌, ◌^◌, ℕ, List, ⊤, Option, None, Some}
+-- The bytes of a device before and after a call. `None` means that the device does not report its bytes.
+use Rattle.std.specs.Prelude.{◌≡◌, ◌+◌, ◌++◌, ◌^◌, ℕ, List, ⊤, Option, None, Some, Result, Ok, Err}
 
 -- the most gets of a source that return data
 abbrev pub most_gets : ℕ
 most_gets = 10 ^ 12
+
+-- a get that returned bytes, or the end of the input, used up one of the gets left; one that failed used up none
+abbrev pub UsesGet : {Value Error : Type 0} → Result Value Error → (old new : ℕ) → Type 0
+UsesGet (Ok value) old new = new + 1 ≡ old
+UsesGet (Err error) old new = new ≡ old
 
 -- the device's bytes are as before, or it does not report them
 abbrev pub KeepsOrHides : Option (List ℕ) → Option (List ℕ) → Type 0

@@ -11,7 +11,7 @@ use std::{fs, time};
 pub struct ConsoleClock<'a, T> {
     system: &'a T,
     live: bool,
-    // When the clock was made: milliseconds since 1970, and the time of the monotonic clock.
+    // When the clock was created: milliseconds since 1970, and the time of the monotonic clock.
     start: u64,
     begun: Duration,
     latest: u64,
@@ -50,7 +50,7 @@ impl<T: time::Clock> Clock for ConsoleClock<'_, T> {
         self.live
     }
 
-    // A clock that cannot be read tells the latest time again.
+    // If the system's clock cannot be read, the latest time is returned again.
     fn now(&mut self) -> u64 {
         if let Ok(now) = self.system.monotonic() {
             let since = millis(now.saturating_sub(self.begun));
@@ -64,7 +64,7 @@ fn millis(time: Duration) -> u64 {
     u64::try_from(time.as_millis()).unwrap_or(u64::MAX)
 }
 
-/// Returns whether the standard input is received while it is read: it is no regular file.
+/// Returns whether the standard input is received while it is read, because it is not a regular file.
 pub fn is_input_live<T: Files>(files: &T) -> bool {
     match fs::metadata(files, "/dev/stdin") {
         Ok(input) => !input.is_file(),

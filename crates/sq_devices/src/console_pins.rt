@@ -12,8 +12,8 @@ use crate::start::Trouble;
 use std::io::{Read, Write};
 use std::time;
 
-/// One get of the input takes just what it answers from the front of what is to come, where that is reported, and uses
-/// up one get.
+/// One get of the input takes the returned bytes from the front of the bytes to come, if these are reported. It uses up
+/// one get.
 pub fn one_get<R: Read, W: Write + Drop>()
     ensures { (old new : PromptInput R W W.Write) (bytes : List ℕ) → IsGiven R.remaining old bytes new
         ↔ (Consumes (to_come_of R.remaining old) (to_come_of R.remaining new) bytes × (gets_of new < gets_of old)
@@ -28,7 +28,7 @@ pub fn one_put<W: Write + Drop>()
         ↔ ((finishes_of old < finishes_of new) × (finishes_of new ≤ finishes_of old + 1)) }
 {}
 
-/// One reading of the clock tells its latest time, and whether the input is live stays.
+/// One reading of the clock returns its latest time. It does not change whether the input is live.
 pub fn one_time<T: time::Clock>()
     ensures { (old new : ConsoleClock T) (moment : ℕ) → IsTold old moment new
         ↔ ((latest_of new ≡ moment) × (is_live new ≡ is_live old)) }

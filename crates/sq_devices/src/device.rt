@@ -2,7 +2,7 @@
 ghost use Rattle.std.specs.Prelude.{◌≡◌, ◌+◌, ◌<◌, ◌≤◌, ℕ, Bool, List, true, length, take, Option};
 ghost use Rattle.std.specs.Prelude.{IfOk, OnOk, OnErr};
 ghost use Rattle.std.specs.Io.KnownBytes.{Appends, Consumes, IsAtEnd, Keeps};
-ghost use Rattle.sq_devices.specs.Device.{KeepsOrHides, most_gets};
+ghost use Rattle.sq_devices.specs.Device.{KeepsOrHides, UsesGet, most_gets};
 
 use thiserror::Error;
 
@@ -37,11 +37,10 @@ pub trait Source {
         ensures gave { IfOk result (λ n. Gave self.old (take n into.new) self.new) }
         ensures moved { IfOk result (λ n. Consumes (to_come self.old) (to_come self.new) (take n into.new)) }
         ensures end { IfOk result (λ n. n ≡ 0 → 0 < length into.new → IsAtEnd (to_come self.new)) }
-        ensures used { OnOk result (gets_left self.new + 1 ≡ gets_left self.old) }
         ensures unmarked { OnOk result (has_failed self.new ≡ has_failed self.old) }
         ensures failed { OnErr result (has_failed self.new ≡ true) }
         ensures kept { OnErr result (KeepsOrHides (to_come self.old) (to_come self.new)) }
-        ensures unused { OnErr result (gets_left self.new ≡ gets_left self.old) };
+        ensures used { UsesGet result (gets_left self.old) (gets_left self.new) };
 
     ghost few_gets: { (s : Self) → gets_left s ≤ most_gets };
 }

@@ -5,21 +5,22 @@ ghost use Rattle.sq_devices.specs.Clocks.{Tells, times_of};
 
 use crate::{Clock, Sink, Source};
 
-/// No gets at all leave a source as it was, and gets of two pieces are one of each, the second of what the first left.
+/// No gets leave a source unchanged. Gets of two pieces are a get of the first and then a get of the second.
 pub fn gets_in_turn<S: Source>()
     ensures none { (old new : S) → Calls S.Gave old new [] ↔ (new ≡ old) }
     ensures two { (old new : S) (x y : List ℕ) → Calls S.Gave old new (x ∷ y ∷ [])
         ↔ ((between : S) × S.Gave old x between × S.Gave between y new) }
 {}
 
-/// Puts one after the other: none leaves the sink as it was, and more are the first and then the others.
+/// No puts leave a sink unchanged. Puts of two pieces are a put of the first and then a put of the second.
 pub fn puts_in_turn<K: Sink>()
     ensures none { (old new : K) → Calls K.Took old new [] ↔ (new ≡ old) }
     ensures two { (old new : K) (x y : List ℕ) → Calls K.Took old new (x ∷ y ∷ [])
         ↔ ((between : K) × K.Took old x between × K.Took between y new) }
 {}
 
-/// Readings of a clock: no reading leaves the clock unchanged, and several are the first and then the others.
+/// No readings leave a clock unchanged. Two readings are a first one and then a second one. The record of a clock has
+/// these readings, and whether the input is live.
 pub fn told_in_turn<C: Clock>()
     ensures none { (old new : C) → Tells C.Told old new [] ↔ (new ≡ old) }
     ensures two { (old new : C) (x y : ℕ) → Tells C.Told old new (x ∷ y ∷ [])

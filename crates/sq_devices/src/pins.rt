@@ -1,6 +1,7 @@
 //! Guards of the definitions: each has one value, some value or an exact condition, so none can be weakened unnoticed.
 //! A function with an empty body does nothing: its contract is the statement.
 ghost use Rattle.std.specs.Prelude.{◌≡◌, ◌↔◌, ◌⊎◌, ◌+◌, ◌++◌, ◌<◌, ◌≤◌, ◌∷◌, [], List, ℕ, Some, length, take, true};
+ghost use Rattle.std.specs.Prelude.{Ok, Err};
 ghost use Rattle.std.specs.List.{All, concat};
 ghost use Rattle.std.specs.Io.KnownBytes.{Appends, Consumes, IsAtEnd, Keeps};
 ghost use Rattle.sq_devices.specs.Calls.{Calls, HasPut, HasSent};
@@ -9,7 +10,8 @@ ghost use Rattle.sq_devices.specs.Changes.{WroteNothing};
 ghost use Rattle.sq_devices.specs.Changes.{GotAtMost, GotUpToEnd, TookAll, TookNothing, TookPart, TookReported};
 ghost use Rattle.sq_devices.specs.Changes.{TookSome};
 ghost use Rattle.sq_devices.specs.Changes.{WroteOrFailed, taken_from, written_on};
-ghost use Rattle.sq_devices.specs.Device.{AppendsOrHides, ConsumesOrHides, IsPrefixOf, KeepsOrHides, WroteFront};
+ghost use Rattle.sq_devices.specs.Device.{AppendsOrHides, ConsumesOrHides, IsPrefixOf, KeepsOrHides, UsesGet};
+ghost use Rattle.sq_devices.specs.Device.{WroteFront};
 ghost use Rattle.sq_devices.specs.Clocks.{recorded, times_of};
 ghost use Rattle.sq_devices.specs.declared.readers.Reading.{Reading};
 ghost use Rattle.sq_devices.specs.declared.writers.Writing.{Writing};
@@ -86,6 +88,12 @@ pub fn reported_bytes()
     ensures consumed { (old new bytes : List ℕ) → ConsumesOrHides (Some old) (Some new) bytes ↔ (old ≡ bytes ++ new) }
     ensures wrote { (old new text : List ℕ) → WroteFront (Some old) (Some new) text
         ↔ ((count : ℕ) × (new ≡ old ++ take count text)) }
+{}
+
+/// A get that succeeds uses up one of the gets left, and a failed one uses up none.
+pub fn gets_are_used_up()
+    ensures succeeded { (count old new : ℕ) → UsesGet {Error = ℕ} (Ok count) old new ↔ (new + 1 ≡ old) }
+    ensures failed { (error old new : ℕ) → UsesGet {Value = ℕ} (Err error) old new ↔ (new ≡ old) }
 {}
 
 /// One get of a source over a reader takes the returned bytes from the front of the reader, if that reports its bytes.

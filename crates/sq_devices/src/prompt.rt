@@ -2,7 +2,7 @@
 ghost use Rattle.std.specs.Prelude.{◌≡◌, ◌<◌, ◌≤◌, IfOk, IfSome, OnErr, OnOk, None, false, length, take, true};
 ghost use Rattle.std.specs.Io.Buffered.{reader_buffer, reader_remaining};
 ghost use Rattle.std.specs.Io.KnownBytes.{Consumes, IsAtEnd};
-ghost use Rattle.sq_devices.specs.Device.{KeepsOrHides, most_gets};
+ghost use Rattle.sq_devices.specs.Device.{KeepsOrHides, UsesGet, most_gets};
 
 use crate::{Failed, Sink, Source};
 use std::alloc::{AllocError, Global};
@@ -11,24 +11,23 @@ use std::io;
 use std::io::{BufRead, BufReader, BufWriter, Read, Write};
 use std::simd::prelude::*;
 
-// How many bytes one read may bring.
+// The most bytes of one read.
 const INPUT_BYTES: usize = 65536;
 
-// The size of the output buffer. It holds more than the answers to the input of one read, so that a file goes through
-// with one write for each read.
+// The size of the output buffer. The answers to the input of one read fit, so a file takes one write for each read.
 const OUTPUT_BYTES: usize = 2 * INPUT_BYTES;
 
-// How many bytes of output stand before the writer's buffer at most.
+// The size of the array in front of the writer's buffer.
 const FRONT_BYTES: usize = 4096;
 
-// A piece of so many bytes is moved at once.
+// The number of bytes that are moved at once.
 const PIECE: usize = 64;
 
-// So many bytes are moved at once at each end of a text of 32 to 64 bytes.
+// Half of a piece: a text of 32 to 64 bytes is copied by its first half and its last half, which may overlap.
 const HALF: usize = 32;
 
-// A writer with a buffer, and whether a flush of it has failed. Texts are first held in an array, where a short one
-// costs a few moves, and go on to the writer many at a time.
+// A buffered writer, and whether a flush has failed. Texts are collected in an array, because copying a short text into
+// it takes a few moves. The writer gets many texts at a time.
 struct Buffered<W: Write + Drop> {
     front: [u8; FRONT_BYTES],
     held: usize,
@@ -38,8 +37,8 @@ struct Buffered<W: Write + Drop> {
 }
 
 impl<W: Write + Drop> Buffered<W> {
-    // Takes the first bytes of a text, and says how many; None where the writer fails, or takes none of a text that has
-    // bytes.
+    // Takes the first bytes of a text, and returns how many. Returns `None` if the writer fails, or takes nothing of a
+    // text that is not empty.
     #[inline(always)]
     fn take(&mut self, text: &[u8]) -> Option<usize>
         ensures fits { IfSome result (λ count. count ≤ length text.now) }
@@ -54,7 +53,7 @@ impl<W: Write + Drop> Buffered<W> {
         Some(text.len())
     }
 
-    // Takes the first bytes of a text for which the array has no room.
+    // Does the same for a text that does not fit into the array.
     #[cold]
     #[inline(never)]
     fn take_far(&mut self, text: &[u8]) -> Option<usize>
@@ -70,7 +69,7 @@ impl<W: Write + Drop> Buffered<W> {
         }
     }
 
-    // Hands the array's bytes to the writer. Its buffer is longer, so it takes all of them, or none if it fails.
+    // Moves the bytes of the array to the writer. The writer's buffer is longer, so it takes all of them or fails.
     fn send_front(&mut self) -> bool {
         match self.writer.write(&self.front[..self.held]) {
             Ok(count) if count == self.held => {
@@ -81,7 +80,7 @@ impl<W: Write + Drop> Buffered<W> {
         }
     }
 
-    // Writes all that is held.
+    // Writes the array and the writer's buffer.
     fn flush(&mut self) -> bool {
         self.send_front() && self.writer.flush().is_ok()
     }
@@ -99,7 +98,7 @@ impl<W: Write + Drop> Drop for Buffered<W> {
     }
 }
 
-// Copies a text: one of 32 to 64 bytes, as nearly each row is, by its first and its last 32.
+// Copies a text. Nearly every row has 32 to 64 bytes, and is copied in two moves.
 #[inline(always)]
 fn copy_text(into: &mut [u8], text: &[u8])
     requires { length into.old ≡ length text.now }
@@ -115,7 +114,7 @@ fn copy_text(into: &mut [u8], text: &[u8])
     last.copy_to_slice(&mut into[len - HALF..]);
 }
 
-// Moves a piece of the reader's buffer.
+// Moves a piece out of the reader's buffer.
 #[inline(always)]
 fn move_piece<R: Read>(reader: &mut BufReader<R>, into: &mut [u8])
     requires room { length into.old ≡ 64 }
@@ -137,7 +136,7 @@ pub struct SharedOutput<W: Write + Drop> {
 }
 
 impl<W: Write + Drop> SharedOutput<W> {
-    /// An empty buffer over the writer. `Err` comes where an allocation fails.
+    /// Creates an empty buffer over the writer. Returns `Err` if an allocation fails.
     pub fn new(alloc: Global, writer: W) -> Result<Self, AllocError> {
         let Ok(writer) = BufWriter::with_capacity(alloc, OUTPUT_BYTES, writer) else {
             return Err(AllocError);
@@ -163,8 +162,7 @@ impl<W: Write + Drop> SharedOutput<W> {
     }
 }
 
-/// A source over a buffered reader. Before it reads more into an empty buffer, it flushes the
-/// output.
+/// A source over a buffered reader. If its buffer is empty, it flushes the output before it reads.
 #[derive(Drop)]
 pub struct PromptInput<'a, R, W: Write + Drop> {
     reader: BufReader<R>,
@@ -203,7 +201,7 @@ impl<'a, R: Read + Drop, W: Write + Drop> PromptInput<'a, R, W> {
 impl<R: Read, W: Write + Drop> PromptInput<'_, R, W> {
     ghost use Rattle.sq_devices.specs.Prompt.{IsGiven, to_come_of};
 
-    // Reads past the buffer, and flushes the output before it waits.
+    // Reads from the buffer, or from the reader if the buffer is empty. Flushes the output before it waits.
     #[cold]
     #[inline(never)]
     fn get_far(&mut self, into: &mut [u8]) -> Result<usize, Failed>
@@ -214,7 +212,7 @@ impl<R: Read, W: Write + Drop> PromptInput<'_, R, W> {
         ensures failed { OnErr result (self.new.failed ≡ true) }
         ensures kept { OnErr result (KeepsOrHides (to_come_of R.remaining self.old)
             (to_come_of R.remaining self.new)) }
-        ensures unused { OnErr result (self.new.gets ≡ self.old.gets) }
+        ensures used { UsesGet result self.old.gets self.new.gets }
     {
         if self.reader.buffer().is_empty() {
             self.output.flush();
@@ -250,7 +248,7 @@ impl<R: Read, W: Write + Drop> Source for PromptInput<'_, R, W> {
     ghost few_gets = { λ s. s.few };
 
     fn get(&mut self, into: &mut [u8]) -> Result<usize, Failed> {
-        // A piece of the buffer, as nearly each get asks for, is moved with no call.
+        // Nearly every get asks for a piece that is in the buffer. It is moved without a call.
         if self.gets > 0 && into.len() == PIECE && self.reader.buffer().len() >= PIECE {
             move_piece(&mut self.reader, into);
             self.gets -= 1;
@@ -269,10 +267,10 @@ pub struct PromptOutput<'a, W: Write + Drop> {
 }
 
 impl<'a, W: Write + Drop> PromptOutput<'a, W> {
-    /// A sink, not failed.
+    /// Returns a sink that has not failed.
     ///
-    /// A put fails where the writer does, where it takes none of a text that has bytes, or where a
-    /// flush has failed before. `finish` flushes, and fails likewise.
+    /// A put fails if the writer fails, if it takes nothing of a text that is not empty, or if a flush has failed
+    /// before. `finish` flushes, and fails if that fails, if a flush has failed before, or after 2^64 - 1 finishes.
     pub fn new(output: &'a SharedOutput<W>) -> Self
         ensures unfailed { ⟦<PromptOutput<'a, W> as Sink>⟧.has_failed result ≡ false }
         ensures finishes { ⟦<PromptOutput<'a, W> as Sink>⟧.finishes result ≡ 0 }

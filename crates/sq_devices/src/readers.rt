@@ -34,7 +34,7 @@ impl<R: Read> Reading<R> {
         }
     }
 
-    /// The reader, at the place that the gets left it.
+    /// Returns the reader. The next read returns the bytes after those of the gets.
     pub fn into_inner(self) -> R
         ensures { result ≡ reader_of self }
     {

@@ -6,7 +6,7 @@ use std::env;
 use std::env::Env;
 use std::io::ErrorKind;
 
-/// Why the program cannot begin.
+/// Why the program cannot start.
 #[derive(Clone, Copy, Debug, PartialEq, Eq)]
 pub enum Trouble {
     /// A word of the command line is not UTF-8.
@@ -25,7 +25,8 @@ impl From<AllocError> for Trouble {
     }
 }
 
-/// The words of the command line, the program's name first.
+/// Returns the words of the command line. The first is the program's name. Errors: `Words` if a word is not UTF-8,
+/// `Memory` if an allocation failed.
 pub fn arguments<T: Env + Alloc>(rt: &T) -> Result<Vec<String<T::A>, T::A>, Trouble> {
     match env::args(rt) {
         Ok(words) => Ok(words.collect(rt.alloc())?),
