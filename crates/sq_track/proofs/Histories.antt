@@ -1,4 +1,4 @@
--- What is heard by a history: that there is an answer and one alone, whose entries it looks at, and where it is true.
+-- Results by a history: there is exactly one, which entries it depends on, and when it is true.
 pub mod ByKept
 pub mod Contacts
 pub mod Entries

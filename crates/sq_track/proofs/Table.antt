@@ -1,4 +1,4 @@
--- What a tracker holds, call by call, against its history.
+-- The state of a tracker, call by call, against its history.
 pub mod ContactLemmas
 pub mod EntryLemmas
 pub mod KeepLemmas

@@ -1,4 +1,4 @@
--- Places, slow and tame worlds, and what is heard in them.
+-- Places, slow and tame worlds, and the results in them.
 pub mod ByPairs
 pub mod Encoded
 pub mod Followed

@@ -1,4 +1,4 @@
--- Laws that say what worlds and what is said of them are, and no less and no more.
+-- Laws that say exactly what the definitions about worlds and results mean.
 use Rattle.std.specs.Prelude.{◌≡◌, ◌≢◌, ◌↔◌, [], ◌∷◌, ℕ, ℤ, pos, neg_ℤ, ◌*ℤ◌, IsTrue, Contains, Option, Some, None, Ok}
 use Rattle.std.specs.Prelude.{Err}
 use Rattle.sq_angle.specs.Angle.{degrees}
@@ -12,11 +12,13 @@ use Rattle.sq_cpr.specs.Close.{AreTamePoints}
 use Rattle.sq_cpr.specs.Slow.{AreSlow, AreSlowForFollowing, AreWithin, IsPointWithin}
 use Rattle.sq_message.specs.declared.place.Place.{Place}
 use Rattle.sq_message.specs.declared.place.Place.TheVariants.{Air, Ground}
+use Rattle.sq_message.specs.declared.other.Other.{Other}
 use Rattle.sq_message.specs.declared.squitter.Me.{Me}
+use Rattle.sq_message.specs.declared.squitter.Me.TheVariants as kinds
 use Rattle.sq_message.specs.declared.squitter.Squitter.{Squitter}
 use Rattle.sq_cpr.specs.declared.code.Code.{Code}
 use Rattle.sq_message.specs.Kinds.{Kind, HeadParts, InAir, OnGround, me_of}
-use Rattle.sq_message.specs.Parts.{squitter_parts}
+use Rattle.sq_message.specs.Parts.{Airborne, Surface, squitter_parts}
 use Rattle.sq_message.specs.Places.{IsPosition, IsPositionOf}
 use Rattle.sq_zones.specs.declared.parity.Parity.{Parity}
 use Rattle.sq_zones.specs.declared.parity.Parity.TheVariants.{Even, Odd}
@@ -36,10 +38,10 @@ use Rattle.sq_track.specs.Worlds.{Arrival, World, IsEncodedFrom, IsTruePlace, Is
 use Rattle.sq_track.specs.Worlds.{ArisesFrom, received_of}
 use Rattle.sq_track.specs.Tame.{AreTamePlaces, AreSlowPlaces, AreNearPlaces, AreSlowToFollow, ArePairTogether, IsTame}
 use Rattle.sq_track.specs.Tame.{AreTogether, IsSlow, IsSlowForFollowing, IsTameForFollowing, IsNearSite}
-use Rattle.sq_track.specs.Tame.{IsPositionNearSite}
+use Rattle.sq_track.specs.Tame.{IsPositionNearSite, IsSenderNearSite}
 use Rattle.sq_track.specs.Standing.{AreOnePlace, IsStanding}
 
--- any squitter may arrive at any moment, from each position that its code was encoded from
+-- any squitter may arrive at any timestamp, from each position that its code was encoded from
 abbrev pub SomeArrival : Type 0
 SomeArrival =
     (moment : ℕ) (squitter : Squitter) (position : Position) → IsEncodedFrom (squitter_parts squitter).me position
@@ -49,10 +51,16 @@ SomeArrival =
 abbrev pub OtherIsEncoded : Type 0
 OtherIsEncoded = (me : Me) (position : Position) → ¬ IsPosition me → IsEncodedFrom me position
 
--- slow, tame and near places of one kind are these and no more, and what lies near a site
+-- the exact conditions for slow, tame and near places of one kind, and for positions near a site
 pub record PlacesExactly : Type 0 where
   pub near_no_site : (x : Position) → IsPositionNearSite None x
   pub near_a_site : (site x : Position) → IsPositionNearSite (Some site) x ↔ AreWithin 44 x site
+  pub sent_on_ground : (site x : Position) (surface : Surface)
+      → IsSenderNearSite (Some site) (kinds.Surface surface) x ↔ AreWithin 44 x site
+  pub sent_in_air : (site : Option Position) (x : Position) (airborne : Airborne)
+      → IsSenderNearSite site (kinds.Airborne airborne) x
+  pub sent_of_kind_other : (site : Option Position) (x : Position) (other : Other)
+      → IsSenderNearSite site (kinds.Other other) x
   pub point_near_no_site : (p : Point) → IsNearSite None p
   pub point_near_a_site : (site : Position) (p : Point) → IsNearSite (Some site) p ↔ IsPointWithin 45 ground p site
   pub near_in_air : (p q : Point) → AreNearPlaces (Air p) (Air q)
@@ -77,7 +85,7 @@ pub record PlacesExactly : Type 0 where
   pub tame_at_a_site : (site : Position) (p q : Point) → AreTamePlaces (Some site) (Ground p) (Ground q)
       ↔ (AreTamePoints ground p q × IsPointWithin 45 ground p site × IsPointWithin 45 ground q site)
 
--- two of one parity are slow wherever they come from
+-- two arrivals of one parity are slow wherever they come from
 abbrev pub OneParityIsSlow : Type 0
 OneParityIsSlow =
     (window : ℕ) (site : Option Position) (a b : Arrival)
@@ -91,14 +99,14 @@ TamePairExactly =
     → IsTruePlace a p → IsTruePlace b q
     → IsTame window site (a ∷ b ∷ []) ↔ AreTamePlaces site p q
 
--- a world is tame exactly if each two of its arrivals are
+-- a world is tame exactly if any two of its arrivals are
 abbrev pub TameByPairs : Type 0
 TameByPairs =
     (window : ℕ) (site : Option Position) (world : World)
     → IsTame window site world
     ↔ ((a b : Arrival) → Contains world a → Contains world b → IsTame window site (a ∷ b ∷ []))
 
--- a world is tame for following exactly if each two of its arrivals are
+-- a world is tame for following exactly if any two of its arrivals are
 abbrev pub TameForFollowingByPairs : Type 0
 TameForFollowingByPairs =
     (window : ℕ) (world : World)
@@ -111,7 +119,8 @@ TameForFollowingPairExactly =
     (window : ℕ) (a b : Arrival) (p q : Place) → AreTogether window a b → IsTruePlace a p → IsTruePlace b q
     → IsTameForFollowing window (a ∷ b ∷ []) ↔ AreNearPlaces p q
 
--- positions are one place exactly if they have one latitude, and one longitude after some whole turns of 360 degrees
+-- positions are one place exactly if their latitudes are equal and their longitudes differ by whole turns of 360
+-- degrees
 abbrev pub OnePlaceExactly : Type 0
 OnePlaceExactly =
     (x y : Position) → AreOnePlace x y
@@ -119,7 +128,7 @@ OnePlaceExactly =
     × ((turns : ℤ)
     × (plus (degrees (lon_of x)) (record { num = pos 360 *ℤ turns; den = 1 }) ≃ degrees (lon_of y))))
 
--- half a degree north at 180 degrees is one place in other terms, and under the other sign
+-- half a degree north at 180 degrees is one place, as other fractions and with the other sign
 abbrev pub OnePlaceAt180 : Type 0
 OnePlaceAt180 =
     (x y : Position) → degrees (lat_of x) ≡ record { num = pos 1; den = 2 }
@@ -128,14 +137,14 @@ OnePlaceAt180 =
     → degrees (lon_of y) ≡ record { num = neg_ℤ (pos 540); den = 3 }
     → AreOnePlace x y
 
--- a world stands still exactly if all that arrives of a sender comes from one place
+-- a world stands still exactly if all arrivals of a sender come from one place
 abbrev pub StandsExactly : Type 0
 StandsExactly =
     (world : World) → IsStanding world
     ↔ ((a b : Arrival) → Contains world a → Contains world b → IsTrue (are_of_one_sender a.squitter b.squitter)
     → AreOnePlace a.position b.position)
 
--- a world whose senders keep one position stands
+-- a world stands still if each sender keeps one position
 abbrev pub OnePositionStands : Type 0
 OnePositionStands =
     (world : World)
@@ -143,7 +152,7 @@ OnePositionStands =
     → a.position ≡ b.position)
     → IsStanding world
 
--- the entries of an address are those that have it, in their order
+-- the entries of an address are those with that address, in order
 pub record OfAddressExactly : Type 0 where
   pub none : (address : ℕ) → of_address address [] ≡ []
   pub own : (address : ℕ) (entry : Entry) (history : History) → (squitter_parts entry.squitter).address ≡ address
@@ -151,7 +160,7 @@ pub record OfAddressExactly : Type 0 where
   pub other : (address : ℕ) (entry : Entry) (history : History) → (squitter_parts entry.squitter).address ≢ address
       → of_address address (entry ∷ history) ≡ of_address address history
 
--- what is said of what was heard
+-- the exact meaning of a true result
 pub record SaidExactly : Type 0 where
   pub fix : (a : Arrival) (place : Place) → IsTrueFix a (Fix place) ↔ IsTruePlace a place
   pub far : (a : Arrival) → ¬ IsTrueFix a Far
@@ -161,18 +170,18 @@ pub record SaidExactly : Type 0 where
   pub heard : (a : Arrival) (heard : Heard) → IfHeard IsTrueFix a (Ok heard) ↔ IsTrueFix a heard
   pub heard_too : (a : Arrival) (heard : Heard) → IfHeard IsTruePlaceHeard a (Ok heard) ↔ IsTruePlaceHeard a heard
 
--- out of memory is a reply where the call may be accepted, and nowhere else
+-- out of memory is a possible reply exactly if the call may be accepted
 abbrev pub MemoryExactly : Type 0
 MemoryExactly =
     (settings : Settings) (history : History) (moment : ℕ) (squitter : Squitter)
     → IsReply settings history moment squitter (Err Memory) ↔ IsAcceptable settings history moment squitter
 
--- the position that a side keeps of a parity
+-- the position of this parity that a side holds
 abbrev pub kept_of : Parity → Side → Option Received
 kept_of Even side = side.even
 kept_of Odd side = side.odd
 
--- what a contact keeps of a kind
+-- the side of a contact for this kind
 abbrev pub side_of : Kind → Contact → Side
 side_of InAir contact = contact.airborne
 side_of OnGround contact = contact.surface
@@ -181,14 +190,15 @@ abbrev pub other_kind : Kind → Kind
 other_kind InAir = OnGround
 other_kind OnGround = InAir
 
--- what is heard of what a contact keeps is one
+-- a squitter has at most one result by what a contact holds
 abbrev pub OneHearing : Type 0
 OneHearing =
     (window : ℕ) (site : Option Position) (moment : ℕ) (squitter : Squitter) (before x y : Contact)
     (heard other : Heard) → IsContactHearing window site moment squitter before heard x
     → IsContactHearing window site moment squitter before other y → heard ≡ other
 
--- by each history that the contact remembered it is the answer, and afterwards the contact remembers it too
+-- the result is the one by each history that the contact remembers, and afterwards the contact remembers the history
+-- with the squitter in front
 abbrev pub HearingRemembers : Type 0
 HearingRemembers =
     (window : ℕ) (site : Option Position) (moment : ℕ) (squitter : Squitter) (before after : Contact)
@@ -198,9 +208,9 @@ HearingRemembers =
     × Remembers window (squitter_parts squitter).address
     (record { moment = moment; squitter = squitter; heard = heard } ∷ history) after
 
--- Of a position, the squitter is kept as the one of its kind and parity, the one of the other parity and all of the
--- other kind as they were, the last fix as the position of the place that was heard, or as it was where there was none,
--- and the moment.
+-- A position squitter is stored under its kind and parity, and the contact has its timestamp. The last fix becomes
+-- the position of the result's place; without a place it is unchanged. The frame of the other parity and the side of
+-- the other kind are unchanged.
 abbrev pub HearingKeeps : Type 0
 HearingKeeps =
     (window : ℕ) (site : Option Position) (moment : ℕ) (squitter : Squitter) (before after : Contact)
@@ -214,14 +224,14 @@ HearingKeeps =
     × (place_heard heard ≡ None → (side_of kind after).fix ≡ (side_of kind before).fix)
     × (side_of (other_kind kind) after ≡ side_of (other_kind kind) before) × (after.moment ≡ moment)
 
--- of a message without a position nothing is kept
+-- a message without a position changes nothing
 abbrev pub HearingKeepsNothing : Type 0
 HearingKeepsNothing =
     (window : ℕ) (site : Option Position) (moment : ℕ) (squitter : Squitter) (before after : Contact)
     (heard : Heard) → IsContactHearing window site moment squitter before heard after
     → ¬ IsPosition (squitter_parts squitter).me → after ≡ before
 
--- what is heard of one arrival of a slow world, by a tracker whose replies are true in slow worlds, is true of it
+-- the result for one arrival of a slow world is true, if the tracker's replies are true in slow worlds
 abbrev pub TrueOfOne : Type 0
 TrueOfOne =
     (tracker : Held) (world : World) (history : History) (arrival : Arrival) (heard : Heard)

@@ -1,4 +1,4 @@
--- The states that a tracker may be given back.
+-- The states that a tracker can be restored to.
 use Rattle.std.specs.Prelude.{◌≡◌, ℕ, ◌<◌, ◌++◌, ◌∷◌, List, true, nat_eq, length, None}
 use Rattle.std.specs.Map.{lookup}
 use Rattle.sq_track.specs.declared.contact.Contact.{Contact}
@@ -6,7 +6,7 @@ use Rattle.sq_track.specs.Entries.{IsOrdered}
 use Rattle.sq_track.specs.Held.{Held}
 use Rattle.sq_track.specs.Owned.{is_contact_of, is_present_at}
 
--- A tracker that holds this may also hold the address with its contact, as the last heard.
+-- A tracker in this state may also hold the address with its contact, as the last heard.
 pub record CanFollow (t : Held) (address : ℕ) (contact : Contact) : Type 0 where
   pub room : length t.contacts < t.limit
   pub absent : lookup (nat_eq address) t.contacts ≡ None
@@ -14,8 +14,7 @@ pub record CanFollow (t : Held) (address : ℕ) (contact : Contact) : Type 0 whe
   pub present : is_present_at t.window t.last contact.moment ≡ true
   pub later : IsOrdered 0 contact.moment t.contacts
 
--- Each address that the tracker holds may be held again, behind those before it: a tracker's own state is never
--- refused.
+-- Each entry of a tracker may follow the entries before it, so a tracker's own state is never refused.
 abbrev pub CanBeRestored : Held → Type 0
 CanBeRestored t = (front back : List (ℕ × Contact)) (address : ℕ) (contact : Contact)
     → t.contacts ≡ front ++ (address, contact) ∷ back

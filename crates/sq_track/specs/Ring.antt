@@ -1,4 +1,4 @@
--- Links between the indices of a table, which lead round through all of them.
+-- Links between the indices of a table, which lead through all of them and back to the first.
 use Rattle.std.specs.Prelude.{◌≡◌, ℕ, ◌+◌, ◌^◌, ◌<◌, ◌≤◌, List, [], ◌∷◌, length, map, slice_index, nat_eq, if◌then◌else◌}
 use Rattle.std.specs.Prelude.{Some, is_some, slice_get, take, true, unwrap_or}
 use Rattle.std.specs.List.{IsDistinct}
@@ -17,7 +17,7 @@ after_at ls i = slice_index (map (λ l. l.after) ls) i
 abbrev pub before_at : List Neighbours → ℕ → ℕ
 before_at ls i = slice_index (map (λ l. l.before) ls) i
 
--- from an index on, as many indices as the list is long, each the one that the link of the last leads to
+-- as many indices as the list is long: the first is `i`, and each is followed by the index that its link leads to
 abbrev pub chain : {X : Type 0} → (ℕ → ℕ) → List X → ℕ → List ℕ
 chain after [] i = []
 chain after (x ∷ xs) i = i ∷ chain after xs (after i)
@@ -38,12 +38,12 @@ abbrev pub IsPath : (ℕ → ℕ) → ℕ → List ℕ → ℕ → Type 0
 IsPath after from [] to = after from ≡ to
 IsPath after from (i ∷ is) to = (after from ≡ i) × IsPath after i is to
 
--- the links lead through the list, and from its end to its front
+-- the links lead through the list, and from its end back to its front
 abbrev pub IsRing : (ℕ → ℕ) → List ℕ → Type 0
 IsRing after [] = Unit {0}
 IsRing after (i ∷ is) = IsPath after i is i
 
--- each index below the number leads to one below it, and that leads back to it
+-- each index below `n` leads to one below `n`, and that one leads back
 pub record IsPaired (n : ℕ) (one other : ℕ → ℕ) : Type 0 where
   pub within : (k : ℕ) → k < n → one k < n
   pub back : (k : ℕ) → k < n → other (one k) ≡ k

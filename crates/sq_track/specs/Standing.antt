@@ -1,4 +1,4 @@
--- Worlds that stand still: each address stays where it is.
+-- Worlds that stand still: the position of each address does not change.
 use Rattle.std.specs.Prelude.{◌≡◌, IsTrue, Contains, ℤ, pos}
 use Rattle.sq_angle.specs.Angle.{degrees}
 use Rattle.sq_angle.specs.Fraction.{Fraction, ◌≃◌}
@@ -8,11 +8,11 @@ use Rattle.sq_cpr.specs.Close.{difference}
 use Rattle.sq_track.specs.History.{are_of_one_sender}
 use Rattle.sq_track.specs.Worlds.{Arrival, World}
 
--- x and y are one angle, after so many turns of 360 degrees
+-- x and y are one angle, after this number of turns of 360 degrees
 abbrev pub AreOneAngle : ℤ → Fraction → Fraction → Type 0
 AreOneAngle turns x y = (difference 360 x y turns).num ≡ pos 0
 
--- the positions are one place: of one latitude, and of longitudes that differ by whole turns
+-- the positions are one place: their latitudes are equal, and their longitudes differ by whole turns
 pub record AreOnePlace (x y : Position) : Type 0 where
   pub latitudes : degrees (lat_of x) ≃ degrees (lat_of y)
   pub turns : ℤ

@@ -1,4 +1,4 @@
--- Worked arrivals, in numbers: three squitters of one address, an even one and two odd ones, and what is heard of them.
+-- Worked arrivals, in numbers: three squitters of one address, one even and two odd, and their results.
 use Rattle.std.specs.Prelude.{◌≡◌, ◌∷◌, [], ℕ, pos, List, map, Option, Result}
 use Rattle.std.specs.List.{AllZip}
 use Rattle.sq_angle.specs.declared.position.Position.{Position}
@@ -30,7 +30,7 @@ IsSecond arrival = IsArrivalFrom InAir 0x40621D Odd 6000 (parts 5226578 100000) 
 abbrev pub IsThird : Arrival → Type 0
 IsThird arrival = IsArrivalFrom InAir 0x40621D Odd 9000 (parts 5227 100) (parts 3948 1000) arrival
 
--- the points to which these positions round
+-- the points that these positions round to
 abbrev pub first_point : Point
 first_point = point_at Even (pos 1141576) 36 51372
 
@@ -46,13 +46,13 @@ TruePlaces =
     (a b c : Arrival) → IsFirst a → IsSecond b → IsThird c
     → IsTruePlace a (Air first_point) × IsTruePlace b (Air second_point) × IsTruePlace c (Air third_point)
 
--- by a window of 10 s the world of the first and the second is slow, and slow for following
+-- for a window of 10 s, the world of the first and the second is slow, and slow for following
 abbrev pub TwoAreSlow : Type 0
 TwoAreSlow =
     (site : Option Position) (a b : Arrival) → IsFirst a → IsSecond b
     → IsSlow 10000 site (a ∷ b ∷ []) × IsSlowForFollowing 10000 (a ∷ b ∷ [])
 
--- a tracker that hears these two says true places alone
+-- a tracker that hears the first and the second gives only true places
 abbrev pub TwoAreTrue : Type 0
 TwoAreTrue =
     (limit : ℕ) (site : Option Position) (a b : Arrival) (replies : List (Result Heard TrackFault))
@@ -60,25 +60,25 @@ TwoAreTrue =
     → AreReplies (record { limit = limit; window = 10000; site = site }) [] (map received_of (a ∷ b ∷ [])) replies
     → AllZip (IfHeard IsTruePlaceHeard) (a ∷ b ∷ []) replies
 
--- after the first, the second is heard as the fix of its own point
+-- after the first, the second gives the fix of its own point
 abbrev pub SecondIsFixed : Type 0
 SecondIsFixed =
     (site : Option Position) (a b : Arrival) → IsFirst a → IsSecond b
     → IsHeard 10000 site (as_waiting a ∷ []) 6000 b.squitter (Fix (Air second_point))
 
--- the second is fixed where another address, 484175, was heard between the two
+-- the second gives its fix also if another address, 484175, was heard in between
 abbrev pub SecondIsFixedAmongOthers : Type 0
 SecondIsFixedAmongOthers =
     (site : Option Position) (a b : Arrival) (other : Entry) → (squitter_parts other.squitter).address ≡ 0x484175
     → IsFirst a → IsSecond b
     → IsHeard 10000 site (other ∷ as_waiting a ∷ []) 6000 b.squitter (Fix (Air second_point))
 
--- after that fix, the third is heard as followed to its own point
+-- after that fix, the third is followed to its own point
 abbrev pub ThirdIsFollowed : Type 0
 ThirdIsFollowed =
     (site : Option Position) (b c : Arrival) → IsSecond b → IsThird c
     → IsHeard 10000 site (as_fix b (Air second_point) ∷ []) 9000 c.squitter (Followed (Air third_point))
 
--- there are such arrivals
+-- such arrivals exist
 abbrev pub SomeWorked : Type 0
 SomeWorked = (a b c : Arrival) × IsFirst a × IsSecond b × IsThird c

@@ -8,14 +8,14 @@ use Rattle.sq_message.specs.Parts.{squitter_parts}
 use Rattle.sq_message.specs.Places.{IsAt}
 use Rattle.sq_track.specs.Worlds.{Arrival}
 
--- so many parts of a degree north or east, and west
+-- a fraction of a degree, `n` / `of`: north or east, and west
 abbrev pub parts : ℕ → ℕ → Fraction
 parts n of = record { num = pos n; den = of }
 
 abbrev pub west : ℕ → ℕ → Fraction
 west n of = record { num = neg_ℤ (pos n); den = of }
 
--- a position squitter of this kind, address and grid arrives at this moment from this position
+-- a position squitter of this kind, address and grid arrives at this timestamp from this position
 pub record IsArrivalFrom (kind : Kind) (sender : ℕ) (grid : Parity) (time : ℕ) (north east : Fraction)
     (arrival : Arrival) : Type 0 where
   pub moment : arrival.moment ≡ time

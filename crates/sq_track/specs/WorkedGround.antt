@@ -1,5 +1,5 @@
--- Worked arrivals on the ground, in numbers: four squitters of one address on the other side of 180 degrees than their
--- site, two even ones and two odd ones, and what is heard of them.
+-- Worked arrivals on the ground, in numbers: two even and two odd squitters of one address, on the other side of 180
+-- degrees from their site, and their results.
 use Rattle.std.specs.Prelude.{◌≡◌, ◌∷◌, [], ℕ, pos, List, map, Option, Some, None, Result}
 use Rattle.std.specs.List.{AllZip}
 use Rattle.sq_angle.specs.declared.position.Position.{Position}
@@ -41,7 +41,7 @@ IsFourth arrival = IsArrivalFrom OnGround 0x484175 Even 12000 (parts 523194 1000
 abbrev pub IsSite : Position → Type 0
 IsSite site = IsAt (parts 51990 1000) (parts 179375 1000) site
 
--- the points to which these positions round
+-- the points that these positions round to
 abbrev pub first_point : Point
 first_point = point_at Even (pos 4572057) 36 9685197
 
@@ -61,14 +61,14 @@ TruePlaces =
     → IsTruePlace a (Ground first_point) × IsTruePlace b (Ground second_point) × IsTruePlace c (Ground third_point)
     × IsTruePlace d (Ground fourth_point)
 
--- by a window of 10 s the world of the first and the second is slow, with the site and without one, and slow for
+-- for a window of 10 s, the world of the first and the second is slow, with the site and without one, and slow for
 -- following
 abbrev pub TwoAreSlow : Type 0
 TwoAreSlow =
     (site : Position) (a b : Arrival) → IsSite site → IsFirst a → IsSecond b
     → IsSlow 10000 (Some site) (a ∷ b ∷ []) × IsSlow 10000 None (a ∷ b ∷ []) × IsSlowForFollowing 10000 (a ∷ b ∷ [])
 
--- a tracker with the site that hears these two says true places alone
+-- a tracker with the site that hears the first and the second gives only true places
 abbrev pub TwoAreTrue : Type 0
 TwoAreTrue =
     (limit : ℕ) (site : Position) (a b : Arrival) (replies : List (Result Heard TrackFault))
@@ -76,37 +76,36 @@ TwoAreTrue =
     → AreReplies (record { limit = limit; window = 10000; site = Some site }) [] (map received_of (a ∷ b ∷ [])) replies
     → AllZip (IfHeard IsTruePlaceHeard) (a ∷ b ∷ []) replies
 
--- after the first, the second is heard as the fix of its own point
+-- after the first, the second gives the fix of its own point
 abbrev pub SecondIsFixed : Type 0
 SecondIsFixed =
     (site : Position) (a b : Arrival) → IsSite site → IsFirst a → IsSecond b
     → IsHeard 10000 (Some site) (as_waiting a ∷ []) 6000 b.squitter (Fix (Ground second_point))
 
--- without a site it is heard that there is none
+-- without a site the result is `NoSite`
 abbrev pub SecondWantsASite : Type 0
 SecondWantsASite =
     (a b : Arrival) → IsFirst a → IsSecond b → IsHeard 10000 None (as_waiting a ∷ []) 6000 b.squitter NoSite
 
--- the second is fixed where another address, 40621D, was heard between the two
+-- the second gives its fix also if another address, 40621D, was heard in between
 abbrev pub SecondIsFixedAmongOthers : Type 0
 SecondIsFixedAmongOthers =
     (site : Position) (a b : Arrival) (other : Entry) → (squitter_parts other.squitter).address ≡ 0x40621D
     → IsSite site → IsFirst a → IsSecond b
     → IsHeard 10000 (Some site) (other ∷ as_waiting a ∷ []) 6000 b.squitter (Fix (Ground second_point))
 
--- after that fix, the third is heard as followed to its own point
+-- after that fix, the third is followed to its own point
 abbrev pub ThirdIsFollowed : Type 0
 ThirdIsFollowed =
     (site : Option Position) (b c : Arrival) → IsSecond b → IsThird c
     → IsHeard 10000 site (as_fix b (Ground second_point) ∷ []) 9000 c.squitter (Followed (Ground third_point))
 
--- where the second alone was heard before, the fourth, an even one after an odd one, is heard as the fix of its own
--- point
+-- if only the second was heard before, the fourth, an even one after an odd one, gives the fix of its own point
 abbrev pub FourthIsFixed : Type 0
 FourthIsFixed =
     (site : Position) (b d : Arrival) → IsSite site → IsSecond b → IsFourth d
     → IsHeard 10000 (Some site) (as_waiting b ∷ []) 12000 d.squitter (Fix (Ground fourth_point))
 
--- there are such arrivals, and such a site
+-- such arrivals, and such a site, exist
 abbrev pub SomeWorked : Type 0
 SomeWorked = (a b c d : Arrival) × (site : Position) × IsFirst a × IsSecond b × IsThird c × IsFourth d × IsSite site

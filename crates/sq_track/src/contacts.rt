@@ -1,4 +1,4 @@
-//! What is kept of each address, in the order of last hearing.
+//! The decoder state of each address, in the order of last hearing.
 ghost use Rattle.std.specs.Prelude.{Option, option_copied, ◌≡◌, ℕ, ◌+◌, ◌^◌, ◌<◌, ◌++◌};
 ghost use Rattle.std.specs.Prelude.{is_some, nat_eq, Some, None, length, slice_get, if◌then◌else◌, IfOk, IfSome, OnErr};
 ghost use Rattle.std.specs.Prelude.{[], ◌∷◌, ◌≤◌};
@@ -25,14 +25,14 @@ use std::marker::Model;
 // The contact of each address.
 type Table<A> = IndexMap<u32, Contact, BuildHasherDefault<FoldHasher>, A>;
 
-/// The contacts of addresses, in the order of last hearing.
+/// The contacts by address, the longest silent first.
 #[derive(Drop)]
 pub struct Contacts<A: Allocator = Global> {
     table: Table<A>,
-    // Links the indices of the table in the order of last hearing, and the last heard to the longest unheard. An array
-    // apart from the entries: hearing an address writes the links of up to four others and loads none of their entries.
+    // Links the indices of the table in the order of last hearing, and the last heard to the longest silent. A
+    // separate array: hearing an address writes the links of up to four others, and loads none of their entries.
     links: Vec<Neighbours, A>,
-    // The index in the table of the longest unheard address, if there is one.
+    // The table index of the longest silent address, if there is one.
     oldest: u32,
 }
 
@@ -49,7 +49,7 @@ impl<A: Allocator> Model for Contacts<A> {
     ghost invariant = { λ t. IsLinkedTable t.table.entries t.links.items t.oldest };
 }
 
-// Returns the address at an index of the table, and the moment of its newest position.
+// Returns the address at an index of the table, and the timestamp of its newest position.
 #[inline(always)]
 fn moment_at<A: Allocator>(table: &Table<A>, at: u32) -> Option<(u32, u64)>
     ensures entry { result ≡ slice_get (moments_in table.now.entries) at }
@@ -74,7 +74,7 @@ fn entry_at<A: Allocator>(table: &Table<A>, at: u32) -> Option<(u32, Contact)>
     }
 }
 
-// The index in the table of the address at an index, the longest unheard first.
+// Returns the table index of the address at an index, the longest silent first.
 fn nth(links: &[Neighbours], oldest: u32, index: usize) -> Option<u32>
     requires { IsRound links.now oldest }
     ensures index { result ≡ slice_get (round links.now oldest) index }
@@ -90,7 +90,7 @@ fn nth(links: &[Neighbours], oldest: u32, index: usize) -> Option<u32>
     Some(at)
 }
 
-// Decoder state for one aircraft before its first position.
+// Returns the decoder state of an aircraft before its first position.
 fn blank() -> Contact
     ensures { result ≡ blank_contact }
 {
@@ -109,7 +109,7 @@ fn blank() -> Contact
     }
 }
 
-// Finds the entry of an address, or makes one. A known address takes no memory.
+// Finds or creates the entry of an address, and returns its table index. A known address needs no memory.
 #[inline(always)]
 fn reach<A: Allocator>(
     table: &mut Table<A>,
@@ -131,7 +131,7 @@ fn reach<A: Allocator>(
     }
 }
 
-// Makes an entry for an absent address, at the end of the round. Takes its links back if the table cannot grow.
+// Creates an entry for an absent address at the end of the round. Removes its links again if the table cannot grow.
 #[inline(never)]
 fn enter<A: Allocator>(
     table: &mut Table<A>,
@@ -164,7 +164,7 @@ fn enter<A: Allocator>(
     }
 }
 
-// Hears a squitter of the address at an index.
+// Adds a squitter to the contact at a table index.
 #[inline(always)]
 fn hear_at<A: Allocator>(
     table: &mut Table<A>,
@@ -182,7 +182,7 @@ fn hear_at<A: Allocator>(
     table[at as usize].hear(window_ms, site, moment, squitter)
 }
 
-// Sets the contact of the address at an index.
+// Sets the contact at a table index.
 fn set_at<A: Allocator>(table: &mut Table<A>, at: u32, contact: &Contact)
     requires { at < index_map_len table.old }
     ensures { (before : Contact) × (slice_get (values table.old) at ≡ Some before)
@@ -191,7 +191,7 @@ fn set_at<A: Allocator>(table: &mut Table<A>, at: u32, contact: &Contact)
     table[at as usize] = *contact;
 }
 
-// Takes an entry out of the table. The last takes its place.
+// Removes an entry of the table. The last entry moves to its index.
 fn remove_at<A: Allocator>(table: &mut Table<A>, at: usize)
     requires { at < index_map_len table.old }
     ensures entries { (entry : ℕ × Contact) × (table.new.entries ≡ swap_remove table.old.entries at entry) }
@@ -203,7 +203,7 @@ fn remove_at<A: Allocator>(table: &mut Table<A>, at: usize)
 }
 
 impl<A: Allocator + Copy> Contacts<A> {
-    /// No contacts.
+    /// Returns an empty table.
     pub fn new(alloc: A) -> Contacts<A>
         ensures { result ≡ [] }
     {
@@ -214,8 +214,8 @@ impl<A: Allocator + Copy> Contacts<A> {
         }
     }
 
-    /// Returns an empty table with room for `count` contacts. Addresses that leave use up places, so its capacity is
-    /// twice as large.
+    /// Returns an empty table with room for `count` contacts. Removed addresses use up slots, so the capacity is
+    /// twice `count`.
     pub fn with_room(alloc: A, count: usize) -> Result<Contacts<A>, AllocError>
         requires { count ≤ 2 ^ 32 }
         ensures { IfOk result (λ contacts. contacts ≡ []) }
@@ -231,7 +231,7 @@ impl<A: Allocator + Copy> Contacts<A> {
 }
 
 impl<A: Allocator> Contacts<A> {
-    /// How many there are.
+    /// Returns the number of contacts.
     pub fn len(&self) -> usize
         ensures len { result ≡ length self.now }
         ensures unique { IsDistinct nat_eq (keys_of self.now) }
@@ -239,14 +239,14 @@ impl<A: Allocator> Contacts<A> {
         self.table.len()
     }
 
-    /// Whether an address is among them.
+    /// Returns whether an address has a contact.
     pub fn contains(&self, address: u32) -> bool
         ensures { result ≡ is_some (lookup (nat_eq address) self.now) }
     {
         self.table.contains_key(&address)
     }
 
-    /// The longest unheard address, with the moment of its newest position.
+    /// Returns the longest silent address and the timestamp of its newest position.
     #[inline(always)]
     pub fn oldest(&self) -> Option<(u32, u64)>
         ensures { result ≡ slice_get (moments_in self.now) 0 }
@@ -254,7 +254,7 @@ impl<A: Allocator> Contacts<A> {
         moment_at(&self.table, self.oldest)
     }
 
-    /// The address at an index, the longest unheard first, with the moment of its newest position.
+    /// Returns the address at an index, the longest silent first, and the timestamp of its newest position.
     pub fn get_index(&self, index: usize) -> Option<(u32, u64)>
         ensures { result ≡ slice_get (moments_in self.now) index }
     {
@@ -264,8 +264,8 @@ impl<A: Allocator> Contacts<A> {
         }
     }
 
-    /// Hears a squitter of an address, and puts the address at the end. A known address takes no memory. Needs fewer
-    /// than 2^32 addresses.
+    /// Adds a squitter to the contact of its address, and moves the address to the end. A known address needs no
+    /// memory. Needs fewer than 2^32 addresses.
     #[inline(always)]
     pub fn hear_last(
         &mut self,
@@ -293,7 +293,7 @@ impl<A: Allocator> Contacts<A> {
         Ok(heard)
     }
 
-    /// Puts an address at the end, with this contact. Needs fewer than 2^32 addresses.
+    /// Sets the contact of an address, and moves the address to the end. Needs fewer than 2^32 addresses.
     pub fn put_last(&mut self, address: u32, contact: &Contact) -> Result<(), AllocError>
         requires room { length self.old < 2 ^ 32 }
         ensures ok { IfOk result (λ u. self.new ≡ others_in address self.old ++ (address, contact.now) ∷ []) }
@@ -306,7 +306,7 @@ impl<A: Allocator> Contacts<A> {
         Ok(())
     }
 
-    /// Returns the moment of the newest position of the last address, or 0 if there are no addresses.
+    /// Returns the timestamp of the newest position of the last address, or 0 if there are no addresses.
     pub fn newest_moment(&self) -> u64
         ensures none { self.now ≡ [] → result ≡ 0 }
         ensures last { (index : ℕ) → index + 1 ≡ length self.now
@@ -322,7 +322,7 @@ impl<A: Allocator> Contacts<A> {
         }
     }
 
-    /// Returns the address at an index, the longest unheard first, and its contact. The cost grows with the index.
+    /// Returns the address at an index, the longest silent first, and its contact. The cost grows with the index.
     pub fn entry(&self, index: usize) -> Option<(u32, Contact)>
         ensures { result ≡ slice_get self.now index }
     {
@@ -355,7 +355,7 @@ impl<A: Allocator> Contacts<A> {
         self.oldest = 0;
     }
 
-    /// Drops the longest unheard address, if there is one.
+    /// Drops the longest silent address, if there is one.
     pub fn remove_oldest(&mut self)
         ensures { (address newest : ℕ) → slice_get (moments_in self.old) 0 ≡ Some (address, newest)
             → self.new ≡ others_in address self.old }

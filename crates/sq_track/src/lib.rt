@@ -1,11 +1,11 @@
-//! What a receiver hears, one squitter after another.
+//! Tracks aircraft from squitters, one after another.
 //!
-//! A [`Tracker`] hears squitters with their moments, pairs an even and an odd one of one address within a window,
-//! follows an address from its last fix, and forgets what was not heard for longer than the window. What it answers is
-//! a function of the history: of the squitters that it accepted, and their moments. The time of a call does not grow
-//! with the number of addresses.
+//! A [`Tracker`] hears squitters with their timestamps (ms). It pairs an even and an odd one of one address within a
+//! window, and follows an address from its last fix. It drops addresses that were not heard for longer than the
+//! window. Its results are a function of the history: the accepted squitters and their timestamps. The time of a call
+//! does not grow with the number of addresses.
 //!
-//! [`laws`] says what this comes to: where senders are slow enough, each place that is heard is the true one.
+//! [`laws`] states the consequence: if senders are slow enough, each fix and each followed position is the true one.
 #![tactic(auto)]
 
 mod answer;

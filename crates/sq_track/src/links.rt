@@ -1,4 +1,5 @@
-//! Links between the indices of a table, which lead round through all of them in the order of last hearing.
+//! Links between the indices of a table, which lead through all of them in the order of last hearing, and back to the
+//! first.
 ghost use Rattle.std.specs.Prelude.{◌≡◌, ◌≢◌, ℕ, List, ◌+◌, ◌-◌, ◌^◌, ◌<◌, ◌≤◌, ◌++◌, [], ◌∷◌, length, map, take, nat_eq};
 ghost use Rattle.std.specs.Prelude.{if◌then◌else◌};
 ghost use Rattle.sq_track.specs.Ordered.{others_than};
@@ -10,9 +11,9 @@ use std::alloc::Allocator;
 /// The links of an index. At 8 bytes, eight of them share a cache line.
 #[derive(Clone, Copy)]
 pub struct Neighbours {
-    /// The index of the address heard just before; for the longest unheard, the index of the last heard.
+    /// The index of the address heard just before; for the longest silent, the index of the last heard.
     pub before: u32,
-    /// The index of the address heard just after; for the last heard, the index of the longest unheard.
+    /// The index of the address heard just after; for the last heard, the index of the longest silent.
     pub after: u32,
 }
 
@@ -58,7 +59,7 @@ fn pass_over(links: &mut [Neighbours], at: u32)
     link(links, before, after);
 }
 
-// Puts the last index at the end of the round, and returns where the round begins.
+// Puts the last index at the end of the round, and returns the first index of the round.
 pub(crate) fn join(links: &mut [Neighbours], oldest: u32, at: u32) -> u32
     requires { IsEntered links.old oldest at }
     ensures round { IsRound links.new result }
@@ -84,8 +85,8 @@ pub(crate) fn links_at(links: &[Neighbours], at: u32) -> Neighbours
     links[at as usize]
 }
 
-// Puts an index with these links at the end of the round, and returns where the round begins. Writes nothing if the
-// index is the last already, as that of a new address is.
+// Puts an index with these links at the end of the round, and returns the first index of the round. Writes nothing if
+// the index is already last, like that of a new address.
 #[inline(always)]
 pub(crate) fn put_last(links: &mut [Neighbours], oldest: u32, at: u32, own: Neighbours) -> u32
     requires on_round { IsOnRound links.old oldest at }
@@ -108,7 +109,8 @@ pub(crate) fn put_last(links: &mut [Neighbours], oldest: u32, at: u32, own: Neig
     oldest
 }
 
-// Removes an index from the round, and returns where the round begins. The last index takes the removed one's place.
+// Removes an index from the round, and returns the first index of the round. The last index takes the removed one's
+// place.
 pub(crate) fn take_out<A: Allocator>(links: &mut Vec<Neighbours, A>, oldest: u32, at: u32) -> u32
     requires on_round { IsOnRound links.old.items oldest at }
     requires few { length links.old.items ≤ 2 ^ 32 }
@@ -125,7 +127,7 @@ pub(crate) fn take_out<A: Allocator>(links: &mut Vec<Neighbours, A>, oldest: u32
     new_name(first, last, at)
 }
 
-// Returns where the round begins without an index.
+// Returns the first index of the round without an index.
 fn first_without(links: &[Neighbours], oldest: u32, at: u32) -> u32
     requires { at < length links.now }
     ensures { result ≡ (if nat_eq oldest at then after_at links.now at else oldest) }

@@ -1,4 +1,4 @@
-//! Squitters heard one after another.
+//! Hears several squitters in order.
 ghost use Rattle.std.specs.Prelude.{◌≡◌, length};
 ghost use Rattle.sq_track.specs.History.{History};
 ghost use Rattle.sq_track.specs.Held.{StandsFor, settings};
@@ -10,9 +10,8 @@ use crate::tracker::Tracker;
 use sq_message::Received;
 use std::alloc::Allocator;
 
-/// Hears squitters one after another, each at its moment, and gives back in `heard` what was heard of each, or why it
-/// was refused. `heard` has one slot for each of them. A squitter that is refused changes nothing, and the next one is
-/// heard.
+/// Hears squitters in order, each with its timestamp (ms). Writes to `heard` the result for each, or why it was
+/// refused. `heard` has one slot for each squitter. A refused squitter changes nothing.
 pub fn hear_each<A: Allocator>(
     tracker: &mut Tracker<A>,
     received: &[Received],
@@ -20,11 +19,12 @@ pub fn hear_each<A: Allocator>(
 )
     requires { length heard.old ≡ length received.now }
 
-    // In a world that is slow for the tracker's window and site, and for following, each fix and each followed place is
-    // the true one, and `Far` is not heard.
+    // In a world that is slow for the tracker's window and site, and slow for following, results are true: each fix
+    // and each followed position is the true place, and `Far` does not occur.
     ensures placed { AreTrueInSlowWorlds tracker.old received.now heard.new }
 
-    // For each history that the tracker stood for these are the replies, and it stands for the history after them.
+    // For each history that the tracker represents, these are the replies. Afterwards it represents the history after
+    // them.
     ensures replies { (h : History) → StandsFor tracker.old h
         → AreReplies (settings tracker.old) h received.now heard.new }
     ensures after { (h : History) → StandsFor tracker.old h
@@ -38,7 +38,7 @@ pub fn hear_each<A: Allocator>(
     }
 }
 
-// Hears a squitter into its slot.
+// Hears a squitter, and writes its result to the slot.
 fn hear_into<A: Allocator>(
     tracker: &mut Tracker<A>,
     one: &Received,

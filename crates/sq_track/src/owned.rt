@@ -1,4 +1,4 @@
-//! Whether a tracker may keep a contact of an address.
+//! Checks whether a tracker may hold a contact for an address.
 ghost use Rattle.std.specs.Prelude.{◌≡◌, option_copied};
 ghost use Rattle.sq_message.specs.Parts.{squitter_parts};
 ghost use Rattle.sq_track.specs.Owned.{are_one_parity, has_since, is_contact_of, is_fix_of_side, is_frame_of};
@@ -33,7 +33,8 @@ fn is_position_of(in_air: bool, parity: Parity, me: &Me) -> bool
     }
 }
 
-// Returns whether a kept frame is such a position of the address, at or before the newest.
+// Returns whether a stored frame is a position of this address, kind and parity, at or before the newest. True if
+// there is no frame.
 fn is_frame_of(
     address: u32,
     newest: u64,
@@ -54,7 +55,7 @@ fn is_frame_of(
     }
 }
 
-// Returns whether a frame was received at the moment or later.
+// Returns whether there is a frame that was received at or after `moment`.
 fn is_since(moment: u64, frame: Option<&Received>) -> bool
     ensures { result ≡ is_since moment (option_copied frame.entry) }
 {
@@ -64,14 +65,14 @@ fn is_since(moment: u64, frame: Option<&Received>) -> bool
     }
 }
 
-// Returns whether a kept position was received at or after the moment.
+// Returns whether the side holds a position that was received at or after `moment`.
 fn has_since(moment: u64, side: &Side) -> bool
     ensures { result ≡ has_since moment side.now }
 {
     is_since(moment, side.even.as_ref()) || is_since(moment, side.odd.as_ref())
 }
 
-// Returns whether a fix is at or before the newest position of its kind.
+// Returns whether a fix is at or before the newest position of its kind. True if there is no fix.
 fn is_fix_of_side(side: &Side, fix: Option<&LastFix>) -> bool
     ensures { result ≡ is_fix_of_side side.now (option_copied fix.entry) }
 {
@@ -89,7 +90,7 @@ fn is_side_of(address: u32, newest: u64, in_air: bool, side: &Side) -> bool
         && is_fix_of_side(side, side.fix.as_ref())
 }
 
-/// Whether a contact is one that a tracker may keep of the address.
+/// Returns whether a tracker may hold this contact for the address.
 pub fn is_contact_of(address: u32, contact: &Contact) -> bool
     ensures { result ≡ is_contact_of address contact.now }
 {
@@ -99,7 +100,7 @@ pub fn is_contact_of(address: u32, contact: &Contact) -> bool
             || has_since(contact.moment, &contact.surface))
 }
 
-/// Whether an address with its newest position at this moment is present at the last moment.
+/// Returns whether an address with its newest position at `moment` is present at the last timestamp.
 pub fn is_present_at(window: u64, last: Option<u64>, moment: u64) -> bool
     ensures { result ≡ is_present_at window last moment }
 {

@@ -13,38 +13,37 @@ ghost use Rattle.sq_track.specs.Pinned.{TameForFollowingPairExactly};
 
 use crate::heard::{Heard, TrackFault};
 
-/// By one history one thing is heard of a squitter.
+/// A history gives at most one result for a squitter.
 pub fn one_answer()
     ensures { OneAnswer }
 {}
 
-/// By what is kept of an address, whatever it is, one thing is heard of a squitter.
+/// The stored state of an address, whatever it is, gives at most one result for a squitter.
 pub fn one_answer_by_kept()
     ensures { OneAnswerByKept }
 {}
 
-/// For every history and call something is heard, so that no statement here is empty.
+/// Every history and call has a result, so no statement here is empty.
 pub fn some_answer()
     ensures { SomeAnswer }
 {}
 
-/// For every history and call there is a reply other than out of memory.
+/// Every history and call has a reply other than out of memory.
 pub fn some_reply()
     ensures { SomeReply }
 {}
 
-/// There is one such reply alone, so that the replies to a list of calls are a function of it.
+/// There is only one such reply, so the replies to a list of calls are a function of the list.
 pub fn one_reply()
     ensures { OneReply }
 {}
 
-/// An arrival has one true place.
+/// An arrival has at most one true place.
 pub fn one_true_place()
     ensures { OneTruePlace }
 {}
 
-/// An address answers for itself alone: by the whole history the same is heard of a squitter as by the entries of its
-/// address.
+/// Only the entries of its own address matter for a squitter: they give the same result as the whole history.
 pub fn one_address_alone()
     ensures { OneAddressAlone }
 {}
@@ -55,7 +54,8 @@ pub fn slow_pair_exactly()
     ensures { SlowPairExactly }
 {}
 
-/// Two arrivals that come together are slow for following exactly if their positions are, each seen from the other.
+/// Two arrivals that come together are slow for following exactly if their positions are, each as seen from the
+/// other.
 pub fn slow_for_following_pair_exactly()
     ensures { SlowForFollowingPairExactly }
 {}
@@ -65,7 +65,7 @@ pub fn slow_and_tame_places_exactly()
     ensures { PlacesExactly }
 {}
 
-/// Two arrivals of one parity are slow wherever they come from: a world is asked for its even and odd arrivals alone.
+/// Two arrivals of one parity are slow wherever they come from: only even and odd arrivals count.
 pub fn one_parity_is_slow()
     ensures { OneParityIsSlow }
 {}
@@ -80,9 +80,9 @@ pub fn tame_for_following_pair_exactly()
     ensures { TameForFollowingPairExactly }
 {}
 
-/// Positions are one place exactly if they have one latitude, and one longitude after some whole turns. An instance is
-/// half a degree north at 180 degrees, in any terms and under either sign. A world stands still exactly if all arrivals
-/// of a sender come from one place.
+/// Positions are one place exactly if their latitudes are equal and their longitudes differ by whole turns. An
+/// example is half a degree north at 180 degrees, as other fractions and with the other sign. A world stands still
+/// exactly if all arrivals of a sender come from one place.
 pub fn standing_exactly()
     ensures place { OnePlaceExactly }
     ensures at_180 { OnePlaceAt180 }
@@ -94,14 +94,14 @@ pub fn one_position_stands()
     ensures { OnePositionStands }
 {}
 
-/// Out of memory is a reply exactly to a call that may be accepted.
+/// Out of memory is a possible reply exactly if the call may be accepted.
 pub fn out_of_memory_exactly()
     ensures { MemoryExactly }
 {}
 
-/// A squitter is heard in exactly one way, which is the answer by each history that the address remembered. The address
-/// then keeps the squitter under its kind and parity, and the position of the place that was heard. All other fields
-/// are unchanged.
+/// A squitter has at most one result, and it is the result by each history that the contact remembers. The contact
+/// then holds the squitter under its kind and parity, with its timestamp, and the position of a fix or followed
+/// position. All other fields are unchanged. A message without a position changes nothing.
 pub fn hearing_exactly()
     ensures one { OneHearing }
     ensures remembers { HearingRemembers }
@@ -109,7 +109,7 @@ pub fn hearing_exactly()
     ensures nothing { HearingKeepsNothing }
 {}
 
-/// Compares two hearings by `==`, which is true exactly if they are the same.
+/// Compares two results by `==`, which is true exactly if they are the same.
 pub fn equal_heard(heard: &Heard, other: &Heard) -> bool
     ensures { IsTrue result ↔ (heard.now ≡ other.now) }
 {

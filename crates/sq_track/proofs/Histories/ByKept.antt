@@ -1,4 +1,4 @@
--- What is heard by what is kept is what is heard by a history whose last fix has that position.
+-- The result by the stored state is the result by a history if its last fix has the stored position.
 use Rattle.std.proofs.Common.{◌≡◌, ◌∙◌, ap, sym, subst, Option, Some, None}
 use Rattle.sq_angle.specs.declared.position.Position.{Position}
 use Rattle.sq_message.specs.declared.squitter.Squitter.{Squitter}
@@ -13,7 +13,7 @@ use Rattle.sq_track.specs.Kept.{IsFixAt, fix_in, pair_in, recent_position, recen
 use Rattle.sq_track.specs.Laws.{OneAnswerByKept}
 use Rattle.sq_track.proofs.Histories.OneAnswer.{one_after, one_of_pair}
 
--- near the position of a place is near the place
+-- a result near the position of a place is a result near the place
 near_of_position : (last : Option Place) (fix : Option Position) (q : Squitter) (of_pair heard : Heard)
     → IsFixAt last fix → IsHeardNearPosition fix q of_pair heard → IsHeardNear last q of_pair heard
 near_of_position None None q of_pair heard at near = near
@@ -22,14 +22,14 @@ near_of_position (Some place) None q of_pair heard at near = absurd at
 near_of_position (Some place) (Some position) q of_pair heard at (answer, local, is) =
     (answer, (position, at, local), is)
 
--- what looks to the position of a place looks to the place
+-- a result that looks to the position of a place is a result that looks to the place
 after_of_position : (last : Option Place) (fix : Option Position) (q : Squitter) (of_pair heard : Heard)
     → IsFixAt last fix → LooksToFix (IsHeardNearPosition fix q) of_pair heard → IsHeardAfter last q of_pair heard
 after_of_position last fix q Waiting heard at is = near_of_position last fix q Waiting heard at is
 after_of_position last fix q (Split e o) heard at is = near_of_position last fix q (Split e o) heard at is
 after_of_position last fix q of_pair heard at is = is
 
--- what is heard by what is kept is heard with the place of the kept position
+-- the result by the stored state is the result with the place of the stored position
 pub heard_with_place : (site : Option Position) (older : Option Squitter) (last : Option Place) (fix : Option Position)
     (q : Squitter) (heard : Heard) → IsFixAt last fix → IsHeardByKept site older fix q heard
     → IsHeardWith site older last q heard
@@ -39,7 +39,7 @@ heard_with_place site older last fix q heard at by = record {
   after = after_of_position last fix q by.of_pair heard at by.after;
 }
 
--- near one kept position one thing is heard
+-- near one stored position there is at most one result
 one_near_position : (fix : Option Position) (q : Squitter) (of_pair x y : Heard) → IsHeardNearPosition fix q of_pair x
     → IsHeardNearPosition fix q of_pair y → x ≡ y
 one_near_position None q of_pair x y h k = h ∙ sym k

@@ -1,4 +1,4 @@
--- What hearing makes of a contact, whole.
+-- The whole effect of a squitter on a contact.
 use Rattle.std.proofs.Common.{◌≡◌, ℕ, Option, Some, None, ap, refl, sym, subst}
 use Rattle.sq_angle.specs.declared.position.Position.{Position}
 use Rattle.sq_cpr.specs.declared.code.Code.{Code}
@@ -29,7 +29,7 @@ pub hearing_remembers : HearingRemembers
 hearing_remembers window site m q before after heard history h kept in_time =
     (h.answers history kept in_time, h.remembers history kept in_time)
 
--- what a side keeps after a squitter of its kind and parity
+-- what a side holds after a squitter of its kind and parity
 record KeepsAfter (moment : ℕ) (squitter : Squitter) (heard : Heard) (parity : Parity) (old new : Side) : Type 0 where
   own : kept_of parity new ≡ Some (record { moment = moment; squitter = squitter })
   other : of_other_parity parity new ≡ of_other_parity parity old
@@ -37,7 +37,7 @@ record KeepsAfter (moment : ℕ) (squitter : Squitter) (heard : Heard) (parity :
       × (new.fix ≡ Some (record { moment = moment; position = position }))
   not_placed : place_heard heard ≡ None → new.fix ≡ old.fix
 
--- a side with a squitter of its kind keeps what it should
+-- a side with a squitter of its kind holds what it should
 keeps_after : (m : ℕ) (q : Squitter) (heard : Heard) (parity : Parity) (fix : Option LastFix) (old : Side)
     → IsFixAfter m heard old.fix fix
     → KeepsAfter m q heard parity old (side_with parity (record { moment = m; squitter = q }) fix old)
@@ -54,7 +54,7 @@ keeps_after m q heard Odd fix old h = record {
   not_placed = λ none. subst (λ o. IsFixWith m o old.fix fix) none h;
 }
 
--- what is kept after a message is what is kept after one that equals it
+-- the fix and the contact after a message are those after an equal message
 module _ (m : ℕ) (q : Squitter) (heard : Heard) (fix : Option LastFix) (before after : Contact) (me : Me)
     (is : (squitter_parts q).me ≡ me) where
   fix_of : IsFixAfter m heard (fix_in before (squitter_parts q).me) fix → IsFixAfter m heard (fix_in before me) fix
@@ -64,7 +64,7 @@ module _ (m : ℕ) (q : Squitter) (heard : Heard) (fix : Option LastFix) (before
       → after ≡ contact_with me (record { moment = m; squitter = q }) fix before
   kept_after h = subst (λ x. after ≡ contact_with x (record { moment = m; squitter = q }) fix before) is h
 
--- what is kept after a position of the kind
+-- what a contact holds after a position of the kind
 keeps : (m : ℕ) (q : Squitter) (heard : Heard) (fix : Option LastFix) (before after : Contact) (kind : Kind)
     (head : HeadParts kind) (parity : Parity) (code : Code)
     → IsFixAfter m heard (fix_in before (me_of kind head parity code)) fix
@@ -92,7 +92,7 @@ hearing_keeps window site m q before after heard kind head parity code h is =
     (fix_of m q heard fix before after me is fix_is) (kept_after m q heard fix before after me is after_is) in
     (side.own, side.other, side.placed, side.not_placed, aside, moment)
 
--- of a message without a position nothing is kept
+-- a message without a position changes nothing
 nothing : (me : Me) (m : ℕ) (q : Squitter) (fix : Option LastFix) (before after : Contact) → ¬ IsPosition me
     → after ≡ contact_with me (record { moment = m; squitter = q }) fix before → after ≡ before
 nothing (kinds.Airborne a) m q fix before after none h = absurd (none tt)

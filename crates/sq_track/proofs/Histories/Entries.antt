@@ -1,4 +1,4 @@
--- The entries of a history that are found as counterpart and as last fix.
+-- The entries of a history that are found as the counterpart and as the last fix.
 use Rattle.std.proofs.Common.{◌≡◌, ◌∙◌, ℕ, ◌+◌, ◌≤◌, Bool, true, false, cond, leb, eqb, [], ◌∷◌, Option, Some, None}
 use Rattle.std.proofs.Common.{Contains, refl, sym, ap, subst, arith}
 use Rattle.std.specs.List.{AllByRecursion}
@@ -16,16 +16,16 @@ use Rattle.sq_track.specs.Worlds.{Arrival, World, IsEntryOf, ArisesFrom}
 use Rattle.sq_track.specs.Tame.{AreTogether}
 use Rattle.sq_track.proofs.Lists.Found.{none_is_some, same_some, each_weaker}
 
--- the entry was an arrival of the world
+-- the entry is of an arrival of the world
 abbrev pub Arrived : World → Entry → Type 0
 Arrived world entry = (arrival : Arrival) × Contains world arrival × IsEntryOf arrival entry
 
--- the entry was an arrival of the world, no later than the moment
+-- the entry is of an arrival of the world, at or before the timestamp
 abbrev pub IsKnown : World → ℕ → Entry → Type 0
 IsKnown world moment entry = (arrival : Arrival) × Contains world arrival × IsEntryOf arrival entry
     × (entry.moment ≤ moment)
 
--- each entry is in time, and was heard, by the earlier ones
+-- each entry is in time, and has its result, by the earlier ones
 abbrev pub IsChain : (window : ℕ) → Option Position → History → Type 0
 IsChain window site [] = Unit {0}
 IsChain window site (entry ∷ earlier) =
@@ -52,7 +52,7 @@ each_known window site world (entry ∷ earlier) moment accepted arrived in_time
       (each_known window site world earlier entry.moment accepted.2 arrived.1 accepted.0),
 )
 
--- a recent entry, and its moment
+-- a recent entry, and its timestamp
 pub recent_is : (window moment : ℕ) (o : Option Entry) (entry : Entry) → if_recent window moment o ≡ Some entry
     → (o ≡ Some entry) × (moment ≤ entry.moment + window)
 recent_is window moment None entry e = none_is_some entry e
@@ -69,7 +69,7 @@ kind_sym (kinds.Airborne a) (kinds.Airborne b) e = refl
 kind_sym (kinds.Surface a) (kinds.Surface b) e = refl
 kind_sym m n e = absurd (false≢true e)
 
--- the parts of one sender
+-- squitters of one sender have the same address and kind
 pub sender_parts : (q r : Squitter) → are_of_one_sender q r ≡ true
     → ((squitter_parts q).address ≡ (squitter_parts r).address)
     × (are_of_one_kind (squitter_parts q).me (squitter_parts r).me ≡ true)
@@ -93,7 +93,7 @@ together_sym window a b h = record {
   not_after = h.not_before;
 }
 
--- a recent entry of one sender arrived together with the present one
+-- a recent entry of the same sender comes together with the present arrival
 pub together : (window : ℕ) (a b : Arrival) (entry : Entry) → IsEntryOf a entry
     → are_of_one_sender entry.squitter b.squitter ≡ true
     → entry.moment ≤ b.moment → b.moment ≤ entry.moment + window → AreTogether window a b

@@ -1,4 +1,4 @@
--- An address answers for itself alone: entries of other addresses change nothing of what it hears.
+-- Only the entries of its own address matter for a squitter: entries of other addresses change nothing.
 use Rattle.std.proofs.Common.{◌≡◌, ◌∙◌, ℕ, Bool, true, false, not, cond, List, [], ◌∷◌, find, filter, length, Option}
 use Rattle.std.proofs.Common.{Some, is_some, Ok, refl, sym, ap, arith, subst}
 use Rattle.std.proofs.lemmas.Bool.{and_parts, eq-eqb, eqb-true, true≢false}
@@ -17,7 +17,7 @@ use Rattle.sq_track.proofs.Histories.Entries.{sender_parts}
 use Rattle.sq_track.proofs.Lists.Filters.{filter-cons_yes, filter-cons_no, Each, Each-filter, Each-filter_pass}
 use Rattle.sq_track.proofs.Table.Remembering.{still_in_time}
 
--- what is looked for is found in what a weaker test leaves
+-- a search after a filter finds the same if all that it looks for passes the filter
 find_within : {X : Type 0} (p q : X → Bool) → ((x : X) → p x ≡ true → q x ≡ true) → (xs : List X)
     → find p (filter q xs) ≡ find p xs
 find_within p q weaker [] = refl
@@ -30,7 +30,7 @@ find_within p q weaker (x ∷ xs) = by (p x) (q x) refl refl (find_within p q we
     by false false e f rest = ap (find p) (filter-cons_no q x xs f) ∙ rest
         ∙ sym (ap (λ b. cond b (Some x) (find p xs)) e)
 
--- an entry of one sender is one of the address
+-- an entry of the same sender is one of the address
 of_sender : (q : Squitter) (entry : Entry) → are_of_one_sender entry.squitter q ≡ true
     → is_of_address (squitter_parts q).address entry ≡ true
 of_sender q entry e = eq-eqb (squitter_parts entry.squitter).address (squitter_parts q).address
@@ -74,7 +74,7 @@ one_address_alone window site history moment q heard =
 
 -- ---- the entries of an address are a history
 
--- a moment in time for the whole is in time for the address
+-- a timestamp in time for the whole history is in time for the address
 in_time_alone : (s : Settings) (p : Entry → Bool) (h : History) (m : ℕ) → IsHistory s h → IsInTime h m
     → IsInTime (filter p h) m
 in_time_alone s p [] m accepted in_time = tt
@@ -100,7 +100,7 @@ none_passes p [] each = refl
 none_passes p (entry ∷ earlier) each =
     filter-cons_no (λ entry. not (p entry)) entry earlier (ap not each.0) ∙ none_passes p earlier each.1
 
--- of the entries of an address no other address is present
+-- among the entries of an address, no other address is present
 no_others : (window m a : ℕ) (h : History)
     → filter (λ entry. not (is_of_address a entry)) (present window m (of_address a h)) ≡ []
 no_others window m a h = none_passes (is_of_address a) (present window m (of_address a h))

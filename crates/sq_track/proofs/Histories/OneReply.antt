@@ -1,4 +1,4 @@
--- To a call there is one reply, unless it is out of memory.
+-- A call has at most one reply, unless it is out of memory.
 use Rattle.std.proofs.Common.{◌≡◌, ◌∙◌, ℕ, ◌≤◌, ◌<◌, Option, Some, IfSome, Ok, Err, refl, sym, ap, subst, arith}
 use Rattle.sq_track.specs.declared.heard.TrackFault.TheVariants.{NoLimit, Memory, MomentBack, Full}
 use Rattle.sq_track.specs.History.{History}

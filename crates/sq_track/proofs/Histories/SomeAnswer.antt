@@ -1,4 +1,4 @@
--- For every history and call there is an answer.
+-- Every history and call has a result.
 use Rattle.std.proofs.Common.{◌≡◌, ◌∙◌, ◌⊎◌, inl, inr, ℕ, ◌*◌, ◌≤◌, ◌<◌, ◌^◌, Bool, true, false, cond, leb, ltb, []}
 use Rattle.std.proofs.Common.{◌∷◌, ℤ, pos, ◌-ℤ◌, length, filter, find, not, Option, Some, None, IfSome, Result, Ok, Err}
 use Rattle.std.proofs.Common.{refl, sym, subst, arith}
@@ -40,12 +40,12 @@ use Rattle.sq_track.specs.Laws.{SomeAnswer, SomeReply}
 use Rattle.sq_track.proofs.Lists.Found.{found, none_is_some}
 use Rattle.sq_track.proofs.Histories.Entries.{recent_is}
 
--- a fault is no place
+-- a fault is not a place
 fault_is_place : {A : Type 0} (place : Place) (fault : PlaceFault)
     → ◌≡◌ {A = Result Place PlaceFault} (Ok place) (Err fault) → A
 fault_is_place place fault e = absurd (cc e)
 
--- ---- what was heard lies on a grid, so it has a position
+-- ---- the place of a result lies on a grid, so it has a position
 
 abbrev pub IsOnGrid : Place → Type 0
 IsOnGrid (Air p) = IsGridPoint air p
@@ -190,7 +190,7 @@ lat_angle : (w : ℕ) (parity : Parity) (a : ℤ) → IsLatitude w parity a
 lat_angle w Even a h = record { positive = omega arith; at_most = omega arith; within = omega (arith, h) }
 lat_angle w Odd a h = record { positive = omega arith; at_most = omega arith; within = omega (arith, h) }
 
--- a longitude of the grid is one of the globe
+-- a longitude of the grid lies within 180 degrees
 lon_within : (w zones b : ℕ) → w * b < 360 * (zones * 2 ^ 17) → IsWithin 180 (grid_longitude w zones b)
 lon_within w zones b small = by (ltb (w * b) (180 * (zones * 2 ^ 17))) refl
   where
@@ -229,7 +229,7 @@ position_of_place (Ground p) h =
     (record { latitude = h.north_south; longitude = east }) in
     (x.0, record { lat = x.1; lon = x.2 })
 
--- ---- the answer
+-- ---- the result
 
 some_of_pair : (site : Option Position) (older : Option Squitter) (q : Squitter)
     → (heard : Heard) × IsHeardOfPair site older q heard
@@ -261,7 +261,7 @@ some_answer s history moment q accepted =
 
 -- ---- the reply
 
--- a moment is in time, or below the last one
+-- a timestamp is in time, or before the last one
 in_time_or_back : (o : Option ℕ) (moment : ℕ)
     → IfSome o (λ last. last ≤ moment) ⊎ ((last : ℕ) × (o ≡ Some last) × (moment < last))
 in_time_or_back None moment = inl tt

@@ -19,13 +19,13 @@ chain-path after x (y ∷ xs) from (i ∷ is) to long path =
     ap (λ k. from ∷ chain after (y ∷ xs) k) path.0
     ∙ ap (λ l. from ∷ l) (chain-path after y xs i is to (omega (arith, long)) path.1)
 
--- two paths, one after the other
+-- a path, extended by the link from its end
 pub path-append : (after : ℕ → ℕ) (from : ℕ) (is : List ℕ) (middle to : ℕ) → IsPath after from is middle
     → after middle ≡ to → IsPath after from (is ++ middle ∷ []) to
 path-append after from [] middle to path last = (path, last)
 path-append after from (i ∷ is) middle to path last = (path.0, path-append after i is middle to path.1 last)
 
--- links that differ from others in that they pass over one index
+-- a path without one index, by links that differ only in passing over that index
 pub path-skip : (n : ℕ) (after passed : ℕ → ℕ) (out : ℕ)
     → ((k : ℕ) → k < n → after k < n)
     → ((k : ℕ) → k < n → passed k ≡ cond (eqb (after k) out) (after out) (after k))
@@ -56,7 +56,7 @@ path-skip n after passed out within passes apart from start (i ∷ is) to lt ste
         (sym (filter-cons_yes (λ k. not (eqb k out)) i is (ap not e)))
         (here ∙ ap (λ b. cond b (after out) i) e, rest i (passes i inside))
 
--- links that differ from others in that one index stands before another
+-- a path with one more index at its end, by links that differ only in that index before `to`
 pub path-insert : (n : ℕ) (after longer : ℕ → ℕ) (one to : ℕ)
     → ((k : ℕ) → k < n → eqb k one ≡ false → longer k ≡ cond (eqb (after k) to) one (after k))
     → longer one ≡ to
@@ -71,7 +71,7 @@ path-insert n after longer one to steps last from (i ∷ is) lt apart inside oth
   path-insert n after longer one to steps last i is inside.0 others.0 inside.1 others.1 elsewhere.1 path.1,
 )
 
--- links by other names of the indices
+-- a path after its indices are renamed
 pub path-renamed : (after renamed name : ℕ → ℕ) (P : ℕ → Type 0) → ((k : ℕ) → P k → renamed (name k) ≡ name (after k))
     → (from : ℕ) (is : List ℕ) (to : ℕ) → P from → AllByRecursion P is → IsPath after from is to
     → IsPath renamed (name from) (map name is) (name to)
@@ -79,7 +79,7 @@ path-renamed after renamed name P steps from [] to here all path = steps from he
 path-renamed after renamed name P steps from (i ∷ is) to here all path =
     (steps from here ∙ ap name path.0, path-renamed after renamed name P steps i is to all.0 all.1 path.1)
 
--- each index of a chain, and the next
+-- if the first index has a property and each link keeps it, each index of the chain has it
 pub chain-at : {X : Type 0} (after : ℕ → ℕ) (P : ℕ → Type 0) → ((k : ℕ) → P k → P (after k))
     → (xs : List X) (from : ℕ) → P from → AllByRecursion P (chain after xs from)
 chain-at after P step [] from here = tt
@@ -93,13 +93,13 @@ same_test a b c d to from = by (eqb a b) refl
     by true e = e ∙ sym (eq-eqb c d (to (eqb-true a b e)))
     by false e = e ∙ sym (ne_eqb c d (λ same. eqb-false a b e (from same)))
 
--- the indices below the number but one are paired, and none leads to that one
+-- the indices below n, except `out`, are paired, and none of them leads to `out`
 pub record IsPairedBut (n out : ℕ) (one other : ℕ → ℕ) : Type 0 where
   pub within : (k : ℕ) → k < n → eqb k out ≡ false → one k < n
   pub apart : (k : ℕ) → k < n → eqb k out ≡ false → eqb (one k) out ≡ false
   pub back : (k : ℕ) → k < n → eqb k out ≡ false → other (one k) ≡ k
 
--- where all are paired, an index that does not lead to itself does not lead back to itself
+-- if all are paired, an index that does not lead to itself does not lead back to itself
 pub alone_back : (n : ℕ) (one other : ℕ → ℕ) (k : ℕ) → k < n → IsPaired n one other → IsPaired n other one
     → eqb (one k) k ≡ false → eqb (other k) k ≡ false
 alone_back n one other k lt to from apart =
@@ -132,7 +132,7 @@ passed_back n one other back out k false e lt inside to apart is =
     is (one k) (to.within k lt) ∙ ap (λ j. cond (eqb j out) (other out) j) (to.back k lt)
     ∙ ap (λ t. cond t (other out) k) apart
 
--- what passes over an index pairs the others
+-- links that pass over an index pair the others
 pub passed_paired : (n : ℕ) (one other new back : ℕ → ℕ) (out : ℕ) → out < n → IsPaired n one other
     → eqb (one out) out ≡ false
     → ((j : ℕ) → j < n → new j ≡ cond (eqb (one j) out) (one out) (one j))
@@ -147,9 +147,9 @@ passed_paired n one other new back out inside to alone new_is back_is = record {
       ∙ passed_back n one other back out k (eqb (one k) out) refl lt inside to apart back_is;
 }
 
--- ---- an index goes in before another
+-- ---- an index is inserted before another
 
--- the links that lead to the index in the place of the other
+-- after `it` is inserted before `to`, other indices that led to `to` lead to `it`, and the rest lead where they did
 pub leads_to : (n : ℕ) (one other new : ℕ → ℕ) (it to k : ℕ) → k < n → to < n → eqb k it ≡ false → eqb to it ≡ false
     → IsPairedBut n it one other → IsPairedBut n it other one
     → new k ≡ cond (eqb k it) to (cond (eqb k (other to)) it (one k))
@@ -177,7 +177,7 @@ joined_one n one other back it to k false e lt within inside apart elsewhere the
       ∙ ap (λ t. cond t (other to) (other (one k))) (there.apart k lt apart) ∙ there.back k lt apart,
 )
 
--- forward: after an index joined before another
+-- all indices are paired forward after an index is joined before another
 pub joined_forward : (n : ℕ) (one other new back : ℕ → ℕ) (it to : ℕ) → it < n → to < n → eqb to it ≡ false
     → IsPairedBut n it one other → IsPairedBut n it other one
     → ((j : ℕ) → new j ≡ cond (eqb j it) to (cond (eqb j (other to)) it (one j)))
@@ -205,7 +205,7 @@ joined_forward n one other new back it to within inside elsewhere there from new
     at : (k : ℕ) → k < n → (new k < n) × (back (new k) ≡ k)
     at k lt = at_by k lt (eqb k it) refl
 
--- backward: the same, with the newest named
+-- all indices are paired backward after an index is joined before another
 pub joined_backward : (n : ℕ) (one other new back : ℕ → ℕ) (it to : ℕ) → it < n → to < n → eqb to it ≡ false
     → IsPairedBut n it one other → IsPairedBut n it other one
     → ((j : ℕ) → new j ≡ cond (eqb j it) to (cond (eqb j (other to)) it (one j)))
@@ -258,7 +258,7 @@ joined_backward n one other new back it to within inside elsewhere there from ne
     at : (k : ℕ) → k < n → (back k < n) × (new (back k) ≡ k)
     at k lt = by_to k lt (eqb k to) refl
 
--- ---- the last index takes the name of one that is out
+-- ---- the last index takes the name of the removed one
 
 pub below_last : (k last : ℕ) → k < last + 1 → eqb k last ≡ false → k < last
 below_last k last lt e = grind (arith, nat_tests, lt, e)
@@ -269,7 +269,7 @@ not_last k last lt = grind (arith, nat_tests, lt)
 pub flip_test : (a b : ℕ) → eqb a b ≡ false → eqb b a ≡ false
 flip_test a b e = ne_eqb b a (λ s. eqb-false a b e (sym s))
 
--- links of the others to the last index lead to its new name
+-- after the renaming, the link of each other index leads to the new name of the same index
 pub renames : (last : ℕ) (one other two new : ℕ → ℕ) (out : ℕ) → out < last + 1 → eqb last out ≡ false
     → IsPairedBut (last + 1) out one other → IsPairedBut (last + 1) out other one
     → ((j : ℕ) → eqb j out ≡ false → two j ≡ cond (eqb j (other last)) out (one j))
@@ -298,7 +298,7 @@ renames_none last one other new out same to new_is k lt apart =
     ap (λ b. new (cond b out k)) k_apart ∙ new_is k (below_last k last lt k_apart)
     ∙ sym (ap (λ b. cond b out (one k)) one_apart)
 
--- the name before
+-- the name of an index before the renaming
 abbrev former : (out last : ℕ) → ℕ → ℕ
 former out last k = cond (eqb k out) last k
 
@@ -348,7 +348,7 @@ renamed_paired last one other new back out inside to new_is back_is = record {
         let f = former_known out last k lt in
         ap new (sym f.2) ∙ new_is (former out last k) f.0 f.1
 
--- what an index has, it has by its new name
+-- an index keeps its key under its new name
 pub renamed_keeps : {X : Type 0} (last : ℕ) (key new : ℕ → X) (out : ℕ) → out < last + 1
     → ((j : ℕ) → j < last → new j ≡ cond (eqb j out) (key last) (key j))
     → (k : ℕ) → k < last + 1 → eqb k out ≡ false → new (renamed out last k) ≡ key k
@@ -367,9 +367,9 @@ map_renamed key new name P keeps [] all = refl
 map_renamed key new name P keeps (i ∷ is) all =
     (λ j. keeps i all.0 j ∷ map_renamed key new name P keeps is all.1 j)
 
--- ---- indices and what they have
+-- ---- indices and their keys
 
--- where what the indices have differs, the indices do
+-- if the keys of indices are distinct, so are the indices
 pub distinct_indices : (key : ℕ → ℕ) (is : List ℕ) → IsDistinct eqb (map key is) → IsDistinct eqb is
 unfolding IsDistinct
 distinct_indices key [] d = tt
@@ -380,7 +380,7 @@ distinct_indices key (i ∷ is) d = (apart is d.0, distinct_indices key is d.1)
     apart [] h = tt
     apart (j ∷ js) h = (ne_eqb i j (λ s. eqb-false (key i) (key j) h.0 (ap key s)), apart js h.1)
 
--- taking out what one index has takes that index out
+-- removing the key of one index removes that index
 pub others_by_index : (n : ℕ) (key : ℕ → ℕ) (out : ℕ) → ((k : ℕ) → k < n → eqb (key k) (key out) ≡ eqb k out)
     → (is : List ℕ) → AllByRecursion (λ k. k < n) is → others_than (key out) (map key is) ≡ map key (others_than out is)
 others_by_index n key out same [] all = refl
@@ -396,7 +396,7 @@ others_by_index n key out same (i ∷ is) all = by (eqb i out) refl (others_by_i
         ∙ ap (λ l. key i ∷ l) rest
         ∙ ap (map key) (sym (filter-cons_yes (λ k. not (eqb k out)) i is (ap not e)))
 
--- and it is among what they have exactly if the index is among them
+-- a key is among the keys exactly if its index is among the indices
 pub has_by_index : (n : ℕ) (key : ℕ → ℕ) (out : ℕ) → ((k : ℕ) → k < n → eqb (key k) (key out) ≡ eqb k out)
     → (is : List ℕ) → AllByRecursion (λ k. k < n) is → has_address (key out) (map key is) ≡ has_address out is
 has_by_index n key out same [] all = refl
@@ -409,9 +409,9 @@ has_by_index n key out same (i ∷ is) all =
     test : eqb (key out) (key i) ≡ eqb out i
     test = flip (key out) (key i) ∙ same i all.0 ∙ flip i out
 
--- ---- the ring without an index, and with it before the first
+-- ---- the ring without an index, and with an index before the first
 
--- an index that leads to itself is on no path from another
+-- an index that leads to itself is not on a path from another
 pub never_reached : (n : ℕ) (one other : ℕ → ℕ) (at : ℕ) → IsPaired n one other → other at ≡ at
     → (from : ℕ) (is : List ℕ) (to : ℕ) → from < n → eqb from at ≡ false → IsPath one from is to
     → has_address at is ≡ false
@@ -469,14 +469,14 @@ module _ (n it : ℕ) (after before : ℕ → ℕ) (forward : IsPairedBut n it a
         first rest lt apart below others elsewhere path,
   )
 
--- the first of a ring goes to its end
+-- the first index of a ring goes to its end
 pub turned : (after : ℕ → ℕ) (first : ℕ) (rest : List ℕ) → IsPath after first rest first
     → (next : ℕ) × (others : List ℕ) × (rest ++ first ∷ [] ≡ next ∷ others) × (after first ≡ next)
     × IsPath after next others next
 turned after first [] path = (first, [], refl, path, path)
 turned after first (i ∷ is) path = (i, is ++ first ∷ [], refl, path.0, path-append after i is first i path.1 path.0)
 
--- ---- what is true of each index
+-- ---- properties of each index
 
 pub all_filter : (P : ℕ → Type 0) (p : ℕ → Bool) (is : List ℕ) → AllByRecursion P is → AllByRecursion P (filter p is)
 all_filter P p [] all = tt
@@ -544,7 +544,7 @@ pub others_than_later : (out i : ℕ) (is : List ℕ) → eqb i out ≡ false
     → others_than out (i ∷ is) ≡ i ∷ others_than out is
 others_than_later out i is e = filter-cons_yes (λ k. not (eqb k out)) i is (ap not e)
 
--- ---- one index more
+-- ---- one more index
 
 pub paired_more : (n : ℕ) (one other one' other' : ℕ → ℕ) → IsPaired n one other
     → ((k : ℕ) → k < n → one' k ≡ one k) → ((k : ℕ) → k < n → other' k ≡ other k) → IsPairedBut (n + 1) n one' other'
@@ -574,7 +574,7 @@ paired_one n at one other long first leads back = record {
     same : (k : ℕ) → k < n → at ≡ k
     same k lt = omega (arith, lt, long, first)
 
--- ---- the ring that begins elsewhere
+-- ---- the ring, begun at another index
 
 pub others_than_last : (out : ℕ) (is : List ℕ) → AllByRecursion (λ k. eqb k out ≡ false) is
     → others_than out (is ++ out ∷ []) ≡ is
@@ -583,7 +583,7 @@ others_than_last out (i ∷ is) all =
     filter-cons_yes (λ k. not (eqb k out)) i (is ++ out ∷ []) (ap not all.0)
     ∙ ap (λ l. i ∷ l) (others_than_last out is all.1)
 
--- where only one index leads to the end of a path, that index is the last of the path
+-- if only one index leads to the end of a path, that index is the last of the path
 pub ends_path : (after : ℕ → ℕ) (n from : ℕ) (is : List ℕ) (to last : ℕ) → IsPath after from is to
     → AllByRecursion (λ k. k < n) (from ∷ is) → ((k : ℕ) → k < n → after k ≡ to → k ≡ last)
     → (front : List ℕ) × (from ∷ is ≡ front ++ last ∷ [])
@@ -592,7 +592,7 @@ ends_path after n from (i ∷ is) to last path below only =
     let (front, e) = ends_path after n i is to last path.1 below.1 only in
     (from ∷ front, ap (λ l. from ∷ l) e)
 
--- the indices before the last of a distinct list are others
+-- the indices before the last of a distinct list differ from the last
 pub others_before_last : (front : List ℕ) (last : ℕ) → IsDistinct eqb (front ++ last ∷ [])
     → AllByRecursion (λ k. eqb k last ≡ false) front
 unfolding IsDistinct

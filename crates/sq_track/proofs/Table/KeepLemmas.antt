@@ -1,5 +1,5 @@
--- Keeping a position changes neither its counterpart nor the last fix. Setting the last fix after it gives the same as
--- keeping both at once.
+-- Storing a position changes neither its counterpart nor the last fix. Setting the last fix after it gives the same
+-- as storing both at once.
 use Rattle.std.proofs.Common.{◌≡◌, ap, refl, Option}
 use Rattle.sq_zones.specs.declared.parity.Parity.{Parity}
 use Rattle.sq_zones.specs.declared.parity.Parity.TheVariants.{Even, Odd}
@@ -11,7 +11,7 @@ use Rattle.sq_track.specs.declared.contact.Side.{Side}
 use Rattle.sq_track.specs.declared.contact.Contact.{Contact}
 use Rattle.sq_track.specs.Kept.{contact_with, fix_in, of_other_parity, pair_in, side_with, with_fix}
 
--- a new position leaves the one of the other parity
+-- a new position leaves the one of the other parity unchanged
 other_stays : (p : Parity) (frame : Received) (fix : Option LastFix) (side : Side)
     → of_other_parity p (side_with p frame fix side) ≡ of_other_parity p side
 other_stays Even frame fix side = refl
@@ -35,7 +35,7 @@ fix_stays (kinds.Airborne a) frame contact = given_fix a.parity frame contact.ai
 fix_stays (kinds.Surface a) frame contact = given_fix a.parity frame contact.surface.fix contact.surface
 fix_stays (kinds.Other a) frame contact = refl
 
--- setting the last fix after a position gives the same as keeping both at once
+-- setting the last fix after a position gives the same as storing both at once
 side_at_once : (p : Parity) (frame : Received) (old fix : Option LastFix) (side : Side)
     → record (side_with p frame old side) { fix = fix } ≡ side_with p frame fix side
 side_at_once Even frame old fix side = refl

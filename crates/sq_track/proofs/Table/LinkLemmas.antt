@@ -22,14 +22,14 @@ Links = List Neighbours
 
 -- ---- writes
 
--- the link that is read at an index
+-- reading a link at an index
 pub read_at : (f : Neighbours → ℕ) (ls : Links) (i : ℕ) (d : Neighbours) → f d ≡ 0
     → f (get_or ls i d) ≡ get_or (map f ls) i 0
 read_at f [] i d none = none
 read_at f (l ∷ ls) zero d none = refl
 read_at f (l ∷ ls) (suc i) d none = read_at f ls i d none
 
--- writing the link that is there changes nothing
+-- writing the link that is already there changes nothing
 kept_at : (f : Neighbours → ℕ) (ls : Links) (i : ℕ) (l : Neighbours) → f l ≡ get_or (map f ls) i 0
     → map f (set ls i l) ≡ map f ls
 kept_at f [] i l same = refl
@@ -54,7 +54,7 @@ written_at : (f : Neighbours → ℕ) (ls : Links) (i : ℕ) (l : Neighbours) (k
 written_at f ls i l k lt = ap (λ ys. get_or ys k 0) (set_at f ls i l)
     ∙ number_at (map f ls) i k (f l) (omega (arith, lt, length-map ls f))
 
--- both ends of a link
+-- writing both ends of a link
 pub linked : (from to : ℕ) (ls : Links) (d : Neighbours) → d.before ≡ 0 → d.after ≡ 0 → from < length ls
     → to < length ls
     → IsLinking from to ls (set (set ls from (record { before = (get_or ls from d).before; after = to })) to
@@ -86,7 +86,7 @@ written_back xs ys n long = ap (λ k. take k (xs ++ ys)) long ∙ take-append_se
 
 -- ---- reads at an index
 
--- a read at an index below `n` needs the first `n` items only
+-- a read at an index below `n` needs only the first `n` items
 pub front_at : {X : Type 0} (f : X → ℕ) (es : List X) (n k : ℕ) → k < n
     → get_or (map f es) k 0 ≡ get_or (map f (take n es)) k 0
 front_at f [] zero k lt = refl
@@ -122,7 +122,7 @@ pub shorter : {X : Type 0} (xs : List X) (i : ℕ) (r : Option X) (n : ℕ) → 
 shorter xs i None n lt at count = absurd (lost xs i lt at)
 shorter xs i (Some x) n lt at count = count
 
--- what removing an entry by its index leaves
+-- the entries after removing one by its index
 module _ {S : Type 0} (m n : IndexMap ℕ Contact S) (at : ℕ) where
   pub dropped : (r : Option (ℕ × Contact)) → at < length m.entries → r ≡ slice_get m.entries at
       → IfSome r (λ p. n.entries ≡ swap_remove m.entries at p) → IfSome r (λ p. Updates eqb m n p.0 None)

@@ -1,4 +1,5 @@
--- A tracker keeps of an address what it may keep: positions of the address, each in its place, no fix newer than them.
+-- A tracker holds for an address only what it may: positions of that address, each in its field, and fixes at or
+-- before the newest of these.
 use Rattle.std.proofs.Common.{◌≡◌, ℕ, ◌+◌, ◌≤◌, Bool, true, false, ◌&&◌, ◌||◌, eqb, leb, [], ◌∷◌, filter, Option, Some, None}
 use Rattle.std.proofs.Common.{IfSome, cond, unwrap_or, refl, sym, ap, ◌∙◌, arith, subst}
 use Rattle.std.specs.List.{AllByRecursion}
@@ -51,7 +52,7 @@ one_parity : (p : Parity) → are_one_parity p p ≡ true
 one_parity Even = refl
 one_parity Odd = refl
 
--- ---- a side, at a later moment and with a frame
+-- ---- a side, at a later timestamp and with a frame
 
 frame_later : (a n m : ℕ) (in_air : Bool) (p : Parity) (o : Option Received) → n ≤ m → is_frame_of a n in_air p o ≡ true
     → is_frame_of a m in_air p o ≡ true
@@ -70,14 +71,14 @@ side_later a n m in_air s le e =
     (frame_later a n m in_air Odd s.odd le (first (is_frame_of a n in_air Odd s.odd) _ rest))
     (second (is_frame_of a n in_air Odd s.odd) _ rest))
 
--- what was received at a moment or later, and no later than the newest, gives an order of both
+-- a frame that was received at or after `k`, and at or before `n`, gives `k` at or before `n`
 since_newest : (a n k : ℕ) (in_air : Bool) (p : Parity) (o : Option Received) → is_frame_of a n in_air p o ≡ true
     → is_since k o ≡ true → k ≤ n
 since_newest a n k in_air p None e since = absurd (false≢true since)
 since_newest a n k in_air p (Some f) e since =
     omega (arith, leb-true k f.moment since, leb-true f.moment n (first (leb f.moment n) _ e))
 
--- no fix of a side is newer than the newest position
+-- each fix of a side is at or before the newest position
 fix_no_later : (a n : ℕ) (in_air : Bool) (s : Side) (fix : LastFix) → s.fix ≡ Some fix → is_side_of a n in_air s ≡ true
     → fix.moment ≤ n
 fix_no_later a n in_air s fix is e = by (is_since fix.moment s.even) refl
@@ -93,7 +94,7 @@ fix_no_later a n in_air s fix is e = by (is_since fix.moment s.even) refl
     by false f = since_newest a n fix.moment in_air Odd s.odd (first (is_frame_of a n in_air Odd s.odd) _ rest)
         (sym (ap (λ b. b || is_since fix.moment s.odd) f) ∙ since)
 
--- the fix after a squitter is no later than the squitter
+-- the fix after a squitter is at or before the squitter
 new_fix : (m : ℕ) (p : Option Place) (before after : Option LastFix) → IsFixWith m p before after
     → ((fix : LastFix) → before ≡ Some fix → fix.moment ≤ m)
     → (fix : LastFix) → after ≡ Some fix → fix.moment ≤ m
@@ -102,7 +103,7 @@ new_fix m (Some place) before after (position, there, is) older fix at =
     subst (λ (f : LastFix). f.moment ≤ m)
     (ap (λ o. unwrap_or o (record { moment = m; position = position })) (sym is ∙ at)) (omega arith)
 
--- a side with a frame of its own
+-- a side with a frame of its own address
 module _ (a : ℕ) (in_air : Bool) (frame : Received) (fix : Option LastFix)
     (own : (squitter_parts frame.squitter).address ≡ a) (later : (f : LastFix) → fix ≡ Some f → f.moment ≤ frame.moment)
   where
@@ -140,7 +141,7 @@ module _ (a : ℕ) (in_air : Bool) (frame : Received) (fix : Option LastFix)
 
 -- ---- a contact
 
--- both sides are the address's
+-- both sides are those of the address
 abbrev pub AreOwn : (address : ℕ) → Contact → Type 0
 AreOwn address c = (is_side_of address c.moment true c.airborne ≡ true)
     × (is_side_of address c.moment false c.surface ≡ true)
@@ -182,7 +183,7 @@ own_with a (kinds.Other x) frame heard fix c pos me own sides le fixed = absurd 
 
 -- ---- the entries
 
--- an entry that is fresh at a moment is present at it
+-- an entry that is fresh at a timestamp is present then
 pub owned_fresh : (w m : ℕ) (last : Option ℕ) (es : Entries) → AllByRecursion (IsOwned w last) es
     → AllByRecursion (λ (e : ℕ × Contact). e.1.moment ≤ m) es
     → AllByRecursion (IsOwned w (Some m)) (filter (fresh_entry w m) es)
@@ -196,11 +197,11 @@ owned_fresh w m last (x ∷ es) owned before =
         ((owned.0.0, both (leb x.1.moment m) _ (le-leb x.1.moment m before.0) f), rest)
     by false f rest = subst (AllByRecursion (IsOwned w (Some m))) (sym (filter-cons_no (fresh_entry w m) x es f)) rest
 
--- a contact that was heard at the moment is present at it
+-- a contact that was heard at the timestamp is present then
 pub present_now : (w m k : ℕ) → k ≡ m → is_present_at w (Some m) k ≡ true
 present_now w m k is = both (leb k m) _ (le-leb k m (omega (arith, is))) (le-leb m (k + w) (omega (arith, is)))
 
--- the contact that is found of an address is the address's
+-- the contact that is found for an address is that of the address
 pub found_own : (w : ℕ) (last : Option ℕ) (a : ℕ) (es : Entries) → AllByRecursion (IsOwned w last) es
     → AreOwn a (unwrap_or (lookup (eqb a) es) blank_contact)
 found_own w last a [] owned = own_blank a
@@ -214,7 +215,7 @@ found_own w last a (x ∷ es) owned = by (eqb a x.0) refl (found_own w last a es
     by false e rest = subst (λ o. AreOwn a (unwrap_or o blank_contact))
         (sym (ap (λ b. cond b (Some x.1) (lookup (eqb a) es)) e)) rest
 
--- ---- nothing that is kept is newer than the newest position
+-- ---- all that is stored is at or before the newest position
 
 frame_before : (a n : ℕ) (in_air : Bool) (p : Parity) (o : Option Received) → is_frame_of a n in_air p o ≡ true
     → IfSome o (λ (f : Received). f.moment ≤ n)

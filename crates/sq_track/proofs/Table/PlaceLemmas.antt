@@ -1,4 +1,4 @@
--- What a table has of an address, by its index.
+-- The entry of an address in a table, by its index.
 use Rattle.std.proofs.Common.{◌≡◌, ℕ, zero, suc, ◌+◌, ◌^◌, ◌<◌, ◌≤◌, Bool, true, false, cond, ◌||◌, eqb, List, [], ◌∷◌, ◌++◌, length}
 use Rattle.std.proofs.Common.{map, slice_get, position, Option, Some, None, IfSome, is_some, unwrap_or, refl, sym, ap, ◌∙◌, arith}
 use Rattle.std.proofs.Common.{subst, get_or, not, take}
@@ -130,7 +130,7 @@ place es ls oldest address at table d is_at found = record {
     below : AllByRecursion (λ k. k < length ls) (round ls oldest)
     below = below_round ls oldest table.is_round
 
--- the oldest index is the place of its address
+-- the oldest index is that of its address
 pub oldest_place : (es : Entries) (ls : Links) (oldest : ℕ) → IsLinkedTable es ls oldest → IsDistinct eqb (keys_of es)
     → oldest < length es → IsPlace es ls oldest (address_at es oldest) oldest
 oldest_place es ls oldest table d lt = record {
@@ -167,7 +167,7 @@ pub some_entries : (es : Entries) (address newest : ℕ) → slice_get (moments_
 some_entries [] address newest at = absurd (false≢true (ap is_some at))
 some_entries (e ∷ es) address newest at = omega arith
 
--- the first address of the order is that of the oldest index
+-- the first address in order is that of the oldest index
 pub oldest_first : (es : Entries) (ls : Links) (oldest address newest : ℕ) → IsLinkedTable es ls oldest
     → slice_get (moments_in (entries_in es (addresses_in es ls oldest))) 0 ≡ Some (address, newest)
     → oldest < length es → address_at es oldest ≡ address
@@ -176,7 +176,7 @@ oldest_first es ls oldest address newest table at lt =
     let first = ap (λ is. slice_get (moments_in (entries_in es (map (address_at es) is))) 0) (sym is_open.is) ∙ at in
     ap (λ (o : Option (ℕ × ℕ)). (unwrap_or o (0, 0)).0) first
 
--- ---- what the table has at an index
+-- ---- the entry of the table at an index
 
 -- the contact at an index of the order
 pub seen : (es : Entries) (ls : Links) (oldest index at : ℕ) (r : Option (ℕ × Contact))
@@ -196,7 +196,7 @@ seen es ls oldest index at (Some e) at_is lt r_is found =
     address = get_or_from_slice_get (keys_of es) at e.0 0
         (slice_get-map (λ (e : ℕ × Contact). e.0) es at ∙ ap (option_map (λ (e : ℕ × Contact). e.0)) (sym r_is))
 
--- an entry's address, with the moment of its newest position
+-- the address of an entry, with the timestamp of its newest position
 abbrev shown : ℕ × Contact → ℕ × ℕ
 shown e = (e.0, e.1.moment)
 
@@ -246,7 +246,7 @@ seen_first es ls oldest table found = by ls refl
     by (x ∷ xs) some = seen_moment es ls oldest 0 oldest (ap (λ l. slice_get (round l oldest) 0) (sym some))
         (omega (arith, table.is_round.within (omega (arith, ap length some)), long)) found
 
--- the indices of the order, one after another
+-- the indices of a round in order: the first, the one after an index, and none past the end
 pub first_at : (ls : Links) (oldest : ℕ) → 0 < length ls → IsRound ls oldest
     → (slice_get (round ls oldest) 0 ≡ Some oldest) × (oldest < length ls)
 first_at ls oldest some is_round =
@@ -278,7 +278,7 @@ both_at [] i v at = none_is_some v at
 both_at (e ∷ es) zero v at = ap (λ u. Some (e.0, u)) (same_some e.1 v at)
 both_at (e ∷ es) (suc i) v at = both_at es i v at
 
--- the table after a squitter was heard at an index that was reached
+-- the table after a squitter was heard at the index of its address
 pub record IsHeardAt (es gs : Entries) (ls ms : Links) (oldest last address : ℕ) (before after : Contact)
     : Type 0 where
   pub was : before ≡ unwrap_or (lookup (eqb address) es) blank_contact
@@ -460,7 +460,7 @@ module _ (es fs : Entries) (ls ms : Links) (e : ℕ × Contact) (oldest to at : 
     known = ap (has_address at) order ∙ has_last at (round ls oldest);
   }
 
--- the contacts once an address went to the end
+-- the contacts after an address moved to the end
 module _ (es hs : Entries) (ls ms : Links) (oldest to address : ℕ) (contact : Contact)
     (tied : IsTied es (addresses_in es ls oldest))
     (updates : (k : ℕ) → lookup (eqb k) hs ≡ cond (eqb address k) (Some contact) (lookup (eqb k) es))
@@ -476,7 +476,7 @@ module _ (es hs : Entries) (ls ms : Links) (oldest to address : ℕ) (contact : 
       (put_tied es (addresses_in es ls oldest) tied address contact hs updates
       (subst (λ x. length hs ≡ length es + one_unless (is_some x)) (sym is) long))
 
--- ---- an address that was reached
+-- ---- an address that was found or created
 
 known_contact : (cs : List (ℕ × Contact)) (address k : ℕ) (o : Option Contact) → lookup (eqb address) cs ≡ o
     → is_some o ≡ true → (b : Bool) → eqb address k ≡ b

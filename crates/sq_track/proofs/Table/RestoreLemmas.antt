@@ -1,4 +1,4 @@
--- An address that is held again.
+-- Restoring an address.
 use Rattle.std.proofs.Common.{◌≡◌, ℕ, suc, ◌+◌, ◌<◌, ◌≤◌, Bool, true, false, not, ◌&&◌, eqb, leb, min, [], ◌∷◌, ◌++◌, length}
 use Rattle.std.proofs.Common.{slice_get, Option, Some, None, IfSome, is_some, unwrap_or, refl, sym, ap, ◌∙◌, arith, subst, cond}
 use Rattle.std.specs.List.{AllByRecursion, IsDistinct}
@@ -17,7 +17,7 @@ use Rattle.sq_track.proofs.Table.EntryLemmas.{Entries, IsOrdered-push, IsOrdered
 use Rattle.sq_track.proofs.Lists.Rings.{flip_test}
 use Rattle.sq_track.proofs.Table.OwnLemmas.{own_within}
 
--- ---- the newest position of all
+-- ---- the newest position
 
 abbrev IsNewest : ℕ → Entries → Type 0
 IsNewest newest es = (index : ℕ) → index + 1 ≡ length es
@@ -44,7 +44,7 @@ newest_before m newest (e ∷ es) ordered none is = by e es (each_before 0 m (e 
     by e [] all is = omega (arith, all.0, is 0 refl)
     by e (f ∷ fs) all is = by f fs all.1 (λ index long. is (suc index) (omega (arith, long)))
 
--- ---- the entries with one more
+-- ---- the entries and one more
 
 others_absent : (a : ℕ) (es : Entries) → lookup (eqb a) es ≡ None → others_in a es ≡ es
 others_absent a [] none = refl
@@ -60,7 +60,7 @@ pub put_back : (t : Held) (a : ℕ) (c : Contact) (new : Entries) → CanFollow 
     → new ≡ others_in a t.contacts ++ (a, c) ∷ [] → new ≡ t.contacts ++ (a, c) ∷ []
 put_back t a c new can is = is ∙ ap (λ (es : Entries). es ++ (a, c) ∷ []) (others_absent a t.contacts can.absent)
 
--- the moment is no later than the last one
+-- the timestamp is at or before the last one
 no_later : (w k : ℕ) (last : Option ℕ) → is_present_at w last k ≡ true → k ≤ unwrap_or last 0
 no_later w k None is = absurd (false≢true is)
 no_later w k (Some l) is = by (leb k l) refl
@@ -101,7 +101,7 @@ pub none_of : (o : Option Contact) → is_some o ≡ false → o ≡ None
 none_of None is = refl
 none_of (Some c) is = absurd (true≢false is)
 
--- ---- what a tracker holds
+-- ---- the state of a tracker
 
 all_middle : (P : ℕ × Contact → Type 0) (front back : Entries) (e : ℕ × Contact)
     → AllByRecursion P (front ++ e ∷ back) → P e

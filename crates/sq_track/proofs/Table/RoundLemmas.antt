@@ -1,4 +1,4 @@
--- Rounds through a table: with an entry at the end, with a new one, and without one.
+-- Rounds through a table: with an entry moved to the end, with a new entry, and with an entry removed.
 use Rattle.std.proofs.Common.{◌≡◌, ℕ, zero, suc, ◌+◌, ◌<◌, Bool, true, false, cond, ◌||◌, eqb, List, [], ◌∷◌, ◌++◌}
 use Rattle.std.proofs.Common.{length, map, not, refl, sym, ap, ◌∙◌, arith, subst, get_or, take}
 use Rattle.std.specs.List.{AllByRecursion, IsDistinct}
@@ -24,7 +24,7 @@ use Rattle.sq_track.proofs.Table.ContactLemmas.{length-others, one_if}
 abbrev Links : Type 0
 Links = List Neighbours
 
--- a round that is open as a list of indices
+-- a round, opened as a list of indices
 pub record IsOpen (ls : Links) (first : ℕ) (rest : List ℕ) : Type 0 where
   pub is : round ls first ≡ first ∷ rest
   pub path : IsPath (after_at ls) first rest first
@@ -63,12 +63,12 @@ close_round ls first rest lt long forward backward path = (
     is : round ls first ≡ first ∷ rest
     is = closed (after_at ls) ls first rest (sym long) path
 
--- what others are left of a round, and that one more makes it whole
+-- the number of other indices of a round: one less than the whole
 others-length : (at : ℕ) (is : List ℕ) → IsDistinct eqb is → has_address at is ≡ true
     → length (others_than at is) + 1 ≡ length is
 others-length at is d known = omega (arith, length-others at is d, ap one_if known)
 
--- the oldest goes to the end
+-- the oldest index goes to the end
 oldest_last : (ls : Links) (oldest : ℕ) → 0 < length ls → IsRound ls oldest → IsDistinct eqb (round ls oldest)
     → IsRound ls (after_at ls oldest)
     × (round ls (after_at ls oldest) ≡ others_than oldest (round ls oldest) ++ oldest ∷ [])
@@ -96,7 +96,7 @@ last_of_oldest ls oldest at next on same leads =
       ap (round ls) is ∙ done.1 ∙ ap (λ i. others_than i (round ls oldest) ++ i ∷ []) (sym same),
     )
 
--- an entry that leads to the oldest is the last already
+-- an entry that leads to the oldest is already last
 pub already_last : (ls : Links) (oldest at next : ℕ) → IsOnRound ls oldest at → next ≡ oldest → next ≡ after_at ls at
     → round ls oldest ≡ others_than at (round ls oldest) ++ at ∷ []
 already_last ls oldest at next on ends leads =
@@ -109,7 +109,7 @@ already_last ls oldest at next on ends leads =
     whole ∙ ap (λ l. l ++ at ∷ []) (sym (ap (others_than at) whole
     ∙ others_than_last at front (others_before_last front at (subst (IsDistinct eqb) whole on.distinct))))
 
--- what is known of a round from which an entry other than the first is passed over
+-- the facts about a round in which an entry other than the first is passed over
 pub record IsPassed (n at first : ℕ) (rest : List ℕ) (ms : Links) : Type 0 where
   pub forward : IsPairedBut n at (after_at ms) (before_at ms)
   pub backward : IsPairedBut n at (before_at ms) (after_at ms)
@@ -130,7 +130,7 @@ either_within : (n i j : ℕ) (b : Bool) → i < n → j < n → cond b i j < n
 either_within n i j true l r = l
 either_within n i j false l r = r
 
--- what leads to an entry, once another is passed over
+-- after an entry is passed over, each link still leads to an index below the number of links
 pub before_within : (ls ms : Links) (at k : ℕ) → at < length ls → k < length ls
     → IsPaired (length ls) (before_at ls) (after_at ls)
     → IsLinking (before_at ls at) (after_at ls at) ls ms → before_at ms k < length ms
@@ -157,7 +157,7 @@ after_within ls ms at k within lt forward over =
           (forward.within k lt)),
     )
 
--- an entry that is in no round goes in before the first
+-- an entry that is in no round is inserted before the first
 pub put_in : (ls ms ns : Links) (at first : ℕ) (rest : List ℕ) → at < length ls → first < length ls
     → length (first ∷ rest) + 1 ≡ length ls
     → IsPairedBut (length ls) at (after_at ls) (before_at ls) → IsPairedBut (length ls) at (before_at ls) (after_at ls)
@@ -261,9 +261,9 @@ last_of_new ls ns os oldest at new more one two =
     below is_open.path) one two in
     (done.0, done.1 ∙ ap (λ l. l ++ at ∷ []) (sym is_open.is))
 
--- ---- an entry goes
+-- ---- an entry is removed
 
--- a round that begins elsewhere than at an entry
+-- a round that begins at another index than the removed one
 pub record IsStart (ls : Links) (oldest at first : ℕ) (rest : List ℕ) : Type 0 where
   pub path : IsPath (after_at ls) first rest first
   pub apart : eqb first at ≡ false
@@ -317,7 +317,7 @@ start ls oldest at first more on is = by (eqb oldest at) refl
           }),
         )
 
--- the links after the last entry has taken another's place
+-- the links after the last entry took another's place
 pub record IsMoved (at last : ℕ) (ls ms : Links) : Type 0 where
   pub after : (k : ℕ) → k < last + 1 → eqb k at ≡ false
       → after_at ms (renamed at last k) ≡ renamed at last (after_at ls k)
@@ -399,7 +399,7 @@ left_empty ls os oldest at last to one on none = (
         empty [] none = refl
         empty (i ∷ is) none = absurd (omega (arith, none))
 
--- without an entry, and with the last in its place
+-- the round without an entry, with the last one in its place
 left_round : (ls ms os : Links) (oldest at last first : ℕ) (rest : List ℕ) → length ls ≡ last + 1
     → IsOnRound ls oldest at → length (round ls oldest) ≡ length ls
     → IsStart ls oldest at first rest

@@ -1,4 +1,4 @@
--- Replies one after another.
+-- Replies in order.
 use Rattle.std.proofs.Common.{◌≡◌, List, [], ◌∷◌, ◌++◌, Result, refl, sym, subst}
 use Rattle.sq_message.specs.declared.received.Received.{Received}
 use Rattle.sq_track.specs.declared.heard.Heard.{Heard}
@@ -31,7 +31,7 @@ after_more s h [] (q ∷ rs) x r before = absurd before
 after_more s h (y ∷ xs) [] x r before = absurd before
 after_more s h (y ∷ xs) (q ∷ rs) x r before = after_more s (history_after h y.moment y.squitter q) xs rs x r before.1
 
--- replies that each history of the tracker gives are true in slow worlds
+-- if each history of the tracker gives the replies, they are true in slow worlds
 pub true_in_slow_worlds : (t : Held) (received : List Received) (replies : List Reply)
     → ((h : History) → StandsFor t h → AreReplies (settings t) h received replies)
     → AreTrueInSlowWorlds t received replies
@@ -39,7 +39,7 @@ true_in_slow_worlds t received replies each world arrivals h st arises slow foll
     slow_replies_are_true (settings t) world arrivals h replies st.accepted arises slow follows among
     (subst (λ xs. AreReplies (settings t) h xs replies) (sym is) (each h st))
 
--- the replies to one more of a list, in the slots of a list
+-- the replies to a list with one more squitter, in the slots of a list
 pub replies_next : (s : Settings) (h : History) (xs xs' : List Received) (rs rs' : List Reply) (x : Received)
     (r : Reply)
     → xs' ≡ xs ++ x ∷ [] → rs' ≡ rs ++ r ∷ [] → AreReplies s h xs rs

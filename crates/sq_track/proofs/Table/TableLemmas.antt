@@ -1,4 +1,4 @@
--- Contacts in the order of their moments.
+-- Contacts in the order of their timestamps.
 use Rattle.std.proofs.Common.{subst, ◌≡◌, ℕ, ◌+◌, ◌≤◌, ◌<◌, Bool, true, false, not, cond, eqb, leb, List, [], ◌∷◌}
 use Rattle.std.proofs.Common.{length, filter, slice_get, Option, Some, None, refl, sym, ap, ◌∙◌, arith, is_some}
 use Rattle.std.proofs.Common.{unwrap_or}
@@ -15,7 +15,7 @@ use Rattle.sq_track.proofs.Table.EntryLemmas.{count_fresh, one_if}
 abbrev Entries : Type 0
 Entries = List (ℕ × Contact)
 
--- the first entry, by its address and the moment of its newest position
+-- the first entry, by its address and the timestamp of its newest position
 pub first_entry : (es : Entries) (a t : ℕ) → Some (a, t) ≡ slice_get (moments_in es) 0
     → (c : Contact) × (Some (a, c) ≡ slice_get es 0) × (c.moment ≡ t)
 first_entry [] a t at = absurd (false≢true (sym (ap is_some at)))
@@ -27,7 +27,7 @@ pub no_first : (es : Entries) → None ≡ slice_get (moments_in es) 0 → None 
 no_first [] at = refl
 no_first (e ∷ es) at = absurd (false≢true (ap is_some at))
 
--- from a fresh entry on all are fresh
+-- if the order starts from a fresh timestamp, all entries are fresh
 pub all_fresh : (w m from to : ℕ) (es : Entries) → IsOrdered from to es → m ≤ from + w
     → filter (fresh_entry w m) es ≡ es
 all_fresh w m from to [] o le = refl
@@ -39,7 +39,7 @@ all_fresh w m from to (e ∷ es) o le =
 same_entry : (e f : ℕ × Contact) → Some e ≡ Some f → e ≡ f
 same_entry e f h = ap (λ o. unwrap_or o e) h
 
--- where the first is fresh all are
+-- if the first entry is fresh, all are
 pub all_kept : (w m from to : ℕ) (es : Entries) (e : ℕ × Contact) → IsOrdered from to es → Some e ≡ slice_get es 0
     → is_fresh w m e.1 ≡ true
     → filter (fresh_entry w m) es ≡ es
@@ -60,7 +60,7 @@ others_in-first e es all =
     let same : eqb e.0 e.0 ≡ true = grind (arith, nat_tests) in
     filter-cons_no (λ x. not (eqb x.0 e.0)) e es (ap not same) ∙ others_in-apart e.0 e.0 es same all
 
--- the first, where it is stale, may go
+-- if the first entry is stale, it may be dropped
 pub first_stale : (w m : ℕ) (es : Entries) (e : ℕ × Contact) → IsDistinct eqb (keys_of es) → Some e ≡ slice_get es 0
     → is_fresh w m e.1 ≡ false
     → (filter (fresh_entry w m) (others_in e.0 es) ≡ filter (fresh_entry w m) es)
@@ -76,7 +76,7 @@ first_stale w m (x ∷ es) e d at f =
       omega (arith, ap length gone),
     )
 
--- where one is stale the fresh ones are fewer
+-- if an entry is stale, there are fewer fresh entries than entries
 fewer_fresh : (w m a : ℕ) (es : Entries) (c : Contact) → Some c ≡ lookup (eqb a) es → is_fresh w m c ≡ false
     → length (filter (fresh_entry w m) es) < length es
 fewer_fresh w m a [] c at f = absurd (false≢true (sym (ap is_some at)))
@@ -142,7 +142,7 @@ from_first from to [] e o at = absurd (false≢true (sym (ap is_some at)))
 from_first from to (x ∷ es) e o at =
     subst (λ (y : ℕ × Contact). IsOrdered y.1.moment to (x ∷ es)) (sym (same_entry e x at)) (omega arith, o.1)
 
--- nothing is in order from any moment on
+-- an empty list is in order from any timestamp on
 pub from_none : (m : ℕ) (es : Entries) → None ≡ slice_get es 0 → IsOrdered m m es
 from_none m [] at = omega arith
 from_none m (x ∷ es) at = absurd (false≢true (ap is_some at))

@@ -35,7 +35,7 @@ has_at (x ∷ is) (suc k) a at = ap (λ b. eqb a x || b) (has_at is k a at) ∙ 
     or_true true = refl
     or_true false = refl
 
--- the index of an address that is shown at an index of the order
+-- the table index of an address that is at an index of the order
 shown_by : (es : Entries) (ls : Links) (oldest index address : ℕ) (contact : Contact) (o : Option ℕ)
     → slice_get (round ls oldest) index ≡ o
     → slice_get (entries_in es (addresses_in es ls oldest)) index ≡ Some (address, contact)
@@ -66,7 +66,7 @@ index_at es ls oldest index at address contact table d lt is shown =
     ∙ eq-eqb (address_at es i) (address_at es at) (there ∙ sym is) in
     at_is ∙ ap Some (eqb-true i at same)
 
--- an address that is shown is in the table
+-- an address in the order is in the table
 pub is_there : (es : Entries) (ls : Links) (oldest index address : ℕ) (contact : Contact)
     → IsLinkedTable es ls oldest
     → slice_get (entries_in es (addresses_in es ls oldest)) index ≡ Some (address, contact)
@@ -79,7 +79,7 @@ is_there es ls oldest index address contact table shown =
     (slice_get-map (address_at es) (round ls oldest) index ∙ ap (option_map (address_at es)) at_is
     ∙ ap Some there)
 
--- the entry behind one
+-- the entry after one
 pub behind : (es : Entries) (ls : Links) (oldest index at next : ℕ) (r : Option (ℕ × Contact))
     → IsLinkedTable es ls oldest → slice_get (round ls oldest) index ≡ Some at → index + 1 < length es
     → at < length es → next ≡ after_at ls at → r ≡ slice_get es next

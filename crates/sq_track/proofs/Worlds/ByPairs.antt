@@ -1,4 +1,4 @@
--- A world is slow, and tame, by its pairs of arrivals.
+-- A world is slow or tame exactly if any two of its arrivals are.
 use Rattle.std.proofs.Common.{◌≡◌, ◌≢◌, ◌↔◌, ◌∙◌, ◌⊎◌, inl, inr, ℕ, ◌+◌, ◌<◌, arith, [], ◌∷◌, Option, Some, Contains, refl}
 use Rattle.std.proofs.Common.{sym, ap, subst}
 use Rattle.std.specs.List.{AllByRecursion}
@@ -30,7 +30,7 @@ each_of_pair P a b c h k there = All-contains P (a ∷ b ∷ []) c (All-from_rec
 pub is_one_of : (a b c : Arrival) → Contains (a ∷ b ∷ []) c → (c ≡ a) ⊎ (c ≡ b)
 is_one_of a b c there = each_of_pair (λ x. (x ≡ a) ⊎ (x ≡ b)) a b c (inl refl) (inr refl) there
 
--- what holds of each two arrivals of a world holds of each two in each pair of them, and back
+-- a property of any two arrivals of a world holds exactly if it holds in each pair of them
 by_pairs : (P : Arrival → Arrival → Type 0) (world : World)
     → ((a b : Arrival) → Contains world a → Contains world b → P a b)
     ↔ ((a b : Arrival) → Contains world a → Contains world b
@@ -41,22 +41,22 @@ by_pairs P world = (
   λ each a b a_in b_in. each a b a_in b_in a b (in_pair a b).0 (in_pair a b).1.0,
 )
 
--- two arrivals, in this order, are slow to follow wherever they come together
+-- two arrivals, in this order, are slow to follow if they come together
 abbrev Follows : ℕ → Arrival → Arrival → Type 0
 Follows window c d = AreTogether window c d → (p q : Place) → IsTruePlace c p → IsTruePlace d q
     → AreSlowToFollow p q c.position d.position
 
--- an even and an odd arrival are slow wherever they come together
+-- an even and an odd arrival are slow if they come together
 abbrev pub Pairs : ℕ → Option Position → Arrival → Arrival → Type 0
 Pairs window site c d = ArePairTogether window c d → (p q : Place) → IsTruePlace c p → IsTruePlace d q
     → AreSlowPlaces site p q c.position d.position
 
--- an even and an odd arrival are tame wherever they come together
+-- an even and an odd arrival are tame if they come together
 abbrev Tames : ℕ → Option Position → Arrival → Arrival → Type 0
 Tames window site c d = ArePairTogether window c d → (p q : Place) → IsTruePlace c p → IsTruePlace d q
     → AreTamePlaces site p q
 
--- two arrivals are near one another wherever they come together
+-- two arrivals are near one another if they come together
 abbrev pub Nears : ℕ → Arrival → Arrival → Type 0
 Nears window c d = AreTogether window c d → (p q : Place) → IsTruePlace c p → IsTruePlace d q → AreNearPlaces p q
 
@@ -100,14 +100,14 @@ slow_pair_exactly window site a b p q pair h k = (
         (subst (λ x. AreSlowPlaces site p' x a.position b.position) q_same
         (subst (λ x. AreSlowPlaces site x q a.position b.position) p_same slow)))
 
--- an arrival that comes with another of its address and kind, or with itself, at its own place
+-- an arrival and itself are slow to follow
 with_itself : (a : Arrival) (p q : Place) → IsTruePlace a p → IsTruePlace a q
     → AreSlowToFollow p q a.position a.position
 with_itself a p q h k =
     let m = (squitter_parts a.squitter).me in
     followed_still m m a.position a.position p q (own_kind m a.position p h) h k (one_with_itself a.position)
 
--- what holds of each two of a pair
+-- a property of any two arrivals of a pair
 pub each_two : (P : Arrival → Arrival → Type 0) (a b c d : Arrival) → P a a → P a b → P b a → P b b → (c ≡ a) ⊎ (c ≡ b)
     → (d ≡ a) ⊎ (d ≡ b) → P c d
 each_two P a b c d aa ab ba bb (inl e) (inl f) = subst (λ x. P x d) (sym e) (subst (P a) (sym f) aa)

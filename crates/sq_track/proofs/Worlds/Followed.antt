@@ -35,7 +35,7 @@ on_grid (kinds.Surface s) x (Ground p) h = h.1.of_grid
 on_grid (kinds.Surface s) x (Air p) h = absurd h
 on_grid (kinds.Other o) x p h = absurd h
 
--- a message near whose true place a reference lies is decoded to it
+-- a message is decoded to its true place if the reference is the position of a place near it
 decoded : (n : Me) (y : Position) (p q : Place) (reference : Position) (answer : Result Place PlaceFault)
     → IsEncodedFrom n y → IsPlaceOf n y q → AreNearPlaces p q → IsPositionOf p reference
     → IsLocalPlace n reference answer → answer ≡ Ok q
@@ -57,13 +57,13 @@ decoded (kinds.Surface n) y (Air a) (Air b) reference answer first k near at loc
 decoded (kinds.Surface n) y (Ground a) (Ground b) reference answer (Air c, h, code) k near at local = absurd h
 decoded (kinds.Other n) y p q reference answer first k near at local = absurd k
 
--- what has a true place is a position, and waits where it is alone
+-- a message with a true place is a position, and waits if it is alone
 alone : (n : Me) (y : Position) (q : Place) → IsPlaceOf n y q → ◌≡◌ {A = Heard} Waiting (heard_alone n)
 alone (kinds.Airborne n) y q k = refl
 alone (kinds.Surface n) y q k = refl
 alone (kinds.Other n) y q k = absurd k
 
--- two of one parity are no pair
+-- two messages of one parity are not a pair
 no_pair : (b : Bool) (o n : Option Parity) → o ≡ n → (b && are_even_and_odd o n) ≡ false
 no_pair b o n same = subst (λ x. (b && are_even_and_odd o x) ≡ false) same (itself b o)
   where

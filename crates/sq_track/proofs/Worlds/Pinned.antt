@@ -1,4 +1,4 @@
--- What worlds are, and what is said of them.
+-- The exact meaning of the definitions about worlds.
 use Rattle.std.proofs.Common.{◌≡◌, ◌≢◌, ◌∙◌, ◌⊎◌, inl, inr, ℕ, Bool, true, false, [], ◌∷◌, Contains, Option, refl, sym}
 use Rattle.std.proofs.Common.{subst, subst₂, ◌*◌, ℤ, pos, neg_ℤ, ◌+ℤ◌, ◌-ℤ◌, ◌*ℤ◌, arith}
 use Rattle.std.proofs.lemmas.Int.{ints}
@@ -40,6 +40,9 @@ pub places_exactly : PlacesExactly
 places_exactly = record {
   near_no_site = λ x. tt;
   near_a_site = λ site x. (λ h. h, λ h. h);
+  sent_on_ground = λ site x surface. (λ h. h, λ h. h);
+  sent_in_air = λ site x airborne. tt;
+  sent_of_kind_other = λ site x other. tt;
   point_near_no_site = λ p. tt;
   point_near_a_site = λ site p. (λ h. h, λ h. h);
   near_in_air = λ p q. (λ h. h, λ h. h);
@@ -106,7 +109,7 @@ tame_for_following_pair_exactly window a b p q together h k = (
         subst (AreNearPlaces p') (one_true_place b q q' k k')
         (subst (λ x. AreNearPlaces x q) (one_true_place a p p' h h') near)
 
--- after so many turns: the definition by a difference, and the law by a sum
+-- after these turns: the definition by a difference, and the law by a sum
 turned : (x y : Fraction) (turns : ℤ)
     → (pos y.den *ℤ (pos 1 *ℤ x.num +ℤ pos x.den *ℤ (pos 360 *ℤ turns)) -ℤ pos (x.den * 1) *ℤ y.num)
     ≡ (difference 360 x y turns).num

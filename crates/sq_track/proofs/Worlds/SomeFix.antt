@@ -1,4 +1,4 @@
--- Slow worlds have fixes: a pair that is slow and has one zone count is heard as the fix of the newer's true place.
+-- Slow worlds have fixes: a slow pair with one zone count gives the fix of the newer's true place.
 use Rattle.std.proofs.Common.{◌≡◌, ◌≢◌, ◌∙◌, ◌+◌, ℕ, true, cond, leb, [], ◌∷◌, Option, Some, None, Result, Ok, Err}
 use Rattle.std.proofs.Common.{refl, sym, ap, subst}
 use Rattle.std.proofs.lemmas.Bool.{le-leb, and_from}
@@ -38,7 +38,7 @@ use Rattle.sq_track.proofs.Worlds.ByPairs.{slow_pair_exactly}
 use Rattle.sq_track.proofs.Worlds.Places.{one_place}
 use Rattle.sq_message.proofs.OnePlace.{some_pair_place}
 
--- what was found of tame points with one zone count is the newest
+-- the result for tame points with one zone count is the newest
 one_count : (span : Span) (named : Point → Place) (newest : Parity) (a b : Point) (found : Result Point PairFault)
     → HaveOneCount span.degrees a.lat_index b.lat_index → TameAnswer span newest a b found
     → place_of named of_pair found ≡ Ok (named (of_parity newest a b))
@@ -61,8 +61,8 @@ code_of_place (kinds.Surface o) x p (a, h, code) p_is =
     subst (HasCodeOf (kinds.Surface o)) (one_place (kinds.Surface o) x a p h p_is) code
 code_of_place (kinds.Other o) x p first p_is = absurd p_is
 
--- Two messages that were encoded in the air from slow positions, of which the newer has this parity. Slowness is of the
--- even one and the odd one, in this order.
+-- Two messages that were encoded in the air from slow positions; the newer has this parity. Slowness is of the even
+-- one and the odd one, in this order.
 slow_pair : (newest : Parity) (m n : Me) (x y : Position) (p q : Point) (site : Option Position)
     (answer : Result Place PlaceFault)
     → IsEncodedFrom m x → IsEncodedFrom n y → parity_of (of_parity newest n m) ≡ Some Even
@@ -94,7 +94,7 @@ slow_pair Even (kinds.Airborne o) (kinds.Airborne n) x y p q site answer first s
 slow_pair newest (kinds.Airborne o) n x y p q site answer first second even odd p_is q_is slow same here = absurd q_is
 slow_pair newest m n x y p q site answer first second even odd p_is q_is slow same here = absurd p_is
 
--- two messages that were encoded on the ground from slow positions near the site, of which the newer has this parity
+-- two messages that were encoded on the ground from slow positions near the site; the newer has this parity
 slow_ground_pair : (newest : Parity) (m n : Me) (x y : Position) (p q : Point) (site : Position)
     (answer : Result Place PlaceFault)
     → IsEncodedFrom m x → IsEncodedFrom n y → parity_of (of_parity newest n m) ≡ Some Even
@@ -149,8 +149,7 @@ even_then_odd o n even odd = ap (λ x. are_even_and_odd x n) even ∙ ap (are_ev
 odd_then_even : (o n : Option Parity) → o ≡ Some Odd → n ≡ Some Even → are_even_and_odd o n ≡ true
 odd_then_even o n odd even = ap (λ x. are_even_and_odd x n) odd ∙ ap (are_even_and_odd (Some Odd)) even
 
--- The newer arrival of a pair is heard as this where the two are decoded to nothing but what is told so, and no last
--- fix changes it.
+-- The result for the newer arrival of a pair, if decoding the two can only give this, and no last fix changes it.
 pub told : (window : ℕ) (site : Option Position) (a b : Arrival) (p q : Place) → AreTogether window a b
     → are_even_and_odd (parity_of (squitter_parts a.squitter).me) (parity_of (squitter_parts b.squitter).me) ≡ true
     → IsTruePlace a p → IsTruePlace b q → (only : Result Place PlaceFault)
@@ -182,7 +181,7 @@ told window site a b p q together two h k only decoded heard heard_is stays =
       after = stays (last_fix window (entry ∷ []) b.moment b.squitter);
     }
 
--- the newer arrival of a pair is heard as the fix of a place where the two are decoded to nothing else
+-- the newer arrival of a pair gives the fix of a place if decoding the two can only give that place
 fixed : (window : ℕ) (site : Option Position) (a b : Arrival) (p q : Place) → AreTogether window a b
     → are_even_and_odd (parity_of (squitter_parts a.squitter).me) (parity_of (squitter_parts b.squitter).me) ≡ true
     → IsTruePlace a p → IsTruePlace b q

@@ -1,4 +1,4 @@
--- What stands still is slow, and a place is strictly near itself.
+-- A world that stands still is slow, and a place is strictly near itself.
 use Rattle.std.proofs.Common.{◌≡◌, ℕ, ◌*◌, ◌<◌, ◌≤◌, max, min, ℤ, pos, ◌*ℤ◌, ◌<ℤ◌, true, Option, refl, ap, arith}
 use Rattle.std.proofs.Common.{mul-le-mul_left, mul-le-mul}
 use Rattle.std.proofs.lemmas.Bool.{false≢true}
@@ -21,13 +21,13 @@ use Rattle.sq_message.specs.declared.place.Place.TheVariants.{Air, Ground}
 use Rattle.sq_message.specs.Parts.{squitter_parts}
 use Rattle.sq_track.specs.History.{are_of_one_kind}
 use Rattle.sq_track.specs.Worlds.{IsPlaceOf}
-use Rattle.sq_track.specs.Tame.{AreSlowPlaces, AreSlowToFollow, IsPositionNearSite}
+use Rattle.sq_track.specs.Tame.{AreSlowPlaces, AreSlowToFollow, IsSenderNearSite}
 use Rattle.sq_track.specs.Standing.{AreOnePlace}
 use Rattle.sq_track.specs.Laws.{NearItself, StandingIsSlow, StandingIsSlowForFollowing}
 use Rattle.sq_track.proofs.Histories.Entries.{sender_parts}
 use Rattle.sq_track.proofs.Worlds.SlowWorlds.{slow_to_follow}
 
--- nothing is smaller than a positive limit
+-- zero is smaller than a positive limit
 nothing_smaller : (limit d : Fraction) → pos 0 <ℤ limit.num → 0 < d.den → d.num ≡ pos 0 → IsSmallerThan limit d
 nothing_smaller limit d positive some nothing =
     let more = scale-lt d.den (pos 0) limit.num some positive in
@@ -52,7 +52,7 @@ following_positive w n m some zones few =
 some_den : (a b : ℕ) → 1 ≤ a → 1 ≤ b → 0 < a * b
 some_den a b p q = let one : 1 * 1 ≤ a * b = mul-le-mul p q in omega (arith, one)
 
--- one latitude differs by nothing, and so does one longitude, after its turns
+-- one latitude has no difference, and one longitude has none after its turns
 latitudes_still : (limit : Fraction) (x y : Position) → pos 0 <ℤ limit.num → AreOnePlace x y
     → DifferByLess limit (degrees (lat_of x)) (degrees (lat_of y))
 latitudes_still limit x y positive one =
@@ -69,7 +69,7 @@ longitudes_still limit x y positive one =
           (omega (arith, some)) one.longitudes,
     )
 
--- the zones of a point are from 1 to 59
+-- the number of zones of a point is from 1 to 59
 zones_within : (span : Span) (p : Point) → IsGridPoint span p → (1 ≤ p.zones) × (p.zones ≤ 59)
 zones_within span p h = (
   rw h.zones (lon_zones_at-least p.parity (latitude span p)),
@@ -104,7 +104,7 @@ module _ (span : Span) (some : 1 ≤ span.degrees) (p q : Point) (p_is : IsGridP
 
 places_still : (m n : Me) (site : Option Position) (x y : Position) (p q : Place) → are_of_one_kind m n ≡ true
     → IsPlaceOf m x p → IsPlaceOf n y q
-    → AreOnePlace x y → IsPositionNearSite site x → IsPositionNearSite site y → AreSlowPlaces site p q x y
+    → AreOnePlace x y → IsSenderNearSite site m x → IsSenderNearSite site n y → AreSlowPlaces site p q x y
 places_still (kinds.Airborne a) (kinds.Airborne b) site x y (Air p) (Air q) kind h k one near_x near_y =
     slow_still air (omega arith) p q h.1.of_grid k.1.of_grid x y one
 places_still (kinds.Airborne a) (kinds.Airborne b) site x y (Air p) (Ground q) kind h k one near_x near_y = absurd k

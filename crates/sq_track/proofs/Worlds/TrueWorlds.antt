@@ -1,4 +1,4 @@
--- In tame worlds what is heard of the arrivals, one after another, is true.
+-- In tame worlds, the results for the arrivals, in order, are true.
 use Rattle.std.proofs.Common.{List, map, [], ◌∷◌, Result, Ok, Err, Contains, refl}
 use Rattle.std.specs.List.{AllByRecursion, AllZip}
 use Rattle.std.proofs.lemmas.List.Elements.{All-contains_itself, recursion_from_All}
@@ -67,7 +67,7 @@ pub followed_worlds_are_true : FollowedWorldsAreTrue
 followed_worlds_are_true s world replies tame following h =
     replies_are_placed s world tame following world [] replies (each_there world) tt tt tt h
 
--- replies from a history on that arose from a slow world are true
+-- replies are true from a history on that arose from a slow world
 pub slow_replies_are_true : (s : Settings) (world arrivals : World) (history : History)
     (replies : List (Result Heard TrackFault))
     → IsHistory s history → ArisesFrom world history → IsSlow s.window s.site world → IsSlowForFollowing s.window world

@@ -1,4 +1,4 @@
--- Arrivals in numbers, of either kind: their places, who sent them, how far apart they are, and that there are such.
+-- Arrivals in numbers, of either kind: their places, their senders, how far apart they are, and that they exist.
 use Rattle.std.proofs.Common.{◌≡◌, ◌≢◌, ◌∙◌, ◌∷◌, [], ℕ, ◌+◌, ◌≤◌, ◌<◌, ◌^◌, true, Some, arith, refl, sym, ap, subst}
 use Rattle.std.proofs.Common.{eq-eqb}
 use Rattle.std.specs.Prelude.{max, min}
@@ -55,7 +55,7 @@ encoded_me OnGround head code x p same rounds = (Ground p, (refl, rounds), same)
 
 module _ {kind : Kind} {sender time : ℕ} {grid : Parity} {north east : Fraction} (a : Arrival)
     (h : IsArrivalFrom kind sender grid time north east a) where
-  -- the point of its grid to which the position rounds is its true place
+  -- the point of its grid that the position rounds to is its true place
   pub true_place : (p : Point) → p.parity ≡ grid → PositionRoundsTo (span_of kind) a.position p
       → IsTruePlace a (place_at kind p)
   true_place p same rounds =
@@ -88,7 +88,7 @@ module _ {kind : Kind} {sender t s : ℕ} {g r : Parity} {n e n' e' : Fraction} 
     odd = of_grid b k ∙ ap Some odd;
   }
 
-  -- the entries of the second's address, of another one and the first's
+  -- the entries of the second's address, if another address was heard in between
   pub own_entries : (other : Entry) → (squitter_parts other.squitter).address ≢ sender
       → of_address (squitter_parts b.squitter).address (other ∷ as_waiting a ∷ []) ≡ as_waiting a ∷ []
   own_entries other is =
@@ -99,7 +99,7 @@ module _ {kind : Kind} {sender t s : ℕ} {g r : Parity} {n e n' e' : Fraction} 
 
 -- ---- how far apart two positions are
 
--- what holds of two fractions holds of two that are equal to them
+-- a property of two fractions holds for two equal ones
 of_two : (P : Fraction → Fraction → Type 0) (x y x' y' : Fraction) → x' ≡ x → y' ≡ y → P x y → P x' y'
 of_two P x y x' y' same other p = subst (λ f. P f y') (sym same) (subst (P x) (sym other) p)
 
@@ -128,9 +128,9 @@ module _ {n e n' e' : Fraction} (x y : Position) (h : IsAt n e x) (k : IsAt n' e
     longitudes = of_two (DifferByLessAround (whole limit)) _ _ _ _ h.lon k.lon longitudes;
   }
 
--- ---- that there are such
+-- ---- existence
 
--- there is a position at each two angles that are a position's
+-- a position exists for any two valid angles of a position
 pub some_position : (north east : Fraction) → IsAngle north.num north.den → IsAngle east.num east.den
     → IsPosition north east → (x : Position) × IsAt north east x
 some_position north east lat lon both = (
@@ -145,7 +145,7 @@ some_position north east lat lon both = (
 abbrev pub code_of_numbers : (lat lon : ℕ) → lat < 131072 → lon < 131072 → Code
 code_of_numbers lat lon north east = record { lat = lat; lon = lon; lat_below = north; lon_below = east }
 
--- an arrival from a position that rounds to this point, with the point's code
+-- an arrival from a position that rounds to this point, with the code of the point
 pub some_arrival : (kind : Kind) (head : HeadParts kind) → head.ca < 8 → head.address < 2 ^ 24
     → (time : ℕ) (point : Point) (lat lon : ℕ) (north : lat < 131072) (east : lon < 131072)
     → numbers_of (code_of_numbers lat lon north east) ≡ code_of point → {n e : Fraction} (x : Position) → IsAt n e x

@@ -1,4 +1,4 @@
--- Worked arrivals on the ground: what is heard of them, and that there are such.
+-- Worked arrivals on the ground: their results, and that they exist.
 use Rattle.std.proofs.Common.{◌≡◌, ◌∙◌, ◌∷◌, [], false, Some, None, Result, Err, arith, refl, sym, subst}
 use Rattle.std.proofs.lemmas.Int.{ints}
 use Rattle.sq_angle.specs.declared.position.Position.{Position}
@@ -32,7 +32,7 @@ use Rattle.sq_track.proofs.Worlds.WorkedGround.{fourth_and_second, fourth_place,
 use Rattle.sq_track.proofs.Worlds.WorkedGround.{last_slow_at_site, one_count, second_and_third, second_place}
 use Rattle.sq_track.proofs.Worlds.WorkedGround.{slow_at_site, third_place, third_position_rounds, two_are_slow}
 
--- ---- what is heard
+-- ---- results
 
 pub two_are_true : TwoAreTrue
 two_are_true limit site a b replies s h k heard =
@@ -53,7 +53,7 @@ fourth_is_fixed site b d s h k =
     (odd_first_is_fixed_on_ground 10000 site b d second_point fourth_point (fourth_and_second d b k h)
     (second_place b h) (fourth_place d k) (last_slow_at_site site d b s k h) last_count)
 
--- without a site, two surface messages of both parities are decoded to nothing but that
+-- without a site, decoding two surface messages of both parities can only give `NoSite`
 no_site : (a b : Arrival) → IsFirst a → IsSecond b → (answer : Result Place PlaceFault)
     → IsPlaceOfOneAddress (squitter_parts a.squitter).me (squitter_parts b.squitter).me None answer
     → answer ≡ Err faults.NoSite
@@ -87,7 +87,7 @@ third_is_followed site b c h k =
     ((slow_for_following_pair_exactly 10000 b c (Ground second_point) (Ground third_point) together p q).1
     (following_on b c h k, following_on_back b c h k)))
 
--- ---- that there are such
+-- ---- existence
 
 -- CA 4, 484175, type code 7, and no other field
 head : HeadParts OnGround

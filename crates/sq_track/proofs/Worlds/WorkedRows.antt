@@ -1,4 +1,4 @@
--- Worked arrivals: their places, what is heard of them, and that there are such.
+-- Worked arrivals: their places, their results, and that they exist.
 use Rattle.std.proofs.Common.{◌∙◌, ◌∷◌, [], pos, false, arith, refl, sym, subst}
 use Rattle.std.proofs.lemmas.Int.{ints}
 use Rattle.sq_angle.specs.declared.position.Position.{Position}
@@ -111,7 +111,7 @@ following_on_back b c h k =
     (record { above = omega (arith, ints); below = omega (arith, ints) })
     (pos 0, record { above = omega (arith, ints); below = omega (arith, ints) })
 
--- ---- what is heard
+-- ---- results
 
 pub two_are_slow : TwoAreSlow
 two_are_slow site a b h k =
@@ -153,7 +153,7 @@ third_is_followed site b c h k =
     ((slow_for_following_pair_exactly 10000 b c (Air second_point) (Air third_point) together p q).1
     (following_on b c h k, following_on_back b c h k)))
 
--- ---- that there are such
+-- ---- existence
 
 -- CA 5, 40621D, type code 11, and no other field
 head : HeadParts InAir

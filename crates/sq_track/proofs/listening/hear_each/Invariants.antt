@@ -4,7 +4,7 @@ use Rattle.sq_track.specs.Held.{StandsFor, settings}
 use Rattle.sq_track.specs.Replies.{AreReplies, history_after_all}
 use Rattle.sq_track.proofs.listening.hear_each.Given as goal
 
--- the first squitters have their replies, and the tracker stands for the history after them
+-- the first squitters have their replies, and the tracker represents the history after them
 abbrev pub invariant-loop-at : goal.invariant-loop-at
 invariant-loop-at g l =
     (l.at ≤ length l.received) × (length l.heard ≡ length l.received)
