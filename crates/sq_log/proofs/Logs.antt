@@ -12,7 +12,7 @@ use Rattle.sq_log.specs.Logs.{AreAnswers, HasHeard, IsUpToDate, told_from}
 use Rattle.sq_log.specs.Windows.{IsFeedPlace, Rest, next_line}
 use Rattle.sq_log.specs.declared.log.Answer.{Answer as Told}
 use Rattle.sq_log.specs.declared.log.Log.{Log}
-use Rattle.sq_log.specs.declared.tallies.Tally.{Tally}
+use Rattle.sq_log.specs.declared.log.Tally.{Tally}
 use Rattle.sq_log.proofs.Cutting.{cuts_nothing}
 use Rattle.sq_log.proofs.Fronts.{same_content}
 use Rattle.sq_log.proofs.Windows.{line_passed, passed_all, passed_first}

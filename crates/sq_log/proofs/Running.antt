@@ -19,11 +19,11 @@ use Rattle.sq_log.specs.Lines.{HasNoFeed, ended_lines, lines_of}
 use Rattle.sq_log.specs.Logs.{AreAnswers, HasHeard, told_from}
 use Rattle.sq_log.specs.Runs.{AreAnswered, HasRun, HasTold, HasToldBy, IsPumped, OfLines, Texts, WroteIntoLast}
 use Rattle.sq_log.specs.Runs.{fed, told_in, told_text}
-use Rattle.sq_log.specs.declared.faults.RunFault.{RunFault}
-use Rattle.sq_log.specs.declared.faults.RunFault.TheVariants.{Read, Write, Memory}
+use Rattle.sq_log.specs.declared.run.RunFault.{RunFault}
+use Rattle.sq_log.specs.declared.run.RunFault.TheVariants.{Read, Write, Memory}
 use Rattle.sq_log.specs.declared.log.Answer.{Answer as Told}
 use Rattle.sq_log.specs.declared.log.Log.{Log}
-use Rattle.sq_log.specs.declared.tallies.Tally.{Tally}
+use Rattle.sq_log.specs.declared.log.Tally.{Tally}
 use Rattle.sq_log.proofs.Tallying.{answers_but_last, texts_none, texts_prefix}
 use Rattle.sq_log.proofs.Windows.{ended_lines-closed}
 

@@ -11,7 +11,7 @@ use Rattle.sq_devices.specs.Device.{IsPrefixOf}
 use Rattle.sq_log.specs.Answers.{Answerer, after_line, answer_line, past_after, answers_to, answer_text}
 use Rattle.sq_log.specs.Answers.{texts_of, tally_of, is_good, is_refused, noted}
 use Rattle.sq_log.specs.Content.{Answer}
-use Rattle.sq_log.specs.declared.tallies.Tally.{Tally}
+use Rattle.sq_log.specs.declared.log.Tally.{Tally}
 
 pub answers_append : {Past Found : Type 0} (way : Answerer Past Found) (past : Past) (xs ys : List (List ℕ))
     → answers_to way past (xs ++ ys) ≡ answers_to way past xs ++ answers_to way (past_after way past xs) ys

@@ -3,7 +3,7 @@ use Rattle.std.specs.Prelude.{◌≡◌, ◌+◌, ℕ, Bool, List, [], ◌∷◌
 use Rattle.std.specs.List.{flat_map, enumerate_from}
 use Rattle.sq_text.specs.declared.faults.LineFault.{LineFault}
 use Rattle.sq_log.specs.Content.{Answer, Content, Long, Empty, Text, answer_by, content}
-use Rattle.sq_log.specs.declared.tallies.Tally.{Tally}
+use Rattle.sq_log.specs.declared.log.Tally.{Tally}
 
 -- how texts are answered: the answer to a text by the past, and the past after the text
 pub record Answerer (Past Found : Type 0) : Type 0 where

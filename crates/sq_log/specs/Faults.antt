@@ -1,7 +1,7 @@
 -- The reports on runs that stopped early.
 use Rattle.std.specs.Prelude.{ℕ, List, codes}
-use Rattle.sq_log.specs.declared.faults.RunFault.{RunFault}
-use Rattle.sq_log.specs.declared.faults.RunFault.TheVariants.{Read, Write, Memory}
+use Rattle.sq_log.specs.declared.run.RunFault.{RunFault}
+use Rattle.sq_log.specs.declared.run.RunFault.TheVariants.{Read, Write, Memory}
 
 -- the report on a run that stopped early
 abbrev pub run_fault_text : RunFault → List ℕ

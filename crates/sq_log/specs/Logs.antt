@@ -9,7 +9,7 @@ use Rattle.sq_log.specs.declared.log.Answer.{Answer as Told}
 use Rattle.sq_log.specs.declared.log.Log.{Log}
 use Rattle.sq_log.specs.declared.log.Step.{Step}
 use Rattle.sq_log.specs.declared.log.Step.TheVariants as steps
-use Rattle.sq_log.specs.declared.tallies.Tally.{Tally}
+use Rattle.sq_log.specs.declared.log.Tally.{Tally}
 
 -- the answers with their lines' numbers, from `n` on: an empty line has none
 abbrev pub told_from : {Found : Type 0} → ℕ → List (Answer Found) → List (Told Found)

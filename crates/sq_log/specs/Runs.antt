@@ -13,11 +13,11 @@ use Rattle.sq_log.specs.Content.{Answer}
 use Rattle.sq_log.specs.Lines.{closed, ended_lines, lines_of, with_next}
 use Rattle.sq_log.specs.Answers.{answers_to, Manner, WantsAt, past_after, tally_of, texts_of}
 use Rattle.sq_log.specs.Logs.{HasHeard}
-use Rattle.sq_log.specs.declared.faults.RunFault.{RunFault}
-use Rattle.sq_log.specs.declared.faults.RunFault.TheVariants.{Read, Write, Memory}
+use Rattle.sq_log.specs.declared.run.RunFault.{RunFault}
+use Rattle.sq_log.specs.declared.run.RunFault.TheVariants.{Read, Write, Memory}
 use Rattle.sq_log.specs.declared.log.Answer.{Answer as Told}
 use Rattle.sq_log.specs.declared.log.Log.{Log}
-use Rattle.sq_log.specs.declared.tallies.Tally.{Tally}
+use Rattle.sq_log.specs.declared.log.Tally.{Tally}
 
 -- ---- the four ends of a run
 

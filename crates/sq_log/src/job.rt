@@ -4,7 +4,7 @@ ghost use Rattle.sq_log.specs.Answers.{Manner};
 ghost use Rattle.sq_log.specs.Hearings.{IsHeard};
 ghost use Rattle.sq_log.specs.Logs.{AreAnswers};
 ghost use Rattle.sq_log.specs.declared.log.Answer.{Answer};
-ghost use Rattle.sq_log.specs.declared.tallies.Tally.{Tally};
+ghost use Rattle.sq_log.specs.declared.log.Tally.{Tally};
 
 use sq_text::LineFault;
 

@@ -8,28 +8,23 @@
 #![tactic(auto)]
 
 mod cutter;
-mod faults;
 mod job;
 pub mod laws;
 mod lines;
 mod log;
 mod marked_bytes;
-mod marks;
 pub mod pins;
 mod run;
 mod state;
-mod tallies;
 mod telling;
 mod window;
 
 pub use cutter::Cutter;
-pub use faults::RunFault;
 pub use job::{Job, Verdict};
 pub use lines::{Line, content_of};
-pub use log::{Answer, Log, Step};
-pub use run::run_log;
+pub use log::{Answer, Log, Step, Tally};
+pub use run::{RunFault, run_log};
 pub use sq_devices::{Sink, Source};
 pub use sq_text::LineFault;
 pub use state::LogState;
-pub use tallies::Tally;
 pub use telling::{LineText, Telling};

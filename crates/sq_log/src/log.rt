@@ -9,7 +9,6 @@ ghost use Rattle.sq_log.specs.Windows.{IsFeedPlace, next_line};
 use crate::job::{Job, Verdict};
 use crate::lines::{Line, content_in};
 use crate::state::LogState;
-use crate::tallies::Tally;
 use crate::window::Window;
 use sq_devices::{Failed, Source};
 use sq_text::LineFault;
@@ -34,6 +33,13 @@ pub enum Step<T> {
     Answered(usize, Answer<T>),
     /// The step took this many bytes. There was no memory to hear the next line; the next step tries again.
     NoMemory(usize),
+}
+
+/// The numbers of good and of refused lines. An empty line is neither.
+#[derive(Clone, Copy, Debug, PartialEq, Eq)]
+pub struct Tally {
+    pub good: u64,
+    pub refused: u64,
 }
 
 /// The result of hearing a line.

@@ -1,6 +1,7 @@
 //! The last bytes that a log machine was given, with marks at the line feeds among those not yet looked at.
 ghost use Rattle.std.specs.Prelude.{◌≡◌, ◌+◌, ◌-◌, ◌<◌, ◌≤◌, ◌++◌, ◌^◌, [], List, ℕ, IfOk, OnErr, OnOk};
 ghost use Rattle.std.specs.Prelude.{drop, false, length, min, take, true};
+ghost use Rattle.std.specs.Int.{bit_at};
 ghost use Rattle.std.specs.Io.KnownBytes.{IsAtEnd};
 ghost use Rattle.std.specs.List.{before_first};
 ghost use Rattle.sq_log.specs.Gets.{HasGiven, HasGivenNothing};
@@ -8,7 +9,6 @@ ghost use Rattle.sq_log.specs.Rests.{IsHeldAs, KeepsRest};
 ghost use Rattle.sq_log.specs.Lines.{HasNoFeed, MarksFeeds, closed, is_feed};
 ghost use Rattle.sq_log.specs.Windows.{IsFeedPlace, feed_place};
 
-use crate::marks::{feeds_of, front_marks};
 use sq_devices::{Failed, Source};
 use std::simd::prelude::*;
 
@@ -211,4 +211,26 @@ impl MarkedBytes {
             self.fill_part(b"\n");
         }
     }
+}
+
+// Returns the mask of 64 bytes: bit k is set exactly if byte k is a line feed.
+fn feeds_of(bytes: &[u8]) -> u64
+    requires { length bytes.now ≡ 64 }
+    ensures { MarksFeeds result bytes.now }
+{
+    u8x64::from_slice(bytes)
+        .simd_eq(u8x64::splat(b'\n'))
+        .to_bitmask()
+}
+
+// Returns the lowest `count` bits of a mask.
+fn front_marks(feeds: u64, count: usize) -> u64
+    requires { count ≤ 64 }
+    ensures small { result < 2 ^ count }
+    ensures same { (k : ℕ) → k < count → bit_at result k ≡ bit_at feeds k }
+{
+    if count == 64 {
+        return feeds;
+    }
+    feeds & ((1 << count) - 1)
 }

@@ -11,7 +11,7 @@ ghost use Rattle.sq_log.specs.declared.log.Answer.{Answer};
 ghost use Rattle.sq_log.specs.declared.log.Log.{Log};
 ghost use Rattle.sq_log.specs.declared.log.Step.TheVariants.{Answered, Fed, Passed};
 ghost use Rattle.sq_log.specs.declared.log.Step.TheVariants as steps;
-ghost use Rattle.sq_log.specs.declared.tallies.Tally.{Tally as Counts};
+ghost use Rattle.sq_log.specs.declared.log.Tally.{Tally as Counts};
 ghost use Rattle.sq_log.specs.Answers.{WantsAt, answers_to, past_after, tally_of, texts_of};
 ghost use Rattle.sq_log.specs.Content.{Answer as LineAnswer, Empty, Long, Text, content};
 ghost use Rattle.sq_log.specs.Hearings.{IsHeard};
@@ -21,13 +21,13 @@ ghost use Rattle.sq_log.specs.Logs.{AreAnswers, HasHeard, IfAnswered, IsProgress
 ghost use Rattle.sq_log.specs.Logs.{told_from};
 ghost use Rattle.sq_log.specs.Pieces.{IsTake};
 ghost use Rattle.sq_log.specs.Runs.{AreAnswered, HasTold, IsClosedBy, IsRun, OfLines, WroteAnswers, told_in};
-ghost use Rattle.sq_log.specs.declared.faults.RunFault.{RunFault as Stop};
-ghost use Rattle.sq_log.specs.declared.faults.RunFault.TheVariants.{Memory, Read, Write};
+ghost use Rattle.sq_log.specs.declared.run.RunFault.{RunFault as Stop};
+ghost use Rattle.sq_log.specs.declared.run.RunFault.TheVariants.{Memory, Read, Write};
 
 use crate::cutter::Cutter;
-use crate::faults::RunFault;
 use crate::job::Job;
-use crate::tallies::Tally;
+use crate::log::Tally;
+use crate::run::RunFault;
 use crate::telling::Telling;
 use sq_devices::{Sink, Source};
 

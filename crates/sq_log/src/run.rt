@@ -1,15 +1,41 @@
 //! The loop that runs a log machine over devices.
 ghost use Rattle.std.specs.Prelude.{◌≡◌, ◌≤◌, [], List, ℕ, IfOk, length, true};
 ghost use Rattle.sq_devices.specs.Changes.{TookReported, taken_from, written_on};
+ghost use Rattle.sq_log.specs.Faults.{run_fault_text};
 ghost use Rattle.sq_log.specs.Lines.{lines_of};
 ghost use Rattle.sq_log.specs.Logs.{HasHeard, IsUpToDate};
 ghost use Rattle.sq_log.specs.Runs.{HasToldBy, IsRun, fed};
 
-use crate::faults::RunFault;
-use crate::log::{Answer, Log, Step};
-use crate::tallies::Tally;
+use crate::log::{Answer, Log, Step, Tally};
 use crate::telling::{LineText, Telling, put_answer, put_header};
 use sq_devices::{Failed, Sink, Source};
+use thiserror::Error;
+
+/// The reason why a run stopped before the end of its input.
+#[derive(Clone, Copy, Debug, PartialEq, Eq, Error)]
+#[error("{text}", text = self.label())]
+pub enum RunFault {
+    /// A get of this run failed.
+    Read,
+    /// A put of this run failed, or the finish at its end.
+    Write,
+    /// An allocation failed.
+    Memory,
+}
+
+impl RunFault {
+    /// Its text, at most 13 bytes.
+    pub fn label(self) -> &'static str
+        ensures value { result.now ≡ run_fault_text self }
+        ensures short { length result.now ≤ 13 }
+    {
+        match self {
+            RunFault::Read => "read failed",
+            RunFault::Write => "write failed",
+            RunFault::Memory => "out of memory",
+        }
+    }
+}
 
 // Ends the last line if the input has ended.
 #[inline(always)]

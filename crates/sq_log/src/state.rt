@@ -1,7 +1,7 @@
 //! A log machine between two pieces, apart from its job.
 ghost use Rattle.std.specs.Prelude.{◌≡◌, ◌+◌, ◌≤◌};
 
-use crate::tallies::Tally;
+use crate::log::Tally;
 use crate::window::Window;
 
 /// What a log machine holds besides its job: the number of lines, their tally, and the bytes behind them.

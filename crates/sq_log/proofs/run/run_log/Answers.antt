@@ -11,7 +11,7 @@ use Rattle.sq_devices.specs.Device.{IsPrefixOf}
 use Rattle.sq_log.specs.Answers.{WantsAt}
 use Rattle.sq_log.specs.Lines.{ended_lines, lines_of, with_next}
 use Rattle.sq_log.specs.Logs.{HasHeard}
-use Rattle.sq_log.specs.declared.faults.RunFault.TheVariants.{Read}
+use Rattle.sq_log.specs.declared.run.RunFault.TheVariants.{Read}
 use Rattle.sq_log.specs.Runs.{HasGot, HasToldBy, fed}
 use Rattle.sq_log.proofs.Gets.{consumes_hidden, got_on, got_up_to_end, made_of_more, made_of_nothing}
 use Rattle.sq_log.proofs.Windows.{passed_all, passed_first, passed_to_end}

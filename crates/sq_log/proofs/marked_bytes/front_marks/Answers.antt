@@ -2,7 +2,7 @@ use Rattle.std.proofs.Common.{◌-◌, ◌<◌, ◌∙◌, ap, rules}
 use Rattle.std.specs.Int.{bit_at}
 use Rattle.std.specs.Int.Bits.{bit_and}
 use Rattle.sq_log.proofs.FeedMarks.{front_bit, shifted_one}
-use Rattle.sq_log.proofs.marks.front_marks.Goals as goal
+use Rattle.sq_log.proofs.marked_bytes.front_marks.Goals as goal
 
 pub returns-clause-same : goal.returns-clause-same
 returns-clause-same c k within =

@@ -4,7 +4,7 @@ use Rattle.std.proofs.lemmas.List.{take_all}
 use Rattle.std.proofs.lemmas.Simd.{bitmask_splat}
 use Rattle.sq_log.specs.Lines.{MarksFeeds}
 use Rattle.sq_log.proofs.FeedMarks.{marks_lanes}
-use Rattle.sq_log.proofs.marks.feeds_of.Goals as goal
+use Rattle.sq_log.proofs.marked_bytes.feeds_of.Goals as goal
 
 pub returns : goal.returns
 returns c =
