@@ -23,9 +23,9 @@ use Rattle.sq_feed.specs.Avr.{whole_or_damage, word_after, word_of, word_size}
 use Rattle.sq_feed.specs.Follows.{Follows}
 use Rattle.sq_feed.specs.Kinds.{frame_len}
 
--- ---- words that can be no frame
+-- ---- words that cannot be a frame
 
--- the word is not empty, and spells no frame, whatever bytes follow
+-- the word is not empty, and encodes no frame, whatever bytes follow
 pub record IsBad (word : List ℕ) : Type 0 where
   pub some : 0 < length word
   pub none : (mark : Mark) (more : List ℕ) → word_size mark (word ++ more) ≡ None
@@ -44,7 +44,7 @@ not_hex (d ∷ digits) byte more e = both (is_hex d) (not_hex digits byte more e
     both true h = h
     both false h = refl
 
--- a word with another byte than a digit
+-- a word with a byte that is not a digit
 bad_byte : (digits : List ℕ) (byte : ℕ) → is_hex byte ≡ false → IsBad (digits ++ byte ∷ [])
 bad_byte digits byte e = record {
   some = omega (arith, length-append digits (byte ∷ []));
@@ -96,7 +96,7 @@ bad_stray : (word : List ℕ) → IsBad word → stray_word word ≡ Damage ∷ 
 bad_stray [] bad = absurd (omega (arith, bad.some))
 bad_stray (b ∷ word) bad = refl
 
--- such words are all alike
+-- the item of a word that cannot be a frame is damage, between any edges
 bad_items : (opener : Option Mark) (word : List ℕ) (edge : Edge) → IsBad word → items_at opener word edge ≡ Damage ∷ []
 bad_items (Some mark) word Closing bad = ap (λ i. i ∷ []) (no_item mark word bad)
 bad_items (Some mark) word LineEnd bad = refl
@@ -144,7 +144,7 @@ digit_room old new byte none good opener digits same more =
     ∙ ap₂ (λ o w. avr_from o w more) (sym opener) (sym digits ∙ sym (append-nil new.digits))
     ∙ ap (λ (t : Bool). avr_from new.opener (word_of new.digits t) more) (sym (same ∙ good))
 
--- a byte that makes a word one that can be no frame
+-- a byte that makes a word one that cannot be a frame
 bad_now : (old new : BegunWord) (byte : ℕ) → edge_of byte ≡ None → IsBad (word_of old.digits old.is_bad ++ byte ∷ [])
     → new.opener ≡ old.opener → new.is_bad ≡ true
     → Follows (avr_to_come old) (byte ∷ []) [] (avr_to_come new)
@@ -233,7 +233,7 @@ stray_some (b ∷ word) some = refl
 clash : (byte other : ℕ) → is_hex byte ≡ true → is_hex other ≡ false → byte ≢ other
 clash byte other hex none is = let both : true ≡ false = sym hex ∙ ap is_hex is ∙ none in cc
 
--- a digit is no edge
+-- a digit is not a mark, and not an edge
 mark_at : (byte : ℕ) → is_hex byte ≡ true → mark_of byte ≡ None
 mark_at byte hex =
     ap₂ (λ (a b : Bool). if a || b then Some Plain
@@ -252,7 +252,7 @@ digit_edge byte hex =
     (ne_eqb byte 10 (clash byte 10 hex refl)) (ne_eqb byte 13 (clash byte 13 hex refl))
     ∙ ap opening (mark_at byte hex)
 
--- digits go to the word
+-- digits are appended to the word
 pub digits_go : (digits : List ℕ) (opener : Option Mark) (word more : List ℕ) → AreHex digits
     → avr_from opener word (digits ++ more) ≡ avr_from opener (word ++ digits) more
 digits_go [] opener word more hex = ap (λ w. avr_from opener w more) (sym (append-nil word))
@@ -338,7 +338,7 @@ bare_frame_is_found size digits hex full more =
     (bare_is digits (Whole (avr_message Plain size (bytes_of digits))) (omega (arith, full, frame_some size))
     (written_item Plain size digits hex (omega (arith, full))))
 
--- ---- words that are tested digit by digit
+-- ---- words that are checked digit by digit
 
 pub hex_from : (word : List ℕ) (i : ℕ) → i < length word → is_hex (get_or word i 0) ≡ true
     → are_hex (drop i word) ≡ are_hex (drop (i + 1) word)
@@ -356,7 +356,7 @@ are_hex_each [] all = tt
 are_hex_each (d ∷ word) all =
     let parts = and_parts (is_hex d) (are_hex word) all in (parts.0, are_hex_each word parts.1)
 
--- a word is no frame if it is too long
+-- a word of more than 42 bytes is not a frame
 pub no_frame_long : (word : List ℕ) → 42 < length word → None ≡ frame_of_word word
 no_frame_long word long =
     ap (λ s. framed s word) (sym (no_size (are_hex word) (size_of Plain (length word)) (too_many Plain

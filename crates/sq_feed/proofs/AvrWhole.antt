@@ -1,4 +1,4 @@
--- Words of AVR text that stand whole at the front of a piece.
+-- Whole words of AVR text at the front of a piece.
 use Rattle.std.proofs.Common.{◌≡◌, ◌+◌, ◌*◌, ◌<◌, ◌≤◌, ◌++◌, ◌∙◌, ℕ, List, [], ◌∷◌, length, take, drop, get_or, false, suc}
 use Rattle.std.proofs.Common.{ap, sym, subst, arith, take-add}
 use Rattle.std.specs.Prelude.{Some, None}
@@ -14,7 +14,7 @@ use Rattle.sq_feed.specs.Follows.{Follows}
 use Rattle.sq_feed.proofs.AvrLemmas.{after_byte, after_mark}
 use Rattle.sq_feed.proofs.Following.{follows_more}
 
--- a line end makes nothing where nothing is begun
+-- a line end has no item if nothing is begun
 end_follows : (byte : ℕ) → edge_of byte ≡ Some LineEnd → Follows avr_found (byte ∷ []) [] avr_found
 unfolding Follows
 end_follows byte is more = after_byte None [] byte more (Some LineEnd) is
@@ -60,7 +60,7 @@ marked_front piece bytes mark n is size within ends (hex, same) =
           ∙ ap (λ b. Whole (avr_message mark FourteenBytes b) ∷ avr_found more) (sym same),
     )
 
--- line ends, and a word behind them
+-- line ends, and a word after them
 pub ends_and_word : (piece : List ℕ) (ends : ℕ) (message : Message) (count : ℕ) → ends ≤ length piece
     → Follows avr_found (take ends piece) [] avr_found → IsWholeWord (drop ends piece) (message, count)
     → IsWholeWord piece (message, ends + count)
@@ -72,7 +72,7 @@ ends_and_word piece ends message count within before (some, fits, word) = (
       (Whole message ∷ []) before word),
 )
 
--- where nothing is begun, a text to come is a whole one
+-- if nothing is begun, the text to come is a whole one
 nothing_is : (begun : BegunWord) (more : List ℕ) → begun.opener ≡ None → begun.digits ≡ [] → begun.is_bad ≡ false
     → avr_to_come begun more ≡ avr_found more
 nothing_is begun more opener digits good =

@@ -1,4 +1,4 @@
--- Clocks that are counted on.
+-- Counts of a receiver's clock that are continued.
 use Rattle.std.proofs.Common.{◌≡◌, ◌+◌, ◌-◌, ◌/◌, ℕ, [], ◌∷◌, refl, sym, ap, ap₂, subst, arith}
 use Rattle.sq_feed.specs.Clock.{AreSoon, Counted, HasCounted, KeepsTheTime, moment_of, rate}
 

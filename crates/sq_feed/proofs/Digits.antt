@@ -30,7 +30,7 @@ ascii_tail frame =
     IsAscii-cons 32 (frame_digits frame ++ 10 ∷ []) (omega arith)
     (IsAscii-append (frame_digits frame) (10 ∷ []) (ascii_digits frame) (IsAscii-cons 10 [] (omega arith) IsAscii-nil))
 
--- the tail that was made, of the bytes that the loop went over
+-- the tail of the bytes that the loop has processed
 pub tail_is : (frame bytes made all : List ℕ) (n : ℕ) → length frame ≤ n → bytes ≡ all → all ≡ made ++ 10 ∷ []
     → made ≡ space ∷ frame_digits (take n frame) → bytes ≡ tail_of frame
 tail_is frame bytes made all n whole same pushed is =

@@ -44,7 +44,7 @@ written_nothing arrival old text = record {
   text = sym (append-nil text);
 }
 
--- an item was found, and these squitters are in it
+-- an item was found, and these are its squitters
 pub written_one : (arrival : ℕ) (old new : Feeding) (bytes before after : List ℕ) (found : Found) (told : List Timed)
     → new.reader.asked ≡ old.reader.asked → Follows (awaited old.reader) bytes (found ∷ []) (awaited new.reader)
     → new.ear ≡ ear_after arrival old.ear found → told ≡ told_of arrival old.ear found
@@ -56,7 +56,7 @@ written_one arrival old new bytes before after found told same follows heard is 
   text = text ∙ ap (λ l. before ++ lines_of l) (is ∙ sym (append-nil (told_of arrival old.ear found)));
 }
 
--- bytes, and more bytes that arrived at the same moment
+-- bytes, and more bytes with the same arrival
 pub fed_on : (arrival : ℕ) (old mid new : Feeding) (a b : List ℕ) (found more : List Found)
     → HasFed arrival old a found mid → HasFed arrival mid b more new → HasFed arrival old (a ++ b) (found ++ more) new
 fed_on arrival old mid new a b found more x y = record {
@@ -67,7 +67,7 @@ fed_on arrival old mid new a b found more x y = record {
       ∙ sym (ear_after_all-append arrival old.ear found more);
 }
 
--- and their squitters
+-- the squitters of bytes, and of more bytes
 pub told_on : (arrival : ℕ) (old mid : Feeding) (a : List ℕ) (found more : List Found) → HasFed arrival old a found mid
     → told_of_all arrival old.ear (found ++ more)
     ≡ told_of_all arrival old.ear found ++ told_of_all arrival mid.ear more
@@ -94,7 +94,7 @@ written_piece arrival old mid new piece t u v at count within x y =
     subst (λ bs. HasWritten arrival old bs t v new) (sym (take-add at count piece))
     (written_more arrival old mid new (take at piece) (take count (drop at piece)) t u v x y)
 
--- the last items of a source, one after the other
+-- the last items of a source, in order
 pub ear_more : (arrival : ℕ) (ear : Hears) (items : List Found) (i : ℕ) (any : Found) → i < length items
     → ear_after_all arrival ear (take (i + 1) items)
     ≡ ear_after arrival (ear_after_all arrival ear (take i items)) (get_or items i any)
@@ -174,7 +174,7 @@ given_piece arrival old mid new piece m n o f g h at count x y =
     subst (λ bs. HasGiven arrival old bs m f o h new) (sym (take-add at count piece))
     (given_more arrival old mid new (take at piece) (take count (drop at piece)) m n o f g h x y)
 
--- an item was found, and these squitters are in it
+-- an item was found, and these are its squitters
 pub given_one : (arrival : ℕ) (old new : Feeding) (bytes m n : List ℕ) (f g : List (List ℕ)) (found : Found)
     (told : List Timed) → new.reader.asked ≡ old.reader.asked
     → Follows (awaited old.reader) bytes (found ∷ []) (awaited new.reader)
@@ -190,7 +190,7 @@ given_one arrival old new bytes m n f g found told same follows heard is moments
       ∙ ap (λ l. f ++ map (λ (t : Timed). t.frame) l) (is ∙ sym (append-nil (told_of arrival old.ear found)));
 }
 
--- what lies behind a place lies behind a further one
+-- if elements are unchanged from an index on, they are from a later index on
 pub rest_further : {X : Type 0} (xs ys : List X) (near far : ℕ) → near ≤ far → drop near xs ≡ drop near ys
     → drop far xs ≡ drop far ys
 rest_further xs ys near far fits same =

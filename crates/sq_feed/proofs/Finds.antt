@@ -43,7 +43,7 @@ recent_more kept found rest next byte bytes held =
     sym (recent-append kept found (found_in (next ++ bytes))) ∙ ap (recent kept) (sym (held bytes))
     ∙ ap (λ l. recent kept (found_in l)) (append_assoc rest (byte ∷ []) bytes)
 
--- so it is for the state of a deframer that took one byte
+-- the recent items after a deframer took one byte, by its state before and after
 pub beast_more : (kept found : List Found) (old new : Begun) (byte : ℕ) (bytes : List ℕ) (result : Option Found)
     (count : ℕ) → count ≤ 1 → IfNone result (count ≡ 1) → OnSome result (0 < count) → option_to_list result ≡ found
     → HoldWithRest (rest_of old ++ take count (byte ∷ [])) (option_to_list result) (rest_of new)
@@ -55,7 +55,7 @@ beast_more kept found old new byte bytes result count few all some is held =
     (subst (λ l. HoldWithRest (rest_of old ++ byte ∷ []) l (rest_of new)) is
     (subst (λ k. HoldWithRest (rest_of old ++ take k (byte ∷ [])) (option_to_list result) (rest_of new)) one held))
 
--- readings of the bytes to come that agree find the same
+-- two readings of the bytes to come find the same items if they agree
 found_by-same : (f g : List ℕ → List Found) (text : Lines) (bytes : List ℕ) → ((q : List ℕ) → f q ≡ g q)
     → found_by f text bytes ≡ found_by g text bytes
 found_by-same f g text [] same = ap (λ l. last_items l text) (same [])
@@ -129,7 +129,7 @@ pub are_few : (count : ℕ) (xs ys : List Found) → count ≡ messages_in xs �
 are_few count xs ys is same few =
     lt-leb 3 (messages_in ys) (subst (λ l. messages_in l < 3) same (subst (λ n. n < 3) is few))
 
--- what a sign comes to, whatever the result is
+-- the effect of a sign, whatever the result is
 pub sign_none : (result : Option Start) (sign : Sign) (old mid new : Finds) (byte : ℕ)
     → ((q : List ℕ) → beast_of mid q ≡ beast_of old (byte ∷ q)) → new.beast ≡ mid.beast → new.kept ≡ mid.kept
     → mid.text ≡ old.text → new.text ≡ lines_after mid.text byte → is_beast (beast_of mid []) ≡ false

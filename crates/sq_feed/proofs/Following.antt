@@ -1,4 +1,4 @@
--- Taking bytes one after the other.
+-- Taking bytes in order.
 use Rattle.std.proofs.Common.{◌≡◌, ◌+◌, ◌<◌, ◌≤◌, ◌++◌, ◌∙◌, ℕ, List, [], ◌∷◌, length, take, get_or, refl, sym, ap, subst, append_assoc}
 use Rattle.std.proofs.lemmas.List.{take_more}
 use Rattle.sq_feed.specs.declared.machine.Format.TheVariants.{Beast, Avr, Csv, Log}
@@ -23,7 +23,7 @@ follows_more old mid new a b xs ys first second more =
     ap old (append_assoc a b more) ∙ first (b ++ more) ∙ ap (λ zs. xs ++ zs) (second more)
     ∙ sym (append_assoc xs ys (new more))
 
--- one byte more of a piece
+-- one more byte of a piece
 pub follows_byte : (old mid new : List ℕ → List Found) (piece : List ℕ) (at : ℕ) (found : List Found)
     → at < length piece
     → Follows old (take at piece) [] mid → Follows mid (get_or piece at 0 ∷ []) found new
@@ -32,7 +32,7 @@ follows_byte old mid new piece at found within first second =
     subst (λ bs. Follows old bs found new) (sym (take_more piece at 0 within))
     (follows_more old mid new (take at piece) (get_or piece at 0 ∷ []) [] found first second)
 
--- bytes behind a rest are bytes to come
+-- bytes after a rest are bytes to come
 follows_hold : (rest bytes next : List ℕ) (found : List Found) → HoldWithRest (rest ++ bytes) found next
     → Follows (λ more. found_in (rest ++ more)) bytes found (λ more. found_in (next ++ more))
 unfolding HoldWithRest Follows

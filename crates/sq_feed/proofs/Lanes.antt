@@ -1,4 +1,4 @@
--- Escapes that are looked for in lanes.
+-- Searching for escapes in lanes.
 use Rattle.std.proofs.Common.{◌≡◌, ◌≢◌, ◌+◌, ◌-◌, ◌∙◌, inl, inr, ℕ, Bool, true, cond, eqb, List, length, get_or, map}
 use Rattle.std.proofs.Common.{take, drop, ap, subst, arith}
 use Rattle.std.specs.Int.{bit_at}
@@ -16,7 +16,7 @@ is_escape byte = eqb byte 26
 set_bit : (b : Bool) → b ≡ true → cond {A = ℕ} b 1 0 ≡ 1
 set_bit b e = ap (λ (t : Bool). cond {A = ℕ} t 1 0) e
 
--- no bit of a mask is set: no byte is an escape
+-- if no bit of a mask is set, no byte is an escape
 pub plain_lanes : (bytes : List ℕ) → mask_l (map (λ x. eqb x 26) bytes) ≡ 0 → IsPlain bytes
 unfolding is_escape
 plain_lanes bytes none k within is =
@@ -26,7 +26,7 @@ plain_lanes bytes none k within is =
     let zero : bit_at (mask_l (map is_escape bytes)) k ≡ 0 = ap (λ m. bit_at m k) none ∙ bit_at-zero k in
     absurd (omega (arith, one, zero))
 
--- the first sixteen and the last sixteen of 21 bytes are all of them
+-- the first sixteen and the last sixteen of 21 bytes cover all of them
 pub plain_halves : (bytes : List ℕ) → length bytes ≡ 21 → IsPlain (take 16 bytes) → IsPlain (drop 5 bytes)
     → IsPlain bytes
 plain_halves bytes long front back k within = elim (cases_lt k 16) [

@@ -29,7 +29,7 @@ spell_more symbol bytes symbols is h = record {
   each = (is, h.each);
 }
 
--- the bytes with the escape before them, if there is one
+-- the bytes, with an escape in front if `after`
 abbrev after_all : Bool → List ℕ → List ℕ
 after_all after bytes = if after then escape ∷ bytes else bytes
 

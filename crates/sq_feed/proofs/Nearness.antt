@@ -15,7 +15,7 @@ use Rattle.sq_feed.specs.Times.{Timing, by_arrival, by_clock, by_own, clock_afte
 use Rattle.sq_feed.specs.Times.{is_clock_told, is_clockless, is_row_fit, is_told_at, moment_at, row_agrees, times_after}
 use Rattle.sq_feed.specs.Times.{told_as}
 
--- These frames were told, and the state after them.
+-- These frames have timestamps, and this is the state after them.
 record Goes (late latest : ℕ) (told : List Timed) (new : Timing) : Type 0 where
   near : AreNear late latest told
   late_is : new.late ≡ late

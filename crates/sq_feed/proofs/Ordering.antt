@@ -19,9 +19,9 @@ use Rattle.sq_feed.specs.Orders.{put_in, settled, sorted_all, squitters_of, with
 abbrev pub held_as : Sorting → List Timed → Sorting
 held_as s held = record { reorder = s.reorder; latest = s.latest; held = held }
 
--- ---- places
+-- ---- indices
 
--- the place by that among the squitters behind the first one, which is later if `b`
+-- the index for a squitter, by its index `k` among the squitters after the first one; if `b`, that first one is later
 abbrev step_to : Bool → ℕ → ℕ
 step_to b k = if eqb k 0 then (if b then 0 else 1) else k + 1
 
@@ -50,7 +50,7 @@ lt_le a b less = grind (arith, nat_tests, less)
 not_lt : (a b : ℕ) → nat_lt a b ≡ false → b ≤ a
 not_lt a b less = grind (arith, nat_tests, less)
 
--- a later squitter at the end does not matter, and one that is not later comes before
+-- a later squitter at the end does not change the index; after one that is not later, the index is the end
 pub place_later : (moment : ℕ) (xs : List Timed) (y : Timed) → moment < y.moment
     → place_of moment (xs ++ y ∷ []) ≡ place_of moment xs
 place_later moment [] y less = ap (λ b. step_to b 0) (later_is moment y.moment less)
@@ -120,7 +120,7 @@ put_behind one xs ys until =
     ap (λ k. insert (xs ++ ys) k one) (place_behind one.moment xs ys until)
     ∙ insert_behind xs ys (place_of one.moment ys) one
 
--- the items before a place are dropped, and one is put behind it
+-- the items before an index are dropped, and one is inserted at that index or after it
 pub drop_insert : (first at : ℕ) (xs : List Timed) (one : Timed) → first ≤ length xs
     → drop first (insert xs (first + at) one) ≡ insert (drop first xs) at one
 drop_insert first at xs one fits =
@@ -157,7 +157,7 @@ squitters_long [] fs long = refl
 squitters_long (m ∷ ms) [] long = absurd (omega (arith, long))
 squitters_long (m ∷ ms) (f ∷ fs) long = omega (arith, squitters_long ms fs (omega (arith, long)))
 
--- squitters, by their timestamps and frames
+-- squitters from their own timestamps and frames
 pub squitters_back : (told : List Timed)
     → squitters_of (map (λ (t : Timed). t.moment) told) (map (λ (t : Timed). t.frame) told) ≡ told
 squitters_back [] = refl
@@ -182,7 +182,7 @@ squitters_set ms fs k one fits fit =
     ap₂ squitters_of (take_more_set ms k one.moment fits) (take_more_set fs k one.frame fit)
     ∙ squitters-append (take k ms) (one.moment ∷ []) (take k fs) (one.frame ∷ []) (same_long ms fs k fits fit)
 
--- the places behind the one that was written
+-- the elements after the one that was written are unchanged
 pub rest_set : {X : Type 0} (xs ys : List X) (k : ℕ) (x : X) → drop k xs ≡ drop k ys
     → drop (k + 1) (set xs k x) ≡ drop (k + 1) ys
 rest_set xs ys k x same = drop-set-lt (k + 1) xs k x (omega arith) ∙ drop_more_same xs ys k same
@@ -211,7 +211,7 @@ none_due room reorder latest (x ∷ xs) is = (
 pub sorted_nothing : (room : ℕ) (s : Sorting) → HasSorted room s [] [] s
 sorted_nothing room s = record { gives = λ more. refl; leaves = λ more. refl }
 
--- none is due, and one more came
+-- no squitter is due, and one more came
 pub sorted_put : (room : ℕ) (old mid : Sorting) (came given : List Timed) (one : Timed)
     → HasSorted room old came given mid → is_due room mid.reorder mid.latest mid.held ≡ false
     → HasSorted room old (came ++ one ∷ []) given (with_one one mid)
@@ -225,7 +225,7 @@ sorted_put room old mid came given one sorts is =
           ∙ ap (λ s. sorted_all room s more) same;
     }
 
--- the first of those that are held, which is due, is given
+-- the first held squitter is due, and is given
 first_given : (room : ℕ) (new : Sorting) (one : Timed) (more : List Timed)
     → is_due room new.reorder new.latest (one ∷ new.held) ≡ true
     → (given_all room (held_as new (one ∷ new.held)) more ≡ one ∷ given_all room new more)
@@ -275,7 +275,7 @@ flushed_more old mid new given one x y = record {
   same = (y.same.0 ∙ x.same.0, y.same.1 ∙ x.same.1);
 }
 
--- none is due: there is room for one more
+-- no squitter is due, so there is room for one more
 pub room_left : (room reorder latest : ℕ) (held : List Timed) → 0 < room → is_due room reorder latest held ≡ false
     → length held < room
 room_left room reorder latest [] some is = some
@@ -336,7 +336,7 @@ count_each : (xs : List Timed) → count_of (λ _. true) xs ≡ length xs
 count_each [] = refl
 count_each (x ∷ xs) = omega (arith, count_each xs)
 
--- after the due ones are given, no other is due
+-- after the due squitters are given, no other squitter is due
 left_settled : (room reorder latest : ℕ) (held : List Timed)
     → (due_of room reorder latest (left_of room reorder latest held) ≡ [])
     × (left_of room reorder latest (left_of room reorder latest held) ≡ left_of room reorder latest held)
@@ -391,7 +391,7 @@ sorted_more room old mid new a b given due x y = record {
   leaves = λ more. ap (sorted_all room old) (append_assoc a b more) ∙ x.leaves (b ++ more) ∙ y.leaves more;
 }
 
--- squitters came, and none is due any more
+-- squitters came, and no squitter is due any more
 pub sorted_end : (room : ℕ) (old new : Sorting) (came given : List Timed) → HasSorted room old came given new
     → is_due room new.reorder new.latest new.held ≡ false
     → (given ≡ given_all room old came) × (new ≡ sorted_all room old came)
@@ -420,7 +420,7 @@ sorted_count room old new came given sorts =
       length-append came [],
     )
 
--- with a delay of 0
+-- with a `reorder` of 0, squitters are given as they come, and none is held
 pub gives_at_once : GivesAtOnce
 gives_at_once room latest [] = (refl, refl)
 gives_at_once room latest (one ∷ more) =
@@ -554,7 +554,7 @@ only_skips moment x xs less =
     let e : eqb x.moment moment ≡ false = grind (arith, nat_tests, less) in
     ap (λ b. if b then x ∷ only moment xs else only moment xs) e
 
--- those behind the place are later
+-- no squitter from the index on has this timestamp
 later_behind : (moment : ℕ) (held : List Timed) → only moment (drop (place_of moment held) held) ≡ []
 later_behind moment [] = refl
 later_behind moment (x ∷ xs) =
@@ -634,7 +634,7 @@ latest_up latest [] = omega arith
 latest_up latest (x ∷ xs) =
     let up : latest ≤ max latest x.moment = omega arith in omega (arith, up, latest_up (max latest x.moment) xs)
 
--- all behind a recent one are recent
+-- all squitters after a recent one are recent
 all_recent : (reorder latest low : ℕ) (xs : List Timed) → RiseFrom low xs → latest < low + reorder
     → count_of (is_recent reorder latest) xs ≡ length xs
 all_recent reorder latest low [] rise recent = refl
@@ -644,7 +644,7 @@ all_recent reorder latest low (x ∷ xs) rise recent =
     ap (λ b. (if b then 1 else 0) + count_of (is_recent reorder latest) xs) one
     ∙ omega (arith, all_recent reorder latest x.moment xs rise.1 (omega (arith, recent, rise.0)))
 
--- If few are recent, those that are due are so by their timestamps.
+-- If few squitters are recent, those that are due are due by their timestamps.
 due_in_time : (room reorder latest low moment : ℕ) (held : List Timed) → RiseFrom low held
     → count_of (is_recent reorder latest) held < room → latest ≤ moment + reorder
     → AllUntil moment (due_of room reorder latest held)

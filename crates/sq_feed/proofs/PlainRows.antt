@@ -20,7 +20,7 @@ use Rattle.sq_feed.specs.Rows.{IsLineEnd, IsRowAt, csv_message, csv_start, frame
 use Rattle.sq_feed.proofs.AvrLemmas.{long_frame}
 use Rattle.sq_feed.proofs.Numbers.{small_value}
 
--- ---- bytes that are not in a text
+-- ---- bytes that do not occur in a text
 
 abbrev pub Lacks : ℕ → List ℕ → Type 0
 Lacks byte text = AllByRecursion (λ b. b ≢ byte) text
@@ -154,7 +154,7 @@ time_lacks byte seconds decimals other point all more =
     lacks_both byte seconds (46 ∷ decimals) (digits_lack byte seconds other all)
     (point, digits_lack byte decimals other more)
 
--- the definition reads this message from the parts of a row
+-- the definition reads this message in the parts of a row
 pub message_is : (seconds decimals cell word frame : List ℕ) → length seconds ≡ 10 → are_digits seconds ≡ true
     → are_digits decimals ≡ true → Lacks 44 cell → length word ≡ 28 → AreHex word × (frame ≡ bytes_of word)
     → csv_message (record { time = 0; frame = 2 }) (row_of (time_cell seconds decimals) cell word)
@@ -190,7 +190,7 @@ last_hex word hex some = at word (length word - 1) (hex_lacks 13 word refl hex) 
     at (x ∷ text) zero lacks within = lacks.0
     at (x ∷ text) (suc k) lacks within = at text k lacks.1 (omega (arith, within))
 
--- a text that does not end in a carriage return is not changed
+-- a text that does not end with a carriage return is unchanged
 kept : (text : List ℕ) → get_or text (length text - 1) 0 ≢ 13 → without_last 13 text ≡ text
 kept text other =
     both (nat_lt 0 (length text)) (get_or text (length text - 1) 0 == 13) (ne_eqb _ 13 other)
@@ -209,7 +209,7 @@ dropped text =
     (eq-eqb _ 13 last)
     ∙ ap (λ n. take n line) (omega (arith, size)) ∙ take-append_seam text (13 ∷ [])
 
--- how a line of at most 512 bytes is read, if it is not blank
+-- the reading of a line of at most 512 bytes that is not blank
 line_reads : (line row : List ℕ) (message : Message) → length line ≤ 512 → without_last 13 line ≡ row → 0 < length row
     → csv_message (record { time = 0; frame = 2 }) row ≡ Some message → row_read csv_start line ≡ One (Whole message)
 line_reads line row message few bare some is =
@@ -329,7 +329,7 @@ line_end_is text count room (inr (two, back, feed)) = (
   two,
 )
 
--- The slices that the code takes are the parts of a row.
+-- The slices in the code are the parts of a row.
 pub row_at : (piece after cell rest frame : List ℕ) (decimals comma seconds thousand count : ℕ) → 73 ≤ length piece
     → after ≡ drop 11 piece → cell ≡ drop (decimals + 1) after → rest ≡ drop (comma + 1) cell
     → are_digits (take 10 piece) ≡ true → get_or piece 10 0 ≡ 46 → seconds ≡ digits_value 10 (take 10 piece)

@@ -1,4 +1,4 @@
--- The index of the first such byte.
+-- The index of the first byte with a given value.
 use Rattle.std.proofs.Common.{◌≡◌, ◌≢◌, ◌+◌, ◌<◌, ◌≤◌, ◌∙◌, ℕ, Bool, true, false, not, List, length, take, drop, get_or, map, cond, eqb}
 use Rattle.std.proofs.Common.{ap, sym, refl, arith, inl, inr, ◌-◌}
 use Rattle.std.specs.Prelude.{◌==◌}

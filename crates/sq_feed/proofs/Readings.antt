@@ -1,4 +1,4 @@
--- What a stream holds, piece by piece.
+-- The items of a stream, piece by piece.
 use Rattle.std.proofs.Common.{◌≡◌, ◌+◌, ◌<◌, ◌≤◌, ◌++◌, ◌∙◌, ℕ, Bool, true, false, List, [], ◌∷◌, length, take, drop, map, ap, ap₂}
 use Rattle.std.proofs.Common.{refl, sym, arith, append_assoc, length-append}
 use Rattle.std.specs.Prelude.{◌==◌, nat_le, if◌then◌else◌}
@@ -31,7 +31,7 @@ from_doubled byte false more e =
     ap (λ (t : Bool). symbols_from false ((if t then escape ∷ escape ∷ [] else byte ∷ []) ++ more)) e
     ∙ ap (λ (t : Bool). (if t then [] else Byte byte ∷ []) ++ symbols_from t more) e
 
--- the reading of spelled symbols gives them back
+-- reading encoded symbols gives them back
 pub from_spelled : (symbols : List Symbol) (more : List ℕ) → AreSymbols symbols
     → symbols_from false (flat_map spelled symbols ++ more) ≡ symbols ++ symbols_from false more
 from_spelled [] more each = refl
@@ -70,7 +70,7 @@ too_few size held next more few =
     else Damage ∷ []) none)
     (no_start held (Start next ∷ more))
 
--- so it is at the end of a stream
+-- the start of a message with too few bytes before the end of the stream is damage
 pub end_too_few : (size : Size) (held : List ℕ) → length held < message_len size
     → found_of (Start (type_byte size) ∷ map Byte held ++ []) ≡ Damage ∷ []
 end_too_few size held few =
@@ -101,7 +101,7 @@ message_of-front size held more full = λ i. record {
 drop_held : (n : ℕ) (held more : List ℕ) → length held ≡ n → drop n (held ++ more) ≡ more
 drop_held n held more full = ap (λ k. drop k (held ++ more)) (sym full) ∙ drop-append_seam held more
 
--- a start with as many bytes as it wants is a message, whatever follows
+-- a start with as many bytes as it needs is a message, whatever follows
 pub enough : (size : Size) (held : List ℕ) (more : List Symbol) → length held ≡ message_len size
     → found_of (Start (type_byte size) ∷ map Byte held ++ more) ≡ Whole (message_of size held) ∷ found_of more
 enough size held more full =

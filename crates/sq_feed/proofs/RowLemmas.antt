@@ -15,7 +15,7 @@ use Rattle.sq_feed.specs.Follows.{Follows}
 use Rattle.sq_feed.specs.Rows.{BegunRow, IsHeld, items_of_row, layout_after, line_of, longest, row_read, rows_from, rows_to_come}
 use Rattle.sq_feed.specs.Rows.{IsRowAt, LineIsRead, csv_start, text_read, without_last}
 
--- ---- all lines that are too long read the same
+-- ---- all lines that are too long are read the same
 
 pub long_row : (layout : Layout) (line : List ℕ) → longest < length line → row_read layout line ≡ One Damage
 long_row layout line long =

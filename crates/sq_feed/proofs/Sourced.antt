@@ -17,7 +17,7 @@ use Rattle.sq_feed.specs.Follows.{Follows}
 use Rattle.sq_feed.specs.Machines.{Begins, machine_with, to_come}
 use Rattle.sq_feed.specs.Readers.{IsNew, Reads, awaited, new_reads, reads_at}
 
--- the machine at the start of a source
+-- the machine at the start of a source gives the items of the source
 pub starts_with : (format : Format) (layout : Layout) (bytes : List ℕ)
     → to_come (machine_with format layout) bytes ≡ items_from format layout bytes
 starts_with Beast layout bytes = refl
@@ -65,7 +65,7 @@ pub some_left : (xs : List Found) (is_empty : Bool) → is_empty ≡ (length xs 
 some_left [] is_empty is some = absurd (false≢true (sym some ∙ is))
 some_left (x ∷ xs) is_empty is some = omega arith
 
--- the first item of a list, taken out
+-- the first item of a list, removed
 removed : (xs ys : List Found) (x : Found) → 0 < length xs → x ≡ slice_index_or xs 0 x → ys ≡ remove xs 0 → xs ≡ x ∷ ys
 removed [] ys x some is rest = absurd (omega (arith, some))
 removed (z ∷ zs) ys x some is rest = ap₂ (λ (f : Found) l. f ∷ l) (sym is) (sym rest)
@@ -95,7 +95,7 @@ finds_start old new items next bytes was is pending follows more =
     ap (λ (s : Stage). reads_at s old (bytes ++ more)) was ∙ follows more
     ∙ ap (λ l. l ++ fresh next more) (sym pending) ∙ ap (λ (s : Stage). reads_at s new more) (sym is)
 
--- a source of no known format goes on
+-- a source of no known format continues without items
 pub over_on : (reads : Reads) (bytes : List ℕ) → reads.stage ≡ Over → Follows (awaited reads) bytes [] (awaited reads)
 unfolding Follows
 over_on reads bytes is more =

@@ -1,4 +1,4 @@
--- What a deframer holds after more bytes.
+-- The state of a deframer after more bytes.
 use Rattle.std.proofs.Common.{◌≡◌, ◌≢◌, ◌+◌, ◌-◌, ◌<◌, ◌≤◌, ◌++◌, ◌∙◌, ℕ, suc, Bool, true, false, List, [], ◌∷◌, length, take, drop, get_or, map, ap}
 use Rattle.std.proofs.lemmas.List.{take_more, length-take, length-drop}
 use Rattle.std.proofs.Common.{ap₂, refl, sym, subst, arith, append_assoc, append-nil}
@@ -64,7 +64,7 @@ hold old new byte found h more =
     ∙ h more
     ∙ ap (λ (ss : List Symbol). found ++ found_of ss) (sym (reads_rest new more))
 
--- an escape that is the first of two, or before a type
+-- an escape that is the first of two, or comes before a type
 pub escape_hold : (old new : Begun) (byte : ℕ) → old.is_escaped ≡ false → new.is_escaped ≡ true → byte ≡ escape
     → new.kind ≡ old.kind → new.held ≡ old.held → HoldWithRest (rest_of old ++ byte ∷ []) [] (rest_of new)
 escape_hold old new byte was now is kind held = hold old new byte []
@@ -73,7 +73,7 @@ escape_hold old new byte was now is kind held = hold old new byte []
     ∙ ap₂ (λ (k : Option Kind) (l : List ℕ). found_of (begun_symbols k l ++ symbols_from new.is_escaped more))
     (sym kind) (sym held))
 
--- a byte that is none
+-- a byte that is not an escape
 pub byte_hold : (old new : Begun) (byte : ℕ) (found : List Found) → old.is_escaped ≡ false
     → new.is_escaped ≡ false → byte ≢ escape → Gives old (Byte byte) found new
     → HoldWithRest (rest_of old ++ byte ∷ []) found (rest_of new)
@@ -133,7 +133,7 @@ start_gives old new byte found few kind held is more =
     ∙ ap₂ (λ (xs ys : List Found). xs ++ ys) (sym is) (start_anew (kind_of byte) byte more refl
     ∙ ap₂ (λ k l. found_of (begun_symbols k l ++ more)) (sym kind) (sym held))
 
--- a byte after a receiver's state, or after what is unknown, is part of it
+-- a byte after a status, or after an unknown start, is part of it
 pub more_status : (old new : Begun) (byte : ℕ) → old.kind ≡ Some Status → new.kind ≡ Some Status
     → Gives old (Byte byte) [] new
 unfolding Gives
@@ -148,7 +148,7 @@ more_unknown old new byte was now more =
     ap (λ k. found_of (begun_symbols k old.held ++ Byte byte ∷ more)) was
     ∙ ap (λ k. found_of (begun_symbols k new.held ++ more)) (sym now)
 
--- a byte that belongs to nothing is damage, and those after it add none
+-- a byte that belongs to nothing is damage, and the bytes after it add none
 pub stray_gives : (old new : Begun) (byte : ℕ) → old.kind ≡ None → new.kind ≡ Some Status
     → Gives old (Byte byte) (Damage ∷ []) new
 unfolding Gives
@@ -161,7 +161,7 @@ one_more : (held : List ℕ) (byte : ℕ) (more : List Symbol)
 one_more [] byte more = refl
 one_more (b ∷ held) byte more = ap (λ ss. Byte b ∷ ss) (one_more held byte more)
 
--- a byte of a message that wants more
+-- a byte of a message that needs more bytes
 pub more_gives : (old new : Begun) (size : Size) (byte : ℕ) → old.kind ≡ Some (Message size)
     → new.kind ≡ Some (Message size) → new.held ≡ old.held ++ byte ∷ [] → Gives old (Byte byte) [] new
 unfolding Gives
@@ -195,7 +195,7 @@ hold_more a b r s ms ns first second more =
     ∙ ap (λ bs. ms ++ found_in bs) (sym (append_assoc r b more))
     ∙ ap (λ xs. ms ++ xs) (second more) ∙ sym (append_assoc ms ns (found_in (s ++ more)))
 
--- one byte more of a piece
+-- one more byte of a piece
 pub hold_byte : (piece a r s : List ℕ) (at : ℕ) (ns : List Found) → at < length piece
     → HoldWithRest (a ++ take at piece) [] r → HoldWithRest (r ++ get_or piece at 0 ∷ []) ns s
     → HoldWithRest (a ++ take (at + 1) piece) ns s
@@ -217,7 +217,7 @@ plain_symbols (b ∷ bytes) more plain =
 named : (byte : ℕ) (size : Size) → kind_of byte ≡ Message size → byte ≢ escape
 named byte size e is = let none : Unknown ≡ Message size = sym (ap kind_of is) ∙ e in cc
 
--- an escape, a type byte and as many bytes as it wants, none of them an escape
+-- an escape, a type byte, and as many bytes as the type needs, without an escape, are a whole message
 pub whole_hold : (byte : ℕ) (size : Size) (bytes : List ℕ) → kind_of byte ≡ Message size
     → length bytes ≡ message_len size → ((k : ℕ) → k < length bytes → get_or bytes k 0 ≢ escape)
     → HoldWithRest (escape ∷ byte ∷ bytes) (Whole (message_of size bytes) ∷ []) []
@@ -239,7 +239,7 @@ front_is (a ∷ b ∷ rest) n short is =
     let back : n ≡ 2 + n - 2 = omega arith in
     ap (λ m. take m (a ∷ b ∷ rest)) two ∙ ap₂ (λ e m. e ∷ b ∷ take m rest) is back
 
--- the front of a piece is such a message
+-- a whole message without an escape among its bytes, at the front of a piece
 pub front_hold : (piece : List ℕ) (size : Size) (count : ℕ) → kind_of (get_or piece 1 0) ≡ Message size
     → count ≡ message_len size → 2 + count ≤ length piece → get_or piece 0 0 ≡ escape
     → ((k : ℕ) → k < length (take (2 + count - 2) (drop 2 piece))

@@ -1,4 +1,4 @@
--- Counts of items, one after the other.
+-- Counts of items, in order.
 use Rattle.std.proofs.Common.{◌≡◌, ◌+◌, ◌-◌, ◌^◌, ◌<◌, ℕ, Bool, true, false, not, List, [], ◌∷◌, length, ap, sym, refl, subst, arith}
 use Rattle.std.proofs.Common.{length-append}
 use Rattle.std.specs.Prelude.{◌==◌, ◌&&◌, nat_lt, Option, Some, None, if◌then◌else◌}
@@ -16,7 +16,7 @@ use Rattle.sq_feed.specs.Ears.{CountsEach, Hears, ear_after, ear_by, fate_of, fo
 use Rattle.sq_feed.specs.Ears.{told_by, told_of, told_of_all}
 use Rattle.sq_feed.specs.Times.{is_told_at}
 
--- one item was counted, and so many frames were written
+-- one item was counted, and `written` frames were written
 record Counts (before after : Tally) (written : ℕ) : Type 0 where
   found : after.found ≡ before.found + 1
   wrote : after.written ≡ before.written + written
@@ -30,7 +30,7 @@ written_counts : (tally : Tally) → tally.found < 2 ^ 64 - 1 → Counts tally (
 written_counts tally few =
     subst (λ t. Counts tally t 1) (sym (as_fate tally Written few)) (record { found = refl; wrote = refl })
 
--- a fate but being written
+-- a fate other than being written
 abbrev IsOther : Fate → Type 0
 IsOther Written = ⊥
 IsOther (OtherFormat format) = Unit {0}

@@ -1,10 +1,10 @@
 -- The items of AVR text.
 --
--- A text is a list of words between edges. An edge is a mark, a semicolon, or the end of a line (CR or LF). A frame is
--- a word of hexadecimal digits of either case, between a mark and a semicolon, or a line of its own. After `*` and
--- `:`, and on a line of its own, the digits are the frame's; after `@` and `%` twelve of the clock stand before them;
--- after `<` these and two of the signal strength. A frame has 4, 14 or 28 digits. Any other word that is not empty is
--- damage, and so are a mark without a frame and a semicolon without a mark.
+-- A text is a list of words between edges. An edge is a mark, a semicolon, or the end of a line (CR or LF). A frame
+-- is a word of hexadecimal digits of either case, between a mark and a semicolon, or on a line of its own. After `*`
+-- and `:`, and on a line of its own, all digits are the frame's. After `@` and `%`, twelve digits of the clock come
+-- before them; after `<`, these and two of the signal strength. A frame has 4, 14 or 28 digits. Any other word that
+-- is not empty is damage, and so are a mark without a frame and a semicolon without a mark.
 use Rattle.std.specs.Prelude.{◌≡◌, ◌==◌, ◌<◌, ◌≤◌, ◌++◌, ◌+◌, ◌*◌, ◌||◌, ◌&&◌, ℕ, Bool, true, false, List, [], ◌∷◌, length, take, drop}
 use Rattle.std.specs.Prelude.{Option, Some, None, if◌then◌else◌}
 use Rattle.std.specs.Int.Digits.{number_from_digits}
@@ -36,7 +36,7 @@ lead Plain = 0
 lead Clocked = 6
 lead Signalled = 7
 
--- the size of the frame in so many digits
+-- the size of the frame with this many digits after a mark
 abbrev pub size_of : Mark → ℕ → Option Size
 size_of mark digits =
     if digits == 2 * (lead mark + 2) then Some TwoBytes
@@ -59,11 +59,11 @@ abbrev pub whole_or_damage : Mark → Option Size → List ℕ → Found
 whole_or_damage mark (Some size) digits = Whole (avr_message mark size (bytes_of digits))
 whole_or_damage mark None digits = Damage
 
--- the size of the frame that a word spells, if it spells one
+-- the size of the frame that a word encodes, if it encodes one
 abbrev pub word_size : Mark → List ℕ → Option Size
 word_size mark word = if are_hex word then size_of mark (length word) else None
 
--- the item of a word behind a mark
+-- the item of a word after a mark
 abbrev pub item_of : Mark → List ℕ → Found
 item_of mark word = whole_or_damage mark (word_size mark word) word
 
@@ -71,13 +71,13 @@ abbrev pub framed : Option Size → List ℕ → Option RawFrame
 framed (Some size) digits = Some (avr_message Plain size (bytes_of digits)).frame
 framed None digits = None
 
--- the frame that a word of digits spells, if it spells one
+-- the frame that a word of digits encodes, if it encodes one
 abbrev pub frame_of_word : List ℕ → Option RawFrame
 frame_of_word word = framed (word_size Plain word) word
 
 -- ---- words between edges
 
--- the mark that a byte is: * and :, @ and %, <
+-- the mark of a byte: * and :, @ and %, <
 abbrev pub mark_of : ℕ → Option Mark
 mark_of byte =
     if byte == 42 || byte == 58 then Some Plain
@@ -87,7 +87,7 @@ abbrev pub opening : Option Mark → Option Edge
 opening (Some mark) = Some (Opening mark)
 opening None = None
 
--- the edge that a byte is: a semicolon, CR or LF, or a mark
+-- the edge of a byte: a semicolon, CR or LF, or a mark
 abbrev pub edge_of : ℕ → Option Edge
 edge_of byte =
     if byte == 59 then Some Closing else (if byte == 10 || byte == 13 then Some LineEnd else opening (mark_of byte))
@@ -102,7 +102,7 @@ abbrev pub bare : List ℕ → List Found
 bare [] = []
 bare (byte ∷ more) = item_of Plain (byte ∷ more) ∷ []
 
--- the items of a word, by the mark before it, if there is one, and the edge behind it
+-- the items of a word, by the mark before it, if there is one, and the edge after it
 abbrev pub items_at : Option Mark → List ℕ → Edge → List Found
 items_at (Some mark) word Closing = item_of mark word ∷ []
 items_at (Some mark) word LineEnd = Damage ∷ []
@@ -111,7 +111,7 @@ items_at None word Closing = Damage ∷ []
 items_at None word LineEnd = bare word
 items_at None word (Opening next) = stray_word word
 
--- so it is for the last word of a text
+-- the items of the last word of a text
 abbrev pub items_at_end : Option Mark → List ℕ → List Found
 items_at_end (Some mark) word = Damage ∷ []
 items_at_end None word = bare word
@@ -150,15 +150,15 @@ avr_from opener word (byte ∷ more) =
 abbrev pub avr_found : List ℕ → List Found
 avr_found text = avr_from None [] text
 
--- The first bytes of a text, so many, are this message.
+-- The first `whole.1` bytes of a text are the message `whole.0`.
 abbrev pub IsWholeWord : List ℕ → Message × ℕ → Type 0
 IsWholeWord text whole = (0 < whole.1) × (whole.1 ≤ length text)
     × Follows avr_found (take whole.1 text) (Whole whole.0 ∷ []) avr_found
 
 -- ---- what is begun
 
--- The mark before the word so far, if there is one; its digits; and whether it can be no frame, as it has another byte
--- or too many digits.
+-- The mark before the word so far, if there is one; its digits; and whether it cannot be a frame, because it has
+-- another byte or too many digits.
 pub record BegunWord : Type 0 where
   pub opener : Option Mark
   pub digits : List ℕ
@@ -175,13 +175,13 @@ word_of digits is_bad = digits ++ (if is_bad then 46 ∷ [] else [])
 abbrev pub avr_to_come : BegunWord → List ℕ → List Found
 avr_to_come begun more = avr_from begun.opener (word_of begun.digits begun.is_bad) more
 
--- the damage where the text is lost
+-- the items if the text is lost here: damage, if anything is begun
 abbrev pub cut_word : BegunWord → List Found
 cut_word begun = items_at begun.opener (word_of begun.digits begun.is_bad) (Opening Plain)
 
 -- ---- laws
 
--- a frame before it is written: the byte of its mark, its size and its digits
+-- a frame to write: the byte of its mark, its size and its digits
 pub record AvrSent : Type 0 where
   pub mark : Mark
   pub size : Size

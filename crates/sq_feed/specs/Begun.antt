@@ -20,7 +20,7 @@ pub record Begun : Type 0 where
 abbrev pub nothing_begun : Begun
 nothing_begun = record { kind = None; held = []; is_escaped = false }
 
--- an unfinished message has fewer bytes than its type wants
+-- an unfinished message has fewer bytes than its type needs
 abbrev pub IsUnfinished : Option Kind → List ℕ → Type 0
 IsUnfinished None held = ⊤
 IsUnfinished (Some (Message size)) held = length held < message_len size
@@ -33,21 +33,21 @@ type_byte TwoBytes = 49
 type_byte SevenBytes = 50
 type_byte FourteenBytes = 51
 
--- The symbols that stand for what is begun. A status, and what is unknown, keep their start alone.
+-- The symbols that represent what is begun. For a status or an unknown start, this is only the start.
 abbrev pub begun_symbols : Option Kind → List ℕ → List Symbol
 begun_symbols None held = []
 begun_symbols (Some (Message size)) held = Start (type_byte size) ∷ map Byte held
 begun_symbols (Some Status) held = Start 52 ∷ []
 begun_symbols (Some Unknown) held = Start 0 ∷ []
 
--- the items where a start cuts off what is begun
+-- the items if a start cuts off what is begun
 abbrev pub cut_off : Option Kind → List Found
 cut_off None = []
 cut_off (Some (Message size)) = Damage ∷ []
 cut_off (Some Status) = []
 cut_off (Some Unknown) = Damage ∷ []
 
--- The bytes that stand for what is begun: the rest of a stream behind the items that were returned.
+-- The bytes that represent what is begun: the rest of a stream after the items that were returned.
 abbrev pub rest_of : Begun → List ℕ
 rest_of begun = flat_map spelled (begun_symbols begun.kind begun.held)
     ++ (if begun.is_escaped then escape ∷ [] else [])
@@ -56,7 +56,7 @@ rest_of begun = flat_map spelled (begun_symbols begun.kind begun.held)
 unfoldable pub HoldWithRest : List ℕ → List Found → List ℕ → Type 0
 HoldWithRest bytes found rest = (more : List ℕ) → found_in (bytes ++ more) ≡ found ++ found_in (rest ++ more)
 
--- This symbol after what was begun ends these items, and then this is begun.
+-- After what was begun, this symbol completes these items, and then this is begun.
 unfoldable pub Gives : Begun → Symbol → List Found → Begun → Type 0
 Gives old symbol found new = (more : List Symbol)
     → found_of (begun_symbols old.kind old.held ++ symbol ∷ more)

@@ -6,17 +6,17 @@ use Rattle.std.specs.Prelude.{◌==◌, ◌||◌, ◌&&◌, min, max, nat_le, Op
 abbrev pub turn : ℕ
 turn = 2 ^ 48
 
--- ticks of a millisecond
+-- the ticks of a millisecond
 abbrev pub rate : ℕ
 rate = 12000
 
--- the ticks that a value may always be late without a jump: a second
+-- a value may always be late by this many ticks without a jump: a second
 abbrev pub jitter : ℕ
 jitter = 1000 * rate
 
 -- The state of a clock: the latest 48-bit value; the ticks counted so far; the longest gap in ticks that is no jump;
--- by how many ticks a value may be late; whether any value was heard; the latest value that was set aside; and how many
--- in turn agree with it.
+-- by how many ticks a value may be late; whether any value was heard; the latest value that was set aside; and how
+-- many in a row agree with it.
 pub record Counted : Type 0 where
   pub last : ℕ
   pub elapsed : ℕ
@@ -73,7 +73,7 @@ abbrev pub is_awaited : ℕ → ℕ → ℕ → ℕ → Bool
 is_awaited leap last shown waited =
     nat_le (ahead_of last shown) (waited * rate + leap) && nat_le (waited * rate) (ahead_of last shown + leap)
 
--- the value is late by at most so many ticks
+-- the value is late by at most `late` ticks
 abbrev pub is_late : ℕ → ℕ → ℕ → Bool
 is_late late last shown = nat_le turn (ahead_of last shown + late)
 
@@ -86,15 +86,15 @@ abbrev pub agrees : Counted → ℕ → Bool
 agrees before shown =
     not (before.votes == 0) && (is_soon before.leap before.aside shown || is_late before.late before.aside shown)
 
--- the value starts the count, or goes on with it, or is the third in turn that jumps to one place
+-- the value starts the count, or goes on with it, or is late, or is the third in a row of jumps that agree
 abbrev pub is_told : Counted → ℕ → ℕ → Bool
 is_told before shown waited =
     not before.is_heard || goes_on before shown waited || is_late before.late before.last shown
     || agrees before shown && (before.votes == 2)
 
--- Where a count starts anew: at the moment that is given, and not before the ticks counted so far. If none is given,
--- the very first value is the count, and a later one follows by `leap + 1` ticks, so that nothing is paired over the
--- break.
+-- The ticks at which a count starts anew: at the given timestamp, but not before the ticks counted so far. If none is
+-- given, the very first value is the count. A later one follows by `leap + 1` ticks, so that nothing is paired across
+-- the break.
 abbrev pub anew_at : ℕ → ℕ → ℕ → Option ℕ → ℕ
 anew_at elapsed leap shown (Some moment) = max (min (moment * rate) most) elapsed
 anew_at elapsed leap shown None = if elapsed == 0 then shown else min (elapsed + (leap + 1)) most
@@ -102,8 +102,9 @@ anew_at elapsed leap shown None = if elapsed == 0 then shown else min (elapsed +
 abbrev pub begun_anew : Counted → ℕ → Option ℕ → ℕ
 begun_anew before shown anew = anew_at before.elapsed before.leap shown anew
 
--- The state after a 48-bit value. Where the value goes on with the count, the gap is added. A late value changes
--- nothing. Any other value is a jump, and is set aside. The third in turn that agree starts the count anew.
+-- The state after a 48-bit value. If the value goes on with the count, the gap is added. A late value does not change
+-- the count. Any other value is a jump, and is set aside. The third in a row of jumps that agree starts the count
+-- anew.
 abbrev pub heard : Counted → ℕ → ℕ → Option ℕ → Counted
 heard before shown waited anew =
     if not before.is_heard
@@ -119,7 +120,7 @@ heard before shown waited anew =
 abbrev pub moment_of : Counted → ℕ
 moment_of counted = counted.elapsed / rate
 
--- The timestamp of an accepted value. A late value has an earlier timestamp than the count.
+-- The timestamp of an accepted value. A late value gets an earlier timestamp than the count.
 abbrev pub own_moment : Counted → ℕ → ℕ → Option ℕ → ℕ
 own_moment before shown waited anew =
     if before.is_heard && not (goes_on before shown waited) && is_late before.late before.last shown
@@ -136,7 +137,7 @@ pub record IsHeard (before : Counted) (shown waited : ℕ) (after : Counted) : T
   pub counts : (start first ticks next : ℕ) → HasCounted before start first ticks → IsSoon before.leap ticks next
       → start + next < first + 2 ^ 64 → shown ≡ next % turn
       → (HasCounted after start first next × (is_told before shown waited ≡ true))
-  -- A value that is not told harms nothing: the state still agrees with the true count.
+  -- A value without a timestamp does no harm: the state still agrees with the true count.
   pub aside : (start first ticks : ℕ) → HasCounted before start first ticks → is_told before shown waited ≡ false
       → HasCounted after start first ticks
 
@@ -146,7 +147,7 @@ pub record Hearing : Type 0 where
   pub waited : ℕ
   pub after : Counted
 
--- Calls in turn, each with the low 48 bits of the next true count.
+-- Calls in order, each with the low 48 bits of the next true count.
 abbrev pub AreHeardAt : Counted → ℕ → ℕ → List ℕ → List Hearing → Type 0
 AreHeardAt before start first [] [] = ⊤
 AreHeardAt before start first [] (hearing ∷ others) = ⊥
@@ -155,8 +156,8 @@ AreHeardAt before start first (count ∷ counts) (hearing ∷ others) =
     (hearing.shown ≡ count % turn) × (start + count < first + 2 ^ 64)
     × IsHeard before hearing.shown hearing.waited hearing.after × AreHeardAt hearing.after start first counts others
 
--- While no gap is longer than `leap`, the moments are the true counts and a constant, in whole milliseconds, however
--- often the 48 bits turn. So two moments are as far apart as their true counts.
+-- While no gap is longer than `leap`, the timestamps are the true counts plus a constant, in whole milliseconds,
+-- however often the 48 bits wrap. So two timestamps are as far apart as their true counts.
 abbrev pub KeepsTheTime : Type 0
 KeepsTheTime = (before : Counted) (start first ticks : ℕ) (counts : List ℕ) (hearings : List Hearing)
     → HasCounted before start first ticks → AreSoon before.leap ticks counts

@@ -43,6 +43,6 @@ counted_as tally Multilaterated = record tally { found = tally.found + 1; multil
 counted_as tally Damaged = record tally { found = tally.found + 1; damaged = tally.damaged + 1 }
 counted_as tally Aside = record tally { found = tally.found + 1; aside = tally.aside + 1 }
 
--- The counts after an item. At 2^64 - 1 items they stand still.
+-- The counts after an item. At 2^64 - 1 items they stop.
 abbrev pub counted : Tally → Fate → Tally
 counted tally fate = if tally.found == 2 ^ 64 - 1 then tally else counted_as tally fate

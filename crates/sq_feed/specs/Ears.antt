@@ -62,8 +62,7 @@ fate_of_long all_formats time frame =
     else (if is_multilaterated time then Some Multilaterated
     else (if not (format_of frame == 17) && not all_formats then Some (OtherFormat (format_of frame)) else None))
 
--- The fate of a frame, but for one whose time decides it: that of a squitter, or with all formats that of any frame of
--- Mode S.
+-- The fate of a frame, or none if its time decides: for a squitter, or with all formats for any frame of Mode S.
 abbrev pub fate_of : Bool → Time → RawFrame → Option Fate
 fate_of all_formats time (ModeAc frame) = Some FateModeAc
 fate_of all_formats time (Short frame) = fate_of_short all_formats time frame
@@ -102,7 +101,7 @@ told_by None arrival ear time frame =
     then record { moment = moment_at ear.times time arrival; frame = whole_of frame } ∷ []
     else []
 
--- the state after an item that arrived at this moment
+-- the state after an item with this arrival (ms)
 abbrev pub ear_after : ℕ → Hears → Found → Hears
 ear_after arrival ear (Whole message) =
     ear_by (fate_of ear.all_formats message.time message.frame) arrival ear message.time
@@ -117,7 +116,7 @@ told_of arrival ear (Whole message) =
 told_of arrival ear Damage = []
 told_of arrival ear (Foreign stranger) = []
 
--- ---- several items that arrived at one moment
+-- ---- several items with one arrival
 
 abbrev pub ear_after_all : ℕ → Hears → List Found → Hears
 ear_after_all arrival ear [] = ear
@@ -136,7 +135,7 @@ frames_of told = map (λ (t : Timed). t.frame) told
 
 -- ---- words of the laws
 
--- Frames in turn: the timestamp of none is before the latest one by more than `late`.
+-- Frames in order: each timestamp is before the latest one by at most `late`.
 abbrev pub AreNear : (late latest : ℕ) → List Timed → Type 0
 AreNear late latest [] = ⊤
 AreNear late latest (one ∷ more) = (latest ≤ one.moment + late) × AreNear late (max latest one.moment) more
@@ -148,8 +147,8 @@ latest_told latest (one ∷ more) = latest_told (max latest one.moment) more
 
 -- ---- laws
 
--- No timestamp is before the latest one by more than `late`: with 0, timestamps never go back. The state keeps the
--- latest one, so that this holds from one call to the next.
+-- Each timestamp is before the latest one by at most `late`: with 0, timestamps never go back. The state keeps the
+-- latest timestamp, so this holds from one call to the next.
 abbrev pub StaysNear : Type 0
 StaysNear = (arrival : ℕ) (ear : Hears) (items : List Found)
     → AreNear ear.times.late ear.times.latest (told_of_all arrival ear items)

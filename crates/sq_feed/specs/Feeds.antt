@@ -22,20 +22,20 @@ nothing_fed asked manner = record { reader = new_reads asked; ear = untouched ma
 abbrev pub lines_of : List Timed → List ℕ
 lines_of told = flat_map (λ t. log_line t.moment t.frame) told
 
--- With these bytes, which arrived at this moment, a feed went on, and these items were found.
+-- A feed took these bytes, which arrived at `arrival` (ms), and found these items.
 pub record HasFed (arrival : ℕ) (old : Feeding) (bytes : List ℕ) (found : List Found) (new : Feeding) : Type 0 where
   pub same : new.reader.asked ≡ old.reader.asked
   pub follows : Follows (awaited old.reader) bytes found (awaited new.reader)
   pub heard : new.ear ≡ ear_after_all arrival old.ear found
 
--- With these bytes a feed went on, and appended the lines of the items found.
+-- A feed took these bytes, and appended the lines of the items found.
 pub record HasWritten (arrival : ℕ) (old : Feeding) (bytes before after : List ℕ) (new : Feeding) : Type 0 where
   pub found : List Found
   pub fed : HasFed arrival old bytes found new
   pub text : after ≡ before ++ lines_of (told_of_all arrival old.ear found)
 
--- With these bytes a feed went on, and gave the squitters of the items found: their timestamps and their frames are
--- behind those that were given before.
+-- A feed took these bytes, and gave the squitters of the items found. Their timestamps and frames follow those that
+-- were given before.
 pub record HasGiven (arrival : ℕ) (old : Feeding) (bytes : List ℕ) (moments : List ℕ) (frames : List (List ℕ))
     (all_moments : List ℕ) (all_frames : List (List ℕ)) (new : Feeding) : Type 0 where
   pub found : List Found
@@ -57,7 +57,7 @@ pub record HasClosedFeed (old new : Feeding) : Type 0 where
   pub closed : HasClosed old.reader new.reader
   pub same_ear : new.ear ≡ old.ear
 
--- A connection was lost: an unfinished item is damage, and the clock starts anew with the next connection.
+-- A connection was lost: an unfinished item is damage, and the clock starts afresh with the next connection.
 pub record HasLost (old new : Feeding) : Type 0 where
   pub anew : IsNew old.reader.asked new.reader
   pub heard : new.ear ≡ lost (ear_after_all 0 old.ear (lost_items old.reader))
@@ -68,7 +68,7 @@ format_of_source feed = format_at feed.reader.stage feed.reader
 
 -- ---- laws
 
--- A feed that goes on twice, with bytes that arrived at one moment, has gone on with the bytes of both.
+-- A feed that takes bytes twice, both with one arrival, has taken the bytes of both.
 abbrev pub FeedsGoOn : Type 0
 FeedsGoOn = (arrival : ℕ) (old mid new : Feeding) (a b t u v : List ℕ)
     → HasWritten arrival old a t u mid → HasWritten arrival mid b u v new → HasWritten arrival old (a ++ b) t v new
@@ -80,7 +80,7 @@ pub record Fed : Type 0 where
   pub found : List Found
   pub after : Feeding
 
--- calls, one after the other
+-- calls in order
 abbrev pub AreFed : Feeding → List Fed → Type 0
 AreFed before [] = ⊤
 AreFed before (one ∷ more) = HasFed one.arrival before one.bytes one.found one.after × AreFed one.after more
@@ -103,7 +103,7 @@ FeedsTheWhole = (asked : Option Format) (manner : Manner) (calls : List Fed)
     → items_in calls ++ awaited (last_fed (nothing_fed asked manner) calls).reader []
     ≡ items_as asked (bytes_in calls)
 
--- So it is where a source is closed between the calls: then the items are those of both sources.
+-- The same if a source is closed between the calls: the items are those of both sources.
 abbrev pub FeedsBoth : Type 0
 FeedsBoth = (asked : Option Format) (manner : Manner) (calls more : List Fed) (closed : Feeding)
     → AreFed (nothing_fed asked manner) calls

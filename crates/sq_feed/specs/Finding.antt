@@ -1,9 +1,9 @@
 -- A source shows its format by its first bytes.
 --
--- The bytes are read as Beast and as lines of text at the same time. Three messages of Beast in turn show Beast. A line
--- shows a text: a log is tried first, then a table, then AVR text. A marked frame at the start of a line shows AVR text
--- at its semicolon. The messages that show the format are the first items of the source, and all bytes before them are
--- one damage. The bytes after them are read from the start of a source of that format.
+-- The bytes are read as Beast and as lines of text at the same time. Three Beast messages in a row show Beast. A line
+-- shows a text: a log is tried first, then a table, then AVR text. A marked frame at the start of a line shows AVR
+-- text at its semicolon. The messages that show the format are the first items of the source, and all bytes before
+-- them are one damage. The bytes after them are read from the start of a source of that format.
 --
 -- Some other sources are known by their first bytes or by a line. A source without any sign in its first 16,384 bytes
 -- has no frames. All bytes of such a source are one item, which says what the source is.
@@ -32,7 +32,7 @@ use Rattle.sq_feed.specs.Begun.{Begun, nothing_begun, rest_of}
 use Rattle.sq_feed.specs.Rows.{csv_start, row_read, rows_from, without_last}
 use Rattle.sq_feed.specs.Stream.{found_in}
 
--- ---- messages in turn
+-- ---- messages in a row
 
 abbrev pub messages_in : List Found → ℕ
 messages_in [] = 0
@@ -40,7 +40,7 @@ messages_in (Whole message ∷ more) = messages_in more + 1
 messages_in (Damage ∷ more) = messages_in more
 messages_in (Foreign stranger ∷ more) = messages_in more
 
--- The last damage, and the messages after it. Of more than four items the first four are kept.
+-- The last damage, and the messages after it. At most four items are kept: the first ones.
 abbrev pub recent_after : List Found → Found → List Found
 recent_after kept (Whole message) = if nat_lt (length kept) 4 then kept ++ Whole message ∷ [] else kept
 recent_after kept Damage = Damage ∷ []
@@ -50,7 +50,7 @@ abbrev pub recent : List Found → List Found → List Found
 recent kept [] = kept
 recent kept (item ∷ more) = recent (recent_after kept item) more
 
--- three messages in turn show Beast
+-- three messages in a row show Beast
 abbrev pub is_beast : List Found → Bool
 is_beast items = nat_le 3 (messages_in items)
 
@@ -125,7 +125,7 @@ is_packed start =
     || bytes_eq start (0xFD ∷ codes "7zXZ") || bytes_eq start (0x28 ∷ 0xB5 ∷ 0x2F ∷ 0xFD ∷ [])
     || bytes_eq start (codes "PK" ++ 3 ∷ 4 ∷ [])
 
--- a byte order mark of UTF-16, with a character of ASCII behind it
+-- a byte order mark of UTF-16, followed by an ASCII character
 abbrev pub is_utf16 : List ℕ → Bool
 is_utf16 start =
     (length start == 4) && (bytes_eq (take 2 start) (0xFF ∷ 0xFE ∷ []) && bytes_eq (drop 3 start) (0 ∷ [])
@@ -154,7 +154,7 @@ no_lines = record { line = []; is_dirty = false; count = 0 }
 abbrev pub byte_order_mark : List ℕ
 byte_order_mark = 0xEF ∷ 0xBB ∷ 0xBF ∷ []
 
--- The line after a byte. A byte order mark at its start is left out, and so is anything behind 513 bytes: a line of
+-- The line after a byte. A byte order mark at its start is left out, and so is anything after 513 bytes: a line of
 -- more than 512 bytes shows nothing.
 abbrev pub line_after : List ℕ → ℕ → List ℕ
 line_after line byte =
@@ -216,7 +216,7 @@ after_sign is_dirty (Shows format layout message) rest more =
     first_items is_dirty message ++ items_from format layout more
 after_sign is_dirty (Other stranger) rest more = Foreign stranger ∷ []
 
--- A source that ends without a sign: its messages of Beast, even if they are fewer than three; or no frames.
+-- A source that ends without a sign has its Beast messages, even if they are fewer than three; or it has no frames.
 abbrev pub unclear_items : List Found → ℕ → List Found
 unclear_items beast count =
     if nat_le 1 (messages_in beast) then beast else (if count == 0 then [] else Foreign NoFrame ∷ [])
@@ -226,7 +226,7 @@ last_by is_dirty Unclear rest = rest
 last_by is_dirty (Shows format layout message) rest = first_items is_dirty message
 last_by is_dirty (Other stranger) rest = Foreign stranger ∷ []
 
--- the items of a source that ends here: its last line may want its line feed
+-- the items of a source that ends here: its last line may lack its line feed
 abbrev pub last_items : List Found → Lines → List Found
 last_items beast text = last_by text.is_dirty (line_sign text.line) (unclear_items beast text.count)
 

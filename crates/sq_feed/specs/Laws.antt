@@ -10,7 +10,7 @@ use Rattle.sq_feed.specs.Stream.{AreSymbols, Hold, Spell, Start, Symbol, doubled
 
 -- ---- streams
 
--- exactly one list of symbols spells the bytes
+-- the bytes encode exactly one list of symbols
 pub record IsReadOnce (bytes : List ℕ) : Type 0 where
   pub symbols : List Symbol
   pub reads : Spell bytes symbols
@@ -21,12 +21,12 @@ pub record IsFoundOnce (bytes : List ℕ) : Type 0 where
   pub holds : Hold bytes (found_in bytes)
   pub one : (found : List Found) → Hold bytes found → found ≡ found_in bytes
 
--- a message before it is spelled: the size of its frame, and its bytes
+-- a message to send: the size of its frame, and its bytes
 pub record Sent : Type 0 where
   pub size : Size
   pub bytes : List ℕ
 
--- an escape, the type byte, and the bytes, each escape among them doubled
+-- an escape, the type byte, and the bytes, with each escape among them doubled
 abbrev pub sent_bytes : Sent → List ℕ
 sent_bytes sent = escape ∷ type_byte sent.size ∷ flat_map doubled sent.bytes
 
@@ -37,7 +37,7 @@ AreSent (sent ∷ more) = (length sent.bytes ≡ message_len sent.size) × AreSe
 abbrev pub sent_messages : List Sent → List Found
 sent_messages sent = map (λ s. Whole (message_of s.size s.bytes)) sent
 
--- A stream of messages, spelled one after the other, holds exactly these, whatever their bytes are.
+-- A stream of messages, sent one after the other, holds exactly these messages, whatever their bytes are.
 abbrev pub SentIsFound : Type 0
 SentIsFound = (sent : List Sent) → AreSent sent → found_in (flat_map sent_bytes sent) ≡ sent_messages sent
 
@@ -46,7 +46,7 @@ abbrev pub StartSplits : Type 0
 StartSplits = (front : List Symbol) (kind : ℕ) (more : List Symbol)
     → found_of (front ++ Start kind ∷ more) ≡ found_of front ++ found_of (Start kind ∷ more)
 
--- A message that is sent is found, whatever symbols stand before it and whatever bytes follow.
+-- A message that is sent is found, whatever symbols come before it and whatever bytes follow.
 abbrev pub SentIsFoundAnywhere : Type 0
 SentIsFoundAnywhere = (front : List Symbol) (sent : Sent) (more : List ℕ) → AreSymbols front
     → length sent.bytes ≡ message_len sent.size
@@ -61,7 +61,7 @@ pub record Step : Type 0 where
   pub found : List Found
   pub after : Begun
 
--- calls, one after the other
+-- calls in order
 abbrev pub AreTakes : Begun → List Step → Type 0
 AreTakes before [] = ⊤
 AreTakes before (step ∷ steps) =

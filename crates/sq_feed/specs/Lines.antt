@@ -13,10 +13,10 @@ frame_digits frame = flat_map (hexadecimal 2) frame
 abbrev pub tail_of : List ℕ → List ℕ
 tail_of bytes = space ∷ (frame_digits bytes ++ (10 ∷ []))
 
--- What follows the moment. Frames of downlink formats below 16 have seven bytes.
+-- What follows the timestamp. Frames of downlink formats below 16 have seven bytes.
 abbrev pub line_tail : List ℕ → List ℕ
 line_tail frame = if nat_lt (format_of frame) 16 then tail_of (take 7 frame) else tail_of frame
 
--- a moment in decimal digits, and what follows it
+-- a timestamp in decimal digits, and what follows it
 unfoldable pub log_line : ℕ → List ℕ → List ℕ
 log_line moment frame = decimal moment ++ line_tail frame

@@ -39,7 +39,7 @@ to_come_as Avr machine bytes = avr_to_come machine.avr bytes
 to_come_as Csv machine bytes = rows_to_come machine.rows bytes
 to_come_as Log machine bytes = rows_to_come machine.rows bytes
 
--- the items that the bytes to come will make, by what is begun
+-- the items of the bytes to come, after what is begun
 abbrev pub to_come : Begins → List ℕ → List Found
 to_come machine bytes = to_come_as machine.format machine bytes
 
@@ -49,6 +49,6 @@ dropped_as Avr machine = cut_word machine.avr
 dropped_as Csv machine = cut_row machine.rows
 dropped_as Log machine = cut_row machine.rows
 
--- the damage where a source is lost
+-- the items if a source is lost here: damage, if anything is begun
 abbrev pub dropped : Begins → List Found
 dropped machine = dropped_as machine.format machine

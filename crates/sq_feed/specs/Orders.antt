@@ -1,4 +1,4 @@
--- Squitters in the order of their timestamps, held in a place of fixed size.
+-- Squitters in the order of their timestamps, held in a buffer of fixed size.
 use Rattle.std.specs.Prelude.{◌≡◌, ◌≤◌, ◌<◌, ◌++◌, ◌+◌, ⊤, ℕ, Bool, false, true, List, [], ◌∷◌, eqb, filter}
 use Rattle.std.specs.Prelude.{length, max, nat_le, nat_lt, if◌then◌else◌}
 use Rattle.std.specs.List.{insert}
@@ -22,13 +22,13 @@ squitters_of (moment ∷ moments) (frame ∷ frames) =
 
 -- ---- a squitter comes
 
--- the place of a squitter with this timestamp: behind the last one that is not later
+-- the index for a squitter with this timestamp: after the last one that is not later
 abbrev pub place_of : ℕ → List Timed → ℕ
 place_of moment [] = 0
 place_of moment (one ∷ more) =
     if eqb (place_of moment more) 0 then (if nat_lt moment one.moment then 0 else 1) else place_of moment more + 1
 
--- a squitter in its place among others
+-- a squitter, inserted at its place among others
 abbrev pub put_in : Timed → List Timed → List Timed
 put_in one held = insert held (place_of one.moment held) one
 
@@ -37,13 +37,13 @@ with_one one s = record { reorder = s.reorder; latest = max s.latest one.moment;
 
 -- ---- squitters are given
 
--- The first squitter is due: the latest one is later by as much as a squitter may come late, or the place is full.
+-- The first squitter is due: the latest one is at least `reorder` later, or the buffer is full.
 abbrev pub is_due : (room reorder latest : ℕ) → List Timed → Bool
 is_due room reorder latest [] = false
 is_due room reorder latest (one ∷ more) =
     if nat_le (one.moment + reorder) latest then true else nat_le room (length (one ∷ more))
 
--- the squitters that are due, from the first one on, and those behind them
+-- the squitters that are due, from the first one on, and those after them
 abbrev pub due_of : (room reorder latest : ℕ) → List Timed → List Timed
 due_of room reorder latest [] = []
 due_of room reorder latest (one ∷ more) =
@@ -63,7 +63,7 @@ settled room s =
 
 -- ---- several squitters
 
--- The squitters that are given in all, where each one comes once all that were due are given; and the state after it.
+-- All squitters that are given, if each one comes once all that were due are given; and the state afterwards.
 abbrev pub given_all : ℕ → Sorting → List Timed → List Timed
 given_all room s [] = given_now room s
 given_all room s (one ∷ more) = given_now room s ++ given_all room (with_one one (settled room s)) more
@@ -93,17 +93,17 @@ abbrev pub count_of : (Timed → Bool) → List Timed → ℕ
 count_of test [] = 0
 count_of test (one ∷ more) = (if test one then 1 else 0) + count_of test more
 
--- timestamps that rise from a moment on
+-- timestamps that rise, from this one on
 abbrev pub RiseFrom : ℕ → List Timed → Type 0
 RiseFrom moment [] = ⊤
 RiseFrom moment (one ∷ more) = (moment ≤ one.moment) × RiseFrom one.moment more
 
--- timestamps that are all at or before a moment
+-- timestamps that are all at or before this one
 abbrev pub AllUntil : ℕ → List Timed → Type 0
 AllUntil moment [] = ⊤
 AllUntil moment (one ∷ more) = (one.moment ≤ moment) × AllUntil moment more
 
--- squitters, each put in its place when it comes
+-- squitters, each inserted at its place when it comes
 abbrev pub put_all : List Timed → List Timed → List Timed
 put_all held [] = held
 put_all held (one ∷ more) = put_all (put_in one held) more
@@ -115,7 +115,7 @@ sorted came = put_all [] came
 abbrev pub only : ℕ → List Timed → List Timed
 only moment squitters = filter (λ one. eqb one.moment moment) squitters
 
--- No squitter comes after a later one was given.
+-- Each squitter is at or after all those that were given before it came.
 abbrev pub AreTimely : ℕ → Sorting → List Timed → Type 0
 AreTimely room s came = (before : List Timed) (one : Timed) (after : List Timed) → came ≡ before ++ one ∷ after
     → AllUntil one.moment (given_all room s before)
@@ -141,7 +141,7 @@ pub record Sorted : Type 0 where
   pub given : List Timed
   pub after : Sorting
 
--- calls, one after the other
+-- calls in order
 abbrev pub AreSorted : ℕ → Sorting → List Sorted → Type 0
 AreSorted room before [] = ⊤
 AreSorted room before (one ∷ more) = HasSorted room before one.came one.given one.after × AreSorted room one.after more
@@ -161,23 +161,23 @@ given_in (one ∷ more) = one.given ++ given_in more
 -- ---- laws
 
 -- Each squitter that came or was held is given or held at the end, as often as it came: no squitter is lost or
--- doubled.
+-- duplicated.
 abbrev pub GivesAll : Type 0
 GivesAll = (room : ℕ) (s : Sorting) (came : List Timed) (test : Timed → Bool)
     → count_of test (given_all room s came ++ (sorted_all room s came).held) ≡ count_of test (s.held ++ came)
 
--- If no squitter comes after a later one was given, those that are given, and then those that are held, are all that
--- came, sorted.
+-- Suppose each squitter is at or after all those that were given before it came. Then the squitters given, followed
+-- by those held, are all that came, sorted.
 abbrev pub GivesInOrder : Type 0
 GivesInOrder = (room : ℕ) (s : Sorting) (came : List Timed) → AreTimely room s came
     → given_all room s came ++ (sorted_all room s came).held ≡ put_all s.held came
 
--- No squitter comes after a later one was given, if all come in time.
+-- If all squitters come in time, each is at or after all those that were given before it came.
 abbrev pub InTimeIsTimely : Type 0
 InTimeIsTimely = (room reorder : ℕ) (came : List Timed) → 0 < room → ComeInTime room reorder came
     → AreTimely room (nothing_sorted reorder) came
 
--- With a delay of 0, squitters are given as they come, and none is held.
+-- With a `reorder` of 0, squitters are given as they come, and none is held.
 abbrev pub GivesAtOnce : Type 0
 GivesAtOnce = (room latest : ℕ) (came : List Timed)
     → let s : Sorting = record { reorder = 0; latest = latest; held = [] } in
@@ -188,14 +188,14 @@ abbrev pub SortsStably : Type 0
 SortsStably = (came : List Timed)
     → RiseFrom 0 (sorted came) × ((moment : ℕ) → only moment (sorted came) ≡ only moment came)
 
--- The cut into calls does not matter: all calls, and a flush after them, give the squitters that one call of all of
--- them gives and holds.
+-- How squitters are cut into calls does not matter. All calls, and a flush after them, give the squitters that one
+-- call with all of them gives and holds.
 abbrev pub SortsTheWhole : Type 0
 SortsTheWhole = (room : ℕ) (before : Sorting) (calls : List Sorted) → AreSorted room before calls
     → given_in calls ++ (last_sorted before calls).held
     ≡ given_all room before (came_in calls) ++ (sorted_all room before (came_in calls)).held
 
--- The earliest squitters are given, as many as are due, and what was held is given or held.
+-- The earliest squitters are given, as many as are due, and each squitter that was held is given or held.
 abbrev pub GivesTheFirst : Type 0
 GivesTheFirst = (room reorder latest : ℕ) (held : List Timed)
     → due_of room reorder latest held ++ left_of room reorder latest held ≡ held

@@ -12,8 +12,8 @@ use Rattle.sq_feed.specs.declared.rows.Layout.TheVariants.{Log as LogLayout}
 use Rattle.sq_feed.specs.Finding.{Finds, finds_to_come, fresh, nothing_seen}
 use Rattle.sq_feed.specs.Machines.{Begins, dropped, layout_of, machine_with, to_come}
 
--- the state: what the source is asked to be, the stage of reading, what finds its format, the items that wait to be
--- given, and the machine that reads it
+-- the state: the format that is asked for, the stage of reading, the finder of the format, the waiting items, and the
+-- machine that reads the source
 pub record Reads : Type 0 where
   pub asked : Option Format
   pub stage : Stage
@@ -36,7 +36,7 @@ reads_at Reading reads bytes = to_come reads.machine bytes
 reads_at (Giving next) reads bytes = reads.pending ++ fresh next bytes
 reads_at Over reads bytes = []
 
--- the items that wait to be given, and those that the bytes to come will make
+-- the items that wait to be given, and those of the bytes to come
 abbrev pub awaited : Reads → List ℕ → List Found
 awaited reads bytes = reads_at reads.stage reads bytes
 
@@ -94,7 +94,7 @@ abbrev pub dropped_items : List Found → List Found
 dropped_items [] = []
 dropped_items (item ∷ more) = Damage ∷ []
 
--- one damage for all that has no format yet, or for messages that wait to be given
+-- one damage for all bytes before the format is known, or for items that wait to be given
 abbrev pub dropped_at : Stage → Reads → List Found
 dropped_at Finding reads = if reads.finder.text.count == 0 then [] else Damage ∷ []
 dropped_at Reading reads = dropped reads.machine

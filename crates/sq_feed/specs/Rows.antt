@@ -152,7 +152,7 @@ IsHeld begun = begun.is_long ≡ true → longest ≤ length begun.held
 abbrev pub line_of : List ℕ → Bool → List ℕ
 line_of held is_long = held ++ (if is_long then 0 ∷ [] else [])
 
--- the items of the rest of a text, after what is kept
+-- the items of the rest of a text, after the unfinished line
 abbrev pub rows_to_come : BegunRow → List ℕ → List Found
 rows_to_come begun more = rows_from begun.layout (line_of begun.held begun.is_long) more
 

@@ -13,8 +13,8 @@ pub record Arrays : Type 0 where
 abbrev pub arrays : (moments : List ℕ) (frames : List (List ℕ)) → Arrays
 arrays moments frames = record { moments = moments; frames = frames }
 
--- An item was heard. Its squitter, if it has one, is stored at index `start`, and the index behind the last is `end`.
--- What follows is unchanged.
+-- An item was heard. Its squitter, if it has one, is stored at index `start`, and the index after the last is `end`.
+-- Later elements are unchanged.
 pub record HasHeardOne (arrival : ℕ) (old new : Feeding) (item : Found) (start end : ℕ) (before after : Arrays) : Type 0
   where
     pub reader : new.reader ≡ old.reader
@@ -25,7 +25,7 @@ pub record HasHeardOne (arrival : ℕ) (old new : Feeding) (item : Found) (start
     pub rest : (drop end after.moments ≡ drop end before.moments) × (drop end after.frames ≡ drop end before.frames)
     pub long : (length after.moments ≡ length before.moments) × (length after.frames ≡ length before.frames)
 
--- So many bytes of a piece were taken. The first squitter in them, if there is one, is stored in the same way.
+-- `count` bytes of a piece were taken. The first squitter in them, if there is one, is stored in the same way.
 pub record HasTakenOne (arrival : ℕ) (old new : Feeding) (piece : List ℕ) (count start end : ℕ) (before after : Arrays)
     : Type 0 where
   pub fits : count ≤ length piece

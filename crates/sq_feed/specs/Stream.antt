@@ -1,9 +1,9 @@
 -- The items of a Beast stream.
 --
--- A stream is a list of symbols, spelled in bytes. A start is an escape and a type byte. A byte between starts is
+-- A stream is a list of symbols, encoded as bytes. A start is an escape and a type byte. A byte between starts is
 -- itself, and an escape between starts is doubled.
 --
--- A message is its start and as many bytes as its type wants. Damage is any of these, each with all bytes up to the
+-- A message is its start and as many bytes as its type needs. Damage is any of these, each with all bytes up to the
 -- next start: a message that is cut off, bytes after a message, bytes before the first start, and a start of unknown
 -- type.
 use Rattle.std.specs.Prelude.{◌≡◌, ◌≢◌, ◌==◌, ◌++◌, ◌&&◌, ◌⊎◌, ⊤, ℕ, Bool, true, false, not, List, [], ◌∷◌, length, drop}
@@ -44,7 +44,7 @@ abbrev pub AreSymbols : List Symbol → Type 0
 AreSymbols [] = ⊤
 AreSymbols (symbol ∷ more) = IsSymbol symbol × AreSymbols more
 
--- The bytes spell these symbols. An escape may be left at the end: the next byte decides what it is.
+-- The bytes encode these symbols. An escape may be left at the end: the next byte decides what it is.
 pub record Spell (bytes : List ℕ) (symbols : List Symbol) : Type 0 where
   pub rest : List ℕ
   pub is_rest : (rest ≡ []) ⊎ (rest ≡ escape ∷ [])

@@ -8,8 +8,8 @@ use Rattle.sq_feed.specs.Clock.{Counted, heard, is_told, most, own_moment, rate,
 
 -- The state: the receiver's clock; whether arrivals are those of a live source; whether the clock is ignored; the
 -- longest gap (ms) that is no jump; by how much (ms) a timestamp may be before the latest one; the latest timestamp,
--- and the arrival of its frame; the arrival of the frame that the clock was read of; whether a row had a time of its
--- own; the latest such time that was set aside, and how many in turn agree with it.
+-- and the arrival of its frame; the arrival of the last frame with an accepted clock; whether a row had a time of its
+-- own; the latest such time that was set aside, and how many in a row agree with it.
 pub record Timing : Type 0 where
   pub clock : Counted
   pub is_live : Bool
@@ -42,15 +42,15 @@ no_times manner = record {
 abbrev pub other_times : Timing → Timing
 other_times t = record t { clock = restarted t.clock }
 
--- The timestamp of now: live, as much after the latest as the arrivals are apart.
+-- The present timestamp. In a live source, it is as much after the latest one as the arrivals are apart.
 abbrev pub due : Timing → ℕ → ℕ
 due t arrival = if t.is_live then min (t.latest + (arrival - t.arrival)) most else t.latest
 
--- A frame of this moment was told: the latest timestamp goes on to it, and never goes back.
+-- The state after a frame with this time: the latest timestamp moves up to the time, and never goes back.
 abbrev pub gone_on : Timing → ℕ → ℕ → Timing
 gone_on t moment arrival = if nat_le t.latest moment then record t { latest = moment; arrival = arrival } else t
 
--- The timestamp of a frame of this moment: the moment, but not before the latest timestamp by more than `late`.
+-- The timestamp of a frame with this time: the time, but before the latest timestamp by at most `late`.
 abbrev pub told_as : Timing → ℕ → ℕ
 told_as t moment = if nat_le t.latest moment then moment else max moment (t.latest - t.late)
 
@@ -87,21 +87,22 @@ by_clock t ticks arrival =
 
 -- ---- a row with a time of its own
 
--- the first such time; or it follows the latest timestamp within a leap, or is late by at most `late` or a second
+-- the first such time; or one that follows the latest timestamp within a leap, or is late by at most `late` or a
+-- second
 abbrev pub is_row_fit : Timing → ℕ → Bool
 is_row_fit t moment =
     not t.is_dated || nat_le t.latest (moment + max t.late 1000) && nat_le moment (t.latest + t.leap)
 
--- the time is at or after the one that was set aside
+-- a time was set aside, and this time is at or after it
 abbrev pub row_agrees : Timing → ℕ → Bool
 row_agrees t moment = not (t.votes == 0) && nat_le t.aside moment
 
--- the time fits, or is the third in turn that jumps ahead
+-- the time fits, or is the third in a row that jumps ahead
 abbrev pub is_own_told : Timing → ℕ → Bool
 is_own_told t moment = is_row_fit t moment || not (nat_lt moment t.latest) && row_agrees t moment && (t.votes == 2)
 
--- Any time that goes back further is left out. One that jumps ahead is set aside, until three in turn
--- have come, each at or after the previous one. Rows that go on jumping are accepted from then on.
+-- A time that goes back further is left out. A time that jumps ahead is set aside, until three in a row have come,
+-- each at or after the previous one. Rows that go on jumping are accepted from then on.
 abbrev pub by_own : Timing → ℕ → ℕ → Timing
 by_own t moment arrival =
     if is_row_fit t moment then gone_on (record t { is_dated = true; votes = 0 }) moment arrival
@@ -112,7 +113,7 @@ by_own t moment arrival =
 
 -- ---- any frame
 
--- A clock of 0 is none, as programs send that have none.
+-- A clock of 0 counts as none: programs without a clock send 0.
 abbrev pub is_clockless : Timing → ℕ → Bool
 is_clockless t ticks = ticks == 0 || t.ignores_clock
 
@@ -126,7 +127,7 @@ times_after t Unknown arrival = by_arrival t arrival
 times_after t (Ticks ticks) arrival = if is_clockless t ticks then by_arrival t arrival else by_clock t ticks arrival
 times_after t (Millis moment) arrival = by_own t moment arrival
 
--- the timestamp of a frame that is told
+-- the timestamp of a frame that has one
 abbrev pub moment_at : Timing → Time → ℕ → ℕ
 moment_at t Unknown arrival = told_as t (due t arrival)
 moment_at t (Ticks ticks) arrival =

@@ -14,7 +14,7 @@ use arrayvec::ArrayVec;
 use sq_digits::{decode_28, decode_40};
 use std::marker::Model;
 
-// The most digits that a frame has between its mark and its semicolon.
+// The most digits between a mark and its semicolon.
 const MOST: usize = 42;
 
 // The digits of a long frame.
@@ -115,8 +115,8 @@ impl Avr {
         }
     }
 
-    // Returns the message at the front of a piece and its length, if it is a long frame behind a mark, perhaps after
-    // line ends, and nothing is begun.
+    // Returns the first message of a piece and its length, if nothing is begun and it is a long frame after a mark.
+    // Line ends may come before the mark.
     #[inline(always)]
     pub(crate) fn whole(&self, piece: &[u8]) -> Option<(Message, usize)>
         ensures { IfSome result (λ p. (0 < p.1) × (p.1 ≤ length piece.now)
@@ -142,7 +142,7 @@ impl Avr {
         }
     }
 
-    // Returns the damage where the text is lost, if anything is begun.
+    // Returns the items if the text is cut off here: damage, if anything is begun.
     pub(crate) fn cut_off(&self) -> Option<Found>
         ensures { option_to_list result ≡ cut_word self.now }
     {
@@ -164,7 +164,7 @@ impl Avr {
         }
     }
 
-    // Takes a byte of a word. A word with another byte than a digit, or with more than 42, can be no frame.
+    // Takes a byte of a word. A word with a byte that is not a digit, or with more than 42 digits, cannot be a frame.
     fn add(&mut self, byte: u8)
         requires { edge_of byte ≡ None }
         ensures hex { AreHex self.new.digits }
@@ -248,7 +248,7 @@ impl Avr {
         !self.is_bad && self.digits.is_empty()
     }
 
-    // Returns the item of the word so far behind a mark.
+    // Returns the item of the word so far after a mark.
     fn item_of(&self, mark: Mark) -> Found
         ensures { result ≡ item_of mark (word_of self.now.digits self.now.is_bad) }
     {
@@ -265,7 +265,7 @@ impl Avr {
     }
 }
 
-// Returns the mark that a byte is.
+// Returns the mark of a byte, if the byte is a mark.
 pub(crate) fn mark_of(byte: u8) -> Option<Mark>
     ensures { result ≡ mark_of byte }
 {
@@ -277,7 +277,7 @@ pub(crate) fn mark_of(byte: u8) -> Option<Mark>
     }
 }
 
-// Returns the edge that a byte is.
+// Returns the edge of a byte, if the byte is an edge.
 #[inline(always)]
 fn edge_of(byte: u8) -> Option<Edge>
     ensures { result ≡ edge_of byte }
@@ -328,7 +328,7 @@ fn value_of(byte: u8) -> u8
     }
 }
 
-// Returns the size of the frame that these many digits spell.
+// Returns the size of the frame with this many digits after a mark.
 #[inline(always)]
 fn size_of(mark: Mark, digits: usize) -> Option<Size>
     requires { digits ≤ 42 }
@@ -346,7 +346,7 @@ fn size_of(mark: Mark, digits: usize) -> Option<Size>
     }
 }
 
-// Returns how many bytes stand before the frame.
+// Returns the number of bytes before the frame.
 #[inline(always)]
 fn lead(mark: Mark) -> usize
     ensures value { result ≡ lead mark }
@@ -359,7 +359,7 @@ fn lead(mark: Mark) -> usize
     }
 }
 
-// Returns the message that these bytes spell.
+// Returns the message of these bytes.
 fn message_of(mark: Mark, size: Size, bytes: &[u8]) -> Message
     requires { length bytes.now ≡ lead mark + frame_len size }
     ensures { result ≡ avr_message mark size bytes.now }
@@ -373,7 +373,7 @@ fn message_of(mark: Mark, size: Size, bytes: &[u8]) -> Message
     Message { time, frame }
 }
 
-// Returns the bytes that pairs of digits spell.
+// Returns the bytes that pairs of digits encode.
 fn bytes_of(digits: &[u8]) -> ArrayVec<u8, 21>
     requires hex { AreHex digits.now }
     requires few { length digits.now ≤ 42 }
@@ -386,7 +386,7 @@ fn bytes_of(digits: &[u8]) -> ArrayVec<u8, 21>
     bytes
 }
 
-// Returns the frame that a word of digits spells, if it spells one.
+// Returns the frame that a word of digits encodes, if it encodes one.
 #[inline(always)]
 pub(crate) fn frame_of_word(word: &[u8]) -> Option<RawFrame>
     ensures { result ≡ frame_of_word word.now }
@@ -416,7 +416,7 @@ fn frame_of_any(word: &[u8]) -> Option<RawFrame>
     }
 }
 
-// Returns the item of a word behind a mark.
+// Returns the item of a word after a mark.
 pub(crate) fn item_of_word(mark: Mark, word: &[u8]) -> Found
     ensures { result ≡ item_of mark word.now }
 {
@@ -445,7 +445,7 @@ fn are_hex(word: &[u8]) -> bool
     true
 }
 
-// Returns how many line ends stand at the front of a piece, up to two.
+// Returns the number of line ends at the front of a piece, up to two.
 #[inline(always)]
 fn line_ends(piece: &[u8]) -> usize
     ensures within { result ≤ length piece.now }
@@ -468,7 +468,7 @@ fn is_line_end(byte: u8) -> bool
     byte == b'\n' || byte == b'\r'
 }
 
-// Returns the message at the front of a piece and its length, if it is a long frame behind a mark.
+// Returns the message at the front of a piece and its length, if it is a long frame after a mark.
 #[inline(always)]
 fn marked(piece: &[u8]) -> Option<(Message, usize)>
     ensures { IfSome result (IsWholeWord piece.now) }

@@ -128,7 +128,7 @@ impl Beast {
         self.add(byte)
     }
 
-    // Takes a byte within a message, if it is no escape and not the last one. Returns whether it did.
+    // Takes a byte within a message, if it is neither an escape nor the last byte. Returns whether it did.
     #[inline(always)]
     fn goes_on(&mut self, byte: u8) -> bool
         ensures unfinished { IsUnfinished self.new.kind self.new.held }
@@ -186,7 +186,7 @@ impl Beast {
     }
 }
 
-// Returns the damage where a start cuts off an unfinished message.
+// Returns damage if a start cuts off an unfinished message, or follows an unknown start.
 #[inline(always)]
 fn cut_off(kind: Option<Kind>) -> Option<Found>
     ensures { option_to_list result ≡ cut_off kind }

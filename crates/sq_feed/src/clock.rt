@@ -1,4 +1,4 @@
-//! A receiver's clock, counted on.
+//! Continues the count of a receiver's clock beyond its 48 bits.
 ghost use Rattle.std.specs.Prelude.{◌≡◌, ◌<◌, ◌%◌, ◌^◌, MatchOption, false, true};
 ghost use Rattle.sq_feed.specs.Clock.{IsHeard, anew_at, heard, is_awaited, is_late, is_soon, is_told, own_moment, restarted, unheard};
 
@@ -10,13 +10,13 @@ const TURN: u64 = 1 << 48;
 // The ticks of a millisecond.
 const RATE: u64 = 12_000;
 
-// The ticks that a value may always be late without a jump: a second.
+// A value may always be late by this many ticks without a jump: a second.
 const JITTER: u64 = 1000 * RATE;
 
-// The values in turn that make a jump.
+// The number of values in a row that confirm a jump.
 const AGREEING: u8 = 3;
 
-/// Counts on a receiver's clock, which sends the low 48 bits of its count at 12 MHz.
+/// Continues the count of a receiver's clock, which sends the low 48 bits of its count at 12 MHz.
 #[derive(Drop)]
 pub struct Clock {
     last: u64,
@@ -49,8 +49,8 @@ impl Model for Clock {
 }
 
 impl Clock {
-    /// Returns a clock that no value was heard of. A gap above `leap` ticks is a jump. A value may be late by `late`
-    /// ticks, or by a second. Both are at most half a turn.
+    /// Returns a clock before its first value. A gap above `leap` ticks is a jump. A value may be late by `late`
+    /// ticks, and always by a second. Both are at most 2^47 - 1 ticks.
     pub fn new(leap: u64, late: u64) -> Clock
         ensures { result ≡ unheard leap late }
     {
@@ -65,10 +65,10 @@ impl Clock {
         }
     }
 
-    /// Hears the low 48 bits of a count, and returns its timestamp (ms). A late value has an earlier one. Any other
-    /// gap above `leap` is a jump, unless about `waited` milliseconds have passed. Returns `None` for a value that
-    /// jumps, until three in turn agree: the count then goes on from `anew` (ms), or a leap later if that is `None`.
-    /// The first value starts the count at `anew`, or at itself.
+    /// Takes the low 48 bits of a count, and returns its timestamp (ms). A late value gets an earlier timestamp. Any
+    /// other gap above `leap` is a jump, unless about `waited` milliseconds have passed. Returns `None` for a value
+    /// that jumps, until three in a row agree. The count then goes on from `anew` (ms), or a leap later if that is
+    /// `None`. The very first value starts the count at `anew`, or at itself.
     #[inline(always)]
     pub fn hear(&mut self, ticks: u64, waited: u64, anew: Option<u64>) -> Option<u64>
         ensures kept { self.new ≡ heard self.old (ticks % 2 ^ 48) waited anew }
@@ -138,7 +138,7 @@ impl Clock {
         None
     }
 
-    /// Forgets the last value: the next one starts the count anew, at or after the moments so far.
+    /// Forgets the last value: the next one starts the count anew, at or after the timestamps so far.
     pub fn restart(&mut self)
         ensures { self.new ≡ restarted self.old }
     {
@@ -147,7 +147,7 @@ impl Clock {
     }
 }
 
-// Returns where a count starts anew: at or after `elapsed`.
+// Returns the ticks at which a count starts anew: at or after `elapsed`.
 fn anew_at(elapsed: u64, leap: u64, shown: u64, anew: Option<u64>) -> u64
     requires { leap < 2 ^ 47 }
     ensures { result ≡ anew_at elapsed leap shown anew }

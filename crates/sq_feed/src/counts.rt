@@ -18,7 +18,7 @@ pub enum Fate {
     ModeAc,
     /// A server computed its time by multilateration.
     Multilaterated,
-    /// It is damage, or its length is not that of its downlink format.
+    /// It is damage, or a frame of the wrong length for its downlink format.
     Damaged,
     /// Its time was set aside.
     Aside,
@@ -155,7 +155,7 @@ impl Counts {
         self.multilaterated
     }
 
-    /// Returns how many items were damage, or a frame that has not the length of its downlink format.
+    /// Returns how many items were damage, or frames of the wrong length for their downlink format.
     pub fn damaged(&self) -> u64
         ensures { result ≡ self.now.damaged }
     {

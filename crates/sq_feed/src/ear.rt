@@ -41,7 +41,7 @@ impl Model for Ear {
 }
 
 impl Ear {
-    /// Returns an ear that heard nothing.
+    /// Returns an ear that has heard nothing.
     pub fn new(manner: &Manner) -> Ear
         ensures { result ≡ untouched manner.now }
     {
@@ -67,7 +67,7 @@ impl Ear {
         self.stranger
     }
 
-    /// Hears an item that arrived at this moment (ms). Returns the timestamp of its frame, if it has one.
+    /// Hears an item that arrived at `arrival` (ms). Returns the timestamp of its frame, if it has one.
     #[inline(never)]
     pub fn hear(&mut self, found: &Found, arrival: u64) -> Option<u64>
         ensures kept { self.new ≡ ear_after arrival self.old found.now }
@@ -96,7 +96,7 @@ impl Ear {
         self.times.restart();
     }
 
-    // Hears a message that arrived at this moment.
+    // Hears a message that arrived at `arrival` (ms).
     #[inline(always)]
     pub(crate) fn hear_message(&mut self, message: &Message, arrival: u64) -> Option<u64>
         ensures kept { self.new ≡ ear_after arrival self.old (Found.Whole message.now) }
@@ -154,7 +154,7 @@ fn padded(frame: &[u8]) -> [u8; 14]
     whole
 }
 
-// Returns what becomes of a frame that is not given.
+// Returns what becomes of a frame, or `None` if that depends on its time.
 #[inline(always)]
 fn fate_of(all_formats: bool, time: Time, frame: &RawFrame) -> Option<Fate>
     ensures { result ≡ fate_of all_formats time frame.now }
@@ -166,7 +166,7 @@ fn fate_of(all_formats: bool, time: Time, frame: &RawFrame) -> Option<Fate>
     }
 }
 
-// Returns what becomes of a short frame that is not given.
+// Returns what becomes of a short frame, or `None` if that depends on its time.
 fn fate_of_short(all_formats: bool, time: Time, frame: &[u8; 7]) -> Option<Fate>
     ensures { result ≡ fate_of_short all_formats time frame.now }
 {
@@ -182,7 +182,7 @@ fn fate_of_short(all_formats: bool, time: Time, frame: &[u8; 7]) -> Option<Fate>
     }
 }
 
-// Returns what becomes of a long frame that is not given.
+// Returns what becomes of a long frame, or `None` if that depends on its time.
 #[inline(always)]
 fn fate_of_long(all_formats: bool, time: Time, frame: &[u8; 14]) -> Option<Fate>
     ensures { result ≡ fate_of_long all_formats time frame.now }

@@ -45,9 +45,10 @@ impl Feed {
         }
     }
 
-    /// Takes bytes of a piece that arrived at this moment (ms), while there is room for a line, and appends their
-    /// lines. Returns how many bytes it took. With room for a line left over, these are all bytes. While the format is
-    /// unknown, bytes are taken without lines; the lines of the first items follow in a later call at the latest.
+    /// Takes bytes of a piece that arrived at `arrival` (ms), while there is room for a line, and appends their
+    /// lines. Returns how many bytes it took. If there is still room for a line, these are all bytes. While the
+    /// format is unknown, bytes are taken without lines; the lines of the first items follow in a later call at the
+    /// latest.
     pub fn take<const N: usize>(
         &mut self,
         piece: &[u8],
@@ -70,9 +71,9 @@ impl Feed {
         at
     }
 
-    /// Takes bytes of a piece that arrived at this moment (ms), while there is room for a squitter in both arrays, and
-    /// stores the timestamps and the frames of their squitters. Returns how many bytes it took, and how many squitters
-    /// it stored. The places behind these are unchanged.
+    /// Takes bytes of a piece that arrived at `arrival` (ms), while there is room for a squitter in both arrays.
+    /// Stores the timestamps and the frames of their squitters. Returns how many bytes it took, and how many
+    /// squitters it stored. Later elements are unchanged.
     pub fn take_frames(
         &mut self,
         piece: &[u8],
@@ -105,7 +106,7 @@ impl Feed {
         (at, given)
     }
 
-    /// Ends the source at this moment (ms), and returns its last squitters. The next bytes are of another source.
+    /// Ends the source at `arrival` (ms), and returns its last squitters. The next bytes belong to another source.
     pub fn finish(&mut self, arrival: u64) -> ArrayVec<Timed, 5>
         ensures ended { HasEnded arrival self.old self.new }
         ensures squitters { result.items ≡ told_at_end arrival self.old }
@@ -119,8 +120,8 @@ impl Feed {
         last
     }
 
-    /// Ends the source: its last squitters come with the next calls, which may have no bytes. The bytes after them are
-    /// of another source.
+    /// Ends the source: its last squitters come with the next calls, which may have no bytes. Bytes after them belong
+    /// to another source.
     pub fn close(&mut self)
         ensures { HasClosedFeed self.old self.new }
     {
@@ -142,8 +143,8 @@ impl Feed {
         self.ear.stranger()
     }
 
-    /// Drops an unfinished frame after a lost connection, and counts it as damaged. The next bytes are of another
-    /// connection: its clock starts anew.
+    /// Drops an unfinished frame after a lost connection, and counts it as damaged. The next bytes belong to a new
+    /// connection: its clock starts afresh.
     pub fn disconnected(&mut self)
         ensures { HasLost self.old self.new }
     {
@@ -170,8 +171,8 @@ impl Feed {
         self.reader.goes_on(bytes)
     }
 
-    // Takes bytes up to the end of the first item, or all of them, and stores its squitter, if it has one, in these
-    // places. Returns how many bytes it took, and the place behind the last squitter.
+    // Takes bytes up to the end of the first item, or all of them, and stores its squitter, if it has one, at index
+    // `given`. Returns how many bytes it took, and the index after the last squitter.
     #[inline(always)]
     fn give_one(
         &mut self,
@@ -201,7 +202,7 @@ impl Feed {
         self.give_other(piece, arrival, given, moments, frames)
     }
 
-    // Hears a message, and stores its squitter, if it has one, in these places. Returns the place behind the last
+    // Hears a message, and stores its squitter, if it has one, at index `given`. Returns the index after the last
     // squitter.
     #[inline(always)]
     fn give(
@@ -270,7 +271,7 @@ impl Feed {
     }
 
     // Takes bytes up to the end of the first item, or all of them, and appends its line, if it has one. Most messages
-    // are whole at the front of the piece, and go a short way.
+    // are whole at the front of the piece, and take a short path.
     #[inline(always)]
     fn take_one<const N: usize>(
         &mut self,
@@ -328,7 +329,7 @@ impl Feed {
         }
     }
 
-    // Hears an item, and keeps its squitter, if it has one, behind others.
+    // Hears an item, and appends its squitter, if it has one.
     fn keep_item(&mut self, found: &Found, arrival: u64, kept: &mut ArrayVec<Timed, 5>)
         requires { array_vec_len kept.old < 5 }
         ensures reader { self.new.reader ≡ self.old.reader }

@@ -31,7 +31,7 @@ pub(crate) struct Start {
     pub(crate) next: Next,
 }
 
-// Three messages in turn show Beast.
+// Three messages in a row show Beast.
 const IN_TURN: usize = 3;
 
 // The most items that are kept.
@@ -221,7 +221,7 @@ impl Finder {
     }
 }
 
-// Returns the sign of so many bytes.
+// Returns the sign after this many bytes: at the limit, that there are no frames.
 fn limit_sign(count: u64) -> Sign
     ensures { result ≡ (if count == limit then Sign.Other Stranger.NoFrame else Sign.Unclear) }
 {
@@ -232,7 +232,7 @@ fn limit_sign(count: u64) -> Sign
     }
 }
 
-// Keeps an item: a message behind those before it, or damage alone.
+// Stores an item. A message is appended if fewer than four items are stored; anything else leaves only damage.
 fn keep(kept: &mut ArrayVec<Found, 5>, found: Found)
     ensures { kept.new.items ≡ recent_after kept.old.items found }
 {

@@ -28,7 +28,8 @@ pub fn cutting_is_nothing()
     ensures { GivesTheStream }
 {}
 
-/// While no gap is a jump, the moments of a clock are as far apart as its true counts, however often its 48 bits turn.
+/// While no gap is a jump, the timestamps of a clock are as far apart as its true counts, however often its 48 bits
+/// wrap.
 pub fn clock_keeps_the_time()
     ensures { KeepsTheTime }
 {}
@@ -44,7 +45,7 @@ pub fn line_is_read()
     ensures { LineIsRead }
 {}
 
-/// Bytes that are taken in two calls make the items of both: the cut of a source does not matter.
+/// Bytes that are taken in two calls give the items of both: how the source is cut does not matter.
 pub fn takes_go_on()
     ensures { FollowsMore }
 {}
@@ -56,9 +57,9 @@ pub fn feed_gives_the_whole()
     ensures both { FeedsBoth }
 {}
 
-/// An order loses and doubles no squitter. If each is late by at most `reorder`, and fewer than 4096 are recent at a
-/// time, what is given, and then what is held, is what came, sorted. The cut into calls does not matter. With a
-/// `reorder` of 0, each squitter is given at once.
+/// An order neither loses nor duplicates a squitter. Suppose each is late by at most `reorder`, and fewer than 4096
+/// are recent at a time. Then the squitters given, followed by those held, are the input, sorted. How the input is
+/// cut into calls does not matter. With a `reorder` of 0, each squitter is given at once.
 pub fn orders_keep_all()
     ensures all { GivesAll }
     ensures sorted { GivesInOrder }
@@ -69,7 +70,7 @@ pub fn orders_keep_all()
     ensures at_once { GivesAtOnce }
 {}
 
-/// No timestamp of a feed is before the latest one by more than `late`.
+/// A timestamp of a feed is before the latest one by at most `late`.
 pub fn timestamps_stay_near()
     ensures { StaysNear }
 {}

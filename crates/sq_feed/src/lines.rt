@@ -5,7 +5,7 @@ ghost use Rattle.sq_feed.specs.Lines.{line_tail, log_line, tail_of};
 
 use sq_digits::{TextBuffer, push_byte, push_decimal};
 
-// The bytes behind the timestamp: a space, the digits of a long or of a short frame, and a line feed.
+// The bytes after the timestamp: a space, the digits of a long or of a short frame, and a line feed.
 const TAIL: usize = 30;
 
 const SHORT_TAIL: usize = 16;

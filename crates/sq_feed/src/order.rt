@@ -11,7 +11,7 @@ use std::marker::Model;
 // The most squitters that are held.
 const LIMIT: usize = 4096;
 
-// The places in memory. The squitters move to the front once in so many more than the limit.
+// The slots in memory. The squitters move to the front at most once for every `PLACES - LIMIT` that come.
 const PLACES: usize = 6144;
 
 /// Sorts squitters by timestamp. Squitters with equal timestamps keep their order of arrival. A squitter is held until
@@ -49,9 +49,9 @@ impl Order {
         }
     }
 
-    /// Takes squitters, by their timestamps (ms) and frames, and stores those that are due, with their timestamps, in
-    /// the order of time: as long as there is room for one more. Returns how many it took, and how many it stored.
-    /// With room left over, it took all, and none is due. The places behind these are unchanged.
+    /// Takes squitters, by their timestamps (ms) and frames. Stores those that are due, in the order of their
+    /// timestamps, while there is room for one more. Returns how many it took, and how many it stored. If there is
+    /// still room for one more, it took all, and none is due. Later elements are unchanged.
     pub fn take(
         &mut self,
         moments: &[u64],
@@ -85,8 +85,8 @@ impl Order {
         (taken, given)
     }
 
-    /// Stores the squitters that are held, with their timestamps, in the order of time, as many as there is room for.
-    /// Returns how many. With room left over, none is held any more. The places behind these are unchanged.
+    /// Stores the squitters that are held, in the order of their timestamps, as many as there is room for. Returns
+    /// how many. If there is still room for one more, none is held any more. Later elements are unchanged.
     pub fn flush(&mut self, out_moments: &mut [u64], out_frames: &mut [[u8; 14]]) -> usize
         ensures few { (result ≤ length out_moments.old) × (result ≤ length out_frames.old) }
         ensures all { result < length out_moments.old → result < length out_frames.old → self.new.held ≡ [] }
@@ -129,8 +129,8 @@ impl Order {
         moment <= self.latest && self.reorder <= self.latest - moment || self.held() >= LIMIT
     }
 
-    // Stores the squitters that are due, from this place on, while there is room for one more. Returns the place behind
-    // them.
+    // Stores the squitters that are due, from index `from` on, while there is room for one more. Returns the index
+    // after them.
     #[inline(always)]
     fn give_due(&mut self, from: usize, moments: &mut [u64], frames: &mut [[u8; 14]]) -> usize
         requires { (from ≤ length moments.old) × (from ≤ length frames.old) }
@@ -168,7 +168,7 @@ impl Order {
         one
     }
 
-    // Puts a squitter in its place.
+    // Inserts a squitter at its place.
     #[inline(always)]
     fn put(&mut self, moment: u64, frame: &[u8; 14])
         requires { length self.old.held < 4096 }
@@ -182,7 +182,7 @@ impl Order {
     }
 }
 
-// Makes room for one more behind those from this place on. Returns their place.
+// Makes room for one more squitter. Returns the new index of the squitter that was at index `first`.
 #[inline(always)]
 fn make_room(line: &mut ArrayVec<Timed, PLACES>, first: usize) -> usize
     requires within { first ≤ array_vec_len line.old }
@@ -198,7 +198,7 @@ fn make_room(line: &mut ArrayVec<Timed, PLACES>, first: usize) -> usize
     0
 }
 
-// Drops the squitters before this place.
+// Drops the squitters before index `first`.
 #[cold]
 #[inline(never)]
 fn move_to_front(line: &mut ArrayVec<Timed, PLACES>, first: usize)
@@ -210,7 +210,7 @@ fn move_to_front(line: &mut ArrayVec<Timed, PLACES>, first: usize)
     line.truncate(len - first);
 }
 
-// Returns the place of a squitter with this timestamp: behind the last one that is not later. Most squitters come in
+// Returns the index for a squitter with this timestamp: after the last one that is not later. Most squitters come in
 // order, so the search begins at the end.
 #[inline(always)]
 fn place_of(held: &[Timed], moment: u64) -> usize

@@ -26,7 +26,7 @@ use crate::machine::Format;
 use crate::message::{Found, RawFrame, Stranger, Time};
 use crate::rows::Layout;
 
-/// Exactly one list of symbols spells any bytes, and exactly one list of items is found in them.
+/// Any bytes encode exactly one list of symbols, and exactly one list of items is found in them.
 pub fn one_reading()
     ensures read { (bytes : List ℕ) → IsReadOnce bytes }
     ensures found { (bytes : List ℕ) → IsFoundOnce bytes }
@@ -49,7 +49,7 @@ pub fn nearness_exactly()
         → latest ≤ one.moment + late }
 {}
 
-/// One reading of bytes: the symbols spell them, and these items are in them, and no others.
+/// The one reading of bytes: they encode these symbols and no others, and hold these items and no others.
 pub fn readings_exactly()
     ensures read { (bytes : List ℕ) → IsReadOnce bytes ↔ ((symbols : List Symbol) × Spell bytes symbols
         × ((others : List Symbol) → Spell bytes others → others ≡ symbols)) }
@@ -123,7 +123,7 @@ pub fn formats_in_letters()
     ensures other { any_found (codes "MSG,3" ++ 10 ∷ codes "7 2040") ≡ Found.Foreign Stranger.Sbs ∷ [] }
 {}
 
-/// The words of orders: timestamps that rise, and squitters that come in time.
+/// The definitions about orders: timestamps that rise, and squitters that come in time.
 pub fn orders_exactly()
     ensures nothing { (moment : ℕ) → RiseFrom moment [] }
     ensures rising { (moment : ℕ) (one : Timed) (more : List Timed)

@@ -72,8 +72,8 @@ impl Reader {
         }
     }
 
-    // Returns the message at the front of a piece and its length, if it is whole in a Beast stream, without an escape,
-    // and no message is begun.
+    // Returns the first message of a piece and its length, if the format is Beast, no message is begun, and it is
+    // whole, without an escape.
     #[inline(always)]
     pub(crate) fn whole_message(&self, piece: &[u8]) -> Option<(Message, usize)>
         ensures { IfSome result (λ p. (0 < p.1) × (p.1 ≤ length piece.now)
@@ -87,8 +87,8 @@ impl Reader {
         }
     }
 
-    // Returns the first row's message and its length with the line end, if the format is CSV, no line is begun, and the
-    // row has the usual form.
+    // Returns the first row's message and its length with the line end, if no line is begun. The format must be CSV,
+    // and the row must have the usual form.
     #[inline(always)]
     pub(crate) fn whole_row(&self, piece: &[u8]) -> Option<(Message, usize)>
         ensures { IfSome result (λ p. (0 < p.1) × (p.1 ≤ length piece.now)
@@ -102,8 +102,8 @@ impl Reader {
         }
     }
 
-    // Returns the message at the front of a piece and its length, if it is whole in a text, in its usual form, and no
-    // message is begun.
+    // Returns the first message of a piece and its length, if no message is begun, and it is whole in a text, in its
+    // usual form.
     #[inline(always)]
     pub(crate) fn whole_line(&self, piece: &[u8]) -> Option<(Message, usize)>
         ensures { IfSome result (λ p. (0 < p.1) × (p.1 ≤ length piece.now)
@@ -201,7 +201,7 @@ impl Reader {
         self.begin(start_of(self.asked));
     }
 
-    // Returns the damage where the source is lost, if anything is begun.
+    // Returns damage if the source is lost here and anything is begun or waits.
     pub(crate) fn cut_off(&self) -> Option<Found>
         ensures { option_to_list result ≡ lost_items self.now }
     {

@@ -22,7 +22,7 @@ pub(crate) enum Sign {
     Other(Stranger),
 }
 
-// The place of the name in the header of a tar archive, and the bytes up to its end.
+// The index of the name in the header of a tar archive, and the index after it.
 const TAR_AT: usize = 257;
 
 const TAR_END: usize = 262;

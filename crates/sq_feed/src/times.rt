@@ -12,13 +12,13 @@ use std::marker::Model;
 // The ticks of a millisecond.
 const RATE: u64 = 12_000;
 
-// The milliseconds that a row's time may always be late.
+// A row's time may always be late by this many milliseconds.
 const JITTER: u64 = 1000;
 
-// The rows in turn that make a jump.
+// The number of rows in succession that confirm a jump.
 const AGREEING: u8 = 3;
 
-/// Gives frames their timestamps (ms). None is before the latest one by more than `Manner::late`.
+/// Gives frames their timestamps (ms). Each is before the latest one by at most `Manner::late`.
 #[derive(Drop)]
 pub struct Times {
     clock: Clock,
@@ -80,9 +80,10 @@ impl Times {
         }
     }
 
-    /// Hears the time that a source states of a frame, and its arrival (ms). Returns the timestamp, or `None` where the
-    /// time is set aside. A frame without a time has its arrival; in a recorded source it has the latest timestamp, or
-    /// 0. An earlier time than the latest timestamp is moved to it, or to `late` before it.
+    /// Takes the time that a source states for a frame, and the frame's arrival (ms). Returns the frame's timestamp,
+    /// or `None` if the time is set aside. A frame without a time, in a live source, is as much after the latest
+    /// frame as their arrivals are apart. In a recorded source it gets the latest timestamp, or 0. A time that is
+    /// before the latest timestamp by more than `late` is moved to `late` before it.
     #[inline(always)]
     pub fn hear(&mut self, time: Time, arrival: u64) -> Option<u64>
         ensures kept { self.new ≡ times_after self.old time arrival }
@@ -112,7 +113,7 @@ impl Times {
         self.clock.restart();
     }
 
-    // Hears a frame without a time.
+    // Takes the arrival (ms) of a frame without a time.
     fn hear_arrival(&mut self, arrival: u64) -> u64
         ensures kept { self.new ≡ by_arrival self.old arrival }
         ensures told { result ≡ told_as self.old (due self.old arrival) }
@@ -123,7 +124,7 @@ impl Times {
         self.go_on(moment, arrival)
     }
 
-    // Hears a value of the receiver's clock.
+    // Takes a value of the receiver's clock.
     #[inline(always)]
     fn hear_clock(&mut self, ticks: u64, arrival: u64) -> Option<u64>
         ensures kept { self.new ≡ by_clock self.old ticks arrival }
@@ -145,7 +146,7 @@ impl Times {
         }
     }
 
-    // Hears a time of a row's own.
+    // Takes a row's own time (ms).
     fn hear_own(&mut self, moment: u64, arrival: u64) -> Option<u64>
         ensures kept { self.new ≡ by_own self.old moment arrival }
         ensures told { MatchOption result (is_own_told self.old moment ≡ false)
@@ -174,8 +175,8 @@ impl Times {
         None
     }
 
-    // Returns whether a row's time follows the latest timestamp within a leap, or is late by at most `late`, or by a
-    // second.
+    // Returns whether a row's time follows the latest timestamp within a leap, or is late by at most `late`, or by at
+    // most a second. The first time of a row always fits.
     fn is_row_fit(&self, moment: u64) -> bool
         ensures { result ≡ is_row_fit self.now moment }
     {
@@ -191,7 +192,7 @@ impl Times {
         self.votes != 0 && self.aside <= moment
     }
 
-    // Takes the moment of a frame, and returns its timestamp.
+    // Takes the time (ms) of a frame, and returns its timestamp.
     #[inline(always)]
     fn go_on(&mut self, moment: u64, arrival: u64) -> u64
         ensures kept { self.new ≡ gone_on self.old moment arrival }
@@ -207,7 +208,7 @@ impl Times {
         moment.max(self.latest.saturating_sub(self.late))
     }
 
-    // Returns the present timestamp, by what has passed since the latest frame arrived.
+    // Returns the present timestamp, by the time that has passed since the latest frame arrived.
     #[inline(always)]
     fn due(&self, arrival: u64) -> u64
         ensures { result ≡ due self.now arrival }
@@ -220,7 +221,7 @@ impl Times {
         }
     }
 
-    // Returns the milliseconds since the clock was read, as far as arrivals say.
+    // Returns the milliseconds since the clock was read, by the arrivals of a live source, otherwise 0.
     #[inline(always)]
     fn waited(&self, arrival: u64) -> u64
         ensures { result ≡ waited self.now arrival }

@@ -13,7 +13,7 @@ loop-at-init c = (
   hold_nothing (rest_of c.args.self.now),
 )
 
--- a byte that does not go the short way is taken by the long one, from the same state
+-- a byte that does not take the short path takes the long one, from the same state
 left : (old mid new : Begun) (byte : ℕ) (found : List Found) → mid ≡ old
     → HoldWithRest (rest_of mid ++ byte ∷ []) found (rest_of new)
     → HoldWithRest (rest_of old ++ byte ∷ []) found (rest_of new)
