@@ -5,16 +5,16 @@ use Rattle.sq_devices.specs.Changes.{TookNothing, WroteOrFailed, taken_from, wri
 use Rattle.sq_devices.specs.Clocks.{Times}
 use Rattle.sq_devices.specs.declared.device.Sink.{Ghosts as SinkGhosts}
 use Rattle.sq_devices.specs.declared.device.Source.{Ghosts as SourceGhosts}
-use Rattle.sq_log.specs.declared.faults.RunFault.TheVariants.{Read, Write, Memory}
+use Rattle.sq_log.specs.declared.run.RunFault.TheVariants.{Read, Write, Memory}
 use Rattle.sq_feed.specs.declared.message.Stranger.{Stranger}
-use Rattle.sq_commands.specs.Feed.{status_at_end}
+use Rattle.sq_commands.specs.Feed.{feed_reply, status_at_end}
 use Rattle.sq_commands.specs.Requests.{Text}
 use Rattle.sq_commands.specs.declared.status.Status.TheVariants.{Broken}
 use Rattle.sq_commands.specs.BrokenOff.{BrokenAside, BrokenFeeds, FailedInside}
 use Rattle.sq_commands.specs.Outputs.{effects, outputs}
-use Rattle.sq_commands.specs.Replies.{FailedOn, IsDelivered, ReplyParts}
+use Rattle.sq_commands.specs.Replies.{FailedOn, IsDelivered, ReplyParts, broken_off}
 use Rattle.sq_commands.specs.Runs.{IsReplied, IsReplyOf}
-use Rattle.sq_commands.proofs.SoundReplies.{IsSound}
+use Rattle.sq_commands.proofs.SoundReplies.{IsSound, reported_as}
 use Rattle.sq_commands.proofs.OneRuns.Replies.{sound}
 
 -- a run to the end of its input did not break off
@@ -24,12 +24,14 @@ whole_feed (Some stranger) is = cc is
 
 module _ {S K F : Type 0} (s : SourceGhosts S) (k : SinkGhosts K) (f : SinkGhosts F) where
   pub broken_feeds : (clock : Times) → BrokenFeeds s k f clock
-  broken_feeds clock format from to old new before after (Ok end, fed, ended) =
-      absurd (whole_feed end.stranger ended.0)
-  broken_feeds clock format from to old new before after (Err Read, (same, took), ended) = (same, inl (took, ended.1))
-  broken_feeds clock format from to old new before after (Err Write, (failed, same, took), ended) =
-      (same, inr (failed, took, ended.1))
-  broken_feeds clock format from to old new before after (Err Memory, none, ended) = absurd none
+  broken_feeds clock options from to old new before after (reply, (Ok end, fed, is), said) =
+      absurd (whole_feed end.stranger
+      (reported_as reply (feed_reply (Ok end)) Broken (written_on f before after) is said).0)
+  broken_feeds clock options from to old new before after (reply, (Err Read, (same, took), is), said) =
+      (same, inl (took, (reported_as reply (broken_off Read) Broken (written_on f before after) is said).1))
+  broken_feeds clock options from to old new before after (reply, (Err Write, (failed, same, took), is), said) =
+      (same, inr (failed, took, (reported_as reply (broken_off Write) Broken (written_on f before after) is said).1))
+  broken_feeds clock options from to old new before after (reply, (Err Memory, none, is), said) = absurd none
 
   failed_inside : (text : Option Text) (old new : K) → FailedOn text (written_on k old new)
       → (bytes : Text) × FailedInside s k f old new bytes

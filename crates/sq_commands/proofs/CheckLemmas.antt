@@ -9,8 +9,8 @@ use Rattle.sq_log.specs.Lines.{lines_of}
 use Rattle.sq_log.specs.Content.{Content, Long, Empty, Text, answer_by, content}
 use Rattle.sq_log.specs.Answers.{Manner, WantsAt, after_content, answers_to}
 use Rattle.sq_log.specs.Runs.{HasToldBy, IsRun, WroteAnswers}
-use Rattle.sq_log.specs.declared.faults.RunFault.{RunFault}
-use Rattle.sq_log.specs.declared.tallies.Tally.{Tally}
+use Rattle.sq_log.specs.declared.run.RunFault.{RunFault}
+use Rattle.sq_log.specs.declared.log.Tally.{Tally}
 use Rattle.sq_log.proofs.Running.{run_as, run_reported}
 use Rattle.sq_commands.specs.Check.{HasChecked, IsChecked, check_answers, check_manner, check_way}
 use Rattle.sq_commands.specs.Formats.{Telling, told_by}

@@ -28,8 +28,8 @@ use Rattle.sq_feed.specs.Feeds.{AreFed, Fed, Feeding, HasFed, bytes_in, last_fed
 use Rattle.sq_feed.specs.Orders.{Sorting, given_all, nothing_sorted, sorted_all}
 use Rattle.sq_feed.specs.Readers.{awaited}
 use Rattle.sq_log.specs.Runs.{HasGot, IsMadeOf}
-use Rattle.sq_log.specs.declared.faults.RunFault.{RunFault}
-use Rattle.sq_log.specs.declared.faults.RunFault.TheVariants.{Write}
+use Rattle.sq_log.specs.declared.run.RunFault.{RunFault}
+use Rattle.sq_log.specs.declared.run.RunFault.TheVariants.{Write}
 use Rattle.sq_log.proofs.Gets.{got_on, got_up_to_end, made_of_more, made_of_nothing}
 use Rattle.sq_log.proofs.Running.{no_more}
 use Rattle.sq_commands.specs.Feed.{EndsBy, FedWhole, HasFedAll, HasFedText, HasPutLast, HasPutPart, HasPutSorted, IsFed, Sorts}

@@ -13,8 +13,8 @@ use Rattle.sq_feed.specs.Readers.{Reads, awaited}
 use Rattle.sq_feed.specs.declared.message.Timed.{Timed}
 use Rattle.sq_commands.specs.declared.feed.FeedOptions.{FeedOptions}
 use Rattle.std.specs.Io.KnownBytes.{IsAtEnd}
-use Rattle.sq_log.specs.declared.faults.RunFault.{RunFault}
-use Rattle.sq_log.specs.declared.faults.RunFault.TheVariants.{Read, Write, Memory}
+use Rattle.sq_log.specs.declared.run.RunFault.{RunFault}
+use Rattle.sq_log.specs.declared.run.RunFault.TheVariants.{Read, Write, Memory}
 use Rattle.sq_commands.specs.Requests.{Asked, Reply, Check, Track, Feed}
 use Rattle.sq_commands.specs.declared.status.Status.{Status}
 use Rattle.sq_commands.specs.Feed.{EndsBy, FedIn, FedWhole, IsFed, all_lines, arrivals_in}
@@ -186,6 +186,9 @@ pub run_recorded : (clock : Times) → clock.is_live ≡ false → (asked : Aske
 run_recorded clock is (Reply words) status e run = run
 run_recorded clock is (Check format) status e run = run
 run_recorded clock is (Track words) status e run = run
-run_recorded clock is (Feed words) status e (inl (options, spelled, (answer, fed, ended))) =
-    inl (options, spelled, (answer, fed_recorded clock is options answer e.input e.outputs.output fed, ended))
-run_recorded clock is (Feed words) status e (inr none) = inr none
+run_recorded clock is (Feed words) status e (reply, inl (options, spelled, (answer, fed, ended)), said) = (
+  reply,
+  inl (options, spelled, (answer, fed_recorded clock is options answer e.input e.outputs.output fed, ended)),
+  said,
+)
+run_recorded clock is (Feed words) status e (reply, inr misuse, said) = (reply, inr misuse, said)

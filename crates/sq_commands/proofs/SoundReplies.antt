@@ -1,7 +1,14 @@
--- Commands that read no input have one reply, and it is not `Broken`.
+-- Replies: commands that read no input have one, and it is not `Broken`.
 use Rattle.std.proofs.Common.{◌≡◌, ◌≢◌, ◌∙◌, ℕ, List, Result, Ok, Err, MatchResult, ap, subst, sym}
+use Rattle.sq_devices.specs.Changes.{Written}
+use Rattle.sq_commands.specs.declared.status.Status.{Status}
 use Rattle.sq_commands.specs.declared.status.Status.TheVariants.{Good, Broken}
-use Rattle.sq_commands.specs.Replies.{IsAnswer, IsReplyTo, ReplyParts, answered}
+use Rattle.sq_commands.specs.Replies.{IsAnswer, IsReplyTo, IsReported, ReplyParts, answered}
+
+-- a reply is reported as an equal one is
+pub reported_as : (reply known : ReplyParts) (status : Status) (w : Written) → reply ≡ known
+    → IsReported reply status w → IsReported known status w
+reported_as reply known status w is said = subst (λ r. IsReported r status w) is said
 
 -- there is at most one such reply, and its status is not `Broken`
 pub record IsSound (Is : ReplyParts → Type 0) : Type 0 where

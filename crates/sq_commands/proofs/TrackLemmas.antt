@@ -12,9 +12,9 @@ use Rattle.sq_log.specs.declared.job.Verdict.{Verdict}
 use Rattle.sq_log.specs.declared.job.Verdict.TheVariants as verdicts
 use Rattle.sq_log.specs.Content.{Answer, Content, Long, Empty, Text, answer_by, answer_content, content}
 use Rattle.sq_log.specs.Lines.{lines_of}
-use Rattle.sq_log.specs.Runs.{HasTold, HasToldBy, IsRun}
-use Rattle.sq_log.specs.declared.faults.RunFault.{RunFault}
-use Rattle.sq_log.specs.declared.tallies.Tally.{Tally}
+use Rattle.sq_log.specs.Runs.{HasToldBy, IsRun}
+use Rattle.sq_log.specs.declared.run.RunFault.{RunFault}
+use Rattle.sq_log.specs.declared.log.Tally.{Tally}
 use Rattle.sq_log.proofs.Running.{run_as, run_reported}
 use Rattle.sq_track.specs.declared.heard.Heard.{Heard}
 use Rattle.sq_track.specs.declared.heard.TrackFault.{TrackFault}

@@ -10,7 +10,7 @@ use Rattle.sq_commands.specs.declared.status.Status.TheVariants.{Broken}
 use Rattle.sq_commands.specs.declared.feed.FeedOptions.{FeedOptions}
 use Rattle.sq_commands.specs.Feed.{HasFedFront, HasFedSome, IsFeedRunIn}
 use Rattle.sq_commands.specs.Outputs.{effects, outputs}
-use Rattle.sq_commands.specs.Runs.{IsRun}
+use Rattle.sq_commands.specs.Runs.{IsRun, IsStreamed}
 
 module _ {S K F : Type 0} (s : SourceGhosts S) (k : SinkGhosts K) (f : SinkGhosts F) where
   -- the output failed within this text, and was not finished
@@ -22,7 +22,7 @@ module _ {S K F : Type 0} (s : SourceGhosts S) (k : SinkGhosts K) (f : SinkGhost
   -- read whole, or the output failed within these lines.
   abbrev pub BrokenFeeds : Times → Type 0
   BrokenFeeds clock = (options : FeedOptions) (from to : S) (old new : K) (before after : F)
-      → IsFeedRunIn options clock Broken (effects s from to (outputs k f old new before after))
+      → IsStreamed (IsFeedRunIn options clock) Broken (effects s from to (outputs k f old new before after))
       → (k.finishes new ≡ k.finishes old)
       × ((TookPart (taken_from s from to) (HasFedSome options clock (written_on k old new))
       × WroteOrFailed (written_on f before after) (codes "read failed\n"))

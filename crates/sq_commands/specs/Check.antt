@@ -1,21 +1,20 @@
 -- The command `check`.
-use Rattle.std.specs.Prelude.{◌≡◌, ◌==◌, ◌⊎◌, ℕ, List, Option, Result, MatchResult, map, if◌then◌else◌}
-use Rattle.sq_devices.specs.Changes.{Taken, TookNothing, Written, WroteNothing}
+use Rattle.std.specs.Prelude.{◌≡◌, ◌==◌, ◌⊎◌, ℕ, List, Option, Result, Ok, Err, map, if◌then◌else◌}
+use Rattle.sq_devices.specs.Changes.{Taken, Written}
 use Rattle.sq_message.specs.declared.squitter.Squitter.{Squitter}
 use Rattle.sq_text.specs.Reading.{SquitterReader}
-use Rattle.sq_log.specs.Faults.{run_fault_text}
 use Rattle.sq_log.specs.Content.{Answer, answer_by}
 use Rattle.sq_log.specs.Answers.{Answerer, Manner}
 use Rattle.sq_log.specs.Runs.{HasRun, WroteAnswers}
-use Rattle.sq_log.specs.declared.faults.RunFault.{RunFault}
-use Rattle.sq_log.specs.declared.tallies.Tally.{Tally}
+use Rattle.sq_log.specs.declared.run.RunFault.{RunFault}
+use Rattle.sq_log.specs.declared.log.Tally.{Tally}
 use Rattle.sq_commands.specs.declared.status.Status.{Status}
-use Rattle.sq_commands.specs.declared.status.Status.TheVariants.{Good, Refused, Broken}
+use Rattle.sq_commands.specs.declared.status.Status.TheVariants.{Good, Refused}
 use Rattle.sq_commands.specs.declared.arguments.ArgumentFault.TheVariants as faults
 use Rattle.sq_commands.specs.declared.formats.Format.{Format}
 use Rattle.sq_commands.specs.Faults.{IsMisuse}
 use Rattle.sq_commands.specs.Formats.{IsFormatWord, Telling, Writers, told_by}
-use Rattle.sq_commands.specs.Outputs.{Effects, Outputs, Reported}
+use Rattle.sq_commands.specs.Replies.{ReplyParts, broken_off, silent}
 use Rattle.sq_commands.specs.Squitters.{squitter_telling}
 
 -- how lines are read, and numbers written
@@ -49,22 +48,22 @@ IsChecked telling result input output =
 abbrev pub status_of : Tally → Status
 status_of tally = if tally.refused == 0 then Good else Refused
 
--- the status of a run by its result; if it stopped early, the reason is reported, and otherwise nothing
-abbrev pub EndsAs : Result Tally RunFault → Status → Outputs → Type 0
-EndsAs result status o = MatchResult result (λ tally. (status ≡ status_of tally) × WroteNothing o.reports)
-    (λ fault. (status ≡ Broken) × Reported o (run_fault_text fault))
+-- the reply of a run, by its result; if the run stopped early, the reason is reported, and otherwise nothing
+abbrev pub run_reply : Result Tally RunFault → ReplyParts
+run_reply (Ok tally) = silent (status_of tally)
+run_reply (Err fault) = broken_off fault
 
 -- a run over the input
-abbrev pub IsCheckRunIn : Format → Status → Effects → Type 0
-IsCheckRunIn format status e = (result : Result Tally RunFault)
-    × IsChecked (squitter_telling format) result e.input e.outputs.output × EndsAs result status e.outputs
+abbrev pub IsCheckRunIn : Format → ReplyParts → Taken → Written → Type 0
+IsCheckRunIn format reply input output = (result : Result Tally RunFault)
+    × IsChecked (squitter_telling format) result input output × (reply ≡ run_reply result)
 
 -- no format has this name
 abbrev pub IsNoFormat : Option (List ℕ) → Type 0
 IsNoFormat word = (format : Format) → ¬ IsFormatWord word format
 
 -- the lines of the input are checked in the format that the word names; if it names none, the input is unread
-abbrev pub IsCheckRun : (format : Option (List ℕ)) → Status → Effects → Type 0
-IsCheckRun word status e =
-    ((format : Format) × IsFormatWord word format × IsCheckRunIn format status e)
-    ⊎ (IsNoFormat word × TookNothing e.input × IsMisuse faults.Format status e.outputs)
+abbrev pub IsCheckRun : (format : Option (List ℕ)) → ReplyParts → Taken → Written → Type 0
+IsCheckRun word reply input output =
+    ((format : Format) × IsFormatWord word format × IsCheckRunIn format reply input output)
+    ⊎ (IsNoFormat word × IsMisuse faults.Format reply input output)

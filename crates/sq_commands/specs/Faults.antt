@@ -1,15 +1,14 @@
 -- The reports on invalid arguments.
-use Rattle.std.specs.Prelude.{◌++◌, ℕ, List, codes}
+use Rattle.std.specs.Prelude.{◌≡◌, ◌++◌, ℕ, List, codes}
+use Rattle.sq_devices.specs.Changes.{Taken, TookNothing, Written, WroteNothing}
 use Rattle.sq_angle.specs.Faults.{angle_fault_text}
 use Rattle.sq_track.specs.Faults.{track_fault_text}
 use Rattle.sq_track.specs.declared.heard.TrackFault.TheVariants as tracks
 use Rattle.sq_commands.specs.declared.arguments.ArgumentFault.{ArgumentFault}
 use Rattle.sq_commands.specs.declared.arguments.ArgumentFault.TheVariants.{Format, Kind, Parity, Address, Feet, Limit}
 use Rattle.sq_commands.specs.declared.arguments.ArgumentFault.TheVariants.{NoLimit, Window, Site, Lat, Lon, Reorder}
-use Rattle.sq_commands.specs.declared.status.Status.{Status}
 use Rattle.sq_commands.specs.declared.status.Status.TheVariants.{Misused}
-use Rattle.sq_commands.specs.Outputs.{Outputs}
-use Rattle.sq_commands.specs.Replies.{IsDelivered, ReplyParts, refused}
+use Rattle.sq_commands.specs.Replies.{ReplyParts, reporting}
 
 -- the report on an argument
 abbrev pub argument_text : ArgumentFault → List ℕ
@@ -28,8 +27,8 @@ argument_text Reorder = codes "bad reorder"
 
 -- the reply to an invalid argument
 abbrev pub misused : ArgumentFault → ReplyParts
-misused fault = refused Misused (argument_text fault)
+misused fault = reporting Misused (argument_text fault)
 
--- the fault was reported, and nothing written
-abbrev pub IsMisuse : ArgumentFault → Status → Outputs → Type 0
-IsMisuse fault = IsDelivered (misused fault)
+-- an argument is invalid: nothing was read or written, and the reply reports it
+abbrev pub IsMisuse : ArgumentFault → ReplyParts → Taken → Written → Type 0
+IsMisuse fault reply input output = TookNothing input × WroteNothing output × (reply ≡ misused fault)

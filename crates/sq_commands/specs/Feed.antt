@@ -2,7 +2,7 @@
 use Rattle.std.specs.Prelude.{◌≡◌, ◌≢◌, ◌++◌, ◌⊎◌, ℕ, List, [], ◌∷◌, Option, None, Some, Result, Ok, Err, MatchResult, codes}
 use Rattle.std.specs.Prelude.{Bool, false, map, true}
 use Rattle.std.specs.Io.KnownBytes.{IsAtEnd}
-use Rattle.sq_devices.specs.Changes.{FinishedOnce, Sent, Taken, TookAll, TookNothing, TookPart, TookSome, Unfinished}
+use Rattle.sq_devices.specs.Changes.{FinishedOnce, Sent, Taken, TookAll, TookPart, TookSome, Unfinished}
 use Rattle.sq_devices.specs.Changes.{Written, Wrote}
 use Rattle.sq_devices.specs.Clocks.{Times}
 use Rattle.sq_devices.specs.Device.{IsPrefixOf, WroteFront}
@@ -17,9 +17,8 @@ use Rattle.sq_feed.specs.declared.machine.Format.{Format}
 use Rattle.sq_feed.specs.declared.machine.Format.TheVariants.{Beast, Avr, Csv, Log}
 use Rattle.sq_feed.specs.declared.manner.Manner.{Manner}
 use Rattle.sq_feed.specs.declared.message.Stranger.{Stranger}
-use Rattle.sq_log.specs.Faults.{run_fault_text}
-use Rattle.sq_log.specs.declared.faults.RunFault.{RunFault}
-use Rattle.sq_log.specs.declared.faults.RunFault.TheVariants.{Read, Write, Memory}
+use Rattle.sq_log.specs.declared.run.RunFault.{RunFault}
+use Rattle.sq_log.specs.declared.run.RunFault.TheVariants.{Read, Write, Memory}
 use Rattle.sq_commands.specs.Requests.{AskedFeed}
 use Rattle.sq_text.specs.Timed.{IsDecimalText}
 use Rattle.sq_commands.specs.declared.feed.FeedEnd.{FeedEnd}
@@ -27,10 +26,10 @@ use Rattle.sq_commands.specs.declared.feed.FeedOptions.{FeedOptions}
 use Rattle.sq_commands.specs.declared.arguments.ArgumentFault.{ArgumentFault}
 use Rattle.sq_commands.specs.declared.arguments.ArgumentFault.TheVariants as faults
 use Rattle.sq_commands.specs.declared.status.Status.{Status}
-use Rattle.sq_commands.specs.declared.status.Status.TheVariants.{Good, Refused, Broken}
+use Rattle.sq_commands.specs.declared.status.Status.TheVariants.{Good, Refused}
 use Rattle.sq_commands.specs.Arguments.{IsFaultUnless}
 use Rattle.sq_commands.specs.Faults.{IsMisuse}
-use Rattle.sq_commands.specs.Outputs.{Effects, Reported}
+use Rattle.sq_commands.specs.Replies.{ReplyParts, broken_off, reporting}
 use Rattle.sq_commands.specs.Summary.{stranger_text, summary_text}
 
 -- ---- calls of a feed
@@ -218,18 +217,19 @@ IsFeedFault words fault =
 abbrev pub IsFeedReading : AskedFeed → Result FeedOptions ArgumentFault → Type 0
 IsFeedReading words reading = MatchResult reading (IsFeedOptions words) (IsFeedFault words)
 
--- a run over the input; its end is reported, or the reason why the run stopped early
-abbrev pub IsFeedRunIn : FeedOptions → Times → Status → Effects → Type 0
-IsFeedRunIn options clock status e =
-    (answer : Result FeedEnd RunFault) × IsFed options clock answer e.input e.outputs.output
-    × MatchResult answer (λ end. (status ≡ status_at_end end.stranger)
-    × Reported e.outputs (text_at_end end.counts end.stranger))
-    (λ fault. (status ≡ Broken) × Reported e.outputs (run_fault_text fault))
+-- the reply of a run, by its result: the end of the source is reported, or the reason why the run stopped early
+abbrev pub feed_reply : Result FeedEnd RunFault → ReplyParts
+feed_reply (Ok end) = reporting (status_at_end end.stranger) (text_at_end end.counts end.stranger)
+feed_reply (Err fault) = broken_off fault
+
+-- a run over the input
+abbrev pub IsFeedRunIn : FeedOptions → Times → ReplyParts → Taken → Written → Type 0
+IsFeedRunIn options clock reply input output = (result : Result FeedEnd RunFault)
+    × IsFed options clock result input output × (reply ≡ feed_reply result)
 
 -- the input is read with the options that the words spell; if one is invalid, the first is reported, and the input is
 -- unread
-abbrev pub IsFeedRun : AskedFeed → Times → Status → Effects → Type 0
-IsFeedRun words clock status e =
-    ((options : FeedOptions) × IsFeedOptions words options × IsFeedRunIn options clock status e)
-    ⊎ (TookNothing e.input
-    × ((fault : ArgumentFault) × IsFeedFault words fault × IsMisuse fault status e.outputs))
+abbrev pub IsFeedRun : AskedFeed → Times → ReplyParts → Taken → Written → Type 0
+IsFeedRun words clock reply input output =
+    ((options : FeedOptions) × IsFeedOptions words options × IsFeedRunIn options clock reply input output)
+    ⊎ ((fault : ArgumentFault) × IsFeedFault words fault × IsMisuse fault reply input output)

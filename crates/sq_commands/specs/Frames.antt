@@ -5,11 +5,11 @@ use Rattle.sq_text.specs.declared.faults.LineFault.{LineFault}
 use Rattle.sq_text.specs.Faults.{fault_text}
 use Rattle.sq_text.specs.Reading.{IsSquitterReading}
 use Rattle.sq_commands.specs.declared.status.Status.TheVariants.{Refused}
-use Rattle.sq_commands.specs.Replies.{ReplyParts, refused}
+use Rattle.sq_commands.specs.Replies.{ReplyParts, reporting}
 
 -- the reply to an invalid frame
 abbrev pub frame_refused : LineFault → ReplyParts
-frame_refused fault = refused Refused (fault_text fault)
+frame_refused fault = reporting Refused (fault_text fault)
 
 -- two frame texts are read as both squitters, or as the first fault, the older's before the newer's
 abbrev pub AreReadingsOf : (older newer : List ℕ) → Result (Squitter × Squitter) LineFault → Type 0

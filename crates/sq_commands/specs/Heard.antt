@@ -13,7 +13,7 @@ use Rattle.sq_track.specs.declared.heard.Heard.TheVariants.{Fix, Followed, Waiti
 use Rattle.sq_text.specs.Rows.{Cell, Blank, Number, Word, Column, column, degrees_width, fault_width, number_width}
 use Rattle.sq_text.specs.Rows.{signed_width, word_width}
 use Rattle.sq_text.specs.Squitters.{address_cell, feet_of, kind_name}
-pub use Rattle.sq_commands.specs.declared.found.HeardSquitter.{HeardSquitter}
+pub use Rattle.sq_commands.specs.declared.answers.HeardSquitter.{HeardSquitter}
 use Rattle.sq_commands.specs.declared.formats.Format.{Format}
 use Rattle.sq_commands.specs.declared.formats.Format.TheVariants.{Lines, Rows}
 use Rattle.sq_commands.specs.Formats.{Telling, Writers, in_lines, in_rows}

@@ -13,7 +13,7 @@ use Rattle.sq_commands.specs.declared.status.Status.TheVariants.{Refused}
 use Rattle.sq_commands.specs.Arguments.{IsPositionReading}
 use Rattle.sq_commands.specs.Faults.{misused}
 use Rattle.sq_commands.specs.Frames.{frame_refused}
-use Rattle.sq_commands.specs.Replies.{IsAnswer, IsReplyTo, ReplyParts, refused}
+use Rattle.sq_commands.specs.Replies.{IsAnswer, IsReplyTo, ReplyParts, reporting}
 
 -- the text is the two lines of the place's position
 abbrev pub IsTextOf : Place → List ℕ → Type 0
@@ -21,7 +21,7 @@ IsTextOf place text = (position : Position) × IsPositionOf place position × Is
 
 -- the reply to squitters without a place
 abbrev pub place_refused : PlaceFault → ReplyParts
-place_refused fault = refused Refused (place_fault_text fault)
+place_refused fault = reporting Refused (place_fault_text fault)
 
 -- the reply is the place, or why there is none
 abbrev pub IsDecodingReply : (Result Place PlaceFault → Type 0) → ReplyParts → Type 0

@@ -1,13 +1,13 @@
 -- The command `track`.
 use Rattle.std.specs.Prelude.{◌≡◌, ◌≤◌, ◌<◌, ◌^◌, ◌⊎◌, ℕ, List, [], Option, None, Some, Result, MatchResult, length}
-use Rattle.sq_devices.specs.Changes.{Taken, TookNothing, Written}
+use Rattle.sq_devices.specs.Changes.{Taken, Written}
 use Rattle.sq_text.specs.Timed.{IsDecimalText, TimedReader}
 use Rattle.sq_log.specs.Answers.{Manner, WantsAt}
 use Rattle.sq_log.specs.Content.{Answer}
 use Rattle.sq_log.specs.Logs.{told_from}
 use Rattle.sq_log.specs.Runs.{HasRun, WroteAnswers}
-use Rattle.sq_log.specs.declared.faults.RunFault.{RunFault}
-use Rattle.sq_log.specs.declared.tallies.Tally.{Tally}
+use Rattle.sq_log.specs.declared.run.RunFault.{RunFault}
+use Rattle.sq_log.specs.declared.log.Tally.{Tally}
 use Rattle.sq_commands.specs.Requests.{AskedTrack}
 use Rattle.sq_track.specs.Held.{Held, StandsFor, made_with, settings}
 use Rattle.sq_track.specs.History.{History}
@@ -15,11 +15,10 @@ use Rattle.sq_commands.specs.declared.arguments.ArgumentFault.{ArgumentFault}
 use Rattle.sq_commands.specs.declared.arguments.ArgumentFault.TheVariants as faults
 use Rattle.sq_commands.specs.declared.arguments.TrackOptions.{TrackOptions}
 use Rattle.sq_commands.specs.declared.formats.Format.{Format}
-use Rattle.sq_commands.specs.declared.status.Status.{Status}
 use Rattle.sq_commands.specs.Arguments.{IsFaultUnless, IsSiteFault, IsSiteWords}
-use Rattle.sq_commands.specs.Check.{EndsAs}
+use Rattle.sq_commands.specs.Check.{run_reply}
 use Rattle.sq_commands.specs.Faults.{IsMisuse}
-use Rattle.sq_commands.specs.Outputs.{Effects}
+use Rattle.sq_commands.specs.Replies.{ReplyParts}
 use Rattle.sq_commands.specs.declared.track.Hearing.{Hearing}
 use Rattle.sq_commands.specs.Formats.{IsFormatWord, Telling, Writers, told_by}
 use Rattle.sq_commands.specs.Heard.{HeardSquitter, heard_telling}
@@ -86,16 +85,14 @@ IsTrackReading words reading = MatchResult reading (IsTrackOptions words) (IsTra
 -- ---- the command
 
 -- a run over the input, by a new tracker with these options
-abbrev pub IsLogRun : TrackOptions → Status → Effects → Type 0
-IsLogRun options status e = (old : Held) × (new : Held) × StandsFor old []
+abbrev pub IsLogRun : TrackOptions → ReplyParts → Taken → Written → Type 0
+IsLogRun options reply input output = (old : Held) × (new : Held) × StandsFor old []
     × (settings old ≡ made_with options.limit options.window options.site)
     × ((result : Result Tally RunFault)
-    × IsTracked (heard_telling options.format) result e.input e.outputs.output old new
-    × EndsAs result status e.outputs)
+    × IsTracked (heard_telling options.format) result input output old new × (reply ≡ run_reply result))
 
 -- the log is heard with the options that the words spell; if they are invalid, the input is unread
-abbrev pub IsTrackRun : AskedTrack → Status → Effects → Type 0
-IsTrackRun words status e =
-    ((options : TrackOptions) × IsTrackOptions words options × IsLogRun options status e)
-    ⊎ (TookNothing e.input
-    × ((fault : ArgumentFault) × IsTrackFault words fault × IsMisuse fault status e.outputs))
+abbrev pub IsTrackRun : AskedTrack → ReplyParts → Taken → Written → Type 0
+IsTrackRun words reply input output =
+    ((options : TrackOptions) × IsTrackOptions words options × IsLogRun options reply input output)
+    ⊎ ((fault : ArgumentFault) × IsTrackFault words fault × IsMisuse fault reply input output)

@@ -8,7 +8,7 @@ use Rattle.sq_log.specs.Answers.{after_content, answers_to}
 use Rattle.sq_log.specs.Content.{Answer, Content, Long, Empty, Text, answer_content, content}
 use Rattle.sq_log.specs.Logs.{AreAnswers, told_from}
 use Rattle.sq_log.specs.declared.log.Answer.{Answer as Told}
-use Rattle.sq_log.specs.declared.tallies.Tally.{Tally}
+use Rattle.sq_log.specs.declared.log.Tally.{Tally}
 use Rattle.sq_track.specs.declared.heard.Heard.{Heard}
 use Rattle.sq_track.specs.declared.heard.TrackFault.{TrackFault}
 use Rattle.sq_track.specs.declared.heard.TrackFault.TheVariants.{NoLimit, Memory, MomentBack, Full}

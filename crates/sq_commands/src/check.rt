@@ -2,16 +2,16 @@
 ghost use Rattle.std.specs.Prelude.{◌≡◌, IfOk, option_copied};
 ghost use Rattle.sq_devices.specs.Changes.{TookReported, taken_from, written_on};
 ghost use Rattle.sq_log.specs.Lines.{lines_of};
-ghost use Rattle.sq_commands.specs.Check.{HasChecked, IsCheckRun, IsCheckRunIn, IsChecked, check_manner, status_of};
+ghost use Rattle.sq_commands.specs.Check.{HasChecked, IsCheckRun, IsChecked, check_manner, run_reply};
 ghost use Rattle.sq_commands.specs.Formats.{Writers};
-ghost use Rattle.sq_commands.specs.Outputs.{effects, outputs};
+ghost use Rattle.sq_commands.specs.Replies.{reply_parts};
 ghost use Rattle.sq_commands.specs.Squitters.{squitter_lines, squitter_telling};
 ghost use Rattle.sq_text.specs.Reading.{SquitterReader};
 
+use crate::answers::{refuse_frame, squitter_header, tell_squitter};
 use crate::arguments::read_format;
-use crate::checked::{refuse_frame, squitter_header, tell_squitter};
 use crate::formats::{AnswerFormat, Format, Numbered, in_format};
-use crate::replies::{break_off, misuse};
+use crate::replies::{Reply, end_silently, refuse_argument, stop};
 use crate::status::Status;
 use sq_devices::{Sink, Source};
 use sq_log::{Job, LineText, Log, RunFault, Tally, Telling, Verdict, run_log};
@@ -113,44 +113,29 @@ fn run_check_in<S: Source, K: Sink>(
     in_format!(format, run_check_as(source, sink))
 }
 
-// Runs `check` over the input, in the format that the word names.
-pub(crate) fn check<S: Source, K: Sink, F: Sink>(
+// Runs `check` over the input, in the format with this name.
+pub(crate) fn check<S: Source, K: Sink>(
     format: Option<&str>,
     input: &mut S,
     output: &mut K,
-    faults: &mut F,
-) -> Status
-    ensures { IsCheckRun (option_copied format.entry) result (effects S.Source input.old input.new
-        (outputs K.Sink F.Sink output.old output.new faults.old faults.new)) }
+) -> Reply
+    ensures { IsCheckRun (option_copied format.entry) (reply_parts result)
+        (taken_from S.Source input.old input.new) (written_on K.Sink output.old output.new) }
 {
     match read_format(format) {
-        Ok(format) => check_in(format, input, output, faults),
-        Err(fault) => misuse(fault, output, faults),
+        Ok(format) => end_of(run_check_in(format, input, output)),
+        Err(fault) => refuse_argument(fault),
     }
 }
 
-fn check_in<S: Source, K: Sink, F: Sink>(
-    format: Format,
-    input: &mut S,
-    output: &mut K,
-    faults: &mut F,
-) -> Status
-    ensures { IsCheckRunIn format result (effects S.Source input.old input.new
-        (outputs K.Sink F.Sink output.old output.new faults.old faults.new)) }
+// Returns the reply at the end of a run: `Good` if no line was refused, otherwise `Refused`; or the reason why the run
+// stopped early.
+pub(crate) fn end_of(ran: Result<Tally, RunFault>) -> Reply
+    ensures { reply_parts result ≡ run_reply ran }
 {
-    match run_check_in(format, input, output) {
-        Ok(tally) => end_of(tally),
-        Err(fault) => break_off(fault, faults),
-    }
-}
-
-// Returns `Good` if no line was refused, else `Refused`.
-pub(crate) fn end_of(tally: Tally) -> Status
-    ensures { result ≡ status_of tally }
-{
-    if tally.refused == 0 {
-        Status::Good
-    } else {
-        Status::Refused
+    match ran {
+        Ok(tally) if tally.refused == 0 => end_silently(Status::Good),
+        Ok(_) => end_silently(Status::Refused),
+        Err(fault) => stop(fault),
     }
 }

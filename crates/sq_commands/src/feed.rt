@@ -1,18 +1,18 @@
 //! The command `feed`: the log that `track` reads, from a receiver's bytes.
-ghost use Rattle.std.specs.Prelude.{◌≡◌, ◌++◌, ℕ, codes, IfErr, IfOk, OnErr, OnOk, None, option_copied, Some, true};
-ghost use Rattle.sq_devices.specs.Changes.{TookReported, WroteOrFailed, taken_from, written_on};
+ghost use Rattle.std.specs.Prelude.{◌≡◌, ℕ, IfErr, IfOk, Ok, OnErr, None, option_copied, Some};
+ghost use Rattle.sq_devices.specs.Changes.{TookReported, taken_from, written_on};
 ghost use Rattle.sq_devices.specs.Clocks.{times_of};
 ghost use Rattle.sq_commands.specs.Requests.{asked_feed};
 ghost use Rattle.sq_commands.specs.Feed.{HasFedAll, IsFed, IsFeedReading, IsFeedRun, IsFeedRunIn, IsNoSource, IsReorder};
-ghost use Rattle.sq_commands.specs.Feed.{IsSourceWord, manner_of, status_at_end, text_at_end};
-ghost use Rattle.sq_commands.specs.Outputs.{effects, outputs};
+ghost use Rattle.sq_commands.specs.Feed.{IsSourceWord, feed_reply, manner_of};
+ghost use Rattle.sq_commands.specs.Replies.{reply_parts};
 
 use crate::arguments::ArgumentFault;
 use crate::feed_lines::{FeedText, order_of, put_end, put_piece};
-use crate::replies::{break_off, misuse, report};
+use crate::replies::{Reply, ReplyText, ReportLine, end_reporting, refuse_argument, stop};
 use crate::requests::FeedWords;
 use crate::status::Status;
-use crate::summary::{stranger_text, summary};
+use crate::summary::stranger_text;
 use sq_devices::{Clock, Failed, Sink, Source};
 use sq_feed::{Counts, Feed, Format, Manner, Stranger};
 use sq_log::RunFault;
@@ -109,57 +109,53 @@ fn manner_of(options: &FeedOptions, is_live: bool) -> Manner
 }
 
 // Runs `feed` over the input, with the options that the words spell.
-pub(crate) fn feed<C: Clock, S: Source, K: Sink, F: Sink>(
+pub(crate) fn feed<C: Clock, S: Source, K: Sink>(
     words: &FeedWords<'_>,
     clock: &mut C,
     input: &mut S,
     output: &mut K,
-    faults: &mut F,
-) -> Status
-    ensures { IsFeedRun (asked_feed words.now) (times_of C.Clock clock.old clock.new) result
-        (effects S.Source input.old input.new (outputs K.Sink F.Sink output.old output.new faults.old faults.new)) }
+) -> Reply
+    ensures { IsFeedRun (asked_feed words.now) (times_of C.Clock clock.old clock.new) (reply_parts result)
+        (taken_from S.Source input.old input.new) (written_on K.Sink output.old output.new) }
 {
     match read_feed_options(words) {
-        Ok(options) => feed_with(&options, clock, input, output, faults),
-        Err(fault) => misuse(fault, output, faults),
+        Ok(options) => feed_with(&options, clock, input, output),
+        Err(fault) => refuse_argument(fault),
     }
 }
 
-// Feeds the input with these options, and reports its end. Not inlined, so that no other command has its room.
+// Runs `feed` with these options. Not inlined, so that no other command pays for its local variables.
 #[inline(never)]
-fn feed_with<C: Clock, S: Source, K: Sink, F: Sink>(
+fn feed_with<C: Clock, S: Source, K: Sink>(
     options: &FeedOptions,
     clock: &mut C,
     input: &mut S,
     output: &mut K,
-    faults: &mut F,
-) -> Status
-    ensures { IsFeedRunIn options.now (times_of C.Clock clock.old clock.new) result
-        (effects S.Source input.old input.new (outputs K.Sink F.Sink output.old output.new faults.old faults.new)) }
+) -> Reply
+    ensures { IsFeedRunIn options.now (times_of C.Clock clock.old clock.new) (reply_parts result)
+        (taken_from S.Source input.old input.new) (written_on K.Sink output.old output.new) }
 {
     match run_feed(options, clock, input, output) {
-        Ok(end) => report_end(&end, faults),
-        Err(fault) => break_off(fault, faults),
+        Ok(end) => reply_at_end(&end),
+        Err(fault) => stop(fault),
     }
 }
 
-// Reports the end of a source in one line: the summary, or what the source is.
-fn report_end<F: Sink>(end: &FeedEnd, faults: &mut F) -> Status
-    ensures status { result ≡ status_at_end end.now.stranger }
-    ensures reported { WroteOrFailed (written_on F.Sink faults.old faults.new)
-        (text_at_end end.now.counts end.now.stranger ++ codes "\n") }
+// Returns the reply at the end of a source, which reports the summary, or what the source is.
+fn reply_at_end(end: &FeedEnd) -> Reply
+    ensures { reply_parts result ≡ feed_reply (Ok end.now) }
 {
     match end.stranger {
         Some(stranger) => {
-            report(stranger_text(stranger), faults);
-            Status::Refused
+            let mut line = ReplyText::new();
+            line.push_str(stranger_text(stranger));
+            end_reporting(Status::Refused, line)
         }
-        None => {
-            let mut text = summary(&end.counts);
-            text.push(b'\n');
-            report(text.as_str(), faults);
-            Status::Good
-        }
+        None => Reply {
+            status: Status::Good,
+            output: None,
+            error: Some(ReportLine::Summary(end.counts)),
+        },
     }
 }
 

@@ -2,8 +2,8 @@
 ghost use Rattle.std.specs.Prelude.{◌≡◌, ◌∷◌, [], List, ℕ, IfSome, None, Option, Result, Some, false};
 ghost use Rattle.sq_devices.specs.Changes.{written_on};
 ghost use Rattle.sq_devices.specs.Clocks.{times_of};
-ghost use Rattle.sq_log.specs.declared.faults.RunFault.{RunFault};
-ghost use Rattle.sq_log.specs.declared.tallies.Tally.{Tally};
+ghost use Rattle.sq_log.specs.declared.run.RunFault.{RunFault};
+ghost use Rattle.sq_log.specs.declared.log.Tally.{Tally};
 ghost use Rattle.sq_text.specs.Timed.{TimedReader};
 ghost use Rattle.sq_track.specs.Held.{Held, StandsFor, settings};
 ghost use Rattle.sq_track.specs.History.{History};
@@ -20,8 +20,8 @@ ghost use Rattle.sq_log.specs.declared.log.Answer.{Answer};
 ghost use Rattle.sq_commands.specs.Track.{HasTracked};
 ghost use Rattle.sq_commands.specs.Tracking.{AreHeardLines, track_manner};
 
+use crate::answers::HeardSquitter;
 use crate::formats::Numbered;
-use crate::found::HeardSquitter;
 use crate::track::Hearing;
 use sq_devices::{Clock, Sink, Source};
 use sq_log::{Log, Step};

@@ -14,9 +14,9 @@ ghost use Rattle.sq_log.specs.Answers.{WantsAt};
 ghost use Rattle.sq_log.specs.Content.{Text, answer_by, content};
 ghost use Rattle.sq_log.specs.Runs.{AreAnswered, IsClosedBy, WroteAnswers};
 ghost use Rattle.sq_log.specs.Faults.{run_fault_text};
-ghost use Rattle.sq_log.specs.declared.faults.RunFault.{RunFault};
-ghost use Rattle.sq_log.specs.declared.faults.RunFault.TheVariants.{Memory, Read, Write};
-ghost use Rattle.sq_log.specs.declared.tallies.Tally.{Tally};
+ghost use Rattle.sq_log.specs.declared.run.RunFault.{RunFault};
+ghost use Rattle.sq_log.specs.declared.run.RunFault.TheVariants.{Memory, Read, Write};
+ghost use Rattle.sq_log.specs.declared.log.Tally.{Tally};
 ghost use Rattle.sq_message.specs.Parts.{squitter_parts};
 ghost use Rattle.sq_message.specs.Places.{IsPosition};
 ghost use Rattle.sq_message.specs.declared.received.Received.{Received};
@@ -34,14 +34,15 @@ ghost use Rattle.sq_commands.specs.declared.formats.Format.{Format};
 ghost use Rattle.sq_commands.specs.declared.status.Status.{Status as Ending};
 ghost use Rattle.sq_commands.specs.declared.status.Status.TheVariants.{Broken, Good, Misused, Refused};
 ghost use Rattle.sq_commands.specs.BrokenOff.{BrokenAside, BrokenFeeds};
-ghost use Rattle.sq_commands.specs.Check.{Checks, EndsAs, IsCheckRunIn, IsChecked, IsNoFormat};
+ghost use Rattle.sq_commands.specs.Check.{Checks, IsCheckRunIn, IsChecked, IsNoFormat, run_reply};
 ghost use Rattle.sq_commands.specs.declared.feed.FeedOptions.{FeedOptions};
 ghost use Rattle.sq_commands.specs.Feed.{IsFed, IsFeedRunIn, IsNoSource, IsSourceWord};
 ghost use Rattle.sq_commands.specs.Formats.{IsFormatWord, Writers, format_name, format_number, told_by};
 ghost use Rattle.sq_commands.specs.Heard.{heard_telling, track_columns};
 ghost use Rattle.sq_commands.specs.Laws.{OneEncodeFault, OneFeedFault, OnePositionFault, OneSiteFault, OneTrackFault};
 ghost use Rattle.sq_commands.specs.Outputs.{effects, outputs};
-ghost use Rattle.sq_commands.specs.Replies.{IsDelivered, answered, refused};
+ghost use Rattle.sq_commands.specs.Replies.{IsDelivered, IsReported, ReplyParts, answered, reporting};
+ghost use Rattle.sq_commands.specs.Runs.{IsStreamed};
 ghost use Rattle.sq_commands.specs.Squitters.{check_columns, squitter_telling};
 ghost use Rattle.sq_commands.specs.SlowAnswers.{AreTrueAfter, AreTrueAnswers, heard_in, received_in};
 ghost use Rattle.sq_commands.specs.Summary.{stranger_text, summary_text};
@@ -50,7 +51,7 @@ ghost use Rattle.sq_commands.specs.Track.{HasTracked, IsLogRun, IsTracked};
 ghost use Rattle.sq_log.specs.declared.log.Answer.{Answer};
 ghost use Rattle.sq_commands.specs.Tracking.{OnePast, track_manner};
 
-use crate::found::HeardSquitter;
+use crate::answers::HeardSquitter;
 use crate::status::Status;
 use sq_devices::{Clock, Sink, Source};
 
@@ -173,30 +174,38 @@ pub fn tracked_exactly<S: Source, K: Sink>()
         → IsAcceptable (settings tracker) h timed.moment timed.squitter))) }
 {}
 
-/// How a run of `check` or of `track` ended. At the end of its input it is good exactly if no line was refused, with
-/// nothing reported. If it stopped early it is broken, and the reason was reported in one line.
+/// The reply of a run of `check` or of `track`. At the end of its input it is good exactly if no line was refused, with
+/// nothing reported. If it stopped early it is broken, and the reason is reported in one line.
 pub fn ended_exactly<S: Source, K: Sink, F: Sink>()
-    ensures whole { (tally : Tally) (status : Ending) (old new : K) (before after : F)
-        → EndsAs (Ok tally) status (outputs K.Sink F.Sink old new before after)
+    ensures whole { (tally : Tally) (status : Ending) (before after : F)
+        → IsReported (run_reply (Ok tally)) status (written_on F.Sink before after)
         ↔ ((status ≡ (if tally.refused == 0 then Good else Refused)) × WroteNothing (written_on F.Sink before after)) }
-    ensures broken { (fault : RunFault) (status : Ending) (old new : K) (before after : F)
-        → EndsAs (Err fault) status (outputs K.Sink F.Sink old new before after)
+    ensures broken { (fault : RunFault) (status : Ending) (before after : F)
+        → IsReported (run_reply (Err fault)) status (written_on F.Sink before after)
         ↔ ((status ≡ Broken)
         × WroteOrFailed (written_on F.Sink before after) (run_fault_text fault ++ codes "\n")) }
     ensures words { (run_fault_text Read ≡ codes "read failed") × (run_fault_text Write ≡ codes "write failed")
         × (run_fault_text Memory ≡ codes "out of memory") }
     ensures memory { run_fault_text Memory ≡ track_fault_label tracks.Memory }
-    ensures checked { (format : Format) (status : Ending) (from to : S) (old new : K) (before after : F)
-        → IsCheckRunIn format status (effects S.Source from to (outputs K.Sink F.Sink old new before after))
+    ensures checked { (format : Format) (reply : ReplyParts) (from to : S) (old new : K)
+        → IsCheckRunIn format reply (taken_from S.Source from to) (written_on K.Sink old new)
         ↔ ((result : Result Tally RunFault)
         × IsChecked (squitter_telling format) result (taken_from S.Source from to) (written_on K.Sink old new)
-        × EndsAs result status (outputs K.Sink F.Sink old new before after)) }
-    ensures tracked { (options : Options) (status : Ending) (from to : S) (old new : K) (before after : F)
-        → IsLogRun options status (effects S.Source from to (outputs K.Sink F.Sink old new before after))
+        × (reply ≡ run_reply result)) }
+    ensures tracked { (options : Options) (reply : ReplyParts) (from to : S) (old new : K)
+        → IsLogRun options reply (taken_from S.Source from to) (written_on K.Sink old new)
         ↔ ((first last : Held) × StandsFor first []
         × (settings first ≡ made_with options.limit options.window options.site) × ((result : Result Tally RunFault)
         × IsTracked (heard_telling options.format) result (taken_from S.Source from to) (written_on K.Sink old new)
-        first last × EndsAs result status (outputs K.Sink F.Sink old new before after))) }
+        first last × (reply ≡ run_reply result))) }
+{}
+
+/// A run of a command that reads the input: its reply is reported, and nothing else is written to the sink for faults.
+pub fn streamed_exactly<S: Source, K: Sink, F: Sink>()
+    ensures { (reply : ReplyParts) (status : Ending) (from to : S) (old new : K) (before after : F)
+        → IsStreamed (λ one input output. one ≡ reply) status
+        (effects S.Source from to (outputs K.Sink F.Sink old new before after))
+        ↔ IsReported reply status (written_on F.Sink before after) }
 {}
 
 /// The delivery of a reply. An output was written whole and finished, with nothing reported; or its sink failed within
@@ -210,7 +219,7 @@ pub fn delivered_exactly<K: Sink, F: Sink>()
         ⊎ ((status ≡ Broken) × FailedWithin (written_on K.Sink old new) text
         × WroteOrFailed (written_on F.Sink before after) (codes "write failed\n"))) }
     ensures refusal { (ending status : Ending) (line : List ℕ) (old new : K) (before after : F)
-        → IsDelivered (refused ending line) status (outputs K.Sink F.Sink old new before after)
+        → IsDelivered (reporting ending line) status (outputs K.Sink F.Sink old new before after)
         ↔ ((status ≡ ending) × WroteNothing (written_on K.Sink old new)
         × WroteOrFailed (written_on F.Sink before after) (line ++ codes "\n")) }
 {}
@@ -226,21 +235,21 @@ pub fn broken_aside_exactly<S: Source, K: Sink, F: Sink>()
 /// until a get failed, or a prefix of them.
 pub fn feed_ended_exactly<C: Clock, S: Source, K: Sink, F: Sink>()
     ensures good { (options : FeedOptions) (first last : C) (from to : S) (old new : K) (before after : F)
-        → IsFeedRunIn options (times_of C.Clock first last) Good
+        → IsStreamed (IsFeedRunIn options (times_of C.Clock first last)) Good
         (effects S.Source from to (outputs K.Sink F.Sink old new before after))
         → (counts : Counts)
         × IsFed options (times_of C.Clock first last) (Ok (record { counts = counts; stranger = None }))
         (taken_from S.Source from to) (written_on K.Sink old new)
         × WroteOrFailed (written_on F.Sink before after) (summary_text counts ++ codes "\n") }
     ensures refused { (options : FeedOptions) (first last : C) (from to : S) (old new : K) (before after : F)
-        → IsFeedRunIn options (times_of C.Clock first last) Refused
+        → IsStreamed (IsFeedRunIn options (times_of C.Clock first last)) Refused
         (effects S.Source from to (outputs K.Sink F.Sink old new before after))
         → (counts : Counts) × (stranger : Stranger)
         × IsFed options (times_of C.Clock first last) (Ok (record { counts = counts; stranger = Some stranger }))
         (taken_from S.Source from to) (written_on K.Sink old new)
         × WroteOrFailed (written_on F.Sink before after) (stranger_text stranger ++ codes "\n") }
     ensures used { (options : FeedOptions) (first last : C) (from to : S) (old new : K) (before after : F)
-        → ¬ IsFeedRunIn options (times_of C.Clock first last) Misused
+        → ¬ IsStreamed (IsFeedRunIn options (times_of C.Clock first last)) Misused
         (effects S.Source from to (outputs K.Sink F.Sink old new before after)) }
     ensures broken { (first last : C) → BrokenFeeds S.Source K.Sink F.Sink (times_of C.Clock first last) }
 {}

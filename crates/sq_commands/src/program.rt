@@ -6,7 +6,7 @@ ghost use Rattle.sq_commands.specs.Runs.{IsRun, IsTimedRun};
 
 use crate::check::check;
 use crate::feed::feed;
-use crate::replies::{deliver, reply_to};
+use crate::replies::{deliver, reply_to, report_end};
 use crate::requests::Request;
 use crate::status::Status;
 use crate::track::track;
@@ -45,8 +45,8 @@ pub fn answer_live<C: Clock, S: Source, K: Sink, F: Sink>(
 {
     match request {
         Request::Reply(words) => deliver(&reply_to(words), output, faults),
-        Request::Check { format } => check(format, input, output, faults),
-        Request::Track(words) => track(alloc, &words, input, output, faults),
-        Request::Feed(words) => feed(&words, clock, input, output, faults),
+        Request::Check { format } => report_end(&check(format, input, output), faults),
+        Request::Track(words) => report_end(&track(alloc, &words, input, output), faults),
+        Request::Feed(words) => report_end(&feed(&words, clock, input, output), faults),
     }
 }

@@ -1,16 +1,17 @@
-//! The commands that read no input return values. One function writes them to the sinks.
+//! The replies of commands. Each command returns a value; one function writes it to the sinks.
 ghost use Rattle.std.specs.Prelude.{◌≡◌, ◌<◌, ◌≤◌, ◌++◌, MatchResult, OnErr, OnOk, codes, option_copied};
 ghost use Rattle.sq_devices.specs.Changes.{WroteOrFailed, written_on};
 ghost use Rattle.sq_digits.specs.Buffer.{text_len};
 ghost use Rattle.sq_log.specs.Faults.{run_fault_text};
-ghost use Rattle.sq_commands.specs.Faults.{IsMisuse, misused};
+ghost use Rattle.sq_commands.specs.Faults.{misused};
 ghost use Rattle.sq_commands.specs.Frames.{frame_refused};
 ghost use Rattle.sq_commands.specs.Local.{IsTextOf, place_refused};
 ghost use Rattle.sq_commands.specs.Outputs.{outputs};
 ghost use Rattle.sq_commands.specs.Replies.{FailedOn, Got, GotOrFailed, IsAnswer, IsDelivered, answered, bytes_in};
-ghost use Rattle.sq_commands.specs.Replies.{refused, reply_parts};
+ghost use Rattle.sq_commands.specs.Replies.{broken_off, reply_parts, report_in, reporting, silent};
 ghost use Rattle.sq_commands.specs.Requests.{asked_reply};
 ghost use Rattle.sq_commands.specs.Runs.{IsReplyOf};
+ghost use Rattle.sq_commands.specs.Summary.{summary_text};
 
 mod encode;
 mod local;
@@ -20,12 +21,14 @@ mod show;
 use crate::arguments::ArgumentFault;
 use crate::requests::ReplyRequest;
 use crate::status::Status;
+use crate::summary::summary;
 use encode::encode;
 use local::local;
 use pair::pair;
 use show::show;
 use sq_devices::{Failed, Sink, put_last};
 use sq_digits::TextBuffer;
+use sq_feed::Counts;
 use sq_log::RunFault;
 use sq_message::{Place, PlaceFault};
 use sq_text::{LineFault, place_text, push_fault, push_place_fault};
@@ -33,15 +36,24 @@ use sq_text::{LineFault, place_text, push_fault, push_place_fault};
 /// A text of a reply, at most 320 bytes.
 pub type ReplyText = TextBuffer<320>;
 
-/// The result of a command that reads no input.
+/// The report of a reply.
+#[derive(Drop)]
+pub enum ReportLine {
+    /// A line, with its line feed.
+    Line(ReplyText),
+    /// The summary of a feed.
+    Summary(Counts),
+}
+
+/// The result of a command. A command that reads the input writes its output as it reads, so its reply has none.
 #[derive(Drop)]
 pub struct Reply {
     /// How the command ends.
     pub status: Status,
-    /// The text for the output.
+    /// The text for the output, if there is one.
     pub output: Option<ReplyText>,
-    /// The line for the sink for faults.
-    pub error: Option<ReplyText>,
+    /// The line for the sink for faults, if there is one.
+    pub error: Option<ReportLine>,
 }
 
 /// Returns the reply to a request that reads no input.
@@ -75,17 +87,28 @@ pub(crate) fn reply_with<const N: usize>(text: &TextBuffer<N>) -> Reply
     }
 }
 
-// Returns an error. The line has no line feed yet.
-fn refuse(status: Status, line: ReplyText) -> Reply
+// Returns a reply without output or report.
+pub(crate) fn end_silently(status: Status) -> Reply
+    ensures { reply_parts result ≡ silent status }
+{
+    Reply {
+        status,
+        output: None,
+        error: None,
+    }
+}
+
+// Returns a reply with a report. The line has no line feed yet.
+pub(crate) fn end_reporting(status: Status, line: ReplyText) -> Reply
     requires { text_len line < 320 }
-    ensures { reply_parts result ≡ refused status line.bytes }
+    ensures { reply_parts result ≡ reporting status line.bytes }
 {
     let mut error = line;
     error.push(b'\n');
     Reply {
         status,
         output: None,
-        error: Some(error),
+        error: Some(ReportLine::Line(error)),
     }
 }
 
@@ -95,7 +118,7 @@ pub(crate) fn refuse_argument(fault: ArgumentFault) -> Reply
 {
     let mut line = ReplyText::new();
     fault.push(&mut line);
-    refuse(Status::Misused, line)
+    end_reporting(Status::Misused, line)
 }
 
 // Returns the error of an invalid frame.
@@ -104,7 +127,7 @@ pub(crate) fn refuse_frame(fault: LineFault) -> Reply
 {
     let mut line = ReplyText::new();
     push_fault(&mut line, fault);
-    refuse(Status::Refused, line)
+    end_reporting(Status::Refused, line)
 }
 
 // Returns the error of squitters that have no place.
@@ -113,7 +136,16 @@ fn refuse_place(fault: PlaceFault) -> Reply
 {
     let mut line = ReplyText::new();
     push_place_fault(&mut line, fault);
-    refuse(Status::Refused, line)
+    end_reporting(Status::Refused, line)
+}
+
+// Returns the reason why a run stopped early.
+pub(crate) fn stop(fault: RunFault) -> Reply
+    ensures { reply_parts result ≡ broken_off fault }
+{
+    let mut line = ReplyText::new();
+    line.push_str(fault.label());
+    end_reporting(Status::Broken, line)
 }
 
 // Returns the two lines of a place, or why there is none.
@@ -137,10 +169,7 @@ pub fn deliver<K: Sink, F: Sink>(reply: &Reply, output: &mut K, faults: &mut F) 
         (outputs K.Sink F.Sink output.old output.new faults.old faults.new) }
 {
     match put_output(reply.output.as_ref(), output) {
-        Ok(()) => {
-            put_error(reply.error.as_ref(), faults);
-            reply.status
-        }
+        Ok(()) => report_end(reply, faults),
         Err(Failed) => break_off(RunFault::Write, faults),
     }
 }
@@ -157,25 +186,34 @@ fn put_output<K: Sink>(text: Option<&ReplyText>, output: &mut K) -> Result<(), F
     }
 }
 
-// Reports the text, if there is one.
-fn put_error<F: Sink>(text: Option<&ReplyText>, faults: &mut F)
-    ensures { GotOrFailed (bytes_in (option_copied text.entry)) (written_on F.Sink faults.old faults.new) }
+/// Reports the line of a reply, if there is one. Returns the reply's status. A failure of the sink changes nothing.
+pub fn report_end<F: Sink>(reply: &Reply, faults: &mut F) -> Status
+    ensures status { result ≡ reply.now.status }
+    ensures reported { GotOrFailed (report_in reply.now.error) (written_on F.Sink faults.old faults.new) }
 {
-    match text {
-        Some(text) => report(text.as_str(), faults),
+    put_report(reply.error.as_ref(), faults);
+    reply.status
+}
+
+// Writes the report, if there is one.
+fn put_report<F: Sink>(line: Option<&ReportLine>, faults: &mut F)
+    ensures { GotOrFailed (report_in (option_copied line.entry)) (written_on F.Sink faults.old faults.new) }
+{
+    match line {
+        Some(ReportLine::Line(text)) => report(text.as_str(), faults),
+        Some(ReportLine::Summary(counts)) => report_summary(counts, faults),
         None => {}
     }
 }
 
-// Delivers the error of an invalid argument.
-pub(crate) fn misuse<K: Sink, F: Sink>(
-    fault: ArgumentFault,
-    output: &mut K,
-    faults: &mut F,
-) -> Status
-    ensures { IsMisuse fault result (outputs K.Sink F.Sink output.old output.new faults.old faults.new) }
+// Writes the summary of a feed. Not inlined, so that no other command pays for its text.
+#[inline(never)]
+fn report_summary<F: Sink>(counts: &Counts, faults: &mut F)
+    ensures { WroteOrFailed (written_on F.Sink faults.old faults.new) (summary_text counts.now ++ codes "\n") }
 {
-    deliver(&refuse_argument(fault), output, faults)
+    let mut text = summary(counts);
+    text.push(b'\n');
+    report(text.as_str(), faults);
 }
 
 /// Writes a text to the sink for faults, and finishes that sink. A failure there changes nothing.
@@ -192,9 +230,5 @@ pub fn break_off<F: Sink>(fault: RunFault, faults: &mut F) -> Status
     ensures status { result ≡ Status.Broken }
     ensures reported { WroteOrFailed (written_on F.Sink faults.old faults.new) (run_fault_text fault ++ codes "\n") }
 {
-    let mut line = TextBuffer::<14>::new();
-    line.push_str(fault.label());
-    line.push(b'\n');
-    report(line.as_str(), faults);
-    Status::Broken
+    report_end(&stop(fault), faults)
 }

@@ -112,19 +112,19 @@ fn others_of(counts: &Counts) -> u64
     others - counts.multilaterated() - counts.damaged() - counts.aside()
 }
 
-// Returns the line on a source without frames, with its line feed.
+// Returns the line on a source without frames, at most 100 bytes.
 pub(crate) fn stranger_text(stranger: Stranger) -> &'static str
-    ensures { result.now ≡ stranger_text stranger ++ codes "\n" }
+    ensures text { result.now ≡ stranger_text stranger }
+    ensures short { length result.now ≤ 100 }
 {
     match stranger {
         Stranger::Sbs =>
-            "the input is SBS (BaseStation) text, which has no frames: read port 30005 or 30002\n",
-        Stranger::Tar => "the input is a tar archive: try tar -xOf FILE | squitter feed\n",
-        Stranger::Packed => "the input is compressed: try gzip -dc FILE | squitter feed\n",
-        Stranger::Utf16 =>
-            "the input is UTF-16: try iconv -f UTF-16 -t UTF-8 FILE | squitter feed\n",
-        Stranger::Json => "the input is lines of JSON, which have no frames\n",
+            "the input is SBS (BaseStation) text, which has no frames: read port 30005 or 30002",
+        Stranger::Tar => "the input is a tar archive: try tar -xOf FILE | squitter feed",
+        Stranger::Packed => "the input is compressed: try gzip -dc FILE | squitter feed",
+        Stranger::Utf16 => "the input is UTF-16: try iconv -f UTF-16 -t UTF-8 FILE | squitter feed",
+        Stranger::Json => "the input is lines of JSON, which have no frames",
         Stranger::NoFrame =>
-            "no frame is in the first 16384 bytes: try --format=beast, avr, csv or log\n",
+            "no frame is in the first 16384 bytes: try --format=beast, avr, csv or log",
     }
 }

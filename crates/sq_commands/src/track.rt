@@ -4,24 +4,22 @@ ghost use Rattle.std.specs.Prelude.{◌≡◌, ◌≤◌, IfOk};
 ghost use Rattle.sq_devices.specs.Changes.{TookReported, taken_from, written_on};
 ghost use Rattle.sq_log.specs.Lines.{lines_of};
 ghost use Rattle.sq_commands.specs.Requests.{asked_track};
-ghost use Rattle.sq_commands.specs.Faults.{IsMisuse};
+ghost use Rattle.sq_commands.specs.Faults.{misused};
 ghost use Rattle.sq_commands.specs.Formats.{Writers};
 ghost use Rattle.sq_commands.specs.Heard.{heard_lines, heard_telling};
-ghost use Rattle.sq_commands.specs.Outputs.{effects, outputs};
+ghost use Rattle.sq_commands.specs.Replies.{reply_parts};
 ghost use Rattle.sq_commands.specs.SlowAnswers.{AreTrueAnswers};
 ghost use Rattle.sq_commands.specs.Track.{HasTracked, IsLogRun, IsTrackRun, IsTracked, hearing_manner};
 ghost use Rattle.sq_commands.specs.Tracking.{IsTimedHeard, Tracking};
 ghost use Rattle.sq_commands.specs.TrueAnswers.{true_answers};
 ghost use Rattle.sq_track.specs.Held.{settings};
 
+use crate::answers::{HeardSquitter, heard_header, refuse_text, tell_found};
 use crate::arguments::{ArgumentFault, TrackOptions, read_options};
 use crate::check::end_of;
 use crate::formats::{AnswerFormat, CsvRows, Format, Numbered, in_format};
-use crate::found::HeardSquitter;
-use crate::replies::{break_off, misuse};
+use crate::replies::{Reply, refuse_argument};
 use crate::requests::TrackWords;
-use crate::status::Status;
-use crate::told::{heard_header, refuse_text, tell_found};
 use sq_devices::{Sink, Source};
 use sq_log::{Job, LineText, Log, RunFault, Tally, Telling, Verdict, run_log};
 use sq_message::Received;
@@ -174,40 +172,35 @@ fn run_track_in<S: Source, K: Sink>(
 }
 
 // Runs `track` over the input.
-pub(crate) fn track<S: Source, K: Sink, F: Sink>(
+pub(crate) fn track<S: Source, K: Sink>(
     alloc: Global,
     words: &TrackWords<'_>,
     input: &mut S,
     output: &mut K,
-    faults: &mut F,
-) -> Status
-    ensures { IsTrackRun (asked_track words.now) result
-        (effects S.Source input.old input.new (outputs K.Sink F.Sink output.old output.new faults.old faults.new)) }
+) -> Reply
+    ensures { IsTrackRun (asked_track words.now) (reply_parts result)
+        (taken_from S.Source input.old input.new) (written_on K.Sink output.old output.new) }
 {
     match read_options(words) {
-        Ok(options) => track_with(alloc, &options, input, output, faults),
-        Err(fault) => misuse(fault, output, faults),
+        Ok(options) => track_with(alloc, &options, input, output),
+        Err(fault) => refuse_argument(fault),
     }
 }
 
-// Runs `track` with options that were read. A limit of 0 is a misuse, and the input is unread.
-fn track_with<S: Source, K: Sink, F: Sink>(
+// Runs `track` with options that were read. A limit of 0 is refused, and the input is unread.
+fn track_with<S: Source, K: Sink>(
     alloc: Global,
     options: &TrackOptions,
     input: &mut S,
     output: &mut K,
-    faults: &mut F,
-) -> Status
-    ensures ran { 1 ≤ options.now.limit → IsLogRun options.now result
-        (effects S.Source input.old input.new (outputs K.Sink F.Sink output.old output.new faults.old faults.new)) }
-    ensures refused { options.now.limit ≡ 0 → (input.new ≡ input.old) × IsMisuse ArgumentFault.NoLimit result
-        (outputs K.Sink F.Sink output.old output.new faults.old faults.new) }
+) -> Reply
+    ensures ran { 1 ≤ options.now.limit → IsLogRun options.now (reply_parts result)
+        (taken_from S.Source input.old input.new) (written_on K.Sink output.old output.new) }
+    ensures refused { options.now.limit ≡ 0 → (input.new ≡ input.old) × (output.new ≡ output.old)
+        × (reply_parts result ≡ misused ArgumentFault.NoLimit) }
 {
     match Tracker::new(alloc, options.limit, options.window, options.site) {
-        Ok(mut tracker) => match run_track_in(options.format, input, output, &mut tracker) {
-            Ok(tally) => end_of(tally),
-            Err(fault) => break_off(fault, faults),
-        },
-        Err(_) => misuse(ArgumentFault::NoLimit, output, faults),
+        Ok(mut tracker) => end_of(run_track_in(options.format, input, output, &mut tracker)),
+        Err(_) => refuse_argument(ArgumentFault::NoLimit),
     }
 }

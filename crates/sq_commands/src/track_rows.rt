@@ -7,8 +7,8 @@ ghost use Rattle.sq_track.specs.declared.heard.Heard.TheVariants.{Fix};
 ghost use Rattle.sq_commands.specs.Formats.{HasRoom, Writers};
 ghost use Rattle.sq_commands.specs.Heard.{answer_word, blank_track, heard_row, place_columns, place_row, track_columns};
 
+use crate::answers::HeardSquitter;
 use crate::formats::RowForm;
-use crate::found::HeardSquitter;
 use sq_log::LineText;
 use sq_message::Place;
 use sq_text::{

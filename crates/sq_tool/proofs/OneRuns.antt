@@ -13,7 +13,7 @@ use Rattle.sq_commands.proofs.Recorded.{run_recorded}
 use Rattle.sq_tool.specs.OneProgram.{BrokenProgram, OneProgramRun}
 use Rattle.sq_tool.specs.Program.{IsProgramRun, IsTimedProgramRun}
 
--- where words ask for one thing and a request has one run, a command line has one run
+-- if words ask for at most one thing and a request has one run, a command line has one run
 pub one_program_run : {S K F T L G : Type 0} (s : SourceGhosts S) (k : SinkGhosts K) (f : SinkGhosts F)
     (t : SourceGhosts T) (l : SinkGhosts L) (g : SinkGhosts G) → OneRequest → OneRun s k f t l g
     → OneProgramRun s k f t l g
@@ -37,14 +37,14 @@ one_program_run s k f t l g one_request one_run words a b old new other last byt
 one_program_run s k f t l g one_request one_run words a b old new other last bytes here there (inr (inl p))
     (inr (inr q)) unbroken unbroken' reported reported' = absurd (unbroken' q.0)
 
--- a run on an input that is not live is one on a recorded input
+-- a run on an input that is not live is a run on a recorded input
 pub program_recorded : (clock : Times) → clock.is_live ≡ false → (words : List Text) (status : Status) (e : Effects)
     → IsTimedProgramRun clock words status e → IsProgramRun words status e
 program_recorded clock is words status e (inl (asked, asks, run)) =
     inl (asked, asks, run_recorded clock is asked status e run)
 program_recorded clock is words status e (inr refused) = inr refused
 
--- what broke off is a request, or there was no memory
+-- a request broke off, or there was no memory
 pub broken_program : {S K F : Type 0} (s : SourceGhosts S) (k : SinkGhosts K) (f : SinkGhosts F) → BrokenProgram s k f
 broken_program s k f words from to old new before after (inl run) = inl run
 broken_program s k f words from to old new before after (inr (inl refused)) = absurd (cc refused.1)

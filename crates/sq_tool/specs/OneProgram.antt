@@ -1,4 +1,4 @@
--- What two runs of the program with one command line have in common, and what one did that broke off.
+-- What two runs of the program with one command line have in common, and what a run did that broke off.
 use Rattle.std.specs.Prelude.{◌≡◌, ◌≢◌, ◌⊎◌, ℕ, List, Some, codes, false}
 use Rattle.sq_devices.specs.Changes.{TookNothing, WroteNothing, WroteOrFailed, taken_from, written_on}
 use Rattle.sq_devices.specs.declared.device.Sink.{Ghosts as SinkGhosts}
@@ -12,8 +12,8 @@ use Rattle.sq_commands.specs.Outputs.{effects, outputs}
 use Rattle.sq_commands.specs.Runs.{IsRun}
 use Rattle.sq_tool.specs.Program.{IsProgramRun}
 
--- Two runs with one command line have one status, and do the same: where the same bytes are to come, no device failed
--- and memory was granted. Of words in which clap finds a fault, what is reported is clap's to say.
+-- Two runs with one command line have one status and do the same, if the same bytes are to come, no device failed,
+-- and memory was granted. If clap finds an error in the words, this says nothing about the report.
 abbrev pub OneProgramRun : {S K F T L G : Type 0} → SourceGhosts S → SinkGhosts K → SinkGhosts F → SourceGhosts T
     → SinkGhosts L → SinkGhosts G → Type 0
 OneProgramRun {S} {K} {F} {T} {L} {G} s k f t l g =
@@ -26,7 +26,7 @@ OneProgramRun {S} {K} {F} {T} {L} {G} s k f t l g =
     ⊎ WroteAlike (written_on f old.faults new.faults) (written_on g other.faults last.faults))
     × (s.to_come new.input ≡ t.to_come last.input)
 
--- A run of the program that broke off: the request that the words ask for did, or there was no memory to read them.
+-- A run of the program that broke off: either its request broke off, or there was no memory to read the words.
 abbrev pub BrokenProgram : {S K F : Type 0} → SourceGhosts S → SinkGhosts K → SinkGhosts F → Type 0
 BrokenProgram {S} {K} {F} s k f = (words : List Text) (from to : S) (old new : K) (before after : F)
     → IsProgramRun words Broken (effects s from to (outputs k f old new before after))

@@ -1,4 +1,4 @@
-//! Laws of the program, over the definitions that its contracts name, and the laws below that a reader of them needs.
+//! Laws of the program, over the definitions that its contracts cite, and the laws below that a reader of them needs.
 
 ghost use Rattle.std.specs.Prelude.{◌≡◌, List, false};
 ghost use Rattle.sq_devices.specs.Clocks.{times_of};
@@ -12,8 +12,8 @@ use sq_devices::{Clock, Sink, Source};
 pub use sq_log::laws::lines_in_pieces;
 pub use sq_words::laws::{accepted_words_ask, one_request, refused_words_ask_nothing};
 
-/// On an input that is not live a clock changes nothing, so `one_program_run` speaks of it too. When the bytes of a
-/// file were read does not matter.
+/// On an input that is not live, a clock changes nothing: it does not matter when the bytes of a file were read. So
+/// `one_program_run` also covers a run with a clock on such an input.
 pub fn recorded_has_no_arrivals<C: Clock, S: Source, K: Sink, F: Sink>()
     ensures { (words : List Text) (status : Status) (first last : C) (from to : S) (old new : K) (before after : F)
         → C.live first ≡ false → IsTimedProgramRun (times_of C.Clock first last) words status
@@ -21,9 +21,9 @@ pub fn recorded_has_no_arrivals<C: Clock, S: Source, K: Sink, F: Sink>()
         → IsProgramRun words status (effects S.Source from to (outputs K.Sink F.Sink old new before after)) }
 {}
 
-/// A command line has one run, whatever the devices are. Where the same bytes are to come, no device failed and memory
-/// was granted, two runs with it have one status, write one text or nothing on the output, and leave the same of the
-/// input; where clap finds no fault in the words, they report one line or nothing.
+/// A command line has one run, whatever the devices are. Suppose the same bytes are to come, no device fails, and
+/// memory is granted. Then two runs have the same status, write the same text or nothing to the output, and leave the
+/// same input. If clap finds no error in the words, they also report the same line or nothing.
 pub fn one_program_run<S: Source, K: Sink, F: Sink, T: Source, L: Sink, G: Sink>()
     ensures { OneProgramRun S.Source K.Sink F.Sink T.Source L.Sink G.Sink }
 {

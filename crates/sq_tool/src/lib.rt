@@ -1,9 +1,9 @@
 //! The program `squitter` over its devices: what it writes is a stated function of what it reads.
 //!
-//! [`run`] does what the words of a command line ask for, and returns the exit status; [`run_live`] does so on an input
-//! that is received by a clock. [`refuse_start`] reports why there are no words. The other names are those that a user
-//! of the program as a library needs: devices, lines, the three commands that read a stream, and the texts of frames.
-//! Each comes from a crate below.
+//! [`run`] does what the words of a command line ask for, and returns the exit status. [`run_live`] does so on a live
+//! input with a clock. [`refuse_start`] reports why there are no words. The other names are those that a user of the
+//! program as a library needs: devices, lines, the three commands that read a stream, and the texts of frames. Each
+//! comes from a crate below.
 #![tactic(auto)]
 
 pub mod laws;

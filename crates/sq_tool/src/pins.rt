@@ -4,8 +4,8 @@ ghost use Rattle.sq_tool.specs.OneProgram.{BrokenProgram};
 
 use sq_devices::{Sink, Source};
 
-/// If a device or memory failed, the program ran a request that the words ask for until then. Or there was no memory to
-/// read the words: then nothing was read or written, and that was reported.
+/// If a device or memory failed, the program ran the request that the words ask for until then. Or there was no
+/// memory to read the words: then it read nothing, wrote nothing to the output, and tried to report `out of memory`.
 pub fn broken_program_exactly<S: Source, K: Sink, F: Sink>()
     ensures { BrokenProgram S.Source K.Sink F.Sink }
 {}

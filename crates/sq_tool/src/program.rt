@@ -13,12 +13,12 @@ use sq_log::RunFault;
 use sq_words::{Refusal, read_request};
 use std::alloc::Global;
 
-/// Does what the words ask for, and returns the exit status: 0 all is good; 1 a line, a frame or a place was refused; 2
-/// a bad command line; 3 a read, write or memory fault. The first of the words is the program's name. The input is
-/// recorded: `feed` reads no clock.
+/// Does what the words ask for, and returns the exit status: 0 success; 1 a line, a frame or a position was refused;
+/// 2 a bad command line, or help; 3 a read, a write or an allocation failed. The first word is the program's name.
+/// The input is recorded: `feed` reads no clock.
 ///
-/// An answer goes to the output, a fault in one line to the sink for faults, as does clap's text for words that it
-/// refuses, and the summary of `feed`; what could not be written there changes no status.
+/// Results go to the output. To the sink `faults` go one line for an error, clap's text for words that it refuses,
+/// and the summary of `feed`. A failure to write there changes no status.
 pub fn run<S: Source, K: Sink, F: Sink>(
     alloc: Global,
     words: &[&str],
@@ -33,8 +33,8 @@ pub fn run<S: Source, K: Sink, F: Sink>(
     run_live(alloc, words, &mut NoClock, input, output, faults)
 }
 
-/// Does what [`run`] does, on an input that is received by a clock. `feed` reads the clock after each get; no other
-/// command does.
+/// Does what [`run`] does, on a live input with a clock. `feed` reads the clock after each get; no other command
+/// reads it.
 pub fn run_live<C: Clock, S: Source, K: Sink, F: Sink>(
     alloc: Global,
     words: &[&str],
@@ -50,7 +50,7 @@ pub fn run_live<C: Clock, S: Source, K: Sink, F: Sink>(
     follow(alloc, words, clock, input, output, faults).exit_status()
 }
 
-// Does what the words ask for, or reports why they are not read.
+// Does what the words ask for, or reports why they cannot be read.
 fn follow<C: Clock, S: Source, K: Sink, F: Sink>(
     alloc: Global,
     words: &[&str],
@@ -78,8 +78,8 @@ fn refuse_words<F: Sink>(report_text: &str, faults: &mut F) -> Status
     Status::Misused
 }
 
-/// Reports in one line why the program cannot begin, `bad words` or `out of memory`, and returns the exit status, 2 or
-/// 3. A failure of the sink changes no status.
+/// Reports in one line why the program cannot start, `bad words` or `out of memory`. Returns the exit status, 2 or 3.
+/// A failure of the sink changes no status.
 pub fn refuse_start<F: Sink>(trouble: Trouble, faults: &mut F) -> u8
     ensures status { result ≡ exit_status (trouble_status trouble) }
     ensures told { WroteOrFailed (written_on F.Sink faults.old faults.new) (trouble_text trouble ++ codes "\n") }
@@ -87,7 +87,7 @@ pub fn refuse_start<F: Sink>(trouble: Trouble, faults: &mut F) -> u8
     report_trouble(trouble, faults).exit_status()
 }
 
-// Reports why the program cannot begin.
+// Reports why the program cannot start.
 fn report_trouble<F: Sink>(trouble: Trouble, faults: &mut F) -> Status
     ensures status { result ≡ trouble_status trouble }
     ensures told { WroteOrFailed (written_on F.Sink faults.old faults.new) (trouble_text trouble ++ codes "\n") }

@@ -1,4 +1,4 @@
--- Words in which clap finds no fault ask for a command with its values.
+-- Words in which clap finds no error ask for a command with its values.
 use Rattle.std.proofs.Common.{◌≡◌, ◌∙◌, ◌&&◌, ◌||◌, ℕ, Bool, true, false, true≢false, List, [], ◌∷◌, Option, None, Some}
 use Rattle.std.proofs.Common.{ap, arith, sym, subst, inl, inr, refl, rules, is_some, not}
 use Rattle.std.specs.Prelude.{⊤, if◌then◌else◌, unwrap_or, find, fold, option_map, codes}
@@ -28,7 +28,7 @@ use Rattle.sq_commands.specs.Requests.{Reply, Show, Encode, Local, Pair, Check, 
 use Rattle.sq_words.proofs.Full.{AllFull, Each, IsSingle, Full-walk, Full-settled, Full-defaults, find-each, given_value}
 use Rattle.sq_words.proofs.Full.{or_else-nil}
 
--- what was searched for passes the test
+-- an element that is found passes the test
 find-passes : {X : Type 0} (p : X → Bool) (xs : List X) (x : X) → find p xs ≡ Some x → p x ≡ true
 find-passes p [] x is = let bad : ⊥ = cc in absurd bad
 find-passes p (y ∷ ys) x is = pick (p y) refl is (find-passes p ys x)
@@ -85,9 +85,9 @@ leaf_given s single words none =
     (Full-walk s single [] (walk_from nothing_held) words walks.0 tt)) in
     required_given s.rules _ full (past_negation s.subcommand_negates_reqs _ (check_kinds-nil _ _ _ defaults.1).1)
 
--- ---- the words before the command: none of them asks for help
+-- ---- the words before the command: they do not ask for help
 
--- no help was asked for by its command
+-- help was not asked for by its command
 abbrev pub NoHelp : Option (Text × List Text) → Type 0
 NoHelp None = ⊤
 NoHelp (Some p) = bytes_eq p.0 (codes "help") ≡ false
@@ -181,7 +181,7 @@ NoHelp-walk s enabled names w (word ∷ words) none quiet =
 
 -- ---- the command that was entered
 
--- entered with no fault the command is asked for, with its values
+-- if the command is entered without an error, it is asked for with its values
 abbrev pub Serves : Shape → Type 0
 Serves s = (name : Text) (words : List Text) → answers_to name (label_of s) ≡ true → bytes_eq name (codes "help") ≡ false
     → level_fault s [] nothing_held words false [] ≡ []
@@ -193,7 +193,7 @@ pub serve : (s : Shape) → Each IsSingle s.rules
 serve s single values name words answers quiet none =
     values (rows_after s.rules [] words) (leaf_given s single words none)
 
--- what the words ask of a program whose commands all serve
+-- the request of the words, for a program with only commands that serve
 record Found (a : App) (stop : Option (Text × List Text)) : Type 0 where
   pub asked : Asked
   pub rows : List Row

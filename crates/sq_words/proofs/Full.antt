@@ -1,4 +1,4 @@
--- Where clap finds no fault, each argument in its table has a value.
+-- If clap finds no error, each argument in its table has a value.
 use Rattle.std.proofs.Common.{◌≡◌, ◌∙◌, ◌⊎◌, ◌<◌, ◌++◌, ◌&&◌, ℕ, zero, suc, Bool, true, false, List, [], ◌∷◌, Option}
 use Rattle.std.proofs.Common.{None, Some, length, ap, ap₂, sym, subst, inl, inr, arith, refl, is_some}
 use Rattle.std.specs.Prelude.{⊤, if◌then◌else◌, unwrap_or, find, fold, slice_get, option_and_then, encode_utf8, drop}
@@ -36,7 +36,7 @@ abbrev pub IsSingle : Rule → Type 0
 IsSingle a = ((action_of a ≡ Set) × ((unwrap_or_range a.range).start_inclusive ≡ 1) × (most_values a ≡ 1))
     ⊎ ((action_of a ≡ Help) ⊎ ((action_of a ≡ SetTrue) × (0 < length a.missing)))
 
--- a fact of each element
+-- a property of each element
 abbrev pub Each : {X : Type 0} → (X → Type 0) → List X → Type 0
 Each P [] = ⊤
 Each P (x ∷ xs) = P x × Each P xs
@@ -45,7 +45,7 @@ pub or_else-nil : (xs ys : Kinds) → or_else xs ys ≡ [] → (xs ≡ []) × (y
 or_else-nil [] ys is = (refl, is)
 or_else-nil (k ∷ ks) ys is = let bad : ⊥ = cc in absurd bad
 
--- what is found is one of the elements
+-- an element that is found has any property that each element has
 pub find-each : {X : Type 0} (P : X → Type 0) (p : X → Bool) (xs : List X) (x : X) → Each P xs → find p xs ≡ Some x
     → P x
 find-each P p [] x each is = let bad : ⊥ = cc in absurd bad
@@ -86,7 +86,7 @@ Full-with_values id how s values rows some all =
 Full-without : (id : Text) (rows : List Row) → AllFull rows → AllFull (without id rows)
 Full-without id rows all = Full-at_row id (λ _. []) [] rows (λ r full. tt) tt all
 
--- one value is wanted, so that none is a fault
+-- one value is needed, so no value would be an error
 some_values : (a : Rule) (values : List Text) → range_kinds 1 1 (length values) ≡ []
     → 0 < length (values_or_missing a values)
 some_values a [] is = let bad : ⊥ = cc in absurd bad
@@ -161,7 +161,7 @@ module _ (c : List Rule) (again : Bool) (single : Each IsSingle c) where
       by true none = Full-option a v h (one a refl) none all
       by false none = Full-flag a v h _ (one a refl) none all
 
-  -- what follows in a bundle of flags keeps the rows full
+  -- the rest of a bundle of flags keeps the rows full
   abbrev Goes : (Held → Held × Outcome) → (Held → Kinds) → Type 0
   Goes met fault = (h : Held) → fault h ≡ [] → AllFull h.rows → AllFull (met h).0.rows
 
@@ -199,7 +199,7 @@ module _ (c : List Rule) (again : Bool) (single : Each IsSingle c) where
       Full-bundle_step (slice_get (chars flags) 0) flags skip so_far h (bundle_met c k) (flags_fault c again k)
       (λ t n o held. Full-bundle_met k t n o held) none all
 
--- a word that is no flag is held, and no row changes
+-- a word that is not a flag is held, and no row changes
 Full-option_word : (o : Option Rule) (id word : Text) (h : Held) → AllFull h.rows
     → AllFull (option_word o id word h).0.rows
 Full-option_word None id word h all = all
@@ -312,7 +312,7 @@ Full-defaults (a ∷ more) rows all =
     Full-defaults more _ (Full-if (has_row a.id rows) rows (default_rows a.id (reading_by a) a.defaults rows) all
     (Full-default a a.defaults rows all))
 
--- what is given has a value
+-- an argument that is given has a value
 pub given_value : (id : Text) (rows : List Row) → AllFull rows → is_given id rows ≡ true
     → (v : Text) × (first_of id rows ≡ Some v)
 given_value id rows all is = by (find (λ r. bytes_eq r.id id) rows) refl is

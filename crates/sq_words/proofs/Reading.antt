@@ -1,4 +1,4 @@
--- From what clap says of the words to what they ask for.
+-- From clap's contracts about the words to what the words ask for.
 use Rattle.std.proofs.Common.{◌≡◌, ◌≢◌, ◌∙◌, true, List, [], Option, None, Some, ap, sym, subst}
 use Rattle.std.proofs.Common.{refl, ap₂, inl, inr}
 use Rattle.std.specs.Prelude.{option_map, unwrap_or}
@@ -16,31 +16,31 @@ use Rattle.sq_commands.specs.Requests.{Asked, command_name}
 use Rattle.sq_words.specs.CommandLine.{HasValues}
 use Rattle.sq_words.specs.Requests.{Asks, IsAsked}
 
--- clap says of this command line what it makes of the words
+-- clap's contracts say how this command line is read
 pub squitter-is_simple : is_simple squitter ≡ true
 unfolding clap_on_literals
 squitter-is_simple = refl
 
--- clap says of this command line which words it refuses
+-- clap's contracts say which words of this command line are refused
 pub squitter-is_free : is_simple_and_free squitter ≡ true
 unfolding clap_on_literals
 squitter-is_free = refl
 
--- ---- what clap answers
+-- ---- clap's results
 
--- where nothing is at fault only memory can fail
+-- if clap finds no error, only memory can fail
 pub fails_by_memory : (kinds : Kinds) (e : Error) → kinds ≡ [] → HasKind kinds e → kind_of e ≡ kind.OutOfMemory
 fails_by_memory kinds e none has = elim (subst (λ (k : Kinds). HasKind k e) none has) [
   | inl memory ↦ memory
   | inr never ↦ absurd never
 ]
 
--- what clap says of the words where it accepted them
+-- clap's contract about words that it accepted
 pub record Accepted (words : List Text) (name : Text) (rows : List Row) : Type 0 where
   pub accepted : fault_of squitter words ≡ []
   pub entered : subcommand_of squitter words ≡ Some (name, rows)
 
--- what is asked of the command that clap entered is what the words ask for
+-- a request of the command that clap entered is what the words ask for
 pub asks_of : (words : List Text) (name : Text) (rows : List Row) (asked : Asked) → Accepted words name rows
     → IsAsked name rows asked → Asks words asked
 asks_of words name rows asked clap is = record {
@@ -50,7 +50,7 @@ asks_of words name rows asked clap is = record {
   values = is.values;
 }
 
--- and where nothing is asked of it the words ask for nothing
+-- if the command that clap entered has no request, the words ask for nothing
 pub asks_none : (words : List Text) (name : Text) (rows : List Row) → Accepted words name rows
     → ((asked : Asked) → ¬ IsAsked name rows asked)
     → (asked : Asked) → ¬ Asks words asked
@@ -72,7 +72,7 @@ pair_of f (Some b) name rows named has =
     let pair : Text → List Row → Text × List Row = λ n r. (n, r) in
     ap Some (sym (ap₂ pair at_name at_rows))
 
--- what clap's matches say of the words
+-- clap's matches, as a statement about the words
 pub accepted_by : (app : App) (words : List Text) (m : ArgMatches) (name : Text) (rows : List Row) → app ≡ squitter
     → (is_simple_and_free app ≡ true → fault_of app words ≡ []) → HasMatchesOf app words m
     → Some name ≡ subcommand_name_of m → Some rows ≡ option_map (λ p. p.1) (subcommand_rows_of m)
@@ -83,7 +83,7 @@ accepted_by app words m name rows is kinds matches named has = record {
       ∙ pair_of _ (out-ArgMatches m).subcommand name rows named has;
 }
 
--- an error that is not memory's comes only where clap finds a fault
+-- an error other than out of memory occurs only if clap finds an error in the words
 pub refused_by : (app : App) (words : List Text) (e : Error) → app ≡ squitter
     → (is_simple_and_free app ≡ true → HasKind (fault_of app words) e) → kind_of e ≢ kind.OutOfMemory
     → fault_of squitter words ≢ []
@@ -93,11 +93,11 @@ refused_by app words e is fails other_kind none =
 
 -- ---- one value
 
--- what `get_str` gives is the value in clap's table
+-- `get_str` returns the value in clap's table
 pub value_is : (f : Found) (id : Text) (o : Option Text) → o ≡ first_value f id → first_of id (rows_of f) ≡ o
 value_is f id o is = sym (first_value-rows f id) ∙ sym is
 
--- a value is not there and there
+-- a value cannot be both absent and present
 pub no_value : {X : Type 0} (f : Found) (id value : Text) → None ≡ first_value f id
     → first_of id (rows_of f) ≡ Some value → X
 no_value f id value none some = let there : first_value f id ≡ Some value = first_value-rows f id ∙ some in cc

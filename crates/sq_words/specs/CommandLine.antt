@@ -1,23 +1,23 @@
--- The command line, in clap's words: its commands, each with its arguments and options, and their values.
+-- The command line, in clap's terms: its commands, each with its arguments and options, and their values.
 use Rattle.std.specs.Prelude.{◌≡◌, Bool, List, None, Option, Some, codes, false, true}
 use Rattle.std.specs.Str.{bytes_eq}
 use Rattle.clap.specs.declared.builder.action.ArgAction.TheVariants.{SetTrue}
 use Rattle.clap.specs.Words.{App, Row, Rule, Text, first_of, new_app, new_rule, with_rule, with_subcommand}
 use Rattle.sq_commands.specs.Requests.{Asked, Reply, Show, Encode, Local, Pair, Check, Track, Feed}
 
--- what has to be there
+-- a required argument or option
 abbrev pub required : Rule → Rule
 required r = record r { required = true }
 
--- a word at its place
+-- a positional argument
 abbrev pub argument : Text → Rule
 argument name = required (new_rule name)
 
--- an option with one value, `--name VALUE` or `--name=VALUE`, which help calls by one name; it may be left out
+-- an option with one value, `--name VALUE` or `--name=VALUE`, with one name for the value in help; it may be left out
 abbrev pub option : Text → Rule
 option name = record (new_rule name) { long = Some name; value_names = 1 }
 
--- an option with a value, which has to be there
+-- a required option with a value
 abbrev pub required_option : Text → Rule
 required_option name = required (option name)
 
@@ -64,7 +64,7 @@ abbrev pub feed : App
 feed = with_rule (with_rule (with_rule (new_app (codes "feed")) (option (codes "format"))) (option (codes "reorder")))
     (flag (codes "all"))
 
--- the program with no command yet, one being required; it has a version, for which `--version` asks
+-- the program before any command is added; it requires a command, and has a version for `--version`
 abbrev pub program : App
 program = let named = new_app (codes "squitter") in
     record named { top = record named.top { has_version = true; subcommand_required = true } }
@@ -73,7 +73,7 @@ program = let named = new_app (codes "squitter") in
 abbrev pub frame_commands : App
 frame_commands = with_subcommand (with_subcommand (with_subcommand program show.top) encode.top) local.top
 
--- the program with its commands on frames, and on lines of them
+-- the program with its commands on one or two frames, and on lines of frames
 abbrev pub line_commands : App
 line_commands = with_subcommand (with_subcommand frame_commands pair.top) check.top
 
@@ -83,7 +83,7 @@ squitter = with_subcommand (with_subcommand line_commands track.top) feed.top
 
 -- ---- the values
 
--- whether a flag is given: clap has the value `true` for it then, and otherwise `false`
+-- the flag is given: clap then has the value `true` for it, and otherwise `false`
 abbrev pub is_given : Option Text → Bool
 is_given None = false
 is_given (Some value) = bytes_eq value (codes "true")

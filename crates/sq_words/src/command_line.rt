@@ -1,5 +1,5 @@
-//! The command line: of each command its help, its arguments and options in clap's calls, and the request that its
-//! values are. clap puts the usage and the list of options between the texts of a command.
+//! The command line: for each command, its help, its arguments and options as calls of clap, and the request for its
+//! values. clap puts the usage and the list of options between the texts of a command.
 ghost use Rattle.std.specs.Prelude.{◌≡◌, IfNone, IfOk, IfSome, codes, false, option_copied};
 ghost use Rattle.clap.specs.Words.{app_of, first_of, found_of, new_app, new_rule, rows_of, rule_of};
 ghost use Rattle.clap.specs.declared.builder.Command.TheViews.{out-Command as fields_of};
@@ -14,7 +14,7 @@ use clap::{Arg, ArgAction, ArgMatches, Command};
 use sq_commands::{EncodeWords, FeedWords, ReplyRequest, Request, TrackWords};
 use std::alloc::{AllocError, Global};
 
-/// The command line of the program.
+/// Returns the command line of the program.
 pub(crate) fn squitter_command<'a>(alloc: Global) -> Result<Command<'a>, AllocError>
     ensures { IfOk result (λ c. app_of c ≡ squitter) }
 {
@@ -23,7 +23,7 @@ pub(crate) fn squitter_command<'a>(alloc: Global) -> Result<Command<'a>, AllocEr
         .subcommand(feed_command(alloc)?)
 }
 
-// The program with its commands on frames, and on lines of them.
+// Returns the program with its commands on one or two frames, and on lines of frames.
 fn line_commands<'a>(alloc: Global) -> Result<Command<'a>, AllocError>
     ensures { IfOk result (λ c. app_of c ≡ line_program) }
 {
@@ -32,7 +32,7 @@ fn line_commands<'a>(alloc: Global) -> Result<Command<'a>, AllocError>
         .subcommand(check_command(alloc)?)
 }
 
-// The program with its commands on one frame.
+// Returns the program with its commands on one frame.
 fn frame_commands<'a>(alloc: Global) -> Result<Command<'a>, AllocError>
     ensures { IfOk result (λ c. app_of c ≡ frame_program) }
 {
@@ -42,7 +42,7 @@ fn frame_commands<'a>(alloc: Global) -> Result<Command<'a>, AllocError>
         .subcommand(local_command(alloc)?)
 }
 
-/// What the values of the command with this name ask for.
+/// Returns the request that the values of the command with this name ask for.
 pub(crate) fn request_of<'a>(name: &'a str, values: &ArgMatches<'a>) -> Option<Request<'a>>
     ensures some { IfSome result (λ request. IsAsked name.entry.now (rows_of (found_of values.now))
         (asked_by request)) }
@@ -78,10 +78,10 @@ Examples:
   squitter track --help",
 };
 
-// What `--version` says after the program's name.
+// The text after the program's name that `--version` prints.
 const VERSION: &str = "0.1.0";
 
-// The program with no command yet, one being required.
+// Returns the program before any command is added. It requires a command.
 fn program<'a>(alloc: Global) -> Command<'a>
     ensures app { app_of result ≡ no_commands }
     ensures own { (fields_of result).has_globals ≡ false }
@@ -140,7 +140,7 @@ fn encode_command<'a>(alloc: Global) -> Result<Command<'a>, AllocError>
         .arg(required_option(alloc, "lon", "DEGREES", LON))
 }
 
-// The options of `encode` up to the address.
+// Returns `encode` with its options up to the address.
 fn encode_head<'a>(alloc: Global) -> Result<Command<'a>, AllocError>
     ensures app { IfOk result (λ c. app_of c ≡ encode_first) }
     ensures own { IfOk result (λ c. (fields_of c).has_globals ≡ false) }
@@ -335,7 +335,7 @@ The input is one of these; without --format, its first bytes show which one:
   avr     frames as '*8D..;', as from its port 30002, bare, or with a clock after '@' or '<'
   csv     rows of time (s), icao24, rawmsg; a first row may name the columns in another order
   log     lines that 'squitter track' reads
-If the input has no frames, such as SBS text or a compressed file, an error says at once what it is,
+If its bytes show none of them, as those of SBS text or a compressed file, an error says what it is,
 and the status is 1. Otherwise standard error has the counts of frames at the end, without those of 0:
   N written                    lines that were printed
   N of other downlink formats  messages but DF17, and how many there are of each format
@@ -378,7 +378,7 @@ fn value_of<'a>(values: &ArgMatches<'a>, name: &str) -> Option<&'a str>
     values.get_str(name)
 }
 
-// Whether a flag with this value of clap is given.
+// Returns whether this value of clap means that the flag is given.
 fn is_given(value: Option<&str>) -> bool
     ensures { result ≡ is_given_as (option_copied value.entry) }
 {
@@ -388,7 +388,7 @@ fn is_given(value: Option<&str>) -> bool
     }
 }
 
-// What help says of arguments and options, some of which commands share.
+// The help of arguments and options; commands share some of these texts.
 const FRAME: &str = "28 hexadecimal digits, bare or between '*' and ';'";
 
 const OLDER: &str = "The frame received first: 28 hexadecimal digits, bare or between '*' and ';'";
@@ -433,7 +433,7 @@ const LIMIT: &str = "The most aircraft at once, from 1 to 4294967295 [default: 1
 const WINDOW: &str = "The greatest age in milliseconds of a frame to pair or a fix to
 follow, from 0 to 18446744073709551615 [default: 10000]";
 
-// The texts of a command: its sentence, its usage, and what follows the list of its options.
+// The texts of a command: its description, its usage, and the text after the list of its options.
 #[derive(Clone, Copy)]
 struct CommandHelp {
     about: &'static str,
@@ -441,7 +441,7 @@ struct CommandHelp {
     after: &'static str,
 }
 
-// A command with its help.
+// Returns a command with its help.
 fn command<'a>(alloc: Global, name: &'a str, help: CommandHelp) -> Command<'a>
     ensures app { app_of result ≡ new_app name.entry.now }
     ensures own { (fields_of result).has_globals ≡ false }
@@ -452,7 +452,7 @@ fn command<'a>(alloc: Global, name: &'a str, help: CommandHelp) -> Command<'a>
         .after_help(help.after)
 }
 
-// A word at its place.
+// Returns a positional argument.
 fn argument<'a>(alloc: Global, name: &'a str, help: &'a str) -> Arg<'a>
     ensures rule { rule_of result ≡ required (new_rule name.entry.now) }
     ensures here { result.global ≡ false }
@@ -460,7 +460,7 @@ fn argument<'a>(alloc: Global, name: &'a str, help: &'a str) -> Arg<'a>
     Arg::new(alloc, name).required(true).help(help)
 }
 
-// `--name VALUE` or `--name=VALUE`, where it is given; help calls the value by a name of its own.
+// Returns an option that may be left out, `--name VALUE` or `--name=VALUE`. Help has a name of its own for the value.
 fn option<'a>(alloc: Global, name: &'a str, value: &'a str, help: &'a str) -> Arg<'a>
     ensures rule { rule_of result ≡ option_rule name.entry.now }
     ensures here { result.global ≡ false }
@@ -471,7 +471,7 @@ fn option<'a>(alloc: Global, name: &'a str, value: &'a str, help: &'a str) -> Ar
         .help(help)
 }
 
-// `--name`.
+// Returns a flag, `--name`.
 fn flag<'a>(alloc: Global, name: &'a str, help: &'a str) -> Arg<'a>
     ensures rule { rule_of result ≡ flag_rule name.entry.now }
     ensures here { result.global ≡ false }
@@ -482,7 +482,7 @@ fn flag<'a>(alloc: Global, name: &'a str, help: &'a str) -> Arg<'a>
         .help(help)
 }
 
-// `--name VALUE` or `--name=VALUE`, which has to be there.
+// Returns a required option, `--name VALUE` or `--name=VALUE`.
 fn required_option<'a>(alloc: Global, name: &'a str, value: &'a str, help: &'a str) -> Arg<'a>
     ensures rule { rule_of result ≡ required (option_rule name.entry.now) }
     ensures here { result.global ≡ false }

@@ -1,8 +1,8 @@
 //! The words of a command line, read by clap as a request.
 //!
 //! [`read_request`] returns the command that the words name, with its values, exactly as clap reads them. It refuses
-//! words only if clap finds a fault in them. Words without a fault ask for one thing, as [`laws`] says. No type of clap
-//! leaves this crate.
+//! words only if clap finds an error in them. Words without an error ask for exactly one thing, as [`laws`] states.
+//! No type of clap leaves this crate.
 #![tactic(auto)]
 
 mod command_line;

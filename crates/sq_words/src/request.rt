@@ -16,7 +16,7 @@ pub enum Refusal {
     /// An allocation failed.
     #[error("{text}", text = RunFault::Memory.label())]
     Memory,
-    /// clap found a fault in the words, or they ask for help: clap's text without its tips, in whole lines.
+    /// clap found an error in the words, or they ask for help: clap's text without its tips, in whole lines.
     #[error("{0}")]
     Words(String),
 }
@@ -31,10 +31,10 @@ impl From<AllocError> for Refusal {
     }
 }
 
-/// The command that the words name, with its values. The first of the words is the program's name.
+/// Returns the command that the words name, with its values. The first word is the program's name.
 ///
-/// `Words` comes only for words in which clap finds a fault, a request for help among them, and
-/// `Memory` where an allocation fails.
+/// Returns `Words` only if clap finds an error in the words, or if they ask for help, and `Memory` if an allocation
+/// fails.
 pub fn read_request<'a>(alloc: Global, words: &'a [&'a str]) -> Result<Request<'a>, Refusal>
     ensures asks { IfOk result (λ request. Asks (map (λ word. word.now) words.entry.now) (asked_by request)) }
     ensures refused { IfErr result (λ refusal. (text : _) → refusal ≡ Refusal.Words text

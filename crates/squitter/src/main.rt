@@ -12,7 +12,7 @@ use std::alloc::{AllocError, Global};
 use std::io::{Read, Write};
 use std::process::ExitCode;
 
-// How often the program reads from its input at most.
+// The most reads of the input.
 const GETS: u64 = 1_000_000_000_000;
 
 fn main(rt: HostRuntime) -> ExitCode {
@@ -24,7 +24,7 @@ fn main(rt: HostRuntime) -> ExitCode {
     ExitCode::from(status)
 }
 
-// Runs the program on the words of the command line, and answers its exit status.
+// Runs the program on the words of the command line, and returns its exit status.
 fn start<F: Sink>(rt: &HostRuntime, faults: &mut F) -> Result<u8, Trouble> {
     let alloc = rt.alloc();
     let arguments = arguments(rt)?;
@@ -43,7 +43,7 @@ fn start<F: Sink>(rt: &HostRuntime, faults: &mut F) -> Result<u8, Trouble> {
     ))
 }
 
-// The input, of which as many gets are made as any source may answer.
+// Returns the input, with as many gets as any source may have.
 fn input_of<'a, R: Read + Drop, W: Write + Drop>(
     alloc: Global,
     reader: R,

@@ -7,7 +7,7 @@ use Rattle.std.specs.Str.{bytes_eq}
 use Rattle.std.proofs.lemmas.Bool.{false≢true}
 use Rattle.std.proofs.lemmas.Slice.Eq.{bytes_eq-Decides}
 use Rattle.std.proofs.lemmas.List.Elements.{All-cons, All-head, All-nil, All-tail}
-use Rattle.sq_devices.specs.Changes.{Sent, WroteLast}
+use Rattle.sq_devices.specs.Changes.{Sent}
 use Rattle.sq_devices.specs.Clocks.{recorded}
 use Rattle.sq_feed.specs.Ears.{Hears, ear_after, ear_after_all, told_of, told_of_all}
 use Rattle.sq_feed.specs.Feeds.{AreFed, Fed, Feeding, bytes_in, items_in, last_fed}
@@ -18,17 +18,17 @@ use Rattle.sq_feed.specs.declared.message.Timed.{Timed}
 use Rattle.sq_feed.proofs.Feeding.{feeds_the_whole}
 use Rattle.sq_commands.specs.Requests.{AskedFeed}
 use Rattle.sq_commands.specs.declared.arguments.ArgumentFault.{ArgumentFault}
-use Rattle.sq_commands.specs.declared.status.Status.{Status}
-use Rattle.sq_commands.specs.Faults.{IsMisuse, misused}
+use Rattle.sq_commands.specs.declared.status.Status.TheVariants.{Broken}
+use Rattle.sq_commands.specs.Faults.{IsMisuse}
 use Rattle.sq_commands.specs.Feed.{HasFedAll, IsFeedFault, IsFeedOptions, IsFeedRun, IsFeedRunIn, IsNoSource, IsReorder}
 use Rattle.sq_commands.specs.Feed.{IsSourceWord, all_lines, all_squitters, arrivals_in, end_by, end_of, lines_whole}
-use Rattle.sq_commands.specs.Feed.{manner_of, squitters_in, start_of, status_at_end, text_at_end}
+use Rattle.sq_commands.specs.Feed.{feed_reply, manner_of, squitters_in, start_of}
 use Rattle.sq_commands.specs.declared.feed.FeedEnd.{FeedEnd}
 use Rattle.sq_commands.specs.declared.feed.FeedOptions.{FeedOptions}
 use Rattle.sq_commands.proofs.FaultLemmas.{one_feed_fault}
 use Rattle.sq_commands.specs.Outputs.{Effects}
-use Rattle.sq_commands.proofs.OneRuns.Alike.{IsWhole, one_delivery, wrote_whole}
-use Rattle.sq_commands.proofs.OneRuns.Lines.{RunAlike, left_alike, took_bytes}
+use Rattle.sq_commands.specs.Replies.{ReplyParts}
+use Rattle.sq_commands.proofs.OneRuns.Lines.{OneReply, not_broken_off, one_misuse, took_bytes}
 
 -- ---- items of several calls
 
@@ -188,67 +188,51 @@ no_options words options fault is (inr (good, (own, none))) = none options.reord
 
 -- ---- runs
 
--- the line that is reported at the end
-abbrev end_line : FeedEnd → List ℕ
-end_line end = text_at_end end.counts end.stranger ++ codes "\n"
-
-module _ (a b : Status) (d e : Effects) (m : IsWhole a d.outputs) (n : IsWhole b e.outputs) (bytes : List ℕ)
-    (d_is : d.input.before ≡ Some bytes) (e_is : e.input.before ≡ Some bytes) where
-  -- two runs of `feed` with the same options are alike
-  one_feed_run_in : (options : FeedOptions) → IsFeedRunIn options recorded a d → IsFeedRunIn options recorded b e
-      → RunAlike a b d e
-  one_feed_run_in options (Err fault, fed, ended) y = absurd (m.unbroken ended.0)
-  one_feed_run_in options (Ok tally, fed, ended) (Err fault, fed', ended') = absurd (n.unbroken ended'.0)
-  one_feed_run_in options (Ok tally, (once, inr (live, known, early)), ended) y = absurd (false≢true live)
-  one_feed_run_in options (Ok tally, (once, inl took), ended) (Ok tally', (once', inr (live, known, early)), ended') =
+module _ (d e : Effects) (bytes : List ℕ) (d_is : d.input.before ≡ Some bytes) (e_is : e.input.before ≡ Some bytes)
+    (x y : ReplyParts) (m : x.status ≢ Broken) (n : y.status ≢ Broken) where
+  -- two runs of `feed` with the same options have one reply
+  one_feed_run_in : (options : FeedOptions) → IsFeedRunIn options recorded x d.input d.outputs.output
+      → IsFeedRunIn options recorded y e.input e.outputs.output → OneReply x y d e
+  one_feed_run_in options (Err fault, fed, ended) other = absurd (not_broken_off x fault m ended)
+  one_feed_run_in options (Ok end, fed, ended) (Err fault, fed', ended') =
+      absurd (not_broken_off y fault n ended')
+  one_feed_run_in options (Ok end, (once, inr (live, known, early)), ended) other = absurd (false≢true live)
+  one_feed_run_in options (Ok end, (once, inl took), ended) (Ok end', (once', inr (live, known, early)), ended') =
       absurd (false≢true live)
-  one_feed_run_in options (Ok tally, (once, inl took), ended) (Ok tally', (once', inl took'), ended') =
-      let x = took_bytes d.input bytes (HasFedAll options recorded tally d.outputs.output) d_is took in
-      let y = took_bytes e.input bytes (HasFedAll options recorded tally' e.outputs.output) e_is took' in
-      alike x.0 y.0 x.1 y.1
+  one_feed_run_in options (Ok end, (once, inl took), ended) (Ok end', (once', inl took'), ended') =
+      let here = took_bytes d.input bytes (HasFedAll options recorded end d.outputs.output) d_is took in
+      let there = took_bytes e.input bytes (HasFedAll options recorded end' e.outputs.output) e_is took' in
+      alike here.0 there.0 here.1 there.1
     where
       alike : d.input.after ≡ Some [] → e.input.after ≡ Some []
-          → HasFedAll options recorded tally d.outputs.output bytes
-          → HasFedAll options recorded tally' e.outputs.output bytes → RunAlike a b d e
+          → HasFedAll options recorded end d.outputs.output bytes
+          → HasFedAll options recorded end' e.outputs.output bytes → OneReply x y d e
       alike d_end e_end (calls, arrival, fed, whole, zero, (sent, counted))
           (calls', arrival', fed', whole', zero', (sent', counted')) =
           let heard = told_of_all 0 (start_of options recorded).ear (items_as options.format bytes) in
           let text = lines_whole options.reorder heard in
           let same = whole_lines options calls arrival bytes fed whole zero in
           let same' = whole_lines options calls' arrival' bytes fed' whole' zero' in
-          let tally_is = counted ∙ whole_end options calls arrival bytes fed whole zero in
-          let tally_is' = counted' ∙ whole_end options calls' arrival' bytes fed' whole' zero' in
-          let line = end_line tally in
-          let one : tally' ≡ tally = tally_is' ∙ sym tally_is in
-          let line_is : end_line tally' ≡ line = ap end_line one in (
-            (
-              ended.0 ∙ ap (λ (t : FeedEnd). status_at_end t.stranger) (sym one) ∙ sym ended'.0,
-              inr (
-                text,
-                (subst (Sent d.outputs.output) same sent, once),
-                (subst (Sent e.outputs.output) same' sent', once'),
-              ),
-              inr (
-                line,
-                wrote_whole d.outputs.reports line m.reported ended.1,
-                subst (WroteLast e.outputs.reports) line_is
-                    (wrote_whole e.outputs.reports (end_line tally') n.reported ended'.1),
-              ),
+          let end_is = counted ∙ whole_end options calls arrival bytes fed whole zero in
+          let end_is' = counted' ∙ whole_end options calls' arrival' bytes fed' whole' zero' in (
+            ended ∙ ap (λ (t : FeedEnd). feed_reply (Ok t)) (end_is ∙ sym end_is') ∙ sym ended',
+            inr (
+              text,
+              (subst (Sent d.outputs.output) same sent, once),
+              (subst (Sent e.outputs.output) same' sent', once'),
             ),
             d_end ∙ sym e_end,
           )
 
-  -- two runs of `feed` are alike
-  pub one_feed_run : (words : AskedFeed) → IsFeedRun words recorded a d → IsFeedRun words recorded b e
-      → RunAlike a b d e
-  one_feed_run words (inl (f, f_is, x)) (inl (g, g_is, y)) =
-      one_feed_run_in f x
-      (subst (λ h. IsFeedRunIn h recorded b e) (sym (one_options words f g f_is g_is)) y)
-  one_feed_run words (inl (f, f_is, x)) (inr (took, (fault, bad, y))) = absurd (no_options words f fault f_is bad)
-  one_feed_run words (inr (took, (fault, bad, x))) (inl (g, g_is, y)) = absurd (no_options words g fault g_is bad)
-  one_feed_run words (inr (took, (fault, bad, x))) (inr (took', (fault', bad', y))) =
-      let same = one_feed_fault words fault fault' bad bad' in (
-        one_delivery a b d.outputs e.outputs m n (misused fault) x
-            (subst (λ f. IsMisuse f b e.outputs) (sym same) y),
-        left_alike d.input e.input bytes d_is e_is took took',
-      )
+  -- two runs of `feed` have one reply
+  pub one_feed_run : (words : AskedFeed) → IsFeedRun words recorded x d.input d.outputs.output
+      → IsFeedRun words recorded y e.input e.outputs.output → OneReply x y d e
+  one_feed_run words (inl (f, f_is, run)) (inl (g, g_is, run')) =
+      one_feed_run_in f run
+      (subst (λ h. IsFeedRunIn h recorded y e.input e.outputs.output) (sym (one_options words f g f_is g_is)) run')
+  one_feed_run words (inl (f, f_is, run)) (inr (fault, bad, misuse)) = absurd (no_options words f fault f_is bad)
+  one_feed_run words (inr (fault, bad, misuse)) (inl (g, g_is, run)) = absurd (no_options words g fault g_is bad)
+  one_feed_run words (inr (fault, bad, misuse)) (inr (fault', bad', misuse')) =
+      one_misuse fault x y d e bytes d_is e_is misuse
+      (subst (λ (h : ArgumentFault). IsMisuse h y e.input e.outputs.output)
+      (sym (one_feed_fault words fault fault' bad bad')) misuse')

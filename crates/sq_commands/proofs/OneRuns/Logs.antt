@@ -1,12 +1,12 @@
 -- Of one log two runs of `track` write the same.
-use Rattle.std.proofs.Common.{◌≡◌, ◌∙◌, ◌∷◌, ℕ, [], List, Option, None, Some, Result, Ok, Err, ap, ap₂, sym, subst, inl}
+use Rattle.std.proofs.Common.{◌≡◌, ◌≢◌, ◌∙◌, ◌∷◌, ℕ, [], List, Option, None, Some, Result, Ok, Err, ap, ap₂, sym, subst, inl}
 use Rattle.std.proofs.Common.{inr}
 use Rattle.sq_message.specs.declared.received.Received.{Received}
 use Rattle.sq_text.specs.Timed.{TimedReader}
 use Rattle.sq_log.specs.Answers.{tally_of}
 use Rattle.sq_log.specs.Content.{Answer, answer_by}
 use Rattle.sq_log.specs.Lines.{lines_of}
-use Rattle.sq_log.specs.declared.tallies.Tally.{Tally}
+use Rattle.sq_log.specs.declared.log.Tally.{Tally}
 use Rattle.sq_commands.specs.Requests.{AskedTrack}
 use Rattle.sq_track.specs.declared.heard.Heard.{Heard}
 use Rattle.sq_track.specs.declared.heard.TrackFault.{TrackFault}
@@ -17,12 +17,13 @@ use Rattle.sq_track.proofs.Histories.OneReply.{one_reply}
 use Rattle.sq_devices.specs.Changes.{FinishedOnce, Sent, WroteLast, Written}
 use Rattle.sq_commands.specs.declared.arguments.ArgumentFault.{ArgumentFault}
 use Rattle.sq_commands.specs.declared.arguments.TrackOptions.{TrackOptions}
-use Rattle.sq_commands.specs.declared.status.Status.{Status}
-use Rattle.sq_commands.specs.Check.{status_of}
-use Rattle.sq_commands.specs.Faults.{IsMisuse, misused}
+use Rattle.sq_commands.specs.declared.status.Status.TheVariants.{Broken}
+use Rattle.sq_commands.specs.Check.{run_reply}
+use Rattle.sq_commands.specs.Faults.{IsMisuse}
 use Rattle.sq_commands.specs.Formats.{Telling, told_by}
 use Rattle.sq_commands.specs.Heard.{HeardSquitter, heard_telling}
 use Rattle.sq_commands.specs.Outputs.{Effects}
+use Rattle.sq_commands.specs.Replies.{ReplyParts}
 use Rattle.sq_commands.specs.Track.{HasTracked, IsLimit, IsLogRun, IsTrackFault, IsTrackOptions, IsTrackRun}
 use Rattle.sq_commands.specs.Track.{IsWindow}
 use Rattle.sq_commands.specs.Tracking.{AreHeardLines, IsHeardLine, found_of}
@@ -30,8 +31,7 @@ use Rattle.sq_commands.proofs.FaultLemmas.{one_track_fault}
 use Rattle.sq_commands.proofs.FormatLemmas.{one_format}
 use Rattle.sq_commands.specs.TrueAnswers.{some_reader}
 use Rattle.sq_commands.proofs.SomeWriters.{some_writers}
-use Rattle.sq_commands.proofs.OneRuns.Alike.{IsWhole, one_delivery}
-use Rattle.sq_commands.proofs.OneRuns.Lines.{RunAlike, left_alike, took_lines}
+use Rattle.sq_commands.proofs.OneRuns.Lines.{OneReply, not_broken_off, one_misuse, took_lines}
 use Rattle.sq_commands.proofs.OneRuns.Words.{good_site, one_site_words}
 
 -- ---- what is heard
@@ -113,33 +113,34 @@ one_log how s v w x y bytes old new other last made made' stands stands' once on
       ),
     )
 
-module _ (a b : Status) (d e : Effects) (m : IsWhole a d.outputs) (n : IsWhole b e.outputs) (bytes : List ℕ)
-    (d_is : d.input.before ≡ Some bytes) (e_is : e.input.before ≡ Some bytes) where
-  -- two runs of `track` with one set of options are alike
-  one_log_run : (options : TrackOptions) → IsLogRun options a d → IsLogRun options b e → RunAlike a b d e
-  one_log_run options (old, new, stands, made, (Err fault, tracked, ended)) y = absurd (m.unbroken ended.0)
-  one_log_run options (old, new, stands, made, (Ok x, tracked, ended))
-      (other, last, stands', made', (Err fault, tracked', ended')) = absurd (n.unbroken ended'.0)
-  one_log_run options (old, new, stands, made, (Ok x, (once, (lines, took, told)), ended))
-      (other, last, stands', made', (Ok y, (once', (lines', took', told')), ended')) =
+module _ (d e : Effects) (bytes : List ℕ) (d_is : d.input.before ≡ Some bytes) (e_is : e.input.before ≡ Some bytes)
+    (x y : ReplyParts) (m : x.status ≢ Broken) (n : y.status ≢ Broken) where
+  -- two runs of `track` with one set of options have one reply
+  one_log_run : (options : TrackOptions) → IsLogRun options x d.input d.outputs.output
+      → IsLogRun options y e.input e.outputs.output → OneReply x y d e
+  one_log_run options (old, new, stands, made, (Err fault, tracked, ended)) other =
+      absurd (not_broken_off x fault m ended)
+  one_log_run options (old, new, stands, made, (Ok tally, tracked, ended))
+      (other, last, stands', made', (Err fault, tracked', ended')) = absurd (not_broken_off y fault n ended')
+  one_log_run options (old, new, stands, made, (Ok tally, (once, (lines, took, told)), ended))
+      (other, last, stands', made', (Ok tally', (once', (lines', took', told')), ended')) =
       let how = heard_telling options.format in
-      let h = took_lines d.input bytes lines (HasTracked how old new (Ok x) d.outputs.output) d_is took told in
-      let k = took_lines e.input bytes lines' (HasTracked how other last (Ok y) e.outputs.output) e_is took' told' in
-      let one = one_log how (made_with options.limit options.window options.site) d.outputs.output e.outputs.output x y
-      bytes old new other last made made' stands stands' once once' h.1 k.1 in (
-        (ended.0 ∙ ap status_of one.0 ∙ sym ended'.0, inr one.1, inl (ended.1, ended'.1)),
-        h.0 ∙ sym k.0,
-      )
+      let h = took_lines d.input bytes lines (HasTracked how old new (Ok tally) d.outputs.output) d_is took told in
+      let k = took_lines e.input bytes lines' (HasTracked how other last (Ok tally') e.outputs.output) e_is took'
+      told' in
+      let one = one_log how (made_with options.limit options.window options.site) d.outputs.output e.outputs.output
+      tally tally' bytes old new other last made made' stands stands' once once' h.1 k.1 in
+      (ended ∙ ap (λ (t : Tally). run_reply (Ok t)) one.0 ∙ sym ended', inr one.1, h.0 ∙ sym k.0)
 
-  -- two runs of `track` are alike
-  pub one_track_run : (words : AskedTrack) → IsTrackRun words a d → IsTrackRun words b e → RunAlike a b d e
-  one_track_run words (inl (x, x_is, run)) (inl (y, y_is, run')) =
-      one_log_run x run (subst (λ z. IsLogRun z b e) (sym (one_track_options words x y x_is y_is)) run')
-  one_track_run words (inl (x, x_is, run)) (inr (_, (fault, bad, _))) = absurd (good_track words x fault x_is bad)
-  one_track_run words (inr (_, (fault, bad, _))) (inl (y, y_is, run')) = absurd (good_track words y fault y_is bad)
-  one_track_run words (inr (took, (f, f_is, x))) (inr (took', (g, g_is, y))) =
-      let one : f ≡ g = one_track_fault words f g f_is g_is in (
-        one_delivery a b d.outputs e.outputs m n (misused f) x
-            (subst (λ (h : ArgumentFault). IsMisuse h b e.outputs) (sym one) y),
-        left_alike d.input e.input bytes d_is e_is took took',
-      )
+  -- two runs of `track` have one reply
+  pub one_track_run : (words : AskedTrack) → IsTrackRun words x d.input d.outputs.output
+      → IsTrackRun words y e.input e.outputs.output → OneReply x y d e
+  one_track_run words (inl (f, f_is, run)) (inl (g, g_is, run')) =
+      one_log_run f run
+      (subst (λ z. IsLogRun z y e.input e.outputs.output) (sym (one_track_options words f g f_is g_is)) run')
+  one_track_run words (inl (f, f_is, run)) (inr (fault, bad, misuse)) = absurd (good_track words f fault f_is bad)
+  one_track_run words (inr (fault, bad, misuse)) (inl (g, g_is, run)) = absurd (good_track words g fault g_is bad)
+  one_track_run words (inr (fault, bad, misuse)) (inr (fault', bad', misuse')) =
+      one_misuse fault x y d e bytes d_is e_is misuse
+      (subst (λ (h : ArgumentFault). IsMisuse h y e.input e.outputs.output)
+      (sym (one_track_fault words fault fault' bad bad')) misuse')

@@ -4,7 +4,7 @@ use Rattle.clap.specs.declared.builder.action.ArgAction.TheVariants.{SetTrue}
 use Rattle.clap.specs.declared.builder.arg.Arg.{Arg}
 use Rattle.sq_words.proofs.command_line.flag.Goals as goal
 
--- what help says is no part of a rule
+-- help is not part of a rule
 pub returns-clause-rule : goal.returns-clause-rule
 returns-clause-rule c =
     let named : Rule → Rule = λ r. record r { long = Some c.args.name.now; action = Some SetTrue } in

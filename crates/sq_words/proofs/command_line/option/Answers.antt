@@ -3,7 +3,7 @@ use Rattle.clap.specs.Words.{rule_of, Rule}
 use Rattle.clap.specs.declared.builder.arg.Arg.{Arg}
 use Rattle.sq_words.proofs.command_line.option.Goals as goal
 
--- what help says is no part of a rule
+-- help is not part of a rule
 pub returns-clause-rule : goal.returns-clause-rule
 returns-clause-rule c =
     let named : Rule → Rule = λ r. record r { long = Some c.args.name.now; value_names = 1 } in

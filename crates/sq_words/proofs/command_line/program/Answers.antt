@@ -2,7 +2,7 @@ use Rattle.std.proofs.Common.{true, ap}
 use Rattle.clap.specs.Words.{App}
 use Rattle.sq_words.proofs.command_line.program.Goals as goal
 
--- of the version a command line has only that there is one
+-- a command line records only that there is a version
 pub returns-clause-app : goal.returns-clause-app
 returns-clause-app c =
     let versioned : App → App = λ a.

@@ -2,7 +2,7 @@ use Rattle.sq_words.proofs.Accepted.{accepted_asks}
 use Rattle.sq_words.proofs.Reading.{accepted_by, asks_none, asks_of, refused_by}
 use Rattle.sq_words.proofs.request.read_request.Goals as goal
 
--- clap's error is of a fault, or says that memory is short
+-- clap's error is about the words, or is out of memory
 pub returns-in-Err-clause-refused : goal.returns-in-Err-clause-refused
 returns-in-Err-clause-refused c = λ text told.
     refused_by _ _ c.in-Err.error c.in_ok-command.ensures c.in-Err.ensures.kinds (c.refusal_of.ensures text told)

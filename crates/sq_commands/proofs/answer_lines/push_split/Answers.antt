@@ -2,7 +2,7 @@ use Rattle.std.proofs.Common.{ap}
 use Rattle.std.specs.Prelude.{codes, decimal}
 use Rattle.sq_digits.specs.Digits.{hexadecimal}
 use Rattle.sq_commands.proofs.HeardLemmas.{pushed}
-use Rattle.sq_commands.proofs.heard.push_split.Goals as goal
+use Rattle.sq_commands.proofs.answer_lines.push_split.Goals as goal
 
 pub returns-clause-bytes : goal.returns-clause-bytes
 returns-clause-bytes c =

@@ -1,4 +1,4 @@
-use Rattle.sq_commands.proofs.told.refuse_text.Goals as goal
+use Rattle.sq_commands.proofs.answers.refuse_text.Goals as goal
 
 pub returns-in-Csv : goal.returns-in-Csv
 returns-in-Csv c writers = rw c.in-Rows.is (rw c.in-Csv.is (c.push_refused_row.ensures writers))

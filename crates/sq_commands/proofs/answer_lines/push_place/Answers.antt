@@ -3,7 +3,7 @@ use Rattle.sq_angle.specs.Angle.{degrees}
 use Rattle.sq_message.specs.Places.{place_latitude, place_longitude}
 use Rattle.sq_digits.specs.Digits.{hexadecimal}
 use Rattle.sq_commands.proofs.HeardLemmas.{pushed, written}
-use Rattle.sq_commands.proofs.heard.push_place.Goals as goal
+use Rattle.sq_commands.proofs.answer_lines.push_place.Goals as goal
 
 pub returns-clause-bytes : goal.returns-clause-bytes
 returns-clause-bytes c decimals =

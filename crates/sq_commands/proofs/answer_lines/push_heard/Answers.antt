@@ -1,4 +1,4 @@
-use Rattle.sq_commands.proofs.heard.push_heard.Goals as goal
+use Rattle.sq_commands.proofs.answer_lines.push_heard.Goals as goal
 
 pub returns-in-Fix-clause-bytes : goal.returns-in-Fix-clause-bytes
 returns-in-Fix-clause-bytes c decimals = rw c.in-Fix.is (c.push_place.ensures.bytes decimals)
