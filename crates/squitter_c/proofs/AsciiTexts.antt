@@ -12,17 +12,17 @@ ascii_digits : (ds : List ℕ) → AllByRecursion IsAsciiDigit ds → IsAscii ds
 ascii_digits [] h = IsAscii-nil
 ascii_digits (d ∷ ds) h = IsAscii-cons d ds (omega (arith, h.0)) (ascii_digits ds h.1)
 
--- a sign is
+-- a sign is ASCII
 ascii_minus : (negative : Bool) → IsAscii (minus negative)
 ascii_minus true = IsAscii-cons 45 [] (omega arith) IsAscii-nil
 ascii_minus false = IsAscii-nil
 
--- what stands from the point on is ASCII
+-- the text from the point on is ASCII
 ascii_fraction : (ds : List ℕ) → AllByRecursion IsAsciiDigit ds → IsAscii (fraction ds)
 ascii_fraction [] h = IsAscii-nil
 ascii_fraction (d ∷ ds) h = IsAscii-cons 46 (d ∷ ds) (omega arith) (ascii_digits (d ∷ ds) h)
 
--- a text that spells an angle is UTF-8
+-- a text that encodes an angle is UTF-8
 pub spelling_is_utf8 : (text : List ℕ) (p : Parts) → Spells text p → IsUtf8 text
 spelling_is_utf8 text p spells =
     let whole = ascii_digits p.whole spells.0.whole_digits in

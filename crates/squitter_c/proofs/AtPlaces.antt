@@ -1,4 +1,4 @@
--- What stands at a place of arrays is what the call by itself answers.
+-- Each element of the arrays has the result of the single call.
 use Rattle.std.proofs.Common.{List, get_or, length, ◌<◌, ℕ, subst}
 use Rattle.std.proofs.lemmas.List.{get_or_default}
 use Rattle.squitter_c.specs.declared.plain.PlainPosition.{PlainPosition}
@@ -8,7 +8,7 @@ use Rattle.squitter_c.specs.E7.{IsPositionE7}
 use Rattle.squitter_c.specs.Pinned.{OfEach}
 use Rattle.squitter_c.specs.Reading.{IsFrameRead}
 
--- what holds of the item at a place, read with one default, holds of it read with each
+-- a property of the element at an index, read with one default, holds with any default
 at_each : {A : Type 0} (P : A → Type 0) (xs : List A) (k : ℕ) (d e : A) → k < length xs → P (get_or xs k d)
     → P (get_or xs k e)
 at_each P xs k d e below h = subst P (get_or_default xs k d e below) h

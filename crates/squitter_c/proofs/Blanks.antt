@@ -1,13 +1,13 @@
--- What stands for a place past the end of an array.
+-- Values for reads past the end of an array.
 use Rattle.std.proofs.Common.{pos}
 use Rattle.squitter_c.specs.declared.e7.DegreesE7.{DegreesE7}
 use Rattle.squitter_c.specs.declared.fields.PlainSquitter.{PlainSquitter}
 
--- no ten-millionths
+-- zero units of 10^-7 degree
 abbrev pub no_degrees : DegreesE7
 no_degrees = record { lat = pos 0; lon = pos 0 }
 
--- no fields
+-- all fields 0
 abbrev pub no_fields : PlainSquitter
 no_fields = record {
   raw = 0;

@@ -1,4 +1,4 @@
--- How the squitters of a feed come into arrays and buffers.
+-- Storing the squitters of a feed in arrays and buffers.
 use Rattle.std.proofs.Common.{◌++◌, ◌≡◌, ◌==◌, ◌<◌, ◌∙◌, ℕ, List, [], ◌∷◌, ap, ap₂, append-nil, arith, false, get_or}
 use Rattle.std.proofs.Common.{length, refl, subst, take}
 use Rattle.std.proofs.lemmas.Bool.Decides.{nat_tests}
@@ -9,7 +9,7 @@ use Rattle.sq_feed.specs.Lines.{log_line}
 use Rattle.std.proofs.lemmas.List.{take_all}
 use Rattle.squitter_c.specs.FeedLaws.{AllGiven, AllWritten}
 
--- the lines of timestamps and frames, one after the other
+-- the lines of timestamps and frames, in order
 abbrev pub lines_from : List ℕ → List (List ℕ) → List ℕ
 lines_from [] frames = []
 lines_from (moment ∷ moments) [] = []
@@ -19,7 +19,7 @@ lines_back : (told : List Timed) → lines_from (moments_of told) (frames_of tol
 lines_back [] = refl
 lines_back (one ∷ more) = ap (λ l. log_line one.moment one.frame ++ l) (lines_back more)
 
--- what was given in arrays, as lines behind what was written before
+-- squitters that were stored in arrays, as lines after what was written before
 pub given_lines : (arrival : ℕ) (old new : Feeding) (bytes moments before : List ℕ) (frames : List (List ℕ))
     → HasGiven arrival old bytes [] [] moments frames new
     → HasWritten arrival old bytes before (before ++ lines_from moments frames) new
@@ -30,7 +30,7 @@ given_lines arrival old new bytes moments before frames given = record {
       ∙ lines_back (told_of_all arrival old.ear given.found));
 }
 
--- nothing was given
+-- if no squitter was stored, no line was written
 pub given_no_line : (arrival : ℕ) (old new : Feeding) (bytes before : List ℕ)
     → HasGiven arrival old bytes [] [] [] [] new → HasWritten arrival old bytes before before new
 given_no_line arrival old new bytes before given =
@@ -55,12 +55,12 @@ written_behind arrival old new bytes before text was empty written = record {
       empty);
 }
 
--- an array of one element
+-- the front of an array of one element
 pub take_one : {X : Type 0} (xs : List X) (d : X) → length xs ≡ 1 → take 1 xs ≡ get_or xs 0 d ∷ []
 take_one [] d one = absurd (omega (arith, one))
 take_one (x ∷ xs) d one = refl
 
--- an array that is not empty has a first place
+-- an array that is not empty has a first element
 pub has_first : (count : ℕ) → (count == 0) ≡ false → 0 < count
 has_first count some = grind (arith, nat_tests, some)
 

@@ -1,4 +1,4 @@
--- How a seal holds a listener, a feed and an order.
+-- The ways in which a seal holds a listener, a feed and an order.
 use Rattle.std.proofs.Common.{◌≡◌, refl, Option, Some, None, ap}
 use Rattle.std.proofs.lemmas.Option.{none-some, same_Some}
 use mathlib.Core.Logic.{inl, inr}

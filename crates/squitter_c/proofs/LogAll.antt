@@ -1,9 +1,9 @@
--- What a call of a log has answered where it left room.
+-- The results that a call of a log has written if it left room.
 use Rattle.std.proofs.Common.{◌≡◌, ◌++◌, ◌∙◌, ℕ, List, [], ap, arith, inl, inr, length}
 use Rattle.std.proofs.Common.{refl, subst, take}
 use Rattle.std.proofs.Math.Seq.{take-length}
 use Rattle.sq_commands.specs.declared.formats.Format.{Format}
-use Rattle.sq_commands.specs.declared.found.HeardSquitter.{HeardSquitter}
+use Rattle.sq_commands.specs.declared.answers.HeardSquitter.{HeardSquitter}
 use Rattle.sq_commands.specs.Heard.{heard_telling}
 use Rattle.sq_commands.specs.SlowAnswers.{AreTrueAnswers}
 use Rattle.sq_commands.specs.Tracking.{track_manner}
@@ -19,7 +19,7 @@ use Rattle.squitter_c.specs.declared.log_take.End.TheVariants as ends
 use Rattle.squitter_c.specs.LogCalls.{AsAnswers, AsTexts, GoesOn, GoesToTheEnd, HasGone, Written, log_in}
 use Rattle.squitter_c.specs.LogLaws.{AllAnswered, AllAnsweredAtEnd, AllTold, AllToldAtEnd}
 
--- all lines that line feeds end were heard, and their answers are written after the answers before
+-- all lines with a line feed were heard; their results come after the earlier ones, and are what was written
 abbrev AllHeard : {X : Type 0} → Written X → (start : Held) → Log Held → (given : List ℕ)
     → (answers : List (Told HeardSquitter)) → (written : List X) → Type 0
 AllHeard As start log given answers written = (told : List (Told HeardSquitter))

@@ -1,4 +1,4 @@
--- How the loops over the lines of a log go on: for answers in an array as for texts.
+-- The loops over the lines of a log go on, with results in an array or as texts.
 use Rattle.std.proofs.Common.{◌≡◌, ◌≢◌, ◌≤◌, ◌<◌, ◌+◌, ◌-◌, ◌*◌, ◌∙◌, ℕ, List, [], arith, drop, length, refl, subst, take}
 use Rattle.sq_log.specs.declared.log.Log.{Log}
 use Rattle.sq_log.specs.declared.log.Step.TheVariants as steps
@@ -18,8 +18,8 @@ done taken written = record { taken = taken; written = written }
 abbrev rest_at : List ℕ → ℕ → List ℕ
 rest_at piece taken = take (length piece - taken) (drop taken piece)
 
--- A loop over lines has taken bytes and written elements so far. It goes on, because waiting bytes and bytes of the
--- piece get fewer.
+-- A loop over lines has taken bytes and written elements so far. The number of lines plus the waiting bytes plus twice
+-- the bytes left of the piece is at most this sum at the start.
 pub record IsGoing {X F A : Type 0} (As : Written X) (first : Log (Hearing F A)) (piece : List ℕ) (was : List X)
     (from : ℕ) (log : Log (Hearing F A)) (is : List X) (taken written : ℕ) : Type 0 where
   pub on : HasGoneOn As ends.Full first log piece was is from (done taken written)
@@ -60,7 +60,7 @@ module _ {X F A : Type 0} {As : Written X} {first log : Log (Hearing F A)} {piec
         lasting = lasts ∙ i.on.lasting;
       }
 
-  -- the waiting bytes and those of the piece are fewer
+  -- the waiting bytes plus twice the bytes left of the piece decrease
   pub smaller : (count : ℕ) → count ≤ length (rest_at piece taken)
       → length new.window.waiting < length log.window.waiting + 2 * count
       → length new.window.waiting + 2 * (length piece - (taken + count))
@@ -112,7 +112,7 @@ module _ {X F A : Type 0} {As : Written X} {first log : Log (Hearing F A)} {piec
 -- ---- the end of a log
 
 module _ {X F A : Type 0} {As : Written X} {end : End} where
-  -- all that was given is answered, and later the last line
+  -- all that was given has results, and then the last line has one
   module _ {one two three four : Log (Hearing F A)} {was mid is : List X} {how : End} {early late : Done}
       (fed : how ≡ ends.Fed) (first : HasGoneOn As how one two [] was mid 0 early)
       (later : HasGoneOn As end three four [] mid is early.written late) where
@@ -134,7 +134,7 @@ module _ {X F A : Type 0} {As : Written X} {end : End} where
       rest = later.rest ∙ rest_further mid was early.written late.written later.written.0 first.rest;
     }
 
-  -- it stops before the end
+  -- the call stops before the end
   pub stops : {how : End} {one two : Log (Hearing F A)} {was is : List X} {early : Done} → how ≡ end
       → HasGoneOn As how one two [] was is 0 early → end ≢ ends.Fed
       → GoesToTheEnd As end (held_by one) (held_by two) [] (take early.written is)

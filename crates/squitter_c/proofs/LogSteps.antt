@@ -1,4 +1,4 @@
--- How the answers of a log machine come into an array.
+-- Storing the results of a log machine in an array.
 use Rattle.std.proofs.Common.{◌≡◌, ◌≢◌, ◌==◌, if◌then◌else◌, zero, suc, Bool, true, false, ◌≤◌, ◌+◌, ◌-◌, ◌++◌, ◌∷◌, ◌∙◌, ℕ, List, [], ap, append-nil, append_assoc, arith, drop, set}
 use Rattle.std.proofs.Common.{length, refl, subst, sym, take}
 use Rattle.std.proofs.lemmas.List.{drop-drop, drop-set-lt, length-drop, take_rest}
@@ -17,7 +17,7 @@ use Rattle.sq_log.specs.Logs.{HasHeard, IsStep, IsUpToDate}
 use Rattle.sq_log.proofs.Cutting.{cuts_ended, cuts_itself, last_part-cut}
 use Rattle.sq_track.specs.Held.{Held}
 use Rattle.sq_commands.specs.declared.track.Hearing.{Hearing}
-use Rattle.sq_commands.specs.declared.found.HeardSquitter.{HeardSquitter}
+use Rattle.sq_commands.specs.declared.answers.HeardSquitter.{HeardSquitter}
 use Rattle.sq_commands.specs.Track.{hearing_manner}
 use Rattle.sq_commands.specs.Tracking.{track_manner}
 use Rattle.sq_commands.specs.TrueAnswers.{true_answers}
@@ -45,7 +45,7 @@ to_held start log given lines answers h = record { kept = h.kept; number = h.num
 
 -- ---- a step
 
--- what a step says of every past of the machine
+-- the effect of a step, for every past of the machine
 abbrev pub Stepped : {F A : Type 0} → (old : Log (Hearing F A)) → Step HeardSquitter → (piece : List ℕ)
     → (new : Log (Hearing F A)) → Type 0
 Stepped {F} {A} old result piece new =
@@ -53,7 +53,7 @@ Stepped {F} {A} old result piece new =
     → HasHeard hearing_manner start old given lines answers
     → IsStep hearing_manner start result piece new given lines answers
 
--- an answer more, and its plain form
+-- one more result, and its plain form
 pub all_with : (answers : List (Told HeardSquitter)) (plain : List PlainAnswer) (answer : Told HeardSquitter)
     (last : PlainAnswer) → AllZip IsPlainAnswer answers plain → IsPlainAnswer answer last
     → AllZip IsPlainAnswer (answers ++ answer ∷ []) (plain ++ last ∷ [])
@@ -62,7 +62,7 @@ all_with [] (p ∷ plain) answer last h k = absurd h
 all_with (a ∷ answers) [] answer last h k = absurd h
 all_with (a ∷ answers) (p ∷ plain) answer last h k = (h.0, all_with answers plain answer last h.1 k)
 
--- the machine has heard this, and its answers are written
+-- the machine has heard this, and its results are written
 gone : {X : Type 0} (As : Written X) (start : Held) (end : End) (log : Log Held) (given : List ℕ) (lines more : List
     (List ℕ))
     (answers told now_told : List (Told HeardSquitter)) (written : List X)
@@ -78,7 +78,7 @@ gone As start end log given lines more answers told now_told written heard writt
   are_true = true_answers start log.job log.tally (lines ++ more) (answers ++ now_told) heard.told;
 }
 
--- no answer more
+-- no more results
 gone_silent : {X : Type 0} (As : Written X) (start : Held) (end : End) (log : Log Held) (given : List ℕ) (lines more :
     List (List ℕ))
     (answers told : List (Told HeardSquitter)) (written : List X)
@@ -143,7 +143,7 @@ on_memory As old new piece taken written stepped start given lines answers told 
     (to_held borrowed new now lines answers heard))
     are (subst (IsEndOf ends.NoMemory (held_by new) now) (sym (append-nil lines)) next)
 
--- ---- one after the other
+-- ---- in order
 
 pub on : {X : Type 0} (As : Written X) (end : End) (one two three : Log Held) (xs ys : List ℕ) (before between after :
     List X)
@@ -170,7 +170,7 @@ on As end one two three xs ys before between after first later start given lines
     (subst (λ (g : List ℕ). IsEndOf end three g (lines ++ (p.more ++ q.more))) given_is
     (subst (λ (l : List (List ℕ)). IsEndOf end three ((given ++ xs) ++ ys) l) lines_is q.ended))
 
--- ---- a piece from a place on
+-- ---- a piece from an index on
 
 -- the bytes taken are within the rest of the piece
 pub within_rest : (piece : List ℕ) (at n : ℕ) → n ≤ length (take (length piece - at) (drop at piece))
@@ -178,7 +178,7 @@ pub within_rest : (piece : List ℕ) (at n : ℕ) → n ≤ length (take (length
 within_rest piece at n h =
     subst (λ (k : ℕ). n ≤ k) (length-drop at piece) (subst (λ (xs : List ℕ). n ≤ length xs) (take_rest piece at) h)
 
--- where nothing is left, all was taken
+-- if nothing is left, all was taken
 pub all_taken : (piece : List ℕ) (at : ℕ) → at ≤ length piece
     → length (take (length piece - at) (drop at piece)) ≡ 0 → at ≡ length piece
 all_taken piece at fits none =
@@ -197,7 +197,7 @@ goes_further As end one two three piece at n before between after fits first lat
     (on As end one two three (take at piece) (take n (take (length piece - at) (drop at piece))) before between after
     first later)
 
--- no byte more
+-- no more bytes
 pub goes_no_further : {X : Type 0} (As : Written X) (end : End) (one two three : Log Held) (xs : List ℕ)
     (before between after : List X) → GoesOn As ends.Full one two xs before between
     → GoesOn As end two three [] between after → GoesOn As end one three xs before after
@@ -205,7 +205,7 @@ goes_no_further As end one two three xs before between after first later =
     subst (λ (ys : List ℕ). GoesOn As end one three ys before after) (append-nil xs)
     (on As end one two three xs [] before between after first later)
 
--- what lies behind a place stays behind the next one, where the place is written
+-- elements after an index that is written stay unchanged
 pub dropped_further : {X : Type 0} (xs ys : List X) (place : ℕ) (x : X) → drop place xs ≡ drop place ys
     → drop (place + 1) (set xs place x) ≡ drop (place + 1) ys
 dropped_further xs ys place x same =
@@ -217,7 +217,7 @@ dropped_further xs ys place x same =
 no_feed : HasNoFeed []
 no_feed = λ k d past. absurd (omega (arith, past))
 
--- the last part is empty once a line feed is behind it
+-- the last part is empty after a line feed
 closed_part : (given : List ℕ) → last_part (with_feed given) ≡ []
 closed_part given =
     let cut = cuts_itself given in
@@ -248,7 +248,7 @@ has_ended old new ended start given lines answers h up =
     to_held borrowed new (closed given) lines answers
     (ended borrowed given lines answers (to_borrowed start old given lines answers h) up)
 
--- all that was given is answered, and later the last line
+-- all that was given has results, and then the last line has one
 pub goes_to_the_end : {X : Type 0} (As : Written X) (end : End) (one two three four : Log Held) (between after : List X)
     → GoesOn As ends.Fed one two [] [] between → HasEnded two three → GoesOn As end three four [] between after
     → GoesToTheEnd As end one four [] after
@@ -280,7 +280,7 @@ goes_to_the_end As end one two three four between after first ended later start 
           (subst (IsEndOf end four (closed given ++ [])) lines_are q.ended)),
     )
 
--- it stops before the end
+-- the call stops before the end
 pub stops_before : {X : Type 0} (As : Written X) (end : End) (one two : Log Held) (after : List X) → end ≢ ends.Fed
     → GoesOn As end one two [] [] after → GoesToTheEnd As end one two [] after
 stops_before As end one two after before first start given lines answers told h are =
@@ -302,7 +302,7 @@ pub goes_on_nothing : {X : Type 0} (As : Written X) (end : End) (one two : Log H
 goes_on_nothing As end one two n before after goes =
     subst (λ (xs : List ℕ). GoesOn As end one two xs before after) (take_none n) goes
 
--- what lies behind a place lies behind a further one
+-- if elements are unchanged from an index on, they are from a later index on
 pub rest_further : {X : Type 0} (xs ys : List X) (near far : ℕ) → near ≤ far → drop near xs ≡ drop near ys
     → drop far xs ≡ drop far ys
 rest_further xs ys near far fits same =
@@ -310,7 +310,7 @@ rest_further xs ys near far fits same =
     subst (λ (k : ℕ). drop k xs ≡ drop k ys) split
     (sym (drop-drop (far - near) near xs) ∙ ap (drop (far - near)) same ∙ drop-drop (far - near) near ys)
 
--- the text of one answer more
+-- the text of one more result
 pub told_more : (text : ℕ → Result HeardSquitter LineFault → List ℕ) (answers : List (Told HeardSquitter))
     (answer : Told HeardSquitter)
     → told_text text (answers ++ answer ∷ []) ≡ told_text text answers ++ text answer.number answer.verdict

@@ -1,4 +1,4 @@
--- What is sent again is one frame, or has one fault.
+-- A frame that is encoded again is unique, or has one fault.
 use Rattle.std.proofs.Common.{◌≡◌, ◌∙◌, ◌⊎◌, ℕ, Result, Ok, Err, inl, inr, ap, refl, sym, subst}
 use Rattle.sq_angle.specs.declared.position.Position.{Position}
 use Rattle.sq_bits.specs.declared.frame.Frame.{Frame}
@@ -60,12 +60,12 @@ one_from q p x (Ground m) (Ground n) f g r s (a, (land, is, of), is_f, spells) (
     (record { of_parity = r.0; rounds = r.1; squitter = a; sent = of; is_frame = is_f; spelled = spells })
     (record { of_parity = s.0; rounds = s.1; squitter = b; sent = of'; is_frame = is_g; spelled = spelled })
 
--- what is sent again from a place is a position
+-- a squitter that is encoded again at a place is a position
 is_from_position : (q : Squitter) (s : Place) (f : Frame) → IsFrameFrom q s f → IsPosition (squitter_parts q).me
 is_from_position q (Air m) f (a, (air, is, of), is_f, spells) = subst IsPosition (sym is) tt
 is_from_position q (Ground m) f (a, (land, is, of), is_f, spells) = subst IsPosition (sym is) tt
 
--- ---- one answer: the parity is looked at first, then the position, then the frame
+-- ---- one result: the parity is checked first, then the position, then the frame
 
 module _ (odd : ℕ) (plain : PlainPosition) where
   -- the squitter's frame with the parity and the code of the position
@@ -80,7 +80,7 @@ module _ (odd : ℕ) (plain : PlainPosition) where
       one_from q p x s t f g rounds
       (subst (λ u. IsRoundedTo u x t) parity (subst (λ u. IsRoundedTo p' u t) position rounds')) from from'
 
-  -- what is answered for what is read of the frame
+  -- the result for what the frame was read as
   abbrev OfRead : Result Squitter FrameFault → Result Frame Reason → Type 0
   OfRead (Ok q) answer = ((¬ (IsPosition (squitter_parts q).me)) × (answer ≡ Err (reasons.Place NotPosition)))
       ⊎ ((f : Frame) × Again q f × (answer ≡ Ok f))

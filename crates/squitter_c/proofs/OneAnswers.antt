@@ -1,4 +1,4 @@
--- Calls have one answer.
+-- Calls have at most one result.
 use Rattle.std.proofs.Common.{◌≡◌, ◌∙◌, ◌+◌, ◌*◌, ◌^◌, ◌-ℤ◌, ℕ, ℤ, pos, Result, Ok, Err, arith, ap, sym, subst}
 use Rattle.std.specs.Prelude.{int_lt}
 use Rattle.std.proofs.lemmas.Int.{ints}
@@ -149,12 +149,12 @@ one_meaning_answer code field (Ok a) (Err e) h k = absurd (k.0 h.0)
 one_meaning_answer code field (Err d) (Ok b) h k = absurd (h.0 k.0)
 one_meaning_answer code field (Err d) (Err e) h k = ap Err (h.1 ∙ sym k.1)
 
--- feet have one field
+-- feet have at most one field
 one_field : (feet : ℤ) (f g : ℕ) → IsFieldOfFeet f feet → IsFieldOfFeet g feet → f ≡ g
 one_field feet f g (high, low, is, means) (high', low', is', means') =
     omega (arith, ints, means, means', is.bits, is'.bits, is.four, is'.four)
 
--- a fraction has one number of ten-millionths
+-- a fraction has at most one value in units of 10^-7 degree
 one_e7 : (x : Fraction) (k m : ℤ) → IsE7 x k → IsE7 x m → k ≡ m
 one_e7 x k m (v, v_is, k_is) (w, w_is, m_is) =
     let nearest = nearest_once (magnitude x) 1 10000000 (pos v) (pos w) v_is w_is in
@@ -174,7 +174,7 @@ one_field_answer feet (Ok a) (Err e) h k has = absurd (k.0 (has a h))
 one_field_answer feet (Err d) (Ok b) h k has = absurd (h.0 (has b k))
 one_field_answer feet (Err d) (Err e) h k has = ap Err (h.1 ∙ sym k.1)
 
--- a field means a multiple of 25 from -1000 on
+-- a field encodes a multiple of 25 from -1000 to 50175 feet
 has_field : (feet : ℤ) (field : ℕ) → IsFieldOfFeet field feet → HasField feet
 has_field feet field (high, low, is, means) = record {
   least = omega (arith, ints, means);

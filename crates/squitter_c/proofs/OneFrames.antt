@@ -1,4 +1,4 @@
--- What is sent is one frame, or has one fault.
+-- A frame that is encoded is unique, or has one fault.
 use Rattle.std.proofs.Common.{◌≡◌, ◌∙◌, ◌<◌, ◌^◌, ◌⊎◌, ℕ, Bool, true, false, Result, Ok, Err, inl, inr, arith, ap, refl}
 use Rattle.std.proofs.Common.{subst, sym}
 use Rattle.sq_angle.specs.declared.position.Position.{Position}
@@ -26,7 +26,7 @@ use Rattle.squitter_c.proofs.OneTelling.{one_telling}
 
 -- ---- one frame of a head, a parity and a position
 
--- the frame of equal heads, parities and positions is one
+-- equal heads, parities and positions have at most one frame
 pub one_of_equals : (kind : Kind) (s t : HeadParts kind) (p q : Parity) (x y : Position) (m n : Point) (f g : Frame)
     → s ≡ t → p ≡ q → x ≡ y → IsSent kind s p x m f → IsSent kind t q y n g → f ≡ g
 one_of_equals kind s t p q x y m n f g head parity position h k =
@@ -89,11 +89,11 @@ is_head OnGround plain a p ca address h parity = (
   parity_is_flag plain.odd p parity,
 )
 
--- ---- what is answered for a head and a position: one frame, or the first fault
+-- ---- the result for a head and a position: one frame, or the first fault
 
 module _ (Head : Type 0) (plain : PlainPosition) (Sent : Frame → Type 0)
     (one : (f g : Frame) → Sent f → Sent g → f ≡ g) where
-  -- the head is looked at first, then the position
+  -- the head is checked first, then the position
   abbrev Told : Result Frame Reason → Type 0
   Told answer = ((¬ Head) × (answer ≡ Err reasons.NoHead))
       ⊎ (Head × (((¬ (PlainIsPosition plain)) × (answer ≡ Err reasons.NoPosition))
@@ -108,7 +108,7 @@ module _ (Head : Type 0) (plain : PlainPosition) (Sent : Frame → Type 0)
   one_told r s (inr (a, inr h)) (inr (b, inl k)) = absurd (k.0 h.0)
   one_told r s (inr (a, inr (_, (f, h, r_is)))) (inr (b, inr (_, (g, k, s_is)))) = r_is ∙ ap Ok (one f g h k) ∙ sym s_is
 
--- a frame is sent of what these stand for
+-- the frame is encoded from what these represent
 abbrev Sent : (kind : Kind) → PlainHead kind → PlainPosition → Frame → Type 0
 Sent kind plain place frame = (head : HeadParts kind) × IsHead kind plain head
     × ((parity : Parity) × IsParity (odd_of kind plain) parity

@@ -1,4 +1,4 @@
--- What was heard has one plain form.
+-- A result has at most one plain form.
 use Rattle.std.proofs.Common.{◌≡◌, ◌∙◌, ℕ, sym}
 use Rattle.sq_track.specs.declared.heard.Heard.TheVariants.{Fix, Followed, Waiting, Split, Far, NoSite, NotPosition}
 use Rattle.squitter_c.specs.declared.heard.PlainHeard.{PlainHeard}
@@ -6,7 +6,7 @@ use Rattle.squitter_c.specs.Heard.{HasNoPlace, IsHeardAs}
 use Rattle.squitter_c.specs.OneValues.{OneHeard}
 use Rattle.squitter_c.proofs.OnePlain.{one_lowest_place}
 
--- of one kind, with one position
+-- results of one kind with one position are equal
 heard_as : (which first second : ℕ) (x y : PlainHeard) → IsHeardAs which first second x
     → IsHeardAs which first second y → x.position ≡ y.position → x ≡ y
 heard_as which first second x y h k position =
@@ -15,7 +15,7 @@ heard_as which first second x y h k position =
     let odd = h.odd ∙ sym k.odd in
     λ i. record { position = position i; what = what i; even = even i; odd = odd i }
 
--- no place is one
+-- there is only one plain form of no position
 nowhere : (x y : PlainHeard) → HasNoPlace x → HasNoPlace y → x.position ≡ y.position
 nowhere x y h k =
     let north = h.lat.0 ∙ sym k.lat.0 in

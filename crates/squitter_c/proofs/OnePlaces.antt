@@ -1,4 +1,4 @@
--- Frames have one place, or one fault.
+-- Frames have at most one place, or one fault.
 use Rattle.std.proofs.lemmas.Int.{ints}
 use Rattle.std.proofs.Common.{arith, ◌≡◌, ◌∙◌, Option, None, Some, Result, Ok, Err, inl, inr, ◌⊎◌, ap, refl, sym, subst}
 use Rattle.sq_angle.specs.declared.position.Position.{Position}
@@ -28,7 +28,7 @@ use Rattle.squitter_c.specs.Zones.{AreZonesOf, AreZonesOfPlace}
 use Rattle.squitter_c.proofs.OnePlain.{is_position, one_lowest_place, one_of_degrees}
 use Rattle.squitter_c.proofs.OneTelling.{one_telling}
 
--- what is answered for a place or its fault
+-- the result for a place or its fault
 abbrev Placed : Result Place PlaceFault → Result Place Reason → Type 0
 Placed (Ok place) answer = answer ≡ Ok place
 Placed (Err fault) answer = answer ≡ Err (reasons.Place fault)
@@ -37,7 +37,7 @@ one_placed : (found : Result Place PlaceFault) (r s : Result Place Reason) → P
 one_placed (Ok place) r s h k = h ∙ sym k
 one_placed (Err fault) r s h k = h ∙ sym k
 
--- what is answered for what is read of a frame, which goes on with its squitter
+-- the result for what a frame was read as, continued with its squitter
 abbrev Read : Result Squitter FrameFault → (Squitter → Result Place Reason → Type 0) → Result Place Reason
     → Type 0
 Read (Ok q) Next answer = Next q answer
@@ -68,13 +68,13 @@ one_near : (reference : Position) (q : Squitter) (r s : Result Place Reason) →
 one_near reference q r s (a, a_is, h) (b, b_is, k) =
     one_placed a r s h (subst (λ t. Placed t s) (sym (one_local_place q reference a b a_is b_is)) k)
 
--- the reference is looked at first
+-- the reference is checked first
 abbrev NearPlain : Frame → PlainPosition → Result Place Reason → Type 0
 NearPlain frame plain answer = ((¬ (PlainIsPosition plain)) × (answer ≡ Err reasons.NoPosition))
     ⊎ (PlainIsPosition plain
     × ((reference : Position) → IsOfDegrees plain reference → OfFrame frame (Near reference) answer))
 
--- the position of fractions that are one
+-- the position of fractions that are a valid position
 position_of : (plain : PlainPosition) → PlainIsPosition plain → (p : Position) × IsOfDegrees plain p
 position_of plain h = (
   record {
@@ -175,7 +175,7 @@ one_pair_at older newer plain r s (inr (site, deg, h)) (inr (other, deg', k)) =
     one_pair older newer (Some site) r s h
     (subst (λ x. IsPairAnswer older newer (Some x) s) (sym (one_of_degrees plain site other deg deg')) k)
 
--- ---- what is written of a place
+-- ---- what is written for a place
 
 one_zones_of : (span : Span) (point : Point) (x y : PlainZones) → AreZonesOf span point x
     → AreZonesOf span point y → x ≡ y

@@ -1,4 +1,4 @@
--- Plain values stand for one value, and a value has one plain form.
+-- A plain value represents at most one value, and a value has at most one plain form.
 use Rattle.std.proofs.Common.{◌≡◌, ◌∙◌, refl, sym, subst}
 use Rattle.sq_angle.specs.declared.angle.Angle.{Angle}
 use Rattle.sq_angle.specs.declared.position.Position.{Position}
@@ -14,7 +14,7 @@ use Rattle.squitter_c.specs.declared.plain.PlainAngle.{PlainAngle}
 use Rattle.squitter_c.specs.declared.plain.PlainPosition.{PlainPosition}
 use Rattle.squitter_c.specs.Plain.{IsLowestOf, IsLowestPosition, IsOfDegrees, PlainIsPosition, fraction_of}
 
--- fractions are those of one position
+-- fractions are those of at most one position
 pub one_of_degrees : (plain : PlainPosition) (a b : Position) → IsOfDegrees plain a → IsOfDegrees plain b → a ≡ b
 one_of_degrees plain a b x y =
     one_position a b (one_angle a.lat b.lat (x.lat ∙ sym y.lat)) (one_angle a.lon b.lon (x.lon ∙ sym y.lon))
@@ -28,17 +28,17 @@ is_position plain p x = record {
       (subst (λ (f : Fraction). IsPosition (degrees p.lat) f) x.lon p.in_range);
 }
 
--- a fraction is one plain angle
+-- a fraction is that of at most one plain angle
 plain_angle : (x y : PlainAngle) → fraction_of x ≡ fraction_of y → x ≡ y
 plain_angle x y e = λ i. record { num = (e i).num; den = (e i).den }
 
--- an angle has one form in lowest terms
+-- an angle has at most one form in lowest terms
 pub one_lowest : (a : Angle) (x y : PlainAngle) → IsLowestOf (degrees a) x → IsLowestOf (degrees a) y → x ≡ y
 one_lowest a x y h k =
     plain_angle x y ((one_lowest_form (degrees a) (degrees a) (fraction_of x) (fraction_of y) a.in_range.positive
     a.in_range.positive h k).0 refl)
 
--- a position has one form in lowest terms
+-- a position has at most one form in lowest terms
 pub one_lowest_position : (p : Position) (x y : PlainPosition) → IsLowestPosition p x → IsLowestPosition p y → x ≡ y
 one_lowest_position p x y h k =
     let lat = one_lowest p.lat x.lat y.lat h.lat k.lat in
@@ -49,7 +49,7 @@ one_lowest_position p x y h k =
 abbrev IsLowestAt : Place → PlainPosition → Type 0
 IsLowestAt place plain = (position : Position) × IsPositionOf place position × IsLowestPosition position plain
 
--- a place has one position in lowest terms
+-- a place has at most one position in lowest terms
 pub one_lowest_place : (place : Place) (x y : PlainPosition) → IsLowestAt place x → IsLowestAt place y → x ≡ y
 one_lowest_place place x y (p, p_is, x_is) (q, q_is, y_is) =
     let same : p ≡ q = one_position p q (one_angle p.lat q.lat (p_is.lat ∙ sym q_is.lat))

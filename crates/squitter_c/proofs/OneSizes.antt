@@ -1,10 +1,10 @@
--- The bytes for a limit of addresses are one number.
+-- A limit of addresses has at most one size in bytes.
 use Rattle.std.proofs.Common.{◌≡◌, ◌<◌, ◌≤◌, ◌+◌, ◌*◌, ◌^◌, ◌∙◌, ◌⊎◌, ℕ, suc, arith, inl, inr, ap, sym}
 use Rattle.std.proofs.Math.Nat.{pow-suc}
 use Rattle.std.proofs.Math.Pow.{pow_mono}
 use Rattle.squitter_c.specs.Sizes.{AreGroupsFor, OneSize}
 
--- a power that is enough is no smaller than the least
+-- a power that is enough is at least the least one
 not_above : (n a b : ℕ) (x : AreGroupsFor n a) (y : AreGroupsFor n b) → x.exponent < y.exponent → ⊥
 not_above n a b x y lt =
     let double : b ≡ 2 ^ y.exponent = y.is_power in

@@ -1,10 +1,10 @@
--- What is told of an answer is one.
+-- A result is reported in only one way.
 use Rattle.std.proofs.Common.{◌≡◌, ◌∙◌, Result, Ok, Err, subst, sym}
 use Rattle.squitter_c.specs.declared.faults.Fault.{Fault}
 use Rattle.squitter_c.specs.declared.faults.Reason.{Reason}
 use Rattle.squitter_c.specs.Faults.{Tells}
 
--- an answer, told twice
+-- one result, reported twice
 module _ {A B E : Type 0} (P : Result A E → Type 0) (Stands : A → B → Type 0) (named : E → Reason)
     (one : (r s : Result A E) → P r → P s → r ≡ s) (same : (a : A) (x y : B) → Stands a x → Stands a y → x ≡ y) where
   told_twice : (r : Result A E) (old x y : B) (f g : Fault) → Tells Stands named r old x f

@@ -1,4 +1,4 @@
--- What is written of an angle is one text, in bytes of one length.
+-- An angle has at most one text, in bytes of one length.
 use Rattle.std.proofs.Common.{◌≡◌, ◌∙◌, ℕ, List, Result, Ok, Err, ap, length, slice_index, subst, sym}
 use Rattle.std.proofs.lemmas.List.{ext_get_or}
 use Rattle.sq_angle.specs.declared.angle.Angle.{Angle}

@@ -1,4 +1,4 @@
--- A call has one answer, unless it is out of memory.
+-- A call has at most one result, unless it is out of memory.
 use Rattle.std.proofs.Common.{◌≡◌, ◌≢◌, ◌∙◌, ℕ, List, [], ◌∷◌, Option, Some, None, Result, Ok, Err, ap, arith, inl, inr}
 use Rattle.std.proofs.Common.{length, map, refl, slice_get, sym, subst}
 use Rattle.sq_message.specs.declared.squitter.FrameFault.{FrameFault}
@@ -24,15 +24,15 @@ use Rattle.squitter_c.specs.declared.tracker_get.PlainPresent.{PlainPresent}
 use Rattle.squitter_c.specs.OneTrackers.{OneGot, OneHearing, OneMade, OneMadeAt, no_memory}
 use Rattle.squitter_c.specs.Trackers.{IsMade, IsReadHeard, IsShown, of_tracker, tracker_in}
 
--- ---- what is made
+-- ---- new trackers
 
--- of nothing present nothing is kept
+-- if no address is present, there are no contacts
 none_kept : (contacts : List (ℕ × Contact))
     → map {B = ℕ × ℕ} (λ (e : ℕ × Contact). (e.0, e.1.moment)) contacts ≡ [] → contacts ≡ []
 none_kept [] e = refl
 none_kept (entry ∷ rest) e = absurd (omega (arith, ap length e))
 
--- an empty tracker is told by its settings
+-- an empty tracker is determined by its settings
 one_empty : (s : Settings) (t u : Held) → StandsFor t [] → StandsFor u [] → settings t ≡ s → settings u ≡ s → t ≡ u
 one_empty s t u h k is also =
     let same = is ∙ sym also in
@@ -65,19 +65,19 @@ one_made_at limit window plain x y f g (inr (p, p_is, h)) (inr (q, q_is, k)) had
     let same = one_of_degrees plain p q p_is q_is in
     one_made limit window (Some p) x y f g h (subst (λ r. IsMade limit window (Some r) y g) (sym same) k) had has
 
--- ---- what is heard
+-- ---- results
 
--- a reply that is told with another fault is not out of memory
+-- a reply that is reported with another fault than `no_memory` is not `Memory`
 had_memory : (reply : Result Heard TrackFault) (old new : PlainHeard) (fault : Fault)
     → Tells IsPlainHeard of_tracker reply old new fault → fault ≢ no_memory → reply ≢ Err Memory
 had_memory reply old new fault told had is =
     had ((subst (λ r. Tells IsPlainHeard of_tracker r old new fault) is told).1)
 
--- a reply by a history, not for want of memory
+-- a reply by a history, other than out of memory
 abbrev Replied : Settings → History → (moment : ℕ) → Squitter → Result Heard TrackFault → Type 0
 Replied s h moment q reply = IsReply s h moment q reply × (reply ≢ Err Memory)
 
--- of a frame that was read so
+-- the results for a frame that was read as this
 heard_once : (h : History) (moment : ℕ) (answer : Result Squitter FrameFault) (t u v : Held) (old x y : PlainHeard)
     (f g : Fault) → StandsFor t h → f ≢ no_memory → g ≢ no_memory → IsReadHeard moment answer t u old x f
     → IsReadHeard moment answer t v old y g
@@ -121,7 +121,7 @@ one_hearing moment frame t u v old new other f g (x, x_is, (a, a_is, a_heard)) (
       ),
     )
 
--- ---- what is present
+-- ---- present addresses
 
 shown_once : (one : Option (ℕ × ℕ)) (old new other : PlainPresent) (f g : Fault) → IsShown one old new f
     → IsShown one old other g → (new ≡ other) × (f ≡ g)

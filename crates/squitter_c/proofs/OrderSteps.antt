@@ -1,11 +1,11 @@
--- What an order stores where there is room.
+-- What an order stores if there is room.
 use Rattle.std.proofs.Common.{◌≡◌, ◌⊎◌, ◌++◌, ◌∙◌, ℕ, List, ap, ap₂, append-nil, arith, inl, inr, length, subst, sym, take}
 use Rattle.std.proofs.lemmas.List.{take_all}
 use Rattle.sq_feed.specs.declared.message.Timed.{Timed}
 use Rattle.sq_feed.specs.Orders.{HasSorted, squitters_of}
 use Rattle.squitter_c.specs.OrderLaws.{AllFlushed, AllSorted}
 
--- all of both arrays was taken, which are equally long
+-- all elements of two arrays of equal length were taken
 taken_all : (count : ℕ) (moments : List ℕ) (frames : List (List ℕ)) → length moments ≡ length frames
     → (count ≡ length moments) ⊎ (count ≡ length frames)
     → squitters_of (take count moments) (take count frames) ≡ squitters_of moments frames

@@ -1,4 +1,4 @@
--- What was told of a tracker is taken back.
+-- A saved tracker is restored.
 use Rattle.std.proofs.Common.{◌≡◌, ◌<◌, ◌++◌, ◌∷◌, ◌∙◌, [], ℕ, zero, suc, List, Option, Some, None, length}
 use Rattle.std.proofs.Common.{get_or, slice_get, take, refl, sym, ap, subst, arith, inl, inr}
 use Rattle.sq_track.specs.declared.contact.Contact.{Contact}
@@ -41,7 +41,7 @@ abbrev IsToldEach : Option (ℕ × Contact) → PlainEntry → Type 0
 IsToldEach (Some e) p = IsEntryOf p e
 IsToldEach None p = Unit {0}
 
--- as many written entries as a tracker has represent its entries
+-- if as many entries are written as a tracker has, they represent its entries
 told_stand : (es : Entries) (ps : List PlainEntry) → length ps ≡ length es
     → ((k : ℕ) → k < length ps → (p : PlainEntry) → IsToldEach (slice_get es k) (get_or ps k p))
     → AreEntriesOf ps es
@@ -65,7 +65,7 @@ stand_front (suc n) [] (e ∷ es) stand = absurd stand
 stand_front (suc n) (p ∷ ps) [] stand = absurd stand
 stand_front (suc n) (p ∷ ps) (e ∷ es) stand = (stand.0, stand_front n ps es stand.1)
 
--- the entry at an index, with what lies before it and behind it
+-- the entry at an index, with the entries before and after it
 split_at : (n : ℕ) (ps : List PlainEntry) (es : Entries) → AreEntriesOf ps es → n < length ps → (p : PlainEntry)
     → (e : ℕ × Contact) × (back : Entries) × (es ≡ take n es ++ e ∷ back) × IsEntryOf (get_or ps n p) e
 split_at n [] es stand lt p = absurd (omega (arith, lt))

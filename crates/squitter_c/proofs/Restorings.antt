@@ -1,4 +1,4 @@
--- Entries that are taken back one after another.
+-- Entries that are restored in order.
 use Rattle.std.proofs.Common.{◌≡◌, ◌<◌, ◌+◌, ◌++◌, ◌∷◌, ◌⊎◌, ◌∙◌, [], ℕ, List, Option, length, get_or, take, drop, refl}
 use Rattle.std.proofs.Common.{sym, ap, subst, subst₂, arith, inl, inr}
 use Rattle.std.proofs.lemmas.List.{get_or_default, length-append, take_more}
@@ -23,7 +23,7 @@ nothing_held t last front back a c is =
     longer : (n : ℕ) → 0 < n + 1
     longer n = omega arith
 
--- an element of a list with one more is the last, or one before it
+-- an element of a list with one more element is the last, or one before it
 splits : {X : Type 0} (xs front back : List X) (x e : X) → xs ++ e ∷ [] ≡ front ++ x ∷ back
     → ((front ≡ xs) × (x ≡ e)) ⊎ ((rest : List X) × (xs ≡ front ++ x ∷ rest))
 splits [] [] back x e is = inl (refl, ap (λ l. get_or l 0 x) (sym is))
@@ -53,7 +53,7 @@ module _ (t now : Held) (last : Option ℕ) (entries : List PlainEntry) (at : �
     abbrev address : ℕ
     address = (get_or entries at d).address
 
-    -- one entry more was taken back
+    -- one more entry was restored
     pub one_more : (new : Held) → CanFollow now address contact
         → new ≡ record now { contacts = now.contacts ++ (address, contact) ∷ [] }
         → (xs : List (ℕ × Contact)) × AreEntriesOf (take (at + 1) entries) xs × CanBeRestored (holding t last xs)

@@ -1,4 +1,4 @@
--- Entries that are written one after another.
+-- Entries that are written in order.
 use Rattle.std.proofs.Common.{◌≡◌, ◌≢◌, ◌≤◌, ◌<◌, ◌+◌, ◌⊎◌, ◌∙◌, ℕ, zero, suc, [], ◌∷◌, List, Some, None, length, get_or, set, refl, sym, ap}
 use Rattle.std.proofs.Common.{slice_get, subst, subst₂, arith, inl, inr, is_some}
 use Rattle.std.proofs.lemmas.Bool.{true≢false}
@@ -9,7 +9,7 @@ use Rattle.squitter_c.specs.declared.entry.PlainEntry.{PlainEntry}
 use Rattle.squitter_c.specs.Entries.{IsEntryOf}
 use Rattle.squitter_c.specs.Restoring.{AreTold, IsToldAt}
 
--- the entries below n are written, and nothing from n on
+-- only the entries below n are written
 pub record AreToldBelow (contacts : List (ℕ × Contact)) (was is : List PlainEntry) (n : ℕ) : Type 0 where
   pub long : length is ≡ length was
   pub told : (k : ℕ) → k < n → (p : PlainEntry) → IsToldAt (slice_get contacts k) (get_or was k p) (get_or is k p)
@@ -26,7 +26,7 @@ module _ (contacts : List (ℕ × Contact)) (was is : List PlainEntry) where
     rest = λ k past p. refl;
   }
 
-  -- one entry more
+  -- one more entry
   pub one_told : (n : ℕ) (e : ℕ × Contact) (p : PlainEntry) → AreToldBelow contacts was is n → n < length is
       → slice_get contacts n ≡ Some e → IsEntryOf p e → AreToldBelow contacts was (set is n p) (n + 1)
   one_told n e p h room there entry = record {
@@ -45,14 +45,14 @@ module _ (contacts : List (ℕ × Contact)) (was is : List PlainEntry) where
         get_or-set_other is n k p d other ∙ h.rest k (omega (arith, past)) d;
   }
 
-  -- all that there is room for
+  -- all entries that there is room for
   pub all_told : (n : ℕ) → AreToldBelow contacts was is n → length is ≤ n → AreTold contacts was is
   all_told n h all = record {
     long = h.long;
     each = λ k below p. h.told k (omega (arith, below, all, h.long)) p;
   }
 
-  -- all that there are
+  -- all entries that there are
   pub last_told : (n : ℕ) → AreToldBelow contacts was is n → slice_get contacts n ≡ None
       → ((k : ℕ) → n ≤ k → slice_get contacts k ≡ None) → AreTold contacts was is
   last_told n h none past = record {

@@ -1,6 +1,5 @@
--- How a seal is made of the parts of a box, and opened again, for any type that a seal can hold.
--- Raw pointers name no type. So the functions of `Seal` that differ in types alone have the same code: `seals` and
--- `opens`.
+-- Making a seal of the parts of a box, and opening it again, for any type that a seal can hold. Raw pointers name no
+-- type. So the functions of `Seal` that differ only in types have the same code: `seals` and `opens`.
 use Rattle.std.proofs.Common.{◌≡◌, List, [], ◌∷◌, ◌++◌, refl, sym, subst, Option, Some, None, IsSome, ap, ◌∙◌}
 use Rattle.std.proofs.lemmas.Bool.{false≢true}
 use mir.Syntax.{Fn, Callee, impl, tnil, dnil, local, value_local, ty_ptr, place, field, assign, aggregate, copy}
@@ -65,7 +64,7 @@ solid X = record {
   shr_at = X.shr_at;
 }
 
--- How a seal holds the values of a type. A seal that holds a value owns what a box of the value owns.
+-- The way in which a seal holds the values of a type. A seal that holds a value owns what a box of the value owns.
 pub record Kind : Type 2 where
   pub row : RattleType
   pub laws : Laws (solid row)

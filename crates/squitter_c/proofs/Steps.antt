@@ -1,4 +1,4 @@
--- Many calls in one: one call more.
+-- Many calls in one: one more call.
 use Rattle.std.proofs.Common.{◌≡◌, ◌<◌, ◌≤◌, ◌+◌, ◌∙◌, ◌≢◌, ℕ, zero, suc, pos, add-one, List, length, get_or, set, refl}
 use Rattle.std.proofs.Common.{sym, subst, subst₂, arith, inl, inr, ◌⊎◌}
 use Rattle.std.proofs.lemmas.List.{length-set, get_or-set_same, get_or-set_other, get_or_default}
@@ -6,11 +6,11 @@ use Rattle.squitter_c.specs.declared.heard.PlainHeard.{PlainHeard}
 use Rattle.squitter_c.specs.declared.plain.PlainPosition.{PlainPosition}
 use Rattle.squitter_c.specs.Calls.{AreAnswered, IsBelow, Leads}
 
--- below n + 1 is below n, or n
+-- an index below n + 1 is below n, or is n
 below_next : (k n : ℕ) → k < n + 1 → (k < n) ⊎ (k ≡ n)
 below_next k n h = grind arith
 
--- what holds of a place that a list has does not rest on what is read past its end
+-- a property of an element that a list has does not depend on the default past its end
 pub there : {A : Type 0} (P : A → Type 0) (xs : List A) (n : ℕ) (x₀ x : A) → n < length xs → P (get_or xs n x₀)
     → P (get_or xs n x)
 there P xs n x₀ x has h = subst P (get_or_default xs n x₀ x has) h
@@ -20,7 +20,7 @@ module _ {B C : Type 0} (was is : List B) (before after : List C) where
   pub none_below : IsBelow is is after after 0
   none_below = record { long = (refl, refl); rest = λ k past b c. (refl, refl) }
 
-  -- place n was written
+  -- element n was written
   pub one_below : (n : ℕ) → IsBelow was is before after n → (y : B) (z : C)
       → IsBelow was (set is n y) before (set after n z) (n + 1)
   one_below n h y z = record {
@@ -33,14 +33,14 @@ module _ {B C : Type 0} (was is : List B) (before after : List C) where
   }
 
 module _ {B C : Type 0} (At : ℕ → B → B → C → Type 0) (was is : List B) (before after : List C) (n : ℕ) where
-  -- nothing was answered yet
+  -- no call has a result yet
   pub none_answered : AreAnswered At is is after after 0
   none_answered = record {
     below = none_below is is after after;
     answered = λ k below b c. absurd (omega (arith, below));
   }
 
-  -- place n was answered
+  -- call n has a result
   pub one_answered : AreAnswered At was is before after n → n < length is → n < length after
       → (b₀ y : B) (z : C) → At n (get_or is n b₀) y z
       → AreAnswered At was (set is n y) before (set after n z) (n + 1)
@@ -62,7 +62,7 @@ module _ {B C : Type 0} (At : ℕ → B → B → C → Type 0) (was is : List B
 
 module _ {S B C : Type 0} (At : ℕ → S → S → B → B → C → Type 0) (first : S) (was is : List B)
     (before after : List C) where
-  -- what is written from there on changes nothing of it
+  -- later writes do not change the earlier calls
   pub leads_still : (m : ℕ) (y : B) (z : C) (n : ℕ) (last : S) → n ≤ m → Leads At first was is after n last
       → Leads At first was (set is m y) (set after m z) n last
   leads_still m y z zero last low h = h
@@ -74,7 +74,7 @@ module _ {S B C : Type 0} (At : ℕ → S → S → B → B → C → Type 0) (f
             (sym (get_or-set_other is m n y b other)) (sym (get_or-set_other after m n z c other)) (h.2 b c),
       )
 
-  -- one call more
+  -- one more call
   pub leads_on : (n : ℕ) (s t : S) → IsBelow was is before after n → Leads At first was is after n s
       → n < length is → n < length after → (b₀ y : B) (z : C) → At n s t (get_or is n b₀) y z
       → Leads At first was (set is n y) (set after n z) (n + 1) t
@@ -87,7 +87,7 @@ module _ {S B C : Type 0} (At : ℕ → S → S → B → B → C → Type 0) (f
             (subst (λ u. At n s t u y z) (get_or_default is n b₀ b room ∙ (below.rest n (omega arith) b c).0) called),
       )
 
--- what stands for a place past an end
+-- values for reads past an end
 abbrev pub no_place : PlainPosition
 no_place = record { lat = record { num = pos 0; den = 0 }; lon = record { num = pos 0; den = 0 } }
 

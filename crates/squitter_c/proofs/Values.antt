@@ -41,7 +41,7 @@ module _ {M : Type 1} {𝓤 : Ura M} {𝓛 : Logic 𝓤} {K : Type 0} {Γ : List
       fpack t (Valss (RawPtr ∷ [])) (within (shape Seal.the_type) (p, tt) (one p ∷ [])) (ptr_val p ∷ [], tt) $
       fjoin t $ s)
 
--- a pointer is one
+-- a pointer has the type of a pointer
 pub ptr_typed : (p : Ptr) → T (has_ty ty_ptr (ptr_val p)) × WT (ptr_val p)
 ptr_typed (block_ptr b o) = (tt, tt)
 ptr_typed null_ptr = (tt, record { fits = lit< tt })

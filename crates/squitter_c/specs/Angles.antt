@@ -1,4 +1,4 @@
--- What is answered for an angle: its text, the angle of a text, and the zone count of a latitude.
+-- Calls for angles: the text of an angle, the angle of a text, and the zone count of a latitude.
 use Rattle.std.specs.Prelude.{◌≡◌, ◌<◌, ℕ, List, length, slice_index, Result, Ok, Err}
 use Rattle.sq_angle.specs.declared.angle.Angle.{Angle}
 use Rattle.sq_angle.specs.declared.read.AngleFault.{AngleFault}
@@ -14,7 +14,7 @@ use Rattle.squitter_c.specs.declared.plain.PlainAngle.{PlainAngle}
 use Rattle.squitter_c.specs.Faults.{Tells, as_it_is, of_angles}
 use Rattle.squitter_c.specs.Plain.{IsLowestOf, PlainIsAngle, fraction_of}
 
--- the text stands in front in these bytes, and all that follows is 0, at least one byte
+-- the bytes begin with the text, and all bytes after it are 0, at least one
 pub record StandsIn (text bytes : List ℕ) : Type 0 where
   pub ended : length text < length bytes
   pub each : (k : ℕ) → slice_index bytes k ≡ slice_index text k
@@ -23,12 +23,12 @@ pub record StandsIn (text bytes : List ℕ) : Type 0 where
 abbrev pub HoldsDecimal7 : Angle → List ℕ → Type 0
 HoldsDecimal7 angle bytes = (text : List ℕ) × IsDecimal7 (degrees angle) text × StandsIn text bytes
 
--- the angle of a fraction, or that it is none
+-- the angle of a fraction, or the reason why there is none
 abbrev pub IsAngleAnswer : PlainAngle → Result Angle Reason → Type 0
 IsAngleAnswer plain (Ok angle) = degrees angle ≡ fraction_of plain
 IsAngleAnswer plain (Err reason) = (¬ (PlainIsAngle plain)) × (reason ≡ reasons.NoAngle)
 
--- the text with seven decimals
+-- the result of writing an angle with seven decimals
 abbrev pub IsAngleWritten : PlainAngle → (old new : List ℕ) → Fault → Type 0
 IsAngleWritten plain old new fault =
     (answer : Result Angle Reason) × IsAngleAnswer plain answer × Tells HoldsDecimal7 as_it_is answer old new fault
@@ -37,26 +37,26 @@ IsAngleWritten plain old new fault =
 abbrev pub IsLowestAngle : Angle → PlainAngle → Type 0
 IsLowestAngle angle plain = IsLowestOf (degrees angle) plain
 
--- the angle that a text spells
+-- the result of parsing an angle
 abbrev pub IsAngleRead : List ℕ → (old new : PlainAngle) → Fault → Type 0
 IsAngleRead text old new fault =
     (answer : Result Angle AngleFault) × IsReading text answer × Tells IsLowestAngle of_angles answer old new fault
 
--- the fraction is an angle of at most 90 degrees on both sides
+-- the fraction is a valid angle from -90 to 90 degrees
 pub record IsLatitude (plain : PlainAngle) : Type 0 where
   pub angle : PlainIsAngle plain
   pub within : IsWithin 90 (fraction_of plain)
 
--- the zone count of a latitude, or that it is none
+-- the zone count of a latitude, or the reason why there is none
 abbrev pub IsZoneAnswer : PlainAngle → Result ℕ Reason → Type 0
 IsZoneAnswer plain (Ok count) = IsLatitude plain × (count ≡ zones_at (fraction_of plain))
 IsZoneAnswer plain (Err reason) = (¬ (IsLatitude plain)) × (reason ≡ reasons.NoLatitude)
 
--- the number itself
+-- the written number is the result
 abbrev pub IsItself : ℕ → ℕ → Type 0
 IsItself answer written = written ≡ answer
 
--- the zone count
+-- the result of the zone count of a latitude
 abbrev pub IsZoneCount : PlainAngle → (old new : ℕ) → Fault → Type 0
 IsZoneCount plain old new fault =
     (answer : Result ℕ Reason) × IsZoneAnswer plain answer × Tells IsItself as_it_is answer old new fault

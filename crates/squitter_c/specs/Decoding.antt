@@ -1,4 +1,4 @@
--- What is answered for a place.
+-- Calls that decode positions.
 use Rattle.std.specs.Prelude.{◌≡◌, ◌⊎◌, Option, None, Some, Result, Ok, Err}
 use Rattle.sq_bits.specs.declared.frame.Frame.{Frame}
 use Rattle.sq_angle.specs.declared.position.Position.{Position}
@@ -21,11 +21,12 @@ use Rattle.squitter_c.specs.Plain.{IsLowestPosition, IsOfDegrees, PlainIsPositio
 abbrev pub IsFrameFault : Frame → LineFault → Type 0
 IsFrameFault frame fault = (of : FrameFault) × IsFault frame of × (fault ≡ of_frame of)
 
--- the frame spells a squitter
+-- the frame encodes a squitter
 abbrev pub IsRead : Frame → Type 0
 IsRead frame = (q : Squitter) × Spells frame q
 
--- what a frame is decoded to near a reference; the first fault is the reference's, then the frame's, then the place's
+-- the result of decoding a frame near a reference; the first fault is that of the reference, then of the frame, then
+-- of the place
 unfoldable pub IsLocalAnswer : Frame → PlainPosition → Result Place Reason → Type 0
 IsLocalAnswer frame plain (Ok place) = (reference : Position) × IsOfDegrees plain reference
     × ((q : Squitter) × Spells frame q × IsLocalPlace (squitter_parts q).me reference (Ok place))
@@ -35,7 +36,7 @@ IsLocalAnswer frame plain (Err (reasons.Place fault)) = (reference : Position) �
     × ((q : Squitter) × Spells frame q × IsLocalPlace (squitter_parts q).me reference (Err fault))
 IsLocalAnswer frame plain (Err other) = ⊥
 
--- what a pair is decoded to; the first fault is the older frame's, then the newer's, then the place's
+-- the result of decoding a pair; the first fault is that of the older frame, then of the newer, then of the place
 unfoldable pub IsPairAnswer : (older newer : Frame) → Option Position → Result Place Reason → Type 0
 IsPairAnswer older newer site (Ok place) = (o : Squitter) × Spells older o × ((n : Squitter) × Spells newer n
     × IsPairPlace (squitter_parts o) (squitter_parts n) site (Ok place))
@@ -45,7 +46,7 @@ IsPairAnswer older newer site (Err (reasons.Place fault)) = (o : Squitter) × Sp
     × ((n : Squitter) × Spells newer n × IsPairPlace (squitter_parts o) (squitter_parts n) site (Err fault))
 IsPairAnswer older newer site (Err other) = ⊥
 
--- what a pair is decoded to with a site, whose fault comes first
+-- the result of decoding a pair with a site; the fault of the site comes first
 abbrev pub IsSiteAnswer : (older newer : Frame) → PlainPosition → Result Place Reason → Type 0
 IsSiteAnswer older newer plain answer = ((¬ (PlainIsPosition plain)) × (answer ≡ Err reasons.NoPosition))
     ⊎ ((site : Position) × IsOfDegrees plain site × IsPairAnswer older newer (Some site) answer)
@@ -54,21 +55,21 @@ IsSiteAnswer older newer plain answer = ((¬ (PlainIsPosition plain)) × (answer
 abbrev pub IsLowestPlace : Place → PlainPosition → Type 0
 IsLowestPlace place plain = (position : Position) × IsPositionOf place position × IsLowestPosition position plain
 
--- the position of a place is written, or the fault told
+-- the position of a place is written, or the fault is returned
 abbrev pub TellsPosition : Result Place Reason → (old new : PlainPosition) → Fault → Type 0
 TellsPosition answer old new fault = Tells IsLowestPlace as_it_is answer old new fault
 
--- of a frame near a reference
+-- the result for a frame near a reference
 abbrev pub IsLocal : Frame → PlainPosition → (old new : PlainPosition) → Fault → Type 0
 IsLocal frame reference old new fault =
     (answer : Result Place Reason) × IsLocalAnswer frame reference answer × TellsPosition answer old new fault
 
--- of a pair without a site
+-- the result for a pair without a site
 abbrev pub IsPair : (older newer : Frame) → (old new : PlainPosition) → Fault → Type 0
 IsPair older newer old new fault =
     (answer : Result Place Reason) × IsPairAnswer older newer None answer × TellsPosition answer old new fault
 
--- of a pair with a site
+-- the result for a pair with a site
 abbrev pub IsPairAt : (older newer : Frame) → PlainPosition → (old new : PlainPosition) → Fault → Type 0
 IsPairAt older newer site old new fault =
     (answer : Result Place Reason) × IsSiteAnswer older newer site answer × TellsPosition answer old new fault

@@ -1,4 +1,4 @@
--- What a tracker holds of an address, in plain numbers.
+-- State of one address of a tracker, in plain numbers.
 use Rattle.std.specs.Prelude.{◌≡◌, ◌∷◌, [], ℕ, List, Option, Some, None}
 use Rattle.sq_message.specs.declared.received.Received.{Received}
 use Rattle.sq_message.specs.declared.squitter.Squitter.{Squitter}
@@ -39,7 +39,7 @@ pub record IsContactOf (plain : PlainEntry) (contact : Contact) : Type 0 where
 abbrev pub IsEntryOf : PlainEntry → ℕ × Contact → Type 0
 IsEntryOf plain e = (plain.address ≡ e.0) × IsContactOf plain e.1
 
--- one after the other, as many
+-- each plain entry represents the entry at the same index, and the lists are equally long
 abbrev pub AreEntriesOf : List PlainEntry → List (ℕ × Contact) → Type 0
 AreEntriesOf [] [] = Unit {0}
 AreEntriesOf (p ∷ ps) (e ∷ es) = IsEntryOf p e × AreEntriesOf ps es

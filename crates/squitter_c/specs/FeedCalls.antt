@@ -1,4 +1,4 @@
--- What calls of a feed answer.
+-- Calls of a feed.
 use Rattle.std.specs.Prelude.{◌≡◌, ◌==◌, ◌≤◌, ◌<◌, ◌+◌, ◌*◌, ◌/◌, ◌%◌, ◌⊎◌, ℕ, List, [], Option, None, Some, drop, length, take}
 use Rattle.sq_feed.specs.declared.machine.Format.{Format}
 use Rattle.sq_feed.specs.declared.machine.Format.TheVariants as formats
@@ -22,7 +22,7 @@ feed_format_number formats.Avr = 1
 feed_format_number formats.Csv = 2
 feed_format_number formats.Log = 3
 
--- 4 for a source that shows its format by its first bytes
+-- the number of a format, or 4 if the first bytes of the source show the format
 abbrev pub feed_number : Option Format → ℕ
 feed_number (Some format) = feed_format_number format
 feed_number None = 4
@@ -47,7 +47,7 @@ IsFeedMade number leap late flags size (Some feed) fault = (format : Option Form
 IsFeedMade number leap late flags size None fault = ((4 < number) × (fault ≡ fault_of reasons.NoFormat))
     ⊎ ((number ≤ 4) × (fault ≡ fault_of reasons.Memory))
 
--- The first elements of an array were written, so many; the others are unchanged.
+-- The first `count` elements of an array were written; the others are unchanged.
 pub record IsFilled {X : Type 0} (was is : List X) (count : ℕ) : Type 0 where
   pub fits : count ≤ length is
   pub long : length is ≡ length was
@@ -55,8 +55,8 @@ pub record IsFilled {X : Type 0} (was is : List X) (count : ℕ) : Type 0 where
 
 -- ---- squitters in arrays
 
--- The feed went on with the bytes that were taken, and their squitters were stored. Where both arrays have room for one
--- more, all bytes were taken, and no squitter waits.
+-- The feed took bytes, and stored their squitters. If both arrays have room for one more, it took all bytes, and no
+-- squitter waits.
 pub record HasTakenFrames (arrival : ℕ) (old new : Feeding) (piece moments_were moments : List ℕ)
     (frames_were frames : List (List ℕ)) (done : Done) : Type 0 where
   pub taken : done.taken ≤ length piece
@@ -68,14 +68,14 @@ pub record HasTakenFrames (arrival : ℕ) (old new : Feeding) (piece moments_wer
   pub moments_filled : IsFilled moments_were moments done.written
   pub frames_filled : IsFilled frames_were frames done.written
 
--- The source ended, and its last squitters were stored. Where both arrays have room for one more, none waits.
+-- The source ended, and its last squitters were stored. If both arrays have room for one more, none waits.
 pub record HasEndedInFrames (arrival : ℕ) (old new : Feeding) (moments_were moments : List ℕ)
     (frames_were frames : List (List ℕ)) (done : Done) : Type 0 where
   pub closed : Feeding
   pub ended : HasClosedFeed old closed
   pub gives : HasTakenFrames arrival closed new [] moments_were moments frames_were frames done
 
--- the result of taking a piece, if there is a feed, and else the fault
+-- the result of taking a piece, or the fault if there is no feed
 abbrev pub IsFeedTaken : (arrival : ℕ) → (old new : Option KeptFeed) → (piece moments_were moments : List ℕ)
     → (frames_were frames : List (List ℕ)) → (before after : Done) → Fault → Type 0
 IsFeedTaken arrival (Some k) new piece moments_were moments frames_were frames before after fault =
@@ -85,7 +85,7 @@ IsFeedTaken arrival None new piece moments_were moments frames_were frames befor
     (new ≡ None) × (moments ≡ moments_were) × (frames ≡ frames_were) × (after ≡ before)
     × (fault ≡ fault_of reasons.NoTracker)
 
--- the result of ending a source, if there is a feed, and else the fault
+-- the result of ending a source, or the fault if there is no feed
 abbrev pub IsFeedFinished : (arrival : ℕ) → (old new : Option KeptFeed) → (moments_were moments : List ℕ)
     → (frames_were frames : List (List ℕ)) → (before after : Done) → Fault → Type 0
 IsFeedFinished arrival (Some k) new moments_were moments frames_were frames before after fault =
@@ -97,7 +97,7 @@ IsFeedFinished arrival None new moments_were moments frames_were frames before a
 
 -- ---- lines in a buffer
 
--- So many bytes of the piece were taken, and the lines of their squitters written from index `at` up to `end`.
+-- `count` bytes of the piece were taken, and the lines of their squitters were written from index `at` up to `end`.
 pub record HasTakenSome (arrival : ℕ) (old new : Feeding) (piece : List ℕ) (count at end : ℕ) (was is : List ℕ) : Type 0
   where
     pub fits : count ≤ length piece
@@ -107,8 +107,8 @@ pub record HasTakenSome (arrival : ℕ) (old new : Feeding) (piece : List ℕ) (
     pub from : (at ≤ end) × (end ≤ length is)
     pub rest : (drop end is ≡ drop end was) × (length is ≡ length was)
 
--- The feed went on with the bytes that were taken, and the lines of their squitters were written. Where there is room
--- for a line more, all bytes were taken, and no line waits.
+-- The feed took bytes, and wrote the lines of their squitters. If there is room for one more line, it took all bytes,
+-- and no line waits.
 pub record HasTakenText (arrival : ℕ) (old new : Feeding) (piece was is : List ℕ) (done : Done) : Type 0 where
   pub taken : done.taken ≤ length piece
   pub written : HasWritten arrival old (take done.taken piece) [] (take done.written is) new
@@ -116,13 +116,13 @@ pub record HasTakenText (arrival : ℕ) (old new : Feeding) (piece was is : List
   pub all : done.written + 50 ≤ length is → (done.taken ≡ length piece) × (calls_left new.reader ≡ 0)
   pub filled : IsFilled was is done.written
 
--- The source ended, and its last lines were written. Where there is room for a line more, none waits.
+-- The source ended, and its last lines were written. If there is room for one more line, none waits.
 pub record HasEndedInText (arrival : ℕ) (old new : Feeding) (was is : List ℕ) (done : Done) : Type 0 where
   pub closed : Feeding
   pub ended : HasClosedFeed old closed
   pub gives : HasTakenText arrival closed new [] was is done
 
--- the result of taking a piece, if there is a feed, and else the fault
+-- the result of taking a piece, or the fault if there is no feed
 abbrev pub IsFeedTextTaken : (arrival : ℕ) → (old new : Option KeptFeed) → (piece was is : List ℕ)
     → (before after : Done) → Fault → Type 0
 IsFeedTextTaken arrival (Some k) new piece was is before after fault =
@@ -130,7 +130,7 @@ IsFeedTextTaken arrival (Some k) new piece was is before after fault =
 IsFeedTextTaken arrival None new piece was is before after fault =
     (new ≡ None) × (is ≡ was) × (after ≡ before) × (fault ≡ fault_of reasons.NoTracker)
 
--- the result of ending a source, if there is a feed, and else the fault
+-- the result of ending a source, or the fault if there is no feed
 abbrev pub IsFeedTextFinished : (arrival : ℕ) → (old new : Option KeptFeed) → (was is : List ℕ)
     → (before after : Done) → Fault → Type 0
 IsFeedTextFinished arrival (Some k) new was is before after fault =
@@ -140,7 +140,7 @@ IsFeedTextFinished arrival None new was is before after fault =
 
 -- ---- other calls
 
--- the result of a lost connection, if there is a feed, and else the fault
+-- the result of a lost connection, or the fault if there is no feed
 abbrev pub IsFeedLost : (old new : Option KeptFeed) → Fault → Type 0
 IsFeedLost (Some k) new fault = (next : KeptFeed) × (new ≡ Some next) × HasLost k next × (fault ≡ none)
 IsFeedLost None new fault = (new ≡ None) × (fault ≡ fault_of reasons.NoTracker)
@@ -155,7 +155,7 @@ pub record AreCounts (tally : Tally) (plain : PlainCounts) : Type 0 where
   pub aside : plain.aside ≡ tally.aside
   pub formats : plain.formats ≡ tally.formats
 
--- the counts of a feed, if there is one, and else the fault
+-- the counts of a feed, or the fault if there is no feed
 abbrev pub IsFeedCounted : Option KeptFeed → (was is : PlainCounts) → Fault → Type 0
 IsFeedCounted (Some k) was is fault = AreCounts k.ear.counts is × (fault ≡ none)
 IsFeedCounted None was is fault = (is ≡ was) × (fault ≡ fault_of reasons.NoTracker)
@@ -170,13 +170,13 @@ stranger_number strangers.Utf16 = 8
 stranger_number strangers.Json = 9
 stranger_number strangers.NoFrame = 10
 
--- the number of a format, or of what a source without one is, or 4 while neither is known
+-- the number of a format, or of a source without a format; 4 while neither is known
 abbrev pub source_number : Option Format → Option Stranger → ℕ
 source_number (Some format) stranger = feed_format_number format
 source_number None (Some stranger) = stranger_number stranger
 source_number None None = 4
 
--- what the source of a feed is, as far as it is known, if there is a feed, and else the fault
+-- the number of a feed's source, as far as it is known, or the fault if there is no feed
 abbrev pub IsSourceNumber : Option KeptFeed → (was is : ℕ) → Fault → Type 0
 IsSourceNumber (Some k) was is fault =
     (is ≡ source_number (format_of_source k) k.ear.stranger) × (fault ≡ none)

@@ -1,4 +1,4 @@
--- What was given where a call of a feed left room.
+-- The complete result of a call of a feed that left room.
 use Rattle.std.specs.Prelude.{◌≡◌, ◌+◌, ◌<◌, ◌≤◌, ℕ, List, [], Option, Some, length, take}
 use Rattle.sq_feed.specs.Feeds.{HasGiven, HasWritten}
 use Rattle.squitter_c.specs.declared.faults.Fault.{Fault}
@@ -7,7 +7,7 @@ use Rattle.squitter_c.specs.Seal.{KeptFeed}
 use Rattle.squitter_c.specs.declared.log_take.Done.{Done}
 use Rattle.squitter_c.specs.FeedCalls.{IsFeedTaken, IsFeedTextTaken}
 
--- The squitters of the whole piece, in arrays that have room for one more.
+-- If both arrays have room for one more, they hold the squitters of the whole piece.
 abbrev pub AllGiven : Type 0
 AllGiven = (arrival : ℕ) (k : KeptFeed) (new : Option KeptFeed) (piece moments_were moments : List ℕ)
     (frames_were frames : List (List ℕ)) (before after : Done) (fault : Fault)
@@ -16,7 +16,7 @@ AllGiven = (arrival : ℕ) (k : KeptFeed) (new : Option KeptFeed) (piece moments
     → (next : KeptFeed) × (new ≡ Some next) × (after.taken ≡ length piece) × (fault ≡ none)
     × HasGiven arrival k piece [] [] (take after.written moments) (take after.written frames) next
 
--- The lines of the whole piece, in a buffer that has room for one more.
+-- If the buffer has room for one more line, it holds the lines of the whole piece.
 abbrev pub AllWritten : Type 0
 AllWritten = (arrival : ℕ) (k : KeptFeed) (new : Option KeptFeed) (piece was is : List ℕ) (before after : Done)
     (fault : Fault) → IsFeedTextTaken arrival (Some k) new piece was is before after fault

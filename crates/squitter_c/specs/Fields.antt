@@ -14,7 +14,7 @@ use Rattle.sq_message.specs.Parts.{Airborne, Surface, AirParts, GroundParts, air
 use Rattle.sq_message.specs.Spelling.{bit}
 use Rattle.squitter_c.specs.declared.fields.PlainSquitter.{PlainSquitter}
 
--- the parity and the code of a place
+-- the parity and the code of a position
 pub record IsPlainPlace (parity : Parity) (code : CodeNumbers) (plain : PlainSquitter) : Type 0 where
   pub odd : plain.odd ≡ parity_index parity
   pub lat : plain.lat ≡ code.lat
@@ -26,12 +26,12 @@ IsPlainAltitude altitudes.Missing form feet = (form ≡ 0) × (feet ≡ pos 0)
 IsPlainAltitude (altitudes.Feet n) form feet = (form ≡ 1) × (feet ≡ n)
 IsPlainAltitude (altitudes.Raw field) form feet = (form ≡ 2) × (feet ≡ pos 0)
 
--- what the altitude field of a type code means
+-- the meaning of the altitude field of a type code
 abbrev pub HasMeaning : (code field form : ℕ) → (feet : ℤ) → Type 0
 HasMeaning code field form feet =
     (meaning : Altitude) × IsAltitude code field meaning × IsPlainAltitude meaning form feet
 
--- what an airborne position says besides where
+-- the fields of an airborne position, except its position
 pub record IsPlainAirFields (fields : AirParts) (plain : PlainSquitter) : Type 0 where
   pub type_code : plain.type_code ≡ fields.type_code
   pub status : plain.status ≡ fields.status
@@ -47,7 +47,7 @@ pub record IsPlainAirborne (airborne : Airborne) (plain : PlainSquitter) : Type 
   pub place : IsPlainPlace airborne.parity (numbers_of airborne.code) plain
   pub others : (plain.movement ≡ 0) × (plain.track_status ≡ 0) × (plain.track ≡ 0) × (plain.raw ≡ 0)
 
--- what a surface position says besides where
+-- the fields of a surface position, except its position
 pub record IsPlainGroundFields (fields : GroundParts) (plain : PlainSquitter) : Type 0 where
   pub type_code : plain.type_code ≡ fields.type_code
   pub movement : plain.movement ≡ fields.movement
@@ -55,7 +55,7 @@ pub record IsPlainGroundFields (fields : GroundParts) (plain : PlainSquitter) : 
   pub track : plain.track ≡ fields.track
   pub time : plain.time ≡ bit fields.time
 
--- no field of an airborne position alone
+-- the fields that only airborne positions have are 0
 pub record HasNoAirFields (plain : PlainSquitter) : Type 0 where
   pub bits : (plain.status ≡ 0) × (plain.flag ≡ 0)
   pub altitude : (plain.altitude ≡ 0) × (plain.altitude_form ≡ 0) × (plain.feet ≡ pos 0)

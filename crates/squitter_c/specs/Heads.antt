@@ -1,4 +1,4 @@
--- What a plain head stands for: all of a position squitter but its place.
+-- Plain heads: the fields of a position squitter, except its position.
 use Rattle.std.specs.Prelude.{◌≡◌, ◌<◌, ◌^◌, ℕ}
 use Rattle.sq_message.specs.Kinds.{Kind, HeadParts, InAir, OnGround}
 use Rattle.sq_message.specs.Parts.{air_parts, ground_parts}
@@ -56,7 +56,7 @@ abbrev pub odd_of : (kind : Kind) → PlainHead kind → ℕ
 odd_of InAir plain = plain.odd
 odd_of OnGround plain = plain.odd
 
--- each field is in its range, and the parity is
+-- each field is in its range, and so is the parity
 abbrev pub PlainIsHead : (kind : Kind) → PlainHead kind → Type 0
 PlainIsHead InAir plain = PlainIsAirHead plain × IsFlag plain.odd
 PlainIsHead OnGround plain = PlainIsGroundHead plain × IsFlag plain.odd

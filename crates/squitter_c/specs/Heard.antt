@@ -1,4 +1,4 @@
--- What was heard, in plain numbers.
+-- Results for frames, in plain numbers.
 use Rattle.std.specs.Prelude.{◌≡◌, ℕ, pos}
 use Rattle.sq_angle.specs.declared.position.Position.{Position}
 use Rattle.sq_message.specs.declared.place.Place.{Place}
@@ -8,22 +8,22 @@ use Rattle.sq_track.specs.declared.heard.Heard.TheVariants.{Fix, Followed, Waiti
 use Rattle.squitter_c.specs.declared.heard.PlainHeard.{PlainHeard}
 use Rattle.squitter_c.specs.Plain.{IsLowestPosition}
 
--- the place that was heard, in lowest terms
+-- the position of the place, in lowest terms
 abbrev pub HasPlace : Place → PlainHeard → Type 0
 HasPlace place plain = (position : Position) × IsPositionOf place position × IsLowestPosition position plain.position
 
--- no place: 0/0 and 0/0
+-- no position: 0/0 and 0/0
 pub record HasNoPlace (plain : PlainHeard) : Type 0 where
   pub lat : (plain.position.lat.num ≡ pos 0) × (plain.position.lat.den ≡ 0)
   pub lon : (plain.position.lon.num ≡ pos 0) × (plain.position.lon.den ≡ 0)
 
--- what was heard, as plain numbers: which of the seven, and the zone counts or 0
+-- a result in plain numbers: which of the seven it is, and the zone counts or 0
 pub record IsHeardAs (which first second : ℕ) (plain : PlainHeard) : Type 0 where
   pub what : plain.what ≡ which
   pub even : plain.even ≡ first
   pub odd : plain.odd ≡ second
 
--- each of the seven, with the place where it has one
+-- each of the seven results, with its position if it has one
 abbrev pub IsPlainHeard : Heard → PlainHeard → Type 0
 IsPlainHeard (Fix place) plain = IsHeardAs 1 0 0 plain × HasPlace place plain
 IsPlainHeard (Followed place) plain = IsHeardAs 2 0 0 plain × HasPlace place plain

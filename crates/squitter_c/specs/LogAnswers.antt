@@ -1,4 +1,4 @@
--- The answers to the lines of a log, as plain numbers.
+-- The results for the lines of a log, as plain numbers.
 use Rattle.std.specs.Prelude.{◌≡◌, ℕ, ℤ, pos, MatchResult}
 use Rattle.sq_angle.specs.declared.position.Position.{Position}
 use Rattle.sq_message.specs.declared.place.Place.{Place}
@@ -10,7 +10,7 @@ use Rattle.sq_text.specs.declared.faults.LineFault.{LineFault}
 use Rattle.sq_log.specs.declared.log.Answer.{Answer as Told}
 use Rattle.sq_track.specs.declared.heard.Heard.{Heard}
 use Rattle.sq_track.specs.declared.heard.Heard.TheVariants.{Fix, Followed, Waiting, Split, Far, NoSite, NotPosition}
-use Rattle.sq_commands.specs.declared.found.HeardSquitter.{HeardSquitter}
+use Rattle.sq_commands.specs.declared.answers.HeardSquitter.{HeardSquitter}
 use Rattle.squitter_c.specs.declared.heard.PlainHeard.{PlainHeard}
 use Rattle.squitter_c.specs.Faults.{fault_of_line, none}
 use Rattle.squitter_c.specs.Heard.{HasNoPlace, IsHeardAs}
@@ -20,7 +20,7 @@ use Rattle.squitter_c.specs.declared.log_answer.PlainAnswer.{PlainAnswer}
 use Rattle.squitter_c.specs.E7.{AreE7Of}
 use Rattle.squitter_c.specs.Fields.{HasMeaning}
 
--- the heard position: not in lowest terms, and in units of 10^-7 degree
+-- a result with a position: not in lowest terms, and in units of 10^-7 degree
 pub record IsToldPlace (which : ℕ) (place : Place) (heard : PlainHeard) (degrees : DegreesE7) : Type 0 where
   pub which_is : IsHeardAs which 0 0 heard
   pub position : Position
@@ -28,13 +28,13 @@ pub record IsToldPlace (which : ℕ) (place : Place) (heard : PlainHeard) (degre
   pub fractions : IsOfDegrees heard.position position
   pub degrees_are : AreE7Of position degrees
 
--- no place: all is 0
+-- a result without a position: its fractions and its degrees are 0
 pub record IsToldNowhere (which first second : ℕ) (heard : PlainHeard) (degrees : DegreesE7) : Type 0 where
   pub which_is : IsHeardAs which first second heard
   pub nowhere : HasNoPlace heard
   pub degrees_are : (degrees.lat ≡ pos 0) × (degrees.lon ≡ pos 0)
 
--- each of the seven, with the place where it has one
+-- each of the seven results, with its position if it has one
 abbrev pub IsTold : Heard → PlainHeard → DegreesE7 → Type 0
 IsTold (Fix place) heard degrees = IsToldPlace 1 place heard degrees
 IsTold (Followed place) heard degrees = IsToldPlace 2 place heard degrees
@@ -44,14 +44,14 @@ IsTold Far heard degrees = IsToldNowhere 5 0 0 heard degrees
 IsTold NoSite heard degrees = IsToldNowhere 6 0 0 heard degrees
 IsTold NotPosition heard degrees = IsToldNowhere 7 0 0 heard degrees
 
--- the kind of a message, and what the altitude field means if it is in the air
+-- the kind of a message, and the meaning of the altitude field if it is in the air
 abbrev pub IsKindOf : Me → (kind form : ℕ) → (feet : ℤ) → Type 0
 IsKindOf (kinds.Airborne airborne) kind form feet = let fields = air_parts airborne.fields in
     (kind ≡ 1) × HasMeaning fields.type_code fields.altitude form feet
 IsKindOf (kinds.Surface surface) kind form feet = (kind ≡ 2) × (form ≡ 0) × (feet ≡ pos 0)
 IsKindOf (kinds.Other other) kind form feet = (kind ≡ 0) × (form ≡ 0) × (feet ≡ pos 0)
 
--- the answer to a good line with this number
+-- the result for a good line with this number
 pub record IsPlainFound (number : ℕ) (found : HeardSquitter) (plain : PlainAnswer) : Type 0 where
   pub number_is : plain.number ≡ number
   pub moment : plain.moment ≡ found.timed.moment
@@ -60,7 +60,7 @@ pub record IsPlainFound (number : ℕ) (found : HeardSquitter) (plain : PlainAns
   pub kind : IsKindOf (squitter_parts found.timed.squitter).me plain.kind plain.altitude_form plain.feet
   pub fault : plain.fault ≡ none
 
--- the answer to a refused line with this number: all but the number and the fault is 0
+-- the result for a refused line with this number: all but the number and the fault is 0
 pub record IsRefusedLine (number : ℕ) (fault : LineFault) (plain : PlainAnswer) : Type 0 where
   pub number_is : plain.number ≡ number
   pub fault_is : plain.fault ≡ fault_of_line fault
@@ -68,7 +68,7 @@ pub record IsRefusedLine (number : ℕ) (fault : LineFault) (plain : PlainAnswer
   pub others : (plain.moment ≡ 0) × (plain.address ≡ 0) × (plain.kind ≡ 0)
   pub altitude : (plain.altitude_form ≡ 0) × (plain.feet ≡ pos 0)
 
--- the answer to a line, in plain numbers
+-- the result for a line, in plain numbers
 abbrev pub IsPlainAnswer : Told HeardSquitter → PlainAnswer → Type 0
 IsPlainAnswer answer plain =
     MatchResult answer.verdict (λ found. IsPlainFound answer.number found plain)

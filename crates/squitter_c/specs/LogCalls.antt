@@ -1,4 +1,4 @@
--- What calls of a log answer.
+-- Calls of a log.
 use Rattle.std.specs.Prelude.{◌≡◌, ◌≤◌, ◌<◌, ◌⊎◌, ◌+◌, ◌*◌, ◌++◌, ◌^◌, ⊤, ℕ, List, [], Option, None, Some, drop, length, take}
 use Rattle.std.specs.List.{AllZip}
 use Rattle.sq_devices.specs.Device.{IsPrefixOf}
@@ -12,7 +12,7 @@ use Rattle.sq_log.specs.Runs.{told_text}
 use Rattle.sq_log.specs.States.{with_job}
 use Rattle.sq_track.specs.Held.{Held}
 use Rattle.sq_commands.specs.declared.track.Hearing.{Hearing}
-use Rattle.sq_commands.specs.declared.found.HeardSquitter.{HeardSquitter}
+use Rattle.sq_commands.specs.declared.answers.HeardSquitter.{HeardSquitter}
 use Rattle.sq_commands.specs.Formats.{Telling, Writers}
 use Rattle.sq_commands.specs.SlowAnswers.{AreTrueAnswers}
 use Rattle.sq_commands.specs.Tracking.{track_manner}
@@ -41,19 +41,19 @@ held_by log = record {
 abbrev pub log_in : Kept → Log Held
 log_in k = with_job k.tracker k.log
 
--- How a call ended, of what was given and of the lines that were heard: all lines were that line feeds end; or there is
--- no room; or the tracker may want memory for the next line.
+-- How a call ended, after these bytes were given and these lines were heard. Either all lines with a line feed were
+-- heard; or there is no room; or the tracker may need memory for the next line.
 abbrev pub IsEndOf : End → Log Held → (given : List ℕ) → (lines : List (List ℕ)) → Type 0
 IsEndOf ends.Fed log given lines = IsUpToDate log × (lines ≡ ended_lines given)
 IsEndOf ends.Full log given lines = ⊤
 IsEndOf ends.NoMemory log given lines =
     (next : List ℕ) × IsPrefixOf (with_next lines next) (ended_lines given) × WantsAt track_manner log.job next
 
--- what answers are written as: a list of plain answers, or a text
+-- the form in which results are written: a list of plain results, or a text
 abbrev pub Written : Type 0 → Type 1
 Written X = List (Told HeardSquitter) → List X → Type 0
 
--- as plain answers
+-- as plain results
 abbrev pub AsAnswers : Written PlainAnswer
 AsAnswers answers plain = AllZip IsPlainAnswer answers plain
 
@@ -61,8 +61,8 @@ AsAnswers answers plain = AllZip IsPlainAnswer answers plain
 abbrev pub AsTexts : Telling HeardSquitter → Written ℕ
 AsTexts telling answers text = (writers : Writers) → text ≡ told_text (telling.text writers) answers
 
--- The log has heard more lines of what was given, and their answers are written behind those that were told before. In
--- slow worlds all answers so far are true.
+-- The log has heard more lines of the given bytes, and their results are written after the earlier ones. In slow
+-- worlds all results so far are true.
 pub record HasGone {X : Type 0} (As : Written X) (start : Held) (end : End) (log : Log Held) (given : List ℕ)
     (lines : List (List ℕ)) (answers told : List (Told HeardSquitter)) (written : List X) : Type 0 where
   pub more : List (List ℕ)
@@ -72,8 +72,8 @@ pub record HasGone {X : Type 0} (As : Written X) (start : Held) (end : End) (log
   pub ended : IsEndOf end log given (lines ++ more)
   pub are_true : AreTrueAnswers start (answers ++ now_told)
 
--- From whatever a log has heard of what it was given, it goes on with these bytes: the answers that it tells are
--- written behind those that stood there.
+-- The log goes on with these bytes, whatever it has heard of the bytes before. Its new results are written after the
+-- earlier ones.
 abbrev pub GoesOn : {X : Type 0} → Written X → End → (old new : Log Held) → (bytes : List ℕ) → (before after : List X)
     → Type 0
 GoesOn As end old new bytes before after =
@@ -81,7 +81,7 @@ GoesOn As end old new bytes before after =
     → HasHeard track_manner start old given lines answers → As told before
     → HasGone As start end new (given ++ bytes) lines answers told after
 
--- The same at the end of a log: once all is answered, the last line too, which no line feed ends.
+-- The same at the end of a log: once all results are written, the last line has one too, which has no line feed.
 abbrev pub GoesToTheEnd : {X : Type 0} → Written X → End → (old new : Log Held) → (before after : List X) → Type 0
 GoesToTheEnd As end old new before after =
     (start : Held) (given : List ℕ) (lines : List (List ℕ)) (answers told : List (Told HeardSquitter))
@@ -89,7 +89,7 @@ GoesToTheEnd As end old new before after =
     → (all : List ℕ) × (closed all ≡ closed given) × (end ≡ ends.Fed → all ≡ closed given)
     × HasGone As start end new all lines answers told after
 
--- what the counts say of how a call ended
+-- what the counts say about how a call ended
 abbrev pub IsEndTold : End → Done → (given room : ℕ) → Type 0
 IsEndTold ends.Fed done given room = done.taken ≡ given
 IsEndTold ends.Full done given room = done.written ≡ room
@@ -101,11 +101,11 @@ fault_of_end ends.Fed = none
 fault_of_end ends.Full = none
 fault_of_end ends.NoMemory = fault_of reasons.Memory
 
--- more lines, or bytes of a piece, than a log can have
+-- the log has 2^63 lines, or the piece more than 2^61 bytes
 abbrev pub IsTooLong : LogState → ℕ → Type 0
 IsTooLong state size = (2 ^ 63 ≤ state.number) ⊎ (2 ^ 61 < size)
 
--- The log heard more lines of a piece, and their answers are written from an index of the output on.
+-- The log heard more lines of a piece, and their results are written from index `from` of the output on.
 pub record HasGoneOn {X F A : Type 0} (As : Written X) (end : End) (old new : Log (Hearing F A)) (piece : List ℕ)
     (was is : List X) (from : ℕ) (done : Done) : Type 0 where
   pub gone : GoesOn As end (held_by old) (held_by new) (take done.taken piece) (take from was) (take done.written is)
@@ -135,25 +135,25 @@ HasFinished old new was is done fault = (end : End)
     × GoesToTheEnd AsAnswers end (log_in old) (log_in new) [] (take done.written is)
     × IsWrittenTo was is done 0 × IsEndTold end done 0 (length is) × (fault ≡ fault_of_end end)
 
--- What a call made of a listener: the log went on, or it, or the piece, is too long, which changes nothing.
+-- The effect of a call on a listener: the log went on; or the log or the piece is too long, and nothing changed.
 abbrev pub IsOfListener : {X : Type 0} → (old new : Kept) → (size : ℕ) → (was is : List X) → (before after : Done)
     → Fault → Type 0 → Type 0
 IsOfListener old new size was is before after fault Going =
     ((¬ (IsTooLong old.log size)) × Going)
     ⊎ (IsTooLong old.log size × (new ≡ old) × (is ≡ was) × (after ≡ before) × (fault ≡ fault_of reasons.LongLog))
 
--- what taking a piece made of a listener
+-- the effect of taking a piece on a listener
 abbrev pub IsTakenBy : (old new : Kept) → (piece : List ℕ) → (was is : List PlainAnswer) → (before after : Done)
     → Fault → Type 0
 IsTakenBy old new piece was is before after fault =
     IsOfListener old new (length piece) was is before after fault (HasTaken old new piece was is after fault)
 
--- what finishing made of a listener
+-- the effect of finishing on a listener
 abbrev pub IsFinishedBy : (old new : Kept) → (was is : List PlainAnswer) → (before after : Done) → Fault → Type 0
 IsFinishedBy old new was is before after fault =
     IsOfListener old new 0 was is before after fault (HasFinished old new was is after fault)
 
--- what taking a piece made of a log, where there may be none
+-- the effect of taking a piece on a log, or the fault if there is no log
 abbrev pub IsLogTaken : (old new : Option Kept) → (piece : List ℕ) → (was is : List PlainAnswer)
     → (before after : Done) → Fault → Type 0
 IsLogTaken (Some k) new piece was is before after fault =
@@ -161,7 +161,7 @@ IsLogTaken (Some k) new piece was is before after fault =
 IsLogTaken None new piece was is before after fault =
     (new ≡ None) × (is ≡ was) × (after ≡ before) × (fault ≡ fault_of reasons.NoTracker)
 
--- what finishing made of a log, where there may be none
+-- the effect of finishing on a log, or the fault if there is no log
 abbrev pub IsLogFinished : (old new : Option Kept) → (was is : List PlainAnswer) → (before after : Done) → Fault
     → Type 0
 IsLogFinished (Some k) new was is before after fault =
@@ -169,7 +169,7 @@ IsLogFinished (Some k) new was is before after fault =
 IsLogFinished None new was is before after fault =
     (new ≡ None) × (is ≡ was) × (after ≡ before) × (fault ≡ fault_of reasons.NoTracker)
 
--- the lines that were good and those that were refused, where there is a log
+-- the numbers of good and of refused lines, or the fault if there is no log
 abbrev pub IsTallied : Option Kept → (was is : PlainTally) → Fault → Type 0
 IsTallied (Some k) was is fault =
     (is.good ≡ k.log.tally.good) × (is.refused ≡ k.log.tally.refused) × (fault ≡ none)

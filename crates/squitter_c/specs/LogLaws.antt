@@ -1,8 +1,8 @@
--- What was answered where a call of a log left room.
+-- The complete result of a call of a log that left room.
 use Rattle.std.specs.Prelude.{◌≡◌, ◌+◌, ◌<◌, ◌≤◌, ◌++◌, ℕ, List, Option, Some, length, take}
 use Rattle.std.specs.List.{AllZip}
 use Rattle.sq_commands.specs.declared.formats.Format.{Format}
-use Rattle.sq_commands.specs.declared.found.HeardSquitter.{HeardSquitter}
+use Rattle.sq_commands.specs.declared.answers.HeardSquitter.{HeardSquitter}
 use Rattle.sq_commands.specs.Formats.{Writers}
 use Rattle.sq_commands.specs.Heard.{heard_telling}
 use Rattle.sq_commands.specs.SlowAnswers.{AreTrueAnswers}
@@ -20,14 +20,14 @@ use Rattle.squitter_c.specs.LogAnswers.{IsPlainAnswer}
 use Rattle.squitter_c.specs.LogCalls.{IsLogFinished, IsLogTaken, log_in}
 use Rattle.squitter_c.specs.LogTexts.{IsFormat, IsTextFinished, IsTextTaken}
 
--- an answer is written in one way: its number and fault, and the moment, address, kind and what was heard
+-- a result is written in one way: its number and fault, and its timestamp, address, kind and `what`
 abbrev pub OneAnswer : Type 0
 OneAnswer = (answer : Told HeardSquitter) (a b : PlainAnswer) → IsPlainAnswer answer a → IsPlainAnswer answer b
     → (a.number ≡ b.number) × (a.fault ≡ b.fault) × (a.moment ≡ b.moment) × (a.address ≡ b.address)
     × (a.kind ≡ b.kind) × (a.heard.what ≡ b.heard.what)
 
--- All lines that line feeds end in the given bytes were heard. Their answers follow the answers before, and all are
--- true in slow worlds. First for a piece, as structs.
+-- All lines with a line feed in the given bytes were heard. Their results follow the earlier results, and all are
+-- true in slow worlds. This is for a piece, as structs.
 abbrev pub AllAnswered : Type 0
 AllAnswered = (k : Kept) (new : Option Kept) (piece : List ℕ) (was is : List PlainAnswer) (before after : Done)
     (start : Held) (given : List ℕ) (lines : List (List ℕ)) (answers : List (Told HeardSquitter))

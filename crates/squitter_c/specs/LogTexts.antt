@@ -1,4 +1,4 @@
--- What calls of a log answer as texts.
+-- Calls of a log that write texts.
 use Rattle.std.specs.Prelude.{◌≡◌, ◌<◌, ◌+◌, ◌⊎◌, ⊤, ℕ, List, [], Option, None, Some, length, take}
 use Rattle.sq_commands.specs.declared.formats.Format.{Format}
 use Rattle.sq_commands.specs.Formats.{format_number}
@@ -22,7 +22,7 @@ IsFormat number format = number ≡ format_number format
 abbrev pub IsNoFormat : ℕ → Type 0
 IsNoFormat number = (format : Format) → ¬ IsFormat number format
 
--- what the counts say of how a call ended: without room there is less than an answer may take
+-- what the counts say about how a call ended: without room, fewer than 512 bytes are free
 abbrev pub IsEndInText : End → Done → (given room : ℕ) → Type 0
 IsEndInText ends.Fed done given room = done.taken ≡ given
 IsEndInText ends.Full done given room = room < done.written + 512
@@ -42,14 +42,14 @@ HasWrittenAll format old new was is done fault = (end : End)
     × GoesToTheEnd (AsTexts (heard_telling format)) end (log_in old) (log_in new) [] (take done.written is)
     × IsWrittenTo was is done 0 × IsEndInText end done 0 (length is) × (fault ≡ fault_of_end end)
 
--- what a call made of a listener, in a format: no format has the number, which changes nothing
+-- the effect of a call on a listener, in a format; if no format has the number, nothing changes
 abbrev pub IsInFormat : (number : ℕ) → (old new : Kept) → (was is : List ℕ) → (before after : Done) → Fault
     → (Format → Type 0) → Type 0
 IsInFormat number old new was is before after fault Of =
     (IsNoFormat number × (new ≡ old) × (is ≡ was) × (after ≡ before) × (fault ≡ fault_of reasons.NoFormat))
     ⊎ ((format : Format) × IsFormat number format × Of format)
 
--- what taking a piece made of a listener
+-- the effect of taking a piece on a listener
 abbrev pub IsTextTakenBy : (number : ℕ) → (old new : Kept) → (piece : List ℕ) → (was is : List ℕ)
     → (before after : Done) → Fault → Type 0
 IsTextTakenBy number old new piece was is before after fault =
@@ -57,14 +57,14 @@ IsTextTakenBy number old new piece was is before after fault =
     (λ format. IsOfListener old new (length piece) was is before after fault
     (HasWritten format old new piece was is after fault))
 
--- what finishing made of a listener
+-- the effect of finishing on a listener
 abbrev pub IsTextFinishedBy : (number : ℕ) → (old new : Kept) → (was is : List ℕ) → (before after : Done) → Fault
     → Type 0
 IsTextFinishedBy number old new was is before after fault =
     IsInFormat number old new was is before after fault
     (λ format. IsOfListener old new 0 was is before after fault (HasWrittenAll format old new was is after fault))
 
--- what taking a piece made of a log, where there may be none
+-- the effect of taking a piece on a log, or the fault if there is no log
 abbrev pub IsTextTaken : (number : ℕ) → (old new : Option Kept) → (piece : List ℕ) → (was is : List ℕ)
     → (before after : Done) → Fault → Type 0
 IsTextTaken number (Some k) new piece was is before after fault =
@@ -72,7 +72,7 @@ IsTextTaken number (Some k) new piece was is before after fault =
 IsTextTaken number None new piece was is before after fault =
     (new ≡ None) × (is ≡ was) × (after ≡ before) × (fault ≡ fault_of reasons.NoTracker)
 
--- what finishing made of a log, where there may be none
+-- the effect of finishing on a log, or the fault if there is no log
 abbrev pub IsTextFinished : (number : ℕ) → (old new : Option Kept) → (was is : List ℕ) → (before after : Done)
     → Fault → Type 0
 IsTextFinished number (Some k) new was is before after fault =
@@ -80,7 +80,7 @@ IsTextFinished number (Some k) new was is before after fault =
 IsTextFinished number None new was is before after fault =
     (new ≡ None) × (is ≡ was) × (after ≡ before) × (fault ≡ fault_of reasons.NoTracker)
 
--- the text before the first answer in the format with this number; empty if there is no such format
+-- the header of the format with this number; empty if there is no such format
 abbrev pub IsHeaderText : ℕ → List ℕ → Type 0
 IsHeaderText number text =
     (IsNoFormat number × (text ≡ []))

@@ -1,4 +1,5 @@
--- A call has one answer: what two contracts of one call with one `out` before it say of `out` and of the fault is one.
+-- A call has at most one result: two results for the same `out` before the call have the same `out` and the same
+-- fault.
 use Rattle.std.specs.Prelude.{◌≡◌, ℕ, ℤ, List}
 use Rattle.sq_bits.specs.declared.frame.Frame.{Frame}
 use Rattle.sq_message.specs.Kinds.{Kind}
@@ -18,7 +19,7 @@ use Rattle.squitter_c.specs.Sending.{IsSentAgain, IsSentFrame}
 use Rattle.squitter_c.specs.Reading.{IsFrameOfText, IsFrameRead, IsTextRead}
 use Rattle.squitter_c.specs.Zones.{AreLocalZones}
 
--- of texts and frames
+-- calls that read texts and frames
 pub record OneReading : Type 0 where
   pub frame_of_text : (text old new other : List ℕ) (fault why : Fault)
       → IsFrameOfText text old new fault → IsFrameOfText text old other why → (new ≡ other) × (fault ≡ why)
@@ -27,7 +28,7 @@ pub record OneReading : Type 0 where
   pub frame : (frame : Frame) (old new other : PlainSquitter) (fault why : Fault)
       → IsFrameRead frame old new fault → IsFrameRead frame old other why → (new ≡ other) × (fault ≡ why)
 
--- of places
+-- calls that decode positions
 pub record OnePlace : Type 0 where
   pub near : (frame : Frame) (reference old new other : PlainPosition) (fault why : Fault)
       → IsLocal frame reference old new fault → IsLocal frame reference old other why
@@ -41,7 +42,7 @@ pub record OnePlace : Type 0 where
       → IsPairAt older newer site old new fault → IsPairAt older newer site old other why
       → (new ≡ other) × (fault ≡ why)
 
--- of angles and altitudes
+-- calls for angles and altitudes
 pub record OneNumber : Type 0 where
   pub angle : (text : List ℕ) (old new other : PlainAngle) (fault why : Fault)
       → IsAngleRead text old new fault → IsAngleRead text old other why → (new ≡ other) × (fault ≡ why)
@@ -57,13 +58,13 @@ pub record OneNumber : Type 0 where
   pub field : (feet : ℤ) (old new other : ℕ) (fault why : Fault)
       → IsFieldWritten feet old new fault → IsFieldWritten feet old other why → (new ≡ other) × (fault ≡ why)
 
--- of what is sent
+-- calls that encode frames
 abbrev pub OneSent : Kind → Type 0
 OneSent kind = (head : PlainHead kind) (position : PlainPosition) (old new other : List ℕ) (fault why : Fault)
     → IsSentFrame kind head position old new fault → IsSentFrame kind head position old other why
     → (new ≡ other) × (fault ≡ why)
 
--- of what is sent again
+-- calls that encode frames again
 abbrev pub OneSentAgain : Type 0
 OneSentAgain = (frame : Frame) (odd : ℕ) (position : PlainPosition) (old new other : List ℕ) (fault why : Fault)
     → IsSentAgain frame odd position old new fault → IsSentAgain frame odd position old other why

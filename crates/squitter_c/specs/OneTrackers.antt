@@ -1,5 +1,4 @@
--- A call has one answer, unless it is out of memory: what two contracts of one call, with one `out` before it, say is
--- one.
+-- A call has at most one result, unless memory runs out: two results for the same `out` before the call are the same.
 use Rattle.std.specs.Prelude.{◌≡◌, ◌≢◌, ◌↔◌, ◌==◌, ◌∷◌, [], ℕ, List, Option, Some, Result, Err, filter}
 use Rattle.sq_angle.specs.declared.position.Position.{Position}
 use Rattle.sq_bits.specs.declared.frame.Frame.{Frame}
@@ -25,19 +24,19 @@ use Rattle.squitter_c.specs.Trackers.{IsGot, IsHeardThere, IsMade, IsMadeAt, IsR
 abbrev pub no_memory : Fault
 no_memory = fault_of reasons.Memory
 
--- two trackers are made alike
+-- two new trackers with the same settings are the same
 abbrev pub OneMade : Type 0
 OneMade = (limit window : ℕ) (site : Option Position) (x y : Option Kept) (fault why : Fault)
     → IsMade limit window site x fault → IsMade limit window site y why → fault ≢ no_memory → why ≢ no_memory
     → (tracker_in x ≡ tracker_in y) × (fault ≡ why)
 
--- two trackers with a site are made alike
+-- two new trackers with the same settings and site are the same
 abbrev pub OneMadeAt : Type 0
 OneMadeAt = (limit window : ℕ) (plain : PlainPosition) (x y : Option Kept) (fault why : Fault)
     → IsMadeAt limit window plain x fault → IsMadeAt limit window plain y why → fault ≢ no_memory → why ≢ no_memory
     → (tracker_in x ≡ tracker_in y) × (fault ≡ why)
 
--- what is heard of a frame is one, and so is a history that the tracker stands for afterwards
+-- a frame has at most one result, and one history then represents both trackers
 abbrev pub OneHearing : Type 0
 OneHearing = (moment : ℕ) (frame : Frame) (t u v : Kept) (old new other : PlainHeard) (fault why : Fault)
     → IsTrackerHeard moment frame (Some t) (Some u) old new fault
@@ -45,13 +44,13 @@ OneHearing = (moment : ℕ) (frame : Frame) (t u v : Kept) (old new other : Plai
     → fault ≢ no_memory → why ≢ no_memory → (h : History) → StandsFor t.tracker h → (new ≡ other) × (fault ≡ why)
     × ((later : History) × StandsFor u.tracker later × StandsFor v.tracker later)
 
--- what is heard of an array of one frame is what is heard of the frame
+-- in arrays with one frame, the result is that of the single call
 abbrev pub OneOfMany : Type 0
 OneOfMany = (moment : ℕ) (frame : List ℕ) (held after : Option Kept) (old new : PlainHeard) (fault : Fault)
     → IsHeardThere (moment ∷ []) (frame ∷ []) 0 held after old new fault
     ↔ IsTrackerHeard moment (frame_of frame) held after old new fault
 
--- what stands at an index is one
+-- an index has at most one entry
 abbrev pub OneGot : Type 0
 OneGot = (held : Option Kept) (index : ℕ) (old new other : PlainPresent) (fault why : Fault)
     → IsGot held index old new fault → IsGot held index old other why → (new ≡ other) × (fault ≡ why)

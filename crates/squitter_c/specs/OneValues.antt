@@ -1,4 +1,4 @@
--- Plain values stand for one value, and what was heard has one plain form.
+-- A plain value represents at most one value, and a result has at most one plain form.
 use Rattle.std.specs.Prelude.{◌≡◌}
 use Rattle.sq_angle.specs.declared.angle.Angle.{Angle}
 use Rattle.sq_angle.specs.declared.position.Position.{Position}
@@ -9,11 +9,11 @@ use Rattle.squitter_c.specs.declared.plain.PlainPosition.{PlainPosition}
 use Rattle.squitter_c.specs.Heard.{IsPlainHeard}
 use Rattle.squitter_c.specs.Plain.{IsAngleOf, IsOfDegrees}
 
--- a fraction is that of one angle, and two fractions are those of one position
+-- a fraction is that of at most one angle, and two fractions are those of at most one position
 pub record OneValue : Type 0 where
   pub angle : (plain : PlainAngle) (a b : Angle) → IsAngleOf plain a → IsAngleOf plain b → a ≡ b
   pub position : (plain : PlainPosition) (a b : Position) → IsOfDegrees plain a → IsOfDegrees plain b → a ≡ b
 
--- what was heard has one plain form
+-- a result has at most one plain form
 abbrev pub OneHeard : Type 0
 OneHeard = (heard : Heard) (x y : PlainHeard) → IsPlainHeard heard x → IsPlainHeard heard y → x ≡ y

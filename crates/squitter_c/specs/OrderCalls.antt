@@ -1,4 +1,4 @@
--- What calls of an order answer.
+-- Calls of an order.
 use Rattle.std.specs.Prelude.{◌≡◌, ◌≤◌, ◌<◌, ◌⊎◌, ℕ, false, List, [], Option, None, Some, length, take}
 use Rattle.sq_feed.specs.Orders.{HasFlushed, HasSorted, Sorting, is_due, nothing_sorted, squitters_of}
 use Rattle.squitter_c.specs.declared.faults.Fault.{Fault}
@@ -8,14 +8,14 @@ use Rattle.squitter_c.specs.Seal.{KeptOrder}
 use Rattle.squitter_c.specs.declared.log_take.Done.{Done}
 use Rattle.squitter_c.specs.FeedCalls.{IsFilled}
 
--- an order that holds nothing, or the fault: the block is too small
+-- an order that holds nothing, or the fault if the block is too small
 abbrev pub IsOrderMade : (reorder size : ℕ) → (made : Option KeptOrder) → Fault → Type 0
 IsOrderMade reorder size (Some order) fault =
     (order ≡ nothing_sorted reorder) × (148480 ≤ size) × (fault ≡ none)
 IsOrderMade reorder size None fault = fault ≡ fault_of reasons.Memory
 
--- The order took squitters, and those that were due were stored. Where both arrays have room for one more, all were
--- taken, and none is due.
+-- The order took squitters, and stored those that were due. If both arrays have room for one more, it took all, and
+-- none is due.
 pub record HasTakenInOrder (old new : Sorting) (moments : List ℕ) (frames : List (List ℕ))
     (moments_were stored : List ℕ) (frames_were stored_frames : List (List ℕ)) (done : Done) : Type 0 where
   pub taken : (done.taken ≤ length moments) × (done.taken ≤ length frames)
@@ -29,7 +29,7 @@ pub record HasTakenInOrder (old new : Sorting) (moments : List ℕ) (frames : Li
   pub moments_filled : IsFilled moments_were stored done.written
   pub frames_filled : IsFilled frames_were stored_frames done.written
 
--- The first squitters that were held were stored. Where both arrays have room for one more, none is held.
+-- The first squitters that were held were stored. If both arrays have room for one more, none is held.
 pub record HasGivenHeld (old new : Sorting) (moments_were stored : List ℕ) (frames_were stored_frames : List (List ℕ))
     (done : Done) : Type 0 where
   pub none_taken : done.taken ≡ 0
@@ -38,7 +38,7 @@ pub record HasGivenHeld (old new : Sorting) (moments_were stored : List ℕ) (fr
   pub moments_filled : IsFilled moments_were stored done.written
   pub frames_filled : IsFilled frames_were stored_frames done.written
 
--- the result of taking squitters, if there is an order, and else the fault
+-- the result of taking squitters, or the fault if there is no order
 abbrev pub IsOrderTaken : (old new : Option KeptOrder) → (moments : List ℕ) → (frames : List (List ℕ))
     → (moments_were stored : List ℕ) → (frames_were stored_frames : List (List ℕ)) → (before after : Done) → Fault
     → Type 0
@@ -49,7 +49,7 @@ IsOrderTaken None new moments frames moments_were stored frames_were stored_fram
     (new ≡ None) × (stored ≡ moments_were) × (stored_frames ≡ frames_were) × (after ≡ before)
     × (fault ≡ fault_of reasons.NoTracker)
 
--- the result of giving what is held, if there is an order, and else the fault
+-- the result of a flush, or the fault if there is no order
 abbrev pub IsOrderFlushed : (old new : Option KeptOrder) → (moments_were stored : List ℕ)
     → (frames_were stored_frames : List (List ℕ)) → (before after : Done) → Fault → Type 0
 IsOrderFlushed (Some k) new moments_were stored frames_were stored_frames before after fault =
@@ -59,7 +59,7 @@ IsOrderFlushed None new moments_were stored frames_were stored_frames before aft
     (new ≡ None) × (stored ≡ moments_were) × (stored_frames ≡ frames_were) × (after ≡ before)
     × (fault ≡ fault_of reasons.NoTracker)
 
--- how many squitters an order holds, if there is one, and else the fault
+-- how many squitters an order holds, or the fault if there is no order
 abbrev pub IsOrderCounted : Option KeptOrder → (was is : ℕ) → Fault → Type 0
 IsOrderCounted (Some k) was is fault = (is ≡ length k.held) × (fault ≡ none)
 IsOrderCounted None was is fault = (is ≡ was) × (fault ≡ fault_of reasons.NoTracker)

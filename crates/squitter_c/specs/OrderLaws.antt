@@ -1,4 +1,4 @@
--- What was stored where a call of an order left room.
+-- The complete result of a call of an order that left room.
 use Rattle.std.specs.Prelude.{◌≡◌, ◌<◌, ℕ, List, [], Option, Some, length, take}
 use Rattle.sq_feed.specs.Orders.{HasSorted, squitters_of}
 use Rattle.squitter_c.specs.declared.faults.Fault.{Fault}
@@ -7,7 +7,7 @@ use Rattle.squitter_c.specs.Seal.{KeptOrder}
 use Rattle.squitter_c.specs.declared.log_take.Done.{Done}
 use Rattle.squitter_c.specs.OrderCalls.{IsOrderFlushed, IsOrderTaken}
 
--- All squitters were taken, and those that were due were stored, in arrays that have room for one more.
+-- If both arrays have room for one more, all squitters were taken, and those that were due were stored.
 abbrev pub AllSorted : Type 0
 AllSorted = (k : KeptOrder) (new : Option KeptOrder) (moments moments_were stored : List ℕ)
     (frames frames_were stored_frames : List (List ℕ)) (before after : Done) (fault : Fault)
@@ -17,7 +17,7 @@ AllSorted = (k : KeptOrder) (new : Option KeptOrder) (moments moments_were store
     × HasSorted 4096 k (squitters_of moments frames)
     (squitters_of (take after.written stored) (take after.written stored_frames)) next
 
--- All squitters that were held were stored, in arrays that have room for one more.
+-- If both arrays have room for one more, all squitters that were held were stored.
 abbrev pub AllFlushed : Type 0
 AllFlushed = (k : KeptOrder) (new : Option KeptOrder) (moments_were stored : List ℕ)
     (frames_were stored_frames : List (List ℕ)) (before after : Done) (fault : Fault)

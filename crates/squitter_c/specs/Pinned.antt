@@ -12,9 +12,9 @@ use Rattle.squitter_c.specs.E7.{IsPositionE7}
 use Rattle.squitter_c.specs.Many.{IsE7At, IsLocalAt, IsPairNear, IsPairThere, IsReadAt}
 use Rattle.squitter_c.specs.Reading.{IsFrameRead}
 
--- ---- calls at a place
+-- ---- calls at an index
 
--- at each place of the arrays stands what the call by itself answers
+-- each element of the arrays has the result of the single call
 pub record OfEach : Type 0 where
   pub read : (frames : List (List ℕ)) (k : ℕ) (frame : List ℕ) (old new : PlainSquitter) (fault : Fault)
       → k < length frames → IsReadAt frames k old new fault
@@ -36,7 +36,7 @@ pub record OfEach : Type 0 where
 
 -- ---- one text of an angle
 
--- what is written of an angle in bytes of one length is one, and so is its fault
+-- an angle has at most one text, or one fault, in bytes of one length
 abbrev pub OneAngleText : Type 0
 OneAngleText = (plain : PlainAngle) (old new other : List ℕ) (fault why : Fault) → length new ≡ length other
     → IsAngleWritten plain old new fault → IsAngleWritten plain old other why → (new ≡ other) × (fault ≡ why)

@@ -1,4 +1,4 @@
--- What the plain values that cross to C stand for.
+-- The values that plain values, which are passed to and from C, represent.
 use Rattle.std.specs.Prelude.{◌≡◌, ◌<◌, ℕ}
 use Rattle.sq_angle.specs.declared.angle.Angle.{Angle}
 use Rattle.sq_angle.specs.declared.position.Position.{Position}
@@ -12,15 +12,15 @@ use Rattle.sq_zones.specs.Zones.{parity_index}
 use Rattle.squitter_c.specs.declared.plain.PlainAngle.{PlainAngle}
 use Rattle.squitter_c.specs.declared.plain.PlainPosition.{PlainPosition}
 
--- its value in degrees
+-- the value of a plain angle in degrees
 abbrev pub fraction_of : PlainAngle → Fraction
 fraction_of angle = record { num = angle.num; den = angle.den }
 
--- the fraction is an angle
+-- the fraction is a valid angle
 abbrev pub PlainIsAngle : PlainAngle → Type 0
 PlainIsAngle plain = IsAngle plain.num plain.den
 
--- both are angles, and together they are a position
+-- both are valid angles, and together they are a valid position
 pub record PlainIsPosition (plain : PlainPosition) : Type 0 where
   pub lat : PlainIsAngle plain.lat
   pub lon : PlainIsAngle plain.lon

@@ -1,4 +1,4 @@
--- What is answered for a text and of a frame.
+-- Calls that read texts and frames.
 use Rattle.std.specs.Prelude.{◌≡◌, List, ℕ, Result}
 use Rattle.hex.specs.Hex.{encode_upper}
 use Rattle.sq_bits.specs.declared.frame.Frame.{Frame}
@@ -18,18 +18,18 @@ use Rattle.squitter_c.specs.Fields.{IsPlainSquitter}
 abbrev pub AreBytesOf : Frame → List ℕ → Type 0
 AreBytesOf frame bytes = bytes ≡ frame.0
 
--- the frame of a frame text
+-- the result of parsing a frame text
 abbrev pub IsFrameOfText : List ℕ → (old new : List ℕ) → Fault → Type 0
 IsFrameOfText text old new fault =
     (answer : Result Frame TextFault) × IsFrameReading text answer × Tells AreBytesOf of_texts answer old new fault
 
--- the squitter of a frame text
+-- the result of reading a squitter from a frame text
 abbrev pub IsTextRead : List ℕ → (old new : PlainSquitter) → Fault → Type 0
 IsTextRead text old new fault =
     (answer : Result Squitter LineFault) × IsSquitterReading text answer
     × Tells IsPlainSquitter of_lines answer old new fault
 
--- the squitter of a frame
+-- the result of reading a squitter from a frame
 abbrev pub IsFrameRead : Frame → (old new : PlainSquitter) → Fault → Type 0
 IsFrameRead frame old new fault =
     (answer : Result Squitter FrameFault) × IsReading frame answer

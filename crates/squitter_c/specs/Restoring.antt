@@ -1,4 +1,4 @@
--- What a tracker that C holds tells of itself, and takes back.
+-- Saving a tracker that C holds, and restoring it.
 use Rattle.std.specs.Prelude.{◌≡◌, ◌≢◌, ◌<◌, ◌⊎◌, [], ℕ, List, Option, Some, None, length, take}
 use Rattle.std.specs.Prelude.{slice_get, slice_index_or}
 use Rattle.squitter_c.specs.declared.faults.Fault.{Fault}
@@ -12,33 +12,33 @@ use Rattle.squitter_c.specs.declared.entry.PlainEntry.{PlainEntry}
 use Rattle.squitter_c.specs.declared.tracker_save.PlainLast.{PlainLast}
 use Rattle.squitter_c.specs.Entries.{AreEntriesOf, IsEntryOf}
 
--- the last accepted moment, or that there is none
+-- the last accepted timestamp, or none
 abbrev pub IsLast : PlainLast → Option ℕ → Type 0
 IsLast plain (Some last) = (plain.heard ≢ 0) × (plain.moment ≡ last)
 IsLast plain None = plain.heard ≡ 0
 
--- ---- told
+-- ---- saving
 
 -- an entry at an index is written; elements past the last entry are unchanged
 abbrev pub IsToldAt : Option (ℕ × Contact) → (was is : PlainEntry) → Type 0
 IsToldAt (Some e) was is = IsEntryOf is e
 IsToldAt None was is = is ≡ was
 
--- the entries are written, the longest unheard first, as many as fit
+-- the entries are written, the longest silent first, as many as fit
 pub record AreTold (contacts : List (ℕ × Contact)) (was is : List PlainEntry) : Type 0 where
   pub long : length is ≡ length was
   pub each : (k : ℕ) → k < length was → (p : PlainEntry)
       → IsToldAt (slice_get contacts k) (slice_index_or was k p) (slice_index_or is k p)
 
--- a tracker's last moment and its entries are written; without a tracker nothing is
+-- a tracker's last timestamp and its entries are written; without a tracker nothing is
 abbrev pub IsSaved : Option Kept → (was is : PlainLast) → (old new : List PlainEntry) → Type 0
 IsSaved (Some k) was is old new =
     IsLast is k.tracker.last × AreTold k.tracker.contacts old new × CanBeRestored k.tracker
 IsSaved None was is old new = (is ≡ was) × (new ≡ old)
 
--- ---- taken back
+-- ---- restoring
 
--- the tracker with this last moment, and holding these
+-- the tracker with this last timestamp and these contacts
 abbrev pub holding : Held → Option ℕ → List (ℕ × Contact) → Held
 holding t last contacts = record t { last = last; contacts = contacts }
 
@@ -46,7 +46,7 @@ holding t last contacts = record t { last = last; contacts = contacts }
 abbrev pub unheard : Held → Held
 unheard t = holding t None []
 
--- the entry at the index is the first that no tracker held, which held those before it
+-- the entry at the index is the first that no tracker can hold after the entries before it
 pub record IsRefusedAt (index : ℕ) (t : Held) (last : Option ℕ) (entries : List PlainEntry) : Type 0 where
   pub inside : index < length entries
   pub front : List (ℕ × Contact)
@@ -57,27 +57,27 @@ pub record IsRefusedAt (index : ℕ) (t : Held) (last : Option ℕ) (entries : L
   pub there : (p : PlainEntry) → IsEntryOf (slice_index_or entries index p) (address, contact)
   pub refused : ¬ (CanFollow (holding t last front) address contact)
 
--- the tracker holds what the entries stand for, which another may have held
+-- the tracker holds what the entries represent, and a tracker can hold that
 pub record HasRestored (t : Held) (last : Option ℕ) (entries : List PlainEntry) (new : Held) : Type 0 where
   pub contacts : List (ℕ × Contact)
   pub stand : AreEntriesOf entries contacts
   pub held : CanBeRestored (holding t last contacts)
   pub is : new ≡ holding t last contacts
 
--- what becomes of a tracker that is given these
+-- the effect of restoring these entries on a tracker
 abbrev pub IsRestoring : (t : Held) → (last : Option ℕ) → List PlainEntry → (new : Held) → Fault → Type 0
 IsRestoring t last entries new fault =
     (HasRestored t last entries new × (fault ≡ none))
     ⊎ ((index : ℕ) × IsRefusedAt index t last entries × (new ≡ unheard t) × (fault ≡ fault_of (reasons.Entry index)))
     ⊎ ((new ≡ unheard t) × (fault ≡ fault_of reasons.Memory))
 
--- the same where there may be no tracker
+-- the same, or the fault if there is no tracker
 abbrev pub IsRestored : PlainLast → List PlainEntry → (old new : Option Kept) → Fault → Type 0
 IsRestored plain entries (Some k) new fault = (last : Option ℕ) × (after : Held) × IsLast plain last
     × IsRestoring k.tracker last entries after fault × (new ≡ Some (record k { tracker = after }))
 IsRestored plain entries None new fault = (new ≡ None) × (fault ≡ fault_of reasons.NoTracker)
 
--- What a tracker told is taken back by one with the same settings, all of it, unless memory runs out.
+-- A tracker with the same settings restores all that a tracker saved, unless memory runs out.
 abbrev pub RestoredAsSaved : Type 0
 RestoredAsSaved = (k t : Kept) (was is : PlainLast) (old entries : List PlainEntry) (new : Option Kept) (fault : Fault)
     → IsSaved (Some k) was is old entries → length entries ≡ length k.tracker.contacts

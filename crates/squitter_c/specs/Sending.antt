@@ -1,4 +1,4 @@
--- What is answered for a frame that is sent.
+-- Calls that encode frames.
 use Rattle.std.specs.Prelude.{◌≡◌, List, ℕ, Result, Ok, Err}
 use Rattle.sq_bits.specs.declared.frame.Frame.{Frame}
 use Rattle.sq_bits.specs.Frames.{IsFrame}
@@ -26,7 +26,7 @@ use Rattle.squitter_c.specs.Heads.{IsHead, PlainHead, PlainIsHead, odd_of}
 use Rattle.squitter_c.specs.Plain.{IsFlag, IsOfDegrees, IsParity, PlainIsPosition}
 use Rattle.squitter_c.specs.Reading.{AreBytesOf}
 
--- the frame that is sent; the first fault is the head's or the parity's, then the position's
+-- the result of encoding a frame; the first fault is that of the head or its parity, then that of the position
 unfoldable pub IsSendAnswer : (kind : Kind) → PlainHead kind → PlainPosition → Result Frame Reason → Type 0
 IsSendAnswer kind plain place (Ok frame) = (head : HeadParts kind) × IsHead kind plain head
     × ((parity : Parity) × IsParity (odd_of kind plain) parity
@@ -36,18 +36,18 @@ IsSendAnswer kind plain place (Err reasons.NoHead) = ¬ (PlainIsHead kind plain)
 IsSendAnswer kind plain place (Err reasons.NoPosition) = PlainIsHead kind plain × ¬ (PlainIsPosition place)
 IsSendAnswer kind plain place (Err other) = ⊥
 
--- the place is the point of the parity to which the position rounds
+-- the place is the point of the parity that the position rounds to
 abbrev pub IsRoundedTo : Parity → Position → Place → Type 0
 IsRoundedTo parity position (Air point) = (point.parity ≡ parity) × PositionRoundsTo air position point
 IsRoundedTo parity position (Ground point) = (point.parity ≡ parity) × PositionRoundsTo ground position point
 
--- the frame of a squitter that is sent again from a place of its kind
+-- the frame of a squitter that is encoded again at a place of its kind
 abbrev pub IsFrameFrom : Squitter → Place → Frame → Type 0
 IsFrameFrom q place frame =
     (sent : Squitter) × IsSentAt (squitter_parts q) place (squitter_parts sent) × IsFrame frame × Spells frame sent
 
--- The frame with the parity and the code of a position, and all else as it was. The first fault is the parity's, then
--- the position's, then the frame's, and last that it carries no position.
+-- The frame with the parity and the code of a position; its other fields are unchanged. The first fault is that of
+-- the parity, then of the position, then of the frame, and last that the frame carries no position.
 unfoldable pub IsAgainAnswer : Frame → (odd : ℕ) → PlainPosition → Result Frame Reason → Type 0
 IsAgainAnswer frame odd plain (Ok again) = (parity : Parity) × IsParity odd parity
     × ((position : Position) × IsOfDegrees plain position
@@ -61,16 +61,16 @@ IsAgainAnswer frame odd plain (Err (reasons.Place fault)) = IsFlag odd × PlainI
     × ((q : Squitter) × Spells frame q × (¬ (IsPosition (squitter_parts q).me)) × (fault ≡ NotPosition))
 IsAgainAnswer frame odd plain (Err other) = ⊥
 
--- what is answered for an answer for a frame
+-- a frame is written, or the fault is returned
 abbrev pub TellsFrame : Result Frame Reason → (old new : List ℕ) → Fault → Type 0
 TellsFrame answer old new fault = Tells AreBytesOf as_it_is answer old new fault
 
--- of a frame that is sent
+-- the result of encoding a frame
 abbrev pub IsSentFrame : (kind : Kind) → PlainHead kind → PlainPosition → (old new : List ℕ) → Fault → Type 0
 IsSentFrame kind head position old new fault =
     (answer : Result Frame Reason) × IsSendAnswer kind head position answer × TellsFrame answer old new fault
 
--- of a frame that is sent again
+-- the result of encoding a frame again
 abbrev pub IsSentAgain : Frame → (odd : ℕ) → PlainPosition → (old new : List ℕ) → Fault → Type 0
 IsSentAgain frame odd position old new fault =
     (answer : Result Frame Reason) × IsAgainAnswer frame odd position answer × TellsFrame answer old new fault

@@ -1,7 +1,7 @@
 -- How much memory a listener takes.
 use Rattle.std.specs.Prelude.{◌≡◌, ◌+◌, ◌*◌, ◌^◌, ◌<◌, ◌≤◌, ◌⊎◌, ℕ}
 
--- The number of groups of a table with room for twice so many addresses: the least power of two that is enough.
+-- The number of groups of a table with room for twice as many addresses: the least power of two that is enough.
 pub record AreGroupsFor (addresses groups : ℕ) : Type 0 where
   pub exponent : ℕ
   pub is_power : groups ≡ 2 ^ exponent
@@ -15,6 +15,6 @@ pub record IsRoomFor (limit bytes : ℕ) : Type 0 where
   pub are_groups : AreGroupsFor (limit + 1) groups
   pub bytes_are : bytes ≡ 1280 + groups * 2848 + (limit + 1) * 8
 
--- the bytes for a limit are one number
+-- a limit has at most one size in bytes
 abbrev pub OneSize : Type 0
 OneSize = (limit a b : ℕ) → IsRoomFor limit a → IsRoomFor limit b → a ≡ b

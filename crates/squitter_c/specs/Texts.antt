@@ -14,7 +14,7 @@ use Rattle.squitter_c.specs.declared.faults.Reason.TheVariants.{NoLatitude, NoFe
 use Rattle.squitter_c.specs.declared.faults.Reason.TheVariants.{NoAddress, LongLog, NoFormat, Entry}
 use Rattle.squitter_c.specs.Faults.{fault_of, with_numbers}
 
--- the text of a reason: that of the program, where it has one
+-- the text of a reason: that of the program, if it has one
 abbrev pub reason_text : Reason → List ℕ
 reason_text (Line fault) = fault_text fault
 reason_text (Place fault) = place_fault_text fault
@@ -48,12 +48,12 @@ one_of_each =
 abbrev pub reason_of : (code : ℕ) → Option Reason
 reason_of code = find (λ reason. code == (fault_of reason).code) one_of_each
 
--- the text of a reason with these numbers; of no reason, that there is no fault, or that it is not known
+-- the text of a reason with these numbers; without a reason, the text for no fault or for an unknown one
 abbrev pub text_with : (code first second : ℕ) → Option Reason → List ℕ
 text_with code first second (Some reason) = reason_text (with_numbers first second reason)
 text_with code first second None = if code == 0 then codes "no fault" else codes "unknown fault"
 
--- the text of each value of a fault: that of the reason of its code, with its numbers
+-- the text of any value of a fault: that of the reason with its code, and with its numbers
 unfoldable pub told_text : (code first second : ℕ) → List ℕ
 told_text code first second = text_with code first second (reason_of code)
 

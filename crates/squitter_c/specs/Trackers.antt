@@ -1,4 +1,4 @@
--- What is answered of a tracker that C holds.
+-- Calls of a tracker that C holds.
 use Rattle.std.specs.Prelude.{◌≡◌, ◌≢◌, ◌≤◌, ◌⊎◌, ◌==◌, ⊤, ℕ, List, [], Option, Some, None, Result, Ok, Err, OnErr}
 use Rattle.std.specs.Prelude.{find, option_map, slice_get, slice_index, slice_index_or}
 use Rattle.sq_angle.specs.declared.position.Position.{Position}
@@ -29,7 +29,7 @@ use Rattle.sq_track.specs.History.{History}
 use Rattle.sq_track.specs.Replies.{IsReply, history_after}
 use Rattle.squitter_c.specs.declared.tracker_get.PlainPresent.{PlainPresent}
 
--- the tracker that a listener is
+-- the tracker of a listener
 abbrev pub tracker_in : Option Kept → Option Held
 tracker_in held = option_map (λ k. k.tracker) held
 
@@ -59,8 +59,9 @@ of_tracker Full = reasons.Line lines.Full
 of_tracker Memory = reasons.Memory
 of_tracker NoLimit = reasons.NoLimit
 
--- What a tracker makes of a squitter: by each history that it stands for its reply, and it then stands for the history
--- after that. A refusal changes nothing. Only a position of an address that is not present may want memory.
+-- The effect of a squitter on a tracker. For each history that the tracker represents, this is the reply, and the
+-- tracker then represents the history after it. A refusal changes nothing. Only a position of an address that is not
+-- present may need memory.
 pub record IsReplied (moment : ℕ) (q : Squitter) (old new : Held) (reply : Result Heard TrackFault) : Type 0 where
   pub by_history : (h : History) → StandsFor old h → IsReply (settings old) h moment q reply
   pub after : (h : History) → StandsFor old h → StandsFor new (history_after h moment q reply)
@@ -69,7 +70,7 @@ pub record IsReplied (moment : ℕ) (q : Squitter) (old new : Held) (reply : Res
   pub memory : reply ≡ Err Memory → IsPosition (squitter_parts q).me
       × (find (λ entry. entry.0 == (squitter_parts q).address) (present_of old) ≡ None)
 
--- what is heard of a frame that was read so
+-- the result for a frame that was read as this squitter or fault
 abbrev pub IsReadHeard :
     (moment : ℕ) → Result Squitter FrameFault → (old new : Held) → (was is : PlainHeard) → Fault → Type 0
 IsReadHeard moment (Ok q) old new was is fault = (reply : Result Heard TrackFault)
@@ -77,12 +78,12 @@ IsReadHeard moment (Ok q) old new was is fault = (reply : Result Heard TrackFaul
 IsReadHeard moment (Err reason) old new was is fault =
     (new ≡ old) × (is ≡ was) × (fault ≡ fault_of (of_frames reason))
 
--- what a tracker hears of a frame: the frame's fault comes first
+-- the result for a frame; the fault of the frame comes first
 abbrev pub IsHeardBy : (moment : ℕ) → Frame → (old new : Held) → (was is : PlainHeard) → Fault → Type 0
 IsHeardBy moment frame old new was is fault =
     (answer : Result Squitter FrameFault) × IsReading frame answer × IsReadHeard moment answer old new was is fault
 
--- what is heard of a frame where there may be no tracker
+-- the result for a frame, or the fault if there is no tracker
 abbrev pub IsTrackerHeard :
     (moment : ℕ) → Frame → (old new : Option Kept) → (was is : PlainHeard) → Fault → Type 0
 IsTrackerHeard moment frame (Some k) new was is fault =
@@ -90,23 +91,24 @@ IsTrackerHeard moment frame (Some k) new was is fault =
 IsTrackerHeard moment frame None new was is fault =
     (new ≡ None) × (is ≡ was) × (fault ≡ fault_of reasons.NoTracker)
 
--- what is heard of the frame at place k, at its moment
+-- the result for the frame at index k, at its timestamp
 abbrev pub IsHeardThere : (moments : List ℕ) → (frames : List (List ℕ)) → (k : ℕ) → (old new : Option Kept)
     → (was is : PlainHeard) → Fault → Type 0
 IsHeardThere moments frames k old new was is fault = (frame : List ℕ)
     → IsTrackerHeard (slice_index moments k) (frame_of (slice_index_or frames k frame)) old new was is fault
 
--- the present addresses, each with the moment of its newest position, the longest unheard first; none of no tracker
+-- the present addresses, each with the timestamp of its newest position, the longest silent first; none without a
+-- tracker
 abbrev pub present_in : Option Kept → List (ℕ × ℕ)
 present_in None = []
 present_in (Some k) = present_of k.tracker
 
--- the address and the moment that stand at an index, or the fault that none do
+-- the address and the timestamp at an index, or the fault if there are none
 abbrev pub IsShown : Option (ℕ × ℕ) → (was is : PlainPresent) → Fault → Type 0
 IsShown (Some one) was is fault = (is.address ≡ one.0) × (is.moment ≡ one.1) × (fault ≡ none)
 IsShown None was is fault = (is ≡ was) × (fault ≡ fault_of reasons.NoAddress)
 
--- what stands at an index where there may be no tracker
+-- the same, or the fault if there is no tracker
 abbrev pub IsGot : Option Kept → (index : ℕ) → (was is : PlainPresent) → Fault → Type 0
 IsGot (Some k) index was is fault = IsShown (slice_get (present_of k.tracker) index) was is fault
 IsGot None index was is fault = (is ≡ was) × (fault ≡ fault_of reasons.NoTracker)

@@ -1,4 +1,4 @@
--- The zones in which a place lies.
+-- The zones that a place lies in.
 use Rattle.std.specs.Prelude.{◌≡◌, ◌+◌, ◌*◌, Result, pos, ◌+ℤ◌, ◌*ℤ◌}
 use Rattle.sq_bits.specs.declared.frame.Frame.{Frame}
 use Rattle.sq_zones.specs.Zones.{parity_index, zones_at}
@@ -13,7 +13,7 @@ use Rattle.squitter_c.specs.declared.zones.PlainZones.{PlainZones}
 use Rattle.squitter_c.specs.Decoding.{IsLocalAnswer}
 use Rattle.squitter_c.specs.Faults.{Tells, as_it_is}
 
--- the zones of a point of a span's grid: each index is 2^17 times that of its zone, and the code
+-- the zones of a point of a span's grid: each index is 2^17 times the index of its zone, plus the code
 pub record AreZonesOf (span : Span) (point : Point) (zones : PlainZones) : Type 0 where
   pub degrees : zones.degrees ≡ span.degrees
   pub odd : zones.odd ≡ parity_index point.parity
@@ -28,11 +28,11 @@ abbrev pub AreZonesOfPlace : Place → PlainZones → Type 0
 AreZonesOfPlace (Air point) zones = AreZonesOf air point zones
 AreZonesOfPlace (Ground point) zones = AreZonesOf ground point zones
 
--- the zones of a place are written, or the fault told
+-- the zones of a place are written, or the fault is returned
 abbrev pub TellsZones : Result Place Reason → (old new : PlainZones) → Fault → Type 0
 TellsZones answer old new fault = Tells AreZonesOfPlace as_it_is answer old new fault
 
--- the zones of a frame's place near a reference
+-- the result of the zones of a frame's place near a reference
 abbrev pub AreLocalZones : Frame → PlainPosition → (old new : PlainZones) → Fault → Type 0
 AreLocalZones frame reference old new fault =
     (answer : Result Place Reason) × IsLocalAnswer frame reference answer × TellsZones answer old new fault

@@ -1,4 +1,4 @@
-//! Altitudes: the feet of a field, and the field of feet.
+//! Altitudes: decoding a field to feet, and encoding feet as a field.
 ghost use Rattle.std.specs.Prelude.{◌≡◌};
 ghost use Rattle.squitter_c.specs.Altitudes.{IsFeetOfField, IsFieldAnswer, IsFieldWritten, IsMeaningAnswer};
 
@@ -6,7 +6,7 @@ use crate::faults::{Fault, NONE, Reason};
 use crate::fields::plain_altitude;
 use sq_message::{AirFields, Airborne, Code, Parity, altitude, field_of_feet};
 
-/// What an altitude field means.
+/// The meaning of an altitude field.
 #[repr(C)]
 #[derive(Clone, Copy)]
 pub struct PlainAltitude {
@@ -15,8 +15,8 @@ pub struct PlainAltitude {
     pub form: u8,
 }
 
-/// What the altitude field of an airborne position means, by its type code, in feet (ICAO Doc 9871, register 0,5). The
-/// fault is that no airborne position has this type code or this field, of 12 bits.
+/// Decodes the altitude field of an airborne position to feet, by its type code (ICAO Doc 9871, register 0,5). The
+/// fault is `NoHead` if no airborne position has this type code, or if the field is not one of 12 bits.
 #[unsafe(no_mangle)]
 pub extern "C" fn squitter_feet_of_field(
     type_code: u8,
@@ -34,7 +34,7 @@ pub extern "C" fn squitter_feet_of_field(
     }
 }
 
-// The meaning of a field.
+// Returns the meaning of a field.
 fn meaning(type_code: u8, field: u16) -> Result<PlainAltitude, Reason>
     ensures { IsMeaningAnswer type_code field result }
 {
@@ -50,8 +50,8 @@ fn meaning(type_code: u8, field: u16) -> Result<PlainAltitude, Reason>
     Ok(PlainAltitude { feet, form })
 }
 
-/// The altitude field, with Q = 1, that means so many feet; the fault comes for all but multiples of 25 from -1000 to
-/// 50175.
+/// Encodes feet as an altitude field with Q = 1. The fault is `NoFeet` unless `feet` is a multiple of 25 from -1000
+/// to 50175.
 #[unsafe(no_mangle)]
 pub extern "C" fn squitter_field_of_feet(feet: i32, out: &mut u16) -> Fault
     ensures { IsFieldWritten feet out.old out.new result }
@@ -65,7 +65,7 @@ pub extern "C" fn squitter_field_of_feet(feet: i32, out: &mut u16) -> Fault
     }
 }
 
-// The field of feet.
+// Returns the field of feet.
 fn field_of(feet: i32) -> Result<u16, Reason>
     ensures { IsFieldAnswer feet result }
 {

@@ -8,8 +8,8 @@ use crate::plain::{PlainAngle, angle_of, plain_angle};
 use sq_angle::{Angle, AngleFault};
 use sq_zones::zone_count;
 
-/// The number of longitude zones at a latitude (NL), from 1 to 59; the fault comes where it is no angle of -90 to 90
-/// degrees. RTCA DO-260B, section 2.2.3.2.
+/// Writes the number of longitude zones at a latitude (NL), from 1 to 59. The fault is `NoLatitude` if the fraction
+/// is not an angle from -90 to 90 degrees. RTCA DO-260B, section 2.2.3.2.
 #[unsafe(no_mangle)]
 pub extern "C" fn squitter_zone_count(lat: &PlainAngle, out: &mut u8) -> Fault
     ensures { IsZoneCount lat.now out.old out.new result }
@@ -23,7 +23,7 @@ pub extern "C" fn squitter_zone_count(lat: &PlainAngle, out: &mut u8) -> Fault
     }
 }
 
-// The zone count of a latitude.
+// Returns the zone count of a latitude.
 fn zones(lat: &PlainAngle) -> Result<u8, Reason>
     ensures { IsZoneAnswer lat.now result }
 {
@@ -36,7 +36,7 @@ fn zones(lat: &PlainAngle) -> Result<u8, Reason>
     Ok(zone_count(&lat))
 }
 
-/// The text of an angle with seven decimals, at most 12 bytes, and zeros after it.
+/// Writes an angle with seven decimals, at most 12 bytes, and zeros after them.
 #[unsafe(no_mangle)]
 pub extern "C" fn squitter_text_of_angle(angle: &PlainAngle, out: &mut [u8; 16]) -> Fault
     ensures { IsAngleWritten angle.now out.old out.new result }
@@ -51,7 +51,7 @@ pub extern "C" fn squitter_text_of_angle(angle: &PlainAngle, out: &mut [u8; 16])
     }
 }
 
-/// The angle that a text spells, in lowest terms.
+/// Parses an angle, and writes it in lowest terms.
 #[unsafe(no_mangle)]
 pub extern "C" fn squitter_angle_of_text(text: &[u8], out: &mut PlainAngle) -> Fault
     ensures { IsAngleRead text.now out.old out.new result }
@@ -65,7 +65,7 @@ pub extern "C" fn squitter_angle_of_text(text: &[u8], out: &mut PlainAngle) -> F
     }
 }
 
-// The angle that the bytes spell.
+// Parses an angle.
 fn read_angle(text: &[u8]) -> Result<Angle, AngleFault>
     ensures { IsReading text.now result }
 {
@@ -75,7 +75,7 @@ fn read_angle(text: &[u8]) -> Result<Angle, AngleFault>
     }
 }
 
-// Writes the text in front, and zeros after it.
+// Writes the text at the front, and zeros after it.
 pub(crate) fn fill(out: &mut [u8], text: &str)
     requires { length text.now < length out.old }
     ensures { StandsIn text.now out.new }

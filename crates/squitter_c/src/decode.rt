@@ -10,8 +10,9 @@ use sq_angle::Position;
 use sq_bits::Frame;
 use sq_message::{Place, place_local, place_pair, read_frame};
 
-/// The place of a frame near a reference, in degrees and in lowest terms. The first fault is the reference's, then the
-/// frame's, then the place's. RTCA DO-260B, appendix on compact position reporting, local decoding.
+/// Decodes the position of a frame near a reference, in degrees and in lowest terms. The first fault is that of the
+/// reference, then of the frame, then of the position. RTCA DO-260B, appendix on compact position reporting, local
+/// decoding.
 #[unsafe(no_mangle)]
 pub extern "C" fn squitter_local(
     frame: &[u8; 14],
@@ -23,9 +24,9 @@ pub extern "C" fn squitter_local(
     give(near(&Frame(*frame), reference), out)
 }
 
-/// The place of the newer of two frames that were sent in the air, in degrees and in lowest terms. The first fault is
-/// the older frame's, then the newer's, then the pair's. RTCA DO-260B, appendix on compact position reporting, globally
-/// unambiguous decoding.
+/// Decodes the position of the newer of an even and an odd airborne frame, in degrees and in lowest terms. The first
+/// fault is that of the older frame, then of the newer one, then of the pair. RTCA DO-260B, appendix on compact
+/// position reporting, globally unambiguous decoding.
 #[unsafe(no_mangle)]
 pub extern "C" fn squitter_pair(
     older: &[u8; 14],
@@ -37,8 +38,9 @@ pub extern "C" fn squitter_pair(
     give(of_two(&Frame(*older), &Frame(*newer), None), out)
 }
 
-/// The place of the newer of two frames, in degrees and in lowest terms; on the ground the one within 45 degrees of the
-/// site in both coordinates. The first fault is the site's, then as in [`squitter_pair`].
+/// Decodes the position of the newer of two frames with a receiver position (the site), in degrees and in lowest
+/// terms. A surface pair gives the position within 45 degrees of the site in both coordinates. The first fault is
+/// that of the site, then those of [`squitter_pair`].
 #[unsafe(no_mangle)]
 pub extern "C" fn squitter_pair_at(
     older: &[u8; 14],
@@ -64,7 +66,7 @@ fn give(answer: Result<Place, Reason>, out: &mut PlainPosition) -> Fault
     }
 }
 
-// The place of a frame near a reference.
+// Decodes the place of a frame near a reference.
 #[tactic(auto, unfolding(crate::specs::Decoding::IsLocalAnswer))]
 pub(crate) fn near(frame: &Frame, reference: &PlainPosition) -> Result<Place, Reason>
     ensures { IsLocalAnswer frame.now reference.now result }
@@ -82,7 +84,7 @@ pub(crate) fn near(frame: &Frame, reference: &PlainPosition) -> Result<Place, Re
     }
 }
 
-// The place of the newer of two frames near a site, if that is a position.
+// Decodes the place of the newer of two frames with a site, if the site is a valid position.
 fn of_two_at(older: &Frame, newer: &Frame, site: &PlainPosition) -> Result<Place, Reason>
     ensures { IsSiteAnswer older.now newer.now site.now result }
 {
@@ -92,7 +94,7 @@ fn of_two_at(older: &Frame, newer: &Frame, site: &PlainPosition) -> Result<Place
     of_two(older, newer, Some(&site))
 }
 
-// The place of the newer of two frames.
+// Decodes the place of the newer of two frames.
 #[tactic(auto, unfolding(crate::specs::Decoding::IsPairAnswer))]
 fn of_two(older: &Frame, newer: &Frame, site: Option<&Position>) -> Result<Place, Reason>
     ensures { IsPairAnswer older.now newer.now (option_copied site.entry) result }

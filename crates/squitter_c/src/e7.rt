@@ -47,7 +47,7 @@ pub extern "C" fn squitter_position_e7(position: &PlainPosition, out: &mut Degre
     }
 }
 
-// Both coordinates.
+// Returns both coordinates in units of 10^-7 degree.
 pub(crate) fn both(position: &Position) -> DegreesE7
     ensures { AreE7Of position.now result }
 {
@@ -57,7 +57,7 @@ pub(crate) fn both(position: &Position) -> DegreesE7
     }
 }
 
-// The ten-millionths of an angle.
+// Returns an angle in units of 10^-7 degree.
 fn e7_of(angle: &Angle) -> i64
     ensures value { IsE7 (degrees angle.now) result }
     ensures small { unsigned_abs result < 400 * 10 ^ 7 }
@@ -66,7 +66,7 @@ fn e7_of(angle: &Angle) -> i64
     signed(angle.num() < 0, angle.ten_millionths())
 }
 
-// A number with its sign.
+// Returns a number with its sign.
 fn signed(negative: bool, magnitude: u64) -> i64
     requires { magnitude < 2 ^ 63 }
     ensures { result ≡ signed_number negative magnitude }

@@ -35,7 +35,7 @@ pub struct PlainSide {
     pub fix: PlainFix,
 }
 
-/// An address of a tracker, with what the tracker holds of it.
+/// State of one address of a tracker.
 #[repr(C)]
 #[derive(Clone, Copy)]
 pub struct PlainEntry {
@@ -46,7 +46,7 @@ pub struct PlainEntry {
     pub surface: PlainSide,
 }
 
-// The contact that an entry stands for.
+// Returns the contact that an entry represents.
 pub(crate) fn contact_of(plain: &PlainEntry) -> Contact
     ensures { IsContactOf plain.now result }
 {
@@ -150,7 +150,7 @@ fn plain_fix(fix: Option<LastFix>) -> PlainFix
     }
 }
 
-// The fractions of a position, as they are.
+// Returns the fractions of a position, unchanged.
 pub(crate) fn as_given(position: &Position) -> PlainPosition
     ensures { IsOfDegrees result position.now }
 {

@@ -1,4 +1,4 @@
-//! What a call answers: 0 for an answer, else what is at fault.
+//! The faults that calls return: code 0 for success, otherwise the code of the first error.
 ghost use Rattle.std.specs.Prelude.{◌≡◌};
 ghost use Rattle.squitter_c.specs.Faults.{fault_of, fault_of_angle, fault_of_line, fault_of_place, told};
 
@@ -6,7 +6,7 @@ use sq_angle::AngleFault;
 use sq_message::PlaceFault;
 use sq_text::LineFault;
 
-/// What a call answers. `squitter.h` names the codes and says what `first` and `second` hold.
+/// The error that a call returns, or code 0. `squitter.h` names the codes, and says what `first` and `second` hold.
 #[repr(C)]
 #[derive(Clone, Copy)]
 pub struct Fault {
@@ -18,21 +18,21 @@ pub struct Fault {
 /// The reason why a call fails.
 #[derive(Clone, Copy)]
 pub enum Reason {
-    /// A text or a frame is invalid, or a timestamp goes back.
+    /// A text, a frame or a line is invalid, a timestamp goes back, or the table is full.
     Line(LineFault),
     /// A frame or a pair cannot be decoded.
     Place(PlaceFault),
     /// A text is not a valid angle.
     Angle(AngleFault),
-    /// The fractions of a reference, a site or a position are no position.
+    /// The fractions of a reference, a site or a position are not a valid position.
     NoPosition,
-    /// The fields of a head, or its parity, lie outside their ranges.
+    /// A field of a head, its parity, or an altitude field is out of range.
     NoHead,
-    /// The fraction is no angle.
+    /// The fraction is not a valid angle.
     NoAngle,
-    /// The fraction is no latitude.
+    /// The fraction is not a valid latitude.
     NoLatitude,
-    /// No altitude field means these feet.
+    /// No altitude field encodes these feet.
     NoFeet,
     /// The parity is neither 0 nor 1.
     NoParity,
@@ -40,19 +40,19 @@ pub enum Reason {
     Memory,
     /// The limit of a tracker is 0.
     NoLimit,
-    /// There is no tracker, or no log.
+    /// There is no tracker, log, feed or order.
     NoTracker,
-    /// No address of a tracker stands at the index.
+    /// No address is at the index.
     NoAddress,
-    /// The log has 2^63 lines, or the piece 2^61 bytes.
+    /// The log has 2^63 lines, or the piece more than 2^61 bytes.
     LongLog,
-    /// The number is no format's.
+    /// No format has this number.
     NoFormat,
     /// No tracker can hold the entry at this index after those before it.
     Entry(u64),
 }
 
-/// There is an answer: code 0.
+/// No fault: code 0.
 pub const NONE: Fault = Fault {
     code: 0,
     second: 0,
@@ -60,7 +60,7 @@ pub const NONE: Fault = Fault {
 };
 
 impl Fault {
-    /// The code and the numbers of a reason, 0 where it has none.
+    /// Returns the code of a reason and its numbers, or 0 for those that it lacks.
     pub fn of(reason: Reason) -> Fault
         ensures { result ≡ fault_of reason }
     {
@@ -126,14 +126,14 @@ fn of_angle(fault: AngleFault) -> Fault
     }
 }
 
-// A code without numbers.
+// Returns a code without numbers.
 fn plain(code: u32) -> Fault
     ensures { result ≡ told code 0 0 }
 {
     told(code, 0, 0)
 }
 
-// A code with its numbers.
+// Returns a code with its numbers.
 fn told(code: u32, first: u64, second: u32) -> Fault
     ensures { result ≡ told code first second }
 {

@@ -1,4 +1,4 @@
-//! Making, counting and freeing a feed.
+//! Creating, counting and freeing a feed.
 ghost use Rattle.std.specs.Prelude.{◌≡◌, IfNone, IfSome, None, ◌<◌};
 ghost use Rattle.squitter_c.specs.FeedCalls.{AreCounts, IsFeedCounted, IsFeedFormat, IsFeedLost, IsFeedMade};
 ghost use Rattle.squitter_c.specs.FeedCalls.{IsSourceNumber, manner_of, source_number};
@@ -9,7 +9,7 @@ use crate::feed_slot::{FEED_BYTES, FeedSlot, feed_in};
 use sq_feed::{Counts, Format, Manner, Stranger};
 use sq_lent::Room;
 
-/// Counts of a source's items: `found` is the sum of all others.
+/// Counts of the items of a source. `found` is the sum of all other counts.
 #[repr(C)]
 #[derive(Clone, Copy)]
 pub struct PlainCounts {
@@ -33,14 +33,14 @@ pub extern "C" fn squitter_feed_size() -> usize
     FEED_BYTES
 }
 
-/// Makes a feed at the start of a source. The block belongs to the feed until the feed is freed. An existing feed is
-/// freed first. Formats are 0 for Beast, 1 for AVR, 2 for CSV, 3 for a log, and 4 for a source whose first bytes show
-/// the format. A gap above `leap` milliseconds is a jump of the source's clock. A timestamp may be before the latest
-/// one by `late` milliseconds; with 0, timestamps never go back. `flags` is a sum: 1 for a live source, otherwise
-/// arrivals are ignored; 2 to ignore the receiver's clock; 4 for frames of all downlink formats, otherwise those of
-/// format 17. Its other bits are ignored.
+/// Creates a feed at the start of a source. The block belongs to the feed until the feed is freed. An existing feed
+/// is freed first. Formats are 0 for Beast, 1 for AVR, 2 for CSV, 3 for a log, and 4 if the first bytes of the source
+/// show the format. A gap above `leap` milliseconds is a jump of the source's clock. A timestamp may be before the
+/// latest one by `late` milliseconds; with 0, timestamps never go back. `flags` is a sum: 1 for a live source,
+/// otherwise arrivals are ignored; 2 to ignore the receiver's clock; 4 for frames of all downlink formats, otherwise
+/// those of format 17. Its other bits are ignored.
 ///
-/// The faults are, in this order: `NoFormat` if the number is no format's; `Memory` if the block is smaller than
+/// The faults are, in this order: `NoFormat` if no format has the number; `Memory` if the block is smaller than
 /// [`squitter_feed_size`]. After a fault there is no feed.
 #[unsafe(no_mangle)]
 pub extern "C" fn squitter_feed_new(
@@ -87,8 +87,8 @@ pub extern "C" fn squitter_feed_free(feed: &mut FeedSlot)
     drop(feed.take());
 }
 
-/// Drops an unfinished frame after a lost connection, and counts it as damaged. The next bytes are of another
-/// connection: its clock starts anew. The fault is `NoTracker` if there is no feed.
+/// Drops an unfinished frame after a lost connection, and counts it as damaged. The next bytes belong to a new
+/// connection: its clock starts afresh. The fault is `NoTracker` if there is no feed.
 #[unsafe(no_mangle)]
 pub extern "C" fn squitter_feed_disconnected(feed: &mut FeedSlot) -> Fault
     ensures { IsFeedLost (held_feed feed.old) (held_feed feed.new) result }
@@ -103,7 +103,7 @@ pub extern "C" fn squitter_feed_disconnected(feed: &mut FeedSlot) -> Fault
     }
 }
 
-/// Returns the counts of the items so far. The fault is `NoTracker` if there is no feed.
+/// Writes the counts of the items so far. The fault is `NoTracker` if there is no feed.
 #[unsafe(no_mangle)]
 pub extern "C" fn squitter_feed_counts(feed: &mut FeedSlot, out: &mut PlainCounts) -> Fault
     ensures counted { IsFeedCounted (held_feed feed.old) out.old out.new result }
@@ -135,9 +135,9 @@ fn plain_counts(counts: &Counts) -> PlainCounts
     }
 }
 
-/// Returns what the source is: 0 to 3 for its format; 5 for SBS text, 6 for a tar archive, 7 for a packed file, 8 for
-/// UTF-16, 9 for lines of JSON, 10 for bytes without frames; and 4 while none of these is known. At the end of a source
-/// it is known, if any byte came. The fault is `NoTracker` if there is no feed.
+/// Writes what the source is: 0 to 3 for its format; 5 for SBS text, 6 for a tar archive, 7 for a packed file, 8 for
+/// UTF-16, 9 for lines of JSON, 10 for bytes without frames; and 4 while none of these is known. At the end of a
+/// source it is known, if any byte came. The fault is `NoTracker` if there is no feed.
 #[unsafe(no_mangle)]
 pub extern "C" fn squitter_feed_format(feed: &mut FeedSlot, out: &mut u32) -> Fault
     ensures number { IsSourceNumber (held_feed feed.old) out.old out.new result }
@@ -175,7 +175,7 @@ fn source_number(format: Option<Format>, stranger: Option<Stranger>) -> u32
     }
 }
 
-// Returns the format with this number: `None` within `Some` is for a source whose first bytes show the format.
+// Returns the format with this number. `None` within `Some` means that the first bytes of the source show the format.
 fn feed_format(number: u32) -> Option<Option<Format>>
     ensures some { IfSome result (IsFeedFormat number) }
     ensures none { IfNone result (4 < number) }

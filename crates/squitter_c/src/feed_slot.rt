@@ -12,7 +12,7 @@ use std::mem::replace;
 /// The bytes of a block for a feed.
 pub const FEED_BYTES: usize = 3072;
 
-/// A feed, or none. All zero is none. C lends these 16 bytes, and neither writes to them nor copies them.
+/// A feed, or none: all bytes 0 mean none. C lends these 16 bytes, and neither writes to them nor copies them.
 #[repr(C)]
 pub struct FeedSlot {
     full: u64,
@@ -21,8 +21,8 @@ pub struct FeedSlot {
     ghost kind: { seal.held ≡ option_map a_feed (feed_of seal.held) },
 }
 
-/// Returns a feed at the start of a source of this format, or of a source whose first bytes show it, in a box over
-/// this memory; `None` if the room has fewer than `FEED_BYTES` bytes.
+/// Returns a feed at the start of a source of this format, in a box over this memory. Without a format, the first
+/// bytes of the source show it. Returns `None` if the room has fewer than `FEED_BYTES` bytes.
 pub fn feed_in(room: Room, format: Option<Format>, manner: &Manner) -> Option<Box<Feed, Lent>>
     ensures new { IfSome result (λ b. b.value ≡ nothing_fed format manner.now) }
     ensures room { IfSome result (λ b. 3072 ≤ room.size) }
@@ -40,7 +40,7 @@ pub fn feed_in(room: Room, format: Option<Format>, manner: &Manner) -> Option<Bo
 }
 
 impl FeedSlot {
-    /// Takes the feed out, if there is one. There is none afterwards.
+    /// Takes the feed out, if there is one, and leaves the slot empty.
     pub fn take(&mut self) -> Option<Box<Feed, Lent>>
         ensures taken { option_map (λ b. b.value) result ≡ feed_of self.old.seal.held }
         ensures none { feed_of self.new.seal.held ≡ None }
@@ -57,7 +57,7 @@ impl FeedSlot {
         Some(seal.into_feed(Lent::empty()).into_box())
     }
 
-    /// Puts a feed where there is none.
+    /// Puts a feed into an empty slot.
     pub fn put(&mut self, feed: Box<Feed, Lent>)
         requires { feed_of self.old.seal.held ≡ None }
         ensures { feed_of self.new.seal.held ≡ Some feed.value }

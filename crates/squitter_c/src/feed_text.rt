@@ -121,8 +121,8 @@ fn take_lines(
     (count, at + lines.len())
 }
 
-// Takes bytes up to the end of the first squitter, or all of them, and writes its line at a place. Returns how many
-// bytes it took, and the place behind the line.
+// Takes bytes up to the end of the first squitter, or all of them, and writes its line at index `at`. Returns the
+// number of bytes taken, and the index after the line.
 fn take_line(
     feed: &mut Feed,
     piece: &[u8],
@@ -143,7 +143,7 @@ fn take_line(
     (count, put_line(out, at, moments[0], &frames[0]))
 }
 
-// Writes the line of a frame and its timestamp at a place. Returns the place behind it.
+// Writes the line of a frame and its timestamp at index `at`. Returns the index after the line.
 fn put_line(out: &mut [u8], at: usize, moment: u64, frame: &[u8; 14]) -> usize
     requires { at + 50 ≤ length out.old }
     ensures line { take result out.new ≡ take at out.old ++ log_line moment frame.now }

@@ -12,11 +12,11 @@ pub struct PlainSquitter {
     /// The 56 bits of a message of kind other.
     pub raw: u64,
     pub address: u32,
-    /// The code of the position.
+    /// The CPR code, below 131072 each.
     pub lat: u32,
     pub lon: u32,
     pub feet: i32,
-    /// The altitude field as its 12 bits.
+    /// The altitude field, 12 bits.
     pub altitude: u16,
     /// 0 for none, 1 for feet, 2 for a field in another form.
     pub altitude_form: u8,
@@ -33,7 +33,7 @@ pub struct PlainSquitter {
     pub track: u8,
 }
 
-// No field.
+// All fields 0.
 const EMPTY: PlainSquitter = PlainSquitter {
     raw: 0,
     address: 0,
@@ -54,7 +54,7 @@ const EMPTY: PlainSquitter = PlainSquitter {
     track: 0,
 };
 
-// The fields of a squitter.
+// Returns the fields of a squitter.
 pub(crate) fn plain_squitter(squitter: &Squitter) -> PlainSquitter
     ensures { IsPlainSquitter squitter.now result }
 {
@@ -91,7 +91,7 @@ fn plain_airborne(airborne: &Airborne) -> PlainSquitter
     }
 }
 
-// The form of an altitude, and its feet or 0.
+// Returns the form of an altitude, and its feet or 0.
 pub(crate) fn plain_altitude(altitude: Altitude) -> (u8, i32)
     ensures { IsPlainAltitude altitude result.0 result.1 }
 {

@@ -1,10 +1,10 @@
-//! Heads: all of a position squitter but its place.
+//! Heads: the fields of a position squitter, except its position.
 ghost use Rattle.std.specs.Prelude.{◌↔◌, IfSome, IsSome};
 ghost use Rattle.squitter_c.specs.Heads.{IsAirHead, IsGroundHead, PlainIsAirHead, PlainIsGroundHead};
 
 use sq_message::{AirFields, AirHead, GroundFields, GroundHead};
 
-/// All of an airborne position squitter but its place.
+/// The fields of an airborne position squitter, except its position.
 #[repr(C)]
 #[derive(Clone, Copy)]
 pub struct PlainAirHead {
@@ -19,7 +19,7 @@ pub struct PlainAirHead {
     pub odd: u8,
 }
 
-/// All of a surface position squitter but its place.
+/// The fields of a surface position squitter, except its position.
 #[repr(C)]
 #[derive(Clone, Copy)]
 pub struct PlainGroundHead {
@@ -34,7 +34,7 @@ pub struct PlainGroundHead {
     pub odd: u8,
 }
 
-// The head of these fields; None exactly where one lies outside its range.
+// Returns the head of these fields; `None` exactly if a field is out of range.
 pub(crate) fn air_head(plain: &PlainAirHead) -> Option<AirHead>
     ensures variant { IsSome result ↔ PlainIsAirHead plain.now }
     ensures value { IfSome result (IsAirHead plain.now) }
@@ -52,7 +52,7 @@ pub(crate) fn air_head(plain: &PlainAirHead) -> Option<AirHead>
     AirHead::new(plain.ca, plain.address, fields)
 }
 
-// The head of a surface position; None exactly where the numbers are none.
+// Returns the head of a surface position; `None` exactly if a field is out of range.
 pub(crate) fn ground_head(plain: &PlainGroundHead) -> Option<GroundHead>
     ensures variant { IsSome result ↔ PlainIsGroundHead plain.now }
     ensures value { IfSome result (IsGroundHead plain.now) }

@@ -1,25 +1,26 @@
-//! What was heard, as plain numbers.
+//! The result for a frame, as plain numbers.
 ghost use Rattle.squitter_c.specs.Heard.{HasNoPlace, HasPlace, IsHeardAs, IsPlainHeard};
 
 use crate::plain::{PlainAngle, PlainPosition, plain_position};
 use sq_message::Place;
 use sq_track::Heard;
 
-/// What is heard of a frame.
+/// The result for a frame.
 #[repr(C)]
 #[derive(Clone, Copy)]
 pub struct PlainHeard {
-    /// The place, or 0/0 where there is none.
+    /// The position, or 0/0 and 0/0 if there is none.
     pub position: PlainPosition,
-    /// 1 for a fix, 2 for a followed place, 3 for waiting, 4 for a split, 5 for far, 6 for no site, 7 for no position.
+    /// 1 for a fix, 2 for a followed position, 3 for waiting, 4 for a split, 5 for far, 6 for no site, 7 for no
+    /// position.
     pub what: u8,
-    /// Of a split the zone counts of the even and the odd latitude.
+    /// The zone counts of the even and the odd latitude for a split, otherwise 0.
     pub even: u8,
     pub odd: u8,
 }
 
-/// What was heard, as plain numbers: the place in lowest terms, or 0/0 twice where there is none, and of a split both
-/// zone counts.
+/// Returns a result as plain numbers: the position in lowest terms, or 0/0 and 0/0 if there is none, and both zone
+/// counts for a split.
 #[inline(always)]
 pub fn plain_heard(heard: &Heard) -> PlainHeard
     ensures { IsPlainHeard heard.now result }
@@ -35,7 +36,7 @@ pub fn plain_heard(heard: &Heard) -> PlainHeard
     }
 }
 
-// A place that was heard.
+// Returns a result with a position.
 fn at_place(what: u8, place: &Place) -> PlainHeard
     ensures { IsHeardAs what 0 0 result × HasPlace place.now result }
 {
@@ -47,7 +48,7 @@ fn at_place(what: u8, place: &Place) -> PlainHeard
     }
 }
 
-// What was heard where there is no place.
+// Returns a result without a position.
 fn nowhere(what: u8, even: u8, odd: u8) -> PlainHeard
     ensures { IsHeardAs what even odd result × HasNoPlace result }
 {

@@ -1,4 +1,4 @@
-//! Laws of the texts of faults, and of one answer, over the definitions alone.
+//! Laws of the texts of faults, and of calls on arrays, over the definitions alone.
 ghost use Rattle.squitter_c.specs.Pinned.{OfEach};
 ghost use Rattle.squitter_c.specs.Texts.{EachText};
 
@@ -7,7 +7,7 @@ pub fn each_text()
     ensures { EachText }
 {}
 
-/// What stands at a place of arrays is what the call by itself answers there.
+/// A call on arrays gives each element the result of the single call.
 pub fn of_each()
     ensures { OfEach }
 {}

@@ -4,7 +4,7 @@
 //! plain or fields of plain structs. Every value is allowed: an invalid position or head is refused with a code. So a
 //! caller only has to keep its pointers valid. No call allocates, and every call returns. A tracker, a log, a feed or
 //! an order uses a block that the caller lends. A call that writes to `out` returns code 0; with any other code `out`
-//! is unchanged.
+//! is unchanged. The one exception is a log call that returns `Memory`, after it wrote earlier results.
 #![tactic(auto)]
 
 mod altitudes;

@@ -42,7 +42,7 @@ fn groups_for(addresses: usize) -> usize
 }
 
 /// Returns the size of a listener in bytes, for a limit of addresses. Its table has room for twice as many, because
-/// addresses that leave use up places until the table is rehashed.
+/// removed addresses use up slots until the table is rehashed.
 pub fn bytes_for(limit: u32) -> usize
     ensures { IsRoomFor limit result }
 {

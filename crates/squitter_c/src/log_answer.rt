@@ -1,4 +1,4 @@
-//! The answer to a line of a log, as plain numbers.
+//! The result for a line of a log, as plain numbers.
 ghost use Rattle.std.specs.Prelude.{◌≡◌};
 ghost use Rattle.sq_message.specs.Parts.{squitter_parts};
 ghost use Rattle.squitter_c.specs.LogAnswers.{IsKindOf, IsPlainAnswer, IsPlainFound, IsRefusedLine, IsTold};
@@ -16,17 +16,17 @@ use sq_message::{Me, Place, Squitter, altitude};
 use sq_text::LineFault;
 use sq_track::Heard;
 
-/// The answer to a line that is not empty. If the line was refused, all fields but `number` and `fault` are 0.
+/// The result for a line that is not empty. If the line was refused, all fields but `number` and `fault` are 0.
 #[repr(C)]
 #[derive(Clone, Copy)]
 pub struct PlainAnswer {
     /// The line's number, from 1.
     pub number: u64,
     pub moment: u64,
-    /// The heard squitter. Its position is not in lowest terms.
+    /// The result for the squitter. Its position is not in lowest terms.
     pub heard: PlainHeard,
     pub fault: Fault,
-    /// The place in units of 10^-7 degree, or 0 and 0.
+    /// The position in units of 10^-7 degree, or 0 and 0.
     pub degrees: DegreesE7,
     pub address: u32,
     pub feet: i32,
@@ -36,7 +36,7 @@ pub struct PlainAnswer {
     pub altitude_form: u8,
 }
 
-// The heard squitter.
+// The result for a squitter.
 #[derive(Clone, Copy)]
 struct Told {
     heard: PlainHeard,
@@ -51,7 +51,7 @@ struct Kind {
     feet: i32,
 }
 
-// Returns the plain form of an answer.
+// Returns the plain form of a result.
 #[inline(always)]
 pub(crate) fn plain_answer(answer: &Answer<HeardSquitter>) -> PlainAnswer
     ensures { IsPlainAnswer answer.now result }
@@ -62,7 +62,7 @@ pub(crate) fn plain_answer(answer: &Answer<HeardSquitter>) -> PlainAnswer
     }
 }
 
-// Returns the answer to a good line.
+// Returns the result for a good line.
 #[inline(always)]
 fn plain_found(number: u64, found: &HeardSquitter) -> PlainAnswer
     ensures { IsPlainFound number found.now result }
@@ -83,7 +83,7 @@ fn plain_found(number: u64, found: &HeardSquitter) -> PlainAnswer
     }
 }
 
-// Returns the heard squitter. Its position is not in lowest terms; `degrees` has it in units of 10^-7 degree.
+// Returns the result for a squitter. Its position is not in lowest terms; `degrees` has it in units of 10^-7 degree.
 #[inline(always)]
 fn told_of(heard: &Heard) -> Told
     ensures { IsTold heard.now result.heard result.degrees }
@@ -99,7 +99,7 @@ fn told_of(heard: &Heard) -> Told
     }
 }
 
-// Returns a heard position.
+// Returns a result with a position.
 #[inline(always)]
 fn at_place(what: u8, place: &Place) -> Told
     ensures { IsToldPlace what place.now result.heard result.degrees }
@@ -116,7 +116,7 @@ fn at_place(what: u8, place: &Place) -> Told
     }
 }
 
-// Returns a heard squitter without a position.
+// Returns a result without a position.
 #[inline(always)]
 fn nowhere(what: u8, even: u8, odd: u8) -> Told
     ensures { IsToldNowhere what even odd result.heard result.degrees }
@@ -162,7 +162,7 @@ fn kind_of(squitter: &Squitter) -> Kind
     }
 }
 
-// Returns the answer to a refused line.
+// Returns the result for a refused line.
 fn refused(number: u64, fault: LineFault) -> PlainAnswer
     ensures { IsRefusedLine number fault result }
 {

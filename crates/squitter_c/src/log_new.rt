@@ -1,4 +1,4 @@
-//! Making, counting and freeing a log.
+//! Creating, counting and freeing a log.
 ghost use Rattle.std.specs.Prelude.{◌≡◌, None};
 ghost use Rattle.squitter_c.specs.Sizes.{IsRoomFor};
 ghost use Rattle.squitter_c.specs.LogCalls.{IsTallied};
@@ -13,7 +13,7 @@ use crate::tracker_new::{
 };
 use sq_lent::Room;
 
-/// How many lines were good, and how many were refused.
+/// Numbers of good lines and of refused lines.
 #[repr(C)]
 #[derive(Clone, Copy)]
 pub struct PlainTally {
@@ -29,8 +29,8 @@ pub extern "C" fn squitter_log_size(limit: u32) -> usize
     squitter_tracker_size(limit)
 }
 
-/// Makes an empty log without a site, for up to `limit` addresses and a window in milliseconds. The block belongs to
-/// the log until the log is freed. The faults are those of [`squitter_tracker_new`].
+/// Creates an empty log without a site, for up to `limit` addresses and a window in milliseconds. The block belongs
+/// to the log until the log is freed. The faults are those of [`squitter_tracker_new`].
 #[unsafe(no_mangle)]
 pub extern "C" fn squitter_log_new(log: &mut Slot, block: Room, limit: u32, window: u64) -> Fault
     ensures made { IsMade limit window None (held_listener log.new) result }
@@ -39,7 +39,7 @@ pub extern "C" fn squitter_log_new(log: &mut Slot, block: Room, limit: u32, wind
     squitter_tracker_new(log, block, limit, window)
 }
 
-/// Makes a log with a site for pairs on the ground. The faults are those of [`squitter_tracker_new_at`].
+/// Creates a log with a site for surface pairs. The faults are those of [`squitter_tracker_new_at`].
 #[unsafe(no_mangle)]
 pub extern "C" fn squitter_log_new_at(
     log: &mut Slot,
@@ -62,7 +62,7 @@ pub extern "C" fn squitter_log_free(log: &mut Slot)
     squitter_tracker_free(log);
 }
 
-/// Returns the numbers of good and of refused lines so far. The fault is `NoTracker` if there is no log.
+/// Writes the numbers of good and of refused lines so far. The fault is `NoTracker` if there is no log.
 #[unsafe(no_mangle)]
 pub extern "C" fn squitter_log_tally(log: &mut Slot, out: &mut PlainTally) -> Fault
     ensures tallied { IsTallied (held_listener log.old) out.old out.new result }

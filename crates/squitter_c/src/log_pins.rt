@@ -15,7 +15,7 @@ ghost use Rattle.squitter_c.specs.LogLaws.{OneAnswer};
 ghost use Rattle.squitter_c.specs.LogTexts.{IsHeader, IsNoFormat};
 ghost use Rattle.squitter_c.specs.Trackers.{IsMadeIn};
 
-/// An answer has one plain form.
+/// The number, fault, timestamp, address, kind and `what` of a plain result have one value.
 pub fn one_answer()
     ensures { OneAnswer }
 {}

@@ -1,4 +1,4 @@
-//! The answers to the lines of a log, pushed in pieces, as many as fit an array.
+//! The results for the lines of a log, taken in pieces, as many as fit an array.
 ghost use Rattle.sq_log.specs.States.{with_job};
 ghost use Rattle.std.specs.Prelude.{◌≡◌, ◌↔◌, ◌+◌, ◌*◌, ◌^◌, ◌<◌, ◌≤◌, [], IsTrue, length, take};
 ghost use Rattle.squitter_c.specs.LogCalls.{AsAnswers, GoesOn, GoesToTheEnd, IsEndTold, IsFinishedBy};
@@ -15,7 +15,7 @@ use sq_log::{Log, LogState, Step};
 use sq_track::Tracker;
 use std::alloc::Allocator;
 
-/// How many bytes of a piece were taken, and how many answers written.
+/// Progress of a call: how much of the input was taken, and how many elements of the output were written.
 #[repr(C)]
 #[derive(Clone, Copy)]
 pub struct Done {
@@ -26,21 +26,21 @@ pub struct Done {
 /// Why a call stopped taking bytes.
 #[derive(Clone, Copy)]
 pub enum End {
-    /// All given lines with a line feed are answered.
+    /// All given lines with a line feed have their results.
     Fed,
-    /// There is no room for another answer.
+    /// There is no room for another result.
     Full,
     /// There was no memory to hear the next line.
     NoMemory,
 }
 
-/// Gives a log the next piece, and writes the answers to its lines, as many as fit. `done` has the number of bytes
-/// taken, and of answers written. If the call returns code 0 and more answers would have fitted, the whole piece was
-/// taken, and all lines with a line feed are answered.
+/// Takes the next piece of the log, and writes the results of its lines, as many as fit. `done` has the number of
+/// bytes taken, and of results written. If the call returns code 0 and writes fewer results than fit, it took the
+/// whole piece. Each line with a line feed then has its result.
 ///
 /// The faults are, in this order: `NoTracker` if there is no log; `LongLog` if the log has 2^63 lines, or the piece
 /// more than 2^61 bytes; `Memory` if an allocation fails. After the first two nothing is changed. After `Memory` the
-/// earlier answers are written, and the line waits for the next call.
+/// earlier results are written, and the line waits for the next call.
 #[unsafe(no_mangle)]
 pub extern "C" fn squitter_log_take(
     log: &mut Slot,
@@ -61,8 +61,8 @@ pub extern "C" fn squitter_log_take(
     }
 }
 
-/// Answers the waiting lines, and then the last line, which has no line feed. If the call returns code 0 and more
-/// answers would have fitted, all lines are answered; otherwise the next call goes on. The faults are those of
+/// Writes the results of the lines that still wait, and of a last line without a line feed. If the call returns code
+/// 0 and writes fewer results than fit, all results are written; otherwise call again. The faults are those of
 /// [`squitter_log_take`].
 #[unsafe(no_mangle)]
 pub extern "C" fn squitter_log_finish(
@@ -106,7 +106,7 @@ fn finish_by(listener: &mut Listener, out: &mut [PlainAnswer], done: &mut Done) 
     fault_at(end)
 }
 
-// Answers the next lines from this place of the array on.
+// Writes the results of the next lines from index `from` of the array on.
 fn answer_some<A: Allocator>(
     log: &mut Log<ValueHearing<'_, A>>,
     piece: &[u8],
@@ -139,7 +139,7 @@ fn answer_some<A: Allocator>(
     (Done { taken, written }, End::Full)
 }
 
-// Answers all given lines, and then the last one, which has no line feed, as many as fit.
+// Writes the results of all given lines, and then of the last one, which has no line feed, as many as fit.
 fn finish_some<A: Allocator>(
     log: &mut Log<ValueHearing<'_, A>>,
     out: &mut [PlainAnswer],
@@ -163,7 +163,7 @@ fn finish_some<A: Allocator>(
     }
 }
 
-// Takes a piece by a tracker and the state of its log.
+// Takes a piece with a tracker and the state of its log.
 fn take_with<A: Allocator>(
     tracker: &mut Tracker<A>,
     state: &mut LogState,
@@ -182,7 +182,7 @@ fn take_with<A: Allocator>(
     told
 }
 
-// Finishes a log by a tracker and the state of its log.
+// Finishes a log with a tracker and the state of its log.
 fn finish_with<A: Allocator>(
     tracker: &mut Tracker<A>,
     state: &mut LogState,
@@ -200,14 +200,14 @@ fn finish_with<A: Allocator>(
     told
 }
 
-// Whether a log has more lines, or a piece more bytes, than it can have.
+// Returns whether a log has 2^63 lines, or a piece more than 2^61 bytes.
 pub(crate) fn is_too_long(state: &LogState, size: usize) -> bool
     ensures { IsTrue result ↔ IsTooLong state.now size }
 {
     state.number() >= 1 << 63 || size > 1 << 61
 }
 
-// The fault of an end.
+// Returns the fault of an end.
 pub(crate) fn fault_at(end: End) -> Fault
     ensures { result ≡ fault_of_end end }
 {

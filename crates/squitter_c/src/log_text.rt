@@ -1,4 +1,4 @@
-//! The answers to the lines of a log as texts, as many as fit a buffer.
+//! The results for the lines of a log as texts, as many as fit a buffer.
 ghost use Rattle.std.specs.Prelude.{◌≡◌, ◌+◌, ◌++◌, ◌*◌, ◌^◌, ◌<◌, ◌≤◌, [], drop, length, take};
 ghost use Rattle.sq_commands.specs.Heard.{heard_telling};
 ghost use Rattle.sq_log.specs.States.{with_job};
@@ -18,11 +18,11 @@ use sq_log::{LineText, Log, LogState, Step};
 use sq_track::Tracker;
 use std::alloc::Allocator;
 
-// The most bytes of an answer's text.
+// The most bytes of a result's text.
 const LONGEST: usize = 512;
 
-/// Writes the text before the first answer of a format, padded with zeros: the column names for CSV, and an empty text
-/// for lines and JSON. Formats are 0 for lines, 1 for CSV and 2 for JSON.
+/// Writes the header of a format, padded with zeros: the column names for CSV, and an empty text for lines and JSON.
+/// Formats are 0 for lines, 1 for CSV and 2 for JSON.
 #[unsafe(no_mangle)]
 pub extern "C" fn squitter_log_header(format: u32, out: &mut [u8; 64])
     ensures { IsHeader format out.new }
@@ -30,12 +30,12 @@ pub extern "C" fn squitter_log_header(format: u32, out: &mut [u8; 64])
     fill(out, header_of(format));
 }
 
-/// Gives a log the next piece, and writes the answers to its lines as texts of a format. An answer has up to 512 bytes,
-/// and is begun only if 512 bytes are free. `done` has the number of bytes taken from the piece, and of bytes written.
-/// If the call returns code 0 and 512 bytes are free, the whole piece was taken, and all lines with a line feed are
-/// answered.
+/// Takes the next piece of the log, and writes the results of its lines as texts of a format. A result has up to 512
+/// bytes, and is begun only if 512 bytes are free. `done` has the number of bytes taken from the piece, and of bytes
+/// written. If the call returns code 0 and 512 bytes are free, it took the whole piece. Each line with a line feed
+/// then has its result.
 ///
-/// The faults are, in this order: `NoTracker` if there is no log; `NoFormat` if the number is no format's; and then
+/// The faults are, in this order: `NoTracker` if there is no log; `NoFormat` if no format has the number; and then
 /// those of [`squitter_log_take`]. After each but `Memory` nothing is changed.
 #[unsafe(no_mangle)]
 pub extern "C" fn squitter_log_take_text(
@@ -58,8 +58,8 @@ pub extern "C" fn squitter_log_take_text(
     }
 }
 
-/// Answers the waiting lines, and then the last line, which has no line feed, as texts. If the call returns code 0 and
-/// 512 bytes are free, all lines are answered; otherwise the next call goes on. The faults are those of
+/// Writes the results of the lines that still wait, and of a last line without a line feed, as texts. If the call
+/// returns code 0 and 512 bytes are free, all results are written; otherwise call again. The faults are those of
 /// [`squitter_log_take_text`].
 #[unsafe(no_mangle)]
 pub extern "C" fn squitter_log_finish_text(
@@ -117,7 +117,7 @@ fn finish_by(listener: &mut Listener, format: u32, out: &mut [u8], done: &mut Do
     fault_at(end)
 }
 
-// Takes a piece by a tracker and the state of its log.
+// Takes a piece with a tracker and the state of its log.
 fn take_with<A: Allocator>(
     tracker: &mut Tracker<A>,
     state: &mut LogState,
@@ -137,7 +137,7 @@ fn take_with<A: Allocator>(
     told
 }
 
-// Finishes a log by a tracker and the state of its log.
+// Finishes a log with a tracker and the state of its log.
 fn finish_with<A: Allocator>(
     tracker: &mut Tracker<A>,
     state: &mut LogState,
@@ -156,7 +156,7 @@ fn finish_with<A: Allocator>(
     told
 }
 
-// Answers all given lines, and then the last one, which has no line feed, while 512 bytes are free.
+// Writes the results of all given lines, and then of the last one, which has no line feed, while 512 bytes are free.
 fn finish_some<A: Allocator>(
     log: &mut Log<TextHearing<'_, A>>,
     format: Format,
@@ -181,7 +181,7 @@ fn finish_some<A: Allocator>(
     }
 }
 
-// Returns the text before the first answer in the format with this number.
+// Returns the header of the format with this number, or an empty text if there is no such format.
 fn header_of(number: u32) -> &'static str
     ensures header { IsHeaderText number result.now }
     ensures short { length result.now < 64 }
@@ -192,7 +192,7 @@ fn header_of(number: u32) -> &'static str
     }
 }
 
-// Returns the text before the first answer.
+// Returns the header of a format.
 fn short_header(format: Format) -> &'static str
     ensures header { result.now ≡ (heard_telling format).header }
     ensures short { length result.now < 64 }
@@ -200,7 +200,7 @@ fn short_header(format: Format) -> &'static str
     heard_header(format)
 }
 
-// Puts a text at a place.
+// Writes a text at an index.
 pub(crate) fn put_at(out: &mut [u8], at: usize, text: &[u8])
     requires { at + length text.now ≤ length out.old }
     ensures front { take (at + length text.now) out.new ≡ take at out.old ++ text.now }
@@ -210,7 +210,7 @@ pub(crate) fn put_at(out: &mut [u8], at: usize, text: &[u8])
     out[at..at + text.len()].copy_from_slice(text);
 }
 
-// Writes the texts of the next answers from this place of the buffer on.
+// Writes the texts of the next results from index `from` of the buffer on.
 fn write_some<A: Allocator>(
     log: &mut Log<TextHearing<'_, A>>,
     format: Format,

@@ -1,6 +1,6 @@
-//! Many calls in one: at each place what the call by itself answers.
+//! Many calls in one: each element gets the result of the single call.
 //!
-//! The shortest of the arrays counts, and the answer is how many places that are. What lies beyond is as it was.
+//! The shortest of the arrays counts, and is returned. Elements beyond it are unchanged.
 ghost use Rattle.std.specs.Prelude.{◌≡◌, length, min};
 ghost use Rattle.squitter_c.specs.Calls.{AreAnswered, shortest};
 ghost use Rattle.squitter_c.specs.Many.{IsE7At, IsLocalAt, IsPairNear, IsPairThere, IsReadAt};
@@ -12,8 +12,8 @@ use crate::fields::PlainSquitter;
 use crate::plain::PlainPosition;
 use crate::read::squitter_read_frame;
 
-/// Reads each frame, as [`squitter_read_frame`] does, into its place of `out`, and answers how many places that
-/// are. The fault of each, or none, stands at its place of `faults`; at a fault that place of `out` is as it was.
+/// Reads each frame as [`squitter_read_frame`] does, and returns the number of elements. `faults` has the fault of
+/// each, or none; after a fault that element of `out` is unchanged.
 #[unsafe(no_mangle)]
 pub extern "C" fn squitter_read_many(
     frames: &[[u8; 14]],
@@ -30,8 +30,8 @@ pub extern "C" fn squitter_read_many(
     count
 }
 
-/// Decodes each frame near the reference of its place, as [`squitter_local`] does, and answers how many places that
-/// are. The fault of each, or none, stands at its place of `faults`; at a fault that place of `out` is as it was.
+/// Decodes each frame near its reference as [`squitter_local`] does, and returns the number of elements. `faults` has
+/// the fault of each, or none; after a fault that element of `out` is unchanged.
 #[unsafe(no_mangle)]
 pub extern "C" fn squitter_local_many(
     frames: &[[u8; 14]],
@@ -52,8 +52,8 @@ pub extern "C" fn squitter_local_many(
     count
 }
 
-/// Decodes the pair of each place, as [`squitter_pair`] does, and answers how many places that are. The fault of
-/// each, or none, stands at its place of `faults`; at a fault that place of `out` is as it was.
+/// Decodes each pair as [`squitter_pair`] does, and returns the number of elements. `faults` has the fault of each,
+/// or none; after a fault that element of `out` is unchanged.
 #[unsafe(no_mangle)]
 pub extern "C" fn squitter_pair_many(
     older: &[[u8; 14]],
@@ -73,8 +73,8 @@ pub extern "C" fn squitter_pair_many(
     count
 }
 
-/// Decodes the pair of each place with one site, as [`squitter_pair_at`] does, and answers how many places that
-/// are. The fault of each, or none, stands at its place of `faults`; at a fault that place of `out` is as it was.
+/// Decodes each pair with one site as [`squitter_pair_at`] does, and returns the number of elements. `faults` has the
+/// fault of each, or none; after a fault that element of `out` is unchanged.
 #[unsafe(no_mangle)]
 pub extern "C" fn squitter_pair_at_many(
     older: &[[u8; 14]],
@@ -95,8 +95,8 @@ pub extern "C" fn squitter_pair_at_many(
     count
 }
 
-/// Writes each position in units of 10^-7 degree, as [`squitter_position_e7`] does, and returns how many it wrote or
-/// refused. `faults` has the error of each, or none; after an error that element of `out` is unchanged.
+/// Writes each position in units of 10^-7 degree as [`squitter_position_e7`] does, and returns the number of
+/// elements. `faults` has the fault of each, or none; after a fault that element of `out` is unchanged.
 #[unsafe(no_mangle)]
 pub extern "C" fn squitter_position_e7_many(
     positions: &[PlainPosition],

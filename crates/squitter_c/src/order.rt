@@ -1,4 +1,4 @@
-//! Sorting squitters by timestamp: an order, made and freed, and what it takes and gives.
+//! Sorting squitters by timestamp: creating and freeing an order, and its input and output.
 ghost use Rattle.std.specs.Prelude.{◌≡◌, None};
 ghost use Rattle.squitter_c.specs.OrderCalls.{HasGivenHeld, HasTakenInOrder, IsOrderCounted, IsOrderFlushed};
 ghost use Rattle.squitter_c.specs.OrderCalls.{IsOrderMade, IsOrderTaken};
@@ -18,9 +18,9 @@ pub extern "C" fn squitter_order_size() -> usize
     ORDER_BYTES
 }
 
-/// Makes an order that holds nothing. Squitters may come late by `reorder` milliseconds. The block belongs to the order
-/// until the order is freed. An existing order is freed first. The fault is `Memory` if the block is smaller than
-/// [`squitter_order_size`]; then there is no order.
+/// Creates an order that holds nothing. Squitters may come late by `reorder` milliseconds. The block belongs to the
+/// order until the order is freed. An existing order is freed first. The fault is `Memory` if the block is smaller
+/// than [`squitter_order_size`]; then there is no order.
 #[unsafe(no_mangle)]
 pub extern "C" fn squitter_order_new(order: &mut OrderSlot, block: Room, reorder: u64) -> Fault
     ensures { IsOrderMade reorder block.size (held_order order.new) result }
@@ -94,7 +94,7 @@ pub extern "C" fn squitter_order_flush(
     }
 }
 
-/// Returns how many squitters are held: at most 4096. The fault is `NoTracker` if there is no order.
+/// Writes how many squitters are held: at most 4096. The fault is `NoTracker` if there is no order.
 #[unsafe(no_mangle)]
 pub extern "C" fn squitter_order_held(order: &mut OrderSlot, out: &mut u64) -> Fault
     ensures counted { IsOrderCounted (held_order order.old) out.old out.new result }
@@ -126,7 +126,7 @@ fn take_by(
     Done { taken, written }
 }
 
-// Gives what is held.
+// Stores the squitters that are held.
 fn flush_by(order: &mut Order, out_moments: &mut [u64], out_frames: &mut [[u8; 14]]) -> Done
     ensures { HasGivenHeld order.old order.new out_moments.old out_moments.new out_frames.old out_frames.new result }
 {

@@ -1,8 +1,8 @@
 //! Laws of the orders that C holds: the complete result of each call.
 ghost use Rattle.squitter_c.specs.OrderLaws.{AllFlushed, AllSorted};
 
-/// A call of an order with code 0 that left room has taken all squitters and stored those that were due; a flush has
-/// stored all.
+/// If a call of an order returns code 0 and leaves room, it took all squitters and stored those that were due. A
+/// flush stored all.
 pub fn all_sorted()
     ensures taken { AllSorted }
     ensures flushed { AllFlushed }

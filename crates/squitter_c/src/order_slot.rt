@@ -12,7 +12,7 @@ use std::mem::replace;
 /// The bytes of a block for an order.
 pub const ORDER_BYTES: usize = 148_480;
 
-/// An order, or none. All zero is none. C lends these 16 bytes, and neither writes to them nor copies them.
+/// An order, or none: all bytes 0 mean none. C lends these 16 bytes, and neither writes to them nor copies them.
 #[repr(C)]
 pub struct OrderSlot {
     full: u64,
@@ -40,7 +40,7 @@ pub fn order_in(room: Room, reorder: u64) -> Option<Box<Order, Lent>>
 }
 
 impl OrderSlot {
-    /// Takes the order out, if there is one. There is none afterwards.
+    /// Takes the order out, if there is one, and leaves the slot empty.
     pub fn take(&mut self) -> Option<Box<Order, Lent>>
         ensures taken { option_map (λ b. b.value) result ≡ order_of self.old.seal.held }
         ensures none { order_of self.new.seal.held ≡ None }
@@ -57,7 +57,7 @@ impl OrderSlot {
         Some(seal.into_order(Lent::empty()).into_box())
     }
 
-    /// Puts an order where there is none.
+    /// Puts an order into an empty slot.
     pub fn put(&mut self, order: Box<Order, Lent>)
         requires { order_of self.old.seal.held ≡ None }
         ensures { order_of self.new.seal.held ≡ Some order.value }

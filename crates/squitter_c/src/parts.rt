@@ -17,7 +17,7 @@ impl<T, A: Allocator> Model for Parts<T, A> {
 }
 
 impl<T, A: Allocator> Parts<T, A> {
-    /// Takes a box apart: what lies at the pointer is the value that it held.
+    /// Takes a box apart. The value at the pointer is the one that the box held.
     pub fn of(b: Box<T, A>) -> Parts<T, A>
     where
         T: Drop,
@@ -27,7 +27,7 @@ impl<T, A: Allocator> Parts<T, A> {
         Parts { ptr, alloc }
     }
 
-    /// The box again, with the value that lies at the pointer.
+    /// Returns the box again, with the value at the pointer.
     pub fn into_box(self) -> Box<T, A>
         ensures { result.value ≡ self.value }
     {

@@ -1,4 +1,4 @@
-//! Plain values that cross, and what they stand for.
+//! Plain values that are passed to and from C, and the values that they represent.
 ghost use Rattle.std.specs.Prelude.{◌≡◌, ◌↔◌, IfSome, IsSome};
 ghost use Rattle.sq_angle.specs.Angle.{degrees};
 ghost use Rattle.squitter_c.specs.Plain.{IsAngleOf, IsFlag, IsLowestOf, IsLowestPosition, IsOfDegrees, IsParity};
@@ -23,7 +23,8 @@ pub struct PlainPosition {
     pub lon: PlainAngle,
 }
 
-/// The angle of a fraction of degrees. None exactly where it is none: see [`Angle::new`] for the limits.
+/// Returns the angle of a fraction of degrees. `None` exactly if it is not a valid angle: see [`Angle::new`] for the
+/// limits.
 pub fn angle_of(plain: &PlainAngle) -> Option<Angle>
     ensures variant { IsSome result ↔ PlainIsAngle plain.now }
     ensures value { IfSome result (IsAngleOf plain.now) }
@@ -31,8 +32,8 @@ pub fn angle_of(plain: &PlainAngle) -> Option<Angle>
     Angle::new(plain.num, plain.den)
 }
 
-/// The position of two fractions of degrees. None exactly where one of them is no angle, or the two are no position:
-/// see [`Position::new`] for the limits.
+/// Returns the position of two fractions of degrees. `None` exactly if one of them is not a valid angle, or both
+/// together are not a valid position: see [`Position::new`] for the limits.
 pub fn position_of(plain: &PlainPosition) -> Option<Position>
     ensures variant { IsSome result ↔ PlainIsPosition plain.now }
     ensures value { IfSome result (IsOfDegrees plain.now) }
@@ -42,7 +43,7 @@ pub fn position_of(plain: &PlainPosition) -> Option<Position>
     Position::new(lat, lon)
 }
 
-/// A position in degrees, both fractions in lowest terms.
+/// Returns a position in degrees, both fractions in lowest terms.
 pub fn plain_position(position: &Position) -> PlainPosition
     ensures { IsLowestPosition position.now result }
 {
@@ -52,7 +53,7 @@ pub fn plain_position(position: &Position) -> PlainPosition
     }
 }
 
-/// An angle in degrees, in lowest terms.
+/// Returns an angle in degrees, in lowest terms.
 pub fn plain_angle(angle: &Angle) -> PlainAngle
     ensures { IsLowestOf (degrees angle.now) result }
 {
@@ -60,7 +61,7 @@ pub fn plain_angle(angle: &Angle) -> PlainAngle
     PlainAngle { num, den }
 }
 
-/// The parity of a number: 0 is even and 1 is odd. None for any other number.
+/// Returns the parity of a number: 0 is even and 1 is odd. `None` for any other number.
 pub fn parity_of(odd: u8) -> Option<Parity>
     ensures variant { IsSome result ↔ IsFlag odd }
     ensures value { IfSome result (IsParity odd) }

@@ -5,29 +5,29 @@ ghost use Rattle.squitter_c.specs.Faults.{NoCodeIsZero, OneCode, OneReason};
 ghost use Rattle.squitter_c.specs.Calls.{AreAnswered, IsBelow, Leads};
 ghost use Rattle.squitter_c.specs.OneValues.{OneHeard, OneValue};
 
-/// Two reasons have one code exactly if they differ in their numbers at most, and a code with its numbers is that of
-/// one reason.
+/// Two reasons have the same code exactly if they differ only in their numbers. A code with its numbers belongs to at
+/// most one reason.
 pub fn one_code()
     ensures codes { OneCode }
     ensures numbers { OneReason }
 {}
 
-/// The code of an answer, 0, is that of no reason, whatever its numbers.
+/// No reason has code 0, whatever its numbers.
 pub fn no_code_is_zero()
     ensures { NoCodeIsZero }
 {}
 
-/// A fraction is that of one angle, and two fractions are those of one position.
+/// A fraction is that of at most one angle, and two fractions are those of at most one position.
 pub fn one_value()
     ensures { OneValue }
 {}
 
-/// What was heard has one plain form.
+/// A result has at most one plain form.
 pub fn one_heard()
     ensures { OneHeard }
 {}
 
-/// What is written of many calls lies below place n: from there on both arrays are as they were, and their lengths are.
+/// Many calls write only below index `n`. From there on both arrays are unchanged, and so are their lengths.
 pub fn below_exactly<B, C>()
     ensures long { (was is : List B) (before after : List C) (n : ℕ) → IsBelow was is before after n
         → (length is ≡ length was) × (length after ≡ length before) }
@@ -36,8 +36,7 @@ pub fn below_exactly<B, C>()
         → (slice_index_or is k b ≡ slice_index_or was k b) × (slice_index_or after k c ≡ slice_index_or before k c) }
 {}
 
-/// Of many calls, each with its own answer: what stands at each place below n is that answer, and the rest is as it
-/// was.
+/// Many calls, each with its own result: each element below `n` is that result, and the rest is unchanged.
 pub fn answered_exactly<B, C>()
     ensures { (out : ℕ → B → B) (fault : ℕ → C) (was is : List B) (before after : List C) (n : ℕ)
         → AreAnswered (λ k old new told. (new ≡ out k old) × (told ≡ fault k)) was is before after n
@@ -45,8 +44,8 @@ pub fn answered_exactly<B, C>()
         → (slice_index_or is k b ≡ out k (slice_index_or was k b)) × (slice_index_or after k c ≡ fault k))) }
 {}
 
-/// Of calls one after the other, none leave the state as it was, and of one more the last is made of the state that
-/// those before it left.
+/// Zero calls leave the state unchanged. With one more call, the last state comes from the state that the earlier
+/// calls left.
 pub fn led_exactly<S, B, C>()
     ensures none { (step : ℕ → S → S) (out : ℕ → S → B → B) (fault : ℕ → S → C) (first last : S) (was is : List B)
         (after : List C)

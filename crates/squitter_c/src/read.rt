@@ -10,7 +10,7 @@ use sq_bits::Frame;
 use sq_message::read_frame;
 use sq_text::{read_squitter, read_text};
 
-/// The frame of a frame text: 28 hexadecimal digits of either case, bare or between `*` and `;`.
+/// Parses a frame text: 28 hexadecimal digits of either case, bare or between `*` and `;`.
 #[unsafe(no_mangle)]
 pub extern "C" fn squitter_frame_of_text(text: &[u8], out: &mut [u8; 14]) -> Fault
     ensures { IsFrameOfText text.now out.old out.new result }
@@ -25,7 +25,7 @@ pub extern "C" fn squitter_frame_of_text(text: &[u8], out: &mut [u8; 14]) -> Fau
     }
 }
 
-/// The squitter of a frame text.
+/// Reads the fields of a squitter from a frame text.
 #[unsafe(no_mangle)]
 pub extern "C" fn squitter_read_text(text: &[u8], out: &mut PlainSquitter) -> Fault
     ensures { IsTextRead text.now out.old out.new result }
@@ -39,7 +39,7 @@ pub extern "C" fn squitter_read_text(text: &[u8], out: &mut PlainSquitter) -> Fa
     }
 }
 
-/// The squitter of a frame.
+/// Reads the fields of a squitter from a frame.
 #[unsafe(no_mangle)]
 pub extern "C" fn squitter_read_frame(frame: &[u8; 14], out: &mut PlainSquitter) -> Fault
     ensures { IsFrameRead (frame_of frame.now) out.old out.new result }
@@ -53,7 +53,7 @@ pub extern "C" fn squitter_read_frame(frame: &[u8; 14], out: &mut PlainSquitter)
     }
 }
 
-/// The text of a frame: 28 upper-case hexadecimal digits, and no zero after them.
+/// Writes the text of a frame: 28 upper-case hexadecimal digits, without a zero at the end.
 #[unsafe(no_mangle)]
 pub extern "C" fn squitter_text_of_frame(frame: &[u8; 14], out: &mut [u8; 28])
     ensures { out.new ≡ text_of frame.now }
@@ -65,7 +65,7 @@ pub extern "C" fn squitter_text_of_frame(frame: &[u8; 14], out: &mut [u8; 28])
     }
 }
 
-// A hexadecimal digit, in upper case.
+// Returns a hexadecimal digit, in upper case.
 fn digit_of(value: u8) -> u8
     requires { value < 16 }
     ensures { result ≡ slice_index upper_digits value }

@@ -1,4 +1,4 @@
-//! Encoding: the frame that is sent of a position.
+//! Encoding: the frame for a position.
 ghost use Rattle.std.specs.Prelude.{◌≡◌, MatchOption};
 ghost use Rattle.sq_message.specs.Kinds.{InAir, OnGround};
 ghost use Rattle.sq_message.specs.Parts.{squitter_parts};
@@ -18,8 +18,8 @@ use sq_message::{
     Me, Place, PlaceFault, Squitter, read_frame, send_air, send_ground, send_point, write_frame,
 };
 
-/// The frame that is sent of a position in the air (ICAO Doc 9871, register 0,5). The first fault is the head's, with
-/// its parity, then the position's.
+/// Encodes the frame for an airborne position (ICAO Doc 9871, register 0,5). The first fault is that of the head or
+/// its parity, then that of the position.
 #[unsafe(no_mangle)]
 pub extern "C" fn squitter_encode_air(
     head: &PlainAirHead,
@@ -31,8 +31,8 @@ pub extern "C" fn squitter_encode_air(
     give(air_frame(head, position), out)
 }
 
-/// The frame that is sent of a position on the ground (ICAO Doc 9871, register 0,6). The first fault is the head's,
-/// with its parity, then the position's.
+/// Encodes the frame for a surface position (ICAO Doc 9871, register 0,6). The first fault is that of the head or its
+/// parity, then that of the position.
 #[unsafe(no_mangle)]
 pub extern "C" fn squitter_encode_ground(
     head: &PlainGroundHead,
@@ -44,8 +44,9 @@ pub extern "C" fn squitter_encode_ground(
     give(ground_frame(head, position), out)
 }
 
-/// The frame with the parity and the code of a position, and all else as it was: the squitter, sent from there. The
-/// first fault is the parity's, then the position's, then the frame's, and then that it carries no position.
+/// Encodes the frame again with this parity and the code of this position; its other fields are unchanged. The first
+/// fault is that of the parity, then of the position, then of the frame, and last `NotPosition` if the frame carries
+/// no position.
 #[unsafe(no_mangle)]
 pub extern "C" fn squitter_send_again(
     frame: &[u8; 14],
@@ -72,7 +73,7 @@ fn give(answer: Result<Frame, Reason>, out: &mut [u8; 14]) -> Fault
     }
 }
 
-// The frame that is sent in the air.
+// Encodes the frame for an airborne position.
 #[tactic(auto, unfolding(crate::specs::Sending::IsSendAnswer))]
 fn air_frame(plain: &PlainAirHead, position: &PlainPosition) -> Result<Frame, Reason>
     ensures { IsSendAnswer InAir plain.now position.now result }
@@ -91,7 +92,7 @@ fn air_frame(plain: &PlainAirHead, position: &PlainPosition) -> Result<Frame, Re
     Ok(frame)
 }
 
-// The frame that is sent on the ground.
+// Encodes the frame for a surface position.
 #[tactic(auto, unfolding(crate::specs::Sending::IsSendAnswer))]
 fn ground_frame(plain: &PlainGroundHead, position: &PlainPosition) -> Result<Frame, Reason>
     ensures { IsSendAnswer OnGround plain.now position.now result }
@@ -110,7 +111,7 @@ fn ground_frame(plain: &PlainGroundHead, position: &PlainPosition) -> Result<Fra
     Ok(frame)
 }
 
-// The frame that is sent again.
+// Encodes the frame again.
 #[tactic(auto, unfolding(crate::specs::Sending::IsAgainAnswer))]
 fn again(frame: &Frame, odd: u8, position: &PlainPosition) -> Result<Frame, Reason>
     ensures { IsAgainAnswer frame.now odd position.now result }
@@ -131,7 +132,8 @@ fn again(frame: &Frame, odd: u8, position: &PlainPosition) -> Result<Frame, Reas
     }
 }
 
-// The place of the squitter's kind to which a position rounds; None exactly where it carries no position.
+// Returns the place of the squitter's kind that a position rounds to; `None` exactly if the squitter carries no
+// position.
 fn rounded(squitter: &Squitter, position: &Position, parity: Parity) -> Option<Place>
     ensures { MatchOption result (¬ (IsPosition (squitter_parts squitter.now).me))
         (λ place. Fits (squitter_parts squitter.now).me place × IsRoundedTo parity position.now place) }
@@ -143,7 +145,7 @@ fn rounded(squitter: &Squitter, position: &Position, parity: Parity) -> Option<P
     }
 }
 
-// The frame of the squitter at a place of its kind.
+// Encodes the frame of the squitter at a place of its kind.
 fn frame_from(squitter: &Squitter, place: &Place) -> Frame
     requires { Fits (squitter_parts squitter.now).me place.now }
     ensures { IsFrameFrom squitter.now place.now result }

@@ -8,7 +8,7 @@ use crate::seal::Seal;
 use sq_lent::Lent;
 use std::mem::replace;
 
-/// A listener, or none. All zero is none. C lends these 16 bytes, and neither writes to them nor copies them.
+/// A listener, or none: all bytes 0 mean none. C lends these 16 bytes, and neither writes to them nor copies them.
 #[repr(C)]
 pub struct Slot {
     full: u64,
@@ -18,7 +18,7 @@ pub struct Slot {
 }
 
 impl Slot {
-    /// Takes the listener out, if there is one. There is none afterwards.
+    /// Takes the listener out, if there is one, and leaves the slot empty.
     pub fn take(&mut self) -> Option<Box<Listener, Lent>>
         ensures taken { option_map (λ b. b.value) result ≡ listener_of self.old.seal.held }
         ensures none { listener_of self.new.seal.held ≡ None }
@@ -35,7 +35,7 @@ impl Slot {
         Some(seal.into_listener(Lent::empty()).into_box())
     }
 
-    /// Puts a listener where there is none.
+    /// Puts a listener into an empty slot.
     pub fn put(&mut self, listener: Box<Listener, Lent>)
         requires { listener_of self.old.seal.held ≡ None }
         ensures { listener_of self.new.seal.held ≡ Some listener.value }
@@ -45,7 +45,7 @@ impl Slot {
         seal.let_go();
     }
 
-    /// Puts back what was taken out.
+    /// Puts back the listener that was taken out, if there was one.
     pub fn put_back(&mut self, taken: Option<Box<Listener, Lent>>)
         requires { listener_of self.old.seal.held ≡ None }
         ensures { listener_of self.new.seal.held ≡ option_map (λ b. b.value) taken }

@@ -14,7 +14,7 @@ use sq_message::PlaceFault;
 use sq_text::{LineFault, push_decimal, push_hexadecimal};
 use sq_track::TrackFault;
 
-/// The text of a fault, as the program writes it, at most 63 bytes, and zeros after it.
+/// Writes the text of a fault, as the program writes it, at most 63 bytes, and zeros after it.
 #[unsafe(no_mangle)]
 pub extern "C" fn squitter_text_of_fault(fault: &Fault, out: &mut [u8; 64])
     ensures { StandsIn (told_text fault.now.code fault.now.first fault.now.second) out.new }
@@ -23,7 +23,7 @@ pub extern "C" fn squitter_text_of_fault(fault: &Fault, out: &mut [u8; 64])
     fill(out, text.as_str());
 }
 
-// The text of a code and its numbers.
+// Returns the text of a code and its numbers.
 fn text_of(code: u32, first: u64, second: u32) -> TextBuffer<63>
     ensures { result.bytes ≡ told_text code first second }
 {
@@ -95,7 +95,7 @@ fn push_entry(text: &mut TextBuffer<63>, index: u64)
     push_decimal(text, index);
 }
 
-// Appends a remainder, of which the lowest 24 bits are written.
+// Appends the text of a remainder: only its lowest 24 bits are written.
 fn push_remainder(text: &mut TextBuffer<63>, remainder: u64)
     requires { text_len text.old ≤ 0 }
     ensures { text.new.bytes ≡ text.old.bytes ++ fault_text (LineFault.Parity remainder) }
@@ -115,7 +115,8 @@ fn push_counts(text: &mut TextBuffer<63>, even: u64, odd: u64)
     push_decimal(text, odd);
 }
 
-/// The version of the library: 65536 times the major number, 256 times the minor number, and the number of the patch.
+/// Returns the version of the library: 65536 times the major number, 256 times the minor number, and the number of
+/// the patch.
 #[unsafe(no_mangle)]
 pub extern "C" fn squitter_version() -> u32
     ensures { result ≡ version }

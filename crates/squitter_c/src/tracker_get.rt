@@ -1,5 +1,5 @@
 //! The present addresses.
-ghost use Rattle.std.specs.Prelude.{◌≡◌, length, slice_get};
+ghost use Rattle.std.specs.Prelude.{◌≡◌, ◌≤◌, IfSome, length, slice_get};
 ghost use Rattle.sq_track.specs.Held.{present_of};
 ghost use Rattle.squitter_c.specs.Trackers.{IsGot, IsShown, present_in};
 ghost use Rattle.squitter_c.specs.Slots.{held_listener};
@@ -9,7 +9,7 @@ use crate::slot::Slot;
 use sq_track::Tracker;
 use std::alloc::Allocator;
 
-/// An address that is present, and the moment of its newest position.
+/// An address that is present, and the timestamp of its newest position.
 #[repr(C)]
 #[derive(Clone, Copy)]
 pub struct PlainPresent {
@@ -17,10 +17,11 @@ pub struct PlainPresent {
     pub address: u32,
 }
 
-/// How many addresses are present, never more than the limit; 0 where there is no tracker.
+/// Returns the number of present addresses, at most the limit; 0 if there is no tracker.
 #[unsafe(no_mangle)]
 pub extern "C" fn squitter_tracker_len(tracker: &mut Slot) -> usize
     ensures len { result ≡ length (present_in (held_listener tracker.old)) }
+    ensures limit { IfSome (held_listener tracker.old) (λ kept. result ≤ kept.tracker.limit) }
     ensures same { held_listener tracker.new ≡ held_listener tracker.old }
 {
     match tracker.take() {
@@ -33,8 +34,9 @@ pub extern "C" fn squitter_tracker_len(tracker: &mut Slot) -> usize
     }
 }
 
-/// The present address at an index, the longest unheard first, with the moment of its newest position. The faults are
-/// `NoTracker`, and then `NoAddress`, from `squitter_tracker_len` on. The time grows with the index.
+/// Writes the present address at an index, the longest silent first, and the timestamp of its newest position. The
+/// faults are, in this order: `NoTracker`; `NoAddress` if the index is at least `squitter_tracker_len`. The time
+/// grows with the index.
 #[unsafe(no_mangle)]
 pub extern "C" fn squitter_tracker_get(
     tracker: &mut Slot,

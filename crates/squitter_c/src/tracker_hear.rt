@@ -1,4 +1,4 @@
-//! Hearing a frame.
+//! Adding a frame to a tracker.
 ghost use Rattle.squitter_c.specs.Faults.{Tells, fault_of};
 ghost use Rattle.squitter_c.specs.Frames.{frame_of};
 ghost use Rattle.squitter_c.specs.Heard.{IsPlainHeard};
@@ -17,10 +17,10 @@ use sq_text::LineFault;
 use sq_track::{Heard, TrackFault, Tracker};
 use std::alloc::Allocator;
 
-/// Hears a frame at a moment: what is heard of it, by the frames that the tracker accepted before. The faults are, in
-/// this order: `NoTracker`; the frame's, `NotDf17` and `Parity`; `MomentBack` with the last accepted moment, where the
-/// moment is below it; `Full`, where the frame carries a position and as many other addresses as the limit are present;
-/// `Memory`, where an allocation fails. At a fault the tracker is unchanged.
+/// Adds a frame with its timestamp, and writes the result from this frame and all frames that the tracker accepted
+/// before it. The faults are, in this order: `NoTracker`; `NotDf17` and `Parity` of the frame; `MomentBack` with the
+/// last accepted timestamp, if `moment` is before it; `Full` if the frame carries a position and as many other
+/// addresses as the limit are present; `Memory` if an allocation fails. After a fault the tracker is unchanged.
 #[unsafe(no_mangle)]
 pub extern "C" fn squitter_tracker_hear(
     tracker: &mut Slot,
@@ -37,7 +37,7 @@ pub extern "C" fn squitter_tracker_hear(
     fault
 }
 
-// Hears a frame by what a slot held.
+// Adds a frame to the listener of a slot, if there is one.
 #[inline(always)]
 pub(crate) fn hear_in(
     held: &mut Option<Box<Listener, Lent>>,
@@ -54,7 +54,7 @@ pub(crate) fn hear_in(
     }
 }
 
-// Hears a frame.
+// Adds a frame to a tracker.
 #[inline(always)]
 fn hear_by<A: Allocator>(
     tracker: &mut Tracker<A>,
@@ -73,7 +73,7 @@ fn hear_by<A: Allocator>(
     }
 }
 
-// Writes what was heard, or reports why nothing was.
+// Writes the result, or reports why there is none.
 #[inline(always)]
 fn tell(answer: &Result<Heard, TrackFault>, out: &mut PlainHeard) -> Fault
     ensures { Tells IsPlainHeard of_tracker answer.now out.old out.new result }
@@ -87,7 +87,7 @@ fn tell(answer: &Result<Heard, TrackFault>, out: &mut PlainHeard) -> Fault
     }
 }
 
-// Why a tracker refuses a squitter, as a fault.
+// Returns why a tracker refuses a squitter, as a fault.
 #[cold]
 #[inline(never)]
 pub(crate) fn fault_of_tracker(fault: &TrackFault) -> Fault

@@ -1,9 +1,9 @@
-//! Laws of the trackers that C holds: each call has one answer, unless it is out of memory.
+//! Laws of the trackers that C holds: what hearing preserves, and that a saved tracker can be restored.
 ghost use Rattle.squitter_c.specs.Restoring.{RestoredAsSaved};
 ghost use Rattle.squitter_c.specs.OneTrackers.{HearingKeeps};
 
-/// Hearing keeps a tracker's settings, and after a fault all of it; memory runs out only at a position of an address
-/// that is not present.
+/// Hearing preserves a tracker's settings, and after a fault all of the tracker. Memory runs out only at a position
+/// of an address that is not present.
 pub fn hearing_keeps()
     ensures { HearingKeeps }
 {}

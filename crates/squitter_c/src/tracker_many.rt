@@ -1,4 +1,4 @@
-//! Many frames in one call: at each place what the call by itself answers.
+//! Many frames in one call: each element gets the result of the single call.
 ghost use Rattle.std.specs.Prelude.{◌≡◌, length, min};
 ghost use Rattle.squitter_c.specs.Calls.{IsBelow, Leads, shortest};
 ghost use Rattle.squitter_c.specs.Trackers.{IsHeardThere};
@@ -9,9 +9,9 @@ use crate::heard::PlainHeard;
 use crate::slot::Slot;
 use crate::tracker_hear::hear_in;
 
-/// Hears frames one after the other, each at its moment, as [`squitter_tracker_hear`] does. A frame at fault leaves the
-/// tracker and its place of `out` as they were, with the fault at its place of `faults`, and the next one is heard. The
-/// shortest of the arrays counts, and the answer is how many frames that are. What lies beyond is as it was.
+/// Adds frames in order, each with its timestamp, as [`squitter_tracker_hear`] does. After a fault, which `faults`
+/// has, the tracker and that element of `out` are unchanged, and the next frame is heard. The shortest of the arrays
+/// counts, and is returned; elements beyond it are unchanged.
 #[unsafe(no_mangle)]
 pub extern "C" fn squitter_tracker_hear_many(
     tracker: &mut Slot,

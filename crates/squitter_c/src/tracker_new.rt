@@ -1,4 +1,4 @@
-//! Making and freeing a tracker.
+//! Creating and freeing a tracker.
 ghost use Rattle.std.specs.Prelude.{◌≡◌, None};
 ghost use Rattle.squitter_c.specs.Sizes.{IsRoomFor};
 ghost use Rattle.squitter_c.specs.Trackers.{IsMade, IsMadeAt, IsMadeIn};
@@ -20,9 +20,9 @@ pub extern "C" fn squitter_tracker_size(limit: u32) -> usize
     bytes_for(limit)
 }
 
-/// Makes an empty tracker without a site, for up to `limit` addresses. `window` is in the unit of the timestamps, for
-/// instance milliseconds. The block belongs to the tracker until the tracker is freed. An existing tracker is freed
-/// first.
+/// Creates an empty tracker without a site, for up to `limit` addresses. `window` is in the unit of the timestamps,
+/// for instance milliseconds. The block belongs to the tracker until the tracker is freed. An existing tracker is
+/// freed first.
 ///
 /// The faults are, in this order: `NoLimit` if `limit` is 0; `Memory` if the block is smaller than
 /// [`squitter_tracker_size`] of the limit. After a fault there is no tracker.
@@ -39,8 +39,8 @@ pub extern "C" fn squitter_tracker_new(
     make(tracker, block, limit, window, None)
 }
 
-/// Makes an empty tracker with a site for pairs on the ground, otherwise as [`squitter_tracker_new`]. The first fault
-/// is `NoPosition` if the site is no position.
+/// Creates an empty tracker with a site for surface pairs, otherwise as [`squitter_tracker_new`]. The first fault is
+/// `NoPosition` if the site is not a valid position.
 #[unsafe(no_mangle)]
 pub extern "C" fn squitter_tracker_new_at(
     tracker: &mut Slot,
@@ -61,7 +61,7 @@ pub extern "C" fn squitter_tracker_new_at(
     }
 }
 
-// Makes an empty tracker, in place of an existing one.
+// Creates an empty tracker, in place of an existing one.
 fn make(slot: &mut Slot, block: Room, limit: u32, window: u64, site: Option<Position>) -> Fault
     ensures made { IsMade limit window site (held_listener slot.new) result }
     ensures room { IsMadeIn limit block.size (held_listener slot.new) }

@@ -2,23 +2,23 @@
 //! A function with an empty body does nothing: its contract is the statement.
 ghost use Rattle.squitter_c.specs.OneTrackers.{OneGot, OneHearing, OneMade, OneMadeAt, OneOfMany};
 
-/// A limit and a window make exactly one tracker, with a site and without.
+/// A limit and a window give at most one new tracker, with a site and without, unless memory runs out.
 pub fn one_tracker()
     ensures made { OneMade }
     ensures with_site { OneMadeAt }
 {}
 
-/// A frame is heard in exactly one way. Afterwards one history explains both trackers.
+/// A frame has at most one result, unless memory runs out. Afterwards one history explains both trackers.
 pub fn one_hearing()
     ensures { OneHearing }
 {}
 
-/// Arrays with one frame are heard as the frame is.
+/// In arrays with one frame, the result is that of the single call.
 pub fn one_of_many()
     ensures { OneOfMany }
 {}
 
-/// An index has exactly one entry.
+/// An index has at most one entry.
 pub fn one_present()
     ensures { OneGot }
 {}

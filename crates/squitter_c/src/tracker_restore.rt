@@ -10,12 +10,12 @@ use crate::tracker_save::PlainLast;
 use sq_track::{RestoreFault, Tracker};
 use std::alloc::Allocator;
 
-/// Replaces a tracker's entries and last moment by those that [`squitter_tracker_save`] wrote. Its limit, window and
-/// site stay.
+/// Replaces a tracker's entries and last timestamp by those that [`squitter_tracker_save`] wrote. Its limit, window
+/// and site are unchanged.
 ///
-/// The faults are, in this order: `NoTracker` if there is no tracker; `Entry` with its index, for the first entry that
-/// no tracker with this limit, window and last moment can hold after the entries before it; `Memory` if an allocation
-/// fails. After `Entry` or `Memory` the tracker is empty.
+/// The faults are, in this order: `NoTracker` if there is no tracker; `Entry` with its index, for the first entry
+/// that no tracker with this limit, window and last timestamp can hold after the entries before it; `Memory` if an
+/// allocation fails. After `Entry` or `Memory` the tracker is as if it had heard no frame.
 #[unsafe(no_mangle)]
 pub extern "C" fn squitter_tracker_restore(
     tracker: &mut Slot,
@@ -45,7 +45,7 @@ fn moment_of(last: &PlainLast) -> Option<u64>
     }
 }
 
-// Replaces a tracker's entries and last moment.
+// Replaces a tracker's entries and last timestamp.
 fn restore<A: Allocator>(
     tracker: &mut Tracker<A>,
     last: Option<u64>,

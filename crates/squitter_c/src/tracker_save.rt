@@ -18,8 +18,8 @@ pub struct PlainLast {
     pub heard: u64,
 }
 
-/// Writes a tracker's last accepted moment, and as many of its entries as fit, the longest unheard first. Returns the
-/// number of present addresses. Without a tracker it returns 0 and writes nothing.
+/// Writes a tracker's last accepted timestamp, and as many of its entries as fit, the longest silent first. Returns
+/// the number of present addresses. Without a tracker it returns 0 and writes nothing.
 #[unsafe(no_mangle)]
 pub extern "C" fn squitter_tracker_save(
     tracker: &mut Slot,

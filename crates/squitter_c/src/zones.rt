@@ -1,4 +1,4 @@
-//! The zones in which a place lies: how the position of a code comes about.
+//! The zones that a place lies in.
 ghost use Rattle.squitter_c.specs.Frames.{frame_of};
 ghost use Rattle.squitter_c.specs.Zones.{AreZonesOf, AreZonesOfPlace, AreLocalZones, TellsZones};
 
@@ -10,29 +10,30 @@ use sq_cpr::{CODES_OF_ZONE, GridPoint, Span, lat_zones};
 use sq_message::Place;
 use sq_zones::zone_count;
 
-/// The zones of a code's place. Its latitude is `degrees / lat_zones * (lat_zone + YZ / 2^17)`, and its longitude
-/// `degrees / lon_zones * (lon_zone + XZ / 2^17)`, less 360 degrees from 180 up, where YZ and XZ are the code.
+/// The zones that a position lies in. YZ and XZ are the CPR code of its frame.
+/// Its latitude is `degrees / lat_zones * (lat_zone + YZ / 2^17)`. Its longitude is
+/// `degrees / lon_zones * (lon_zone + XZ / 2^17)`, minus 360 degrees if that is 180 or more.
 #[repr(C)]
 #[derive(Clone, Copy)]
 pub struct PlainZones {
-    /// The index of the zone of latitude, j, negative in the south.
+    /// The zone of latitude, j: negative in the south.
     pub lat_zone: i32,
-    /// The index of the zone of longitude, m, from 0, eastwards from the prime meridian.
+    /// The zone of longitude, m: from 0, eastwards from the prime meridian.
     pub lon_zone: u32,
-    /// The degrees that the zones share: 360 in the air, 90 on the ground.
+    /// The degrees that the zones divide: 360 in the air, 90 on the ground.
     pub degrees: u32,
-    /// The zones of latitude: 60 even, 59 odd.
+    /// The number of zones of latitude: 60 even, 59 odd.
     pub lat_zones: u8,
-    /// The zone count of the place's latitude, NL.
+    /// The zone count of the position's latitude, NL.
     pub zone_count: u8,
-    /// The zones of longitude: NL for even, one less and at least 1 for odd.
+    /// The number of zones of longitude: NL even; odd, one less and at least 1.
     pub lon_zones: u8,
     /// The parity of the code: 0 even, 1 odd.
     pub odd: u8,
 }
 
-/// The zones in which the place of a frame near a reference lies: the place is that of [`squitter_local`], and so are
-/// the faults, in their order. RTCA DO-260B, appendix on compact position reporting, local decoding.
+/// Writes the zones that the position of [`squitter_local`] lies in. The faults are those of [`squitter_local`], in
+/// the same order. RTCA DO-260B, appendix on compact position reporting, local decoding.
 ///
 /// [`squitter_local`]: crate::decode::squitter_local
 #[unsafe(no_mangle)]
@@ -68,7 +69,7 @@ fn zones_of_place(place: &Place) -> PlainZones
     }
 }
 
-// The zones of a point: an index counts the codes of whole zones, and then its own code.
+// Returns the zones of a point. Each of its indices is 2^17 times the index of its zone, plus its code.
 fn zones_of<S: Span>(point: &GridPoint<S>) -> PlainZones
     ensures { AreZonesOf S.span point.now result }
 {

@@ -1,4 +1,4 @@
--- `let_go` lets a pointer go that owns nothing.
+-- `let_go` drops a pointer that owns nothing.
 use Rattle.std.proofs.Common.{List, [], ◌∷◌, ◌++◌, refl, None}
 use mir.Val.{Val, vunit}
 use base.Logic.{SProp}
