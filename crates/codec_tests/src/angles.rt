@@ -33,7 +33,7 @@ fn parts_as_given(rt: HostRuntime) {
     assert!(rt; angle.den() == 100);
 }
 
-// How an angle stands to another, by the operators.
+// Returns how an angle compares with another, by the operators.
 fn order(a: &Angle, b: &Angle) -> &'static str {
     if a == b {
         "equals"
@@ -44,7 +44,7 @@ fn order(a: &Angle, b: &Angle) -> &'static str {
     }
 }
 
-// How two angles compare, by the calls of the laws.
+// Returns how two angles compare, by the calls of the laws.
 fn order_by_calls(a: &Angle, b: &Angle) -> &'static str {
     if equal_angles(a, b) {
         "equals"
@@ -55,7 +55,7 @@ fn order_by_calls(a: &Angle, b: &Angle) -> &'static str {
     }
 }
 
-// Two angles, and how the first stands to the second.
+// Two angles, and how the first compares with the second.
 const ORDERED: &str = "\
 1/2 equals 2/4
 2/4 equals 1/2
@@ -65,7 +65,7 @@ const ORDERED: &str = "\
 1/2 above 0
 0 below 1/2";
 
-// The two angles of a row, and the word between them.
+// Returns the two angles of a row, and the word between them.
 fn ordered(row: &str) -> Option<(Angle, &str, Angle)> {
     let mut words = row.split_whitespace();
     let first = read_angle(&mut words)?;
@@ -100,7 +100,7 @@ const LOWEST_TERMS: &str = "\
 15461882265/128849018880 1030792151/8589934592
 -25261515/483328 -25261515/483328";
 
-// Whether a row's second fraction is the first one in lowest terms. None where the row is not these.
+// Returns whether the second fraction of a row is the first one in lowest terms, or `None` if the row is malformed.
 fn is_reduced(row: &str) -> Option<bool> {
     let mut words = row.split_whitespace();
     let angle = read_angle(&mut words)?;
@@ -133,7 +133,7 @@ fn within(rt: HostRuntime) {
     }
 }
 
-// The numerator and the denominator that are read from a text.
+// Reads a text as an angle and returns its numerator and denominator.
 fn parts_of(text: &str) -> Option<(i64, u64)> {
     let angle = Angle::read(text).ok()?;
     Some((angle.num(), angle.den()))
@@ -158,7 +158,7 @@ fn reads(rt: HostRuntime) {
     }
 }
 
-// Why a text is refused.
+// Returns why a text is refused.
 fn refusal(text: &str) -> Option<AngleFault> {
     Angle::read(text).err()
 }
@@ -233,7 +233,7 @@ fn tells_faults(rt: HostRuntime) {
     assert!(rt; !equal_angle_faults(&AngleFault::NotANumber, &AngleFault::OutOfRange));
 }
 
-// A fraction, and its text of seven decimals.
+// A fraction, and its text with seven decimals.
 const SEVEN_DECIMALS: &str = "\
 -50/100 -0.5000000
 0/1 0.0000000
@@ -265,7 +265,8 @@ fn seven_decimals(rt: HostRuntime) {
     }
 }
 
-// The position of a latitude and a longitude, each a numerator over a denominator. None where they are none.
+// Returns the position of a latitude and a longitude, each a numerator over a denominator, or `None` if they are not
+// valid.
 fn position_of(text: &str) -> Option<Position> {
     read_position(&mut text.split_whitespace())
 }

@@ -7,7 +7,7 @@ const AIR_EVEN: Frame = Frame([
 
 const ZERO: Frame = Frame([0; 14]);
 
-// The remainder, bit by bit: the plain reference.
+// Returns the remainder, computed bit by bit as a reference.
 fn plain_remainder(frame: &Frame) -> u32 {
     let mut remainder: u32 = 0;
     for bit in 1..=112u8 {
@@ -18,7 +18,8 @@ fn plain_remainder(frame: &Frame) -> u32 {
     remainder
 }
 
-// The generator without its highest coefficient where bit 24 of the remainder is about to leave, else nothing.
+// Returns the generator without its highest coefficient if the highest of the remainder's 24 bits is about to be
+// shifted out, and otherwise 0.
 fn overflow_of(remainder: u32) -> u32 {
     if remainder & 0x80_0000 == 0 {
         0

@@ -1,5 +1,5 @@
-//! Codes decoded near a reference and in pairs: places, their indices and zones, and the faults. The tables of worked
-//! codes stand in `vectors/cases/worked`, which the program and the library run.
+//! Codes decoded near a reference and in pairs: places, their indices and zones, and the errors. The tables of worked
+//! codes are in `vectors/cases/worked`, which the program and the library run.
 use crate::rows::position;
 use sq_cpr::Parity::{Even, Odd};
 use sq_cpr::{
@@ -7,7 +7,7 @@ use sq_cpr::{
 };
 use sq_zones::zone_count;
 
-// The indices of the point of a code near a reference, with its zones between them.
+// Decodes a code near a reference. Returns the latitude index, the zones and the longitude index of the point.
 fn indices_of<S: Span>(
     code: (u32, u32),
     parity: Parity,
@@ -24,7 +24,7 @@ fn indices_of<S: Span>(
     }
 }
 
-// The indices of the point of the even code (0, 65536) near a reference, with its zones between them.
+// Decodes the even code (0, 65536) near a reference. Returns the latitude index, the zones and the longitude index.
 fn indices_near(lat: (i64, u64), lon: (i64, u64)) -> Option<(i32, u8, u32)> {
     indices_of::<Air>((0, 65_536), Even, lat, lon)
 }
@@ -38,7 +38,8 @@ fn worked_parts(rt: HostRuntime) {
 // References with long fractions. The expected indices were computed in whole numbers by
 // base - period * floor((2 * away + width - 1) / (2 * width)).
 //
-// Half a zone from 0 degrees it is the northern or the eastern point, and 1 in the numerator turns that.
+// Half a zone from 0 degrees the result is the northern or the eastern point. A numerator that differs by 1 gives the
+// other point.
 #[test]
 fn latitudes_half_a_zone_from_long_references(rt: HostRuntime) {
     for (lat, index) in [
@@ -130,7 +131,7 @@ fn worked_places_near_long_references(rt: HostRuntime) {
     }
 }
 
-// The position of a point near a reference.
+// Decodes a code near a reference and returns the position.
 fn position_near<S: Span>(code: Code, parity: Parity, reference: &Position) -> Option<Position> {
     let point = local::<S>(code, parity, reference).ok()?;
     Some(point.position())
@@ -154,13 +155,13 @@ fn near_a_reference(rt: HostRuntime) {
     assert!(rt; local::<Air>(code, Even, &pole).err() == Some(LocalFault::OutOfRange));
 }
 
-// The position of the point of a pair in the air.
+// Decodes an airborne pair and returns the position.
 fn position_in_air(even: Code, odd: Code, newest: Parity) -> Option<Position> {
     let point = pair_air(even, odd, newest).ok()?;
     Some(point.position())
 }
 
-// An even and an odd code.
+// Returns an even and an odd code.
 fn codes(even: (u32, u32), odd: (u32, u32)) -> Option<(Code, Code)> {
     let even = Code::new(even.0, even.1)?;
     let odd = Code::new(odd.0, odd.1)?;

@@ -5,7 +5,7 @@ use sq_digits::{
     push_six_places, push_three,
 };
 
-// The number in decimal digits.
+// Returns a number as decimal digits.
 fn decimal(number: u64) -> TextBuffer<20> {
     let mut text = TextBuffer::new();
     push_decimal(&mut text, number);

@@ -24,14 +24,14 @@ fn counts_codes_and_zones_of_latitude(rt: HostRuntime) {
     assert!(rt; lat_zones(Parity::Odd) == 59);
 }
 
-// The position of two fractions, each a numerator over a denominator.
+// Returns the position of two fractions, each a numerator over a denominator.
 fn position(rt: &impl Abort, lat: (i64, u64), lon: (i64, u64)) -> Position {
     let lat = Angle::new(lat.0, lat.1).expect(rt, "a latitude");
     let lon = Angle::new(lon.0, lon.1).expect(rt, "a longitude");
     Position::new(lat, lon).expect(rt, "a position")
 }
 
-// The indices of a point, with its zones between them.
+// Returns the latitude index, the zones and the longitude index of a point.
 fn indices<S: Span>(point: &GridPoint<S>) -> (i32, u8, u32) {
     (point.lat_index(), point.zones(), point.lon_index())
 }

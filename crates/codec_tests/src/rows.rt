@@ -1,11 +1,11 @@
-//! Fractions, angles and positions of the tables' rows.
+//! Fractions, angles and positions in the rows of tables.
 use sq_angle::{Angle, Position};
 use std::str::SplitWhitespace;
 
-// A fraction in lowest terms.
+// The numerator and the denominator of a fraction.
 pub type Fraction = (i64, u64);
 
-// The position of two fractions. None where they are none.
+// Returns the position of two fractions, or `None` if they are not valid.
 pub fn position(lat: Fraction, lon: Fraction) -> Option<Position> {
     let lat = Angle::new(lat.0, lat.1)?;
     let lon = Angle::new(lon.0, lon.1)?;
@@ -20,7 +20,7 @@ fn denominator(digits: &str) -> Option<u64> {
     digits.parse::<u64>().ok()
 }
 
-// `num/den`, or a whole number.
+// Parses `num/den` or a whole number.
 fn fraction(word: &str) -> Option<Fraction> {
     match word.split_once('/') {
         Some((num, den)) => {

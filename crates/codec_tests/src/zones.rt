@@ -3,8 +3,8 @@ use sq_zones::pins::equal_parities;
 use sq_zones::{Angle, Parity, lon_zones, zone_count};
 use std::process::Abort;
 
-// The 58 limits in units of 10^-8 degree, each with the zone count up to and including it, apart from the table of the
-// code.
+// The 58 limits in units of 10^-8 degree, each with the zone count up to and including it, independent of the table
+// in the code.
 const LIMITS: &str = "\
 1047047130 59
 1482817437 58
@@ -65,7 +65,7 @@ const LIMITS: &str = "\
 8653536998 3
 8700000000 2";
 
-// The limit and the zone count of a line.
+// Parses the limit and the zone count of a line.
 fn limit_of(line: &str) -> Option<(i64, u8)> {
     let (limit, zones) = line.split_once(' ')?;
     let limit = limit.parse::<i64>().ok()?;
@@ -73,7 +73,7 @@ fn limit_of(line: &str) -> Option<(i64, u8)> {
     Some((limit, zones))
 }
 
-// The zone count of a latitude. None where the angle is none.
+// Returns the zone count of a latitude, or `None` if the angle is outside -90 to 90 degrees.
 fn count_of(lat: &Angle) -> Option<u8> {
     if lat.is_within(90) {
         Some(zone_count(lat))
@@ -82,20 +82,21 @@ fn count_of(lat: &Angle) -> Option<u8> {
     }
 }
 
-// The zone count of `num / den` degrees. None where that is no latitude.
+// Returns the zone count of `num / den` degrees, or `None` if that is not a latitude.
 fn count_at(num: i64, den: u64) -> Option<u8> {
     let lat = Angle::new(num, den)?;
     count_of(&lat)
 }
 
-// Whether `num / den` degrees do not pass the limit of a line.
+// Returns whether the magnitude of `num / den` degrees is at most the limit of a line.
 fn is_at_most(num: i64, den: u64, line: &str) -> Option<bool> {
     let (limit, _) = limit_of(line)?;
     let scaled = u128::from(num.unsigned_abs()) * 100_000_000;
     Some(scaled <= u128::from(limit.unsigned_abs()) * u128::from(den))
 }
 
-// The zone count by a plain loop: 1, and one more for each of the 58 limits that the latitude does not pass.
+// Returns the zone count by a plain loop: 1, plus one for each of the 58 limits that is at least the latitude's
+// magnitude.
 fn count_by_loop(num: i64, den: u64) -> u8 {
     let mut zones = 1_u8;
     for line in LIMITS.lines() {
@@ -150,7 +151,7 @@ fn parity_indices(rt: HostRuntime) {
     assert!(rt; !equal_parities(&Parity::Odd, &Parity::Even));
 }
 
-// Asserts the zone count against the loop at so many tenths of a degree, as a fraction of this denominator.
+// Asserts the zone count against the loop at `tenths` tenths of a degree, as a fraction with the denominator `den`.
 fn assert_tenths(rt: &impl Abort, tenths: u64, den: u64) {
     let num = i64::try_from(tenths.saturating_mul(den / 10)).expect(rt, "a latitude");
     let zones = Some(count_by_loop(num, den));
@@ -161,7 +162,7 @@ fn assert_tenths(rt: &impl Abort, tenths: u64, den: u64) {
     );
 }
 
-// Zone counts at so many tenths of a degree, with denominators of few and of many digits.
+// Asserts the zone counts at `tenths` tenths of a degree, with short and long denominators.
 fn assert_tenths_by_each(rt: &impl Abort, tenths: u64) {
     let dens = [
         10,

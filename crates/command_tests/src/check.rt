@@ -1,5 +1,5 @@
-//! The command `check` over inputs in pieces, and over devices that fail: the clauses `whole`, `unread` and `unwritten`
-//! of `run_log`, and `IsCheckRun` at status 3. What it answers to odd lines stands in `tests/worked/check.txt`.
+//! The command `check` over inputs in pieces, and over devices that fail: the clauses `whole`, `unread` and
+//! `unwritten` of `run_log`, and `IsCheckRun` at status 3. `tests/worked/check.txt` has the results for odd lines.
 use crate::faulty_devices::{
     End, Pieces, Room, lines_in, pieces_of, room_of, sink_of, source_of, taken,
 };
@@ -16,7 +16,7 @@ use std::process::Abort;
 const LINES: &[u8] =
     b"*8D40621D58C382D690C8AC2863A7;\n8d40621d58c386435cc412692ad6\n\n5D40621D000000\n8D40621D58C382D690C8AC2863A6\n90406B902015A678D4D220AA4BDA\n8D406B902015A678D4D220AA4BDA\n8D40621D58C382D690C8AC2863AG\n*8D40621D58C382D690C8AC2863A7\n8C4841753AAB238733C8CD4020B1";
 
-// The answers to them.
+// The results for these lines.
 const ANSWERS: &[u8] =
     b"1 ok 40621D air even 93000 51372\n2 ok 40621D air odd 74158 50194\n4 short frame\n5 parity 000001\n6 not DF17 18\n7 ok 406B90 other 4\n8 bad digit 28\n9 bad wrapping\n10 ok 484175 ground even 115609 116941\n";
 
@@ -41,7 +41,7 @@ fn checks_lines(rt: HostRuntime) {
     assert!(rt; outcome.reported.is_empty());
 }
 
-// Asserts how a run of pieces ends, and how many bytes of the answers were written.
+// Asserts how a run of pieces ends, and how many bytes of the results were written.
 fn assert_answered(
     rt: &impl Abort,
     alloc: Global,
@@ -64,7 +64,7 @@ fn checks_lines_in_pieces(rt: HostRuntime) {
     }
 }
 
-// How many bytes of the answers are for the first so many lines.
+// How many bytes the results for the first lines have, by the number of lines.
 const ANSWERED: [usize; 11] = [0, 33, 65, 65, 79, 95, 109, 129, 144, 159, 198];
 
 #[test]
@@ -76,7 +76,7 @@ fn answers_what_was_read_before_a_fault(rt: HostRuntime) {
     }
 }
 
-// Asserts how a run of the lines into a writer ends, and what the writer took of the answers.
+// Asserts how a run of the lines into a writer ends, and what the writer took of the results.
 fn assert_taken(rt: &impl Abort, room: Room, ended: Result<Tally, RunFault>, count: usize) {
     let mut source = source_of(LINES);
     let mut sink = sink_of(room);
@@ -109,7 +109,7 @@ fn reports_a_flush_that_fails(rt: HostRuntime) {
     assert_taken(&rt, stuck, Err(RunFault::Write), ANSWERS.len());
 }
 
-// Gives one line feed a read, for ever.
+// Gives one line feed for each read, without end.
 #[derive(Drop)]
 struct Feeds;
 

@@ -1,5 +1,5 @@
-//! The devices over readers and writers that keep a log: the clauses of `Source` and `Sink`, and what none says, that
-//! the output is flushed before input is awaited. The words over a made-up command line.
+//! The devices over readers and writers that keep a log: the clauses of `Source` and `Sink`, and one thing that no
+//! clause states, that the output is flushed before input is awaited. Also the words of a made-up command line.
 use crate::devices::end_with;
 use crate::faulty_devices::{finish, get, put};
 use sq_devices::console_pins::equal_troubles;
@@ -13,7 +13,7 @@ use std::io;
 use std::io::{ErrorKind, Read, Write};
 use std::process::Abort;
 
-/// What was read and written, in turn.
+/// What was read and written, in order.
 type Log = RefCell<Vec<u8>>;
 
 /// Notes bytes in the log.
@@ -24,7 +24,7 @@ fn note(log: &Log, bytes: &[u8]) -> io::Result<()> {
     }
 }
 
-/// Gives its text a line a read, and notes each read as `<`.
+/// Gives its text one line for each read, and notes each read as `<`.
 #[derive(Drop)]
 struct Lines<'a> {
     log: &'a Log,
@@ -73,7 +73,7 @@ fn input_of<'a, R: Read + Drop, W: Write + Drop>(
     PromptInput::new(alloc, reader, shared, 10)
 }
 
-// Asserts that each of four bytes is got, and put as its answer.
+// Asserts that each of four bytes is read, and written back.
 fn assert_echoed(rt: &impl Abort, input: &mut impl Source, output: &mut impl Sink) {
     let mut piece = [0; 1];
     for _ in 0..4 {
@@ -82,14 +82,14 @@ fn assert_echoed(rt: &impl Abort, input: &mut impl Source, output: &mut impl Sin
     }
 }
 
-// Asserts that the input has ended, and puts an end.
+// Asserts that the input has ended, and writes `end`.
 fn assert_ended(rt: &impl Abort, input: &mut impl Source, output: &mut impl Sink) {
     assert!(rt; get(input, &mut [0; 1]) == Ok(0));
     assert!(rt; put(output, b"end") == Ok(3));
     assert!(rt; finish(output) == Ok(()));
 }
 
-// Echoes four bytes from a reader to a writer, and puts an end.
+// Echoes four bytes from a reader to a writer, and writes `end`.
 fn echo(
     rt: &impl Abort,
     alloc: Global,
@@ -141,7 +141,7 @@ impl Write for Marked<'_> {
     }
 }
 
-// The output goes where a read follows, and not at each get: what two gets out of one read are answered is one write.
+// The output is flushed before a read, and not at each get: the replies to two gets from one read are one write.
 #[test]
 fn writes_once_for_each_read(rt: HostRuntime) -> Result<(), AllocError> {
     let log = RefCell::new(Vec::new(rt.alloc()));
@@ -163,7 +163,7 @@ fn assert_put_last(rt: &impl Abort, output: &mut impl Sink, text: &[u8]) {
     assert!(rt; end_with(output, text) == Ok(()));
 }
 
-// How many bytes of these letters stand in the log.
+// Returns the number of bytes `a` in the log.
 fn letters_in(log: &[u8]) -> usize {
     log.iter().filter(|byte| **byte == b'a').count()
 }
@@ -181,7 +181,7 @@ fn writes_a_text_larger_than_its_buffer(rt: HostRuntime) -> Result<(), AllocErro
     Ok(())
 }
 
-// Asserts that the flush of a text fails at a get, and that the next put and the finish tell it.
+// Asserts that the flush of a text fails at a get, and that the next put and the finish report it.
 fn assert_told_at_the_put(rt: &impl Abort, input: &mut impl Source, output: &mut impl Sink) {
     assert!(rt; put(output, b"abc") == Ok(3));
     assert!(rt; get(input, &mut [0; 2]) == Ok(2));
@@ -269,7 +269,7 @@ fn words_of(alloc: Global, env: impl Env + Drop) -> Result<Vec<String>, Trouble>
     arguments(&(env, alloc))
 }
 
-// Whether these are the program's name and one more word.
+// Returns whether these are the program's name and one more word.
 fn are_words(words: &[String], word: &str) -> bool {
     match words {
         [name, given] => name.as_str() == "squitter" && given.as_str() == word,
@@ -291,7 +291,7 @@ fn refuses_a_word_that_is_no_text(rt: HostRuntime) {
     assert!(rt; matches!(bad, Err(Trouble::Words)));
 }
 
-/// A command line of an empty name and `count` more words, each a letter longer than the one before.
+/// A command line with an empty name and `count` more words, each a letter longer than the one before.
 #[derive(Drop)]
 struct LongLine {
     count: usize,
@@ -321,7 +321,7 @@ impl Env for LongLine {
     }
 }
 
-// Whether each word is a letter longer than the one before.
+// Returns whether each word is a letter longer than the one before.
 fn are_letters(words: &[String]) -> bool {
     words.iter().enumerate().all(|(i, word)| word.as_bytes() == &LETTERS[..i.min(LETTERS.len())])
 }
@@ -407,7 +407,8 @@ fn tells_a_failed_read(rt: HostRuntime) -> Result<(), AllocError> {
     Ok(())
 }
 
-// Asserts that a flush which failed at a get is told at the finish, though the writer would take the text by then.
+// Asserts that a flush that failed at a get is reported at the finish, even if the writer would take the text by
+// then.
 fn assert_told_late(rt: &impl Abort, input: &mut impl Source, output: &mut impl Sink) {
     assert!(rt; put(output, b"end") == Ok(3));
     assert!(rt; get(input, &mut [0; 2]) == Ok(2));

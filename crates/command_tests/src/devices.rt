@@ -1,5 +1,5 @@
-//! Devices over memory, and over readers and writers that fail: the clauses of `Source` and `Sink`, `part` of `put_all`
-//! and `put_last`, and what none says, that a sink is finished once and nothing is tried again.
+//! Devices over memory, and over readers and writers that fail: the clauses of `Source` and `Sink`, and `part` of
+//! `put_all` and `put_last`. Also what no clause states: a sink is finished once, and nothing is tried again.
 use crate::faulty_devices::{finish, get, put, sink_of, source_of, taken};
 use sq_devices::{Failed, Reading, Sink, Source, put_all, put_last};
 use std::alloc::Global;
@@ -27,7 +27,7 @@ impl Write for Broken {
     }
 }
 
-/// Takes no byte of any text, and says so.
+/// Takes no byte of any text, and returns 0.
 #[derive(Drop)]
 struct Idle;
 
@@ -41,7 +41,7 @@ impl Write for Idle {
     }
 }
 
-/// Takes at most three bytes a write and `room` in all, and then fails.
+/// Takes at most three bytes for each write and `room` in all, and then fails.
 #[derive(Drop)]
 struct Narrow {
     room: usize,
@@ -146,7 +146,7 @@ pub(crate) fn end_with(sink: &mut impl Sink, text: &[u8]) -> Result<(), Failed> 
     put_last(sink, text)
 }
 
-// Asserts which text is got into a piece.
+// Asserts the text that a get writes into a piece.
 fn assert_got(rt: &impl Abort, source: &mut impl Source, piece: &mut [u8], text: &[u8]) {
     assert!(rt; get(source, piece) == Ok(text.len()));
     assert!(rt; piece.starts_with(text));
@@ -267,6 +267,13 @@ fn puts_no_text_again(rt: HostRuntime) {
     assert_once(&rt, &taken(sink), 3, 2, b"621D58C3");
 }
 
+#[test]
+fn finishes_no_text_after_a_failed_put(rt: HostRuntime) {
+    let mut sink = sink_of(once_of(rt.alloc(), b""));
+    assert!(rt; end_with(&mut sink, b"8D40") == Err(Failed));
+    assert_once(&rt, &taken(sink), 1, 0, b"");
+}
+
 fn counting_of(alloc: Global) -> Counting {
     Counting {
         writes: 0,
@@ -282,7 +289,7 @@ fn assert_counted(rt: &impl Abort, counted: &Counting, writes: u32, flushes: u32
     assert!(rt; counted.taken.as_slice() == text);
 }
 
-// The last text is finished once, an empty one too; another is not, and neither is one whose put failed.
+// Each last text is finished once, also an empty one. A text that is not the last is not finished.
 #[test]
 fn finishes_no_other_text(rt: HostRuntime) {
     let mut sink = sink_of(counting_of(rt.alloc()));
@@ -299,7 +306,7 @@ fn finishes_the_last_text_once(rt: HostRuntime) {
     assert_counted(&rt, &taken(sink), 2, 2, b"8D40621D");
 }
 
-// Asserts how much of a text of ten bytes is left in so much room, and that only the whole one is no failure.
+// Asserts how much of a text of ten bytes is written into this room. Only the whole text is a success.
 fn assert_prefix(rt: &impl Abort, alloc: Global, room: usize) {
     let text = b"8D40621D58".as_slice();
     let mut sink = sink_of(narrow_of(alloc, room));
@@ -307,7 +314,7 @@ fn assert_prefix(rt: &impl Abort, alloc: Global, room: usize) {
     assert!(rt; taken(sink).taken.as_slice() == text.get(..room).unwrap_or(b""));
 }
 
-// Every place at which a writer can fail, up to and including the last byte.
+// The writer fails at each byte in turn, up to and including the last, and then takes the whole text.
 #[test]
 fn leaves_each_prefix_where_a_put_fails(rt: HostRuntime) {
     for room in 0..11usize {

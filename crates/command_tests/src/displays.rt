@@ -1,4 +1,4 @@
-//! What is reported of faults is what their `Display` shows: of an angle after its name, and of what breaks a run off.
+//! The report of a fault is its `Display`: for an angle after the angle's name, and for a run that breaks off.
 use crate::faulty_devices::{sink_of, taken};
 use crate::outcomes::assert_reported;
 use sq_angle::AngleFault;
@@ -7,7 +7,7 @@ use std::alloc::Global;
 use std::fmt;
 use std::process::Abort;
 
-// What a fault's Display writes after a name, as a line.
+// Returns a name and a fault's `Display`, as a line.
 fn line_of(alloc: Global, name: &str, fault: impl fmt::Display + Drop) -> String {
     format!(in alloc; "{name}{fault}\n").unwrap_or(String::new(alloc))
 }
@@ -20,7 +20,7 @@ fn near<'a>(lat: &'a str, lon: &'a str) -> Request<'a> {
     })
 }
 
-// Asserts what is reported of a word that is no latitude and no longitude.
+// Asserts the report for a word that is neither a latitude nor a longitude.
 fn assert_named(rt: &impl Abort, alloc: Global, word: &str, fault: AngleFault) {
     let lat = line_of(alloc, "lat ", fault);
     let lon = line_of(alloc, "lon ", fault);
@@ -41,7 +41,7 @@ fn reports_faults_of_angles_by_name(rt: HostRuntime) {
     assert_named(&rt, rt.alloc(), "361", AngleFault::OutOfRange);
 }
 
-// Asserts what is reported of a run that breaks off.
+// Asserts the report for a run that breaks off.
 fn assert_broken_off(rt: &impl Abort, alloc: Global, fault: RunFault) {
     let mut faults = sink_of(Vec::new(alloc));
     break_off(fault, &mut faults);

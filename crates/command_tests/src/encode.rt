@@ -2,7 +2,7 @@
 use crate::outcomes::{assert_reported, assert_written};
 use sq_commands::{EncodeWords, ReplyRequest, Request, Status};
 
-// A position in the air, of this kind.
+// Returns a request for an airborne position, with this kind.
 fn position_of(kind: &str) -> Request<'_> {
     Request::Reply(ReplyRequest::Encode(EncodeWords {
         kind,

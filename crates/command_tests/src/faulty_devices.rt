@@ -4,7 +4,8 @@ use std::alloc::Global;
 use std::io;
 use std::io::{ErrorKind, Read, Write};
 
-// Gives its text so many bytes a read, fails once so many were given, and ends where there is no more.
+// Gives its text in reads of at most `size` bytes. Fails once `fails_at` bytes were given, and ends where the text
+// ends.
 #[derive(Drop)]
 pub(crate) struct Pieces {
     text: &'static [u8],
@@ -39,14 +40,14 @@ impl Read for Pieces {
     }
 }
 
-// What a full writer answers.
+// The result of a write when the writer is full.
 #[derive(Clone, Copy, Debug, PartialEq, Eq)]
 pub(crate) enum End {
     Error,
     Nothing,
 }
 
-// Takes so many bytes in all, and at most so many a call; and it may refuse to be flushed.
+// Takes `room` bytes in all, and at most `size` for each call; it may refuse to be flushed.
 #[derive(Drop)]
 pub(crate) struct Room {
     room: usize,
@@ -86,7 +87,7 @@ pub(crate) fn room_of(alloc: Global, room: usize, end: End) -> Room {
     }
 }
 
-// How many lines the first so many bytes end.
+// Returns the number of line feeds in the first `count` bytes.
 pub(crate) fn lines_in(text: &[u8], count: usize) -> usize {
     text.iter()
         .take(count)
@@ -94,7 +95,7 @@ pub(crate) fn lines_in(text: &[u8], count: usize) -> usize {
         .count()
 }
 
-// Devices and their calls, without the clauses: a test looks at the answers alone, and is proved sooner without.
+// Devices and their calls, without the clauses: a test looks only at results, and is proved sooner without.
 pub(crate) fn source_of<R: Read>(reader: R) -> Reading<R> {
     Reading::new(reader, 1_000_000)
 }
@@ -115,7 +116,7 @@ pub(crate) fn finish(sink: &mut impl Sink) -> Result<(), Failed> {
     sink.finish()
 }
 
-// The writer, with what was put.
+// Returns the writer, with what it took.
 pub(crate) fn taken<W: Write>(sink: Writing<W>) -> W {
     sink.into_inner()
 }

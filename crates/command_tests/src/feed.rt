@@ -13,7 +13,7 @@ use std::process::Abort;
 // Two frames without a clock.
 const AVR: &[u8] = b"*8D40621D58C382D690C8AC2863A7;\n*8D40621D58C386435CC412692AD6;\n";
 
-// Their lines where there are no arrivals.
+// Their lines without arrivals.
 const UNTIMED: &[u8] = b"0 8D40621D58C382D690C8AC2863A7\n0 8D40621D58C386435CC412692AD6\n";
 
 // The same frames with clocks of 24,000 and 36,000 ticks.
@@ -25,7 +25,7 @@ const LOG: &[u8] = b"2 8D40621D58C382D690C8AC2863A7\n3 8D40621D58C386435CC412692
 const CSV: &[u8] =
     b"0.002,40621d,8d40621d58c382d690c8ac2863a7\n0.003999,40621d,8d40621d58c386435cc412692ad6\n";
 
-// The order of the frames, and extended squitters alone.
+// The order of arrival, and only extended squitters.
 const PLAIN: FeedOptions = FeedOptions {
     format: None,
     reorder: 0,
@@ -43,7 +43,7 @@ fn feed(
     run_feed(&options, clock, source, sink)
 }
 
-// Asserts the output of a run by a clock, and that it counts two frames.
+// Asserts the output of a run with a clock, and that it counts two frames.
 fn assert_fed(
     rt: &impl Abort,
     alloc: Global,
@@ -103,7 +103,7 @@ fn sources_without_frames_are_told(rt: HostRuntime) {
     assert!(rt; taken(sink).is_empty());
 }
 
-// A clock that tells times a second apart.
+// A clock whose times are a second apart.
 #[derive(Drop)]
 struct Ticking {
     next: u64,
@@ -143,7 +143,7 @@ fn frames_without_a_time_have_that_of_their_piece(rt: HostRuntime) {
     assert!(rt; clock.now() == 8000);
 }
 
-// Asserts that the source fails once so many bytes were given, and how much of the lines was written before.
+// Asserts that the source fails once `fails_at` bytes were given, and how much of the lines was written before.
 fn assert_unread(rt: &impl Abort, alloc: Global, fails_at: usize, written: usize) {
     let mut source = source_of(pieces_of(AVR, 7, fails_at));
     let mut sink = sink_of(Vec::new(alloc));
@@ -208,7 +208,7 @@ fn request_of(format: Option<&str>) -> Request<'_> {
     })
 }
 
-// Asserts what `feed` writes of an input, and the summary.
+// Asserts the output of `feed` for an input, and the summary.
 fn assert_summed_up(
     rt: &impl Abort,
     alloc: Global,
@@ -314,7 +314,7 @@ fn writes_frames_of_all_formats(rt: HostRuntime) {
     assert_sorted(&rt, rt.alloc(), 2, true, all);
 }
 
-// Asserts that a run leaves a source without frames once that is known.
+// A run on a live source ends once the source is known to have no frames. A recorded source is read on.
 #[test]
 fn leaves_a_live_source_without_frames(rt: HostRuntime) {
     let sbs = b"MSG,3\nMSG,3\n";
@@ -333,7 +333,7 @@ fn leaves_a_live_source_without_frames(rt: HostRuntime) {
     assert!(rt; taken(sink).is_empty());
 }
 
-// Asserts that a delay is refused.
+// Asserts that a reordering delay is refused.
 fn assert_bad_reorder(rt: &impl Abort, alloc: Global, reorder: &str) {
     let request = Request::Feed(FeedWords {
         format: None,

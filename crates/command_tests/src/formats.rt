@@ -1,4 +1,4 @@
-//! The formats of `check` and `track`: rows of CSV and of JSON, and a header that cannot be written. More rows stand in
+//! The formats of `check` and `track`: rows of CSV and of JSON, and a header that cannot be written. More rows are in
 //! `tests/worked/check.txt` and `tests/worked/track.txt`.
 use crate::faulty_devices::{End, get, room_of, sink_of, source_of, taken};
 use crate::outcomes::{assert_outcome, assert_reported, outcome_on, status_of};
@@ -22,7 +22,7 @@ fn squitter_of(rt: &impl Abort, text: &[u8]) -> Squitter {
     }
 }
 
-// A row with a value of each sort.
+// Returns a row with a value of each sort.
 fn row_of(rt: &impl Abort, form: Form, me: &Me) -> TextBuffer<256> {
     let mut text = TextBuffer::new();
     push_line(&mut text, form, 7);
@@ -135,7 +135,7 @@ fn refuses_another_format(rt: HostRuntime) {
     );
 }
 
-// Asserts that nothing is read where the header fails after so many of its bytes.
+// Asserts that nothing is read if the header fails after `room` of its bytes.
 fn assert_unread(rt: &impl Abort, alloc: Global, request: Request<'_>, header: &str, room: usize) {
     let mut source = source_of(b"x\n".as_slice());
     let mut sink = sink_of(room_of(alloc, room, End::Error));

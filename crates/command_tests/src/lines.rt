@@ -4,12 +4,12 @@ use sq_log::pins::{equal_run_faults, equal_tallies, one_take};
 use sq_log::{Cutter, Line, RunFault, Tally, content_of};
 use std::process::Abort;
 
-// A piece taken, without the clauses.
+// Takes a piece, without the clauses.
 fn take(cutter: &mut Cutter, piece: &[u8]) -> (usize, bool) {
     cutter.take(piece)
 }
 
-// Asserts how many bytes of a piece are taken and whether they end a line, and what is held of the line.
+// Asserts how many bytes of a piece are taken, whether they end a line, and what is held of the line.
 fn assert_taken(
     rt: &impl Abort,
     cutter: &mut Cutter,

@@ -1,4 +1,4 @@
-//! The log machine, by a job of its own: pieces in, answers out, in whatever pieces the log comes.
+//! The log machine with a job of its own: pieces in, results out, however the log is cut into pieces.
 ghost use Rattle.std.specs.Prelude.{◌≡◌, Err, List, ℕ, ⊤};
 ghost use Rattle.sq_log.specs.Answers.{Manner};
 ghost use Rattle.sq_text.specs.declared.faults.LineFault.TheVariants.{Full};
@@ -6,7 +6,8 @@ ghost use Rattle.sq_text.specs.declared.faults.LineFault.TheVariants.{Full};
 use sq_log::{Answer, Job, LineFault, Log, Step, Tally, Verdict};
 use std::process::Abort;
 
-// Finds the first byte of a text; refuses one that begins with `?`, and has no memory for one that begins with `!`.
+// Finds the first byte of a text; refuses a text that begins with `?`, and has no memory for one that begins with
+// `!`.
 #[derive(Drop)]
 struct FirstBytes;
 
@@ -17,7 +18,7 @@ impl Job for FirstBytes {
 
     ghost Lasting = { Unit {0} };
 
-    // A test looks at the answers alone: the job stands for no past, so that nothing is stated of them.
+    // A test looks only at results: the job represents no past, so nothing is stated about them.
     ghost how = { record {
       stands_for = λ state past. ⊥;
       way = record { answer = λ past text. Err Full; after = λ past text. past };
@@ -46,7 +47,7 @@ fn machine() -> Log<FirstBytes>
     Log::new(FirstBytes)
 }
 
-// Asserts that a step took so many bytes and answered the line with this number.
+// Asserts that a step took this many bytes and gave the result for the line with this number.
 fn assert_answered(
     rt: &impl Abort,
     step: Step<u8>,

@@ -1,5 +1,5 @@
-//! Whole requests: `IsRun`, and `WroteOrFailed` of what is reported where the sink for faults fails; and the command
-//! `show`, of which `tests/worked/show.txt` has more.
+//! Whole requests: `IsRun`, and `WroteOrFailed` for the report if the sink for faults fails. Also the command `show`;
+//! `tests/worked/show.txt` has more of it.
 use crate::faulty_devices::{sink_of, source_of, taken};
 use sq_commands::{ReplyRequest, Request, Status, answer};
 use sq_devices::{Sink, Source};
@@ -8,7 +8,7 @@ use std::io;
 use std::io::{ErrorKind, Write};
 use std::process::Abort;
 
-// The exit status of a request, its output and what it reported.
+// The exit status of a request, its output and its report.
 #[derive(Drop)]
 pub(crate) struct Outcome {
     pub(crate) status: Status,
@@ -16,7 +16,7 @@ pub(crate) struct Outcome {
     pub(crate) reported: Vec<u8>,
 }
 
-// `answer`, whose clauses no test needs.
+// `answer`, without its clauses: no test needs them.
 pub(crate) fn status_of(
     alloc: Global,
     request: Request<'_>,
@@ -27,7 +27,7 @@ pub(crate) fn status_of(
     answer(alloc, request, input, output, faults)
 }
 
-// What a request comes to with an input.
+// Returns the outcome of a request with an input.
 pub(crate) fn outcome_on(alloc: Global, request: Request<'_>, text: &[u8]) -> Outcome {
     let mut input = source_of(text);
     let mut output = sink_of(Vec::new(alloc));
@@ -40,7 +40,7 @@ pub(crate) fn outcome_on(alloc: Global, request: Request<'_>, text: &[u8]) -> Ou
     }
 }
 
-// Asserts the status, the output and what is reported.
+// Asserts the status, the output and the report.
 pub(crate) fn assert_outcome(
     rt: &impl Abort,
     ran: &Outcome,
@@ -53,13 +53,13 @@ pub(crate) fn assert_outcome(
     assert!(rt; ran.status == status);
 }
 
-// Asserts the output and the status of a request that is good.
+// Asserts the output and the status of a valid request.
 pub(crate) fn assert_written(rt: &impl Abort, alloc: Global, request: Request<'_>, text: &str) {
     let ran = outcome_on(alloc, request, b"");
     assert_outcome(rt, &ran, Status::Good, text, "");
 }
 
-// Asserts the line that a request is refused with, and the status.
+// Asserts the report and the status of a refused request.
 pub(crate) fn assert_reported(
     rt: &impl Abort,
     alloc: Global,
@@ -102,14 +102,14 @@ impl Write for Full {
     }
 }
 
-// The status of a request where the output takes no byte.
+// Returns the status of a request if the output takes no byte.
 fn status_on_full(alloc: Global, request: Request<'_>, faults: &mut impl Sink) -> Status {
     let mut input = source_of(b"".as_slice());
     let mut output = sink_of(Full);
     status_of(alloc, request, &mut input, &mut output, faults)
 }
 
-// Asserts that an answer which cannot be written is a fault, reported where that can be.
+// Asserts that a result that cannot be written is a fault, which is reported if possible.
 pub(crate) fn assert_unwritten(rt: &impl Abort, alloc: Global, request: Request<'_>) {
     let mut faults = sink_of(Vec::new(alloc));
     assert!(rt; status_on_full(alloc, request, &mut faults) == Status::Broken);

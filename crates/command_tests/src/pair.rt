@@ -8,7 +8,7 @@ const AIR_ODD: &str = "8D40621D58C386435CC412692AD6";
 
 const OTHER: &str = "8D406B902015A678D4D220AA4BDA";
 
-// A pair without a site.
+// Returns a request for a pair without a site.
 fn bare<'a>(older: &'a str, newer: &'a str) -> Request<'a> {
     Request::Reply(ReplyRequest::Pair {
         older,

@@ -1,5 +1,5 @@
 //! The command `track`: `IsTrackRun`, and with devices that fail the clauses `whole`, `unread` and `unwritten` of
-//! `run_log`. What it answers to other logs and words stands in `tests/worked/track.txt`.
+//! `run_log`. `tests/worked/track.txt` has the results for other logs and words.
 use crate::faulty_devices::{End, Pieces, lines_in, pieces_of, room_of, sink_of, source_of, taken};
 use crate::outcomes::{assert_outcome, assert_reported, outcome_on};
 use sq_commands::{Request, Status, TrackWords, run_track};
@@ -10,7 +10,7 @@ use std::alloc::Global;
 use std::process::Abort;
 use std::test::Fail;
 
-// A log with a limit.
+// Returns a request for a log with this limit.
 fn with_limit(limit: Option<&str>) -> Request<'_> {
     Request::Track(TrackWords {
         limit,
@@ -40,7 +40,7 @@ const LOG: &[u8] =
 
 const ANSWERS: &[u8] = b"1 waiting 40621D\n2 waiting 484175\n3 fix 40621D 52.2657802 3.9389125\n";
 
-// How many bytes of the answers, how many addresses and which last moment there are after so many lines.
+// Returns how many bytes of the results, how many addresses and which last timestamp there are after this many lines.
 fn after(lines: usize) -> (usize, usize, Option<u64>) {
     match lines {
         0 => (0, 0, None),
@@ -50,7 +50,7 @@ fn after(lines: usize) -> (usize, usize, Option<u64>) {
     }
 }
 
-// The moment of the address that was heard last.
+// Returns the timestamp of the address that was heard last.
 fn newest(tracker: &Tracker) -> Option<u64> {
     match tracker.get(tracker.len().saturating_sub(1)) {
         Some((_, moment)) => Some(moment),
@@ -65,7 +65,7 @@ fn tracker_of(alloc: Global) -> Option<Tracker> {
     }
 }
 
-// How a log was heard: how that ended, how many addresses are kept, and the moment of the one that was heard last.
+// How a log was heard: how the run ended, how many addresses are present, and the timestamp of the last one heard.
 #[derive(Drop)]
 struct Hearing {
     ended: Result<Tally, RunFault>,
@@ -103,7 +103,7 @@ const ALL: Tally = Tally {
     refused: 0,
 };
 
-// Asserts how a log in pieces ends, and that so many of its lines were heard and answered.
+// Asserts how a log in pieces ends, and how many of its lines were heard and have results.
 fn assert_lines_heard(
     rt: &impl Abort,
     alloc: Global,
@@ -118,7 +118,7 @@ fn assert_lines_heard(
     assert!(rt; taken(sink).as_slice() == front_of(written));
 }
 
-// The first bytes of the answers.
+// Returns the first bytes of the results.
 fn front_of(count: usize) -> &'static [u8] {
     ANSWERS.get(..count).unwrap_or(b"")
 }
@@ -140,7 +140,7 @@ fn hears_what_was_read_before_a_fault(rt: HostRuntime) {
     }
 }
 
-// Asserts what a tracker has heard where so many bytes of the answers can be written.
+// Asserts what a tracker has heard if only `room` bytes of the results can be written.
 fn assert_heard_in(rt: &impl Abort, alloc: Global, room: usize, addresses: usize, moment: u64) {
     let mut sink = sink_of(room_of(alloc, room, End::Error));
     let hearing = hear_log(alloc, &mut source_of(LOG), &mut sink);
@@ -149,17 +149,18 @@ fn assert_heard_in(rt: &impl Abort, alloc: Global, room: usize, addresses: usize
     assert!(rt; taken(sink).taken.as_slice() == front_of(room));
 }
 
-// The first byte of each answer fails, and then its last.
+// The first byte of each result fails, and then its last.
 #[test]
 fn hears_the_line_that_cannot_be_written(rt: HostRuntime) {
     assert_heard_in(&rt, rt.alloc(), 0, 1, 0);
     assert_heard_in(&rt, rt.alloc(), 16, 1, 0);
     assert_heard_in(&rt, rt.alloc(), 17, 2, 1);
     assert_heard_in(&rt, rt.alloc(), 33, 2, 1);
+    assert_heard_in(&rt, rt.alloc(), 34, 2, 2);
     assert_heard_in(&rt, rt.alloc(), 67, 2, 2);
 }
 
-// A pair within the window, and a log whose last moment goes back.
+// A pair within the window, and a log in which the last timestamp goes back.
 const PAIR: &[u8] = b"0 8D40621D58C382D690C8AC2863A7\n10000 8D40621D58C386435CC412692AD6\n";
 
 const BACK: &[u8] =
@@ -168,13 +169,13 @@ const BACK: &[u8] =
 const BACK_ANSWERS: &[u8] =
     b"1 waiting 40621D\n2 waiting 40621D\n3 fix 40621D 52.2657802 3.9389125\n4 moment back 15000\n";
 
-// A table of one that is full at first.
+// A log for a limit of one address: the table is full at first.
 const FULL: &[u8] =
     b"0 8D40621D58C382D690C8AC2863A7\n10000 8C4841753AAB238733C8CD4020B1\n10001 8C4841753AAB238733C8CD4020B1\n10001 8C4841753A8A35323FAEBDAC702D\n";
 
 const FULL_ANSWERS: &[u8] = b"1 waiting 40621D\n2 table full\n3 waiting 484175\n4 no site 484175\n";
 
-// Hears a log into a tracker that is there, without the clauses.
+// Hears a log with an existing tracker, without the clauses.
 fn hear_into(
     source: &mut impl Source,
     sink: &mut impl Sink,
@@ -183,14 +184,14 @@ fn hear_into(
     run_track(source, sink, tracker)
 }
 
-// Asserts the only address that a tracker shows, with its moment.
+// Asserts that a tracker has only this address, with this timestamp.
 fn assert_alone(rt: &impl Abort, tracker: &Tracker, address: u32, moment: u64) {
     assert!(rt; tracker.len() == 1);
     assert!(rt; tracker.get(0) == Some((address, moment)));
     assert!(rt; tracker.get(1).is_none());
 }
 
-// Asserts the answers to a log, its tally, and the address that its tracker shows afterwards.
+// Asserts the results for a log, and its tally.
 fn assert_tracked(
     rt: &impl Abort,
     alloc: Global,
@@ -230,7 +231,7 @@ fn hears_one_line_before_a_write_fails(rt: HostRuntime) -> Result<(), Fail> {
     Ok(())
 }
 
-// How a log ended whose answers have their room before it begins; `None` where that room is refused.
+// Returns how a log ended, with the room for its results allocated before; `None` if that allocation fails.
 fn hear_in_room(
     alloc: Global,
     tracker: &mut Tracker,
@@ -244,8 +245,8 @@ fn hear_in_room(
     Some((ended, taken(sink)))
 }
 
-// Goes through as it stands, and also where any one allocation fails: then nothing was answered, the tracker is empty,
-// and the same log with memory is answered as it should be. `hostile/growths` refuses them one after another.
+// Succeeds with memory. If any one allocation fails, there are no results and the tracker is empty, and the same log
+// with memory has its results. `hostile/growths` lets the allocations fail one after another.
 #[test]
 fn a_log_whose_growths_are_refused(rt: HostRuntime) -> Result<(), Fail> {
     let Ok(mut tracker) = Tracker::new(rt.alloc(), 1000, 10_000, None) else {

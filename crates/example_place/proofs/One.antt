@@ -1,4 +1,4 @@
--- Texts have one answer.
+-- Decoding texts has at most one result.
 use Rattle.std.proofs.Common.{◌≡◌, ◌∙◌, ℕ, List, Option, Result, Ok, Err, inl, inr, ap, refl, sym, subst}
 use Rattle.sq_angle.specs.declared.position.Position.{Position}
 use Rattle.sq_message.specs.declared.place.Place.{Place}
@@ -15,7 +15,7 @@ use Rattle.example_place.specs.declared.fault.Fault.TheVariants.{OfPlace, OfText
 use Rattle.example_place.specs.Laws.{OneAnswerNear, OneAnswerOfPair, OneTrueAnswerInAir, OneTrueAnswerOnGround}
 use Rattle.example_place.specs.Places.{IsPairOfTexts, IsPlaceOfText}
 
--- what is answered for a place or its fault
+-- the result for a place or a place error
 abbrev Placed : Result Place PlaceFault → Result Place Fault → Type 0
 Placed (Ok place) answer = answer ≡ Ok place
 Placed (Err fault) answer = answer ≡ Err (OfPlace fault)
@@ -24,7 +24,7 @@ one_placed : (found : Result Place PlaceFault) (a b : Result Place Fault) → Pl
 one_placed (Ok place) a b h k = h ∙ sym k
 one_placed (Err fault) a b h k = h ∙ sym k
 
--- what is answered for what is read of a text, which goes on with its squitter
+-- the result for a reading of a text: `Next` for its squitter, or the error of the text
 abbrev OfRead : (Squitter → Result Place Fault → Type 0) → Result Squitter LineFault → Result Place Fault → Type 0
 OfRead Next (Ok q) answer = Next q answer
 OfRead Next (Err fault) answer = answer ≡ Err (OfText fault)
@@ -99,7 +99,7 @@ one_answer_of_pair older newer site a b h k =
     one_of_line older (AfterFirst newer site) a b (one_after_first newer site a b) (of_pair older newer site a h)
     (of_pair older newer site b k)
 
--- ---- what is true of a frame that was sent
+-- ---- frames that were sent
 
 pub one_true_in_air : OneTrueAnswerInAir
 one_true_in_air text reference x head parity point frame a b of_text sent near h k =

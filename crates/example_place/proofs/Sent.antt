@@ -1,4 +1,4 @@
--- What was sent of a position is decoded to the point to which that rounds, by the headline.
+-- A frame sent from a position decodes to the point to which the position rounds, by the headline.
 use Rattle.std.proofs.Common.{◌≡◌, ◌∙◌, ℕ, List, subst, ap, inl, inr}
 use Rattle.std.specs.Prelude.{Result, Ok, Err}
 use Rattle.sq_bits.specs.declared.frame.Frame.{Frame}
@@ -17,12 +17,12 @@ use Rattle.sq_text.specs.Reading.{IsSquitterReading}
 use Rattle.example_place.specs.declared.fault.Fault.{Fault}
 use Rattle.example_place.specs.Places.{IsPlaceOfText, IsTrueInAir, IsTrueOnGround}
 
--- a text has one reading
+-- a text has at most one reading
 abbrev pub OneReading : Type 0
 OneReading = (text : List ℕ) (r s : Result Squitter LineFault) → IsSquitterReading text r → IsSquitterReading text s
     → r ≡ s
 
--- both are readings, and both are answers
+-- equality of two readings, of two decoded places and of two results
 abbrev Same : (r s : Result Squitter LineFault) → Type 0
 Same r s = r ≡ s
 
@@ -44,7 +44,7 @@ no_reading a b is = cc
 no_place : (a : PlaceFault) (b : Place) → SamePlace (Err a) (Ok b) → ⊥
 no_place a b is = cc
 
--- the text of a frame that is read near the reference as a place is decoded to this place
+-- the text of a frame that is read near the reference as a place decodes to this place
 pub place_of_read : OneReading
     → (text : List ℕ) (reference : Position) (frame : Frame) (squitter : Squitter) (place : Place)
     (answer : Result Place Fault)

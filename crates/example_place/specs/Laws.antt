@@ -1,4 +1,4 @@
--- Laws of what texts are decoded to, as statements.
+-- Laws of decoding texts, as statements.
 use Rattle.std.specs.Prelude.{◌≡◌, List, ℕ, Option, Result}
 use Rattle.sq_bits.specs.declared.frame.Frame.{Frame}
 use Rattle.sq_angle.specs.declared.position.Position.{Position}
@@ -13,17 +13,17 @@ use Rattle.sq_text.specs.FrameText.{IsFrameText}
 use Rattle.example_place.specs.declared.fault.Fault.{Fault}
 use Rattle.example_place.specs.Places.{IsPairOfTexts, IsPlaceOfText, IsTrueInAir, IsTrueOnGround}
 
--- a text has one answer near a reference
+-- decoding a text near a reference has at most one result
 abbrev pub OneAnswerNear : Type 0
 OneAnswerNear = (text : List ℕ) (reference : Position) (a b : Result Place Fault)
     → IsPlaceOfText text reference a → IsPlaceOfText text reference b → a ≡ b
 
--- two texts have one answer
+-- decoding two texts has at most one result
 abbrev pub OneAnswerOfPair : Type 0
 OneAnswerOfPair = (older newer : List ℕ) (site : Option Position) (a b : Result Place Fault)
     → IsPairOfTexts older newer site a → IsPairOfTexts older newer site b → a ≡ b
 
--- the frame of a text was sent in the air of a position near the reference: what is true of it is one answer
+-- if the frame of a text was sent in the air from near the reference, at most one result satisfies `IsTrueInAir`
 abbrev pub OneTrueAnswerInAir : Type 0
 OneTrueAnswerInAir = (text : List ℕ) (reference position : Position) (head : HeadParts InAir) (parity : Parity)
     (point : Point) (frame : Frame) (a b : Result Place Fault)
@@ -31,7 +31,8 @@ OneTrueAnswerInAir = (text : List ℕ) (reference position : Position) (head : H
     → IsStrictlyNearPosition air reference point
     → IsTrueInAir text reference a → IsTrueInAir text reference b → a ≡ b
 
--- the frame of a text was sent on the ground of a position near the reference: what is true of it is one answer
+-- if the frame of a text was sent on the ground from near the reference, at most one result satisfies
+-- `IsTrueOnGround`
 abbrev pub OneTrueAnswerOnGround : Type 0
 OneTrueAnswerOnGround = (text : List ℕ) (reference position : Position) (head : HeadParts OnGround) (parity : Parity)
     (point : Point) (frame : Frame) (a b : Result Place Fault)

@@ -1,4 +1,4 @@
--- What texts are decoded to, in the words of the crates below.
+-- The results of decoding texts, by the definitions of the crates that the example uses.
 use Rattle.std.specs.Prelude.{◌≡◌, ◌⊎◌, ℕ, List, Option, Result, Ok, Err, MatchResult}
 use Rattle.sq_bits.specs.declared.frame.Frame.{Frame}
 use Rattle.sq_angle.specs.declared.position.Position.{Position}
@@ -20,30 +20,30 @@ use Rattle.sq_text.specs.Reading.{IsSquitterReading}
 use Rattle.example_place.specs.declared.fault.Fault.{Fault}
 use Rattle.example_place.specs.declared.fault.Fault.TheVariants.{OfPlace, OfText}
 
--- the text spells a squitter, and this is its place near the reference
+-- the text is read as a squitter, and this is its place near the reference
 abbrev pub IsPlaceNear : List ℕ → Position → Place → Type 0
 IsPlaceNear text reference place =
     (squitter : Squitter) × IsSquitterReading text (Ok squitter)
     × IsLocalPlace (squitter_parts squitter).me reference (Ok place)
 
--- the text spells no squitter, or that has no place near the reference
+-- the error of the text, or of decoding its squitter near the reference
 abbrev pub IsFaultNear : List ℕ → Position → Fault → Type 0
 IsFaultNear text reference fault =
     ((e : LineFault) × IsSquitterReading text (Err e) × (fault ≡ OfText e))
     ⊎ ((squitter : Squitter) × (e : PlaceFault) × IsSquitterReading text (Ok squitter)
     × IsLocalPlace (squitter_parts squitter).me reference (Err e) × (fault ≡ OfPlace e))
 
--- what a text is decoded to near a reference
+-- the result of decoding a text near a reference
 abbrev pub IsPlaceOfText : List ℕ → Position → Result Place Fault → Type 0
 IsPlaceOfText text reference answer = MatchResult answer (IsPlaceNear text reference) (IsFaultNear text reference)
 
--- both texts spell squitters, and this is the place of the pair
+-- both texts are read as squitters, and this is the place of the pair
 abbrev pub IsPlaceOfPair : (older newer : List ℕ) → Option Position → Place → Type 0
 IsPlaceOfPair older newer site place =
     (first second : Squitter) × IsSquitterReading older (Ok first) × IsSquitterReading newer (Ok second)
     × IsPairPlace (squitter_parts first) (squitter_parts second) site (Ok place)
 
--- the first fault: of the older text, of the newer one, or of the pair
+-- the first error: of the older text, of the newer one, or of the pair
 abbrev pub IsFaultOfPair : (older newer : List ℕ) → Option Position → Fault → Type 0
 IsFaultOfPair older newer site fault =
     ((e : LineFault) × IsSquitterReading older (Err e) × (fault ≡ OfText e))
@@ -53,13 +53,13 @@ IsFaultOfPair older newer site fault =
     × IsSquitterReading newer (Ok second)
     × IsPairPlace (squitter_parts first) (squitter_parts second) site (Err e) × (fault ≡ OfPlace e))
 
--- what two texts are decoded to
+-- the result of decoding two texts
 abbrev pub IsPairOfTexts : (older newer : List ℕ) → Option Position → Result Place Fault → Type 0
 IsPairOfTexts older newer site answer =
     MatchResult answer (IsPlaceOfPair older newer site) (IsFaultOfPair older newer site)
 
--- the text of a frame that was sent in the air of a position gives the point to which that rounds, if the reference is
--- near it
+-- the text of a frame sent in the air gives the point to which the sent position rounds, if the reference is strictly
+-- near that point
 abbrev pub IsTrueInAir : List ℕ → Position → Result Place Fault → Type 0
 IsTrueInAir text reference answer =
     (head : HeadParts InAir) (parity : Parity) (position : Position) (point : Point) (frame : Frame)
@@ -67,8 +67,8 @@ IsTrueInAir text reference answer =
     → IsStrictlyNearPosition air reference point
     → answer ≡ Ok (Air point)
 
--- the text of a frame that was sent on the ground of a position gives the point to which that rounds, if the reference
--- is near it
+-- the text of a frame sent on the ground gives the point to which the sent position rounds, if the reference is
+-- strictly near that point
 abbrev pub IsTrueOnGround : List ℕ → Position → Result Place Fault → Type 0
 IsTrueOnGround text reference answer =
     (head : HeadParts OnGround) (parity : Parity) (position : Position) (point : Point) (frame : Frame)

@@ -6,7 +6,7 @@ use sq_message::PlaceFault;
 use sq_text::LineFault;
 use thiserror::Error;
 
-/// The reason why frame texts cannot be decoded. Its `Display` is what the program prints.
+/// The reason why frame texts cannot be decoded. Its `Display` text is the one that the program prints.
 #[derive(Clone, Copy, Debug, PartialEq, Eq, Error)]
 #[error("{0}")]
 pub enum Fault {

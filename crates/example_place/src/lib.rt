@@ -1,8 +1,9 @@
-//! The library as a program of your own calls it: from the text of a frame to the place of the aircraft.
+//! An example of a program that calls the library: from the text of a frame to the place of the aircraft.
 //!
-//! [`place_near`] reads a text as a receiver prints it and decodes the place near a reference, and [`place_of_texts`]
-//! that of the newer of two texts. Their contracts are those of the calls below, put together, and [`place_near`] adds
-//! what a user wants of them: the text of a frame that was sent of a position near the reference gives that very point.
+//! [`place_near`] reads a text as a receiver prints it and decodes it near a reference. [`place_of_texts`] decodes
+//! two texts as a pair and returns the place of the newer one. Their contracts combine those of the calls in their
+//! bodies. [`place_near`] adds the fact that a user needs: the text of a frame sent from near the reference gives
+//! exactly the point to which the sent position rounds.
 #![tactic(auto)]
 
 ghost use Rattle.std.specs.Prelude.{option_copied};
@@ -22,10 +23,11 @@ use sq_message::{Squitter, place_local, place_pair};
 use sq_text::pins::one_squitter_reading;
 use sq_text::{LineFault, read_squitter};
 
-/// The place of the frame that a text spells, near a reference; else the first fault, of the text or of its place.
+/// Reads a frame text and decodes its squitter near a reference. Returns the place, or the first error: of the text,
+/// or of decoding it.
 ///
-/// Where the frame was sent of a position, and the reference lies strictly within half a zone of the point to which the
-/// position rounds, in both coordinates, the place is that point. It takes no memory.
+/// For a frame sent from a position, the place is the point to which the position rounds, if the reference is
+/// strictly near that point. Strictly near is strictly within half a zone in both coordinates. Does not allocate.
 pub fn place_near(text: &str, reference: &Position) -> Result<Place, Fault>
     ensures answer { IsPlaceOfText text.now reference.now result }
     ensures true_in_air { IsTrueInAir text.now reference.now result }
@@ -36,14 +38,14 @@ pub fn place_near(text: &str, reference: &Position) -> Result<Place, Fault>
     decoded_near(text, reference)
 }
 
-// The squitter of a text.
+// Parses a text as a squitter.
 fn squitter_of(text: &str) -> Result<Squitter, LineFault>
     ensures { IsSquitterReading text.now result }
 {
     read_squitter(text.as_bytes())
 }
 
-// The place of the squitter of a text.
+// Parses a text as a squitter and decodes it near a reference.
 fn decoded_near(text: &str, reference: &Position) -> Result<Place, Fault>
     ensures { IsPlaceOfText text.now reference.now result }
 {
@@ -51,9 +53,9 @@ fn decoded_near(text: &str, reference: &Position) -> Result<Place, Fault>
     Ok(place_local(&squitter, reference)?)
 }
 
-/// The place of the newer of two texts of frames of one aircraft, an even and an odd one; on the ground with a site
-/// within 45 degrees. Else the first fault: of the older text, of the newer one, and then of the pair. It takes no
-/// memory.
+/// Reads an even and an odd frame text of one aircraft, decodes them as a pair, and returns the place of the newer
+/// one. On the ground it needs a site, within 45 degrees. Returns the first error: of the older text, of the newer
+/// one, and then of the pair. Does not allocate.
 pub fn place_of_texts(older: &str, newer: &str, site: Option<&Position>) -> Result<Place, Fault>
     ensures { IsPairOfTexts older.now newer.now (option_copied site.entry) result }
 {

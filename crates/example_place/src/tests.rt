@@ -1,4 +1,4 @@
-//! Texts to places. The values are worked examples, which stand in the README too.
+//! Decoding texts to places. The values are worked examples, which are also in the README.
 use super::*;
 use sq_message::{Angle, PlaceFault};
 use sq_text::LineFault;
@@ -54,7 +54,7 @@ fn compares_faults(rt: HostRuntime) {
     assert!(rt; !laws::equal_faults(&damaged, &Fault::OfPlace(PlaceFault::NotPosition)));
 }
 
-// What a fault's Display writes.
+// Returns the `Display` text of an error.
 fn shown(alloc: Global, fault: Fault) -> String {
     format!(in alloc; "{fault}").unwrap_or(String::new(alloc))
 }

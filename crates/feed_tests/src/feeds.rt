@@ -8,7 +8,7 @@ const LIVE: Manner = Manner {
     ..RECORDED
 };
 
-// The lines of a recorded source that comes in one piece.
+// Returns the lines of a recorded source that comes in one piece.
 fn lines(format: Format, source: &[u8]) -> TextBuffer<1024> {
     let mut text = TextBuffer::new();
     let mut feed = Feed::new(Some(format), &RECORDED);
@@ -16,7 +16,7 @@ fn lines(format: Format, source: &[u8]) -> TextBuffer<1024> {
     text
 }
 
-// The line at the end of a source.
+// Returns the line at the end of a source.
 fn last_line(format: Format, source: &[u8]) -> TextBuffer<1024> {
     let mut text = TextBuffer::<1024>::new();
     let mut feed = Feed::new(Some(format), &RECORDED);
@@ -67,7 +67,7 @@ fn csv(rt: HostRuntime) {
     assert!(rt; lines(Format::Csv, other).as_str() == "17250 8D4840D6202CC371C32CE0576098\n");
 }
 
-// The lines of a recorded table that comes byte by byte.
+// Returns the lines of a recorded table that comes byte by byte.
 fn lines_by_bytes(source: &[u8]) -> TextBuffer<1024> {
     let mut text = TextBuffer::new();
     let mut feed = Feed::new(Some(Format::Csv), &RECORDED);
@@ -111,7 +111,7 @@ fn log(rt: HostRuntime) {
     );
 }
 
-// The counts of a source, in the order of their methods.
+// Returns the counts of a source, in the order of their methods.
 fn counts_of(counts: &Counts) -> [u64; 7] {
     [
         counts.found(),
@@ -152,7 +152,7 @@ fn a_lost_connection(rt: HostRuntime) {
     feed.take(BEAST, 1_700_000_000_000, &mut text);
     feed.take(b"\x1a3\0\0", 1_700_000_000_100, &mut text);
     feed.disconnected();
-    // the receiver's clock starts again: its frame is as much later as it arrived
+    // the receiver's clock starts again: its frame is as much later as its arrival
     feed.take(BEAST, 1_700_000_005_000, &mut text);
     assert!(rt;
         text.as_str()

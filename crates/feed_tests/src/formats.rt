@@ -3,7 +3,7 @@ use crate::RECORDED;
 use sq_digits::TextBuffer;
 use sq_feed::{Feed, Format, Stranger};
 
-// The number that C has for a format or another source, and 4 where none is known.
+// Returns the number that C has for a format or another source, or 4 if none is known.
 fn number(feed: &Feed) -> usize {
     match feed.format() {
         Some(Format::Beast) => 0,
@@ -22,7 +22,7 @@ fn number(feed: &Feed) -> usize {
     }
 }
 
-// The lines of a source, its number, and how many items are damage, in pieces of this size.
+// Returns the lines of a source in pieces of this size, its number, and how many items are damage.
 fn lines(source: &[u8], size: usize) -> (TextBuffer<1024>, usize, u64) {
     let mut text = TextBuffer::new();
     let mut feed = Feed::new(None, &RECORDED);
@@ -37,7 +37,7 @@ fn lines(source: &[u8], size: usize) -> (TextBuffer<1024>, usize, u64) {
     (text, shown, damaged)
 }
 
-// Whether a source has these lines, this number and so much damage, whole, byte by byte and by sevens.
+// Returns whether a source has these lines, this number and this count of damage: whole, byte by byte, and by sevens.
 fn holds(source: &[u8], wanted: &str, shown: usize, damaged: u64) -> bool {
     let mut good = true;
     for size in [1, 7, 4096] {
@@ -47,7 +47,7 @@ fn holds(source: &[u8], wanted: &str, shown: usize, damaged: u64) -> bool {
     good
 }
 
-// Three messages of Beast with the clocks 12,000,000, 12,000,000 and 24,000,000, and bytes of another before them.
+// Three Beast messages with the clocks 12,000,000, 12,000,000 and 24,000,000, and a stray byte before them.
 const BEAST: &[u8] =
     b"x\x1a3\0\0\0\xb7\x1b\0\x80\x8d\x48\x40\xd6\x20\x2c\xc3\x71\xc3\x2c\xe0\x57\x60\x98\x1a2\0\0\0\xb7\x1b\0\x80\x5d\x48\x40\xd6\xf8\x3d\x31\x1a3\0\0\x01\x6e\x36\0\x80\x8d\x48\x40\xd6\x20\x2c\xc3\x71\xc3\x2c\xe0\x57\x60\x98";
 

@@ -1,7 +1,7 @@
 //! Machines, by the items that they return.
 use sq_feed::{Avr, Beast, Columns, Found, Layout, RawFrame, Rows, Time};
 
-// The length of an item's frame and its time, or zeros for damage.
+// Returns the length of an item's frame and its time, or zeros for damage.
 fn item(found: Option<Found>) -> Option<(usize, u64)> {
     match found {
         Some(Found::Whole(message)) => {

@@ -1,7 +1,7 @@
 //! Squitters in the order of their timestamps.
 use sq_feed::Order;
 
-// What a call stored: timestamps, frames by the number that fills them, and how many.
+// What a call stored: timestamps, frames by the number that fills them, and the count.
 #[derive(Drop)]
 struct Given {
     moments: [u64; 4],
@@ -107,7 +107,7 @@ fn arrays_without_room(rt: HostRuntime) {
     assert!(rt; order.take(&[1, 2], &came, &mut [], &mut frames) == (0, 0));
     assert!(rt; order.take(&[1, 2], &came, &mut moments, &mut []) == (0, 0));
     assert!(rt; order.held() == 0);
-    // as many as there are timestamps and frames of
+    // as many as there are of both timestamps and frames
     assert!(rt; order.take(&[1, 2, 3], &came[..1], &mut moments, &mut frames) == (1, 0));
     assert!(rt; order.take(&[2, 3, 50], &came[1..], &mut moments, &mut frames) == (3, 2));
     assert!(rt; moments == [1, 2] && frames == [[1; 14], [2; 14]]);
@@ -127,7 +127,7 @@ fn many_squitters(rt: HostRuntime) {
     let mut total = 0usize;
     let mut last = 0u64;
     for number in 0..20_000u64 {
-        // each two change places
+        // the numbers of each pair are swapped
         let given = push(&mut order, number ^ 1, 7);
         total = total.wrapping_add(given.count);
         for moment in given.moments {

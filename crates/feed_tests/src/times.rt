@@ -12,7 +12,7 @@ fn a_clock_that_turns(rt: HostRuntime) {
     assert!(rt; clock.hear(SECOND, 0, Some(0)) == Some(7000));
     // late by half a second
     assert!(rt; clock.hear(SECOND / 2, 0, Some(0)) == Some(6500));
-    // a jump by an hour is set aside, but for one that arrivals show too
+    // a jump by an hour is set aside, unless arrivals show it too
     assert!(rt; clock.hear(3601 * SECOND, 0, Some(0)) == None);
     assert!(rt; clock.hear(3601 * SECOND, 3_600_000, Some(0)) == Some(3_607_000));
     clock.restart();
@@ -67,7 +67,7 @@ fn rows_that_are_late(rt: HostRuntime) {
     assert!(rt; times.hear(Time::Millis(3000), 0) == Some(3000));
     assert!(rt; times.hear(Time::Millis(2999), 0) == None);
     assert!(rt; times.hear(Time::Unknown, 0) == Some(5000));
-    // up to a second, a row is moved, if it may be late by less
+    // a row that is late by up to a second, but by more than it may be, is moved
     let mut times = Times::new(&Manner { late: 300, ..LATE });
     assert!(rt; times.hear(Time::Millis(5000), 0) == Some(5000));
     assert!(rt; times.hear(Time::Millis(4700), 0) == Some(4700));

@@ -1,4 +1,4 @@
-//! Texts of faults: as they are pushed, and as the faults of the crates below show themselves.
+//! Texts of errors: as they are pushed, and as `Display` writes them.
 use arrayvec::ArrayString;
 use sq_cpr::{LocalFault, PairFault};
 use sq_digits::TextBuffer;
@@ -7,7 +7,7 @@ use sq_track::TrackFault;
 use std::fmt;
 use std::fmt::Write;
 
-// What a fault's Display writes.
+// Returns the `Display` text of an error.
 fn shown(fault: impl fmt::Display + Drop) -> ArrayString<32> {
     let mut text = ArrayString::new();
     write!(text, "{fault}").unwrap_or(());
@@ -26,7 +26,7 @@ fn place_text(fault: PlaceFault) -> TextBuffer<32> {
     text
 }
 
-// Whether this text of a fault is pushed, and is what its Display writes.
+// Returns whether an error is pushed as this text, and its `Display` writes the same text.
 fn is_line_text(fault: LineFault, text: &str) -> bool {
     line_text(fault).as_str() == text && shown(fault).as_str() == text
 }

@@ -9,7 +9,7 @@ use sq_message::{
 };
 use std::process::Abort;
 
-// The frame with one bit turned.
+// Returns the frame with one bit flipped.
 fn flipped(frame: &Frame, bit: u8) -> Frame
     requires begins { 1 ≤ bit }
     requires within { bit ≤ 112 }
@@ -31,7 +31,7 @@ fn surface_of(rt: &impl Abort, frame: &Frame) -> Surface {
     surface
 }
 
-// The type code, the surveillance status, the flag, the altitude and the time bit.
+// Returns the type code, the surveillance status, the flag, the altitude and the time bit.
 fn air_numbers(fields: &AirFields) -> [u16; 5] {
     [
         u16::from(fields.type_code()),
@@ -42,7 +42,7 @@ fn air_numbers(fields: &AirFields) -> [u16; 5] {
     ]
 }
 
-// The type code, the movement, the track's status, the track and the time bit.
+// Returns the type code, the movement, the track status, the track and the time bit.
 fn ground_numbers(fields: &GroundFields) -> [u8; 5] {
     [
         fields.type_code(),
@@ -57,7 +57,7 @@ fn code_numbers(code: Code) -> [u32; 2] {
     [code.lat(), code.lon()]
 }
 
-// The capability and the address of who sent a frame.
+// Returns the capability and the address in a frame.
 fn sender(rt: &impl Abort, frame: &Frame) -> (u8, u32) {
     let squitter = read(rt, frame);
     (squitter.ca(), squitter.address())
@@ -156,7 +156,7 @@ fn is_surface(type_code: u8) -> bool {
     matches!(type_code, 5..=8)
 }
 
-// Whether this type code is read back, from a message of its kind.
+// Returns whether this type code is read back, from a message of its kind.
 fn is_read_back(me: &Me, type_code: u8) -> bool {
     match me {
         Me::Airborne(position) => {
@@ -182,7 +182,7 @@ fn reads_every_type_code(rt: HostRuntime) {
     }
 }
 
-// Whether there are fields of these values.
+// Returns whether there are fields with these values.
 fn is_air(type_code: u8, status: u8, flag: bool, altitude: u16, time: bool) -> bool {
     AirFields::new(type_code, status, flag, altitude, time).is_some()
 }
@@ -220,7 +220,7 @@ fn limits_squitters(rt: HostRuntime) {
     assert!(rt; Squitter::new(0, 0x100_0000, Me::Other(other)).is_none());
 }
 
-// The altitude of a field under a type code.
+// Returns the altitude of a field under a type code.
 fn altitude_of(rt: &impl Abort, type_code: u8, field: u16) -> Altitude {
     let fields = AirFields::new(type_code, 0, false, field, false).expect(rt, "fields");
     let code = Code::new(0, 0).expect(rt, "a code");
@@ -258,7 +258,7 @@ fn means_altitudes(rt: HostRuntime) {
     assert!(rt; !pins::equal_altitudes(&Altitude::Missing, &Altitude::Raw(0)));
 }
 
-// Feet and their field.
+// Altitudes in feet and their fields.
 const FIELDS_OF_FEET: &str = "\
 38000 0xC38
 -1000 0x010
@@ -277,7 +277,7 @@ fn field(word: &str) -> Option<u16> {
     u16::from_str_radix(digits, 16).ok()
 }
 
-// Whether the feet of a row have its field, or none where the row says so.
+// Returns whether the altitude of a row has the row's field, or no field if the row says `none`.
 fn is_field_of_feet(row: &str) -> Option<bool> {
     let (first, second) = row.split_once(' ')?;
     let feet = feet(first)?;

@@ -1,4 +1,4 @@
-//! Worked positions sent, read and sent again: the calls that the headline speaks of, one after the other.
+//! Worked positions sent, read and sent again: the calls of the headline in sequence.
 use crate::samples::{AIR_EVEN, AIR_ODD, GROUND_EVEN, GROUND_ODD, IDENTITY, position, read};
 use crate::sending::{air_head, ground_head};
 use sq_angle::Position;
@@ -81,7 +81,7 @@ fn reads_worked_positions_on_the_ground(rt: HostRuntime) {
     }
 }
 
-// By the same codes as the pair before.
+// The codes are those of the worked pair on the ground.
 #[test]
 fn reads_a_worked_pair_across_180_degrees(rt: HostRuntime) {
     let head = ground_head(&rt);

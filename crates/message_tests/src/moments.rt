@@ -1,13 +1,13 @@
-//! Squitters with their moments.
+//! Squitters with their timestamps.
 use sq_message::pins::equal_received;
 use sq_text::{LineFault, read_squitter, read_timed};
 
 const FRAME: &[u8] = b"8D40621D58C382D690C8AC2863A7";
 
-// A moment of twenty digits, a space and the frame text.
+// A timestamp of twenty digits, a space and the frame text.
 const LINE: [u8; 49] = *b"12345678912345678912 8D40621D58C382D690C8AC2863A7";
 
-// The moment of the line's last digits, 1 to 20 of them.
+// The timestamps of the last 1 to 20 digits of the line.
 const MOMENTS: [u64; 20] = [
     2,
     12,
@@ -64,7 +64,7 @@ fn refuses_other_bytes_at_each_place(rt: HostRuntime) {
         for place in 0..21usize {
             let mut line = LINE;
             line[place] = byte;
-            // Moments of each length that has this place: the last digit of twenty is read apart.
+            // Timestamps of each length that includes this index. The last of twenty digits is read separately.
             for start in 0..place + 1 {
                 assert!(rt; read_timed(&line[start..]) == Err(LineFault::Moment));
             }

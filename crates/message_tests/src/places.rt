@@ -1,5 +1,5 @@
-//! Places of worked frames, each fault in its order, and what is sent of a place. The tables of worked squitters stand
-//! in `vectors/cases/worked`, which the program and the library run.
+//! Places of worked frames, the errors in their order, and sending a place. The tables of worked squitters are in
+//! `vectors/cases/worked`, which the program and the library run.
 use crate::samples::{
     AIR_EVEN, AIR_ODD, GROUND_EVEN, GROUND_ODD, IDENTITY, airborne, other, position, read, surface,
 };
@@ -9,7 +9,7 @@ use sq_message::{
 };
 use std::process::Abort;
 
-// What is sent of a place of the squitter's kind.
+// Returns the squitter sent from a place of the squitter's kind.
 fn sent(rt: &impl Abort, squitter: &Squitter, place: &Place) -> Squitter {
     if squitter.fits(place) {
         send_point(squitter, place)
@@ -18,7 +18,7 @@ fn sent(rt: &impl Abort, squitter: &Squitter, place: &Place) -> Squitter {
     }
 }
 
-// The position of a place, or the fault.
+// Returns the position of a place, or the error.
 fn decoded(answer: Result<Place, PlaceFault>) -> Result<Position, PlaceFault> {
     match answer {
         Ok(place) => Ok(place.position()),
@@ -76,7 +76,7 @@ fn faults_of(older: Option<Squitter>, newer: Option<Squitter>) -> Option<[PlaceF
     Some([without, with])
 }
 
-// Each pair has each fault after the one that is told too, as far as two squitters can have them.
+// Each pair also has every error that comes after the expected one, as far as two squitters can have them.
 #[test]
 fn tells_the_first_fault_of_a_pair(rt: HostRuntime) {
     let even = airborne(1, Parity::Even, 0, 0);
@@ -98,7 +98,7 @@ fn tells_the_first_fault_of_a_pair(rt: HostRuntime) {
     assert!(rt; faults_of(odd, even) == Some([PlaceFault::ZoneCounts(58, 59); 2]));
 }
 
-// Asserts that a frame's place is sent as the frame again.
+// Asserts that the place of a frame is sent as the same frame.
 fn assert_local_again(rt: &impl Abort, frame: &Frame, reference: &Position) {
     let squitter = read(rt, frame);
     let place = place_local(&squitter, reference).expect(rt, "a place");
@@ -140,7 +140,7 @@ fn laws_of_places(rt: HostRuntime) {
     pins::one_pair_place();
 }
 
-// The head stays, the parity and the code are the point's.
+// The head is unchanged, and the parity and the code are those of the point.
 #[test]
 fn sends_another_point(rt: HostRuntime) {
     let point = GridPoint::new(Parity::Odd, 131_075, 5).expect(&rt, "a point");
@@ -152,7 +152,7 @@ fn sends_another_point(rt: HostRuntime) {
     assert!(rt; Some(again) == surface(9, Parity::Even, 131_071, 8));
 }
 
-// Whether a squitter fits a place in the air, fits one on the ground, and is a position.
+// Returns whether a squitter fits a place in the air, fits one on the ground, and is a position.
 fn fits(rt: &impl Abort, squitter: Option<Squitter>) -> [bool; 3] {
     let squitter = squitter.expect(rt, "a squitter");
     let air = GridPoint::new(Parity::Odd, 0, 0).expect(rt, "a point");

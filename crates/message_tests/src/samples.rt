@@ -1,4 +1,4 @@
-//! What the tests share: worked frames, and squitters and positions that are made.
+//! Shared by the tests: worked frames, and functions that make squitters and positions.
 use sq_message::{
     AirFields, AirHead, Airborne, Angle, Code, Frame, GroundFields, GroundHead, Me, Other, Parity,
     Position, Squitter, Surface, read_frame, send_air, send_ground,
@@ -28,12 +28,12 @@ pub const GROUND_ODD: Frame = Frame([
 // The address of the airborne frames.
 pub const AIR: u32 = 0x40621D;
 
-// The squitter of a frame.
+// Reads the squitter of a frame.
 pub fn read(rt: &impl Abort, frame: &Frame) -> Squitter {
     read_frame(frame).expect(rt, "a squitter")
 }
 
-// An airborne squitter of this parity and code.
+// Returns an airborne squitter with this parity and code.
 pub fn airborne(address: u32, parity: Parity, lat: u32, lon: u32) -> Option<Squitter> {
     let fields = AirFields::new(11, 0, false, 0xC38, false)?;
     let code = Code::new(lat, lon)?;
@@ -45,7 +45,7 @@ pub fn airborne(address: u32, parity: Parity, lat: u32, lon: u32) -> Option<Squi
     Squitter::new(5, address, me)
 }
 
-// A surface squitter of this parity and code.
+// Returns a surface squitter with this parity and code.
 pub fn surface(address: u32, parity: Parity, lat: u32, lon: u32) -> Option<Squitter> {
     let fields = GroundFields::new(7, 0, false, 0, false)?;
     let code = Code::new(lat, lon)?;
@@ -57,27 +57,27 @@ pub fn surface(address: u32, parity: Parity, lat: u32, lon: u32) -> Option<Squit
     Squitter::new(4, address, me)
 }
 
-// A squitter without a position.
+// Returns a squitter without a position.
 pub fn other(address: u32) -> Option<Squitter> {
     let raw = Other::new(0)?;
     Squitter::new(5, address, Me::Other(raw))
 }
 
-// What is sent in the air from a position.
+// Returns the squitter sent in the air from a position.
 pub fn sent_in_air(address: u32, from: &Position, parity: Parity) -> Option<Squitter> {
     let fields = AirFields::new(11, 0, false, 0, false)?;
     let head = AirHead::new(5, address, fields)?;
     Some(send_air(head, from, parity))
 }
 
-// What is sent on the ground from a position.
+// Returns the squitter sent on the ground from a position.
 pub fn sent_on_ground(address: u32, from: &Position, parity: Parity) -> Option<Squitter> {
     let fields = GroundFields::new(7, 0, false, 0, false)?;
     let head = GroundHead::new(4, address, fields)?;
     Some(send_ground(head, from, parity))
 }
 
-// The position of two fractions, each a numerator over a denominator.
+// Returns the position of two fractions, each a numerator over a denominator.
 pub fn position(rt: &impl Abort, lat: (i64, u64), lon: (i64, u64)) -> Position {
     let lat = Angle::new(lat.0, lat.1).expect(rt, "a latitude");
     let lon = Angle::new(lon.0, lon.1).expect(rt, "a longitude");

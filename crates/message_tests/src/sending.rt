@@ -6,14 +6,14 @@ use sq_message::{
 };
 use std::process::Abort;
 
-// The head of an aircraft at 38,000 feet.
+// Returns the head of an aircraft at 38,000 feet.
 pub fn air_head(rt: &impl Abort) -> AirHead {
     let altitude = field_of_feet(38_000).expect(rt, "a field");
     let fields = AirFields::new(11, 0, false, altitude, false).expect(rt, "fields");
     AirHead::new(5, 0x40621D, fields).expect(rt, "a head")
 }
 
-// The head of an aircraft on the ground.
+// Returns the head of an aircraft on the ground.
 pub fn ground_head(rt: &impl Abort) -> GroundHead {
     let fields = GroundFields::new(7, 0, false, 0, false).expect(rt, "fields");
     GroundHead::new(4, 0x484175, fields).expect(rt, "a head")
@@ -33,7 +33,7 @@ fn keeps_what_a_head_on_the_ground_is_made_of(rt: HostRuntime) {
     assert!(rt; head.fields().type_code() == 7);
 }
 
-// Whether there is a head of the same fields.
+// Returns whether there is a head with this capability and address and the usual fields.
 fn is_air_head(rt: &impl Abort, ca: u8, address: u32) -> bool {
     AirHead::new(ca, address, air_head(rt).fields()).is_some()
 }
@@ -101,7 +101,8 @@ fn writes_a_worked_position_on_the_ground(rt: HostRuntime) {
     assert!(rt; write_frame(&squitter) == frame);
 }
 
-// In one zone the frames tell the points apart. The same place a whole zone further north has the same frame.
+// Different points of one zone have different frames. A point that lies a whole zone further north has the same
+// frame.
 #[test]
 fn tells_points_apart_within_zones(rt: HostRuntime) {
     let here = position(&rt, (0, 1), (0, 1));

@@ -1,4 +1,4 @@
-//! Frame texts and their faults, and what is shown of squitters.
+//! Frame texts and their errors, and the texts of squitters.
 use sq_angle::{Angle, Position};
 use sq_message::{AirFields, Airborne, Code, Frame, FrameFault, Me, Parity, Squitter, write_frame};
 use sq_text::{
@@ -74,7 +74,7 @@ fn shown(rt: &impl Abort, text: &str) -> ShowText {
     show_text(&squitter)
 }
 
-// What is shown of an odd airborne position with this altitude field.
+// Returns the text of an odd airborne position with this altitude field.
 fn shown_with(rt: &impl Abort, type_code: u8, field: u16) -> ShowText {
     let fields = AirFields::new(type_code, 2, true, field, true).expect(rt, "fields");
     let code = Code::new(131_071, 7).expect(rt, "a code");
@@ -178,13 +178,13 @@ fn assert_place(rt: &impl Abort, lat: (i64, u64), lon: (i64, u64), text: &str) {
     assert!(rt; place_text(&position).as_str() == text, "{text}");
 }
 
-// Whether a frame, the first line of a text, is shown as the other lines.
+// Returns whether the frame in the first line of a text is shown as the other lines.
 fn is_shown(rt: &impl Abort, text: &str) -> bool {
     let (frame, lines) = text.split_once('\n').expect(rt, "a frame");
     shown(rt, frame).as_str() == lines
 }
 
-// Worked frames, and then frames whose fields all differ, written out by hand from the register tables.
+// Worked frames, and then frames with different values in all fields, written out by hand from the register tables.
 const SHOWN: [&str; 8] = [
     "\
 8D40621D58C382D690C8AC2863A7

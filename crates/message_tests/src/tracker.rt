@@ -1,4 +1,4 @@
-//! The tracker: worked runs, its table, worlds, and allocations that fail. Longer runs stand in `vectors/`, which the
+//! The tracker: worked runs, its table, worlds, and allocations that fail. Longer runs are in `vectors/`, which the
 //! program and the library run.
 mod memory;
 mod runs;

@@ -1,6 +1,6 @@
-//! Allocations that fail. Each command goes through as it stands, and also where any one allocation is refused: then it
-//! comes to what it would with memory, or tells that memory ran out, with a front of its output written.
-//! `hostile/growths` refuses them one after another.
+//! Allocations that fail. With memory, each command has the outcome of its row. If any one allocation is refused, the
+//! command has the same outcome, or reports that memory ran out after a prefix of its output. `hostile/growths` refuses
+//! the allocations one after another.
 use crate::runs::{Ran, Row, run_into};
 use std::alloc::Global;
 use std::process::Abort;
@@ -66,7 +66,7 @@ const COMMANDS: [Row; 7] = [
 
 const OUT_OF_MEMORY: &str = "out of memory\n";
 
-// Whether a command came to what it does with memory, or told that memory ran out.
+// Returns whether a command had its outcome with memory, or reported that memory ran out after a prefix of its output.
 fn is_as_with_memory(ran: &Ran, row: &Row) -> bool {
     let (written, reported) = (ran.written.as_slice(), ran.reported.as_slice());
     if ran.status == row.status {
@@ -77,8 +77,8 @@ fn is_as_with_memory(ran: &Ran, row: &Row) -> bool {
         && row.written.as_bytes().starts_with(written)
 }
 
-// Asserts what a command comes to. The texts to write to have their room before it begins, so that what is refused is
-// an allocation of the program; where that room is refused, there is nothing to see.
+// Asserts the outcome of a command. The texts for its output and its report are allocated before it begins, so only
+// an allocation of the program can be refused. If one of these texts is refused, there is nothing to assert.
 fn assert_with_or_without_memory(rt: &impl Abort, alloc: Global, row: &Row) {
     let Ok(written) = Vec::with_capacity(alloc, 512) else {
         return;

@@ -1,4 +1,4 @@
-//! What the program comes to on a command line and an input.
+//! The outcome of the program for a command line and an input.
 use arrayvec::ArrayVec;
 use sq_devices::{Reading, Sink, Source, Writing};
 use sq_tool::run;
@@ -6,7 +6,7 @@ use std::alloc::Global;
 use std::io::{Read, Write};
 use std::process::Abort;
 
-/// A command line with its input, and what it comes to: the exit status, the output and the report.
+/// A command line with its input, and its outcome: the exit status, the output and the report.
 #[derive(Clone, Copy)]
 pub(crate) struct Row {
     pub(crate) name: &'static str,
@@ -17,7 +17,7 @@ pub(crate) struct Row {
     pub(crate) reported: &'static str,
 }
 
-/// What a run came to.
+/// The outcome of a run.
 #[derive(Drop)]
 pub(crate) struct Ran {
     pub(crate) status: u8,
@@ -28,7 +28,8 @@ pub(crate) struct Ran {
 // The most words of a command line.
 const MOST_WORDS: usize = 16;
 
-/// What `run` returns for the words of a command line, which spaces divide. Allocates nothing for them.
+/// Returns the status that `run` returns for the words of a command line, which spaces separate. Allocates nothing
+/// for them.
 pub(crate) fn status_of(
     alloc: Global,
     line: &str,
@@ -56,7 +57,7 @@ pub(crate) fn taken<W: Write>(sink: Writing<W>) -> W {
     sink.into_inner()
 }
 
-/// What a command line comes to on an input, with these texts to write and to report to.
+/// Returns the outcome of a command line on an input, with these texts for the output and the report.
 pub(crate) fn run_into(
     alloc: Global,
     line: &str,
@@ -75,12 +76,12 @@ pub(crate) fn run_into(
     }
 }
 
-/// What a command line comes to on an input.
+/// Returns the outcome of a command line on an input.
 pub(crate) fn run_on(alloc: Global, line: &str, reader: impl Read + Drop) -> Ran {
     run_into(alloc, line, reader, Vec::new(alloc), Vec::new(alloc))
 }
 
-/// Asserts what a run came to.
+/// Asserts the outcome of a run.
 pub(crate) fn assert_ran(rt: &impl Abort, ran: &Ran, row: &Row) {
     assert!(rt;
         ran.written.as_slice() == row.written.as_bytes(),
@@ -95,7 +96,7 @@ pub(crate) fn assert_ran(rt: &impl Abort, ran: &Ran, row: &Row) {
     assert!(rt; ran.status == row.status, "{}", row.name);
 }
 
-/// Asserts what each command line comes to.
+/// Asserts the outcome of each command line.
 pub(crate) fn assert_rows(rt: &impl Abort, alloc: Global, rows: &[Row]) {
     for row in rows {
         assert_ran(rt, &run_on(alloc, row.line, row.input), row);

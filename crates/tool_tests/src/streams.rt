@@ -80,7 +80,7 @@ const IN_PIECES: [Row; 9] = [
     },
 ];
 
-// Gives its text so many bytes a read.
+// Gives its text in reads of at most `size` bytes.
 #[derive(Drop)]
 struct Pieces {
     text: &'static [u8],
@@ -97,7 +97,7 @@ impl Read for Pieces {
     }
 }
 
-// Asserts what each row comes to where so many bytes are read at a time.
+// Asserts the outcome of each row if `size` bytes are read at a time.
 fn assert_in_pieces(rt: &impl Abort, alloc: Global, size: usize) {
     for row in IN_PIECES {
         let text = row.input;

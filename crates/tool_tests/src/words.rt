@@ -405,7 +405,7 @@ impl Write for Full {
     }
 }
 
-// Where the output takes no byte, each command that is good ends with status 3.
+// If the output takes no byte, each of four valid commands reports the failed write, and ends with status 3.
 #[test]
 fn tells_a_writer_that_fails(rt: HostRuntime) {
     for row in [SHOWN[0], ENCODED[0], PLACED[0], PLACED[5]] {

@@ -1,6 +1,6 @@
-//! Allocations that fail: the clauses `memory`, `known` and `err` of `Tracker::hear`. Each run goes through as it
-//! stands, and also where any one allocation fails, as under `rt try --test --fail-alloc N`: the call that was refused
-//! then changes nothing, and goes through when it is made again.
+//! Allocations that fail: the clauses `memory`, `known` and `err` of `Tracker::hear`. Each run passes without
+//! failures, and also if any one allocation fails, as under `rt try --test --fail-alloc N`. The refused call then
+//! changes nothing, and it succeeds when it is repeated.
 use super::told::{Told, assert_table, hear};
 use crate::samples::{AIR, AIR_EVEN, GROUND_EVEN, GROUND_ODD, airborne, other, read};
 use sq_message::Parity;
@@ -10,15 +10,15 @@ use std::test::Fail;
 
 const WAITING: Told = Told::Waiting;
 
-// An even airborne squitter.
+// Returns an even airborne squitter.
 fn even(rt: &impl Abort, address: u32) -> Squitter {
     airborne(address, Parity::Even, 0, 0).expect(rt, "a squitter")
 }
 
-// Asserts that a tracker shows these addresses, and that its last moment is this.
+// Asserts that a tracker shows these addresses, and that its last timestamp is `last`.
 fn assert_shown(rt: &impl Abort, tracker: &mut Tracker, last: u64, table: &[(u32, u64)]) {
     assert_table(rt, tracker, table);
-    // at its last moment a tracker still hears, and before it the tracker names it
+    // a squitter at the last timestamp is still heard, and one before it is refused with the last timestamp
     let other = other(1).expect(rt, "a squitter");
     assert!(rt; hear(tracker, last, &other) == Told::NotPosition);
     if last > 0 {
@@ -27,7 +27,7 @@ fn assert_shown(rt: &impl Abort, tracker: &mut Tracker, last: u64, table: &[(u32
     }
 }
 
-// What a call answers, when it is made again after each allocation that fails.
+// Makes a call, and repeats it if an allocation fails. Returns the result.
 fn hear_with_memory(
     rt: &impl Abort,
     tracker: &mut Tracker,
@@ -52,10 +52,10 @@ fn refused_growth_changes_nothing(rt: HostRuntime) -> Result<(), Fail> {
     assert!(rt; hear_with_memory(&rt, &mut tracker, (0, air), 0, &[]) == WAITING);
     let before = [(AIR, 0)];
     assert!(rt; hear(&mut tracker, 10_000, &ground_even) == Told::Refused(TrackFault::Full));
-    // the room is made before the stale address is dropped
+    // the room is allocated before the stale address is dropped
     let told = hear_with_memory(&rt, &mut tracker, (10_001, ground_even), 0, &before);
     assert!(rt; told == WAITING);
-    // an address that is present takes no memory
+    // an address that is present needs no allocation
     assert!(rt; hear(&mut tracker, 10_001, &ground_odd) == Told::NoSite);
     assert_shown(&rt, &mut tracker, 10_001, &[(0x484175, 10_001)]);
     Ok(())

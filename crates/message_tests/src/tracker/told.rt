@@ -1,9 +1,9 @@
-//! What a tracker answers, with a place as its position.
+//! The results of a tracker, with positions instead of places.
 use sq_angle::Position;
 use sq_track::{Heard, Squitter, TrackFault, Tracker};
 use std::process::Abort;
 
-// What a call answers.
+// The result of a call.
 #[derive(Clone, Copy, PartialEq, Eq)]
 pub enum Told {
     Fix(Position),
@@ -37,13 +37,13 @@ impl Told {
     }
 }
 
-// A function that owns a tracker and holds a place beside it meets a fault of the toolchain's borrow checker, so that
-// what was heard is looked at here.
+// Hears a squitter and converts the result here: a function that owns a tracker and also holds a place triggers a bug
+// in the toolchain's borrow checker.
 pub fn hear(tracker: &mut Tracker, moment: u64, squitter: &Squitter) -> Told {
     Told::of_reply(&tracker.hear(moment, squitter))
 }
 
-// Asserts that a tracker shows these addresses, each with its moment, and no other.
+// Asserts that a tracker shows exactly these addresses in order, each with its timestamp (ms).
 pub fn assert_table(rt: &impl Abort, tracker: &Tracker, table: &[(u32, u64)]) {
     assert!(rt; tracker.len() == table.len());
     for index in 0..=table.len() {

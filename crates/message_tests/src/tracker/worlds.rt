@@ -1,6 +1,5 @@
-//! Worlds that stand still, which the laws say are slow: at a pole, over the 180th meridian, on a border of zone
-//! counts, in the air and on the ground. Each has a fix, and it is the point of the odd grid nearest to where the
-//! sender stands.
+//! Worlds without movement, which are slow by the laws: at a pole, over the 180th meridian and on a border of zone
+//! counts, in the air and on the ground. Each has a fix: the point of the odd grid nearest to the sender.
 use super::told::Told;
 use crate::samples::{AIR, position, sent_in_air, sent_on_ground};
 use sq_angle::Position;
@@ -10,7 +9,7 @@ use std::alloc::Global;
 use std::process::Abort;
 use std::test::Fail;
 
-// What is heard of the odd one of two squitters, a millisecond after the even one.
+// Hears an even squitter and, a millisecond later, an odd one. Returns the result for the odd one.
 fn told_of_odd(tracker: &mut Tracker, even: Squitter, odd: Squitter) -> Told {
     let received = [
         Received {
@@ -27,7 +26,7 @@ fn told_of_odd(tracker: &mut Tracker, even: Squitter, odd: Squitter) -> Told {
     Told::of_reply(&heard[1])
 }
 
-// Where a sender stands, the site, and the point of the fix.
+// The position of a sender, the site, and the point of the fix.
 #[derive(Clone, Copy)]
 struct World {
     from: Position,
@@ -82,8 +81,8 @@ fn fixes_at_a_pole(rt: HostRuntime) -> Result<(), Fail> {
     assert_fixed_on_ground(&rt, rt.alloc(), world)
 }
 
-// At 87 degrees, from which on there is one zone: the nearest odd latitude is the one below it. That is 1,868,868 of 59
-// times 131,072 steps in 360 degrees, and 7,475,473 of as many in 90 degrees.
+// At 87 degrees, beyond which there is one zone, the nearest odd latitude is the one below. It is 1,868,868 of the 59
+// * 131,072 steps in 360 degrees, and 7,475,473 of the same number in 90 degrees.
 #[test]
 fn fixes_on_a_border_of_zone_counts(rt: HostRuntime) -> Result<(), Fail> {
     let in_air = World {
