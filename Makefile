@@ -36,24 +36,24 @@ dist:
 	web/embed
 
 install: all
-	install -D -m 755 "$(PROGRAM)" $(DESTDIR)$(PREFIX)/bin/squitter
-	install -D -m 755 -t $(DESTDIR)$(PREFIX)/bin feeds/squitter-feed feeds/squitter-geojson
-	install -D -m 644 -t $(DESTDIR)$(share)/squitter feeds/squitter_*.py
+	install -D -m 755 "$(PROGRAM)" "$(DESTDIR)$(PREFIX)/bin/squitter"
+	install -D -m 755 -t "$(DESTDIR)$(PREFIX)/bin" feeds/squitter-feed feeds/squitter-geojson
+	install -D -m 644 -t "$(DESTDIR)$(share)/squitter" feeds/squitter_*.py
 	for name in squitter squitter-feed squitter-geojson; do \
-	  install -D -m 644 man/$$name.1 $(DESTDIR)$(share)/man/man1/$$name.1 && \
-	  install -D -m 644 completions/$$name.bash $(DESTDIR)$(share)/bash-completion/completions/$$name && \
-	  install -D -m 644 completions/_$$name $(DESTDIR)$(ZSHDIR)/_$$name && \
-	  install -D -m 644 completions/$$name.fish $(DESTDIR)$(FISHDIR)/$$name.fish || exit; \
+	  install -D -m 644 man/$$name.1 "$(DESTDIR)$(share)/man/man1/$$name.1" && \
+	  install -D -m 644 completions/$$name.bash "$(DESTDIR)$(share)/bash-completion/completions/$$name" && \
+	  install -D -m 644 completions/_$$name "$(DESTDIR)$(ZSHDIR)/_$$name" && \
+	  install -D -m 644 completions/$$name.fish "$(DESTDIR)$(FISHDIR)/$$name.fish" || exit; \
 	done
 	@test -n "$(DESTDIR)" || ! command -v zsh > /dev/null || zsh -fc 'print -l $$fpath' | grep -qx '$(ZSHDIR)' || \
-	  echo 'zsh finds the completion by this line of ~/.zshrc, before compinit: fpath=($(ZSHDIR) $$fpath)'
+	  echo 'zsh finds the completion by this line of ~/.zshrc, before compinit: fpath=("$(ZSHDIR)" $$fpath)'
 	@test -n "$(DESTDIR)" || ! command -v fish > /dev/null || fish -c 'printf "%s\n" $$fish_complete_path' | grep -qx '$(FISHDIR)' || \
-	  echo 'fish finds the completion by this line of ~/.config/fish/config.fish: set -p fish_complete_path $(FISHDIR)'
+	  echo 'fish finds the completion by this line of ~/.config/fish/config.fish: set -p fish_complete_path "$(FISHDIR)"'
 
 uninstall:
 	for name in squitter squitter-feed squitter-geojson; do \
-	  rm -f $(DESTDIR)$(PREFIX)/bin/$$name $(DESTDIR)$(share)/man/man1/$$name.1 $(DESTDIR)$(FISHDIR)/$$name.fish \
-	    $(DESTDIR)$(share)/bash-completion/completions/$$name $(DESTDIR)$(ZSHDIR)/_$$name || exit; \
+	  rm -f "$(DESTDIR)$(PREFIX)/bin/$$name" "$(DESTDIR)$(share)/man/man1/$$name.1" "$(DESTDIR)$(FISHDIR)/$$name.fish" \
+	    "$(DESTDIR)$(share)/bash-completion/completions/$$name" "$(DESTDIR)$(ZSHDIR)/_$$name" || exit; \
 	done
-	rm -f $(patsubst feeds/%,$(DESTDIR)$(share)/squitter/%,$(wildcard feeds/squitter_*.py))
-	rmdir $(DESTDIR)$(share)/squitter 2> /dev/null || true
+	for file in feeds/squitter_*.py; do rm -f "$(DESTDIR)$(share)/squitter/$${file#feeds/}" || exit; done
+	rmdir "$(DESTDIR)$(share)/squitter" 2> /dev/null || true

@@ -10,6 +10,7 @@ program=${PROGRAM:-$("$clib/../dist/program")}
 case $program in /*) ;; *) program=$PWD/$program ;; esac
 work=$(mktemp -d)
 trap 'rm -rf "$work"' EXIT
+trap 'exit 129' HUP; trap 'exit 130' INT; trap 'exit 143' TERM # where sh is dash, a signal runs no EXIT trap
 unset PYTHONPATH LIBSQUITTER MAKEFLAGS MFLAGS MAKELEVEL DESTDIR PYTHONHOME PIP_TARGET PIP_PREFIX
 mkdir "$work/tree"
 (cd "$clib/.." && tar -cf - \

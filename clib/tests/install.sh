@@ -1,0 +1,31 @@
+#!/bin/sh
+# install.sh PYTHON: `make install` below a folder with spaces in its name: the C example with what pkg-config says, and
+# the Python package; and `make uninstall`, which leaves no file and touches no neighbour. PYTHON runs the package.
+set -eu
+python=$1
+clib=$(cd "$(dirname "$0")/.." && pwd)
+work=$(mktemp -d)
+trap 'rm -rf "$work"' EXIT
+trap 'exit 129' HUP; trap 'exit 130' INT; trap 'exit 143' TERM # where sh is dash, a signal runs no EXIT trap
+unset MAKEFLAGS MFLAGS MAKELEVEL DESTDIR PYTHONPATH LIBSQUITTER PREFIX
+prefix="$work/the  one" neighbour="$work/the"
+echo kept > "$neighbour"
+mkdir "$work/tree"
+(cd "$clib/.." && tar -cf - --exclude=out --exclude=build --exclude=__pycache__ --exclude='libsquitter.*' \
+  VERSION clib dist crates.txt crates/*/src crates/*/specs crates/*/proofs) | tar -C "$work/tree" -xf -
+cp "$clib/libsquitter.map" "$work/tree/clib/"
+cp "$clib/man/libsquitter.3" "$work/tree/clib/man/"
+install_by() { make -s -C "$work/tree/clib" "$1" PREFIX="$prefix" PYTHON="$python" PYTHONDIR="$prefix/modules"; }
+install_by install > "$work/said"
+grep -qF "PYTHONPATH=\"$prefix/modules\"" "$work/said"
+if command -v pkg-config > /dev/null; then
+  flags=$(PKG_CONFIG_PATH="$prefix/lib/pkgconfig" pkg-config --cflags --libs squitter)
+  eval "${CC:-cc} -o \"$work/example\" \"$clib/examples/example.c\" $flags"
+  LD_LIBRARY_PATH="$prefix/lib" "$work/example" | diff "$clib/tests/example.expected" -
+fi
+told=$(cd / && PYTHONPATH="$prefix/modules" "$python" -c 'import squitter; print(squitter.version())')
+test "$told" = "$(cat "$clib/../VERSION")"
+test -s "$prefix/share/man/man3/squitter_pair.3"
+install_by uninstall
+test -z "$(find "$prefix" -type f -o -type l)"
+test "$(cat "$neighbour")" = kept
