@@ -223,7 +223,8 @@ typedef struct squitter_entry {
   squitter_side airborne, surface;
 } squitter_entry;
 
-/* Timestamp of the last frame that a tracker accepted. `heard` is 1, or 0 if the tracker has accepted no frame. */
+/* Timestamp of the last frame that a tracker accepted. `heard` is 1, or 0 if the tracker has accepted no frame.
+ * squitter_tracker_restore takes every other number as 1, and ignores `moment` if `heard` is 0. */
 typedef struct squitter_last {
   uint64_t moment;
   uint64_t heard;
@@ -308,7 +309,8 @@ typedef struct squitter_order {
   void *at;
 } squitter_order;
 
-/* Counts of the items of a source. `found` is the sum of all other counts; at 2^64 - 1 all counts stop. */
+/* Counts of the items of a source. `found` is the sum of all other counts; at 2^64 - 1 all counts stop. With
+ * SQUITTER_FEED_ALL_FORMATS, `written` counts frames of all downlink formats, and `formats` none of these. */
 typedef struct squitter_counts {
   uint64_t found;
   uint64_t written;        /* squitters, with a timestamp */
@@ -363,7 +365,7 @@ squitter_fault squitter_pair_at(const uint8_t SQUITTER_CONST_BYTES(older, 14),
 
 /* ---- A tracker ---- */
 
-/* Returns the size in bytes of the block for a tracker of up to `limit` addresses: 730 thousand for 1000. */
+/* Returns the size in bytes of the block for a tracker of up to `limit` addresses: 738 thousand for 1000. */
 size_t squitter_tracker_size(uint32_t limit) SQUITTER_PURE;
 
 /* Creates an empty tracker for up to `limit` addresses in the block, without a receiver position. An address is
@@ -523,9 +525,10 @@ size_t squitter_feed_size(void) SQUITTER_PURE;
  * milliseconds is a jump of the source's clock. A timestamp may be before the latest one by `late` milliseconds; with
  * 0, timestamps never go back. `flags` is a sum of SQUITTER_FEED_LIVE, SQUITTER_FEED_BY_ARRIVAL and
  * SQUITTER_FEED_ALL_FORMATS; its other bits are ignored. For a live source, `arrival` is the time (ms) when the bytes
- * were received, and the timestamp of frames without a clock. An existing feed is freed first. After a fault there is
- * no feed, and the block is the caller's. Faults: BAD_FORMAT, NO_MEMORY (the block is smaller than squitter_feed_size
- * returns). squitter feed and squitter-feed use a leap of 600000. */
+ * were received. A frame without a clock is as much later than the one before it as their arrivals are apart. An
+ * existing feed is freed first. After a fault there is no feed, and the block is the caller's. Faults: BAD_FORMAT,
+ * NO_MEMORY (the block is smaller than squitter_feed_size returns). squitter feed and squitter-feed use a leap of
+ * 600000. */
 squitter_fault squitter_feed_new(squitter_feed *feed, squitter_block block, uint32_t format, uint64_t leap,
                                  uint64_t late, uint32_t flags) SQUITTER_CALL;
 

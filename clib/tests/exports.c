@@ -255,6 +255,7 @@ static void try_a_tracker(void) {
   IS(is_fault(squitter_tracker_get(&tracker, 0, &present), SQUITTER_NO_TRACKER, 0) && present.moment == 9 &&
      present.address == 9);
   squitter_tracker_free(&tracker);
+  IS(squitter_tracker_size(1000) / 1000 == 738); /* as squitter.h says */
   IS(is_fault(squitter_tracker_new(&tracker, block, 0, 10000), SQUITTER_NO_LIMIT, 0));
   IS(is_fault(squitter_tracker_new_at(&tracker, block, 0, 10000, &nowhere), SQUITTER_BAD_POSITION, 0));
   IS(is_fault(squitter_tracker_new_at(&tracker, block, 0, 10000, &place), SQUITTER_NO_LIMIT, 0));
@@ -326,6 +327,12 @@ static void try_saving(void) {
   IS(is_fault(squitter_tracker_hear(&tracker, 8, even, &heard), SQUITTER_MOMENT_BACK, 9));
   IS(is_ok(squitter_tracker_hear(&tracker, 10004, even, &heard)) && heard.what == SQUITTER_FIX);
   IS(same_place(&heard.position, &place));
+  const squitter_last as_one = {9, UINT64_MAX}, none = {7, 0};
+  IS(is_ok(squitter_tracker_restore(&tracker, &as_one, entries, 1)) && squitter_tracker_len(&tracker) == 1);
+  IS(squitter_tracker_save(&tracker, &last, entries, 0) == 1 && last.moment == 9 && last.heard == 1);
+  IS(is_ok(squitter_tracker_restore(&tracker, &none, entries, 0)));
+  IS(squitter_tracker_save(&tracker, &last, entries, 0) == 0 && last.moment == 0 && last.heard == 0);
+  last = (squitter_last){9, 1};
   entries[1] = entries[0];
   IS(is_fault(squitter_tracker_restore(&tracker, &last, entries, 2), SQUITTER_BAD_ENTRY, 1));
   IS(squitter_tracker_len(&tracker) == 0 && is_ok(squitter_tracker_hear(&tracker, 0, even, &heard)));

@@ -268,6 +268,18 @@ def check_symbols():
             differ(f"{file} wants {sorted(wanted - WANTED)}")
 
 
+def check_page():
+    """The README has the number of calls, and what the archive needs of other libraries."""
+    with open(os.path.join(CLIB, "README.md"), encoding="utf-8") as file:
+        front = " ".join(file.read().partition("## Install")[0].split())
+    count = len(list(exports()))
+    if f"It has {count} calls," not in front:
+        differ(f"README.md: there are {count} calls")
+    for row in symbols("-g", "--undefined-only", os.path.join(CLIB, "libsquitter.a")):
+        if f"`{row[-1]}`" not in front:
+            differ(f"README.md: the archive needs {row[-1]}")
+
+
 def check_tests():
     """The tests: each file of them is named by the Makefile, and each method of a test case is a test, or is used."""
     with open(os.path.join(CLIB, "Makefile"), encoding="utf-8") as file:
@@ -279,7 +291,8 @@ def check_tests():
             with open(os.path.join(HERE, name), encoding="utf-8") as file:
                 text = file.read()
             for method in re.findall(r"^    def (\w+)\(self\)", text, re.M):
-                if not method.startswith(("test_", "setUp", "tearDown")) and text.count(f".{method}(") == 0:
+                # (Python calls methods with two underscores in front by itself)
+                if not method.startswith(("test_", "setUp", "tearDown", "__")) and text.count(f".{method}(") == 0:
                     differ(f"{method} of tests/{name} is no test, and nothing calls it")
 
 
