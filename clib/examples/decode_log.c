@@ -22,23 +22,25 @@ static int answer(squitter_log *log, size_t length, int ended) {
   return 0;
 }
 
+/* Reports an error, and returns the status of the program. */
+static int failed(const char *what, int status) {
+  fprintf(stderr, "decode_log: %s\n", what);
+  return status;
+}
+
 int main(int argc, char **argv) {
   squitter_log log = {0, 0}; /* no log yet */
   squitter_block block = {squitter_log_size(MOST), 0};
   size_t length;
   FILE *file = argc == 2 ? fopen(argv[1], "rb") : 0;
-  if (!file) {
-    fprintf(stderr, "decode_log: %s\n", argc == 2 ? strerror(errno) : "give a log");
-    return 2;
-  }
+  if (!file) return failed(argc == 2 ? strerror(errno) : "give a log", 2);
   block.memory = malloc(block.size);
-  if (!block.memory || squitter_log_new(&log, block, MOST, WINDOW).code) {
-    fprintf(stderr, "decode_log: out of memory\n");
-    return 3;
-  }
-  while ((length = fread(piece, 1, PIECE, file)) > 0) if (answer(&log, length, 0)) return 1;
-  if (answer(&log, 0, 1)) return 1;
+  if (!block.memory || squitter_log_new(&log, block, MOST, WINDOW).code) return failed("out of memory", 3);
+  while ((length = fread(piece, 1, PIECE, file)) > 0) if (answer(&log, length, 0)) return failed("write failed", 3);
+  if (ferror(file)) return failed("read failed", 3);
+  if (answer(&log, 0, 1) || fflush(stdout) != 0) return failed("write failed", 3);
   squitter_log_free(&log);
   free(block.memory);
-  return ferror(file) || fclose(file) != 0 || fflush(stdout) != 0;
+  fclose(file);
+  return 0;
 }

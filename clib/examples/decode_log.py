@@ -1,6 +1,7 @@
 #!/usr/bin/env python3
 """decode_log.py LOG: prints what `squitter track` prints for a log; each line has a timestamp (ms) and a frame."""
 import argparse
+import os
 import sys
 
 import squitter
@@ -11,11 +12,16 @@ def main() -> None:
     parser.add_argument("log", metavar="LOG", type=argparse.FileType("rb"),
                         help="a file whose lines have a timestamp in milliseconds and a frame")
     out = sys.stdout.buffer
-    with parser.parse_args().log as file, squitter.Log() as log:
-        for piece in iter(lambda: file.read1(1 << 16), b""):
-            out.write(log.take(piece))
+    try:
+        with parser.parse_args().log as file, squitter.Log() as log:
+            for piece in iter(lambda: file.read1(1 << 16), b""):
+                out.write(log.take(piece))
+                out.flush()
+            out.write(log.finish())
             out.flush()
-        out.write(log.finish())
+    except OSError as error:
+        print(f"decode_log.py: {error.strerror}", file=sys.stderr, flush=True)
+        os._exit(3)  # At a normal end Python would write once more what the output has refused.
 
 
 if __name__ == "__main__":
