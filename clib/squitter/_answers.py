@@ -10,10 +10,10 @@ import numpy as np
 import numpy.typing as npt
 
 import squitter
-from squitter import WINDOW, AltitudeForm, Point, Position, What
+from squitter import WINDOW, AltitudeForm, Kind, Point, Position, What
 from squitter._errors import missing
 from squitter._made import _Answer
-from squitter._records import FAULT, POSITION, TRACKED, Records, _limit, _moments, kind_of, name_of_type
+from squitter._records import FAULT, POSITION, TRACKED, Records, _limit, _moments, kind_of, name_of_type, refuse_mask
 from squitter._source import Source, bytes_of, refuse_other, squitters_of
 
 if TYPE_CHECKING:
@@ -27,7 +27,7 @@ _KINDS = np.array(["other", "air", "ground"], "S6")
 
 def lines(heard: Records, faults: Records, first: int = 1) -> bytes:
     """Returns the lines that `squitter track` prints for these results; `first` is the number of the first line. Empty
-    lines have no result, so arrays do not contain them."""
+    lines have no result, so arrays do not contain them. Raises ValueError if a line has neither result nor fault."""
     numbers = _numbers(heard, faults, first)
     return b"".join(_lines(heard[some], faults[some], numbers[some]) for some in _blocks(len(heard)))
 
@@ -57,11 +57,26 @@ def _numbers(heard: Records, faults: Records, first: int) -> npt.NDArray[np.uint
 def _look(heard: Records, faults: Records) -> None:
     """Raises ValueError if the arrays are not results of `track`."""
     for name, array, dtype in (("heard", heard, TRACKED), ("faults", faults, FAULT)):
+        refuse_mask(name, array)
         if not isinstance(array, np.ndarray) or array.dtype != dtype or array.ndim != 1:
             raise ValueError(f"{name} is an array of another type than batch.{name_of_type(dtype)}, or of more "
                              f"dimensions: {kind_of(array)}; track returns heard and faults")
     if len(heard) != len(faults):
         raise ValueError(f"heard are {len(heard)}, and faults {len(faults)}")
+
+
+_MOST = {"what": len(What), "kind": len(Kind) - 1, "address": 0xFFFFFF}  # What counts from 1, and all others from 0
+
+
+def _look_inside(heard: Records, faults: Records, numbers: npt.NDArray[np.uint64]) -> None:
+    """Raises ValueError if a line with neither a fault nor a valid result is among these, such as an array of zeros."""
+    good = faults["code"] == 0
+    for name, most in _MOST.items():
+        least, values = int(name == "what"), heard[name]
+        wrong = np.flatnonzero(good & ((values < least) | (values > most)))
+        if len(wrong):
+            raise ValueError(f"line {numbers[wrong[0]]} has no fault, so its {name} is from {least} to {most}, not "
+                             f"{values[wrong[0]]}; track returns heard and faults")
 
 
 def _blocks(count: int) -> Iterator[slice]:
@@ -74,6 +89,7 @@ Characters = npt.NDArray[np.uint8]
 
 
 def _lines(heard: Records, faults: Records, numbers: npt.NDArray[np.uint64]) -> bytes:
+    _look_inside(heard, faults, numbers)
     good, words = _words(heard, faults)
     placed, split = good & (heard["what"] <= What.FOLLOWED), good & (heard["what"] == What.SPLIT)
     space = _mark(" ")
@@ -87,14 +103,15 @@ def _lines(heard: Records, faults: Records, numbers: npt.NDArray[np.uint64]) -> 
 def _csv_rows(
     times: npt.NDArray[np.uint64], heard: Records, faults: Records, numbers: npt.NDArray[np.uint64]
 ) -> bytes:
+    _look_inside(heard, faults, numbers)
     good, words = _words(heard, faults)
     placed, high = good & (heard["what"] <= What.FOLLOWED), good & (heard["altitude_form"] == AltitudeForm.FEET)
     comma = _mark(",")
-    feet = heard["feet"]
+    feet, kinds = heard["feet"], _KINDS[np.where(good, heard["kind"], 0)]
     below = np.where(feet < 0, np.uint8(ord("-")), np.uint8(0))[:, np.newaxis]
     return _joined(len(heard), [
         _decimal(numbers), comma, _if(good, _decimal(times)), comma, words, comma,
-        _if(good, _hexadecimal(heard["address"])), comma, _if(good, _characters(_KINDS[heard["kind"]])), comma,
+        _if(good, _hexadecimal(heard["address"])), comma, _if(good, _characters(kinds)), comma,
         _if(placed, _degrees(heard["lat_e7"])), comma, _if(placed, _degrees(heard["lon_e7"])), comma,
         _if(high, below, _decimal(np.abs(feet))), _mark("\n"),
     ])
@@ -176,6 +193,7 @@ def columns(
     table = _Table(len(heard))
     for at in range(0, len(heard), _AT_ONCE):
         some = slice(at, at + _AT_ONCE)
+        _look_inside(heard[some], faults[some], numbers[some])
         table.add(numbers[some], times[some], heard[some], faults[some])
     return table.columns()
 
@@ -226,9 +244,10 @@ class _Table:
         for name in ("lat", "lon"):
             into[f"{name}_e7"][:] = heard[f"{name}_e7"]
             np.divide(into[f"{name}_e7"], 1e7, out=into[name])
-        into["answer"][:] = _WORD_TEXTS[what]
-        into["kind"][:] = _KIND_TEXTS[heard["kind"]]
-        self._put_addresses(heard["address"], into["address"])
+        # In an array that the caller gave to `track`, the record of a refused line may have any value.
+        into["answer"][:] = _WORD_TEXTS[np.where(good, what, 0)]
+        into["kind"][:] = _KIND_TEXTS[np.where(good, heard["kind"], 0)]
+        self._put_addresses(np.where(good, heard["address"], 0), into["address"])
         # Each parity fault has a number of its own, so the texts of refused lines are not shared.
         bad = np.flatnonzero(self._masks["good"][part])
         texts = [squitter.fault_text(code, first, second) for code, second, first in faults[bad].tolist()]

@@ -54,12 +54,49 @@ def kind_of(value: Any) -> str:
 
 
 def _is_missing(value: Any) -> bool:
-    """Returns whether a value is missing: None, NaN, NaT, or NA of pandas."""
-    if value is None:
+    """Returns whether a value is missing: None, NaN, NaT, NA of pandas, or a masked one of NumPy."""
+    if value is None or value is np.ma.masked:
         return True
     if isinstance(value, (float, np.floating, np.datetime64, datetime)):
         return bool(value != value)
     return type(value).__name__ == "NAType"
+
+
+def without_mask(source: Any) -> Tuple[Any, npt.NDArray[np.intp]]:
+    """Returns a masked array without its mask, and the indices of the rows in which a value is masked. These rows are
+    zeros, or None among objects. Returns any other value as it is, and no rows."""
+    if not isinstance(source, np.ma.MaskedArray) or not source.ndim or not source.size:
+        return source, np.zeros(0, np.intp)
+    mask = np.ascontiguousarray(np.ma.getmaskarray(source)).view(np.bool_)
+    rows = np.flatnonzero(mask.reshape(len(source), -1).any(axis=1))
+    values = source.data
+    if len(rows):
+        values = values.copy()
+        values[rows] = None if values.dtype.kind == "O" else np.zeros((), values.dtype)
+    return values, rows
+
+
+def refuse_mask(name: str, array: Any) -> None:
+    """Raises ValueError for a masked array. C would write beneath its mask, or read what is beneath it."""
+    if isinstance(array, np.ma.MaskedArray):
+        raise ValueError(f"{name} is a masked array; pass its data")
+
+
+def whole_numbers(source: npt.ArrayLike) -> Tuple[npt.NDArray[Any], npt.NDArray[np.intp]]:
+    """Returns an array without its missing values, which become 0, and their indices. A column of pandas that lacks
+    values has objects, so objects that are whole numbers become whole numbers. Any other array stays as it is."""
+    values, masked = without_mask(source)
+    array = np.asarray(values)
+    if array.dtype.kind != "O" or array.ndim != 1:
+        return array, masked
+    numbers = array.tolist()
+    missing = [place for place, value in enumerate(numbers) if type(value) is not int and _is_missing(value)]
+    for place in missing:
+        numbers[place] = 0
+    # NumPy would take True for 1.
+    if any(type(value) is not int and not isinstance(value, np.integer) for value in numbers):
+        return array, masked
+    return np.array(numbers, None if numbers else np.int64), np.array(missing, np.intp)
 
 
 def _limit(window: int, limit: Optional[int], lines: int) -> int:
@@ -79,6 +116,7 @@ def _moments(source: npt.ArrayLike, count: int) -> Tuple[npt.NDArray[np.uint64],
     """Returns the timestamps of this many lines, as C takes them, and the indices of missing timestamps, which become
     0."""
     wanted = "moments are a list or an array with one for each frame"
+    source, masked = without_mask(source)
     if isinstance(source, (list, tuple, range)):
         # One NaN would turn an array of all timestamps into floats.
         array = np.empty(len(source), object)
@@ -107,6 +145,7 @@ def _moments(source: npt.ArrayLike, count: int) -> Tuple[npt.NDArray[np.uint64],
         raise _no_moment(next((value for value in array.tolist() if not _is_moment(value)), array.dtype))
     if array.dtype.kind == "i" and (array < 0).any():
         raise _no_moment(int(array[array < 0][0]))
+    missing = np.union1d(missing, masked) if len(masked) else missing
     return np.require(array.astype(np.uint64, copy=False), None, ["C", "A"]), missing
 
 
@@ -124,10 +163,22 @@ def _no_moment(value: Any) -> ValueError:
 _EPOCH = datetime(1970, 1, 1, tzinfo=timezone.utc)
 
 
+# Units of dates that may not fit 64 bits in milliseconds: NumPy then wraps around.
+_LONG_UNITS = ("Y", "M", "W", "D", "h", "m", "s")
+
+
 def _since_1970(dates: npt.NDArray[np.datetime64]) -> npt.NDArray[np.int64]:
-    """Dates of NumPy in whole milliseconds since 1970, rounded down; 0 of NaT."""
-    millis = dates.astype("M8[ms]").astype(np.int64)
-    return np.where(np.isnat(dates), np.int64(0), millis)
+    """Dates of NumPy in whole milliseconds since 1970, rounded down; 0 of NaT. Raises ValueError if a date does not fit
+    64 bits."""
+    (unit, multiple), millis = np.datetime_data(dates.dtype), dates
+    # Dates of a multiple, as M8[90000ms], may not fit its unit either.
+    for step in [unit] * (multiple > 1) + ["ms"] * (unit in _LONG_UNITS):
+        wider, millis = millis, millis.astype(f"M8[{step}]")
+        wrapped = dates[(millis.astype(wider.dtype) != wider) & ~np.isnat(dates)]
+        if len(wrapped):
+            raise _no_moment(wrapped[0])
+    millis = millis.astype("M8[ms]")
+    return np.where(np.isnat(dates), np.int64(0), millis.astype(np.int64))
 
 
 def _whole_floats(numbers: npt.NDArray[np.floating[Any]]) -> npt.NDArray[Any]:

@@ -44,7 +44,8 @@ def feed(source: Source, format: Union[FeedFormat, str, None] = None, leap: int 
         refuse_other(data, source)
         where = f" in its first {_FIRST} bytes" if len(data) else ": it is empty"
         raise ValueError(f"{name_of(source)} has no frame of Beast, AVR, CSV or a log{where}")
-    squitters = _squitters(data, form, leap)
+    # Without a format, the library finds it once more: damage before the first good messages counts as in the program.
+    squitters = _squitters(data, FeedFormat.AUTO if format is None else form, leap)
     if not len(squitters[0]):
         refuse_packed(bytes(data[:8]), source)
     if form in _WITH_CLOCK and not _are_timed(squitters):
@@ -58,7 +59,7 @@ def squitters_of(data: npt.NDArray[np.uint8], source: Source) -> Optional[Squitt
     form = _format_of(data)
     if form is None or form == FeedFormat.LOG:
         return None
-    squitters = _squitters(data, form, 600_000)
+    squitters = _squitters(data, FeedFormat.AUTO, 600_000)
     if form not in _WITH_CLOCK or squitters[0].any():
         return squitters
     if form == FeedFormat.BEAST:

@@ -7,7 +7,8 @@ below describe each field. Pass arrays as ``out`` and ``faults`` to have both wr
 Frames are bytes: an array of ``(n, 14)`` uint8 or of ``V14``, or a buffer of 14 bytes for each. Or they are frame
 texts: an array of ``S28``, or of other bytes, texts or objects that are str, or a list of str. An argument is read in
 place if its memory has the layout that the library takes, and copied first otherwise. An argument of another shape,
-type, length or layout raises a ValueError that names it. While a call runs nobody else may write to its arrays.
+type, length or layout raises a ValueError that names it. While a call runs nobody else may write to its arrays. A
+masked value of an array is missing, as None is: its row has a fault.
 
 >>> from squitter import batch
 >>> fields, faults = batch.read(["8D40621D58C382D690C8AC2863A7", "8D40621D58C382D690C8AC2863A6"])
@@ -26,7 +27,10 @@ from __future__ import annotations
 
 import copy
 import ctypes
-from typing import Any, Dict, Iterable, NamedTuple, Optional, Sequence, Tuple, Type
+import operator
+from array import array as _Items
+from mmap import mmap
+from typing import Any, Dict, Iterable, NamedTuple, Optional, Sequence, SupportsIndex, Tuple, Type
 
 from squitter._errors import missing, shown
 
@@ -43,6 +47,7 @@ from squitter._library import _FRAME, _binary, _lib, _text
 from squitter._parts import DEGREES_E7, Room, first_words
 from squitter._records import (
     DEGREES, FAULT, FIELDS, POSITION, TRACKED, Records, _is_missing, _limit, _moments, kind_of, name_of_type,
+    refuse_mask, whole_numbers, without_mask,
 )
 from squitter._source import feed, refuse_file
 
@@ -71,6 +76,7 @@ def _room(count: int, dtype: np.dtype[Any], name: str, given: Optional[Records])
         new = np.empty(count * dtype.itemsize, np.uint8)
         new.fill(0)
         return new.view(dtype)
+    refuse_mask(name, given)
     if not isinstance(given, np.ndarray) or given.dtype != dtype or not given.dtype.isnative:
         raise ValueError(f"{name} is an array of another type than batch.{name_of_type(dtype)}: {kind_of(given)}")
     if given.shape != (count,):
@@ -102,17 +108,22 @@ class _Frames(NamedTuple):
 
 
 _NO_ROWS, _NO_FAULTS = np.zeros(0, np.intp), np.zeros(0, FAULT)
+_BUFFERS = (bytes, bytearray, memoryview, _Items, mmap)
 
 
 def _frames(name: str, source: npt.ArrayLike) -> _Frames:
     """Returns the frames of an argument of this name."""
     none = _NO_ROWS, _NO_FAULTS
-    if isinstance(source, (bytes, bytearray, memoryview)):
-        view = _binary(name, source)
+    if isinstance(source, _BUFFERS):
+        view = _binary(name, memoryview(source))
         # NumPy refuses to make an array from an empty buffer.
         return _Frames(np.frombuffer(view if view.nbytes else bytes(14), np.uint8, view.nbytes).reshape(-1, 14), *none)
     if isinstance(source, (list, tuple)):
         return _frames_of_texts(name, source)
+    source, masked = without_mask(source)
+    if len(masked):
+        # A masked frame has the fault of an empty text, as any other missing one.
+        return _refused(_frames(name, source), masked, Code.LENGTH)
     array = np.asarray(source)
     if array.ndim == 0:
         refuse_file(f"{name} are a list, an array or bytes", source)
@@ -128,6 +139,16 @@ def _frames(name: str, source: npt.ArrayLike) -> _Frames:
     if array.dtype.kind == "V":
         return _Frames(np.ascontiguousarray(array).view(np.uint8).reshape(-1, 14), *none)
     return _frames_of_bytes(array) if array.dtype.kind == "S" else _frames_of_texts(name, array.tolist())
+
+
+def _refused(source: _Frames, rows: npt.NDArray[np.intp], code: Code) -> _Frames:
+    """Returns these frames, with zeros and this fault in some rows."""
+    blank, bad = source.bytes.copy(), np.union1d(source.bad, rows)
+    blank[rows] = 0
+    faults = np.zeros(len(bad), FAULT)
+    faults[np.searchsorted(bad, source.bad)] = source.faults
+    faults[np.searchsorted(bad, rows)] = code, 0, 0
+    return _Frames(blank, bad, faults)
 
 
 # ---- texts ----
@@ -211,7 +232,7 @@ def _text_faults(texts: Iterable[bytes]) -> Records:
 
 def _positions(name: str, source: npt.ArrayLike, count: Optional[int] = None) -> Records:
     """Returns the positions of an array with the fields of POSITION, laid out for C."""
-    array = np.asarray(source)
+    array = np.asarray(without_mask(source)[0])
     if array.ndim != 1 or array.dtype.names is None or not set(POSITION.names or ()) <= set(array.dtype.names):
         one = "" if count is None else ", or one squitter.Position for all"
         raise ValueError(f"{name} are an array of POSITION{one}, not {kind_of(array)} of the shape {array.shape}")
@@ -234,8 +255,10 @@ def _one_position(position: Position) -> Records:
 
 def positions(lat_e7: npt.ArrayLike, lon_e7: npt.ArrayLike) -> Records:
     """Returns positions from units of 10^-7 degree, as references for :func:`local`. Raises ValueError unless all are
-    whole numbers of 64 bits, with one longitude for each latitude."""
-    parts = [np.asarray(part) for part in (lat_e7, lon_e7)]
+    whole numbers of 64 bits, with one longitude for each latitude. Where one is missing, the position is all 0, which
+    is no position."""
+    both = [whole_numbers(part) for part in (lat_e7, lon_e7)]
+    parts = [part for part, _ in both]
     for name, part in zip(("lat_e7", "lon_e7"), parts):
         if part.ndim != 1 or not (np.can_cast(part.dtype, np.int64) and part.dtype.kind in "iu" or part.size == 0):
             raise ValueError(f"{name} are a list or an array of whole numbers of 64 bits, in units of 10^-7 degree, "
@@ -245,6 +268,8 @@ def positions(lat_e7: npt.ArrayLike, lon_e7: npt.ArrayLike) -> Records:
     out = np.empty(len(parts[0]), POSITION)
     out["lat_num"], out["lon_num"] = parts
     out["lat_den"] = out["lon_den"] = 10**7
+    for _, missing in both:
+        out[missing] = np.zeros((), POSITION)
     return out
 
 
@@ -418,9 +443,13 @@ class Tracker:
         self._make_room(source.bytes)
         return _hear_all(self._tracker, self._room(len(times)), source, times, out, faults)
 
-    def __reduce__(self) -> Tuple[Any, ...]:
-        """Returns a tracker with the same settings and state, without its scratch arrays."""
-        return _unpickled, (type(self), self._most, self._tracker)
+    def __reduce_ex__(self, protocol: SupportsIndex) -> Tuple[Any, ...]:
+        """Returns a tracker with the same settings and state, without its scratch arrays, and the attributes of a
+        subclass."""
+        made: Any = super().__reduce_ex__(max(2, operator.index(protocol)))
+        _, _, (attributes, slots), *more = made
+        added = {name: value for name, value in slots.items() if name not in Tracker.__slots__}
+        return (_unpickled, (type(self), self._most, self._tracker), (attributes, added), *more)
 
     def _room(self, count: int) -> Room:
         """Returns memory for pieces of this size: one for each power of two, because a new one takes longer than a
@@ -457,11 +486,4 @@ def _log(moments: npt.ArrayLike, frames: npt.ArrayLike) -> Tuple[_Frames, npt.ND
     of zeros."""
     source = _frames("frames", frames)
     times, missing = _moments(moments, len(source.bytes))
-    if not len(missing):
-        return source, times
-    blank, bad = source.bytes.copy(), np.union1d(source.bad, missing)
-    blank[missing] = 0
-    faults = np.zeros(len(bad), FAULT)
-    faults[np.searchsorted(bad, source.bad)] = source.faults
-    faults[np.searchsorted(bad, missing)] = Code.BAD_MOMENT, 0, 0
-    return _Frames(blank, bad, faults), times
+    return _refused(source, missing, Code.BAD_MOMENT) if len(missing) else source, times

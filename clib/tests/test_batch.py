@@ -3,6 +3,7 @@
 `track` beside the program, byte for byte, on logs of the repository and random ones; arrays that are wrong, empty,
 read-only, not contiguous or of the other byte order. PROGRAM is the program (the launcher at the top of the
 repository where it is not set). Needs NumPy. test_frames.py has data frames."""
+import copy
 import ctypes
 import doctest
 import inspect
@@ -90,8 +91,7 @@ def random_texts(rng: random.Random, frames: np.ndarray) -> List[str]:
         texts[place] = rng.choice([
             text[:at] + rng.choice("gG/:@`{ \u00e9\u0663") + text[at + 1:], text[:at], text[:14], text[:27], text + "0",
             f"*{text};", f"*{text}", f"{text};", f"*{text[:14]};", f"*{text}0;", text.lower(), f" {text[1:]}",
-            "", "*;", "*", ";",
-        ])
+            "", "*;", "*", ";", f"*{text}0", f"0{text};"])
     return texts
 
 
@@ -234,8 +234,7 @@ class Track(unittest.TestCase):
 
     def test_breaks_off(self) -> None:
         """Where a part cannot be written, the part that is heard meanwhile ends, before the tracker is freed."""
-        running, others = [], threading.active_count()
-        close = squitter.Tracker.close
+        running, others, close = [], threading.active_count(), squitter.Tracker.close
 
         def closed(tracker: squitter.Tracker) -> None:
             running.append(threading.active_count() - others)
@@ -368,26 +367,28 @@ class Track(unittest.TestCase):
         self.assertEqual((full.last, len(full._tracker)), (11, 1))
 
     def test_room(self) -> None:
-        """A tracker grows as addresses come, up to its limit, and keeps its state."""
+        """A tracker grows as addresses come, up to its limit, and keeps its state. A copy has all attributes."""
         frames = [[squitter.encode(AirHead(one, odd=odd), Position(52, 4)) for one in range(1003)] for odd in (0, 1)]
         for limit, full in ((None, 0), (1003, 0), (1002, 1), (1001, 2)):
             for first in (999, 1000, 1001):
-                tracker = batch.Tracker(limit=limit)
-                rooms, told = [], []
+                tracker, rooms, told = batch.Tracker(limit=limit), [], []
                 for piece in (frames[0][:first], frames[0][first:], frames[1]):
                     told.append(tracker.hear([0] * len(piece), np.frombuffer(b"".join(piece), "V14")))
                     rooms.append(tracker._tracker._settings[2])
                 self.assertEqual(rooms[0], 1000 if first < 1001 else min(2000, limit or 2000))
                 self.assertEqual([(faults["code"] != 0).sum() for _, faults in told[1:]], [full, full])
                 self.assertEqual((told[2][0]["what"] == What.FIX).sum(), 1003 - full)
+        named: Any = type("Named", (batch.Tracker,), {"__slots__": ("name", "__dict__")})()
+        named.name, named.other = 1, 2
+        for one in (copy.copy(named), copy.deepcopy(named)):
+            self.assertEqual((one.name, one.other, len(one.hear([5], [ODD])[0]), named.last), (1, 2, 1, 0))
 
     def test_beside_contacts(self) -> None:
         """The exact places are those that the library hears of one address."""
         contact, moments = Contact(10_000), [0, 400, 800]
         heard, _ = batch.track(moments, [ODD, EVEN, ODD])
-        ones = [contact.hear(moment, text) for moment, text in zip(moments, [ODD, EVEN, ODD])]
+        places = [contact.hear(moment, text).position for moment, text in zip(moments, [ODD, EVEN, ODD])][1:]
         self.assertEqual(heard[1].tolist()[:4], PLACE)
-        places = [one.position for one in ones[1:]]
         self.assertEqual(list(map(numbers, places)), [one[:4] for one in heard.tolist()[1:]])
         self.assertEqual(list(map(squitter.position_e7, places)), heard[["lat_e7", "lon_e7"]].tolist()[1:])
         self.assertEqual(heard["what"].tolist(), [What.WAITING, What.FIX, What.FIX])
@@ -430,10 +431,11 @@ class Arrays(unittest.TestCase):
         self.refused(", not 29 bytes", squitter.read_many, bytes.fromhex(EVEN) * 2 + b"8")
         with self.assertRaisesRegex(TypeError, "frames are 14 bytes each, one after the other, not list"):
             squitter.read_many([EVEN])
-        for empty in (np.zeros(0), np.zeros(0, "S28"), [], b"", np.zeros((0, 14), np.uint8)):
+        for empty in (np.zeros(0), np.zeros(0, "S28"), [], b"", np.zeros((0, 14), np.uint8), np.ma.zeros(0)):
             self.assertEqual([len(part) for part in batch.read(empty)], [0, 0])
         self.refused("float64", batch.read, np.zeros(1))
         self.refused("float64", batch.read, np.zeros((0, 14)))
+        self.assertEqual(batch.read([EVEN] * 20_000 + ["", EVEN])[1]["code"][-2:].tolist(), [Code.LENGTH, 0])
 
     def test_frames(self) -> None:
         fields, _ = batch.read(self.frames)
@@ -521,8 +523,7 @@ class Arrays(unittest.TestCase):
                       [0] * count, frames)
         for given, text in ((None, "None"), (5, "5"), ({"a": 1}, "{'a': 1}"),
                             (np.zeros((2, 1)), "array([[0.], [0.]])")):
-            self.told(f"moments are a list or an array with one for each frame, not {text}", batch.track, given,
-                      frames)
+            self.told(f"moments are a list or an array with one for each frame, not {text}", batch.track, given, frames)
         self.assertEqual(batch.track(np.array([0.0, float(1 << 53)]), frames)[1]["code"].tolist(), [0, 0])
 
     def test_told_of_settings(self) -> None:
@@ -573,9 +574,9 @@ class Arrays(unittest.TestCase):
             self.assertEqual(batch.lines(*batch.track(same, self.frames)), told)
         for wrong in (np.arange(5), np.arange(6) / 2, -np.arange(6), np.arange(6).reshape(2, 3), [0] * 5 + [-1], 5,
                       None, [0] * 5 + [1 << 64], [0] * 5 + [5.5], np.array([-1] * 6, "M8[ms]"), np.zeros(6, bool),
-                      "012345",
-                      np.array([np.inf] * 6), [0] * 5 + ["5"], [0] * 5 + [float(1 << 60)], [0] * 5 + [float("inf")],
-                      np.full(6, float(1 << 54)), [datetime(1969, 12, 31)] * 6):
+                      "012345", np.array([np.inf] * 6), [0] * 5 + ["5"], [0] * 5 + [float(1 << 60)], [np.inf] * 6,
+                      np.full(6, float(1 << 54)), [datetime(1969, 12, 31)] * 6, np.arange(6).astype("M8[s]") + 10**17,
+                      np.full(6, 10**9, "M8[Y]"), [0] * 5 + [np.datetime64(10**17, "s")], np.full(6, 2**62, "M8[8ns]")):
             self.refused("moments", batch.track, wrong, self.frames)
 
     def test_one_row(self) -> None:
@@ -626,6 +627,24 @@ class Arrays(unittest.TestCase):
                 for ours, theirs in zip(batch.Tracker().hear(floats, texts), whole):
                     np.testing.assert_array_equal(ours, theirs)
 
+    def test_masked(self) -> None:
+        """A masked value of an array is missing, whatever is beneath the mask."""
+        texts, mask = [ODD, EVEN, EVEN], [False, True, False]
+        for beneath, last in ((np.array([0, 9, 400]), 0), (np.array([0, -1, 400], object), 0),
+                              (np.array([0, 9, 400], "M8[ms]"), 0), (np.array([0, 9, np.nan]), Code.BAD_MOMENT)):
+            moments = np.ma.MaskedArray(beneath, mask)
+            for given in (moments, list(moments)):
+                self.assertEqual(batch.track(given, texts)[1]["code"].tolist(), [0, Code.BAD_MOMENT, last])
+        for frames in (np.array(texts, "S28"), np.array(texts), np.array([ODD, 5, EVEN], object), self.frames[:3],
+                       self.frames[:3].view("V14").reshape(-1)):
+            masks = np.arange(frames.size).reshape(frames.shape) == frames.size // 3
+            faults = batch.read(np.ma.MaskedArray(frames, masks))[1]
+            self.assertEqual(faults.tolist(), [(0, 0, 0), (Code.LENGTH, 0, 0), (0, 0, 0)])
+        columns = batch.columns(range(3), *batch.track(range(3), texts[::2] + ["*"]))
+        near = batch.positions(columns["lat_e7"], columns["lon_e7"])
+        self.assertEqual(near["lat_den"].tolist(), [0, 10**7, 0])
+        self.assertEqual(batch.local([EVEN] * 3, near)[1]["code"].tolist(), [Code.BAD_POSITION, 0, Code.BAD_POSITION])
+
     def test_dates(self) -> None:
         """Dates are milliseconds since 1970, rounded down; NaT is missing."""
         wanted = batch.lines(*batch.track([0, 1999, 2000], [ODD, EVEN, ODD]))
@@ -634,7 +653,7 @@ class Arrays(unittest.TestCase):
         naive = [one.replace(tzinfo=None) - timedelta(hours=2) for one in aware]
         nanos = np.array([0, 1_999_999_999, 2_000_000_000], "M8[ns]")
         given = [nanos, nanos.astype("M8[us]"), nanos.astype("M8[ms]"), aware, naive, list(nanos),
-                 np.array(aware, object)]
+                 np.array(aware, object), np.array([0, 1999, 2000], "M8[1000us]")]
         if pandas is not None:
             given += [pandas.Series(nanos), pandas.Series(nanos).dt.tz_localize("UTC"), pandas.to_datetime(aware)]
         for moments in given:
@@ -721,8 +740,7 @@ class Arrays(unittest.TestCase):
 
     def test_given_arrays(self) -> None:
         frames, near = self.frames, batch.positions([1] * 6, [2] * 6)
-        for dtype, call, given in (
-            (batch.FIELDS, batch.read, (frames,)), (batch.POSITION, batch.local, (frames, SITE)),
+        for dtype, call, given in ((batch.FIELDS, batch.read, (frames,)), (batch.POSITION, batch.local, (frames, SITE)),
             (batch.POSITION, batch.pair, (frames, frames)), (batch.POSITION, batch.pair_at, (frames, frames, SITE)),
             (batch.DEGREES, batch.position_e7, (near,)), (batch.TRACKED, batch.track, (range(6), frames)),
         ):
@@ -732,10 +750,9 @@ class Arrays(unittest.TestCase):
             np.testing.assert_array_equal(call(*given)[0], out)
             still = np.zeros(6, dtype)
             still.flags.writeable = False
-            for words, wrong in (
-                ("another type", np.zeros(6)), ("another type", [0] * 6),
+            for words, wrong in (("another type", np.zeros(6)), ("another type", [0] * 6),
                 ("another type", np.zeros(6, dtype.newbyteorder(">"))), ("shape", np.zeros(5, dtype)),
-                ("shape", np.zeros((6, 1), dtype)), ("read-only", still),
+                ("shape", np.zeros((6, 1), dtype)), ("read-only", still), ("masked", np.ma.zeros(6, dtype)),
                 ("not contiguous", np.zeros(12, dtype)[::2]), ("not contiguous", aside(dtype, 6)),
             ):
                 self.refused(f"out .*{words}", call, *given, out=wrong)
@@ -753,6 +770,7 @@ class Arrays(unittest.TestCase):
             b"7 waiting 40621D", b"8 fix 40621D 52.2572021 3.9193726", b"9 fix 40621D 52.2572021 3.9193726"])
         self.assertEqual((batch.lines(heard[:0], faults[:0]), batch.csv_rows([], heard[:0], faults[:0])), (b"", b""))
         self.refused("heard", batch.lines, faults, faults)
+        self.refused("faults is a masked array; pass its data", batch.lines, heard, np.ma.array(faults))
         self.refused("faults", batch.lines, heard, heard)
         self.refused("heard are 6, and faults 5", batch.lines, heard, faults[:5])
         self.refused("moments", batch.csv_rows, range(5), heard, faults)

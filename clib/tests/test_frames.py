@@ -1,6 +1,6 @@
 #!/usr/bin/env python3
-"""Data frames of squitter.batch beside the program's rows of CSV, value by value. PROGRAM is the program, by default
-that of dist/program. Needs NumPy and pandas."""
+"""Data frames of squitter.batch beside the program's rows of CSV, value by value, and results that a caller changed.
+PROGRAM is the program, by default that of dist/program. Needs NumPy; data frames need pandas."""
 import io
 import os
 import pathlib
@@ -11,6 +11,8 @@ import threading
 import unittest
 from fractions import Fraction
 from typing import Any
+
+import numpy as np
 
 sys.path[:0] = [os.path.dirname(os.path.abspath(__file__))]
 from test_batch import EVEN, ODD, PROGRAM, SITE, TOP, pandas  # noqa: E402
@@ -89,6 +91,25 @@ class Frames(unittest.TestCase):
         self.assertEqual(one[["lat", "lon", "lat_e7", "lon_e7"]].iloc[1].tolist(), [0, 0, 0, 0])
         self.assertEqual(one["feet"].isna().tolist(), [True, True])
 
+    def test_positions_of_columns(self) -> None:
+        """The columns of a data frame are references, and a row without a place has none."""
+        frame = batch.dataframe(self.log)
+        near = batch.positions(frame["lat_e7"], frame["lon_e7"])
+        self.assertEqual(near[5].tolist(), (104_004_217, 10**7, 80_000_831, 10**7))
+        self.assertEqual((near["lat_den"] != 0).tolist(), frame["lat"].notna().tolist())
+        placed = frame.dropna(subset=["lat"])
+        self.assertEqual(batch.positions(placed["lat_e7"], placed["lon_e7"])["lon_num"][0], 80_000_831)
+        nowhere, (lat, lon) = (0, 0, 0, 0), ([5, None, 6, 7], [8, 9, None, 1])
+        wanted = [(5, 10**7, 8, 10**7), nowhere, nowhere, (7, 10**7, 1, 10**7)]
+        for kind in ("Int64", "Int32", object):
+            given = (pandas.array(part, kind) for part in (lat, lon))
+            self.assertEqual(batch.positions(*given).tolist(), wanted, kind)
+        self.assertEqual(batch.positions(lat, lon).tolist(), wanted)
+        self.assertEqual(batch.positions(pandas.array([None], "Int64"), [3]).tolist(), [nowhere])
+        for wrong in (pandas.array([0.5, None], "Float64"), [True, None], ["1", None], [1 << 63, None]):
+            with self.assertRaisesRegex(ValueError, "^lat_e7 are a list or an array of whole numbers of 64 bits"):
+                batch.positions(wrong, [1, 2])
+
     def test_tables(self) -> None:
         """A table with moments and frames, of which some are missing; exact fractions behind."""
         dates = pandas.to_datetime([0, None, 400], unit="ms")
@@ -138,6 +159,36 @@ class Frames(unittest.TestCase):
             batch.dataframe(io.StringIO("5 x"))
         with self.assertRaises(squitter.Fault):
             batch.dataframe(self.log, site=Position(91, 0))
+
+
+class Results(unittest.TestCase):
+    """Results and faults that a caller made or changed."""
+
+    calls = (batch.lines, lambda *given: batch.csv_rows([0], *given), lambda *given: batch.columns([0], *given))
+
+    def test_neither_result_nor_fault(self) -> None:
+        """A line needs a result or a fault."""
+        wrongs = (("what", 0, "from 1 to 7"), ("what", 8, "from 1 to 7"), ("what", 99, "from 1 to 7"),
+                  ("kind", 3, "from 0 to 2"), ("address", 1 << 24, "from 0 to 16777215"))
+        for call in self.calls:
+            with self.assertRaisesRegex(ValueError, "^line 1 has no fault, so its what is from 1 to 7, not 0; track "):
+                call(np.zeros(1, batch.TRACKED), np.zeros(1, batch.FAULT))
+            for name, wrong, wanted in wrongs:
+                heard, faults = batch.track([0], [ODD])
+                heard[name] = wrong
+                with self.assertRaisesRegex(ValueError, f"line 7 has no fault, so its {name} is {wanted}, not {wrong}"):
+                    call(heard, faults, 7)
+
+    def test_records_of_refused_lines(self) -> None:
+        """The record of a refused line may have any value, because `track` does not write it in a caller's array."""
+        out = np.frombuffer(b"\xff" * (3 * batch.TRACKED.itemsize), batch.TRACKED).copy()
+        given = batch.track([0, 1, 2], [ODD, "*", EVEN], out=out)
+        self.assertEqual(int(out["what"][1]), 255)
+        self.assertEqual(batch.lines(*given), b"1 waiting 40621D\n2 bad wrapping\n3 fix 40621D 52.2572021 3.9193726\n")
+        self.assertEqual(batch.csv_rows([0, 1, 2], *given).splitlines()[1], b"2,,bad wrapping,,,,,")
+        columns = batch.columns([0, 1, 2], *given)
+        self.assertEqual(columns["answer"].tolist(), ["waiting", "bad wrapping", "fix"])
+        self.assertEqual(columns["kind"].tolist(), ["air", None, "air"])
 
 
 if __name__ == "__main__":

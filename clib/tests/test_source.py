@@ -1,10 +1,12 @@
 #!/usr/bin/env python3
 """What receivers record, as arrays and as data frames: each format by a file's name, open, and as bytes; what has no
 times or is no recording. Needs NumPy, and pandas for the data frames."""
+import array
 import bz2
 import gzip
 import io
 import lzma
+import mmap
 import os
 import pathlib
 import sys
@@ -64,6 +66,33 @@ class Recordings(unittest.TestCase):
                     self.same(batch.feed(data))
             if name != "beast":
                 self.same(batch.feed(data.rstrip()))
+
+    def test_buffers(self) -> None:
+        """Frames in a buffer of any kind: an array of Python, a file that is mapped into memory, and a read-only array
+        with a mask."""
+        self.path.write_bytes(FRAMES)
+        wanted = batch.read(FRAMES)
+        masked = np.ma.MaskedArray(np.frombuffer(FRAMES, np.uint8).reshape(-1, 14), False)
+        with open(self.path, "rb") as file, mmap.mmap(file.fileno(), 0, access=mmap.ACCESS_READ) as mapped:
+            for buffer in (array.array("B", FRAMES), array.array("b", FRAMES), mapped, masked):
+                np.testing.assert_array_equal(batch.read(buffer)[0], wanted[0])
+                np.testing.assert_array_equal(batch.track(MOMENTS, buffer)[0], batch.track(MOMENTS, FRAMES)[0])
+        for wrong in (array.array("H", FRAMES), array.array("B", FRAMES[1:])):
+            with self.assertRaisesRegex(ValueError, "^frames are 14 bytes each, one after the other, not "):
+                batch.read(wrong)
+
+    def test_damaged_front(self) -> None:
+        """Without a format, three Beast messages in a row begin the recording, as in `squitter feed`. With one, all of
+        its messages are read."""
+        rows = list(zip(MOMENTS, (EVEN, ODD) * 2))
+        first, *rest = (test_feed.message(b"3", 12_000 * moment, frame) for moment, frame in rows)
+        for damage in (b"\x1a9", b"x" * 40):
+            data = first + damage + b"".join(rest)
+            for form, wanted in ((None, MOMENTS[1:]), ("auto", MOMENTS[1:]), ("beast", MOMENTS)):
+                moments, frames = batch.feed(data, form)
+                self.assertEqual((moments.tolist(), frames.tobytes()), (wanted, FRAMES[14 * (4 - len(wanted)):]))
+            if pandas is not None:
+                self.assertEqual(batch.dataframe(data)["moment"].tolist(), MOMENTS[1:])
 
     def test_leap(self) -> None:
         """Gaps up to the leap are kept, and longer ones are jumps of the clock."""
