@@ -18,6 +18,7 @@ from __future__ import annotations
 
 import ctypes
 import functools
+import operator
 import struct
 from dataclasses import dataclass
 from decimal import Decimal
@@ -61,7 +62,8 @@ WINDOW = 10_000
 
 
 class Fault(ValueError):
-    """The first error of a call. Its ``str`` is the library's text, followed by a hint if there is one."""
+    """The first error of a call. Its ``str`` is the library's text, followed by a hint if there is one. Faults with the
+    same code and numbers are equal."""
 
     def __init__(self, code: int, first: int = 0, second: int = 0, hint: str = "") -> None:
         self.code = Code(code)
@@ -70,6 +72,15 @@ class Fault(ValueError):
         self.hint = hint
         text = _words(code, first, second)
         super().__init__(f"{text}: {hint}" if hint else text)
+
+    def __eq__(self, other: object) -> bool:
+        """Returns whether the other is a fault with the same code and numbers, whatever their hints."""
+        if not isinstance(other, Fault):
+            return NotImplemented
+        return (self.code, self.first, self.second) == (other.code, other.first, other.second)
+
+    def __hash__(self) -> int:
+        return hash((self.code, self.first, self.second))
 
     def __reduce__(self) -> Tuple[type, Tuple[int, int, int, str]]:
         """Returns the class and the arguments that copies and pickles of the fault are made from."""
@@ -537,10 +548,14 @@ def _head_done(fault: _Fault, head: Union[AirHead, GroundHead], is_air: bool) ->
 
 def send_again(source: Frame, odd: int, position: Point) -> bytes:
     """Returns the frame with this parity (0 even, 1 odd) and the code of this position. Its other fields stay."""
-    if odd not in (0, 1) or isinstance(odd, float):
+    try:
+        parity = operator.index(odd)
+    except TypeError:
+        parity = -1
+    if parity not in (0, 1):
         raise Fault(Code.BAD_PARITY, hint=f"odd is 0 or 1, not {shown(odd)}")
     here, out = _position(position), _FRAME()
-    again = _lib.squitter_send_again(_frame_near(source, here), odd, ctypes.byref(here), ctypes.byref(out))
+    again = _lib.squitter_send_again(_frame_near(source, here), parity, ctypes.byref(here), ctypes.byref(out))
     _done(again, *here.given)
     return bytes(out)
 

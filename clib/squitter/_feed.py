@@ -22,7 +22,8 @@ _COUNT = 1 << 12  # squitters that a call writes at once
 class Counts(NamedTuple):
     """Counts of the items of a source. ``found`` is the sum of all other counts.
 
-    ``formats`` counts the frames of each downlink format other than 17; ``formats[24]`` counts formats 24 and above."""
+    ``formats`` counts the frames of each downlink format other than 17; ``formats[24]`` counts formats 24 and above.
+    With `all_formats` these frames count as ``written``."""
 
     found: int
     written: int

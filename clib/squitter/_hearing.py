@@ -6,7 +6,7 @@ import ctypes
 import operator
 import threading
 from typing import (
-    Any, Iterator, List, NamedTuple, Optional, Sequence, SupportsIndex, Tuple, Type, TypeVar, Union,
+    Any, Callable, Iterator, List, NamedTuple, Optional, Sequence, SupportsIndex, Tuple, Type, TypeVar, Union,
 )
 
 from squitter import (
@@ -45,7 +45,8 @@ class _Lent:
         self.close()
 
     def __reduce__(self) -> Union[str, Tuple[Any, ...]]:
-        raise TypeError(f"a {self._kind} cannot be copied or pickled")
+        article = "an" if self._kind == "order" else "a"
+        raise TypeError(f"{article} {self._kind} cannot be copied or pickled")
 
 
 _SLOTS = {"tracker": _Tracker, "log": _Log}
@@ -60,13 +61,14 @@ class _Listener(_Lent):
         window = whole(window, 64, "a window is a whole number of milliseconds from 0")
         limit = whole(limit, 32, "a limit is a whole number of addresses from 1")
         self._kind, self._lock, self._slot = kind, threading.RLock(), _SLOTS[kind]()
-        self._settings = window, site, limit
+        here = None if site is None else _position(site)
+        # Copies need the site as it was, but a caller may change its list later, and an iterator is empty by now.
+        self._settings = window, None if here is None else here.given, limit
         block, self._memory = _lend(getattr(_lib, f"squitter_{kind}_size")(limit))
         slot = self._at = ctypes.byref(self._slot)
-        if site is None:
+        if here is None:
             _done(getattr(_lib, f"squitter_{kind}_new")(slot, block, limit, window))
         else:
-            here = _position(site)
             new = getattr(_lib, f"squitter_{kind}_new_at")(slot, block, limit, window, ctypes.byref(here))
             _done(new, *here.given)
 
@@ -122,22 +124,44 @@ class Tracker(_Listener):
     __reduce__ = object.__reduce__  # __reduce_ex__ makes copies and pickles
 
     def __reduce_ex__(self, protocol: SupportsIndex) -> Tuple[Any, ...]:
-        """Returns the class, the attributes of a subclass, and the state of the tracker."""
+        """Returns how the tracker is made again, with its state, and then the attributes of a subclass, or what its
+        ``__getstate__`` returns."""
         with self._lock:
             self._look_open()
             made: Any = super().__reduce_ex__(max(2, operator.index(protocol)))
-            call, arguments, (attributes, slots), *more = made
-            own = {*_Lent.__slots__, *_Listener.__slots__}
-            added = {name: value for name, value in slots.items() if name not in own}
-            return (call, arguments, (attributes, added, self._settings, *self._save()), *more)
+            call, arguments, attributes, *more = made
+            if isinstance(attributes, tuple) and len(attributes) == 2 and isinstance(attributes[1], dict):
+                own = {*_Lent.__slots__, *_Listener.__slots__}
+                added = {name: value for name, value in attributes[1].items() if name not in own}
+                attributes = attributes[0], added
+            return (type(self)._again, (call, arguments, self._settings, *self._save()), attributes, *more)
 
-    def __setstate__(self, state: Tuple[Any, ...]) -> None:
-        """Creates the tracker again with this state. Raises the Fault BAD_ENTRY if no tracker can hold it."""
-        attributes, slots, (window, site, limit), last, entries = state
-        _Listener.__init__(self, "tracker", window, site, limit)
-        self._restore(last, entries)
-        for name, value in {**(attributes or {}), **slots}.items():
-            setattr(self, name, value)
+    @classmethod
+    def _again(
+        cls, call: Callable[..., Any], arguments: Tuple[Any, ...], settings: Tuple[int, Any, int],
+        last: Optional[int], entries: bytes,
+    ) -> Tracker:
+        """Returns a tracker with this state. Raises the Fault BAD_ENTRY if no tracker can hold it."""
+        made: Tracker = call(*arguments)
+        _Listener.__init__(made, "tracker", *settings)
+        made._restore(last, entries)
+        return made
+
+    def __setstate__(self, state: Any) -> None:
+        """Sets the attributes of a subclass: a dict, or a pair of two, each of which may be None. Raises TypeError for
+        any other state. An earlier version pickled the state of the tracker here too."""
+        if isinstance(state, tuple) and len(state) == 5:
+            *state, settings, last, entries = state
+            _Listener.__init__(self, "tracker", *settings)
+            self._restore(last, entries)
+        parts = state if isinstance(state, (list, tuple)) and len(state) == 2 else [state]
+        if not all(isinstance(part, (dict, type(None))) for part in parts):
+            name = type(self).__name__
+            raise TypeError(f"the __getstate__ of {name} returned {shown(state)}, which is no dict of attributes, so "
+                            f"{name} needs a __setstate__ too")
+        for part in parts:
+            for name, value in (part or {}).items():
+                setattr(self, name, value)
 
     def _save(self) -> Tuple[Optional[int], bytes]:
         """Returns the timestamp of the last accepted frame, and the entries of the present addresses."""

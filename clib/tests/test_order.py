@@ -84,7 +84,7 @@ class Orders(unittest.TestCase):
         self.assertRaises(TypeError, order.take, [1.5], frame(1))
         self.assertRaises(TypeError, order.take, [1], "0" * 14)
         self.assertEqual(order.held, 0)
-        self.assertRaises(TypeError, copy.copy, order)
+        self.assertRaisesRegex(TypeError, "^an order cannot be copied or pickled$", copy.copy, order)
         order.close()
         order.close()
         for call in (order.flush, lambda: order.held, lambda: order.take([], b""), order.__enter__):

@@ -1,14 +1,16 @@
 #!/usr/bin/env python3
-"""The results of calls of arrays: a sequence that makes each result when it is asked for."""
+"""The results of calls of arrays: a sequence that makes each result when it is asked for. Copies of subclasses of
+Tracker."""
 from __future__ import annotations
 
 import copy
 import os
 import pickle
 import sys
+import threading
 import unittest
 from fractions import Fraction
-from typing import List
+from typing import Any, Dict, List
 
 HERE = os.path.dirname(os.path.abspath(__file__))
 sys.path.insert(0, os.path.join(HERE, ".."))
@@ -81,6 +83,21 @@ class Sequences(unittest.TestCase):
         self.assertRaises(TypeError, hash, results)
         self.assertEqual(repr(results), f"[{one!r}]")
 
+    def test_faults(self) -> None:
+        """Faults are equal by code and numbers, so results with faults are equal too."""
+        results, fault = squitter.read_many(MIXED), Fault(Code.PARITY, 1)
+        self.assertTrue(results == results and results == list(results) and results[1] == results[1])
+        self.assertEqual(results, [squitter.read(EVEN), fault, squitter.read(ODD)])
+        self.assertEqual((results.index(fault), results.count(fault), fault in results), (1, 1, True))
+        for copied in (copy.copy(results), copy.deepcopy(results), pickle.loads(pickle.dumps(results))):
+            self.assertEqual(results, copied)
+        hinted = Fault(Code.PARITY, 1, 0, "a hint")
+        self.assertEqual((hinted, hash(hinted)), (fault, hash(fault)))
+        for other in (Fault(Code.NOT_DF17, 1), Fault(Code.PARITY, 2), Fault(Code.PARITY, 1, 1), ValueError(str(fault)),
+                      str(fault), None):
+            self.assertNotEqual(fault, other)
+        self.assertNotEqual(results, squitter.read_many(MIXED[:14] + MIXED))
+
     def test_copies(self) -> None:
         results = squitter.read_many(squitter.frame(EVEN) * 2)
         for copied in (copy.copy(results), copy.deepcopy(results), pickle.loads(pickle.dumps(results))):
@@ -88,6 +105,46 @@ class Sequences(unittest.TestCase):
             self.assertEqual(results, copied)
         self.assertEqual([type(one) for one in pickle.loads(pickle.dumps(squitter.read_many(MIXED)))],
                          [Fields, Fault, Fields])
+
+
+class Chosen(Tracker):
+    kept: Any
+
+    def __getstate__(self) -> Dict[str, int]:
+        return {"kept": 1}
+
+
+class Locked(Tracker):
+    kept: Any
+
+    def __getstate__(self) -> Any:
+        return self.kept
+
+    def __setstate__(self, state: Any) -> None:
+        self.kept, self.lock = state, threading.Lock()
+
+
+class Odd(Tracker):
+    def __getstate__(self) -> List[int]:
+        return [5]
+
+
+class Copies(unittest.TestCase):
+    def test_state_of_a_subclass(self) -> None:
+        """A subclass says by __getstate__ what is copied beside the tracker, and by __setstate__ how it is set."""
+        for kind, wanted in ((Chosen, 1), (Locked, [2])):
+            mine: Any = kind(10_000)
+            mine.kept, mine.lock = [2], threading.Lock()
+            mine.hear(4, ODD)
+            for take in (copy.copy, copy.deepcopy, lambda one: pickle.loads(pickle.dumps(one))):
+                other = take(mine)
+                self.assertEqual((type(other), other.kept, hasattr(other, "lock")), (kind, wanted, kind is Locked))
+                heard = other.hear(5, EVEN)
+                self.assertEqual(heard.position, Position(Fraction(428091, 8192), Fraction(64215, 16384)))
+                self.assertEqual((mine.last, other.last), (4, 5))
+        with self.assertRaisesRegex(TypeError, r"^the __getstate__ of Odd returned \[5\], which is no dict of "
+                                               "attributes, so Odd needs a __setstate__ too$"):
+            copy.copy(Odd())
 
 
 if __name__ == "__main__":

@@ -435,7 +435,8 @@ class Calls(unittest.TestCase):
         with self.assertRaises(TypeError):
             squitter.encode(AirHead(1.0), PLACE)
         self.refused(Code.BAD_PARITY, squitter.send_again, ODD, 2, PLACE)
-        self.refused(Code.BAD_PARITY, squitter.send_again, ODD, -1, PLACE)
+        for wrong in (-1, 1.0, Fraction(1), Decimal(1), None, "1"):
+            self.refused(Code.BAD_PARITY, squitter.send_again, ODD, wrong, PLACE)
 
     def test_parts(self):
         self.assertEqual(squitter.zone_count(Fraction(-523, 10)), 36)
@@ -460,6 +461,7 @@ class Calls(unittest.TestCase):
         self.assertEqual(contact.hear(10_005, EVEN), (What.FIX, PLACE, 0, 0))
         self.refused(Code.MOMENT_BACK, contact.hear, 10_004, EVEN, first=10_005)
         self.assertEqual((contact.last, contact.newest), (10_005, 10_005))
+        self.assertEqual((Contact().last, Contact().newest), (0, 0))
         self.assertEqual(contact.hear(10_006, EVEN).what, What.FOLLOWED)
         self.assertEqual(contact.hear(30_000, EVEN).what, What.WAITING)
         ground = Contact(10, SITE)
@@ -751,6 +753,16 @@ class Calls(unittest.TestCase):
         for other in (copy.copy(fault), copy.deepcopy(fault), pickle.loads(pickle.dumps(fault))):
             self.assertEqual((other.code, other.first, other.second), (Code.ZONE_COUNTS, 45, 44))
             self.assertEqual(str(other), "zone counts 45 44")
+
+    def test_site_of_a_copy(self):
+        """A copy has the site that its tracker was made with, though the caller's list has changed since."""
+        for site in ([*SITE], iter(SITE)):
+            tracker = Tracker(site=site)
+            tracker.hear(4, GROUND_OLDER)
+            if isinstance(site, list):
+                site[:] = 0, 91
+            for other in (copy.copy(tracker), copy.deepcopy(tracker), pickle.loads(pickle.dumps(tracker))):
+                self.assertEqual(other.hear(8, GROUND_NEWER).position, GROUND_PLACE)
 
     def test_faults(self):
         self.assertEqual(squitter.fault_text(Code.ZONE_COUNTS, 45, 44), "zone counts 45 44")
