@@ -11,17 +11,32 @@ async function squitterUnpacked(file) {
   if (isOf(0x42, 0x5a, 0x68) || isOf(0xfd, 0x37, 0x7a, 0x58, 0x5a, 0) || isOf(0x50, 0x4b, 3, 4)) {
     throw new Error("unpack it first: only gzip is unpacked here");
   }
-  return isOf(0x1f, 0x8b) ? new Response(file.stream().pipeThrough(new DecompressionStream("gzip"))).blob() : file;
+  if (!isOf(0x1f, 0x8b)) return file;
+  try {
+    return await new Response(file.stream().pipeThrough(new DecompressionStream("gzip"))).blob();
+  } catch {
+    throw new Error("its gzip data is damaged, ends early or has several parts");
+  }
 }
 
-/** Returns the feed that turns a receiver's bytes into a log, or null for a log. Text without times counts as a log
- * too: there each line is refused, while a feed would give all its frames one time. */
-function squitterFeedOf({ Feed, FeedFormat }, library, first) {
-  const trial = new Feed(library), isTimed = /^[1-9]/m.test(trial.takeText(first)), { format } = trial;
+/** Returns the feed that turns a receiver's bytes into a log, or null for a log, and what a file of another kind is.
+ * Text without times counts as a log too: there each line is refused, while a feed would give all its frames one
+ * time. */
+function squitterFeedOf({ Feed, FeedFormat, Stranger }, library, first) {
+  // The first squitter may come later, so frames of all formats count. Mode A/C gives no lines.
+  const trial = new Feed(library, { allFormats: true }), lines = trial.takeText(first), { format, stranger } = trial;
+  const isTimed = /^[1-9]/m.test(lines) || (format === FeedFormat.BEAST && !lines);
   trial.close();
-  if (format === null || format === FeedFormat.LOG) return null;
+  const kind = {
+    [Stranger.SBS]: "It is SBS (BaseStation) text, which has no frames.",
+    [Stranger.TAR]: "It is a tar archive: unpack it first.",
+    [Stranger.PACKED]: "It is compressed: only gzip is unpacked here, and once.",
+    [Stranger.UTF16]: "It is UTF-16: save it as UTF-8.",
+    [Stranger.JSON]: "It is JSON, which has no frames.",
+  }[stranger] ?? "";
+  if (format === null || format === FeedFormat.LOG) return { feed: null, kind };
   if (!isTimed && format === FeedFormat.BEAST) throw new Error("its frames have no times");
-  return isTimed ? new Feed(library) : null;
+  return { feed: isTimed ? new Feed(library) : null, kind };
 }
 
 /** The worker of a log, or of a receiver's bytes (Beast, AVR with times, CSV), which it turns into a log first. It
@@ -39,17 +54,17 @@ function squitterHearingWorker() {
       const log = new squitter.Log(library, settings);
       const hear = (piece) => isText ? postMessage({ text: log.takeText(piece, format) }) : tell(log.take(piece));
       if (isText) postMessage({ text: log.header(format) });
-      let feed = null;
+      let feed = null, kind = "";
       for (let from = 0; from < file.size; from += PIECE_BYTES) {
         const piece = await pieceOf(file, from);
-        if (from === 0) feed = squitterFeedOf(squitter, library, piece);
+        if (from === 0) ({ feed, kind } = squitterFeedOf(squitter, library, piece));
         hear(feed ? encoder.encode(feed.takeText(piece)) : piece);
         postMessage({ done: Math.min((from + PIECE_BYTES) / file.size, 1) });
       }
       if (feed) hear(encoder.encode(feed.finishText()));
       if (isText) postMessage({ text: log.finishText(format) });
       else tell(log.finish());
-      postMessage({ finished: true, feed: feed && feed.counts });
+      postMessage({ finished: true, feed: feed && feed.counts, kind });
     } catch (error) {
       postMessage({ failed: String(error instanceof Error ? error.message : error) });
     }

@@ -302,15 +302,25 @@ class Memory {
     if (lack > 0) this.grow(Math.ceil(lack / PAGE_BYTES));
   }
   claim(count) {
-    const fitting = this.free.filter((block) => block.count >= count).sort((one, other) => one.count - other.count);
-    if (fitting.length) return this.free.splice(this.free.indexOf(fitting[0]), 1)[0];
-    const block = { at: this.end, count: (count + 15) & ~15 };
-    this.end += block.count;
-    this.reach(block.at, block.count);
+    const size = 16 * Math.ceil(count / 16);
+    const [fitting] = this.free.filter((block) => block.count >= size).sort((one, other) => one.count - other.count);
+    const block = { at: fitting ? fitting.at : this.end, count: size };
+    if (!fitting) {
+      this.reach(block.at, size);
+      this.end += size;
+    } else {
+      this.free.splice(this.free.indexOf(fitting), 1);
+      if (fitting.count > size) this.free.push({ at: fitting.at + size, count: fitting.count - size });
+    }
     return block;
   }
   release(block) {
-    this.free.push(block);
+    const touches = ({ at, count }) => at + count === block.at || at === block.at + block.count;
+    const joined = [block, ...this.free.filter(touches)].sort((one, other) => one.at - other.at);
+    const at = joined[0].at, count = joined.reduce((sum, part) => sum + part.count, 0);
+    this.free = this.free.filter((other) => !joined.includes(other));
+    if (at + count === this.end) this.end = at;
+    else this.free.push({ at, count });
   }
   view() {
     const { buffer } = this.exports.memory;
@@ -409,6 +419,14 @@ class Lent {
       throw error;
     }
   }
+  claimRooms(sizes) {
+    try {
+      for (const [name, size] of Object.entries(sizes)) this.rooms[name] = this.library.memory.claim(size);
+    } catch (error) {
+      this.close();
+      throw error;
+    }
+  }
   close() {
     if (!this.block) return;
     this.library.memory.exports[`squitter_${this.name}_free`](this.slot);
@@ -428,12 +446,12 @@ function bytesOf(piece) {
 const MOST_ADDRESSES = 1 << 20;
 function settingsOf({ window = WINDOW, limit = 1000, site = null }) {
   const number = Number(whole(limit));
-  if (number < 0 || number > MOST_ADDRESSES) throw new RangeError(`a limit is at most ${MOST_ADDRESSES}`);
+  if (number < 0 || number > MOST_ADDRESSES) throw new RangeError(`a limit is from 1 to ${MOST_ADDRESSES}`);
   return { window: moment(window), limit: number, site };
 }
 function listenerOf(owner, library, name, settings) {
   const { memory } = library, { window, limit, site } = settingsOf(settings);
-  const here = site && memory.exactPosition(site);
+  const here = site === null ? null : memory.exactPosition(site);
   return new Lent(owner, library, name, Number(memory.exports[`squitter_${name}_size`](limit)), (slot, block) => {
     if (here) memory.putPosition(memory.placeAt, here);
     const words = [slot, block, limit, window, ...(here ? [BigInt(memory.placeAt)] : [])];
@@ -499,10 +517,9 @@ class Log {
   constructor(library, settings = {}) {
     this.#library = library;
     this.#listener = listenerOf(this, library, "log", settings);
-    this.#listener.rooms = {
-      done: library.memory.claim(BYTES.done), piece: library.memory.claim(PIECE_BYTES),
-      out: library.memory.claim(Math.max(TEXT_ROOM, ANSWERS_AT_ONCE * ANSWER_BYTES)),
-    };
+    this.#listener.claimRooms({
+      done: BYTES.done, piece: PIECE_BYTES, out: Math.max(TEXT_ROOM, ANSWERS_AT_ONCE * ANSWER_BYTES),
+    });
   }
   take(piece) {
     return this.#columns((hear) => this.#pieces(piece, (at, count) => hear("log_take", at, count)));
@@ -511,14 +528,16 @@ class Log {
     return this.#columns((hear) => hear("log_finish"));
   }
   takeText(piece, format = Format.LINES) {
-    return this.#text((hear) => this.#pieces(piece, (at, count) => hear("log_take_text", format, at, count)));
+    const number = fitted(format, 32);
+    return this.#text((hear) => this.#pieces(piece, (at, count) => hear("log_take_text", number, at, count)));
   }
   finishText(format = Format.LINES) {
-    return this.#text((hear) => hear("log_finish_text", format));
+    const number = fitted(format, 32);
+    return this.#text((hear) => hear("log_finish_text", number));
   }
   header(format = Format.LINES) {
     const { exports, outAt } = this.#library.memory;
-    exports.squitter_log_header(format, BigInt(outAt));
+    exports.squitter_log_header(fitted(format, 32), BigInt(outAt));
     return this.#library.memory.getText(outAt, HEADER_BYTES);
   }
   get tally() {
@@ -533,11 +552,13 @@ class Log {
   #pieces(piece, hear) {
     const bytes = typeof piece === "string" ? new TextEncoder().encode(piece) : bytesOf(piece);
     if (!this.#listener.rooms.piece) return hear(this.#library.memory.zerosAt, 0);
-    for (let from = 0; from < bytes.length; from += PIECE_BYTES) {
+    let from = 0;
+    do {
       const part = bytes.subarray(from, from + PIECE_BYTES);
       this.#library.memory.putBytes(this.#listener.rooms.piece.at, part);
       hear(this.#listener.rooms.piece.at, part.length);
-    }
+      from += PIECE_BYTES;
+    } while (from < bytes.length);
   }
   #call(room, full, name, at, count, format, use) {
     const { memory } = this.#library;
@@ -597,8 +618,9 @@ class Tracker {
     return Number(this.#library.memory.exports.squitter_tracker_len(this.#listener.slot));
   }
   present(index) {
-    const { outAt } = this.#library.memory;
-    ask(this.#library, "tracker_get", this.#listener.slot, whole(index), BigInt(outAt));
+    const { outAt } = this.#library.memory, number = whole(index);
+    const at = BigInt.asUintN(64, number) === number ? number : (1n << 64n) - 1n;
+    ask(this.#library, "tracker_get", this.#listener.slot, at, BigInt(outAt));
     const { address, moment: newest } = readPresent(this.#library.memory.view(), outAt);
     return { address, moment: newest };
   }
@@ -673,10 +695,9 @@ class Feed {
     this.#library = library;
     this.#lent = new Lent(this, library, "feed", Number(memory.exports.squitter_feed_size()),
       (slot, block) => ask(library, "feed_new", slot, block, number, longest, latest, flags));
-    this.#lent.rooms = {
-      done: memory.claim(BYTES.done), piece: memory.claim(PIECE_BYTES), moments: memory.claim(8 * SQUITTERS_AT_ONCE),
-      out: memory.claim(LINES_ROOM),
-    };
+    this.#lent.claimRooms({
+      done: BYTES.done, piece: PIECE_BYTES, moments: 8 * SQUITTERS_AT_ONCE, out: LINES_ROOM,
+    });
   }
   take(piece, arrival = 0n) {
     return this.#squitters("feed_take", bytesOf(piece), moment(arrival));
@@ -776,9 +797,8 @@ class Order {
     this.#library = library;
     this.#lent = new Lent(this, library, "order", Number(memory.exports.squitter_order_size()),
       (slot, block) => ask(library, "order_new", slot, block, delay));
-    const [came, data, moments, frames] = [8, FRAME_BYTES, 8, FRAME_BYTES].map((size) =>
-      memory.claim(size * SORTED_AT_ONCE));
-    this.#lent.rooms = { done: memory.claim(BYTES.done), came, data, moments, frames };
+    const moments = 8 * SORTED_AT_ONCE, frames = FRAME_BYTES * SORTED_AT_ONCE;
+    this.#lent.claimRooms({ done: BYTES.done, came: moments, data: frames, moments, frames });
   }
   take(moments, frames) {
     const came = BigUint64Array.from(moments, moment), bytes = bytesOf(frames), parts = [];
@@ -844,7 +864,7 @@ class Squitter {
     return this.memory.bytesAt(at, FRAME_BYTES).slice();
   }
   #look(near) {
-    if (!near) return;
+    if (near === null) return;
     const { firstAt, placeAt, outAt } = this.memory;
     this.memory.putBytes(firstAt, new Uint8Array(FRAME_BYTES));
     this.memory.putPosition(placeAt, near);
@@ -906,11 +926,11 @@ class Squitter {
   }
   pair(older, newer, site = null) {
     const { firstAt, secondAt, placeAt, outAt } = this.memory;
-    if (site) this.memory.putPosition(placeAt, site);
+    if (site !== null) this.memory.putPosition(placeAt, site);
     const [first, second] = this.#twoFrames(older, newer, site);
     this.memory.putBytes(firstAt, first);
     this.memory.putBytes(secondAt, second);
-    if (site) this.#ask("pair_at", BigInt(firstAt), BigInt(secondAt), BigInt(placeAt), BigInt(outAt));
+    if (site !== null) this.#ask("pair_at", BigInt(firstAt), BigInt(secondAt), BigInt(placeAt), BigInt(outAt));
     else this.#ask("pair", BigInt(firstAt), BigInt(secondAt), BigInt(outAt));
     return this.#positionAt(outAt);
   }
@@ -1004,6 +1024,7 @@ async function load(source) {
     if (!given.ok) throw new Error(`the module cannot be loaded: ${given.status}`);
     given = await given.arrayBuffer();
   }
+  if (ArrayBuffer.isView(given)) given = new Uint8Array(given.buffer, given.byteOffset, given.byteLength);
   const made = await instantiated(given);
   return new Squitter(made instanceof WebAssembly.Instance ? made : made.instance);
 }

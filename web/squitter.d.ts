@@ -17,7 +17,8 @@ export interface Fraction {
 }
 
 /** An exact number of degrees: a fraction, a BigInt, a number or a text such as "52.25". A number counts as its shortest
- * text: 52.31 is 5231/100. */
+ * text: 52.31 is 5231/100. At most 12 decimals are valid, and computed numbers often have more: pass
+ * `degrees.toFixed(12)`. */
 export type Degrees = Fraction | Whole | string;
 
 /** A latitude, north positive, at most 90 degrees, and a longitude, east positive, at most 180, on both sides. */
@@ -87,7 +88,8 @@ export declare class Fault extends Error {
   toJSON(): object;
 }
 
-/** An exact number of degrees that a call returns, num/den in lowest terms. */
+/** An exact number of degrees that a call returns, num/den in lowest terms. Compare two by `toNumber()`, because `<`
+ * compares their texts. */
 export declare class Angle implements Fraction {
   constructor(library: Squitter, num: bigint, den: bigint);
   readonly num: bigint;
@@ -199,7 +201,8 @@ export declare class Squitter {
 }
 
 /** The settings of a log or a tracker. `window` is in milliseconds (WINDOW by default). `limit` is the most aircraft at
- * once (1000 by default; above 2^20 throws a RangeError). `site` is the receiver position, which surface pairs need. */
+ * once (1000 by default; below 0 or above 2^20 throws a RangeError). `site` is the receiver position, which surface
+ * pairs need. */
 export interface Settings {
   window?: Whole;
   limit?: Whole;
@@ -326,7 +329,8 @@ export interface Counts {
   readonly damaged: bigint;
   /** Squitters that were set aside because of their time. */
   readonly aside: bigint;
-  /** Frames of each downlink format other than 17; the last number counts formats 24 and above. */
+  /** Frames of each downlink format other than 17; the last number counts formats 24 and above. With `allFormats` these
+   * frames count as `written`. */
   readonly formats: bigint[];
 }
 

@@ -11,8 +11,9 @@
  * results in memory, as squitter.h does; the library computes them. Names are those of the Python module.
  *
  * DEGREES go in as a fraction {num, den} of two BigInts, a BigInt, a number or a text such as "52.25". A number counts as
- * its shortest text: 52.31 is 5231/100. They come out as an Angle: nothing is rounded. A FRAME is 14 bytes or its text
- * of 28 hexadecimal digits, bare or between * and ;. A call without a result throws a Fault: the first error in the
+ * its shortest text: 52.31 is 5231/100. At most 12 decimals are valid, and computed numbers often have more: pass
+ * degrees.toFixed(12). They come out as an Angle: nothing is rounded. A FRAME is 14 bytes or its text of 28
+ * hexadecimal digits, bare or between * and ;. A call without a result throws a Fault: the first error in the
  * order of squitter.h. A whole number that does not fit its field in C throws the fault of that field. Any other value
  * in place of a whole number throws a TypeError. */
 
@@ -54,7 +55,7 @@ export class Squitter {
 
   /** Throws BAD_POSITION for an invalid position, whatever the frame. */
   #look(near) {
-    if (!near) return;
+    if (near === null) return;
     const { firstAt, placeAt, outAt } = this.memory;
     this.memory.putBytes(firstAt, new Uint8Array(FRAME_BYTES));
     this.memory.putPosition(placeAt, near);
@@ -135,11 +136,11 @@ export class Squitter {
    * OTHER_KIND, SAME_PARITY, NO_SITE, OUT_OF_RANGE, ZONE_COUNTS. */
   pair(older, newer, site = null) {
     const { firstAt, secondAt, placeAt, outAt } = this.memory;
-    if (site) this.memory.putPosition(placeAt, site);
+    if (site !== null) this.memory.putPosition(placeAt, site);
     const [first, second] = this.#twoFrames(older, newer, site);
     this.memory.putBytes(firstAt, first);
     this.memory.putBytes(secondAt, second);
-    if (site) this.#ask("pair_at", BigInt(firstAt), BigInt(secondAt), BigInt(placeAt), BigInt(outAt));
+    if (site !== null) this.#ask("pair_at", BigInt(firstAt), BigInt(secondAt), BigInt(placeAt), BigInt(outAt));
     else this.#ask("pair", BigInt(firstAt), BigInt(secondAt), BigInt(outAt));
     return this.#positionAt(outAt);
   }
@@ -267,6 +268,8 @@ export async function load(source) {
     if (!given.ok) throw new Error(`the module cannot be loaded: ${given.status}`);
     given = await given.arrayBuffer();
   }
+  // Node 20 refuses a DataView.
+  if (ArrayBuffer.isView(given)) given = new Uint8Array(given.buffer, given.byteOffset, given.byteLength);
   const made = await instantiated(given);
   return new Squitter(made instanceof WebAssembly.Instance ? made : made.instance);
 }

@@ -27,10 +27,9 @@ export class Feed {
     this.#library = library;
     this.#lent = new Lent(this, library, "feed", Number(memory.exports.squitter_feed_size()),
       (slot, block) => ask(library, "feed_new", slot, block, number, longest, latest, flags));
-    this.#lent.rooms = {
-      done: memory.claim(BYTES.done), piece: memory.claim(PIECE_BYTES), moments: memory.claim(8 * SQUITTERS_AT_ONCE),
-      out: memory.claim(LINES_ROOM),
-    };
+    this.#lent.claimRooms({
+      done: BYTES.done, piece: PIECE_BYTES, moments: 8 * SQUITTERS_AT_ONCE, out: LINES_ROOM,
+    });
   }
 
   /** Returns the squitters in this piece: their timestamps (`moments`), and their `frames`, 14 bytes each, one after
@@ -82,7 +81,8 @@ export class Feed {
   }
 
   /** The counts of the items so far: `found` is the sum of all others. `formats` counts the frames of each downlink
-   * format other than 17; its last number counts formats 24 and above. Fault: NO_TRACKER. */
+   * format other than 17; its last number counts formats 24 and above. With `allFormats` these frames count as
+   * `written`. Fault: NO_TRACKER. */
   get counts() {
     const { memory } = this.#library, { outAt } = memory;
     ask(this.#library, "feed_counts", this.#lent.slot, BigInt(outAt));

@@ -37,19 +37,30 @@ export class Memory {
     if (lack > 0) this.grow(Math.ceil(lack / PAGE_BYTES));
   }
 
-  /** Returns a block of at least `count` bytes, aligned to 16: the smallest free one that fits, or a new one. */
+  /** Returns a block of at least `count` bytes, aligned to 16: the front of the smallest free one that fits, or a new
+   * one. Throws a RangeError if the memory cannot grow; nothing is claimed then. */
   claim(count) {
-    const fitting = this.free.filter((block) => block.count >= count).sort((one, other) => one.count - other.count);
-    if (fitting.length) return this.free.splice(this.free.indexOf(fitting[0]), 1)[0];
-    const block = { at: this.end, count: (count + 15) & ~15 };
-    this.end += block.count;
-    this.reach(block.at, block.count);
+    const size = 16 * Math.ceil(count / 16);
+    const [fitting] = this.free.filter((block) => block.count >= size).sort((one, other) => one.count - other.count);
+    const block = { at: fitting ? fitting.at : this.end, count: size };
+    if (!fitting) {
+      this.reach(block.at, size);
+      this.end += size;
+    } else {
+      this.free.splice(this.free.indexOf(fitting), 1);
+      if (fitting.count > size) this.free.push({ at: fitting.at + size, count: fitting.count - size });
+    }
     return block;
   }
 
-  /** Makes a block free for later claims. */
+  /** Makes a block free for later claims. It is joined with its free neighbours, so that a larger claim fits too. */
   release(block) {
-    this.free.push(block);
+    const touches = ({ at, count }) => at + count === block.at || at === block.at + block.count;
+    const joined = [block, ...this.free.filter(touches)].sort((one, other) => one.at - other.at);
+    const at = joined[0].at, count = joined.reduce((sum, part) => sum + part.count, 0);
+    this.free = this.free.filter((other) => !joined.includes(other));
+    if (at + count === this.end) this.end = at;
+    else this.free.push({ at, count });
   }
 
   view() {
@@ -174,6 +185,17 @@ export class Lent {
     writeBlock(memory.view(), memory.outAt, { size: BigInt(size), memory: this.slot + 16n });
     try {
       make(this.slot, BigInt(memory.outAt));
+    } catch (error) {
+      this.close();
+      throw error;
+    }
+  }
+
+  /** Claims a block for each of these sizes as `rooms`. If the memory cannot grow, frees all memory of the owner, and
+   * throws a RangeError. */
+  claimRooms(sizes) {
+    try {
+      for (const [name, size] of Object.entries(sizes)) this.rooms[name] = this.library.memory.claim(size);
     } catch (error) {
       this.close();
       throw error;

@@ -21,9 +21,8 @@ export class Order {
     this.#library = library;
     this.#lent = new Lent(this, library, "order", Number(memory.exports.squitter_order_size()),
       (slot, block) => ask(library, "order_new", slot, block, delay));
-    const [came, data, moments, frames] = [8, FRAME_BYTES, 8, FRAME_BYTES].map((size) =>
-      memory.claim(size * SORTED_AT_ONCE));
-    this.#lent.rooms = { done: memory.claim(BYTES.done), came, data, moments, frames };
+    const moments = 8 * SORTED_AT_ONCE, frames = FRAME_BYTES * SORTED_AT_ONCE;
+    this.#lent.claimRooms({ done: BYTES.done, came: moments, data: frames, moments, frames });
   }
 
   /** Takes squitters: their timestamps (ms), and their frames, 14 bytes each, one after the other. Returns those that

@@ -5,15 +5,15 @@ import {
   writeLast,
 } from "./squitter_layout.js";
 import { Lent, PIECE_BYTES, ask, bytesOf, heardAt } from "./squitter_memory.js";
-import { WINDOW, whole, moment } from "./squitter_values.js";
+import { WINDOW, fitted, moment, whole } from "./squitter_values.js";
 
-/** The most addresses of a log or a tracker: some 800 megabytes. */
+/** The most addresses of a log or a tracker: 755 megabytes. */
 const MOST_ADDRESSES = 1 << 20;
 
 /** Returns the settings of a log or a tracker, with the defaults. */
 function settingsOf({ window = WINDOW, limit = 1000, site = null }) {
   const number = Number(whole(limit));
-  if (number < 0 || number > MOST_ADDRESSES) throw new RangeError(`a limit is at most ${MOST_ADDRESSES}`);
+  if (number < 0 || number > MOST_ADDRESSES) throw new RangeError(`a limit is from 1 to ${MOST_ADDRESSES}`);
   return { window: moment(window), limit: number, site };
 }
 
@@ -21,7 +21,7 @@ function settingsOf({ window = WINDOW, limit = 1000, site = null }) {
 function listenerOf(owner, library, name, settings) {
   const { memory } = library, { window, limit, site } = settingsOf(settings);
   // Reading the degrees of a text overwrites `outAt`, where the block is passed, so that comes first.
-  const here = site && memory.exactPosition(site);
+  const here = site === null ? null : memory.exactPosition(site);
   return new Lent(owner, library, name, Number(memory.exports[`squitter_${name}_size`](limit)), (slot, block) => {
     if (here) memory.putPosition(memory.placeAt, here);
     const words = [slot, block, limit, window, ...(here ? [BigInt(memory.placeAt)] : [])];
@@ -104,15 +104,14 @@ export class Log {
   #columnRoom;
 
   /** Creates a log without lines. `window` is in milliseconds, WINDOW by default. `limit` is the most aircraft at once.
-   * `site` is the receiver position, which surface pairs need. Throws a RangeError for a limit above 2^20.
+   * `site` is the receiver position, which surface pairs need. Throws a RangeError for a limit below 0 or above 2^20.
    * Faults: BAD_POSITION (the site), NO_LIMIT. */
   constructor(library, settings = {}) {
     this.#library = library;
     this.#listener = listenerOf(this, library, "log", settings);
-    this.#listener.rooms = {
-      done: library.memory.claim(BYTES.done), piece: library.memory.claim(PIECE_BYTES),
-      out: library.memory.claim(Math.max(TEXT_ROOM, ANSWERS_AT_ONCE * ANSWER_BYTES)),
-    };
+    this.#listener.claimRooms({
+      done: BYTES.done, piece: PIECE_BYTES, out: Math.max(TEXT_ROOM, ANSWERS_AT_ONCE * ANSWER_BYTES),
+    });
   }
 
   /** Returns the results of the lines that end in this piece, as columns: `numbers` of the lines, `moments` (ms),
@@ -131,18 +130,20 @@ export class Log {
 
   /** Returns the results of the lines that end in this piece, as text. Faults: NO_TRACKER, BAD_FORMAT. */
   takeText(piece, format = Format.LINES) {
-    return this.#text((hear) => this.#pieces(piece, (at, count) => hear("log_take_text", format, at, count)));
+    const number = fitted(format, 32);
+    return this.#text((hear) => this.#pieces(piece, (at, count) => hear("log_take_text", number, at, count)));
   }
 
   /** Returns the result of the last line if it has no line feed, as text. Faults: NO_TRACKER, BAD_FORMAT. */
   finishText(format = Format.LINES) {
-    return this.#text((hear) => hear("log_finish_text", format));
+    const number = fitted(format, 32);
+    return this.#text((hear) => hear("log_finish_text", number));
   }
 
   /** Returns the header of a format: the line with the column names; empty for a format without one. */
   header(format = Format.LINES) {
     const { exports, outAt } = this.#library.memory;
-    exports.squitter_log_header(format, BigInt(outAt));
+    exports.squitter_log_header(fitted(format, 32), BigInt(outAt));
     return this.#library.memory.getText(outAt, HEADER_BYTES);
   }
 
@@ -163,11 +164,13 @@ export class Log {
   #pieces(piece, hear) {
     const bytes = typeof piece === "string" ? new TextEncoder().encode(piece) : bytesOf(piece);
     if (!this.#listener.rooms.piece) return hear(this.#library.memory.zerosAt, 0);
-    for (let from = 0; from < bytes.length; from += PIECE_BYTES) {
+    let from = 0;
+    do {
       const part = bytes.subarray(from, from + PIECE_BYTES);
       this.#library.memory.putBytes(this.#listener.rooms.piece.at, part);
       hear(this.#listener.rooms.piece.at, part.length);
-    }
+      from += PIECE_BYTES;
+    } while (from < bytes.length);
   }
 
   /** Repeats a call until all of its bytes are taken and it leaves room in its output. */
@@ -219,7 +222,7 @@ export class Tracker {
   #settings;
 
   /** Creates an empty tracker. `window` is in milliseconds, WINDOW by default. `limit` is the most aircraft at once.
-   * `site` is the receiver position, which surface pairs need. Throws a RangeError for a limit above 2^20.
+   * `site` is the receiver position, which surface pairs need. Throws a RangeError for a limit below 0 or above 2^20.
    * Faults: BAD_POSITION (the site), NO_LIMIT. */
   constructor(library, settings = {}) {
     this.#library = library;
@@ -245,8 +248,10 @@ export class Tracker {
   /** Returns the aircraft at an index, the longest silent first, and the timestamp of its latest position.
    * Faults: NO_TRACKER, NO_ADDRESS. */
   present(index) {
-    const { outAt } = this.#library.memory;
-    ask(this.#library, "tracker_get", this.#listener.slot, whole(index), BigInt(outAt));
+    const { outAt } = this.#library.memory, number = whole(index);
+    // No tracker has as many aircraft as the largest index, so that one stands for all that do not fit.
+    const at = BigInt.asUintN(64, number) === number ? number : (1n << 64n) - 1n;
+    ask(this.#library, "tracker_get", this.#listener.slot, at, BigInt(outAt));
     const { address, moment: newest } = readPresent(this.#library.memory.view(), outAt);
     return { address, moment: newest };
   }

@@ -219,7 +219,7 @@ const DEGREES = [
   [52.31, 5231n, 100n], [-0.5, -1n, 2n], [-0, 0n, 1n], [1e-7, 1n, 10_000_000n], [-2.5e-12, -1n, 400_000_000_000n],
   [123.456789012345, 24691357802469n, 200_000_000_000n], ["52.25", 209n, 4n], ["-33.9", -339n, 10n], [90, 90n, 1n],
   [-180n, -180n, 1n], [9007199254740992, 2n ** 53n, 1n], [1e21, 0n, 0n], [1.5e300, 0n, 0n],
-  [{ num: 2n, den: 4 }, 2n, 4n],
+  [{ num: 2n, den: 4 }, 2n, 4n], [(0.1 + 0.2).toFixed(12), 3n, 10n], [(-1e-13).toFixed(12), 0n, 1n],
 ];
 
 /** Calls, each with the words of its error. */
@@ -231,7 +231,7 @@ const HINTS = [
   [() => library.encode(head({ ca: 1.5 }), zero), "a whole number is wanted, not 1.5"],
   [() => tracker.hear(1n << 64n, FRAME), "a moment is a whole number below 2^64"],
   [() => library.read(new Uint8Array(15)), "a frame has 14 bytes"],
-  [() => new Tracker(library, { limit: 2 ** 20 + 1 }), "a limit is at most 1048576"],
+  [() => new Tracker(library, { limit: 2 ** 20 + 1 }), "a limit is from 1 to 1048576"],
   [() => tracker.restore({ last: 5n, entries: new Uint8Array(193) }), "an entry has 192 bytes"],
   [() => library.zoneCount(undefined),
     'degrees are {num, den}, a BigInt, a number or a text such as "52.25", not undefined'],
@@ -328,9 +328,9 @@ function usedAgain() {
   if (after > before + 2 ** 20) throw new Error(`memory grew from ${before} to ${after}`);
 }
 
+const used = () => library.memory.free.reduce((rest, { count }) => rest - count, library.memory.end);
 /** Returns the growth of the memory in use, in bytes, while a call is repeated. */
 function grownBy(call) {
-  const { memory } = library, used = () => memory.free.reduce((rest, { count }) => rest - count, memory.end);
   call();
   const before = used();
   for (let turn = 0; turn < 20; turn++) call();
@@ -349,7 +349,7 @@ function statesInMemory() {
   const odd = library.memory.claim(100_000_003), next = library.memory.claim(100_000_004);
   if (odd.at % 16 || next.at % 16) throw new Error("a block is not aligned");
   for (const block of [odd, next]) library.memory.release(block);
-  if (library.memory.claim(odd.count) !== odd) throw new Error("a block that just fits is not used again");
+  if (library.memory.claim(odd.count).at !== odd.at) throw new Error("a block that just fits is not used again");
   library.memory.release(odd);
   // Each is asked after a tracker that has heard something, so that its memory is not blank.
   for (const other of [new Tracker(library), closed]) {
@@ -374,13 +374,11 @@ async function longTexts() {
 /** Tests that trackers free their blocks once they are garbage. */
 async function collected() {
   setFlagsFromString("--expose-gc");
-  const collect = runInNewContext("gc"), { memory } = library, count = memory.free.length;
+  const collect = runInNewContext("gc"), size = Number(library.memory.exports.squitter_tracker_size(100_000));
   for (let number = 0; number < 10; number++) new Tracker(library, { limit: 100_000 + number });
-  for (let turn = 0; turn < 100 && memory.free.length < count + 5; turn++) {
-    collect();
-    await waited(10);
-  }
-  if (memory.free.length < count + 5) throw new Error(`${memory.free.length - count} of 10 trackers are freed`);
+  const full = used(), freed = () => (full - used()) / size;
+  for (let turn = 0; turn < 100 && freed() < 5; turn++) await waited(10, collect());
+  if (freed() < 5) throw new Error(`${freed()} of 10 trackers are freed`);
 }
 
 /** Tests that a copy has the window, the limit and the site of the original. Tests that a contact's `newest` is the

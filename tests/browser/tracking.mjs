@@ -2,10 +2,12 @@
  * its text. Prints how many tests passed. */
 import { readFileSync } from "node:fs";
 import {
-  load, AirHead, Code, Contact, Fault, Feed, Format, GroundHead, Log, Tracker, What,
+  load, AirHead, Code, Contact, Fault, Feed, Format, GroundHead, Log, Order, Tracker, What,
 } from "../../web/squitter.js";
 
-const library = await load(readFileSync(new URL("../../dist/squitter.wasm", import.meta.url)));
+const MODULE = readFileSync(new URL("../../dist/squitter.wasm", import.meta.url));
+const VIEW = new DataView(MODULE.buffer, MODULE.byteOffset, MODULE.byteLength);
+const library = await load(MODULE), blank = await load(VIEW);
 const FLIGHTS = readFileSync(new URL("../../examples/flights.log", import.meta.url));
 const WORKED = readFileSync(new URL("../worked/track.txt", import.meta.url), "utf8");
 const FRAME = "8D40621D58C382D690C8AC2863A7", HERE = { lat: 52.31, lon: 4.76 };
@@ -156,6 +158,7 @@ function sharedMemory() {
   memory.claim(end - memory.end);
   const next = memory.claim(16);
   same([next.at, memory.bytesAt(next.at, 16).length], [end, 16], "a block behind the memory");
+  same(memory.exports.memory.buffer.byteLength, end + 65_536, "a memory that grows by one page");
   for (const [name, kind] of [["tracker", Tracker], ["log", Log]]) {
     const used = memory.claim(16 + Number(memory.exports[`squitter_${name}_size`](1000)));
     memory.bytesAt(used.at, used.count).fill(255);
@@ -194,7 +197,147 @@ function firstMoment() {
   }
 }
 
+/** Memory that is free again fits what comes later: the states of a tracker that grows, and large trackers between logs
+ * that stay open. */
+function memoryUsedAgain() {
+  const { memory } = blank, tracker = new Tracker(blank), before = memory.end;
+  for (let address = 1; address <= 1000; address++) {
+    tracker.hear(5, frameOf(address));
+    tracker.save();
+  }
+  // The largest state has 192 bytes for each of 1000 aircraft, and 16 more.
+  same(memory.end - before <= 192_016, true, "states of up to 1000 aircraft");
+  const large = 16 + Number(memory.exports.squitter_tracker_size(100_000)), logs = [new Log(blank)];
+  for (let round = 0; round < 3; round++) {
+    new Tracker(blank, { limit: 100_000 }).close();
+    logs.push(new Log(blank, { limit: 1 }));
+  }
+  same(memory.end - before < 2 * large, true, "three large trackers, one after the other");
+  const [one, other, third] = [4096, 8192, 16].map((count) => memory.claim(count));
+  for (const block of [one, other]) memory.release(block);
+  const whole = memory.claim(12_288), front = [third.at, whole.at, other.at].join();
+  same(whole.at, one.at, `two neighbours, of ${front},`);
+  for (const block of [third, whole]) memory.release(block);
+  const [wide, gap, narrow, after, kept] = [96, 16, 48, 16, 16].map((count) => memory.claim(count));
+  for (const block of [wide, narrow]) memory.release(block);
+  const [first, second] = [32, 96].map((count) => memory.claim(count));
+  same([first.at, second.at], [narrow.at, wide.at], "the smallest free block that fits");
+  same(memory.free.map(({ at, count }) => [at, count]), [[narrow.at + 32, 16]], "what is left of it");
+  for (const block of [first, gap, second, after, kept]) memory.release(block);
+  for (const log of logs) log.close();
+  tracker.close();
+  same(memory.free.length <= 1, true, "all memory");
+}
+
+/** A claim that the memory has no room for is a RangeError, and leaves all as it was. */
+function memoryExhausted() {
+  const { memory } = blank, end = memory.end;
+  const refused = (count) => {
+    try {
+      memory.claim(count);
+    } catch (error) {
+      return error instanceof RangeError;
+    }
+    return false;
+  };
+  for (const count of [2 ** 36, 2 ** 40, 2 ** 45]) same([refused(count), memory.end], [true, end], `${count} bytes`);
+  const pages = memory.exports.memory.buffer.byteLength - end + 16;
+  memory.grow = () => { throw new RangeError("no more pages"); };
+  same([refused(pages), memory.end], [true, end], "memory that cannot grow");
+  delete memory.grow;
+  const next = memory.claim(pages);
+  same([next.at, memory.end], [end, end + next.count], "the next claim");
+  memory.release(next);
+}
+
+/** A log, a feed or an order that the memory has no room for is a RangeError, and all that it has claimed is free
+ * again. */
+function roomsExhausted() {
+  const { memory } = blank, size = (name) => Number(memory.exports[`squitter_${name}_size`](1));
+  const kinds = [["log", () => new Log(blank, { limit: 1 })], ["feed", () => new Feed(blank)],
+    ["order", () => new Order(blank, 5)]];
+  for (const [name, make] of kinds) {
+    const whole = memory.end, rooms = [];
+    // The block of the object itself has room, and more and more blocks besides.
+    for (let spare = 0; !rooms.at(-1); spare += 1 << 14) {
+      const left = memory.exports.memory.buffer.byteLength - memory.end, wanted = size(name) + 64 + spare;
+      const rest = memory.claim(Math.max(left, wanted)), at = memory.end;
+      memory.release(rest);
+      const kept = memory.claim(at - memory.end - wanted);
+      memory.grow = () => { throw new RangeError("no more pages"); };
+      try {
+        make().close();
+        rooms.push(true);
+      } catch (error) {
+        same(error instanceof RangeError, true, `${name} with ${spare} bytes`);
+        rooms.push(false);
+      }
+      delete memory.grow;
+      same([memory.end, memory.free.length], [kept.at + kept.count, 0], `${name} with ${spare} bytes`);
+      memory.release(kept);
+    }
+    same([memory.end, rooms.length > 2], [whole, true], `${name} after ${rooms.length} attempts`);
+  }
+}
+
+/** A format, an index or a site of a wrong kind is refused, and not taken for another one. */
+function otherKinds() {
+  const log = new Log(library), tracker = new Tracker(library), line = `5 ${FRAME}\n`;
+  const isTypeError = (call) => {
+    try {
+      call();
+    } catch (error) {
+      return error instanceof TypeError;
+    }
+    return false;
+  };
+  for (const format of ["csv", "1", 1.5, true, null, {}]) {
+    for (const call of [() => log.takeText(line, format), () => log.finishText(format), () => log.header(format)])
+      same(isTypeError(call), true, `${call} with ${JSON.stringify(format)}`);
+  }
+  for (const format of [3, -1, 2 ** 32, 2 ** 32 + 1, 2n ** 64n + 1n]) {
+    for (const call of [() => log.takeText(line, format), () => log.takeText("", format), () => log.finishText(format)])
+      same(codeOf(call), Code.BAD_FORMAT, `${call} with ${format}`);
+    same(log.header(format), "", `the header of ${format}`);
+  }
+  same(log.takeText(line, 1n), "1,5,waiting,40621D,air,,,38000\n", "a BigInt");
+  tracker.hear(5, FRAME);
+  for (const index of [1, -1, 2n ** 64n - 1n, 2n ** 64n, -(2n ** 64n), 2n ** 70n])
+    same(codeOf(() => tracker.present(index)), Code.NO_ADDRESS, `the index ${index}`);
+  for (const site of [0, "", false, NaN]) {
+    for (const call of [() => library.pair(FRAME, FRAME, site), () => new Log(library, { site }),
+      () => new Tracker(library, { site }), () => new Contact(library, 5, site)])
+      same(isTypeError(call), true, `${call} with the site ${JSON.stringify(site)}`);
+  }
+}
+
+/** The largest limit claims memory; a state that is cut within an entry is refused. */
+function edges() {
+  const tracker = new Tracker(library);
+  blank.memory.claim = () => { throw new Error("claims"); };
+  for (const kind of [Log, Tracker]) {
+    let told = "";
+    try {
+      new kind(blank, { limit: 2 ** 20 });
+    } catch (error) {
+      told = error.message;
+    }
+    same(told, "claims", "the largest limit");
+  }
+  delete blank.memory.claim;
+  for (const count of [1, 96, 190, 194]) {
+    let told = "";
+    try {
+      tracker.restore({ last: null, entries: new Uint8Array(count) });
+    } catch (error) {
+      told = `${error.name}: ${error.message}`;
+    }
+    same(told, "RangeError: an entry has 192 bytes", `entries of ${count} bytes`);
+  }
+}
+
 const tests = [limits, largeNumbers, columnsBesideText, longAnswers, sitesOfTheirOwn, sitesOfTexts,
-  ownBytes, sharedMemory, usualLeap, firstMoment];
+  ownBytes, sharedMemory, usualLeap, firstMoment, memoryUsedAgain, memoryExhausted, roomsExhausted,
+  otherKinds, edges];
 for (const test of tests) test();
 console.log(`${tests.length} tests of trackers and logs`);
