@@ -78,7 +78,8 @@ class LogPanel {
     try {
       settings = this.settings(options.where);
     } catch (error) {
-      return this.say(`Refused: ${error.message}`);
+      this.say(`Refused: ${error.message}`);
+      return this.able();
     }
     this.answers = new LogAnswers(this.library);
     this.setFilter();
@@ -101,7 +102,7 @@ class LogPanel {
   }
 
   /** Handles a message of the worker. */
-  told({ answers, done, finished, failed, feed }) {
+  told({ answers, done, finished, failed, feed, kind }) {
     if (answers) {
       const first = !this.answers.count;
       this.answers.add(answers);
@@ -113,16 +114,17 @@ class LogPanel {
       byId("log-progress").value = done;
       this.say(`Decoding ${this.name}: ${this.answers.count} results.`);
     }
-    if (finished) this.end("decoded", feed);
+    if (finished) this.end("decoded", feed, kind);
     if (failed) this.end(`not decoded to its end (${failed})`);
   }
 
-  /** Ends the log, at its end or because it was left. `feed` has the counts of a receiver's file. */
-  end(how, feed = null) {
+  /** Ends the log, at its end or because it was left. `feed` has the counts of a receiver's file, and `kind` says what
+   * a file of another kind is. */
+  end(how, feed = null, kind = "") {
     this.stop();
     this.seconds = (performance.now() - this.started) / 1000;
     if (how === "decoded") byId("log-progress").value = 1;
-    this.say(this.summary(how, feed));
+    this.say(this.summary(how, feed, kind));
     this.showRows();
     this.nameTracks();
     if (!this.map.moved) this.map.fit(this.tracks.all.has(this.selected) ? this.selected : this.map.address);
@@ -131,17 +133,22 @@ class LogPanel {
   }
 
   /** Returns what the page says of a log that has ended. */
-  summary(how, feed) {
+  summary(how, feed, kind = "") {
     const { count, places, refused, withoutSite, withoutTime } = this.answers;
-    const lines = count === 1 ? "1 line" : `${count} lines`;
-    const parts = [`${this.name}: ${how}. ${lines}, ${places} positions, ${refused} refused, ` +
+    const some = (number, what) => `${number} ${what}${Number(number) === 1 ? "" : "s"}`;
+    const parts = [`${this.name}: ${how}. ${some(count, "line")}, ${some(places, "position")}, ${refused} refused, ` +
       `in ${this.seconds.toFixed(1)} s.`];
-    if (feed) parts.push(`The file has ${feed.found} frames: ${feed.written} squitters, ${feed.damaged} damaged.`);
+    if (feed) {
+      const { found, written, damaged } = feed;
+      parts.push(`The file has ${some(found, "frame")}: ${some(written, "squitter")}, ${damaged} damaged.`);
+    }
     if (withoutSite) {
       const what = withoutSite === 1 ? "1 frame from the ground has" : `${withoutSite} frames from the ground have`;
       parts.push(`${what} no position: type the position of your receiver.`);
     }
-    if (withoutTime && withoutTime === count) {
+    if (kind && refused === count) {
+      parts.push(kind);
+    } else if (withoutTime && withoutTime === count) {
       parts.push("No line has a timestamp. Put a time in milliseconds and a space before each frame.");
     }
     return parts.join(" ");
@@ -287,10 +294,10 @@ class LogPanel {
       });
     }
     document.addEventListener("drop", (event) => {
-      const [file] = event.dataTransfer?.files ?? [];
+      const files = event.dataTransfer?.files ?? [], [file] = files;
       if (!file) return;
       byId("tab-log").click();
-      this.hear(file, file.name);
+      this.hear(file, files.length > 1 ? `${file.name}, the first of ${files.length} files` : file.name);
     });
   }
 

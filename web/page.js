@@ -106,10 +106,15 @@ function startTabs() {
     const next = { ArrowRight: index + 1, ArrowLeft: index - 1 + tabs.length, Home: 0, End: tabs.length - 1 };
     tab.addEventListener("click", () => choose(tab, false));
     tab.addEventListener("keydown", (event) => {
-      if (event.key in next) choose(tabs[next[event.key] % tabs.length], true);
+      if (!(event.key in next) || event.ctrlKey || event.metaKey || event.altKey) return;
+      choose(tabs[next[event.key] % tabs.length], true);
+      event.preventDefault(); // Home and End would also scroll the page
     });
   });
-  choose(tabs.find((tab) => `#${tab.id.slice(4)}` === location.hash) ?? tabs[0], false);
+  const named = () => tabs.find((tab) => `#${tab.id.slice(4)}` === location.hash);
+  choose(named() ?? tabs[0], false);
+  // A link or the address bar may name another tab.
+  addEventListener("hashchange", () => named() && choose(named(), false));
 }
 
 /** Hides the panels, and says why. */

@@ -95,7 +95,7 @@ class SpotMap {
     for (const name of ["pointerup", "pointercancel"]) picture.addEventListener(name, () => { this.isHeld = false; });
     picture.addEventListener("keydown", (event) => {
       const moves = { ArrowLeft: [-1, 0], ArrowRight: [1, 0], ArrowUp: [0, 1], ArrowDown: [0, -1] };
-      if (!(event.key in moves)) return;
+      if (!(event.key in moves) || event.ctrlKey || event.metaKey || event.altKey) return;
       const step = this.span / (event.shiftKey ? 18 : 180), [east, north] = moves[event.key];
       this.put(this.place.lon + east * step, this.place.lat + north * step);
       event.preventDefault();

@@ -312,13 +312,14 @@ SETTING_ROWS: Rows = (
 SUMMARY = """const told = (answers, feed) => { Object.assign(squitterLog, { name: "a.log", seconds: 1.25,
   answers: { count: 2, places: 1, refused: 1, withoutSite: 0, withoutTime: 0, ...answers } });
   return squitterLog.summary("decoded", feed); }"""
-SUMMED = "a.log: decoded. 2 lines, 1 positions, 1 refused, in 1.3 s."
+SUMMED = "a.log: decoded. 2 lines, 1 position, 1 refused, in 1.3 s."
 
 SUMMARY_ROWS: Rows = (
     ("told({})", SUMMED),
     ("told({ count: 1 })", SUMMED.replace("2 lines", "1 line")),
     ("told({ count: 0, places: 3, refused: 4 })", "a.log: decoded. 0 lines, 3 positions, 4 refused, in 1.3 s."),
     ("told({}, { found: 9n, written: 7n, damaged: 2n })", f"{SUMMED} The file has 9 frames: 7 squitters, 2 damaged."),
+    ("told({}, { found: 1n, written: 1n, damaged: 0n })", f"{SUMMED} The file has 1 frame: 1 squitter, 0 damaged."),
     ("told({ withoutSite: 1 })",
      f"{SUMMED} 1 frame from the ground has no position: type the position of your receiver."),
     ("told({ withoutSite: 2 })",
@@ -500,6 +501,12 @@ def left_alone(browser: Chromium, tries: Tries) -> None:
                      "})()")
     heard(browser)
     expect(browser.evaluate("squitterLog.name === 'two.log' && !byId('panel-log').hidden"), "a file dropped elsewhere")
+    browser.evaluate("(() => { const dataTransfer = new DataTransfer(); for (const name of ['a', 'b', 'c']) "
+                     "dataTransfer.items.add(new File(['1 x\\n'], name)); document.body.dispatchEvent("
+                     "new DragEvent('drop', { dataTransfer, bubbles: true, cancelable: true })) })()")
+    heard(browser)
+    state = shown(browser, "#log-state")
+    expect(state.startswith("a, the first of 3 files: decoded. 1 line, 0 positions, 1 refused"), state)
     browser.evaluate("(() => { squitterLog.name = ''; byId('log-paste').value = '  '; byId('log-paste').dispatchEvent("
                      "new Event('change')) })()")
     expect(browser.evaluate("squitterLog.name") == "", "spaces are decoded")
@@ -555,6 +562,12 @@ def tabs(tries: Tries) -> str:
     browser.evaluate("document.activeElement.blur()")
     clicked(browser, "#tab-place")
     is_open(1, "a click")
+    for go, index in (("location.hash = 'log'", 3), ("location.hash = 'frame'", 0), ("history.back()", 3),
+                      ("history.back()", 1), ("location.hash = 'place'; location.hash = 'send'", 2)):
+        browser.evaluate("new Promise((done) => { addEventListener('hashchange', () => setTimeout(done), "
+                         f"{{ once: true }}); {go}; }})")
+        is_open(index, go)
+    clicked(browser, "#tab-place")
     expect(browser.evaluate("document.activeElement === document.body"), "a click moves the focus")
     submitted = browser.evaluate("['frame-form', 'place-form', 'send-form', 'log-form', 'filter-form'].map((id) => { "
                                  "const "

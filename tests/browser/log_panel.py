@@ -10,7 +10,7 @@ import time
 
 from chromium import Chromium
 from logs import USUAL, damaged, flights, hostile_logs, of_address, tracked
-from trying import AIR_EVEN, SITE, Tries, bytes_of, expect, first_difference
+from trying import AIR_EVEN, AIR_ODD, SITE, Tries, bytes_of, expect, first_difference
 from using import clicked, given_log, heard, pressed, shown, silent, typed
 
 
@@ -89,8 +89,23 @@ def logs_in_browser(tries: Tries) -> str:
         typed(browser, **{field: bad})
         browser.evaluate(DROP)
         expect(shown(browser, "#log-state").startswith("Refused: "), field, shown(browser, "#log-state"))
+    # a setting that is refused ends the log that is being decoded, and then there is nothing to cancel
+    typed(browser, log_window="10000", log_limit="1000", log_lat="", log_lon="")
+    buttons = browser.evaluate(REFUSED_MEANWHILE)
+    expect(buttons == [False, True, True], "nothing to cancel:", buttons)
     silent(browser)
     return f"{count} logs, and one dropped"
+
+
+# Whether Cancel is disabled while a log is decoded and after a wrong limit, and whether the worker is gone then.
+REFUSED_MEANWHILE = """(() => {
+  const cancel = byId("log-cancel"), limit = byId("log-limit");
+  squitterLog.hear(exampleLog(), "example");
+  const told = [cancel.disabled];
+  limit.value = "x";
+  limit.dispatchEvent(new Event("change", { bubbles: true }));
+  return [...told, cancel.disabled, squitterLog.worker === null];
+})()"""
 
 
 def receiver_files(tries: Tries) -> str:
@@ -121,27 +136,70 @@ def receiver_files(tries: Tries) -> str:
     given_file(browser, f"{path}.raw", untimed)
     got, state = heard(browser), shown(browser, "#log-state")
     expect(got == tracked(tries.program, untimed, settings) and "The file has" not in state, got, state)
+    given_file(browser, f"{path}.tail", f"5 {AIR_ODD}\n405 {AIR_EVEN}".encode())
+    rows = browser.evaluate("[squitterLog.answers.count, squitterLog.answers.places]")
+    expect(rows == [2, 1], "the rows of a log whose last line has no line feed:", rows)
+    late_squitters(browser, path)
     packed_files(tries, browser, path, files["beast"], wanted)
+    strange_files(tries, browser, path)
     given_file(browser, f"{path}.zero", b"".join(map(beast, frames[:100])))
     expect("(its frames have no times)" in shown(browser, "#log-state"), shown(browser, "#log-state"))
     silent(browser)
     return f"{len(timed)} frames in {len(files)} formats"
 
 
+def late_squitters(browser: Chromium, path: str) -> None:
+    """A receiver's file is heard also if its first MiB has Mode A/C or frames of other formats alone."""
+    for name, other, count in (("beast", "5D40621D1E3A51", 70_000), ("beast", "2000", 100_000),
+                               ("avr", "5D40621D1E3A51", 40_000)):
+        timed = [*((moment, other) for moment in range(count)), (count, AIR_ODD), (count + 400, AIR_EVEN)]
+        data = (b"".join(beast(frame, 12_000 * moment) for moment, frame in timed) if name == "beast" else
+                "".join(f"@{12_000 * moment:012X}{frame};\n" for moment, frame in timed).encode())
+        expect(len(data) > 1 << 20, name, "has one piece")
+        given_file(browser, f"{path}.{count}.{name}", data)
+        got, state = heard(browser), shown(browser, "#log-state")
+        expect(got == b"1 waiting 40621D\n2 fix 40621D 52.2572021 3.9193726\n", name, got[:200], state)
+        expect(f"The file has {count + 2} frames: 2 squitters, 0 damaged." in state, state)
+
+
 def packed_files(tries: Tries, browser: Chromium, path: str, data: bytes, wanted: bytes) -> None:
-    """A file that is compressed with gzip is unpacked, and refused if it is cut; other archives are refused."""
+    """A file that is compressed with gzip is unpacked, and refused if it is cut or joined of two; other archives are
+    refused."""
     packed = gzip.compress(data)
     given_file(browser, f"{path}.gz", packed)
     expect(heard(browser) == wanted, "Beast, compressed with gzip")
     for name, archive in (("bz2", bz2.compress(data)), ("xz", lzma.compress(data)), ("zip", b"PK\3\4" + data)):
         given_file(browser, f"{path}.{name}", archive)
-        expect("only gzip is unpacked here" in shown(browser, "#log-state"), name, shown(browser, "#log-state"))
+        told = "not decoded to its end (unpack it first: only gzip is unpacked here)"
+        expect(told in shown(browser, "#log-state"), name, shown(browser, "#log-state"))
     damaged_line = b"\x1f\n" + flights()
     given_file(browser, f"{path}.log", damaged_line)
     got, settings = heard(browser), (10_000, 1000, SITE)
     expect(got == tracked(tries.program, damaged_line, settings), "a log that begins as gzip does, by one byte")
-    given_file(browser, f"{path}.cut", packed[:-9])
-    expect("not decoded to its end" in shown(browser, "#log-state"), shown(browser, "#log-state"))
+    for broken in (packed[:-9], b"\x1f\x8b" + data[:99], packed + packed):
+        given_file(browser, f"{path}.cut", broken)
+        told = "not decoded to its end (its gzip data is damaged, ends early or has several parts)"
+        expect(told in shown(browser, "#log-state"), shown(browser, "#log-state"))
+
+
+def strange_files(tries: Tries, browser: Chromium, path: str) -> None:
+    """If each line of a file of another kind is refused, the page says what it is. A log is none, though its first
+    line looks like another kind."""
+    line = f"5 {AIR_EVEN}\n"
+    rows = (("sbs", b"MSG,3,1,1,4840D6\n" * 3, "It is SBS (BaseStation) text, which has no frames."),
+            ("json", b'{"now": 1}\n', "It is JSON, which has no frames."),
+            ("utf16", line.encode("utf-16"), "It is UTF-16: save it as UTF-8."),
+            ("tar", b"a.log".ljust(257, b"\0") + b"ustar\0", "It is a tar archive: unpack it first."),
+            ("twice", gzip.compress(gzip.compress(line.encode())),
+             "It is compressed: only gzip is unpacked here, and once."))
+    for name, data, told in rows:
+        given_file(browser, f"{path}.{name}", data)
+        state, log = shown(browser, "#log-state"), gzip.decompress(data) if name == "twice" else data
+        expect(state.endswith(f" s. {told}") and heard(browser) == tracked(tries.program, log, USUAL), state)
+    for first in ("MSG,3\n", "{}\n"):
+        given_file(browser, f"{path}.{len(first)}", (first + line).encode())
+        state = shown(browser, "#log-state")
+        expect(heard(browser) == b"1 bad moment\n2 waiting 40621D\n" and " s." == state[-3:], first, state)
 
 
 def given_file(browser: Chromium, path: str, data: bytes) -> None:
@@ -153,9 +211,10 @@ def given_file(browser: Chromium, path: str, data: bytes) -> None:
 
 
 def beast(frame: str, ticks: int = 0) -> bytes:
-    """A Beast message of type 3: the clock, a signal strength and the frame, with each escape doubled."""
+    """A Beast message of type 3, of type 2 for seven bytes, or of type 1 for two: the clock, a signal strength and the
+    frame, with each escape doubled."""
     body = ticks.to_bytes(6, "big") + b"\x80" + bytes.fromhex(frame)
-    return b"\x1a3" + body.replace(b"\x1a", b"\x1a\x1a")
+    return {28: b"\x1a3", 14: b"\x1a2", 4: b"\x1a1"}[len(frame)] + body.replace(b"\x1a", b"\x1a\x1a")
 
 
 def own_site(tries: Tries) -> str:

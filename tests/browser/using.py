@@ -29,11 +29,14 @@ def shown(browser: Chromium, selector: str) -> str:
 KEYS = {"End": 35, "Home": 36, "ArrowLeft": 37, "ArrowUp": 38, "ArrowRight": 39, "ArrowDown": 40, "Enter": 13}
 
 
-def pressed(browser: Chromium, key: str) -> None:
-    """Presses a key, as a person does."""
+ALT, CONTROL, META = 1, 2, 4
+
+
+def pressed(browser: Chromium, key: str, held: int = 0) -> None:
+    """Presses a key, as a person does, while other keys are held."""
     words = {"text": key} if len(key) == 1 else {"windowsVirtualKeyCode": KEYS[key]} if key in KEYS else {}
     for kind in ("keyDown", "keyUp"):
-        browser.call("Input.dispatchKeyEvent", type=kind, key=key, code=key, **words)
+        browser.call("Input.dispatchKeyEvent", type=kind, key=key, code=key, modifiers=held, **words)
 
 
 def heard(browser: Chromium) -> bytes:

@@ -9,9 +9,10 @@ import threading
 from typing import List, Tuple
 
 import firefox
+from chromium import Chromium
 from logs import flights, tracked
 from trying import INDEX, SITE, TOP, Missing, Tries, bytes_of, expect, first_difference, read_text
-from using import clicked, heard, pressed, shown, silent
+from using import ALT, CONTROL, META, clicked, heard, pressed, shown, silent
 
 
 # Fails unless library.js and squitter.js have the same names, and the same code once comments and space are left out.
@@ -138,6 +139,7 @@ def keyboard(tries: Tries) -> str:
         )
         expect(open_panels == [f"panel-{panel}"], key, open_panels)
         count += 1
+    count += keys_of_the_browser(browser)
     clicked(browser, "#log-example")
     heard(browser)
     browser.evaluate("document.getElementById('map').focus()")
@@ -154,6 +156,63 @@ def keyboard(tries: Tries) -> str:
     expect(bare == [], "without a label:", bare)
     silent(browser)
     return f"{count} keys"
+
+
+def keys_of_the_browser(browser: Chromium) -> int:
+    """End does not also scroll the page away from the tabs. Keys of the browser, such as Alt with an arrow (back), are
+    left to it."""
+    browser.evaluate("scrollTo(0, 0); document.getElementById('tab-place').focus()")
+    pressed(browser, "End")
+    place = browser.evaluate("new Promise((done) => setTimeout(() => done([document.activeElement.id, scrollY]), 400))")
+    expect(place == ["tab-log", 0], "End:", place)
+    typed_place = "[document.activeElement.id, byId('send-lat').value, byId('send-lon').value].join()"
+    clicked(browser, "#tab-send")
+    for focus in ("byId('tab-send')", "document.querySelector('#send-map svg')"):
+        browser.evaluate(f"window.leftAlone = []; addEventListener('keydown', (one) => "
+                         f"leftAlone.push(!one.defaultPrevented), {{ once: true }}); {focus}.focus()")
+        before = browser.evaluate(typed_place)
+        for held in (CONTROL, META, ALT):
+            pressed(browser, "ArrowRight", held)
+            expect(browser.evaluate(typed_place) == before, focus, held, browser.evaluate(typed_place))
+        expect(browser.evaluate("leftAlone.join()") == "true", focus, "keeps a key of the browser")
+    clicked(browser, "#tab-log")
+    return 7
+
+
+def forced_colours(tries: Tries) -> str:
+    """With the colours of the system (forced colours), the open tab has another line than the others."""
+    browser = tries.page("place")
+    browser.call("Emulation.setEmulatedMedia", features=[{"name": "forced-colors", "value": "active"}])
+    lines = browser.evaluate("Object.fromEntries([...document.querySelectorAll('[role=tab]')].map((one) => "
+                             "[one.id.slice(4), getComputedStyle(one).borderBottomColor]))")
+    opened = lines.pop("place")
+    expect(len(lines) == 3 and len(set(lines.values())) == 1 and opened not in lines.values(), opened, lines)
+    return f"{len(lines) + 1} tabs"
+
+
+def printed(tries: Tries) -> str:
+    """On paper, tables are whole: no row or column is behind a scroll bar."""
+    browser = tries.page("log")
+    clicked(browser, "#log-example")
+    heard(browser)
+    browser.look(718, 1000, False)  # the width of A4 without its margins, in CSS pixels
+    browser.call("Emulation.setEmulatedMedia", media="print")
+    count = 0
+    try:
+        for panel in PANELS:
+            clicked(browser, f"#tab-{panel}")
+            cut = browser.evaluate(
+                f"[...document.querySelectorAll('#panel-{panel} .scroll')].map((one) => [one.ariaLabel, "
+                "one.scrollHeight - one.clientHeight, document.documentElement.scrollWidth > 718 || "
+                "one.firstElementChild.getBoundingClientRect().right > 718 ? one.scrollWidth : 0])"
+            )
+            expect(all(rest == [0, 0] for _, *rest in cut), panel, cut)
+            count += len(cut)
+    finally:
+        browser.call("Emulation.setEmulatedMedia", media="")
+    rows = browser.evaluate("document.querySelectorAll('#log-table tbody tr').length")
+    expect(rows == 100, rows, "rows")
+    return f"{count} tables"
 
 
 PANELS = ("frame", "place", "send", "log")
