@@ -2,9 +2,10 @@
 from __future__ import annotations
 
 import argparse
+import os
 import re
 import sys
-from typing import Mapping, NoReturn
+from typing import Any, Mapping, NoReturn
 
 VERSION = "0.1.0"
 REFUSED, MISUSED, FAILED = 1, 2, 3  # statuses
@@ -25,6 +26,21 @@ class Parser(argparse.ArgumentParser):
 
     def format_usage(self) -> str:
         return f"usage: {self.text.splitlines()[0]}\n"
+
+    def _print_message(self, message: str, file: Any = None) -> None:
+        """Prints a text at once. If standard output does not take the help or the version, the run ends with status 3;
+        argparse would ignore that."""
+        file = file or sys.stderr
+        try:
+            file.write(message)
+            file.flush()
+        except (AttributeError, OSError) as fault:
+            if file is sys.stderr:
+                return  # nobody is there to be told
+            drop_output()
+            if not isinstance(fault, BrokenPipeError):
+                tell(self.prog, reason(fault))
+                sys.exit(FAILED)
 
     def error(self, message: str) -> NoReturn:
         hint = next((f"; {hint}" for words, hint in self.hints.items() if re.search(rf"{words}\b", message)), "")
@@ -48,6 +64,11 @@ def tell(name: str, text: str) -> None:
         sys.stderr.flush()
     except OSError:
         pass  # nobody is there to be told
+
+
+def drop_output() -> None:
+    """Drops what standard output has not taken. Otherwise Python tries again at its exit, and reports the error."""
+    os.dup2(os.open(os.devnull, os.O_WRONLY), 1)
 
 
 def reason(fault: BaseException) -> str:

@@ -23,6 +23,7 @@ from trying import AIR_EVEN, AIR_ODD, beast, expect, same
 
 LINE = b"*%s;\n" % AIR_EVEN.encode()
 ALL = (signal.SIGTERM, signal.SIGINT, signal.SIGHUP)
+NO_TIMES = "squitter-feed: all frames of this file have the timestamp 0, as without times: old ones pair with new\n"
 SOON = 2  # seconds within which a signal ends a run, on a busy machine
 
 
@@ -115,9 +116,9 @@ def while_connecting() -> None:
         expect("again in 1 s" in fault_of(run), "no pause")
         expect("again in 2 s" in fault_of(run), "no second pause")
         expect(ended(run, signal.SIGTERM) < SOON, "not heard in a pause")
-    with started(["no host.example:1"]) as run:
+    with started(["no-host.invalid:1"]) as run:
         said = fault_of(run)
-        expect("cannot connect to no host.example:1" in said, said)
+        expect("cannot connect to no-host.invalid:1" in said, said)
 
 
 def while_reading() -> None:
@@ -251,6 +252,58 @@ def full_file() -> None:
             same(log.read().count(b"\n"), 3, "what is not printed is saved")
 
 
+def saved_to_a_pipe() -> None:
+    """A pipe that is saved to, and loses its reader, is an error, and the lines are printed. One that nobody reads is
+    refused at the start."""
+    count = 4000  # lines: more than a pipe holds
+    with tempfile.TemporaryDirectory() as work:
+        path, source = f"{work}/pipe", f"{work}/source"
+        os.mkfifo(path)
+        with open(source, "wb") as file:
+            file.write(LINE * count)
+        hint = "No such device or address; nobody reads this pipe"
+        same(ran([source, f"--save={path}"]), (3, "", f"squitter-feed: cannot write {path}: {hint}\n"))
+        reader = os.open(path, os.O_RDONLY | os.O_NONBLOCK)
+        with started(["-", f"--save={path}"]) as run:
+            put(run, LINE)
+            wait_until(lambda: held_in(reader) > 0, "a saved line")
+            expect(line_of(run).endswith(AIR_EVEN.encode() + b"\n"), "a line of both")
+            os.close(reader)
+            put(run, LINE)
+            expect(line_of(run).endswith(AIR_EVEN.encode() + b"\n"), "a line that is not saved")
+            same(run.wait(timeout=20), 3)
+            said = run.communicate()[1].decode()
+        same(said, f"squitter-feed: cannot write {path}: Broken pipe\nsquitter-feed: 2 printed, 1 not saved\n")
+        done = subprocess.run(["bash", "-c", f'"$0" {source} --save=>(cat > {work}/log) | wc -l; wait $!', FEED],
+                              capture_output=True, text=True, timeout=30)
+        same((done.stdout.strip(), done.stderr), (str(count), f"{NO_TIMES}squitter-feed: {count} printed\n"))
+        wait_until(lambda: os.path.getsize(f"{work}/log") == count * len(f"0 {AIR_EVEN}\n"), "all lines in the log")
+
+
+def source_is_output() -> None:
+    """A file is not read and written at once: the run would read its own lines without an end. The file is left as it
+    was, also without a line feed at its end."""
+    with tempfile.TemporaryDirectory() as work:
+        path, other, kept = f"{work}/log", f"{work}/other", f"5 {AIR_EVEN}\n" * 2 + f"5 {AIR_EVEN}"
+        os.symlink(path, other)
+        for script, name in (
+            (f'"$0" {path} --save={path} > /dev/null', path),
+            (f'"$0" {path} --save={other} > /dev/null', other),
+            (f'"$0" - --save={path} < {path} > /dev/null', path),
+            (f'"$0" {path} >> {path}', "standard output"),
+            (f'"$0" - < {path} >> {other}', "standard output"),
+            (f'LIBSQUITTER=/nonesuch "$0" {path} >> {path}', "standard output"),
+        ):
+            with open(path, "w") as log:
+                log.write(kept)
+            done = subprocess.run(["sh", "-c", f"ulimit -f 1000; {script}", FEED], capture_output=True, timeout=30)
+            told = f"squitter-feed: cannot write {name}: it is the source\n"
+            same((done.returncode, done.stderr.decode()), (3, told), script)
+            with open(path) as log:
+                same(log.read(), kept, script)
+        same(ran(["/dev/null", "--save=/dev/null"])[0], 0, "a device")
+
+
 def short_writes() -> None:
     """An output that takes less than it is given is given the rest: a socket, with a reader that is slow."""
     ours, theirs = socket.socketpair()
@@ -300,7 +353,8 @@ def ports() -> None:
     for number, is_port in ((0, False), (1, True), (65_535, True), (65_536, False), (99_999, False)):
         same(place_of(f"host:{number}"), ("host", number) if is_port else None)
         same(place_of(f"[::1]:{number}"), ("::1", number) if is_port else None)
-    for name in ("host", "host:", "a/b:5", ":5", "host:123456", "a:b:5", "host:-1"):
+    for name in ("host", "host:", "a/b:5", ":5", "host:123456", "a:b:5", "host:-1", "host:\u0663", "[]:80", "[:80",
+                 "]:80", "[::1:80", "[[::1]]:80", "[ ]:80", " :80", "a b:80", "host :80", "host\n:80"):
         same(place_of(name), None, name)
 
 

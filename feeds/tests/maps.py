@@ -10,7 +10,7 @@ import xml.etree.ElementTree as ElementTree
 from typing import Any, Dict, List, Tuple
 
 from process import SITE, TOP, program
-from trying import Missing, expect, same
+from trying import BUFFERED, UNBUFFERED, Missing, expect, same
 
 MAPS = f"{TOP}/feeds/squitter-geojson"
 LOG = f"{TOP}/examples/flights.log"
@@ -293,6 +293,11 @@ def foreign_objects() -> None:
         status, printed, said = of_rows(f"{text}\n")
         expect(status == 1 and not printed and "Traceback" not in said, text[:50], said)
     same(of_rows(json.dumps({**OF_JSON, "feet": None, "line": None}) + "\n")[0], 0)
+    told = "it is no object of JSON with moment, answer, address, lat, lon, each a number, a text or null"
+    for text in ('{"line":1}', json.dumps({**OF_JSON, "lat": float("nan")}), json.dumps({**OF_JSON, "kind": True}), ""):
+        said = of_rows(json.dumps(OF_JSON) + f"\n{text}\n")[2]
+        same(said, f"squitter-geojson: row 2 is no answer of track: {told}\n", text)
+    expect("row 1 is no answer of track: it has 0 cells" in of_rows(f"{HEADER}\n")[2], "an empty row of CSV")
 
 
 def cut() -> None:
@@ -422,9 +427,16 @@ def refusals() -> None:
     done = subprocess.run(["bash", "-c", f'set -o pipefail; "$0" {LOG} | head -c 1', MAPS], input=answers().encode(),
                           capture_output=True)
     same((done.returncode, done.stdout, done.stderr), (0, b"{", b""), "a closed pipe")
+
+
+def no_room() -> None:
+    """A full output has status 3, with an empty map and with one."""
     with open("/dev/full", "wb") as full:
-        done = subprocess.run([MAPS, "/dev/null"], stdin=subprocess.DEVNULL, stdout=full, stderr=subprocess.PIPE)
-    expect(done.returncode == 3 and b"Traceback" not in done.stderr and b"Exception" not in done.stderr, done)
+        for environment in (BUFFERED, UNBUFFERED):
+            for data in (b"", answers().encode()):
+                done = subprocess.run([MAPS, LOG], input=data, stdout=full, stderr=subprocess.PIPE, env=environment)
+                same((done.returncode, done.stderr), (3, b"squitter-geojson: No space left on device\n"),
+                     environment is BUFFERED)
 
 
 def swapped() -> None:

@@ -136,11 +136,12 @@ def fast() -> None:
             with open(f"{work}/feed", "wb") as file:
                 file.write(data)
             taken = []
-            for source in (f"{work}/feed", f"{work}/feed", "/dev/null"):
+            for source in (f"{work}/feed", "/dev/null", f"{work}/feed", "/dev/null", f"{work}/feed"):
                 before = resource.getrusage(resource.RUSAGE_CHILDREN)
                 done = subprocess.run([FEED, source], capture_output=True, env=environment)
                 after = resource.getrusage(resource.RUSAGE_CHILDREN)
                 taken.append(after.ru_utime + after.ru_stime - before.ru_utime - before.ru_stime)
                 same(done.stdout.count(b"\n"), count * (source != "/dev/null"))
-            speed = count / (min(taken[:2]) - taken[2])
-            expect(speed >= ENOUGH, f"{speed:.0f} rows a second")
+            # (a start takes longer than the rows, and not the same each time: the difference may be below 0)
+            rows_alone = min(taken[::2]) - min(taken[1::2])
+            expect(rows_alone <= count / ENOUGH, f"{count} rows took {rows_alone:.3f} s of processor time")

@@ -16,7 +16,7 @@ from unittest import mock
 
 import squitter_words
 from process import FEED, TOP, program, ran
-from trying import AIR_EVEN, AIR_ODD, expect, same
+from trying import AIR_EVEN, AIR_ODD, BUFFERED, UNBUFFERED, expect, same
 
 LOG = b"5 %s\n6 %s\n" % (AIR_EVEN.encode(), AIR_ODD.encode())
 PACKS = {"gzip": gzip.compress, "bzip2": bz2.compress, "xz": lzma.compress}
@@ -194,3 +194,26 @@ def misused() -> None:
     ]
     for words, what in rows:
         same(ran(words), (2, "", f"squitter-feed: {what}\n{usage}"))
+
+
+def help_that_is_not_taken() -> None:
+    """Help and version have status 3 if standard output is full, and 0 if nobody reads it."""
+    for name in ("squitter-feed", "squitter-geojson"):
+        for words in (["--help"], ["--version"]):
+            for environment in (BUFFERED, UNBUFFERED):
+                for output, wanted in ((full_output(), (3, f"{name}: {FULL}\n")), (closed_output(), (0, ""))):
+                    done = subprocess.run([f"{TOP}/feeds/{name}", *words], stdout=output, stderr=subprocess.PIPE,
+                                          env=environment, text=True)
+                    os.close(output)
+                    same((done.returncode, done.stderr), wanted, name, words, environment is BUFFERED)
+
+
+def full_output() -> int:
+    return os.open("/dev/full", os.O_WRONLY)
+
+
+def closed_output() -> int:
+    """Returns a pipe that nobody reads."""
+    reader, writer = os.pipe()
+    os.close(reader)
+    return writer

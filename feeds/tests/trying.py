@@ -2,6 +2,7 @@
 from __future__ import annotations
 
 import inspect
+import os
 from types import ModuleType
 from typing import Callable, Iterator
 
@@ -13,6 +14,10 @@ COMM_B = "A0001838CA380031440000F24177"  # 112 bits of DF20
 LATER = AIR_EVEN[:26] + "1A"  # an escape at its end; its parity is wrong, which a feed does not look at
 ESCAPES = "8D1A1A1A1A1A33321A1A1A1A1A31"
 FRAMES = [AIR_EVEN, AIR_ODD, GROUND, ESCAPES, LATER]
+
+# Python tells of a full standard output at each write, or only at its exit.
+BUFFERED = {name: value for name, value in os.environ.items() if name != "PYTHONUNBUFFERED"}
+UNBUFFERED = {**os.environ, "PYTHONUNBUFFERED": "1"}
 
 
 class Failed(Exception):

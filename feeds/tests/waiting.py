@@ -37,7 +37,8 @@ def arrivals() -> None:
 
 
 def seconds_of_ready() -> None:
-    """Waiting takes the seconds that it was given, at least 0, and no processor time; what is ready ends it."""
+    """Waiting takes the seconds that it was given, at least 0, and no processor time; what is ready ends it. The
+    seconds may be many, as with a long `--reorder`."""
     ready = parts()["ready"]
     reader, writer = os.pipe()
     begun, worked = time.monotonic(), time.process_time()
@@ -47,7 +48,7 @@ def seconds_of_ready() -> None:
     begun = time.monotonic()
     same(ready({reader: select.POLLIN}, -1), {})
     os.write(writer, b"x")
-    for seconds in (None, 60):
+    for seconds in (None, 60, 2**31 / 1000, 10**12):
         same(ready({reader: select.POLLIN}, seconds), {reader: select.POLLIN})
     expect(time.monotonic() - begun < 5, "waited for", time.monotonic() - begun)
     for number in (reader, writer):
@@ -55,10 +56,12 @@ def seconds_of_ready() -> None:
 
 
 def patience() -> None:
-    """A connection is given ten seconds; one that cannot be made is told by the words of the system."""
+    """A connection is given ten seconds; one that cannot be made is told by the words of the system. An address with
+    colons is named as it is given."""
     told: List[str] = []
     network = parts()["NetworkSource"]
     network.lost.__globals__["tell"] = told.append
+    same(network("::1", 5, SimpleNamespace()).name, "[::1]:5")
     source = network("host", 5, SimpleNamespace(readable=lambda *_: True))
     faults = ((TimeoutError("timed out"), "timed out"), (OSError(113, "No route to host"), "No route to host"),
               (UnicodeError("label too long"), "label too long"))
