@@ -1,6 +1,7 @@
 """Runs an adapter: gives it the questions of the cases, a line each, and takes its answers, whatever it does."""
 from __future__ import annotations
 
+import contextlib
 import json
 import os
 import queue
@@ -11,7 +12,7 @@ import sys
 import tempfile
 import threading
 import time
-from typing import Any, Dict, List, NamedTuple, Optional
+from typing import Any, Dict, Iterator, List, NamedTuple, Optional
 
 HERE = os.path.dirname(os.path.abspath(__file__))
 SILENCE = 60.0  # seconds without a line, after which an adapter is stopped
@@ -181,19 +182,48 @@ class Adapter:
         return ["; ".join(parts + ([f"it says: {plain(told[-1], 120)}"] if told else []))]
 
 
+# The signals that end a run.
+ENDING = (signal.SIGINT, signal.SIGTERM)
+
+
+@contextlib.contextmanager
+def signals_held() -> Iterator[None]:
+    """Holds back the signals that end a run, and raises those that came at the end. Python runs their handlers in the
+    main thread, so another thread has none to hold."""
+    if threading.current_thread() is not threading.main_thread():
+        yield
+        return
+    came: List[int] = []
+    handlers = {number: signal.signal(number, lambda number, _: came.append(number)) for number in ENDING}
+    try:
+        yield
+    finally:
+        for number, handler in handlers.items():
+            signal.signal(number, handler)
+        for number in came:
+            signal.raise_signal(number)
+
+
 def ask(
     command: List[str],
     cases: List[Dict[str, Any]],
     environment: Optional[Dict[str, str]] = None,
     silence: float = SILENCE,
 ) -> Result:
-    """The answers of an adapter to the cases."""
+    """The answers of an adapter to the cases. A signal that ends the run ends the adapter too. Signals wait while the
+    adapter starts, because there is nothing yet to end it by."""
+    adapter: Optional[Adapter] = None
     try:
-        adapter = Adapter(command, cases, environment, silence)
-    except OSError as why:
-        return Result({}, {}, [f"it cannot be started: {why.strerror or why}: {command[0]}"])
-    try:
+        with signals_held():
+            adapter = Adapter(command, cases, environment, silence)
         adapter.listen()
+    except BaseException as why:
+        if adapter is None and isinstance(why, OSError):
+            return Result({}, {}, [f"it cannot be started: {why.strerror or why}: {command[0]}"])
+        if adapter is not None:
+            adapter.why = "the run was interrupted"  # its end is not waited for
+        raise
     finally:
-        adapter.close()
+        if adapter is not None:
+            adapter.close()
     return Result(adapter.answers, adapter.hello, adapter.remark())

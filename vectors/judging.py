@@ -2,11 +2,13 @@
 """
 from __future__ import annotations
 
+import re
 from fractions import Fraction
 from math import asin, cos, radians, sin, sqrt
 from typing import Any, Dict, List, NamedTuple, Optional
 
 TOLERANCE = Fraction(11, 10**7)  # degrees: what a decoder prints with six decimals, and a little
+PLAIN_NUMBER = re.compile(r"\s*[-+]?[0-9._]{1,1000}(?:/[0-9_]{1,1000}|[eE][-+]?[0-9]{1,3})?\s*")
 KINDS = ("passed", "wrong", "none", "policy", "unsupported", "lost")
 
 
@@ -22,6 +24,8 @@ def number(value: Any) -> Fraction:
     """A number that an adapter writes: a JSON number, a decimal text, or num/den."""
     if isinstance(value, bool) or not isinstance(value, (int, float, str)):
         raise ValueError("no number")
+    if isinstance(value, str) and not PLAIN_NUMBER.fullmatch(value):
+        raise ValueError("no number")  # or one that takes hours, such as 1e999999999
     return Fraction(value if isinstance(value, str) else repr(value))
 
 

@@ -5,6 +5,7 @@ import html
 import json
 from typing import Any, Dict, List, NamedTuple, Optional, Tuple
 
+from asking import plain
 from judging import KINDS, Verdict, number
 
 HEADS = {
@@ -120,10 +121,11 @@ def place_text(answer: Optional[Dict[str, Any]]) -> str:
     """An answer in one line."""
     if answer is None:
         return "no line"
-    if "decimal" in answer:
-        return " ".join(map(str, answer["decimal"]))
+    decimal = answer.get("decimal")
+    if isinstance(decimal, list) and len(decimal) == 2:
+        return plain(f"{decimal[0]} {decimal[1]}", 100)
     if "lat" in answer and "lon" in answer and "ca" not in answer:
-        return f"{answer['lat']} {answer['lon']}"
+        return plain(f"{answer['lat']} {answer['lon']}", 100)
     shown = json.dumps({key: value for key, value in answer.items() if key != "id"})
     return shown if len(shown) <= 100 else shown[:97] + ".."
 
