@@ -4,6 +4,9 @@
 # Prints the seconds of each, with the start of the processes in them, and lines a second; the answers have to be the
 # same, byte for byte. Needs what `make -C clib` needs, and a Python with NumPy and Dask (PYTHON, or python3).
 set -eu
+for word; do
+    case $word in '' | *[!0-9]* | 0*) echo "archive.sh: $word is no number from 1 on" >&2; exit 2 ;; esac
+done
 here=$(cd "$(dirname "$0")" && pwd)
 lines=${1:-10000000}
 [ $# = 0 ] || shift
@@ -13,6 +16,7 @@ program=$("$here/../dist/program")
 export PYTHONPATH="$here/../clib"
 work=$(mktemp -d)
 trap 'rm -rf "$work"' EXIT
+trap 'exit 129' HUP; trap 'exit 130' INT; trap 'exit 143' TERM # where sh is dash, a signal runs no EXIT trap
 cc -O2 -o "$work/gen" "$here/gen.c" -lm
 "$work/gen" track "$lines" 1 2000 > "$work/log"
 mkdir "$work/hours"

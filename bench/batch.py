@@ -7,6 +7,7 @@ A million frames (or so many FRAMES) of 900 aircraft, made by gen.c. Each is run
 `read` ten times a round as C's is, and the fastest counts, so that what else the machine does weighs on all alike.
 Needs NumPy and a C compiler."""
 import os
+import re
 import subprocess
 import sys
 import tempfile
@@ -100,6 +101,10 @@ def figures(folder: str, count: int) -> Dict[str, Callable[[], float]]:
 
 
 def main() -> None:
+    wrong = [word for word in sys.argv[1:] if not re.fullmatch("[1-9][0-9]*", word)]
+    if wrong:
+        print(f"batch.py: {wrong[0]} is no number from 1 on", file=sys.stderr)
+        sys.exit(2)
     count, rounds = (int(word) for word in (sys.argv + ["1000000", "5"][len(sys.argv) - 1:])[1:3])
     subprocess.run(["make", "-s", "-C", CLIB, "libsquitter.a", "libsquitter.so.0"], check=True)
     with tempfile.TemporaryDirectory() as folder:

@@ -8,6 +8,7 @@ clib=$here/../clib
 make -s -C "$clib" libsquitter.a libsquitter.so.0
 work=$(mktemp -d)
 trap 'rm -rf "$work"' EXIT
+trap 'exit 129' HUP; trap 'exit 130' INT; trap 'exit 143' TERM # where sh is dash, a signal runs no EXIT trap
 cc -O2 -I "$clib" -o "$work/calls" "$here/calls.c" "$clib/libsquitter.a"
 echo 'from C'
 "$work/calls"

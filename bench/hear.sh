@@ -5,10 +5,14 @@
 # it is built in a copy of them, so that the gate does not prove it, or is the one that PROGRAM names. With KEEP, that
 # file keeps the built program. Needs rt and a C compiler.
 set -eu
+for word; do
+    case $word in '' | *[!0-9]* | 0*) echo "hear.sh: $word is no number from 1 on" >&2; exit 2 ;; esac
+done
 here=$(cd "$(dirname "$0")" && pwd)
 calls=${1:-4000000}
 work=$(mktemp -d)
 trap 'rm -rf "$work"' EXIT
+trap 'exit 129' HUP; trap 'exit 130' INT; trap 'exit 143' TERM # where sh is dash, a signal runs no EXIT trap
 build() {
     mkdir "$work/crates"
     for name in sq_digits sq_bits sq_angle sq_zones sq_cpr sq_message sq_track; do

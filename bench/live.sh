@@ -8,6 +8,7 @@ frame=8D40621D58C382D690C8AC2863A7
 program=$("$here/../dist/program")
 work=$(mktemp -d)
 trap 'rm -rf "$work"' EXIT
+trap 'exit 129' HUP; trap 'exit 130' INT; trap 'exit 143' TERM # where sh is dash, a signal runs no EXIT trap
 shown=0
 fail() { echo "failed: $1" >&2; exit 1; }
 seen() { shown=$((shown + 1)); }

@@ -4,12 +4,16 @@
 # over the whole log, address by address. An address answers for itself alone as long as moments are in order and no
 # limit is reached, so none differs. The same for `check`, whose lines answer each for itself, cut at any line.
 set -eu
+for word; do
+    case $word in '' | *[!0-9]* | 0*) echo "shards.sh: $word is no number from 1 on" >&2; exit 2 ;; esac
+done
 here=$(cd "$(dirname "$0")" && pwd)
 lines=${1:-10000000}
 shards=${2:-$(nproc)}
 program=$("$here/../dist/program")
 work=$(mktemp -d)
 trap 'rm -rf "$work"' EXIT
+trap 'exit 129' HUP; trap 'exit 130' INT; trap 'exit 143' TERM # where sh is dash, a signal runs no EXIT trap
 cc -O2 -o "$work/gen" "$here/gen.c" -lm
 "$work/gen" track "$lines" 1 2000 > "$work/log"
 now() { date +%s%N; }

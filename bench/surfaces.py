@@ -11,6 +11,7 @@ the logs of the feeds too. Needs NumPy, pandas and a C compiler; skips Node and 
 import contextlib
 import hashlib
 import os
+import re
 import shlex
 import subprocess
 import sys
@@ -257,6 +258,10 @@ def least(runs: Sequence[Took], count: int) -> Tuple[float, float]:
 
 
 def main() -> None:
+    wrong = [word for word in sys.argv[1:] if not re.fullmatch("[1-9][0-9]*", word)]
+    if wrong:
+        print(f"surfaces.py: {wrong[0]} is no number from 1 on", file=sys.stderr)
+        sys.exit(2)
     count, rounds = (int(word) for word in (sys.argv + ["1000000", "5"][len(sys.argv) - 1:])[1:3])
     program = os.environ.get("PROGRAM") or subprocess.run(
         [f"{TOP}/dist/program"], check=True, stdout=subprocess.PIPE, text=True).stdout.strip()

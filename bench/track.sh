@@ -4,12 +4,16 @@
 # Each is run three times, or so many ROUNDS, on the same log of good positions, its output to the null device, and the
 # fastest counts. Needs a C compiler and GNU time.
 set -eu
+for word; do
+    case $word in '' | *[!0-9]* | 0*) echo "track.sh: $word is no number from 1 on" >&2; exit 2 ;; esac
+done
 here=$(cd "$(dirname "$0")" && pwd)
 lines=${1:-1000000}
 rounds=${2:-3}
 program=${PROGRAM:-$("$here/../dist/program")}
 work=$(mktemp -d)
 trap 'rm -rf "$work"' EXIT
+trap 'exit 129' HUP; trap 'exit 130' INT; trap 'exit 143' TERM # where sh is dash, a signal runs no EXIT trap
 cc -O3 -march=native -o "$work/gen" "$here/gen.c" -lm
 cc -O2 -mavx2 -fno-tree-vectorize -DSCALAR -o "$work/blocks" "$here/track.c" -lm
 cc -O3 -march=native -o "$work/vectors" "$here/track.c" -lm

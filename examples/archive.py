@@ -28,6 +28,7 @@ import importlib.util
 import os
 import re
 import sys
+import zlib
 from dataclasses import dataclass, replace
 from typing import Any, List, Optional, Sequence, Tuple
 
@@ -50,6 +51,7 @@ from squitter import batch  # noqa: E402
 HEADER = ",".join(batch.COLUMNS).encode() + b"\n"
 # Dask has its processes give memory back at once: arrays that come and go then cost as much as what is done with them.
 MEMORY = {"MALLOC_TRIM_THRESHOLD_": 1 << 30, "MALLOC_MMAP_THRESHOLD_": 1 << 25, "MALLOC_ARENA_MAX": 1}
+BOM = b"\xef\xbb\xbf"  # a byte order mark, which squitter-feed leaves out too
 SECONDS = re.compile(r"([0-9]{1,12})(?:\.([0-9]*))?")
 
 
@@ -71,13 +73,21 @@ class Cut:
     parts: List[NDArray[np.intp]]
 
 
+class Failed(Exception):
+    """A file cannot be read or written, or the scheduler cannot be reached."""
+
+
 # ---- reading ----
 
 
 def read_hour(path: str) -> Hour:
     """The lines of a file. As `track` reads it, a line is a moment, a space and a frame, and at most 64 bytes."""
-    with (gzip.open if path.endswith(".gz") else open)(path, "rb") as file:
-        data = file.read().replace(b"\r\n", b"\n")
+    try:
+        with (gzip.open if path.endswith(".gz") else open)(path, "rb") as file:
+            data = file.read().replace(b"\r\n", b"\n")
+    except (OSError, EOFError, zlib.error) as fault:
+        raise Failed(f"cannot read {path}: {fault}") from None
+    data = data[len(BOM):] if data.startswith(BOM) else data
     columns = columns_of(data.partition(b"\n")[0])
     if columns:
         data = data.partition(b"\n")[2]
@@ -244,12 +254,17 @@ def write(
     answers = np.zeros(len(hour.moments), batch.TRACKED)
     for places, told in zip(cut_hour.parts, heard):
         answers[places] = told
-    with open(f"{path}.part", "wb") as plain:
-        # (without a name and a time in it, so that a task that runs again writes the same bytes)
-        with gzip.GzipFile("", "wb", 6, plain, 0) if path.endswith(".gz") else plain as file:
-            file.write(HEADER)
-            file.write(batch.csv_rows(hour.moments, answers, cut_hour.faults, before.lines + 1))
-    os.replace(f"{path}.part", path)
+    try:
+        with open(f"{path}.part", "wb") as plain:
+            # (without a name and a time in it, so that a task that runs again writes the same bytes)
+            with gzip.GzipFile("", "wb", 6, plain, 0) if path.endswith(".gz") else plain as file:
+                file.write(HEADER)
+                file.write(batch.csv_rows(hour.moments, answers, cut_hour.faults, before.lines + 1))
+        os.replace(f"{path}.part", path)
+    except OSError as fault:
+        with contextlib.suppress(OSError):
+            os.remove(f"{path}.part")
+        raise Failed(f"cannot write {path}: {fault.strerror}") from None
     if parquet:
         write_parquet(f"{path}.parquet", hour.moments, answers, cut_hour.faults, before.lines + 1)
     return len(answers)
@@ -356,14 +371,24 @@ def main() -> None:
     for path in options.files:
         if not os.path.isfile(path):
             sys.exit(f"archive.py: there is no file {path}")
-    os.makedirs(options.folder, exist_ok=True)
+    try:
+        os.makedirs(options.folder, exist_ok=True)
+    except OSError as fault:
+        sys.exit(f"archive.py: cannot make {options.folder}: {fault.strerror}")
     dask.config.set({f"distributed.nanny.pre-spawn-environ.{name}": value for name, value in MEMORY.items()})
     where = options.scheduler or LocalCluster(
         n_workers=options.workers, threads_per_worker=1, processes=True, dashboard_address=None)
-    with Client(where) as client:
-        count = len(client.scheduler_info()["workers"]) or 1
-        options.parts, options.hours = options.parts or 2 * count, options.hours or 2 * count
-        lines = run(options.files, options.folder, options)
+    try:
+        client = Client(where)
+    except (OSError, ValueError) as fault:
+        sys.exit(f"archive.py: no scheduler: {fault}")
+    try:
+        with client:
+            count = len(client.scheduler_info()["workers"]) or 1
+            options.parts, options.hours = options.parts or 2 * count, options.hours or 2 * count
+            lines = run(options.files, options.folder, options)
+    except Failed as fault:
+        sys.exit(f"archive.py: {fault}")
     print(f"{lines} lines of {len(options.files)} files", file=sys.stderr)
 
 

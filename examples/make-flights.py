@@ -5,7 +5,9 @@ Each line of the log has a timestamp (ms) and a frame. PROGRAM's `encode` makes 
 the number of its line in the log, the address, the encoded position, and the altitude in feet, or - on the ground. Some
 lines of the log are damaged or out of order; the truth leaves these out. Both files are written once all is encoded."""
 import argparse
+import contextlib
 import os
+import re
 import subprocess
 from typing import List, Tuple
 
@@ -52,6 +54,8 @@ def written(program: str) -> Tuple[List[str], List[str]]:
         words += [f"--lat={degrees(lat)}", f"--lon={degrees(lon)}"]
         encoded = subprocess.run([program, "encode", *words], capture_output=True, text=True, check=True)
         frame = encoded.stdout.strip()
+        if not re.fullmatch("[0-9A-F]{28}", frame):
+            raise ValueError(f"{program} encode printed {frame[:60]!r}, which is no frame")
         log.append(f"{moment} *{frame};\n")
         truth.append(f"{len(log)} {address} {degrees(lat)} {degrees(lon)} {'-' if feet is None else feet}\n")
         if count % 97 == 50:  # the same frame with a damaged digit
@@ -65,14 +69,19 @@ def main() -> None:
     parser = argparse.ArgumentParser(description="Writes flights.log and flights.truth beside this script.")
     parser.add_argument("program", metavar="PROGRAM", help="the program squitter, which encodes the positions")
     program = parser.parse_args().program
-    try:
-        made = written(program)
-    except (OSError, subprocess.CalledProcessError) as why:
-        parser.exit(1, f"{parser.prog}: nothing is written: {why}\n")
     here = os.path.dirname(os.path.abspath(__file__))
-    for name, lines in zip(("flights.log", "flights.truth"), made):
-        with open(f"{here}/{name}", "w", encoding="ascii") as file:
-            file.writelines(lines)
+    files = [f"{here}/{name}" for name in ("flights.log", "flights.truth")]
+    try:
+        for path, lines in zip(files, written(program)):
+            with open(f"{path}.part", "w", encoding="ascii") as file:
+                file.writelines(lines)
+        for path in files:
+            os.replace(f"{path}.part", path)
+    except (OSError, ValueError, subprocess.CalledProcessError) as why:
+        for path in files:
+            with contextlib.suppress(OSError):
+                os.remove(f"{path}.part")
+        parser.exit(1, f"{parser.prog}: nothing is written: {why}\n")
 
 
 if __name__ == "__main__":
