@@ -27,6 +27,8 @@ _squitter() {
         "feed --reorder")
             compopt +o default 2>/dev/null ;;
         *)
+            # no command takes a file name
+            compopt +o default 2>/dev/null
             case ${COMP_WORDS[1]} in
                 show) names="--help" ;;
                 encode) names="--kind --parity --address --feet --lat --lon --help" ;;
@@ -35,6 +37,7 @@ _squitter() {
                 check) names="--format --help" ;;
                 track) names="--format --limit --window --lat --lon --help" ;;
                 feed) names="--format --reorder --all --help" ;;
+                help) [ "$COMP_CWORD" != 2 ] || names="show encode local pair check track feed" ;;
             esac
             if [ "$COMP_CWORD" = 1 ]; then
                 names="show encode local pair check track feed help --version --help"

@@ -12,6 +12,14 @@ complete -c squitter -n __fish_use_subcommand -a track -d 'Reads a log from stan
 complete -c squitter -n __fish_use_subcommand -a feed -d 'Reads a receiver\'s bytes from standard input, and prints a log for \'squitter track\''
 complete -c squitter -n __fish_use_subcommand -a help -d 'Print help'
 
+complete -c squitter -n '__fish_seen_subcommand_from help; and not __fish_seen_subcommand_from show encode local pair check track feed' -a show -d 'Shows the fields of one frame, one on each line'
+complete -c squitter -n '__fish_seen_subcommand_from help; and not __fish_seen_subcommand_from show encode local pair check track feed' -a encode -d 'Encodes a position as a frame, rounded as the standard\'s encoder rounds it'
+complete -c squitter -n '__fish_seen_subcommand_from help; and not __fish_seen_subcommand_from show encode local pair check track feed' -a local -d 'Decodes the position of one frame near a reference position'
+complete -c squitter -n '__fish_seen_subcommand_from help; and not __fish_seen_subcommand_from show encode local pair check track feed' -a pair -d 'Decodes the position of the newer of two frames, one even and one odd'
+complete -c squitter -n '__fish_seen_subcommand_from help; and not __fish_seen_subcommand_from show encode local pair check track feed' -a check -d 'Reads frames from standard input, one on each line, and prints each frame\'s fields or its error'
+complete -c squitter -n '__fish_seen_subcommand_from help; and not __fish_seen_subcommand_from show encode local pair check track feed' -a track -d 'Reads a log from standard input, \'MILLISECONDS FRAME\' on each line, and prints each position'
+complete -c squitter -n '__fish_seen_subcommand_from help; and not __fish_seen_subcommand_from show encode local pair check track feed' -a feed -d 'Reads a receiver\'s bytes from standard input, and prints a log for \'squitter track\''
+
 complete -c squitter -n '__fish_seen_subcommand_from show' -l help -d 'Print help'
 
 complete -c squitter -n '__fish_seen_subcommand_from encode' -l kind -x -a 'air ground' -d 'In the air or on the ground'
