@@ -25163,7 +25163,7 @@
 .LBB77_298:
 	add	x0, sp, #176
 	sub	x2, x29, #40
-	bl	"sq_commands::numbered::push_refused_line"
+	bl	"sq_commands::answer_lines::push_refused_line"
 	ldr	x23, [sp, #688]
 	b	.LBB77_302
 .LBB77_299:
@@ -25536,10 +25536,10 @@
 .Lfunc_end79:
 	.size	"sq_digits::decimal::push_longest::<=512>", .Lfunc_end79-"sq_digits::decimal::push_longest::<=512>"
 
-	.section	".text.unlikely.sq_commands::numbered::push_refused_line","ax",@progbits
+	.section	".text.unlikely.sq_commands::answer_lines::push_refused_line","ax",@progbits
 	.p2align	2
-	.type	"sq_commands::numbered::push_refused_line",@function
-"sq_commands::numbered::push_refused_line":
+	.type	"sq_commands::answer_lines::push_refused_line",@function
+"sq_commands::answer_lines::push_refused_line":
 	sub	sp, sp, #48
 	mov	w11, #51711
 	ldrh	w8, [x2]
@@ -25665,7 +25665,7 @@
 	add	sp, sp, #48
 	ret
 .Lfunc_end80:
-	.size	"sq_commands::numbered::push_refused_line", .Lfunc_end80-"sq_commands::numbered::push_refused_line"
+	.size	"sq_commands::answer_lines::push_refused_line", .Lfunc_end80-"sq_commands::answer_lines::push_refused_line"
 
 	.section	".text.sq_text::faults::push_fault::<=512>","ax",@progbits
 	.p2align	2

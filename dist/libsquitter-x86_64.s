@@ -23734,7 +23734,7 @@
 .LBB78_88:
 	leaq	240(%rsp), %rdi
 	leaq	144(%rsp), %rdx
-	callq	"sq_commands::numbered::push_refused_line"
+	callq	"sq_commands::answer_lines::push_refused_line"
 	movq	752(%rsp), %rbx
 	jmp	.LBB78_197
 .LBB78_89:
@@ -26424,10 +26424,10 @@
 .Lfunc_end80:
 	.size	"sq_digits::decimal::push_longest::<=512>", .Lfunc_end80-"sq_digits::decimal::push_longest::<=512>"
 
-	.section	".text.unlikely.sq_commands::numbered::push_refused_line","ax",@progbits
+	.section	".text.unlikely.sq_commands::answer_lines::push_refused_line","ax",@progbits
 	.p2align	4
-	.type	"sq_commands::numbered::push_refused_line",@function
-"sq_commands::numbered::push_refused_line":
+	.type	"sq_commands::answer_lines::push_refused_line",@function
+"sq_commands::answer_lines::push_refused_line":
 	pushq	%rbx
 	subq	$16, %rsp
 	movq	%rdi, %rbx
@@ -26535,7 +26535,7 @@
 	popq	%rbx
 	retq
 .Lfunc_end81:
-	.size	"sq_commands::numbered::push_refused_line", .Lfunc_end81-"sq_commands::numbered::push_refused_line"
+	.size	"sq_commands::answer_lines::push_refused_line", .Lfunc_end81-"sq_commands::answer_lines::push_refused_line"
 
 	.section	".text.sq_text::faults::push_fault::<=512>","ax",@progbits
 	.p2align	4
