@@ -196,6 +196,28 @@ class Archive(unittest.TestCase):
         done = subprocess.run([sys.executable, ARCHIVE, to, *self.paths], env=nowhere, capture_output=True, text=True)
         self.assertEqual((done.returncode, "needs squitter for Python" in done.stderr), (1, True), done)
 
+    def test_told_what_failed(self) -> None:
+        """A file that cannot be read or written, and a folder that cannot be made, are named, without a traceback."""
+        own = tempfile.mkdtemp(dir=self.folder.name)
+        rows = gzip.compress(b"0.0,40621d,8D40621D58C386435CC412692AD6\n" * 99)
+        for name, data in (("cut.csv.gz", rows[:-12]), ("plain.csv.gz", b"0.0,,\n"), ("damaged.csv.gz", rows[:12] +
+                           bytes(9) + rows[12:]), ("good.csv.gz", rows)):
+            with open(f"{own}/{name}", "wb") as file:
+                file.write(data)
+        os.makedirs(f"{own}/taken/good.csv.gz")
+        calls = [([f"{own}/to", f"{own}/{name}"], f"archive.py: cannot read {own}/{name}: ")
+                 for name in ("cut.csv.gz", "plain.csv.gz", "damaged.csv.gz")]
+        calls += [([f"{own}/taken", f"{own}/good.csv.gz"], f"cannot write {own}/taken/good.csv.gz: Is a directory"),
+                  ([f"{own}/good.csv.gz/to", f"{own}/good.csv.gz"], f"cannot make {own}/good.csv.gz/to: Not a "),
+                  (["--scheduler=nonsense", f"{own}/to", f"{own}/good.csv.gz"], "archive.py: no scheduler: ")]
+        for words, why in calls:
+            done = subprocess.run([sys.executable, ARCHIVE, "--workers=1", *words], env=ENVIRONMENT,
+                                  capture_output=True, text=True, timeout=60)
+            self.assertIn(why, done.stderr.replace("\r", "\n"))
+            self.assertEqual(done.returncode, 1)
+            self.assertEqual(done.stderr.splitlines()[-1].split(": ")[0], "archive.py")
+        self.assertEqual((os.listdir(f"{own}/to"), os.listdir(f"{own}/taken")), ([], ["good.csv.gz"]))
+
     def test_one_is_killed(self) -> None:
         run, to = self.started("--workers=4", "--hours=3", "--parts=5")
         while run.poll() is None and not (os.path.isdir(to) and os.listdir(to)):
@@ -215,6 +237,15 @@ class Archive(unittest.TestCase):
         _, said = run.communicate(timeout=300)
         self.assertEqual(run.returncode, 0, said)
         self.assertEqual(answers(self.paths, to), self.wanted)
+
+    def test_byte_order_mark(self) -> None:
+        """A byte order mark at the start of a file is left out, before names and before a row, as in squitter-feed."""
+        text, path = frames(random.Random(1))[0].encode(), f"{self.folder.name}/marked.csv"
+        for rows in (b"rawmsg,x,time\n%s,,1.5\n" % text, b"1.5,,%s\n" % text, b'"1.5",,%s\n' % text):
+            with open(path, "wb") as file:
+                file.write(b"\xef\xbb\xbf" + rows)
+            hour = runpy.run_path(ARCHIVE)["read_hour"](path)
+            self.assertEqual((hour.moments.tolist(), hour.frames.tolist()), ([1500], [text]))
 
     def test_command_lines(self) -> None:
         options_of = runpy.run_path(ARCHIVE)["options_of"]
