@@ -10,16 +10,17 @@ import signal
 import socket
 import subprocess
 import tempfile
-import termios
 import threading
 import time
 from contextlib import contextmanager
 from types import SimpleNamespace
-from typing import IO, Callable, Iterator, List, Optional, Tuple, Union
+from typing import Callable, Iterator, List, Optional, Tuple
 from unittest import mock
 
-from process import FEED, fault_of, line_of, listening, put, ran, reported, started
-from trying import AIR_EVEN, AIR_ODD, beast, expect, same
+from process import (
+    FEED, fault_of, held_in, is_waiting, line_of, listening, put, ran, reported, started, wait_for_more, wait_until,
+)
+from trying import AIR_EVEN, AIR_ODD, beast, expect, same, took
 
 LINE = b"*%s;\n" % AIR_EVEN.encode()
 ALL = (signal.SIGTERM, signal.SIGINT, signal.SIGHUP)
@@ -41,29 +42,13 @@ def reading(path: str) -> Callable[[int], bool]:
     return is_open
 
 
-def wait_until(good: Callable[[], bool], what: str) -> None:
-    for _ in range(400):
-        if good():
-            return
-        time.sleep(0.02)
-    expect(False, "it never comes to", what)
-
-
-def is_waiting(process: int) -> bool:
-    """Whether a process has its handlers of signals, and sleeps."""
-    with open(f"/proc/{process}/status") as status:
-        text = status.read()
-    caught = int(re.findall(r"SigCgt:\s*(\w+)", text)[0], 16)
-    return bool(caught >> (signal.SIGTERM - 1) & 1) and "State:\tS" in text
-
-
-def ended(run: subprocess.Popen[bytes], number: int) -> float:
-    """Sends a signal to a run that waits. Returns how many seconds it went on."""
+def end_by(run: subprocess.Popen[bytes], number: int, *words: object) -> None:
+    """Sends a signal to a run that waits. Fails unless it ends soon."""
     wait_until(lambda: is_waiting(run.pid), "waiting")
     begun = time.monotonic()
     run.send_signal(number)
-    run.wait(timeout=20)
-    return time.monotonic() - begun
+    run.wait(timeout=60)
+    took(begun, 0, SOON, "ends", *words)
 
 
 def while_opening() -> None:
@@ -73,7 +58,7 @@ def while_opening() -> None:
         os.mkfifo(path)
         for number in ALL:
             with started([path]) as run:
-                expect(ended(run, number) < SOON, number, "is not heard")
+                end_by(run, number, number)
                 same((run.returncode, *run.communicate()), (0, b"", b"squitter-feed: 0 printed\n"))
         with started([path]) as run:
             wait_until(lambda: reading(path)(run.pid), "the pipe")
@@ -81,7 +66,7 @@ def while_opening() -> None:
                 pipe.write(LINE)
                 expect(line_of(run).endswith(AIR_EVEN.encode() + b"\n"), "a line of the pipe")
                 pipe.write(LINE)
-            same((run.wait(timeout=20), run.communicate()[0].count(b"\n")), (0, 1))
+            same((run.wait(timeout=30), run.communicate()[0].count(b"\n")), (0, 1))
 
 
 @contextmanager
@@ -104,18 +89,18 @@ def while_connecting() -> None:
     for number in ALL:
         with full_backlog() as port, started([f"127.0.0.1:{port}"]) as run:
             time.sleep(0.3)
-            expect(ended(run, number) < SOON, number, "is not heard while connecting")
+            end_by(run, number, number, "while connecting")
             same((run.returncode, *run.communicate()), (0, b"", b"squitter-feed: 0 printed\n"))
     with full_backlog() as port, started([f"127.0.0.1:{port}"]) as run:
         if run.stdout:
             run.stdout.close()
-        same(run.wait(timeout=5), 0, "a closed output while connecting")
+        same(run.wait(timeout=30), 0, "a closed output while connecting")
     with listening() as listener:
         port = listener.getsockname()[1]
     with started([f"127.0.0.1:{port}"]) as run:
         expect("again in 1 s" in fault_of(run), "no pause")
         expect("again in 2 s" in fault_of(run), "no second pause")
-        expect(ended(run, signal.SIGTERM) < SOON, "not heard in a pause")
+        end_by(run, signal.SIGTERM, "in a pause")
     with started(["no-host.invalid:1"]) as run:
         said = fault_of(run)
         expect("cannot connect to no-host.invalid:1" in said, said)
@@ -130,8 +115,8 @@ def while_reading() -> None:
         for number in ALL:
             with started(["-", *words]) as run:
                 put(run, data)
-                time.sleep(0.2)
-                expect(ended(run, number) < SOON, number, words)
+                wait_for_more(run)
+                end_by(run, number, number, words)
                 printed, said = run.communicate()
                 same((run.returncode, printed.count(b"\n")), (0, lines), data)
                 same(said, b"squitter-feed: %d printed\n" % lines)
@@ -151,12 +136,6 @@ def offer(run: subprocess.Popen[bytes], data: bytes) -> None:
         pass
 
 
-def held_in(pipe: Union[int, IO[bytes], None]) -> int:
-    """How many bytes a pipe holds."""
-    assert pipe is not None
-    return int.from_bytes(fcntl.ioctl(pipe, termios.FIONREAD, bytes(4)), "little")
-
-
 def full_output(count: int, words: List[str], nonblocking: bool) -> None:
     """A run of so many lines with a pipe that takes 4 KiB: by a signal, the rest is counted as not written."""
     reader, writer = os.pipe()
@@ -168,7 +147,7 @@ def full_output(count: int, words: List[str], nonblocking: bool) -> None:
     feeder.start()
     try:
         wait_until(lambda: held_in(reader) > 4000, "full")
-        expect(ended(run, signal.SIGTERM) < SOON, "a full output is waited for")
+        end_by(run, signal.SIGTERM, "while the output is full")
         printed = b""
         os.set_blocking(reader, True)
         while True:
@@ -185,7 +164,7 @@ def full_output(count: int, words: List[str], nonblocking: bool) -> None:
     expect(lines and all(re.fullmatch(rb"\d+ %s\n" % AIR_EVEN.encode(), line) for line in lines), "torn lines")
     same(numbers_of(said)[0], len(lines), said)
     expect(numbers_of(said)[1] > 0 and sum(numbers_of(said)[:2]) <= count, said)
-    feeder.join(timeout=5)
+    feeder.join(timeout=30)
 
 
 def while_output_is_full() -> None:
@@ -215,10 +194,10 @@ def second_signal() -> None:
         try:
             os.read(reader, 1)
             run.send_signal(number)
-            time.sleep(0.2)
+            wait_until(lambda: is_waiting(run.pid), "waiting again")
             same(run.poll(), None, "one signal alone does not end what does not look")
             run.send_signal(number)
-            same(run.wait(timeout=10), 128 + number)
+            same(run.wait(timeout=30), 128 + number)
         finally:
             run.kill()
             run.communicate()
@@ -271,7 +250,7 @@ def saved_to_a_pipe() -> None:
             os.close(reader)
             put(run, LINE)
             expect(line_of(run).endswith(AIR_EVEN.encode() + b"\n"), "a line that is not saved")
-            same(run.wait(timeout=20), 3)
+            same(run.wait(timeout=30), 3)
             said = run.communicate()[1].decode()
         same(said, f"squitter-feed: cannot write {path}: Broken pipe\nsquitter-feed: 2 printed, 1 not saved\n")
         done = subprocess.run(["bash", "-c", f'"$0" {source} --save=>(cat > {work}/log) | wc -l; wait $!', FEED],
@@ -320,7 +299,7 @@ def short_writes() -> None:
         if not piece:
             break
         data += piece
-    feeder.join(timeout=20)
+    feeder.join(timeout=30)
     lines = data.splitlines(True)
     same((len(lines), run.returncode), (20_000, 0))
     expect(all(line.endswith(b" %s\n" % AIR_EVEN.encode()) for line in lines), "torn lines")
@@ -412,7 +391,7 @@ def closed_while_waiting() -> None:
             wait_until(lambda: is_waiting(run.pid), "waiting")
             if run.stdout:
                 run.stdout.close()
-            same(run.wait(timeout=10), 0)
+            same(run.wait(timeout=30), 0)
             saved = 3 if len(data) > 50 else 0
             left = f", {saved - printed} not written" if saved > printed else ""
             same(reported(run), f"squitter-feed: {printed} printed{left}\n", words, data)

@@ -51,7 +51,7 @@ class Daemon:
         self.binary = self.link("bi")
 
     def link(self, name: str) -> socket.socket:
-        for _ in range(100):
+        for _ in range(1200):
             try:
                 return socket.create_connection(("127.0.0.1", self.ports[name]))
             except ConnectionRefusedError:
@@ -64,7 +64,7 @@ class Daemon:
     def wait_for_feed(self, name: str) -> None:
         """Until a connection to a port of it is there, and the daemon, which looks ten times a second, has seen it."""
         connection = re.compile(rf"^ *\d+: \S+ 0100007F:{self.ports[name]:04X} 01 ", re.M)
-        for _ in range(200):
+        for _ in range(1200):
             with open("/proc/net/tcp") as table:
                 if connection.search(table.read()):
                     time.sleep(0.7)
@@ -108,8 +108,8 @@ class Printed:
 
     def end(self) -> str:
         self.run.send_signal(signal.SIGINT)
-        self.run.wait(timeout=10)
-        self.thread.join(timeout=10)
+        self.run.wait(timeout=30)
+        self.thread.join(timeout=30)
         return "".join(self.lines)
 
 

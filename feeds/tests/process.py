@@ -1,6 +1,7 @@
 """squitter-feed as a process: what it prints, saves, refuses, how it ends, and how it connects again."""
 from __future__ import annotations
 
+import fcntl
 import gzip
 import os
 import re
@@ -9,12 +10,13 @@ import signal
 import socket
 import subprocess
 import tempfile
+import termios
 import threading
 import time
 from contextlib import ExitStack, contextmanager
-from typing import Dict, Iterator, List, Sequence, Tuple
+from typing import IO, Callable, Dict, Iterator, List, Sequence, Tuple, Union
 
-from trying import AIR_EVEN, AIR_ODD, REPLY, beast, clocked, expect, row, same
+from trying import AIR_EVEN, AIR_ODD, REPLY, beast, clocked, expect, row, same, took
 
 TOP = os.path.dirname(os.path.dirname(os.path.dirname(os.path.abspath(__file__))))
 FEED = f"{TOP}/feeds/squitter-feed"
@@ -237,6 +239,34 @@ def put(run: subprocess.Popen[bytes], data: bytes) -> None:
         run.stdin.flush()
 
 
+def wait_until(good: Callable[[], bool], what: str) -> None:
+    for _ in range(3000):
+        if good():
+            return
+        time.sleep(0.02)
+    expect(False, "it never comes to", what)
+
+
+def is_waiting(process: int) -> bool:
+    """Returns whether a process has its handlers of signals, has had all that were sent, and sleeps."""
+    with open(f"/proc/{process}/status") as status:
+        text = status.read()
+    caught, *pending = (int(re.findall(rf"{name}:\s*(\w+)", text)[0], 16) for name in ("SigCgt", "SigPnd", "ShdPnd"))
+    return bool(caught >> (signal.SIGTERM - 1) & 1) and not any(pending) and "State:\tS" in text
+
+
+def held_in(pipe: Union[int, IO[bytes], None]) -> int:
+    """Returns how many bytes a pipe holds."""
+    assert pipe is not None
+    return int.from_bytes(fcntl.ioctl(pipe, termios.FIONREAD, bytes(4)), "little")
+
+
+def wait_for_more(run: subprocess.Popen[bytes]) -> None:
+    """Waits until a run has read all that was written to it, and waits for more."""
+    wait_until(lambda: held_in(run.stdin) == 0, "reading all")
+    wait_until(lambda: is_waiting(run.pid), "waiting for more")
+
+
 def line_of(run: subprocess.Popen[bytes]) -> bytes:
     return run.stdout.readline() if run.stdout else b""
 
@@ -257,9 +287,9 @@ def at_once() -> None:
             put(run, frame)
             line = line_of(run)
             put(run, frame[:12])
-            time.sleep(0.1)
+            wait_for_more(run)
             run.send_signal(number)
-            rest, said = run.communicate(timeout=10)
+            rest, said = run.communicate(timeout=30)
             same((run.returncode, rest, said), (0, b"", b"squitter-feed: 1 printed, 1 damaged\n"), number)
             with open(f"{work}/log", "rb") as log:
                 same(log.read(), line)
@@ -276,7 +306,7 @@ def ends_well() -> None:
         if run.stdout:
             run.stdout.close()
         same(
-            (run.wait(timeout=10), reported(run)),
+            (run.wait(timeout=30), reported(run)),
             (0, "squitter-feed: 1 printed\n"),
             "a closed pipe while it waits",
         )
@@ -290,12 +320,13 @@ def ends_well() -> None:
     first = line_of(ignoring)
     ignoring.send_signal(signal.SIGINT)
     same(
-        (first.count(b"\n"), ignoring.communicate(frame, timeout=10)[0].count(b"\n")), (1, 1), "an interrupt is ignored"
+        (first.count(b"\n"), ignoring.communicate(frame, timeout=30)[0].count(b"\n")), (1, 1), "an interrupt is ignored"
     )
     with started(["-", "--reorder=300"]) as run:
         put(run, frame)
         begun = time.monotonic()
-        expect(line_of(run) and 0.2 < time.monotonic() - begun < 5, "a line that is held comes when its time is up")
+        expect(line_of(run), "no line")
+        took(begun, 0.2, 5, "a line that is held comes")
     done = subprocess.run(
         ["sh", "-c", '"$0" "$1" | head -n 1', FEED, f"{TOP}/examples/flights.log"], capture_output=True
     )
@@ -351,7 +382,7 @@ def cut_off() -> None:
                 expect(all(line.endswith(b" %s\n" % AIR_EVEN.encode()) for line in printed), printed)
                 link.close()
             run.send_signal(signal.SIGINT)
-            rest, said = run.communicate(timeout=10)
+            rest, said = run.communicate(timeout=30)
         expect(said.endswith(b"squitter-feed: 10 printed, 2 damaged\n") and not rest, said)
 
 
@@ -365,19 +396,19 @@ def connects_again() -> None:
         with listening(port) as listener:
             listener.settimeout(20)
             link, _ = listener.accept()
-            expect(1.5 < time.monotonic() - begun < 9, "connected after", time.monotonic() - begun)
+            took(begun, 1.5, 9, "connected")
             link.sendall(beast(AIR_EVEN, 12_000_000) * 3 + beast(AIR_ODD, 24_000_000)[:5])
             first = [line_of(run).split() for _ in range(3)][0]
             link.close()
             begun = time.monotonic()
             link, _ = listener.accept()
-            expect(0.7 < time.monotonic() - begun < 8, "connected again after", time.monotonic() - begun)
+            took(begun, 0.7, 8, "connected again")
             link.sendall(clocked(AIR_ODD, 12_000))
             second = line_of(run).split()
             passed = int(second[0]) - int(first[0])
-            expect(700 < passed < 9000, "the moments are", passed, "apart")
+            expect(700 < passed < 60_000, "the moments are", passed, "apart")
             run.send_signal(signal.SIGINT)
-            same(run.wait(timeout=10), 0)
+            same(run.wait(timeout=30), 0)
             said += reported(run)
             link.close()
     same(re.findall(r"again in (\d+) s", said), ["1", "2", "1"], said)
@@ -397,13 +428,13 @@ def silent_port() -> None:
         links[1].sendall(frame)
         same(fault_of(run), f"squitter-feed: 127.0.0.1:{silent.getsockname()[1]} has sent nothing for 10 s: frames "
              "come from port 30005 or 30002 of a dump1090, while it hears aircraft\n")
-        expect(9.9 < time.monotonic() - begun < 15, "reported after", time.monotonic() - begun)
+        took(begun, 9.9, 15, "reported")
         time.sleep(1)
         links[0].sendall(frame)
         line_of(run)
         for process in (run, quiet):
             process.send_signal(signal.SIGINT)
-        said = [process.communicate(timeout=10)[1] for process in (run, quiet)]
+        said = [process.communicate(timeout=30)[1] for process in (run, quiet)]
         for link in links:
             link.close()
     same(said, [b"squitter-feed: 1 printed\n"] * 2)

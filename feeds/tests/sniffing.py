@@ -319,7 +319,7 @@ def lost_in_an_archive() -> None:
             expect(line_of(run), "no line of", data[:20])
             link.close()
         run.terminate()
-        printed, said = run.communicate(timeout=10)
+        printed, said = run.communicate(timeout=30)
         same((run.returncode, printed.count(AIR_EVEN.encode()) > 0), (0, True), said)
         expect(b"archive" not in said, "a part of an archive is no fault of the run", said)
 

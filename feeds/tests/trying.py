@@ -3,6 +3,7 @@ from __future__ import annotations
 
 import inspect
 import os
+import time
 from types import ModuleType
 from typing import Callable, Iterator
 
@@ -28,9 +29,21 @@ class Missing(Exception):
     pass
 
 
+class Late(Failed):
+    """What took too long. Other programs may have held the test up, so it is tried again."""
+
+
 def expect(good: object, *words: object) -> None:
     if not good:
         raise Failed(" ".join(str(word) for word in words))
+
+
+def took(begun: float, least: float, most: float, *words: object) -> None:
+    """Fails unless the seconds since `begun`, a time of time.monotonic, are above `least` and below `most`."""
+    passed = time.monotonic() - begun
+    expect(passed > least, *words, "after", passed, "seconds, where it takes more than", least)
+    if passed >= most:
+        raise Late(" ".join(str(word) for word in (*words, "after", passed, "seconds, where it takes less than", most)))
 
 
 def same(got: object, wanted: object, *words: object) -> None:
