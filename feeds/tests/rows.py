@@ -11,7 +11,7 @@ from typing import List, Sequence, Tuple
 from parts import fed, log, split
 from process import FEED
 from squitter_feed import Feed, Options
-from trying import AIR_EVEN, AIR_ODD, COMM_B, REPLY, expect, same
+from trying import AIR_EVEN, AIR_ODD, COMM_B, REPLY, Late, expect, same
 
 ENOUGH = 1_000_000  # rows in a second of processor time, on a busy machine; alone it is several times as many
 LONGEST_LINE = 512
@@ -144,4 +144,5 @@ def fast() -> None:
                 same(done.stdout.count(b"\n"), count * (source != "/dev/null"))
             # (a start takes longer than the rows, and not the same each time: the difference may be below 0)
             rows_alone = min(taken[::2]) - min(taken[1::2])
-            expect(rows_alone <= count / ENOUGH, f"{count} rows took {rows_alone:.3f} s of processor time")
+            if rows_alone > count / ENOUGH:
+                raise Late(f"{count} rows took {rows_alone:.3f} s of processor time")
