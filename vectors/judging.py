@@ -115,8 +115,10 @@ def judge(case: Dict[str, Any], given: Optional[Dict[str, Any]], exact: bool) ->
     """What an answer to a case is worth."""
     if given is None:
         return Verdict("lost")
-    if given.get("unsupported"):
+    if given.get("unsupported") is True:
         return Verdict("unsupported")
+    if given.get("unsupported", False) is not False:
+        return Verdict("wrong")  # NaN and texts are true in Python, and would hide a case
     expected = case["answer"]
     try:
         if matches(expected, given, exact):

@@ -64,7 +64,7 @@ def second_source(made: Dict[str, str], environment: Dict[str, str]) -> List[str
             faults += [f"{adapter}: {name}: {remark}" for remark in result.remarks]
             for case in cases:
                 given = result.answers.get(case["id"])
-                if given is None or given.get("unsupported"):
+                if given is None or given.get("unsupported") is True:
                     continue
                 answered.add(case["id"])
                 verdict = judge(case, given, exact=True)
