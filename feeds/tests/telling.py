@@ -58,11 +58,13 @@ def outcome(words: List[str], data: bytes, full: bool = False) -> Tuple[int, Lis
 def which_first() -> None:
     """Of two errors the one that comes first is told, and the status is its own."""
     held, two = "--reorder=60000", "squitter-feed: 0 printed, 2 not written"
+    of_source = "cannot read /nonesuch: No such file or directory; a port is given as HOST:PORT"
     of_save, of_output = "cannot write /nonesuch/log: No such file or directory", f"cannot write: {FULL}"
     table = gzip.compress(b"time,icao24,rawmsg\n" + b"".join(b"x,%d,\n" % (k * k) for k in range(3000)))
     rows = [
-        # The output is opened before the source.
-        (["/nonesuch", "--save=/nonesuch/log"], b"", False, 3, [of_save]),
+        # The source is opened before the file that is saved.
+        (["/nonesuch", "--save=/nonesuch/log"], b"", False, 3, [of_source]),
+        (["-", "--save=/nonesuch/log"], LOG, False, 3, [of_save]),
         (["-", "--save=/dev/full"], LOG, True, 3, [f"cannot write /dev/full: {FULL}", f"{two}, 2 not saved"]),
         # An archive is refused while it is read, and the lines that are held cannot be written at the end.
         (["-", held], gzip.compress(LOG) + b"x", True, 1, ["-: the gzip archive is damaged at its end", two]),
@@ -79,6 +81,29 @@ def which_first() -> None:
         for line, text in zip(said, wanted):
             expect(text is None or line == (text if text.startswith("squitter-feed") else f"squitter-feed: {text}"),
                    words, "says", line, "where wanted is", text)
+
+
+def nothing_saved() -> None:
+    """No file is made to save in if the source cannot be opened, is a folder, or is standard output. A file that is
+    there stays as it is, also without a line feed at its end."""
+    with tempfile.TemporaryDirectory() as work:
+        new, old, source, kept = f"{work}/new", f"{work}/old", f"{work}/source", LOG[:-1]
+        for path in (old, source):
+            with open(path, "wb") as file:
+                file.write(kept)
+        for script, wanted in (
+            (f'"$0" {work}/none --save=$1', f"cannot read {work}/none: No such file or directory; a port is given as "
+                                            "HOST:PORT"),
+            (f'"$0" {work} --save=$1', f"cannot read {work}: Is a directory"),
+            ('"$0" - --save=$1 <&-', "cannot read -: standard input is closed"),
+            (f'"$0" {source} --save=$1 >> {source}', "cannot write standard output: it is the source"),
+        ):
+            for path in (new, old):
+                done = subprocess.run(["sh", "-c", script, FEED, path], capture_output=True, text=True, timeout=30)
+                same((done.returncode, done.stdout, done.stderr), (3, "", f"squitter-feed: {wanted}\n"), script)
+            same(sorted(os.listdir(work)), ["old", "source"], script)
+            with open(old, "rb") as file:
+                same(file.read(), kept, script)
 
 
 @contextmanager
