@@ -6,6 +6,9 @@ squitter_tracker_hear_many, by itself and with the degrees that `track` answers,
 A million frames (or so many FRAMES) of 900 aircraft, made by gen.c. Each is run in turn for five ROUNDS (or so many),
 `read` ten times a round as C's is, and the fastest counts, so that what else the machine does weighs on all alike.
 Needs NumPy and a C compiler."""
+from __future__ import annotations
+
+import argparse
 import os
 import re
 import subprocess
@@ -15,13 +18,23 @@ import time
 from fractions import Fraction
 from typing import Any, Callable, Dict, Tuple
 
-import numpy as np
-from numpy.typing import NDArray
+try:
+    import numpy as np
+    from numpy.typing import NDArray
+except ImportError:
+    np = None  # main reads the words first
 
 HERE = os.path.dirname(os.path.abspath(__file__))
 CLIB = os.path.join(HERE, "..", "clib")
 sys.path.insert(0, CLIB)
 AIRCRAFT = 900
+
+
+def number(word: str) -> int:
+    """Returns a number from 1 on, or refuses the word."""
+    if not re.fullmatch("[1-9][0-9]*", word):
+        raise argparse.ArgumentTypeError(f"{word} is no number from 1 on")
+    return int(word)
 
 
 def built(folder: str, name: str, *words: str) -> str:
@@ -101,11 +114,13 @@ def figures(folder: str, count: int) -> Dict[str, Callable[[], float]]:
 
 
 def main() -> None:
-    wrong = [word for word in sys.argv[1:] if not re.fullmatch("[1-9][0-9]*", word)]
-    if wrong:
-        print(f"batch.py: {wrong[0]} is no number from 1 on", file=sys.stderr)
-        sys.exit(2)
-    count, rounds = (int(word) for word in (sys.argv + ["1000000", "5"][len(sys.argv) - 1:])[1:3])
+    parser = argparse.ArgumentParser(description=__doc__, formatter_class=argparse.RawDescriptionHelpFormatter)
+    parser.add_argument("frames", nargs="?", default=1_000_000, type=number, metavar="FRAMES")
+    parser.add_argument("rounds", nargs="?", default=5, type=number, metavar="ROUNDS")
+    words = parser.parse_args()
+    if np is None:
+        sys.exit("batch.py: needs NumPy")
+    count, rounds = words.frames, words.rounds
     subprocess.run(["make", "-s", "-C", CLIB, "libsquitter.a", "libsquitter.so.0"], check=True)
     with tempfile.TemporaryDirectory() as folder:
         measured = figures(folder, count)

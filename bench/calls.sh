@@ -3,6 +3,7 @@
 # processor that it is installed for, and of dump1090's functions on codes where apt has the source package
 # dump1090-mutability (or DUMP1090 names a folder with its source). Needs what `make -C clib` needs, and Python 3.
 set -eu
+[ $# = 0 ] || { echo "calls.sh: takes no words" >&2; exit 2; }
 here=$(cd "$(dirname "$0")" && pwd)
 clib=$here/../clib
 make -s -C "$clib" libsquitter.a libsquitter.so.0

@@ -5,6 +5,7 @@
 # it is built in a copy of them, so that the gate does not prove it, or is the one that PROGRAM names. With KEEP, that
 # file keeps the built program. Needs rt and a C compiler.
 set -eu
+[ $# -le 1 ] || { echo "hear.sh: takes CALLS, and no more words" >&2; exit 2; }
 for word; do
     case $word in '' | *[!0-9]* | 0*) echo "hear.sh: $word is no number from 1 on" >&2; exit 2 ;; esac
 done

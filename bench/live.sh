@@ -3,6 +3,7 @@
 # that stays open is answered within the second; a million lines pass in 8 and in 16 MiB of address space; a line of 100
 # MB takes no memory; a full disk and a closed pipe are status 3.
 set -eu
+[ $# = 0 ] || { echo "live.sh: takes no words" >&2; exit 2; }
 here=$(cd "$(dirname "$0")" && pwd)
 frame=8D40621D58C382D690C8AC2863A7
 program=$("$here/../dist/program")

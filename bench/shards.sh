@@ -4,6 +4,7 @@
 # over the whole log, address by address. An address answers for itself alone as long as moments are in order and no
 # limit is reached, so none differs. The same for `check`, whose lines answer each for itself, cut at any line.
 set -eu
+[ $# -le 2 ] || { echo "shards.sh: takes LINES and SHARDS, and no more words" >&2; exit 2; }
 for word; do
     case $word in '' | *[!0-9]* | 0*) echo "shards.sh: $word is no number from 1 on" >&2; exit 2 ;; esac
 done

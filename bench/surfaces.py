@@ -262,6 +262,9 @@ def main() -> None:
     if wrong:
         print(f"surfaces.py: {wrong[0]} is no number from 1 on", file=sys.stderr)
         sys.exit(2)
+    if len(sys.argv) > 3:
+        print("surfaces.py: takes LINES and ROUNDS, and no more words", file=sys.stderr)
+        sys.exit(2)
     count, rounds = (int(word) for word in (sys.argv + ["1000000", "5"][len(sys.argv) - 1:])[1:3])
     program = os.environ.get("PROGRAM") or subprocess.run(
         [f"{TOP}/dist/program"], check=True, stdout=subprocess.PIPE, text=True).stdout.strip()

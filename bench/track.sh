@@ -4,6 +4,7 @@
 # Each is run three times, or so many ROUNDS, on the same log of good positions, its output to the null device, and the
 # fastest counts. Needs a C compiler and GNU time.
 set -eu
+[ $# -le 2 ] || { echo "track.sh: takes LINES and ROUNDS, and no more words" >&2; exit 2; }
 for word; do
     case $word in '' | *[!0-9]* | 0*) echo "track.sh: $word is no number from 1 on" >&2; exit 2 ;; esac
 done

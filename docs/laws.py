@@ -5,6 +5,7 @@ docs/laws.py          prints each law and each guard with the lemma files that i
 docs/laws.py --pins   prints what pins each premise, read from the contracts and definitions by pins.py.
 docs/laws.py --check  names each premise without a pin and each answer from which nothing is concluded; the status is
                       1 if there is any."""
+import argparse
 import glob
 import os
 import re
@@ -66,12 +67,15 @@ def files_of(crate: str) -> Iterator[str]:
 
 def main() -> None:
     signal.signal(signal.SIGPIPE, signal.SIG_DFL)  # `| head` ends the output without a traceback
-    if sys.argv[1:] == ["--pins"]:
+    parser = argparse.ArgumentParser(description=__doc__, formatter_class=argparse.RawDescriptionHelpFormatter)
+    either = parser.add_mutually_exclusive_group()
+    either.add_argument("--pins", action="store_true", help="print what pins each premise")
+    either.add_argument("--check", action="store_true", help="name each premise without a pin")
+    words = parser.parse_args()
+    if words.pins:
         print(pins.page(pins.Book()))
         return
-    if sys.argv[1:] not in ([], ["--check"]):
-        sys.exit(__doc__)
-    if "--check" in sys.argv:
+    if words.check:
         found = pins.faults(pins.Book())
         sys.exit("\n".join(found) if found else 0)
     lines = [HEAD]

@@ -8,6 +8,7 @@ import argparse
 import contextlib
 import os
 import re
+import shutil
 import subprocess
 from typing import List, Tuple
 
@@ -69,6 +70,8 @@ def main() -> None:
     parser = argparse.ArgumentParser(description="Writes flights.log and flights.truth beside this script.")
     parser.add_argument("program", metavar="PROGRAM", help="the program squitter, which encodes the positions")
     program = parser.parse_args().program
+    if not shutil.which(program):
+        parser.error(f"no program: {program}")
     here = os.path.dirname(os.path.abspath(__file__))
     files = [f"{here}/{name}" for name in ("flights.log", "flights.truth")]
     try:

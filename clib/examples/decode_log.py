@@ -4,16 +4,20 @@ import argparse
 import os
 import sys
 
-import squitter
-
 
 def main() -> None:
     parser = argparse.ArgumentParser(description="Prints what 'squitter track' prints for a log.")
     parser.add_argument("log", metavar="LOG", type=argparse.FileType("rb"),
                         help="a file whose lines have a timestamp in milliseconds and a frame")
+    given = parser.parse_args().log
+    try:
+        import squitter
+    except (ImportError, OSError):
+        print("decode_log.py: needs the Python module squitter: PYTHONPATH=clib, after make -C clib", file=sys.stderr)
+        sys.exit(3)
     out = sys.stdout.buffer
     try:
-        with parser.parse_args().log as file, squitter.Log() as log:
+        with given as file, squitter.Log() as log:
             for piece in iter(lambda: file.read1(1 << 16), b""):
                 out.write(log.take(piece))
                 out.flush()

@@ -6,6 +6,7 @@ program.
 The frames are nearly good: made of random positions, some damaged. The program reads them as one input of `check` and
 of `track`; `encode`, `local` and `pair`, with a site and without, are called so many times each. PROGRAM is the program
 (by default what dist/program says). Says what differs, and ends with status 1."""
+import argparse
 import os
 import random
 import subprocess
@@ -14,6 +15,18 @@ from concurrent.futures import ThreadPoolExecutor
 from fractions import Fraction
 
 HERE = os.path.dirname(os.path.abspath(__file__))
+
+
+def number(word):
+    if not (word.isdecimal() and int(word)):
+        raise argparse.ArgumentTypeError(f"{word} is no number from 1 on")
+    return int(word)
+
+
+# The words are read before dist/program builds the program.
+PARSER = argparse.ArgumentParser(description=__doc__, formatter_class=argparse.RawDescriptionHelpFormatter)
+PARSER.add_argument("count", nargs="?", default=10_000, type=number, metavar="COUNT")
+COUNT = PARSER.parse_args().count
 sys.path.insert(0, os.path.join(HERE, ".."))
 import squitter  # noqa: E402
 from squitter import AirHead, Code, Contact, Fault, GroundHead, Kind, Position, Tracker, What  # noqa: E402
@@ -211,11 +224,10 @@ def compare_arrays(rng, texts, _count):
 
 
 def main():
-    count = int(sys.argv[1]) if len(sys.argv) > 1 else 10_000
     rng = random.Random(20261122)
-    texts = list(random_frames(rng, count))
+    texts = list(random_frames(rng, COUNT))
     # (tries each function of this file with this prefix)
-    counts = {name: one(rng, texts, count) for name, one in list(globals().items()) if name.startswith("compare_")}
+    counts = {name: one(rng, texts, COUNT) for name, one in list(globals().items()) if name.startswith("compare_")}
     print(f"against the program: {counts['compare_logs']} frames by check and by track, "
           f"{counts['compare_calls']} calls of local, pair and encode; "
           f"{counts['compare_arrays']} places of each call of arrays; {differences} differ")

@@ -4,7 +4,12 @@
 # the package without what lies here: the library that came with it, the doctests, a log beside the program, and the
 # types by mypy if that is installed; and takes it away again. PROGRAM is the program. PYTHON needs pip.
 set -eu
+case $#/${1-} in
+  1/[!-]*) ;;
+  *) echo "pip.sh: takes one PYTHON, and no options: $*" >&2; exit 2 ;;
+esac
 python=$1
+command -v "$python" > /dev/null || { echo "pip.sh: no program: $python" >&2; exit 2; }
 clib=$(cd "$(dirname "$0")/.." && pwd)
 program=${PROGRAM:-$("$clib/../dist/program")}
 case $program in /*) ;; *) program=$PWD/$program ;; esac

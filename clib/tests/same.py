@@ -5,6 +5,7 @@ It compares the structs of the crates' sources, with the sizes and offsets that 
 the enums and flags as the specs state them; and the symbols that the archive and the shared object export and need. It
 needs a C compiler and nm. It prints each difference, and then has status 1. `clib/bindings` makes the tables of Python
 and JavaScript from the header, so they are not compared here; the order in which Python takes a struct apart is."""
+import argparse
 import os
 import re
 import subprocess
@@ -14,6 +15,7 @@ import tempfile
 HERE = os.path.dirname(os.path.abspath(__file__))
 CLIB = os.path.dirname(HERE)
 CRATE = os.path.join(os.path.dirname(CLIB), "crates", "squitter_c")
+argparse.ArgumentParser(description=__doc__, formatter_class=argparse.RawDescriptionHelpFormatter).parse_args()
 sys.path.insert(0, CLIB)
 os.environ.setdefault("LIBSQUITTER", os.path.join(CLIB, "libsquitter.so.0"))
 import squitter  # noqa: E402

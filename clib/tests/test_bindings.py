@@ -294,7 +294,10 @@ class OfTheCommand(unittest.TestCase):
             self.assertRegex(done.stderr, r"^squitter\.h:\d+: squitter_last has 16 bytes, not 24\n$")
             self.assertEqual(done.returncode, 1)
         self.assertEqual({path: self.read(path) for path in MADE}, MADE)
-        self.assertEqual((self.ran("--chek").returncode, "bindings [--check]" in self.ran("x").stderr), (1, True))
+        for words in (("--chek",), ("x",), ("--check", "x")):
+            done = self.ran(*words)
+            self.assertEqual((done.returncode, done.stdout), (2, ""))
+            self.assertRegex(done.stderr, "^usage: bindings .*--check")
 
 
 if __name__ == "__main__":

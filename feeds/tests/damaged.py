@@ -7,6 +7,7 @@ explained by RULES: each rewrites the stream as the feed reads it, and the model
 difference is a failure."""
 from __future__ import annotations
 
+import argparse
 import itertools
 import os
 import random
@@ -31,6 +32,13 @@ SENT = [*FRAMES, AIR_EVEN, AIR_ODD, REPLY, COMM_B, "2041"]
 WILD = (0, 1, 0xFF004D4C4154, (1 << 48) - 1, 1 << 47, 12_000 * 700_000, 12_000 * 10**9)  # ticks
 GARBAGE = (b"\x1a", b"\x1a1", b"\x1a4", b"\x1a9", b"*", b";", b"@", b"\r", b"\n", b" ", b'"', b",", b"\xb5", b"\x00",
            b"8D")
+
+
+def number(word: str) -> int:
+    """Returns a number from 1 on, or refuses the word."""
+    if not re.fullmatch("[1-9][0-9]*", word):
+        raise argparse.ArgumentTypeError(f"{word} is no number from 1 on")
+    return int(word)
 
 
 # ---- streams
@@ -258,7 +266,8 @@ def log_streams() -> None:
 
 
 if __name__ == "__main__":
-    if sys.argv[1:]:
-        STREAMS = int(sys.argv[1:][1]) if sys.argv[1] == "--streams" else sys.exit(__doc__)
+    parser = argparse.ArgumentParser(description=__doc__, formatter_class=argparse.RawDescriptionHelpFormatter)
+    parser.add_argument("--streams", type=number, default=STREAMS, metavar="N", help="damaged streams of each format")
+    STREAMS = parser.parse_args().streams
     for one in (beast_streams, avr_streams, csv_streams, log_streams):
         one()

@@ -81,7 +81,7 @@ def embedded_again(work: str) -> int:
         expect(ran("--check")[0] == 0, "after it is written")
     for words in (("--chek",), ("--check", "x")):
         status, told = ran(*words)
-        expect(status == 1 and told.startswith("embed [--check]: writes"), words, status, told)
+        expect(status == 2 and told.startswith("usage: embed [-h] [--check]\n"), words, status, told)
     return len(rows)
 
 

@@ -3,11 +3,13 @@
 
 Each function takes what a case asks and answers it, or {"refused": why}, or UNSUPPORTED. Copy it for a decoder of
 your own."""
+import argparse
 import json
 import sys
 from fractions import Fraction
 from typing import Optional
 
+argparse.ArgumentParser(description=__doc__, formatter_class=argparse.RawDescriptionHelpFormatter).parse_args()
 try:
     import pyModeS as pms
 except ImportError:
