@@ -13,7 +13,8 @@ FOLDERS = ".ci bench clib completions dist docs examples feeds hostile man tests
 SECONDS = 30
 OPTION, PLAIN = "--nonesuch", "nonesuch-x"
 
-# Scripts that are not called, and why.
+# Scripts that are not called, and why. The launcher `squitter` is in none of the folders, because its words are those
+# of the program. Nor is debian/, because the tools of Debian call its scripts.
 EXEMPT = {
     ".ci/run": "installs packages, and then runs make check",
 }
@@ -41,7 +42,7 @@ def script_files() -> Iterator[str]:
     """Yields the path of each file in Python and for a shell."""
     for folder in FOLDERS:
         for path in glob.glob(f"{TOP}/{folder}/**", recursive=True):
-            if os.path.isfile(path) and not re.search("/(out|build|__pycache__)/", path):
+            if os.path.isfile(path) and not re.search("/(out|build|__pycache__)/", path[len(TOP):]):
                 with open(path, "rb") as file:
                     if path.endswith((".py", ".sh")) or file.read(2) == b"#!":
                         yield path
