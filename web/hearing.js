@@ -13,9 +13,9 @@ async function squitterUnpacked(file) {
   }
   if (!isOf(0x1f, 0x8b)) return file;
   try {
-    return await new Response(file.stream().pipeThrough(new DecompressionStream("gzip"))).blob();
-  } catch {
-    throw new Error("its gzip data is damaged, ends early or has several parts");
+    return await squitterGunzipped(file);
+  } catch (error) {
+    throw error instanceof TypeError ? new Error("its gzip data is damaged or ends early") : error;
   }
 }
 
@@ -73,7 +73,8 @@ function squitterHearingWorker() {
 
 /** Starts a worker of a log. @param {any} task @param {(said: any) => void} told @returns {Worker} */
 function startHearing(task, told) {
-  const parts = [squitterModule, squitterUnpacked, squitterFeedOf, `(${squitterHearingWorker})();`];
+  const gzip = [squitterPaddingAt, squitterMember, squitterGunzipped];
+  const parts = [squitterModule, ...gzip, squitterUnpacked, squitterFeedOf, `(${squitterHearingWorker})();`];
   const text = ['"use strict";', ...parts].join("\n");
   const address = URL.createObjectURL(new Blob([text], { type: "text/javascript" }));
   const worker = new Worker(WORKER_POLICY.createScriptURL(address));

@@ -163,8 +163,7 @@ def late_squitters(browser: Chromium, path: str) -> None:
 
 
 def packed_files(tries: Tries, browser: Chromium, path: str, data: bytes, wanted: bytes) -> None:
-    """A file that is compressed with gzip is unpacked, and refused if it is cut or joined of two; other archives are
-    refused."""
+    """A file that is compressed with gzip is unpacked, and refused if it is cut. Other archives are refused."""
     packed = gzip.compress(data)
     given_file(browser, f"{path}.gz", packed)
     expect(heard(browser) == wanted, "Beast, compressed with gzip")
@@ -176,9 +175,9 @@ def packed_files(tries: Tries, browser: Chromium, path: str, data: bytes, wanted
     given_file(browser, f"{path}.log", damaged_line)
     got, settings = heard(browser), (10_000, 1000, SITE)
     expect(got == tracked(tries.program, damaged_line, settings), "a log that begins as gzip does, by one byte")
-    for broken in (packed[:-9], b"\x1f\x8b" + data[:99], packed + packed):
+    for broken in (packed[:-9], b"\x1f\x8b" + data[:99]):
         given_file(browser, f"{path}.cut", broken)
-        told = "not decoded to its end (its gzip data is damaged, ends early or has several parts)"
+        told = "not decoded to its end (its gzip data is damaged or ends early)"
         expect(told in shown(browser, "#log-state"), shown(browser, "#log-state"))
 
 
