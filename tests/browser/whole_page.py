@@ -12,7 +12,7 @@ import firefox
 from chromium import Chromium
 from logs import flights, tracked
 from trying import INDEX, SITE, TOP, Missing, Tries, bytes_of, expect, first_difference, read_text
-from using import ALT, CONTROL, META, clicked, heard, pressed, shown, silent
+from using import ALT, CONTROL, META, clicked, heard, pressed, shown, silent, typed
 
 
 # Fails unless library.js and squitter.js have the same names, and the same code once comments and space are left out.
@@ -223,7 +223,7 @@ def widths(tries: Tries) -> str:
     browser, folder, count = tries.page("log"), os.environ.get("SHOTS"), 0
     clicked(browser, "#log-example")
     heard(browser)
-    for width in (1100, 390):
+    for width in (1100, 390, 320, 280):
         for dark in (False, True):
             browser.look(width, 900, dark)
             for panel in PANELS:
@@ -234,8 +234,28 @@ def widths(tries: Tries) -> str:
                 count += 1
                 if folder:
                     browser.picture(f"{folder}/{panel}-{width}-{'dark' if dark else 'light'}.png")
+        rows = browser.evaluate("(({ scrollWidth, clientWidth }) => [scrollWidth, clientWidth])(byId('log-rows-box'))")
+        expect(rows[0] == rows[1], "the results are", rows[0], "wide in a box of", rows[1], "on", width)
+    count += narrow_examples(browser)
     silent(browser)
     return f"{count} views"
+
+
+def narrow_examples(browser: Chromium) -> int:
+    """All examples of the panels, and an error of the last one, on the narrowest phone. Returns how many there are."""
+    buttons = "[...document.querySelectorAll('[data-frame], [data-place]')]"
+    count = browser.evaluate(f"{buttons}.length")
+    for index in range(count):
+        wide = browser.evaluate(
+            f"(() => {{ const one = {buttons}[{index}]; byId(`tab-${{one.dataset.frame ? 'frame' : 'place'}}`).click();"
+            "one.click(); return document.documentElement.scrollWidth })()"
+        )
+        expect(wide <= 280, "example", index + 1, "is", wide, "wide")
+    clicked(browser, "#tab-send")
+    typed(browser, send_lat="1" * 80)
+    wide = browser.evaluate("document.documentElement.scrollWidth")
+    expect(wide <= 280, "an error is", wide, "wide")
+    return int(count) + 1
 
 
 class Quiet(http.server.SimpleHTTPRequestHandler):
