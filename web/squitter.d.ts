@@ -16,8 +16,8 @@ export interface Fraction {
   readonly den: Whole;
 }
 
-/** An exact number of degrees: a fraction, a BigInt, a number or a text such as "52.25". A number counts as its shortest
- * text: 52.31 is 5231/100. At most 12 decimals are valid, and computed numbers often have more: pass
+/** An exact number of degrees: a fraction, a BigInt, a number or a text such as "52.25". A number counts as its
+ * shortest text: 52.31 is 5231/100. At most 12 decimals are valid, and computed numbers often have more: pass
  * `degrees.toFixed(12)`. */
 export type Degrees = Fraction | Whole | string;
 
@@ -292,7 +292,8 @@ export interface Saved {
 
 /** A tracker of one address. A second address throws TABLE_FULL while the first is present. */
 export declare class Contact extends Tracker {
-  /** Creates a contact without frames. `window` is in milliseconds, WINDOW by default. Fault: BAD_POSITION (the site). */
+  /** Creates a contact without frames. `window` is in milliseconds, WINDOW by default. Fault: BAD_POSITION (the
+   * site). */
   constructor(library: Squitter, window?: Whole, site?: Position | null);
   /** The timestamp of the newest position; 0n if there is none. */
   get newest(): bigint;

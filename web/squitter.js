@@ -10,8 +10,8 @@
  * The module is dist/squitter.wasm, the proved library with 64-bit memory. This file only lays out arguments and
  * results in memory, as squitter.h does; the library computes them. Names are those of the Python module.
  *
- * DEGREES go in as a fraction {num, den} of two BigInts, a BigInt, a number or a text such as "52.25". A number counts as
- * its shortest text: 52.31 is 5231/100. At most 12 decimals are valid, and computed numbers often have more: pass
+ * DEGREES go in as a fraction {num, den} of two BigInts, a BigInt, a number or a text such as "52.25". A number counts
+ * as its shortest text: 52.31 is 5231/100. At most 12 decimals are valid, and computed numbers often have more: pass
  * degrees.toFixed(12). They come out as an Angle: nothing is rounded. A FRAME is 14 bytes or its text of 28
  * hexadecimal digits, bare or between * and ;. A call without a result throws a Fault: the first error in the
  * order of squitter.h. A whole number that does not fit its field in C throws the fault of that field. Any other value

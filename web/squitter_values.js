@@ -112,8 +112,8 @@ function decimal(number) {
   return places > 0 ? lowest(digits, 10n ** BigInt(places)) : { num: digits * 10n ** BigInt(-places), den: 1n };
 }
 
-/** Returns numerator and denominator of degrees: a fraction, a BigInt or a number. A number counts as its shortest text.
- * A fraction that does not fit in C becomes 0/0, which the library refuses. */
+/** Returns numerator and denominator of degrees: a fraction, a BigInt or a number. A number counts as its shortest
+ * text. A fraction that does not fit in C becomes 0/0, which the library refuses. */
 export function fraction(degrees) {
   if (!Number.isFinite(degrees) && typeof degrees !== "bigint" && typeof degrees?.num === "undefined") {
     throw new TypeError(`degrees are {num, den}, a BigInt, a number or a text such as "52.25", not ${String(degrees)}`);

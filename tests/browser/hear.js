@@ -11,7 +11,8 @@ function lineOf({ library, What, names }, columns, at) {
   if (!what) return `${numbers[at]} ${library.faultText(codes[at], firsts[at])}\n`;
   const place = Number.isNaN(lats[at]) ? "" : ` ${lats[at].toFixed(7)} ${lons[at].toFixed(7)}`;
   const counts = what === What.SPLIT ? ` ${evens[at]} ${odds[at]}` : "";
-  return `${numbers[at]} ${names[what]} ${addresses[at].toString(16).toUpperCase().padStart(6, "0")}${place}${counts}\n`;
+  const address = addresses[at].toString(16).toUpperCase().padStart(6, "0");
+  return `${numbers[at]} ${names[what]} ${address}${place}${counts}\n`;
 }
 
 /** Returns the timestamp, the kind and the altitude at an index of columns, as they are in a row of CSV. */

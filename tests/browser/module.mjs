@@ -544,7 +544,8 @@ function piecesOfBytes() {
 function piecesOfText() {
   const feed = new Feed(library), log = new Log(library), beast = [[1, EVEN], [2, ODD]];
   const source = together(beast.map(([seconds, frame]) => beastMessage("3", 12_000_000 * seconds, frame)));
-  const texts = [log.takeText(feed.takeText(source)), log.takeText(feed.finishText()), log.takeText("5 \u00e9\u00e9\n")];
+  const others = "5 \u00e9\u00e9\n";
+  const texts = [log.takeText(feed.takeText(source)), log.takeText(feed.finishText()), log.takeText(others)];
   const wanted = "1 waiting 40621D\n2 fix 40621D 52.2657802 3.9389125\n3 bad length 4\n";
   if (texts.join("") !== wanted || log.take(`9 ${EVEN}\n\n9`).whats.length !== 1) throw new Error(texts.join(""));
 }
@@ -649,7 +650,8 @@ function largeFeeds() {
 
 /** Tests arrivals of a live source, the end of a text, and a lost connection. */
 function liveFeeds() {
-  const live = new Feed(library, { format: FeedFormat.AVR, live: true }), dead = new Feed(library, { format: FeedFormat.BEAST, leap: 500 });
+  const live = new Feed(library, { format: FeedFormat.AVR, live: true });
+  const dead = new Feed(library, { format: FeedFormat.BEAST, leap: 500 });
   const told = [live.takeText(text(`*${EVEN};${ODD}`), 1_700_000_000_000), live.finishText(1_700_000_000_500n)];
   if (told.join("") !== `1700000000000 ${EVEN}\n1700000000500 ${ODD}\n`) throw new Error(`arrivals ${told}`);
   const last = [live.takeText(text(EVEN), 1_700_000_000_600), linesOf(live.finish(1_700_000_000_700))];
