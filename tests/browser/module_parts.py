@@ -39,6 +39,13 @@ def tracked_by_node(tries: Tries) -> str:
     return done.stdout.strip()
 
 
+def in_workers(tries: Tries) -> str:
+    """tests/browser/workers.mjs: four worker threads and the main one decode at once, each as one thread alone does."""
+    done = subprocess.run([*tries.node, f"{HERE}/workers.mjs"], capture_output=True, text=True)
+    expect(done.returncode == 0, done.stderr)
+    return done.stdout.strip()
+
+
 WITHOUT_FLAG = """
 import { load } from "TOP/web/squitter.js";
 import { readFileSync } from "node:fs";
