@@ -33,12 +33,18 @@ function selectText(node) {
 
 /** Returns a button that copies the text of an element. If the browser refuses, the button selects the text. */
 function copyButton(node, what) {
-  const button = element("button", { type: "button", class: "copy", "aria-label": `Copy ${what}` }, "Copy");
+  const button = element("button", { type: "button", class: "copy" });
+  // The name for screen readers begins with the text, and changes with it.
+  const say = (text, more) => {
+    button.textContent = text;
+    button.setAttribute("aria-label", `${text} ${more}`);
+  };
+  say("Copy", what);
   button.addEventListener("click", async () => {
     const isCopied = await copyText(node.textContent);
     if (!isCopied) selectText(node);
-    button.textContent = isCopied ? "Copied" : "Press Ctrl+C";
-    setTimeout(() => { button.textContent = "Copy"; }, COPIED_FOR);
+    say(isCopied ? "Copied" : "Press Ctrl+C", isCopied ? what : `to copy ${what}`);
+    setTimeout(() => say("Copy", what), COPIED_FOR);
   });
   return button;
 }

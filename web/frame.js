@@ -148,7 +148,7 @@ function frameShown(library, text) {
 /** @param {Library} library */
 function startFrame(library) {
   const input = byId("frame-text");
-  const answer = () => byId("frame-answer").replaceChildren(...frameShown(library, input.value.trim()));
+  const answer = () => showAnswer(byId("frame-answer"), frameShown(library, input.value.trim()));
   answerWith(byId("frame-form"), answer);
   for (const button of document.querySelectorAll("[data-frame]")) {
     button.addEventListener("click", () => {

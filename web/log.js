@@ -112,7 +112,7 @@ class LogPanel {
     }
     if (done !== undefined) {
       byId("log-progress").value = done;
-      this.say(`Decoding ${this.name}: ${this.answers.count} results.`);
+      this.say(`Decoding ${this.name}: ${this.answers.count} results.`, false);
     }
     if (finished) this.end("decoded", feed, kind);
     if (failed) this.end(`not decoded to its end (${failed})`);
@@ -205,7 +205,9 @@ class LogPanel {
     this.worker = null;
   }
 
-  say(text) {
+  /** Shows the state. A screen reader does not read the counts of a long log aloud: there is one for each MiB. */
+  say(text, isAloud = true) {
+    byId("log-state").setAttribute("aria-live", isAloud ? "polite" : "off");
     byId("log-state").textContent = text;
   }
 

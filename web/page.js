@@ -51,6 +51,14 @@ const fractionText = ({ num, den }) => `${num}/${den}`;
 /** Returns a paragraph with an error. It says so in words, because not all readers see its colour. */
 const refusal = (what, error) => element("p", { class: "refusal" }, element("strong", {}, `${what}: `), error.message);
 
+/** Shows an answer. A screen reader reads only its first part aloud, because each key that is typed gives another one.
+ * @param {any} holder @param {HTMLElement[]} answer */
+function showAnswer(holder, [first, ...others]) {
+  const [said, rest] = holder.children;
+  said.replaceChildren(first);
+  rest.replaceChildren(...others);
+}
+
 /** Parses a position from two texts. An error names the text with it. */
 function positionOf(library, latText, lonText) {
   const part = (name, text) => {

@@ -3,12 +3,13 @@
 
 const PARITIES = ["even", "odd"];
 
-/** Returns a position beside its picture: with seven decimals, and as exact fractions. */
+/** Returns a position: in words, and as a table beside its picture, with seven decimals and as exact fractions. */
 function placeShown(place, picture) {
   const row = (name, angle) => [name, String(angle), fractionText(angle)];
   const table = tableOf("The position in degrees", ["", "Decimal", "Exact"],
     [row("latitude", place.lat), row("longitude", place.lon)]);
-  return element("div", { class: "side" }, ...picture, table);
+  const words = element("p", { class: "answer" }, `Latitude ${place.lat}, longitude ${place.lon}`);
+  return [words, element("div", { class: "side" }, ...picture, table)];
 }
 
 /** Returns the receiver position that is typed, or null if both fields are empty. */
@@ -88,7 +89,7 @@ function pairShown(library, olderText, newerText, site) {
   const isGround = library.read(newer).kind === Kind.GROUND;
   const picture = isGround ? [groundPicture(library, older, newer, site, place)]
     : pairPicture(library, older, newer, place);
-  return [placeShown(place, picture), pairSteps(library, older, newer, site),
+  return [...placeShown(place, picture), pairSteps(library, older, newer, site),
     ...(isGround ? [quarters(library, older, newer, site)] : []),
     tableOf("The zone of the newer frame", ["", "Value"], zoneRows(library, newer, place))];
 }
@@ -104,7 +105,7 @@ function localShown(library, text, reference) {
     ["longitude zones (NL) at the reference", orFault(() => library.zoneCount(reference.lat))],
     ...zoneRows(library, frame, place),
   ];
-  return [placeShown(place, [localPicture(library, frame, place, reference)]),
+  return [...placeShown(place, [localPicture(library, frame, place, reference)]),
     tableOf("Step by step", ["", "Value"], rows)];
 }
 
@@ -131,7 +132,7 @@ function placeAnswer(library) {
 
 /** @param {Library} library */
 function startPlace(library) {
-  const answer = () => byId("place-answer").replaceChildren(...placeAnswer(library));
+  const answer = () => showAnswer(byId("place-answer"), placeAnswer(library));
   answerWith(byId("place-form"), answer);
   for (const button of document.querySelectorAll("[data-place]")) {
     button.addEventListener("click", () => {

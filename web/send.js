@@ -50,7 +50,7 @@ function headTyped(library, kind) {
 function sentCard(parity, frame) {
   const text = element("code", { class: "hex" }, frame);
   return element("section", { class: "card" }, element("h3", {}, `${parity} frame`), text,
-    copyButton(text, `the ${parity} frame`));
+    copyButton(text, `the ${parity.toLowerCase()} frame`));
 }
 
 /** Returns what the panel shows: the frames, a picture of their points, and the steps. */

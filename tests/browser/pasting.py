@@ -108,7 +108,7 @@ def copied(tries: Tries) -> str:
         browser.wait("![...document.querySelectorAll('.copy')].some((one) => one.textContent !== 'Copy')")
     left = browser.evaluate("[document.querySelectorAll('body > textarea').length, "
                             "...[...document.querySelectorAll('.copy')].map((one) => one.getAttribute('aria-label'))]")
-    expect(left == [0, "Copy the Even frame", "Copy the Odd frame"], left)
+    expect(left == [0, "Copy the even frame", "Copy the odd frame"], left)
     frames = [shown(browser, f"#send-answer .card:nth-child({at}) code") for at in (1, 2)]
     tops = browser.evaluate("[...document.querySelectorAll('#send-answer .card')].map((one) => "
                             "one.getBoundingClientRect().top)")

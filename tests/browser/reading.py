@@ -1,0 +1,76 @@
+"""A part of tests/page about what a screen reader reads: names, descriptions, and what is read aloud by itself."""
+import json
+from typing import Any, List
+
+from chromium import Chromium
+from trying import AIR_EVEN, Tries, expect
+from using import clicked, heard, shown, silent, typed
+
+# Keeps what the state of the log says, and whether it is read aloud.
+STATES = """{
+  const state = byId("log-state");
+  window.statesTold = [];
+  new MutationObserver(() => statesTold.push([state.getAttribute("aria-live"), state.textContent]))
+    .observe(state, { childList: true });
+}"""
+
+
+def accessible(browser: Chromium, selector: str) -> List[Any]:
+    """Returns the role, name and description of an element, as the browser gives them to a screen reader."""
+    root = browser.call("DOM.getDocument")["root"]["nodeId"]
+    node = browser.call("DOM.querySelector", nodeId=root, selector=selector)["nodeId"]
+    told = browser.call("Accessibility.getPartialAXTree", nodeId=node, fetchRelatives=False)["nodes"][0]
+    return [told.get(key, {}).get("value", "") for key in ("role", "name", "description")]
+
+
+def read_aloud(tries: Tries) -> str:
+    """Of an answer, its first line is read aloud, and not its tables. Pages of results are, and counts of a long log are
+    not. The map and the buttons that copy have names that say what they do."""
+    browser = tries.page("frame")
+    said = "[...document.querySelectorAll('#panel-{0} [aria-live]')].map((one) => one.innerText).join('|')"
+    rows = (
+        ("frame", "[data-frame='8D40621D58C382D690C8AC2863A7']", "40621D: airborne position"),
+        ("frame", "[data-frame='*8D40621D58C382D690G8AC2863A7;']", "Refused: "),
+        ("place", "[data-place^='pair 8D40621D']", "Latitude 52.2657802, longitude 3.9389125"),
+        ("place", "[data-place^='local']", "Latitude 52.2572021, longitude 3.9193726"),
+        ("place", "[data-place^='pair 8D43029E']", "Latitude -90.0000000, longitude "),
+    )
+    for panel, button, wanted in rows:
+        clicked(browser, f"#tab-{panel}")
+        clicked(browser, button)
+        got = browser.evaluate(said.format(panel))
+        expect(got.startswith(wanted) and "\n" not in got.strip(), button, json.dumps(got))
+        expect(len(shown(browser, f"#{panel}-answer")) > len(got), button, "shows nothing else")
+    typed(browser, place_newer="x")
+    expect(browser.evaluate(said.format("place")).startswith("Refused: "), browser.evaluate(said.format("place")))
+    clicked(browser, "#tab-send")
+    copy = "#send-answer .card:nth-child(2) button"
+    for text, more in (("Copied", "the odd frame"), ("Press Ctrl+C", "to copy the odd frame")):
+        expect(accessible(browser, copy)[1] == "Copy the odd frame", accessible(browser, copy))
+        browser.evaluate(f"window.copyText = async () => {json.dumps(text == 'Copied')}; 0")
+        clicked(browser, copy)
+        browser.wait(f"document.querySelector('{copy}').textContent === {json.dumps(text)}")
+        expect(accessible(browser, copy)[1] == f"{text} {more}", accessible(browser, copy))
+        browser.wait(f"document.querySelector('{copy}').textContent === 'Copy'")
+    silent(browser)
+    return f"{len(rows) + 3} answers, {log_aloud(tries)} states of a log"
+
+
+def log_aloud(tries: Tries) -> int:
+    """What is read aloud of a log that is decoded, and of its map. Returns how often the state changed."""
+    browser, path = tries.page("log"), f"{tries.work}/aloud.log"
+    role, name, description = accessible(browser, "#map")
+    expect((role, name) == ("application", "Map") and "Enter reads the position" in description, role, description)
+    with open(path, "w", encoding="ascii") as file:
+        file.writelines(f"{moment} {AIR_EVEN}\n" for moment in range(80_000))
+    browser.evaluate(STATES)
+    browser.give("#log-file", path)
+    browser.wait("squitterLog.name === 'aloud.log'")
+    heard(browser)
+    first, *counts, last = browser.evaluate("statesTold")
+    expect(first == ["polite", "Decoding aloud.log."], first)
+    expect(len(counts) > 1 and all(live == "off" and text.endswith("results.") for live, text in counts), counts)
+    expect(last[0] == "polite" and last[1].startswith("aloud.log: decoded."), last)
+    expect(accessible(browser, "#log-rows")[0] == "status", accessible(browser, "#log-rows"))
+    silent(browser)
+    return len(counts) + 2
