@@ -139,8 +139,9 @@ class LogPanel {
     const parts = [`${this.name}: ${how}. ${some(count, "line")}, ${some(places, "position")}, ${refused} refused, ` +
       `in ${this.seconds.toFixed(1)} s.`];
     if (feed) {
-      const { found, written, damaged } = feed;
+      const { found, written, damaged, aside } = feed;
       parts.push(`The file has ${some(found, "frame")}: ${some(written, "squitter")}, ${damaged} damaged.`);
+      if (aside) parts.push(`It has ${some(aside, "squitter")} out of order, set aside. Is it sorted by time?`);
     }
     if (withoutSite) {
       const what = withoutSite === 1 ? "1 frame from the ground has" : `${withoutSite} frames from the ground have`;

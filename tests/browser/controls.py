@@ -320,6 +320,11 @@ SUMMARY_ROWS: Rows = (
     ("told({ count: 0, places: 3, refused: 4 })", "a.log: decoded. 0 lines, 3 positions, 4 refused, in 1.3 s."),
     ("told({}, { found: 9n, written: 7n, damaged: 2n })", f"{SUMMED} The file has 9 frames: 7 squitters, 2 damaged."),
     ("told({}, { found: 1n, written: 1n, damaged: 0n })", f"{SUMMED} The file has 1 frame: 1 squitter, 0 damaged."),
+    ("told({}, { found: 9n, written: 7n, damaged: 2n, aside: 0n })",
+     f"{SUMMED} The file has 9 frames: 7 squitters, 2 damaged."),
+    ("told({}, { found: 9n, written: 1n, damaged: 0n, aside: 8n })",
+     f"{SUMMED} The file has 9 frames: 1 squitter, 0 damaged. It has 8 squitters out of order, set aside. Is it sorted "
+     "by time?"),
     ("told({ withoutSite: 1 })",
      f"{SUMMED} 1 frame from the ground has no position: type the position of your receiver."),
     ("told({ withoutSite: 2 })",

@@ -142,6 +142,9 @@ def receiver_files(tries: Tries) -> str:
     late_squitters(browser, path)
     packed_files(tries, browser, path, files["beast"], wanted)
     strange_files(tries, browser, path)
+    rows = [f"{(9 - hour) * 3600},40621d,{AIR_EVEN}\n" for hour in range(9)]
+    given_file(browser, f"{path}.unsorted", "".join(["time,icao24,rawmsg\n", *rows]).encode())
+    expect("8 squitters out of order, set aside." in shown(browser, "#log-state"), shown(browser, "#log-state"))
     given_file(browser, f"{path}.zero", b"".join(map(beast, frames[:100])))
     expect("(its frames have no times)" in shown(browser, "#log-state"), shown(browser, "#log-state"))
     silent(browser)

@@ -24,8 +24,8 @@ def accessible(browser: Chromium, selector: str) -> List[Any]:
 
 
 def read_aloud(tries: Tries) -> str:
-    """Of an answer, its first line is read aloud, and not its tables. Pages of results are, and counts of a long log are
-    not. The map and the buttons that copy have names that say what they do."""
+    """Of an answer, its first line is read aloud, and not its tables. Pages of results are, and counts of a long log
+    are not. The map and the buttons that copy have names that say what they do."""
     browser = tries.page("frame")
     said = "[...document.querySelectorAll('#panel-{0} [aria-live]')].map((one) => one.innerText).join('|')"
     rows = (
