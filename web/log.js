@@ -241,9 +241,12 @@ class LogPanel {
     byId("log-on").disabled = this.at + ROWS_SHOWN >= left.length;
   }
 
+  /** Shows the next rows, or those before. A disabled button loses the focus, so the other one takes it. */
   turn(by) {
     this.at = Math.max(0, this.at + by);
     this.showRows();
+    const [pressed, other] = by > 0 ? ["log-on", "log-back"] : ["log-back", "log-on"];
+    if (byId(pressed).disabled) byId(other).focus();
   }
 
   listen() {

@@ -4,7 +4,7 @@ from typing import Any, List
 
 from chromium import Chromium
 from trying import AIR_EVEN, Tries, expect
-from using import clicked, heard, shown, silent, typed
+from using import clicked, heard, pressed, shown, silent, typed
 
 # Keeps what the state of the log says, and whether it is read aloud.
 STATES = """{
@@ -72,5 +72,14 @@ def log_aloud(tries: Tries) -> int:
     expect(len(counts) > 1 and all(live == "off" and text.endswith("results.") for live, text in counts), counts)
     expect(last[0] == "polite" and last[1].startswith("aloud.log: decoded."), last)
     expect(accessible(browser, "#log-rows")[0] == "status", accessible(browser, "#log-rows"))
+    for at, button, focused in ((200, "log-back", "log-back"), (100, "log-back", "log-on"),
+                                (79_700, "log-on", "log-on"), (79_800, "log-on", "log-back")):
+        browser.evaluate(f"squitterLog.at = {at}; squitterLog.showRows(); byId('{button}').focus()")
+        pressed(browser, " ")
+        expect(browser.evaluate("document.activeElement.id") == focused, button, "at", at,
+               browser.evaluate("document.activeElement.id"))
+    # Each output is a status by itself, and the moment of a replay changes with each picture.
+    others = browser.evaluate("[...document.querySelectorAll('output')].map((one) => one.ariaLive)")
+    expect(others == ["off"], "outputs that are read aloud:", others)
     silent(browser)
     return len(counts) + 2
