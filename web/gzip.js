@@ -52,10 +52,15 @@ async function squitterGunzipped(file) {
     const start = Math.max(from - LENGTH_BYTES, 0), zeros = padding - start;
     const bytes = new Uint8Array(await file.slice(start, from + PIECE_BYTES).arrayBuffer());
     const view = new DataView(bytes.buffer);
-    const mayBegin = (at) => at >= zeros || (bytes[at] === 0x1f && (bytes[at + 1] ?? 0x8b) === 0x8b);
+    // Returns the first place from `at` on where a member or the padding may begin.
+    const startFrom = (at) => {
+      if (at >= zeros) return at;
+      let next = bytes.indexOf(0x1f, at);
+      while (next >= 0 && (bytes[next + 1] ?? 0x8b) !== 0x8b) next = bytes.indexOf(0x1f, next + 1);
+      return Math.min(next < 0 ? bytes.length : next, zeros);
+    };
     let written = from - start;
-    for (let at = written; at < bytes.length; at++) {
-      if (!mayBegin(at)) continue;
+    for (let at = startFrom(written); at < bytes.length; at = startFrom(at + 1)) {
       await member.write(bytes.subarray(written, at));
       written = at;
       if (await member.takes(bytes.subarray(at, at + 1))) {
