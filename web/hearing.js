@@ -19,6 +19,19 @@ async function squitterUnpacked(file) {
   }
 }
 
+/** Returns what a text is that is no log and no feed: a table that is not read, or a text without frames. Returns ""
+ * for any other text. @param {Uint8Array} first the first bytes of the file */
+function squitterTextKind(first) {
+  const text = new TextDecoder("latin1").decode(first);
+  const cell = /(^|[;\t,])"?(?:rawmsg|8[0-9a-f]{27})"?([;\t,]?)/im.exec(text);
+  if (!cell) return /[0-9a-f]{28}/i.test(text) ? "" : "It has no frames: a frame has 28 hexadecimal digits.";
+  return {
+    ";": "It is a table with semicolons between its columns: they have to be commas.",
+    "\t": "It is a table with tabs between its columns: they have to be commas.",
+    ",": "It is a table without times in seconds: it needs the columns time and rawmsg.",
+  }[cell[1] || cell[2]] ?? "";
+}
+
 /** Returns the feed that turns a receiver's bytes into a log, or null for a log, and what a file of another kind is.
  * Text without times counts as a log too: there each line is refused, while a feed would give all its frames one
  * time. */
@@ -33,7 +46,7 @@ function squitterFeedOf({ Feed, FeedFormat, Stranger }, library, first) {
     [Stranger.PACKED]: "It is compressed: only gzip is unpacked here, and once.",
     [Stranger.UTF16]: "It is UTF-16: save it as UTF-8.",
     [Stranger.JSON]: "It is JSON, which has no frames.",
-  }[stranger] ?? "";
+  }[stranger] ?? (format === null ? squitterTextKind(first) : "");
   if (format === null || format === FeedFormat.LOG) return { feed: null, kind };
   if (!isTimed && format === FeedFormat.BEAST) throw new Error("its frames have no times");
   return { feed: isTimed ? new Feed(library) : null, kind };
@@ -74,8 +87,8 @@ function squitterHearingWorker() {
 /** Starts a worker of a log. @param {any} task @param {(said: any) => void} told @returns {Worker} */
 function startHearing(task, told) {
   const gzip = [squitterPaddingAt, squitterMember, squitterGunzipped];
-  const parts = [squitterModule, ...gzip, squitterUnpacked, squitterFeedOf, `(${squitterHearingWorker})();`];
-  const text = ['"use strict";', ...parts].join("\n");
+  const kinds = [squitterTextKind, squitterFeedOf], start = `(${squitterHearingWorker})();`;
+  const text = ['"use strict";', squitterModule, ...gzip, squitterUnpacked, ...kinds, start].join("\n");
   const address = URL.createObjectURL(new Blob([text], { type: "text/javascript" }));
   const worker = new Worker(WORKER_POLICY.createScriptURL(address));
   URL.revokeObjectURL(address);

@@ -184,6 +184,22 @@ def packed_files(tries: Tries, browser: Chromium, path: str, data: bytes, wanted
         expect(told in shown(browser, "#log-state"), shown(browser, "#log-state"))
 
 
+SEMICOLONS, TABS = (f"It is a table with {name} between its columns: they have to be commas." for name in (
+    "semicolons", "tabs"))
+NO_TIMES = "It is a table without times in seconds: it needs the columns time and rawmsg."
+NO_FRAMES = "It has no frames: a frame has 28 hexadecimal digits."
+NO_MOMENTS = "No line has a timestamp. Put a time in milliseconds and a space before each frame."
+# Tables and texts of which each line is refused, and what the page says of them.
+TABLES = [
+    ("time;icao24;rawmsg\n1.5;40621d;8d40621d58c382d690c8ac2863a7\n", SEMICOLONS), (f"{AIR_EVEN};1.5\n", SEMICOLONS),
+    (f'"rawmsg";"time"\r\n"{AIR_EVEN}";"1.5"\r\n', SEMICOLONS), (f"time\trawmsg\n1.5\t{AIR_EVEN}\n", TABS),
+    (f"1.5\t\t{AIR_EVEN}", TABS), (f"icao24,rawmsg\n40621d,{AIR_EVEN}\n", NO_TIMES),
+    (f"1700000000000,40621d,{AIR_EVEN}\n", NO_TIMES), ("time,icao24,lat,lon\n1700000000,40621d,52.3,4.7\n", NO_FRAMES),
+    ("x" * 20_000 + "\n", NO_FRAMES), (f"{AIR_EVEN[:27]}\n", NO_FRAMES), (f"{AIR_EVEN}\n", NO_MOMENTS),
+    (f"*{AIR_EVEN};\n", NO_MOMENTS), (f"x {AIR_EVEN}\n", NO_MOMENTS),
+]
+
+
 def strange_files(tries: Tries, browser: Chromium, path: str) -> None:
     """If each line of a file of another kind is refused, the page says what it is. A log is none, though its first
     line looks like another kind."""
@@ -192,6 +208,7 @@ def strange_files(tries: Tries, browser: Chromium, path: str) -> None:
             ("json", b'{"now": 1}\n', "It is JSON, which has no frames."),
             ("utf16", line.encode("utf-16"), "It is UTF-16: save it as UTF-8."),
             ("tar", b"a.log".ljust(257, b"\0") + b"ustar\0", "It is a tar archive: unpack it first."),
+            *((f"table{number}", text.encode(), told) for number, (text, told) in enumerate(TABLES)),
             ("twice", gzip.compress(gzip.compress(line.encode())),
              "It is compressed: only gzip is unpacked here, and once."))
     for name, data, told in rows:
