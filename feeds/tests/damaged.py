@@ -23,7 +23,7 @@ if __name__ == "__main__":
 import model
 from parts import rows_of, split
 from squitter_feed import Feed, Options
-from trying import AIR_EVEN, AIR_ODD, COMM_B, ESCAPES, FRAMES, REPLY, beast, clocked, expect, row, same
+from trying import AIR_EVEN, AIR_ODD, COMM_B, FRAMES, REPLY, beast, clocked, expect, row, same
 
 STREAMS = 10_000
 ARRIVAL = 1_000_000  # milliseconds

@@ -11,7 +11,7 @@ from typing import List, Sequence, Tuple
 from parts import fed, log, split
 from process import FEED
 from squitter_feed import Feed, Options
-from trying import AIR_EVEN, AIR_ODD, COMM_B, REPLY, Late, expect, same
+from trying import AIR_EVEN, AIR_ODD, COMM_B, REPLY, Late, same
 
 ENOUGH = 1_000_000  # rows in a second of processor time, on a busy machine; alone it is several times as many
 LONGEST_LINE = 512

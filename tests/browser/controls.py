@@ -3,8 +3,7 @@ and words of a log, its table, and the tabs. Values are worked out by hand, at t
 import math
 
 from chromium import Chromium
-from logs import flights, tracked
-from trying import AIR_EVEN, SITE, Tries, expect
+from trying import Tries, expect
 from using import clicked, given_log, heard, pressed, shown, silent, typed
 from values import Rows, compared
 

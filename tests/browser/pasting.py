@@ -5,7 +5,7 @@ from typing import Any, Dict
 
 from chromium import Chromium
 from logs import USUAL, flights, tracked
-from trying import AIR_EVEN, AIR_ODD, SITE, Tries, expect, first_difference
+from trying import AIR_EVEN, AIR_ODD, Tries, expect, first_difference
 from using import clicked, heard, shown, silent, typed
 
 PERMISSIONS = ["clipboardReadWrite", "clipboardSanitizedWrite"]
