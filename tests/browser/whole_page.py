@@ -251,6 +251,12 @@ def narrow_examples(browser: Chromium) -> int:
             "one.click(); return document.documentElement.scrollWidth })()"
         )
         expect(wide <= 280, "example", index + 1, "is", wide, "wide")
+    clicked(browser, "#tab-log")
+    for what in ("0", ""):  # an error has no address, so its text is at the left edge
+        typed(browser, filter_what=what)
+        left = browser.evaluate("['answer', 'time', 'address'].map((name) => "
+                                "document.querySelector(`#log-table .cell-${name}`).getBoundingClientRect().left)")
+        expect((left[0] == left[1]) == (what == "0"), "filter", what, "begins at", left)
     clicked(browser, "#tab-send")
     typed(browser, send_lat="1" * 80)
     wide = browser.evaluate("document.documentElement.scrollWidth")
