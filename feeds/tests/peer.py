@@ -8,14 +8,21 @@ import socket
 import subprocess
 import threading
 import time
-from contextlib import contextmanager
-from typing import Callable, Iterator, List, Sequence, Tuple
+from contextlib import ExitStack, contextmanager
+from typing import Callable, Dict, Iterator, List, Sequence, Tuple
 
 from process import listening, log_of, reported, started, track, whole_flights
 from trying import Failed, Missing, beast, expect, same
 
 DAEMON = "dump1090-mutability"
 HOLD = "--reorder=1500"  # the daemon holds the first frame of an address until the second comes
+
+
+def free_ports(*names: str) -> Dict[str, int]:
+    """Returns a port for each name. All are held until the last one is known, so no two are the same."""
+    with ExitStack() as held:
+        listeners = [held.enter_context(listening()) for _ in names]
+        return {name: listener.getsockname()[1] for name, listener in zip(names, listeners)}
 
 
 class Daemon:
@@ -25,13 +32,19 @@ class Daemon:
         if shutil.which(DAEMON) is None:
             raise Missing(DAEMON)
         self.words = words
-        self.ports = {}
-        for name in ("ri", "ro", "bi", "bo"):
-            with listening() as listener:
-                self.ports[name] = listener.getsockname()[1]
-        self.start()
+        self.ports: Dict[str, int] = {}
+        for more in range(7, -1, -1):
+            self.ports = free_ports("ri", "ro", "bi", "bo")
+            try:
+                return self.start()
+            except Failed:
+                self.run.kill()
+                self.run.wait()
+                if not more:
+                    raise
 
     def start(self) -> None:
+        """Starts the daemon. Raises `Failed` if it does not listen, as where another program has taken a port."""
         words = [
             DAEMON,
             "--net-only",
@@ -55,6 +68,8 @@ class Daemon:
             try:
                 return socket.create_connection(("127.0.0.1", self.ports[name]))
             except ConnectionRefusedError:
+                if self.run.poll() is not None:
+                    break
                 time.sleep(0.05)
         raise Failed(f"{DAEMON} does not listen")
 
