@@ -1,4 +1,4 @@
-"""What tests/wrong-bodies keeps of what was refused, tried on four crates with a stand-in for rt."""
+"""Tests how tests/wrong-bodies keeps refusals, on four crates with a stand-in for rt."""
 import os
 import shutil
 import subprocess
@@ -17,7 +17,7 @@ FILES = {
     "crates/other/src/lib.rt": "pub fn four() -> u8 {\n    4\n}\n",
     "crates/more/src/lib.rt": "pub fn five() -> u8 {\n    5\n}\n",
 }
-# A prover that notes each check, and says what the file `said` has.
+# A stand-in for the prover. It counts its checks in the file `calls`, and prints the file `said`.
 PROVER = """#!/bin/sh
 [ "$1" = version ] && exec cat "$TREE/version"
 echo check >> "$TREE/calls"
@@ -53,7 +53,7 @@ class Tree:
 
 
 def differences(folder: str) -> Iterator[str]:
-    """Tries the script below a folder, and returns what it does that is not expected."""
+    """Runs the script below a folder. Yields each result that differs from the expected one."""
     tree, kept = Tree(folder), f"--kept={folder}/notes/kept"
     good, known = "1 checks, 1 passed, 0 failed, status 0", "0 checks, 1 passed, 0 failed, status 0"
 
@@ -67,7 +67,7 @@ def differences(folder: str) -> Iterator[str]:
     for name, text in [*FILES.items(), ("version", "kit 1\n"), ("tests/wrong-bodies", None)]:
         is_read = not name.startswith(("crates/other", "crates/more")) and name not in ("HANDLES", "crates.txt")
         own = (tree.top / name).read_text(encoding="utf-8") if text is None else text
-        # (a blank line changes no edit, but the sources that it is made for)
+        # (a blank line changes the sources, and leaves the edit's own texts the same)
         tree.put(name, f"{own}\n")
         yield from told(f"{name} changed", good if is_read and not name.endswith(".edit") else known, kept)
         tree.put(name, own)

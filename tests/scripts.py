@@ -18,7 +18,7 @@ OPTION, PLAIN = "--nonesuch", "nonesuch-x"
 EXEMPT = {
     ".ci/run": "installs packages, and then runs make check",
 }
-# Scripts that take a plain word of any kind or refuse it in another way, and what it is.
+# Scripts that accept any plain word, or refuse it in another way. The text says what the word means.
 FREE = {
     **{f"clib/tests/test_{name}.py": "a test; unittest says with status 1 that it is not there"
        for name in ("archive", "batch", "frames", "quick", "squitter")},
@@ -67,7 +67,7 @@ def calls() -> List[Tuple[str, str]]:
 
 
 def trouble_of(program: str, name: str, word: str) -> Optional[str]:
-    """Calls a script in an empty folder. Returns what is wrong with how it ends, or None."""
+    """Calls a script in an empty folder. Returns an error text if it ends in a wrong way, or None."""
     with tempfile.TemporaryDirectory() as folder:
         environment = {**os.environ, "PROGRAM": program, "TMPDIR": folder, "PYTHONDONTWRITEBYTECODE": "1"}
         try:

@@ -1,4 +1,4 @@
-"""What the parts of tests/run share: what is expected, and a program to try, with stand-ins for receivers."""
+"""Helpers of the parts of tests/run: checks, and the program under test, with stand-ins for receivers."""
 import os
 import re
 import shutil
@@ -10,7 +10,8 @@ TOP = os.path.dirname(os.path.dirname(os.path.abspath(__file__)))
 AIR_EVEN = "8D40621D58C382D690C8AC2863A7"
 AIR_ODD = "8D40621D58C386435CC412692AD6"
 
-# What the stand-ins of receivers print. The clock of `dump1090 --mlat` has 12 MHz: the second frame comes 6 s later.
+# The output of the stand-ins for receivers. The clock of `dump1090 --mlat` has 12 MHz: the second frame comes 6 s
+# later.
 FRAMES = f"*{AIR_EVEN};\n*{AIR_ODD};\n"
 CLOCKED = f"@000000000000{AIR_EVEN};\n@{72_000_000:012X}{AIR_ODD};\n"
 RECEIVERS = {
@@ -31,7 +32,7 @@ def python_with(*modules):
 
 
 class Failed(Exception):
-    """What was tried is not as it is expected."""
+    """A result differs from the expected one."""
 
 
 class Missing(Exception):
@@ -100,7 +101,7 @@ class Tries:
         return path
 
     def streams(self, script, folder, stderr=subprocess.PIPE):
-        """The status of a script, what it printed, and what it reported where that is kept apart, byte for byte."""
+        """Returns the status of a script, its output, and its error output if that is captured separately."""
         environment = dict(os.environ, HOME=folder, PATH=f"{self.stands}:{os.environ['PATH']}", LC_ALL="C.UTF-8")
         run = subprocess.Popen(["bash", "-o", "pipefail", "-c", script], cwd=folder, env=environment,
                                stdin=subprocess.DEVNULL, stdout=subprocess.PIPE, stderr=stderr, start_new_session=True)

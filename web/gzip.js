@@ -1,4 +1,4 @@
-/* gzip.js: unpacks gzip data of one member or several. Files that were joined, and those of bgzip, have several. */
+/* gzip.js: unpacks gzip data of one member or several. Joined files and files of bgzip have several. */
 "use strict";
 
 /** Returns the place from which a file has only zeros: gzip ignores them after the last member. @param {Blob} file */

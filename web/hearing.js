@@ -19,8 +19,8 @@ async function squitterUnpacked(file) {
   }
 }
 
-/** Returns what a text is that is no log and no feed: a table that is not read, or a text without frames. Returns ""
- * for any other text. @param {Uint8Array} first the first bytes of the file */
+/** Names the kind of a text that is neither a log nor a feed: a table in another form, or a text without frames.
+ * Returns "" for any other text. @param {Uint8Array} first the first bytes of the file */
 function squitterTextKind(first) {
   const text = new TextDecoder("latin1").decode(first);
   const cell = /(^|[;\t,])"?(?:rawmsg|8[0-9a-f]{27})"?([;\t,]?)/im.exec(text);
@@ -32,7 +32,7 @@ function squitterTextKind(first) {
   }[cell[1] || cell[2]] ?? "";
 }
 
-/** Returns the feed that turns a receiver's bytes into a log, or null for a log, and what a file of another kind is.
+/** Returns the feed that turns a receiver's bytes into a log, or null for a log, and a text that names any other kind.
  * Text without times counts as a log too: there each line is refused, while a feed would give all its frames one
  * time. */
 function squitterFeedOf({ Feed, FeedFormat, Stranger }, library, first) {

@@ -62,7 +62,7 @@ class _Listener(_Lent):
         limit = whole(limit, 32, "a limit is a whole number of addresses from 1")
         self._kind, self._lock, self._slot = kind, threading.RLock(), _SLOTS[kind]()
         here = None if site is None else _position(site)
-        # Copies need the site as it was, but a caller may change its list later, and an iterator is empty by now.
+        # A copy needs the site's first value. A caller may change a list later, and an iterator can be read only once.
         self._settings = window, None if here is None else here.given, limit
         block, self._memory = _lend(getattr(_lib, f"squitter_{kind}_size")(limit))
         slot = self._at = ctypes.byref(self._slot)
@@ -148,7 +148,7 @@ class Tracker(_Listener):
         return made
 
     def __setstate__(self, state: Any) -> None:
-        """Sets the attributes of a subclass: a dict, or a pair of two, each of which may be None. Raises TypeError for
+        """Sets the attributes of a subclass: a dict, or a pair of two dicts. Each may be None. Raises TypeError for
         any other state. An earlier version pickled the state of the tracker here too."""
         if isinstance(state, tuple) and len(state) == 5:
             *state, settings, last, entries = state

@@ -232,8 +232,8 @@ def full_file() -> None:
 
 
 def saved_to_a_pipe() -> None:
-    """A pipe that is saved to, and loses its reader, is an error, and the lines are printed. One that nobody reads is
-    refused at the start."""
+    """If a pipe for --save loses its reader, that is an error, and the lines are still printed. A pipe without a reader
+    is refused at the start."""
     count = 4000  # lines: more than a pipe holds
     with tempfile.TemporaryDirectory() as work:
         path, source = f"{work}/pipe", f"{work}/source"

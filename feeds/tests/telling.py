@@ -222,7 +222,7 @@ def misused() -> None:
 
 
 def help_that_is_not_taken() -> None:
-    """Help and version have status 3 if standard output is full, and 0 if nobody reads it."""
+    """Help and version have status 3 if standard output is full, and 0 if it is a pipe without a reader."""
     for name in ("squitter-feed", "squitter-geojson"):
         for words in (["--help"], ["--version"]):
             for environment in (BUFFERED, UNBUFFERED):
@@ -238,7 +238,7 @@ def full_output() -> int:
 
 
 def closed_output() -> int:
-    """Returns a pipe that nobody reads."""
+    """Returns a pipe without a reader."""
     reader, writer = os.pipe()
     os.close(reader)
     return writer

@@ -16,7 +16,7 @@ LATER = AIR_EVEN[:26] + "1A"  # an escape at its end; its parity is wrong, which
 ESCAPES = "8D1A1A1A1A1A33321A1A1A1A1A31"
 FRAMES = [AIR_EVEN, AIR_ODD, GROUND, ESCAPES, LATER]
 
-# Python tells of a full standard output at each write, or only at its exit.
+# Python reports a full standard output at each write, or only at its exit.
 BUFFERED = {name: value for name, value in os.environ.items() if name != "PYTHONUNBUFFERED"}
 UNBUFFERED = {**os.environ, "PYTHONUNBUFFERED": "1"}
 
@@ -30,7 +30,7 @@ class Missing(Exception):
 
 
 class Late(Failed):
-    """What took too long. Other programs may have held the test up, so it is tried again."""
+    """A test took too long. Other programs may have delayed it, so it is tried again."""
 
 
 def expect(good: object, *words: object) -> None:

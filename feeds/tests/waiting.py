@@ -37,7 +37,7 @@ def arrivals() -> None:
 
 
 def seconds_of_ready() -> None:
-    """Waiting takes the seconds that it was given, at least 0, and no processor time; what is ready ends it. The
+    """A wait takes the given seconds, at least 0, and no processor time. It ends as soon as a descriptor is ready. The
     seconds may be many, as with a long `--reorder`."""
     ready = parts()["ready"]
     reader, writer = os.pipe()
@@ -57,7 +57,7 @@ def seconds_of_ready() -> None:
 
 
 def patience() -> None:
-    """A connection is given ten seconds; one that cannot be made is told by the words of the system. An address with
+    """A connection may take ten seconds. If it fails, the system's reason is reported. An address with
     colons is named as it is given."""
     told: List[str] = []
     network = parts()["NetworkSource"]

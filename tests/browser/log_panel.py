@@ -152,7 +152,7 @@ def receiver_files(tries: Tries) -> str:
 
 
 def late_squitters(browser: Chromium, path: str) -> None:
-    """A receiver's file is heard also if its first MiB has Mode A/C or frames of other formats alone."""
+    """A receiver's file is decoded even if its first MiB has only Mode A/C or frames of other downlink formats."""
     for name, other, count in (("beast", "5D40621D1E3A51", 70_000), ("beast", "2000", 100_000),
                                ("avr", "5D40621D1E3A51", 40_000)):
         timed = [*((moment, other) for moment in range(count)), (count, AIR_ODD), (count + 400, AIR_EVEN)]
@@ -189,7 +189,7 @@ SEMICOLONS, TABS = (f"It is a table with {name} between its columns: they have t
 NO_TIMES = "It is a table without times in seconds: it needs the columns time and rawmsg."
 NO_FRAMES = "It has no frames: a frame has 28 hexadecimal digits."
 NO_MOMENTS = "No line has a timestamp. Put a time in milliseconds and a space before each frame."
-# Tables and texts of which each line is refused, and what the page says of them.
+# Tables and texts without a valid line, each with the page's message.
 TABLES = [
     ("time;icao24;rawmsg\n1.5;40621d;8d40621d58c382d690c8ac2863a7\n", SEMICOLONS), (f"{AIR_EVEN};1.5\n", SEMICOLONS),
     (f'"rawmsg";"time"\r\n"{AIR_EVEN}";"1.5"\r\n', SEMICOLONS), (f"time\trawmsg\n1.5\t{AIR_EVEN}\n", TABS),
@@ -201,8 +201,8 @@ TABLES = [
 
 
 def strange_files(tries: Tries, browser: Chromium, path: str) -> None:
-    """If each line of a file of another kind is refused, the page says what it is. A log is none, though its first
-    line looks like another kind."""
+    """If all lines of a file are refused, the page names the kind of file. A log is still a log if its first line looks
+    like another kind."""
     line = f"5 {AIR_EVEN}\n"
     rows = (("sbs", b"MSG,3,1,1,4840D6\n" * 3, "It is SBS (BaseStation) text, which has no frames."),
             ("json", b'{"now": 1}\n', "It is JSON, which has no frames."),

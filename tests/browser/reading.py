@@ -1,4 +1,4 @@
-"""A part of tests/page about what a screen reader reads: names, descriptions, and what is read aloud by itself."""
+"""A part of tests/page about screen readers: names, descriptions, and live regions."""
 import json
 from typing import Any, List
 
@@ -24,8 +24,8 @@ def accessible(browser: Chromium, selector: str) -> List[Any]:
 
 
 def read_aloud(tries: Tries) -> str:
-    """Of an answer, its first line is read aloud, and not its tables. Pages of results are, and counts of a long log
-    are not. The map and the buttons that copy have names that say what they do."""
+    """The first line of an answer is read aloud, without its tables. Pages of results are read too, and the progress of
+    a long log is not. The names of the map and of the copy buttons say what they do."""
     browser = tries.page("frame")
     said = "[...document.querySelectorAll('#panel-{0} [aria-live]')].map((one) => one.innerText).join('|')"
     rows = (

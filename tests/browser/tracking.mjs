@@ -229,7 +229,7 @@ function memoryUsedAgain() {
   same(memory.free.length <= 1, true, "all memory");
 }
 
-/** A claim that the memory has no room for is a RangeError, and leaves all as it was. */
+/** A claim beyond the memory is a RangeError, and changes nothing. */
 function memoryExhausted() {
   const { memory } = blank, end = memory.end;
   const refused = (count) => {

@@ -33,7 +33,7 @@ def stored(data: bytes) -> bytes:
 
 
 def of_length(length: int, data: bytes) -> bytes:
-    """Returns a member of this many bytes. Its file name fills what the data leave."""
+    """Returns a member of this many bytes. Its file name pads it to that length."""
     body = stored(data)[10:]
     return b"\x1f\x8b\x08\x08" + bytes(6) + b"n" * (length - len(body) - 11) + b"\0" + body
 
@@ -103,7 +103,7 @@ def members(tries: Tries) -> str:
 
 
 def many_members(tries: Tries, browser: Chromium) -> int:
-    """Hourly files and small blocks, joined, are heard as their log. The time grows as the number of members."""
+    """Joined hourly files and small blocks give the results of their log, in a time linear in their number."""
     log, path = flights(), f"{tries.work}/joined"
     wanted = tracked(tries.program, log, USUAL)
     half = log.index(b"\n", len(log) // 2) + 1
