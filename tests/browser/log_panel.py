@@ -196,7 +196,8 @@ TABLES = [
     (f"1.5\t\t{AIR_EVEN}", TABS), (f"icao24,rawmsg\n40621d,{AIR_EVEN}\n", NO_TIMES),
     (f"1700000000000,40621d,{AIR_EVEN}\n", NO_TIMES), ("time,icao24,lat,lon\n1700000000,40621d,52.3,4.7\n", NO_FRAMES),
     ("x" * 20_000 + "\n", NO_FRAMES), (f"{AIR_EVEN[:27]}\n", NO_FRAMES), (f"{AIR_EVEN}\n", NO_MOMENTS),
-    (f"*{AIR_EVEN};\n", NO_MOMENTS), (f"x {AIR_EVEN}\n", NO_MOMENTS),
+    (f"*{AIR_EVEN};\n", NO_MOMENTS), (f"x {AIR_EVEN}\n", NO_MOMENTS), (f"1,5;{AIR_EVEN},x\n", SEMICOLONS),
+    (f"*{AIR_EVEN};{AIR_EVEN}\n", NO_MOMENTS),  # AVR, with a frame between semicolons
 ]
 
 
