@@ -21,3 +21,8 @@ if [ -w /dev/full ]; then
   reported=$("$python" examples/decode_log.py ../examples/flights.log 2>&1 > /dev/full)
   [ "$?-$reported" = "3-decode_log.py: No space left on device" ] || { echo "a full disk: $reported"; exit 1; }
 fi
+# Without the module squitter it says what to do (-I leaves PYTHONPATH out, and -S what is installed).
+reported=$("$python" -I -S examples/decode_log.py ../examples/flights.log 2>&1 > /dev/null)
+status=$?
+wanted="3-decode_log.py: needs the Python module squitter: PYTHONPATH=clib, after make -C clib"
+[ "$status-$reported" = "$wanted" ] || { echo "no module: $reported"; exit 1; }

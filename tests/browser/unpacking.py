@@ -120,7 +120,8 @@ def many_members(tries: Tries, browser: Chromium) -> int:
         seconds.append(time.monotonic() - start)
         expect(got == times * len(log), times, "times:", got)
     expect(seconds[1] < 10 * seconds[0] + 2, "four times as many members take", seconds)
-    large = base64.b64encode(gzip.compress(b"0" * 2**24 + b"12345") * 2).decode()
+    # The length of these members has no zero byte at its end, so the padding begins where the member ends.
+    large = base64.b64encode(gzip.compress(b"0" * 2**24 + b"12345") * 2 + bytes(3)).decode()
     got = browser.evaluate(f"{UNPACKED}({json.dumps(large)}).then((text) => [text.length, text.replaceAll('0', '')])")
     expect(got == [2**25 + 10, "1234512345"], "32 MiB:", got)
     given_file(browser, f"{path}.cut.gz", blocks[:-9])
