@@ -2,6 +2,7 @@
 //! A function with an empty body does nothing: its contract is the statement.
 ghost use Rattle.std.specs.Prelude.{◌≡◌, ◌↔◌, IsTrue};
 ghost use Rattle.sq_angle.specs.Angle.{degrees};
+ghost use Rattle.sq_angle.specs.Bounds.{most_den};
 ghost use Rattle.sq_angle.specs.Decimal.{DecimalWriter};
 ghost use Rattle.sq_angle.specs.Fraction.{◌≃◌, ◌≺◌};
 ghost use Rattle.sq_angle.specs.Position.{HaveEqualAngles};
@@ -42,6 +43,11 @@ pub fn spelling_exactly()
 /// Reading a text has at most one result: one angle or one error.
 pub fn one_reading()
     ensures { OneReading }
+{}
+
+/// The greatest denominator of an angle, as a number.
+pub fn most_den_in_digits()
+    ensures { most_den ≡ 1000000000000 }
 {}
 
 /// Compares two angles by `==`, which is true exactly if they have the same value.

@@ -137,13 +137,14 @@ TameExactly span =
     (pos b.lon_index)))
 
 -- A point is on the grid exactly if its latitude is within 90 degrees, with the zones there, and its longitude index
--- is on the circle. The zones are the zone count, one less for odd, and at least one.
+-- is on the circle. The zones are the zone count, one less for odd, and at least one. The codes of a zone are spelled
+-- as a number, so their name cannot come to mean another.
 abbrev pub GridPointExactly : Span → Type 0
 GridPointExactly span =
     (point : Point) → IsGridPoint span point
     ↔ (IsLatitude span.degrees point.parity point.lat_index
     × (point.zones ≡ max (zones_at (latitude span point) - parity_index point.parity) 1)
-    × (point.lon_index < point.zones * codes_of_zone * span.repeats))
+    × (point.lon_index < point.zones * 131072 * span.repeats))
 
 -- an even grid has 60 zones of latitude, and an odd one 59
 abbrev pub ZonesAsNumbers : Type 0
@@ -171,11 +172,11 @@ thousandths n = record { num = pos n; den = 1000 }
 
 -- an even airborne point at 52.2572 degrees north and 3.9194 east
 abbrev pub even_point : Point
-even_point = record { parity = Even; lat_index = pos (8 * codes_of_zone + 93000); zones = 36; lon_index = 51372 }
+even_point = record { parity = Even; lat_index = pos (8 * 131072 + 93000); zones = 36; lon_index = 51372 }
 
 -- an odd airborne point at 52.2658 degrees north and 3.9389 east
 abbrev pub odd_point : Point
-odd_point = record { parity = Odd; lat_index = pos (8 * codes_of_zone + 74158); zones = 35; lon_index = 50194 }
+odd_point = record { parity = Odd; lat_index = pos (8 * 131072 + 74158); zones = 35; lon_index = 50194 }
 
 -- References of three decimals, which are no points of a grid. Both points are strictly near 52.258 3.918, and they
 -- are close to each other. The even one is not strictly near 55.258 3.918.

@@ -3,6 +3,7 @@
 //! A function with an empty body does nothing: its contract is the law. The others make the call that they speak of.
 ghost use Rattle.sq_cpr.specs.Laws.{RoundsToOne, RoundsToItself, SameZones, SamePoints};
 ghost use Rattle.sq_cpr.specs.DecodeLaws.{FractionsAgree};
+ghost use Rattle.sq_cpr.specs.DecodeLaws.{OneCloseLatitudes, OneCloseLongitudes, OneNearLatitude};
 ghost use Rattle.sq_cpr.specs.DecodeLaws.{StrictlyNearIsNear, NearPointIsLocal, StrictlyNearPointIsLocal};
 ghost use Rattle.sq_cpr.specs.DecodeLaws.{LocalKeepsCode};
 ghost use Rattle.sq_cpr.specs.DecodeLaws.{PairKeepsCode, AirPairKeepsCode, CloseAirPointsAreAnswered};
@@ -32,6 +33,21 @@ pub fn same_zones<S: Span>()
 /// Two points of a grid are equal exactly if their parities and both indices are equal.
 pub fn same_points<S: Span>()
     ensures { SamePoints S.span }
+{}
+
+/// Each latitude code has exactly one index near a reference.
+pub fn one_near_latitude<S: Span>()
+    ensures { OneNearLatitude S.span }
+{}
+
+/// Any two latitude codes have exactly one close pair of latitudes.
+pub fn one_close_latitudes<S: Span>()
+    ensures { OneCloseLatitudes S.span }
+{}
+
+/// Any two longitude codes have exactly one close pair of longitudes, for each zone count from 1 to 59.
+pub fn one_close_longitudes<S: Span>()
+    ensures { OneCloseLongitudes S.span }
 {}
 
 /// The windows near a reference and between close angles, stated with fractions, agree with their multiplied-out

@@ -3,8 +3,8 @@
 ghost use Rattle.std.specs.Prelude.{◌≡◌, ◌↔◌, IsTrue};
 ghost use Rattle.sq_cpr.specs.Code.{numbers_of};
 ghost use Rattle.sq_cpr.specs.Laws.{OnePairOfZones, OneCode};
-ghost use Rattle.sq_cpr.specs.DecodeLaws.{OneNearLatitude, OneNearLongitude, OneLocalAnswer};
-ghost use Rattle.sq_cpr.specs.DecodeLaws.{OneCloseLatitudes, OneCloseLongitudes, OneZoneIsClose, OnePairAnswer};
+ghost use Rattle.sq_cpr.specs.DecodeLaws.{OneNearLongitude, OneLocalAnswer};
+ghost use Rattle.sq_cpr.specs.DecodeLaws.{OneZoneIsClose, OnePairAnswer};
 ghost use Rattle.sq_cpr.specs.DecodeLaws.{OneAirPairAnswer};
 ghost use Rattle.sq_cpr.specs.DecodeLaws.{SomeLocalAnswer, SomePairAnswer};
 ghost use Rattle.sq_cpr.specs.DecodeLaws.{SomeAirPairAnswer};
@@ -29,11 +29,6 @@ pub fn one_code()
     ensures { OneCode }
 {}
 
-/// Each latitude code has exactly one index near a reference.
-pub fn one_near_latitude<S: Span>()
-    ensures { OneNearLatitude S.span }
-{}
-
 /// Each longitude code has exactly one index on the circle near a reference, for any number of zones.
 pub fn one_near_longitude<S: Span>()
     ensures { OneNearLongitude S.span }
@@ -42,16 +37,6 @@ pub fn one_near_longitude<S: Span>()
 /// Decoding near a reference has at most one result.
 pub fn one_local_answer<S: Span>()
     ensures { OneLocalAnswer S.span }
-{}
-
-/// Any two latitude codes have exactly one close pair of latitudes.
-pub fn one_close_latitudes<S: Span>()
-    ensures { OneCloseLatitudes S.span }
-{}
-
-/// Any two longitude codes have exactly one close pair of longitudes, for each zone count from 1 to 59.
-pub fn one_close_longitudes<S: Span>()
-    ensures { OneCloseLongitudes S.span }
 {}
 
 /// If each grid has one zone, any two angles are close.

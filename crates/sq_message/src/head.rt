@@ -7,6 +7,9 @@ use crate::{AirFields, GroundFields};
 use std::marker::Model;
 
 /// Everything in a position squitter except the encoded position: the capability (CA), the address and the fields.
+///
+/// The capability is below 8 and the address below 2^24. Where a head is borrowed, the calls [`Head::ca`] and
+/// [`Head::address`] say so, and [`crate::laws::head_in_range`].
 #[derive(Clone, Copy, Debug, PartialEq, Eq)]
 pub struct Head<F> {
     pub(crate) ca: u8,

@@ -2,7 +2,7 @@
 //!
 //! A function with an empty body does nothing: its contract is the law. The others make the calls that the law is
 //! about and return the result of each call.
-ghost use Rattle.std.specs.Prelude.{◌≡◌, ◌↔◌, None, Some, Result, Ok, Err, IfErr, IfOk, IfSome};
+ghost use Rattle.std.specs.Prelude.{◌≡◌, ◌<◌, ◌^◌, ◌↔◌, None, Some, Result, Ok, Err, IfErr, IfOk, IfSome};
 ghost use Rattle.std.specs.Prelude.{option_copied};
 ghost use Rattle.sq_bits.specs.declared.frame.Frame.{Frame};
 ghost use Rattle.sq_message.specs.declared.squitter.FrameFault.{FrameFault};
@@ -30,6 +30,15 @@ use crate::{
     place_pair, read_frame, send_point, send_position, write_frame,
 };
 use sq_bits::laws::each_frame;
+
+/// A head has a capability below 8 and an address below 2^24. A caller sees this of a head that it owns, and by this
+/// call of one that it borrows.
+pub fn head_in_range<F: Copy>(head: &Head<F>)
+    ensures ca { head.now.ca < 8 }
+    ensures address { head.now.address < 2 ^ 24 }
+{
+    let _ = (head.ca(), head.address());
+}
 
 /// A frame that encodes a squitter has no other reading than that squitter.
 pub fn spelled_is_read()

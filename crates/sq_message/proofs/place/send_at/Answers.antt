@@ -1,4 +1,4 @@
-use Rattle.std.proofs.Common.{◌≡◌, ◌∙◌, ap}
+use Rattle.std.proofs.Common.{◌∙◌, ap}
 use Rattle.sq_zones.specs.declared.parity.Parity.{Parity}
 use Rattle.sq_message.specs.Kinds.{head_of, squitter_of}
 use Rattle.sq_message.specs.Parts.{squitter_parts}

@@ -1,4 +1,4 @@
-use Rattle.std.proofs.Common.{◌≡◌, ◌∙◌, ap}
+use Rattle.std.proofs.Common.{◌∙◌, ap}
 use Rattle.sq_message.specs.Kinds.{me_at}
 use Rattle.sq_message.proofs.send.send_code.Goals as goal
 

@@ -1,6 +1,5 @@
-use Rattle.std.proofs.Common.{◌≡◌, ◌∙◌, ap, sym, subst}
+use Rattle.std.proofs.Common.{◌∙◌, ap, sym, subst}
 use Rattle.sq_zones.specs.declared.parity.Parity.{Parity}
-use Rattle.sq_cpr.specs.Grid.{Point}
 use Rattle.sq_cpr.specs.Rounds.{PositionRoundsTo}
 use Rattle.sq_cpr.specs.Span.{Span}
 use Rattle.sq_message.specs.Kinds.{head_of, squitter_of}
