@@ -1,9 +1,11 @@
 -- The state of a tracker, call by call, against its history.
 pub mod ContactLemmas
 pub mod EntryLemmas
+pub mod EnteredLemmas
 pub mod KeepLemmas
 pub mod KeptLemmas
 pub mod OwnLemmas
+pub mod PlacedLemmas
 pub mod PresentLemmas
 pub mod Remembering
 pub mod Sequences

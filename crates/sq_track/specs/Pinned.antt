@@ -1,6 +1,7 @@
 -- Laws that say exactly what the definitions about worlds and results mean.
-use Rattle.std.specs.Prelude.{◌≡◌, ◌≢◌, ◌↔◌, [], ◌∷◌, ℕ, ℤ, pos, neg_ℤ, ◌*ℤ◌, IsTrue, Contains, Option, Some, None, Ok}
-use Rattle.std.specs.Prelude.{Err}
+use Rattle.std.specs.Prelude.{◌≡◌, ◌≢◌, ◌↔◌, [], ◌∷◌, ℕ, ℤ, pos, neg_ℤ, ◌*ℤ◌, nat_eq, IsTrue, Contains, Option, Some, None}
+use Rattle.std.specs.Prelude.{Ok, Err}
+use Rattle.std.specs.Map.{lookup}
 use Rattle.sq_angle.specs.Angle.{degrees}
 use Rattle.sq_angle.specs.Fraction.{plus, ◌≃◌}
 use Rattle.sq_angle.specs.Position.{lat_of, lon_of}
@@ -29,7 +30,8 @@ use Rattle.sq_track.specs.declared.heard.Heard.{Heard}
 use Rattle.sq_track.specs.declared.heard.Heard.TheVariants.{Fix, Followed, Far}
 use Rattle.sq_track.specs.declared.heard.TrackFault.TheVariants.{Memory}
 use Rattle.sq_track.specs.Answers.{IsHeard}
-use Rattle.sq_track.specs.Held.{Held, StandsFor}
+use Rattle.sq_track.specs.ByEntries.{IsHeardByEntries}
+use Rattle.sq_track.specs.Held.{Held, StandsFor, contact_of}
 use Rattle.sq_track.specs.History.{Entry, History, are_of_one_sender, parity_of, place_heard}
 use Rattle.sq_track.specs.Kept.{IsContactHearing, Remembers, of_other_parity}
 use Rattle.sq_track.specs.Laws.{AreTrueInSlowWorlds}
@@ -211,18 +213,23 @@ HearingRemembers =
 -- A position squitter is stored under its kind and parity, and the contact has its timestamp. The last fix becomes
 -- the position of the result's place; without a place it is unchanged. The frame of the other parity and the side of
 -- the other kind are unchanged.
+abbrev pub KeepsPosition : (moment : ℕ) → Squitter → Heard → Kind → Parity → (before after : Contact) → Type 0
+KeepsPosition moment squitter heard kind parity before after =
+    (kept_of parity (side_of kind after) ≡ Some (record { moment = moment; squitter = squitter }))
+    × (of_other_parity parity (side_of kind after) ≡ of_other_parity parity (side_of kind before))
+    × ((place : Place) → place_heard heard ≡ Some place → (position : Position) × IsPositionOf place position
+    × ((side_of kind after).fix ≡ Some (record { moment = moment; position = position })))
+    × (place_heard heard ≡ None → (side_of kind after).fix ≡ (side_of kind before).fix)
+    × (side_of (other_kind kind) after ≡ side_of (other_kind kind) before) × (after.moment ≡ moment)
+
+-- a contact keeps a position squitter
 abbrev pub HearingKeeps : Type 0
 HearingKeeps =
     (window : ℕ) (site : Option Position) (moment : ℕ) (squitter : Squitter) (before after : Contact)
     (heard : Heard) (kind : Kind) (head : HeadParts kind) (parity : Parity) (code : Code)
     → IsContactHearing window site moment squitter before heard after
     → (squitter_parts squitter).me ≡ me_of kind head parity code
-    → (kept_of parity (side_of kind after) ≡ Some (record { moment = moment; squitter = squitter }))
-    × (of_other_parity parity (side_of kind after) ≡ of_other_parity parity (side_of kind before))
-    × ((place : Place) → place_heard heard ≡ Some place → (position : Position) × IsPositionOf place position
-    × ((side_of kind after).fix ≡ Some (record { moment = moment; position = position })))
-    × (place_heard heard ≡ None → (side_of kind after).fix ≡ (side_of kind before).fix)
-    × (side_of (other_kind kind) after ≡ side_of (other_kind kind) before) × (after.moment ≡ moment)
+    → KeepsPosition moment squitter heard kind parity before after
 
 -- a message without a position changes nothing
 abbrev pub HearingKeepsNothing : Type 0
@@ -238,3 +245,26 @@ TrueOfOne =
     → AreTrueInSlowWorlds tracker (received_of arrival ∷ []) (Ok heard ∷ []) → StandsFor tracker history
     → ArisesFrom world history → IsSlow tracker.window tracker.site world → IsSlowForFollowing tracker.window world
     → Contains world arrival → IsTruePlaceHeard arrival heard
+
+-- An accepted position squitter is kept by the entry of its address, whatever the tracker held before. Where the
+-- tracker held no entry of the address, it is kept by a blank one.
+abbrev pub EntryKeeps : Type 0
+EntryKeeps =
+    (moment : ℕ) (squitter : Squitter) (old new : Held) (heard : Heard) (kind : Kind) (head : HeadParts kind)
+    (parity : Parity) (code : Code)
+    → IsHeardByEntries moment squitter old new (Ok heard)
+    → (squitter_parts squitter).me ≡ me_of kind head parity code
+    → (after : Contact) × (lookup (nat_eq (squitter_parts squitter).address) new.contacts ≡ Some after)
+    × KeepsPosition moment squitter heard kind parity (contact_of old.contacts (squitter_parts squitter).address) after
+
+-- Two trackers with the same window and site that hold the same entry of an address, whatever it is, give the same
+-- result for an accepted position of the address. Afterwards they hold the same entry of it again.
+abbrev pub AsTheTracker : Type 0
+AsTheTracker =
+    (moment : ℕ) (squitter : Squitter) (t u new other : Held) (heard reply : Heard)
+    → IsPosition (squitter_parts squitter).me → t.window ≡ u.window → t.site ≡ u.site
+    → lookup (nat_eq (squitter_parts squitter).address) t.contacts
+    ≡ lookup (nat_eq (squitter_parts squitter).address) u.contacts
+    → IsHeardByEntries moment squitter t new (Ok heard) → IsHeardByEntries moment squitter u other (Ok reply)
+    → (heard ≡ reply) × (lookup (nat_eq (squitter_parts squitter).address) new.contacts
+    ≡ lookup (nat_eq (squitter_parts squitter).address) other.contacts)

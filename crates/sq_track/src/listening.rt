@@ -1,5 +1,6 @@
 //! Hears several squitters in order.
 ghost use Rattle.std.specs.Prelude.{◌≡◌, length};
+ghost use Rattle.sq_track.specs.ByEntries.{AreHeardByEntries, IsHeardByEntries};
 ghost use Rattle.sq_track.specs.History.{History};
 ghost use Rattle.sq_track.specs.Held.{StandsFor, settings};
 ghost use Rattle.sq_track.specs.Laws.{AreTrueInSlowWorlds};
@@ -30,6 +31,9 @@ pub fn hear_each<A: Allocator>(
     ensures after { (h : History) → StandsFor tracker.old h
         → StandsFor tracker.new (history_after_all h received.now heard.new) }
     ensures settings { settings tracker.new ≡ settings tracker.old }
+
+    // The replies, and what the tracker holds afterwards, by what it holds now. This needs no history.
+    ensures entries { AreHeardByEntries received.now tracker.old tracker.new heard.new }
 {
     let mut at = 0;
     while at < received.len() {
@@ -49,6 +53,7 @@ fn hear_into<A: Allocator>(
     ensures after { (h : History) → StandsFor tracker.old h
         → StandsFor tracker.new (history_after h one.now.moment one.now.squitter slot.new) }
     ensures settings { settings tracker.new ≡ settings tracker.old }
+    ensures entries { IsHeardByEntries one.now.moment one.now.squitter tracker.old tracker.new slot.new }
 {
     *slot = tracker.hear(one.moment, &one.squitter);
 }

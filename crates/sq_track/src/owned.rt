@@ -1,11 +1,14 @@
 //! Checks whether a tracker may hold a contact for an address.
-ghost use Rattle.std.specs.Prelude.{◌≡◌, option_copied};
+ghost use Rattle.std.specs.Prelude.{◌≡◌, option_copied, true};
+ghost use Rattle.sq_angle.specs.Angle.{degrees};
 ghost use Rattle.sq_message.specs.Parts.{squitter_parts};
-ghost use Rattle.sq_track.specs.Owned.{are_one_parity, has_since, is_contact_of, is_fix_of_side, is_frame_of};
-ghost use Rattle.sq_track.specs.Owned.{is_position_of, is_present_at, is_side_of, is_since};
+ghost use Rattle.sq_track.specs.Owned.{AreFixesPlaced, IfPlaced, IsPlacedFix, IsPointAt, are_one_parity};
+ghost use Rattle.sq_track.specs.Owned.{has_frames_of, has_since, is_contact_of, is_frame_of, is_position_of};
+ghost use Rattle.sq_track.specs.Owned.{is_present_at, is_side_of, is_since};
 
 use crate::contact::{Contact, LastFix, Side};
-use sq_message::{Me, Parity, Received};
+use sq_cpr::{Air, Angle, Ground, Span, nearest};
+use sq_message::{Me, Parity, Position, Received};
 
 fn are_one_parity(p: Parity, q: Parity) -> bool
     ensures { result ≡ are_one_parity p q }
@@ -72,25 +75,14 @@ fn has_since(moment: u64, side: &Side) -> bool
     is_since(moment, side.even.as_ref()) || is_since(moment, side.odd.as_ref())
 }
 
-// Returns whether a fix is at or before the newest position of its kind. True if there is no fix.
-fn is_fix_of_side(side: &Side, fix: Option<&LastFix>) -> bool
-    ensures { result ≡ is_fix_of_side side.now (option_copied fix.entry) }
-{
-    match fix {
-        Some(fix) => has_since(fix.moment, side),
-        None => true,
-    }
-}
-
 fn is_side_of(address: u32, newest: u64, in_air: bool, side: &Side) -> bool
     ensures { result ≡ is_side_of address newest in_air side.now }
 {
     is_frame_of(address, newest, in_air, Parity::Even, side.even.as_ref())
         && is_frame_of(address, newest, in_air, Parity::Odd, side.odd.as_ref())
-        && is_fix_of_side(side, side.fix.as_ref())
 }
 
-/// Returns whether a tracker may hold this contact for the address.
+/// Returns whether a tracker may hold the frames of this contact for the address.
 pub fn is_contact_of(address: u32, contact: &Contact) -> bool
     ensures { result ≡ is_contact_of address contact.now }
 {
@@ -98,6 +90,63 @@ pub fn is_contact_of(address: u32, contact: &Contact) -> bool
         && is_side_of(address, contact.moment, false, &contact.surface)
         && (has_since(contact.moment, &contact.airborne)
             || has_since(contact.moment, &contact.surface))
+}
+
+// Returns whether two angles are the same fraction.
+fn is_same_fraction(a: &Angle, b: &Angle) -> bool
+    ensures yes { result ≡ true → degrees a.now ≡ degrees b.now }
+    ensures no { degrees a.now ≡ degrees b.now → result ≡ true }
+{
+    a.num() == b.num() && a.den() == b.den()
+}
+
+// Returns whether a position is that of a point of the parity's grid.
+fn is_point_at<S: Span>(parity: Parity, position: &Position) -> bool
+    ensures yes { result ≡ true → IsPointAt S.span parity position.now }
+    ensures no { IsPointAt S.span parity position.now → result ≡ true }
+{
+    let own = nearest::<S>(position, parity).position();
+    is_same_fraction(&position.lat(), &own.lat()) && is_same_fraction(&position.lon(), &own.lon())
+}
+
+// Returns whether the side holds a frame of this parity since `moment`, and one of the other parity.
+fn has_frames_of(parity: Parity, moment: u64, side: &Side) -> bool
+    ensures { result ≡ has_frames_of parity moment side.now }
+{
+    match parity {
+        Parity::Even => is_since(moment, side.even.as_ref()) && side.odd.is_some(),
+        Parity::Odd => is_since(moment, side.odd.as_ref()) && side.even.is_some(),
+    }
+}
+
+// Returns whether a fix of the side is at a point of this parity.
+fn is_placed_at<S: Span>(parity: Parity, side: &Side, fix: &LastFix) -> bool
+    ensures yes { result ≡ true → IsPlacedFix S.span parity side.now fix.now }
+    ensures no { IsPlacedFix S.span parity side.now fix.now → result ≡ true }
+{
+    has_frames_of(parity, fix.moment, side) && is_point_at::<S>(parity, &fix.position)
+}
+
+// Returns whether a fix of the side is at a point of either parity. True if there is no fix.
+fn is_placed<S: Span>(side: &Side, fix: Option<&LastFix>) -> bool
+    ensures yes { result ≡ true → IfPlaced S.span side.now (option_copied fix.entry) }
+    ensures no { IfPlaced S.span side.now (option_copied fix.entry) → result ≡ true }
+{
+    match fix {
+        Some(fix) => {
+            is_placed_at::<S>(Parity::Even, side, fix) || is_placed_at::<S>(Parity::Odd, side, fix)
+        }
+        None => true,
+    }
+}
+
+/// Returns whether each fix of the contact is at a point of its kind's grid, with frames of both parities.
+pub fn are_fixes_placed(contact: &Contact) -> bool
+    ensures yes { result ≡ true → AreFixesPlaced contact.now }
+    ensures no { AreFixesPlaced contact.now → result ≡ true }
+{
+    is_placed::<Air>(&contact.airborne, contact.airborne.fix.as_ref())
+        && is_placed::<Ground>(&contact.surface, contact.surface.fix.as_ref())
 }
 
 /// Returns whether an address with its newest position at `moment` is present at the last timestamp.

@@ -1,6 +1,7 @@
 //! Guards of the definitions: each has one value, some value or an exact condition, so none can be weakened unnoticed.
 //! A function with an empty body does nothing: its contract is the statement.
 ghost use Rattle.std.specs.Prelude.{◌≡◌, ◌↔◌, IsTrue};
+ghost use Rattle.sq_track.specs.ByEntries.{MemoryByEntries, OneByEntries, OneEachByEntries, SomeByEntries};
 ghost use Rattle.sq_track.specs.Laws.{OneAddressAlone};
 ghost use Rattle.sq_track.specs.Laws.{SlowPairExactly};
 ghost use Rattle.sq_track.specs.Laws.{SlowForFollowingPairExactly};
@@ -21,6 +22,16 @@ pub fn one_answer()
 /// The stored state of an address, whatever it is, gives at most one result for a squitter.
 pub fn one_answer_by_kept()
     ensures { OneAnswerByKept }
+{}
+
+/// What a tracker holds, whatever it is, gives one reply to a squitter, or one list of replies to several, and one
+/// tracker afterwards. Out of memory is a possible reply exactly at the position of an address without an entry, if the
+/// call may be accepted.
+pub fn one_reply_by_entries()
+    ensures one { OneByEntries }
+    ensures each { OneEachByEntries }
+    ensures some { SomeByEntries }
+    ensures memory { MemoryByEntries }
 {}
 
 /// Every history and call has a result, so no statement here is empty.

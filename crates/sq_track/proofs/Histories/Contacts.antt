@@ -17,8 +17,8 @@ use Rattle.sq_track.specs.declared.contact.Side.{Side}
 use Rattle.sq_track.specs.declared.heard.Heard.{Heard}
 use Rattle.sq_track.specs.History.{place_heard}
 use Rattle.sq_track.specs.Kept.{IsFixAfter, IsFixWith, contact_with, fix_in, of_other_parity, side_with}
-use Rattle.sq_track.specs.Pinned.{HearingKeeps, HearingKeepsNothing, HearingRemembers, OneHearing, kept_of}
-use Rattle.sq_track.specs.Pinned.{other_kind, side_of}
+use Rattle.sq_track.specs.Pinned.{HearingKeeps, HearingKeepsNothing, HearingRemembers, KeepsPosition, OneHearing}
+use Rattle.sq_track.specs.Pinned.{kept_of, other_kind, side_of}
 use Rattle.sq_track.proofs.Histories.ByKept.{one_answer_by_kept}
 
 pub one_hearing : OneHearing
@@ -84,13 +84,21 @@ keeps m q heard fix before after OnGround head parity code fix_is is = (
   ap (λ (c : Contact). c.moment) is,
 )
 
-pub hearing_keeps : HearingKeeps
-hearing_keeps window site m q before after heard kind head parity code h is =
-    let (fix, fix_is, after_is) = h.kept in
+-- a position is kept by the contact that it leaves
+pub keeps_position : (m : ℕ) (q : Squitter) (heard : Heard) (before after : Contact) (kind : Kind)
+    (head : HeadParts kind) (parity : Parity) (code : Code)
+    → ((fix : Option LastFix) × IsFixAfter m heard (fix_in before (squitter_parts q).me) fix
+    × (after ≡ contact_with (squitter_parts q).me (record { moment = m; squitter = q }) fix before))
+    → (squitter_parts q).me ≡ me_of kind head parity code → KeepsPosition m q heard kind parity before after
+keeps_position m q heard before after kind head parity code (fix, fix_is, after_is) is =
     let me = me_of kind head parity code in
     let (side, aside, moment) = keeps m q heard fix before after kind head parity code
     (fix_of m q heard fix before after me is fix_is) (kept_after m q heard fix before after me is after_is) in
     (side.own, side.other, side.placed, side.not_placed, aside, moment)
+
+pub hearing_keeps : HearingKeeps
+hearing_keeps window site m q before after heard kind head parity code h is =
+    keeps_position m q heard before after kind head parity code h.kept is
 
 -- a message without a position changes nothing
 nothing : (me : Me) (m : ℕ) (q : Squitter) (fix : Option LastFix) (before after : Contact) → ¬ IsPosition me

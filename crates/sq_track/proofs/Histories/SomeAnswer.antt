@@ -1,9 +1,9 @@
 -- Every history and call has a result.
 use Rattle.std.proofs.Common.{◌≡◌, ◌∙◌, ◌⊎◌, inl, inr, ℕ, ◌*◌, ◌≤◌, ◌<◌, ◌^◌, Bool, true, false, cond, leb, ltb, []}
-use Rattle.std.proofs.Common.{◌∷◌, ℤ, pos, ◌-ℤ◌, length, filter, find, not, Option, Some, None, IfSome, Result, Ok, Err}
+use Rattle.std.proofs.Common.{◌∷◌, ℤ, pos, ◌-ℤ◌, length, filter, find, not, Option, Some, None, IfSome, Ok, Err}
 use Rattle.std.proofs.Common.{refl, sym, subst, arith}
 use Rattle.std.specs.List.{AllByRecursion}
-use Rattle.std.proofs.lemmas.Bool.{cases_eq, cases_lt, leb-true, leb-false, ltb-true, ltb-false}
+use Rattle.std.proofs.lemmas.Bool.{cases_lt, leb-true, leb-false, ltb-true, ltb-false}
 use Rattle.std.proofs.lemmas.Int.{ints}
 use Rattle.sq_angle.specs.declared.position.Position.{Position}
 use Rattle.sq_angle.specs.declared.angle.Angle.{Angle}
@@ -21,29 +21,20 @@ use Rattle.sq_message.specs.declared.squitter.Me.TheVariants as kinds
 use Rattle.sq_message.specs.declared.squitter.Squitter.{Squitter}
 use Rattle.sq_message.specs.declared.place.Place.{Place}
 use Rattle.sq_message.specs.declared.place.Place.TheVariants.{Air, Ground}
-use Rattle.sq_message.specs.declared.place.PlaceFault.{PlaceFault}
-use Rattle.sq_message.specs.declared.place.PlaceFault.TheVariants as faults
-use Rattle.sq_message.specs.Kinds.{Kind, InAir, OnGround, PositionOf}
-use Rattle.sq_message.specs.Parts.{SquitterParts, squitter_parts}
-use Rattle.sq_message.specs.Places.{IsPositionOf, IsLocalPlace, IsPairPlace, IsPairPlaceOf, IsPlaceOfOneAddress}
-use Rattle.sq_message.specs.Places.{IsPlaceOfOneKind, place_of}
-use Rattle.sq_message.proofs.PlaceLemmas.{both_positions, one_or_two}
+use Rattle.sq_message.specs.Parts.{squitter_parts}
+use Rattle.sq_message.specs.Places.{IsPositionOf}
 use Rattle.sq_message.proofs.OnePlace.{some_local, some_pair_place}
 use Rattle.sq_track.specs.declared.heard.Heard.{Heard}
-use Rattle.sq_track.specs.declared.heard.Heard.TheVariants.{Fix, Followed, Waiting, Split}
+use Rattle.sq_track.specs.declared.heard.Heard.TheVariants.{Waiting, Split}
 use Rattle.sq_track.specs.declared.heard.TrackFault.TheVariants.{MomentBack, Full}
-use Rattle.sq_track.specs.History.{Entry, History, counterpart, last_fix, if_recent, is_fix_of, place_heard}
+use Rattle.sq_track.specs.History.{Entry, History, counterpart, last_fix, if_recent, is_fix_of}
 use Rattle.sq_track.specs.History as past
 use Rattle.sq_track.specs.Answers.{heard_alone, heard_of_pair, heard_near, IsHeardOfPair, IsHeardNear, IsHeardAfter}
 use Rattle.sq_track.specs.Replies.{Settings, IsHistory, IsFull, is_position, is_of_address, last_moment, present}
 use Rattle.sq_track.specs.Laws.{SomeAnswer, SomeReply}
 use Rattle.sq_track.proofs.Lists.Found.{found, none_is_some}
 use Rattle.sq_track.proofs.Histories.Entries.{recent_is}
-
--- a fault is not a place
-fault_is_place : {A : Type 0} (place : Place) (fault : PlaceFault)
-    → ◌≡◌ {A = Result Place PlaceFault} (Ok place) (Err fault) → A
-fault_is_place place fault e = absurd (cc e)
+use Rattle.sq_track.proofs.Histories.OwnPlaces.{IfHeardPlace, IsOwnPlace, local_own, of_near, of_pair_own, place_own}
 
 -- ---- the place of a result lies on a grid, so it has a position
 
@@ -51,118 +42,33 @@ abbrev pub IsOnGrid : Place → Type 0
 IsOnGrid (Air p) = IsGridPoint air p
 IsOnGrid (Ground p) = IsGridPoint ground p
 
-abbrev IfPlace : Result Place PlaceFault → Type 0
-IfPlace (Ok place) = IsOnGrid place
-IfPlace (Err fault) = Unit {0}
+pub own_on_grid : (me : Me) (place : Place) → IsOwnPlace me place → IsOnGrid place
+own_on_grid (kinds.Airborne a) (Air p) own = own.0
+own_on_grid (kinds.Surface s) (Ground p) own = own.0
+own_on_grid me place own = absurd own
 
-found_in_air : {F : Type 0} (name : F → PlaceFault) (answer : Result Place PlaceFault) (found : Result Point F)
-    → ((p : Point) → found ≡ Ok p → IsGridPoint air p) → answer ≡ place_of Air name found → IfPlace answer
-found_in_air name answer (Ok p) h is = subst IfPlace (sym is) (h p refl)
-found_in_air name answer (Err fault) h is = subst IfPlace (sym is) tt
+near_own : (fix : Option Place) (q : Squitter) (of_pair heard : Heard) → IfHeardPlace (squitter_parts q).me of_pair
+    → IsHeardNear fix q of_pair heard → IfHeardPlace (squitter_parts q).me heard
+near_own None q of_pair heard h is = subst (IfHeardPlace (squitter_parts q).me) (sym is) h
+near_own (Some fix) q of_pair heard h (answer, (r, at, local), is) =
+    let me = (squitter_parts q).me in
+    subst (IfHeardPlace me) (sym is) (of_near me of_pair answer h (local_own me r answer local))
 
-found_on_ground : {F : Type 0} (name : F → PlaceFault) (answer : Result Place PlaceFault) (found : Result Point F)
-    → ((p : Point) → found ≡ Ok p → IsGridPoint ground p) → answer ≡ place_of Ground name found → IfPlace answer
-found_on_ground name answer (Ok p) h is = subst IfPlace (sym is) (h p refl)
-found_on_ground name answer (Err fault) h is = subst IfPlace (sym is) tt
+after_own : (fix : Option Place) (q : Squitter) (of_pair heard : Heard) → IfHeardPlace (squitter_parts q).me of_pair
+    → IsHeardAfter fix q of_pair heard → IfHeardPlace (squitter_parts q).me heard
+after_own fix q Waiting heard h is = near_own fix q Waiting heard h is
+after_own fix q (Split even odd) heard h is = near_own fix q (Split even odd) heard h is
+after_own fix q of_pair heard h is = subst (IfHeardPlace (squitter_parts q).me) (sym is) h
 
-local_on_grid : (me : Me) (r : Position) (answer : Result Place PlaceFault) → IsLocalPlace me r answer → IfPlace answer
-local_on_grid (kinds.Airborne a) r answer (Ok p, h, is) = subst IfPlace (sym is) h.of_grid
-local_on_grid (kinds.Airborne a) r answer (Err fault, h, is) = subst IfPlace (sym is) tt
-local_on_grid (kinds.Surface s) r answer (Ok p, h, is) = subst IfPlace (sym is) h.of_grid
-local_on_grid (kinds.Surface s) r answer (Err fault, h, is) = subst IfPlace (sym is) tt
-local_on_grid (kinds.Other o) r answer is = subst IfPlace (sym is) tt
-
-parities_on_grid : (kind : Kind) (o n : PositionOf kind) (site : Option Position) (answer : Result Place PlaceFault)
-    → IsPairPlaceOf kind o n site answer → IfPlace answer
-parities_on_grid InAir o n site answer (Ok p, h, is) = subst IfPlace (sym is) h.of_grid
-parities_on_grid InAir o n site answer (Err fault, h, is) = subst IfPlace (sym is) tt
-parities_on_grid OnGround o n None answer is = subst IfPlace (sym is) tt
-parities_on_grid OnGround o n (Some s) answer (Ok p, h, is) = subst IfPlace (sym is) h.of_pair.of_grid
-parities_on_grid OnGround o n (Some s) answer (Err fault, h, is) = subst IfPlace (sym is) tt
-
-kind_on_grid : (kind : Kind) (o n : PositionOf kind) (site : Option Position) (answer : Result Place PlaceFault)
-    → IsPlaceOfOneKind kind o n site answer → IfPlace answer
-kind_on_grid kind o n site answer h = elim (one_or_two o.parity n.parity) [
-  | inl same ↦ subst IfPlace (sym (h.0 same)) tt
-  | inr differ ↦ parities_on_grid kind o n site answer (h.1 differ)
-]
-
-one_address_on_grid : (m n : Me) (site : Option Position) (answer : Result Place PlaceFault)
-    → IsPlaceOfOneAddress m n site answer → IfPlace answer
-one_address_on_grid (kinds.Airborne o) (kinds.Airborne n) site answer h = kind_on_grid InAir o n site answer h
-one_address_on_grid (kinds.Surface o) (kinds.Surface n) site answer h = kind_on_grid OnGround o n site answer h
-one_address_on_grid (kinds.Airborne o) (kinds.Surface n) site answer is = subst IfPlace (sym is) tt
-one_address_on_grid (kinds.Surface o) (kinds.Airborne n) site answer is = subst IfPlace (sym is) tt
-one_address_on_grid m n site answer h = absurd h
-
-pair_on_grid : (older newer : SquitterParts) (site : Option Position) (answer : Result Place PlaceFault)
-    → IsPairPlace older newer site answer → IfPlace answer
-pair_on_grid older newer site answer h = elim (both_positions older.me newer.me) [
-  | inr never ↦ subst IfPlace (sym (h.not_positions never)) tt
-  | inl two ↦ elim (cases_eq older.address newer.address) [
-    | inr differ ↦ subst IfPlace (sym (h.other_address two differ)) tt
-    | inl same ↦ one_address_on_grid older.me newer.me site answer (h.same_address two same)
-  ]
-]
-
-abbrev IfHeardPlace : Heard → Type 0
-IfHeardPlace (Fix place) = IsOnGrid place
-IfHeardPlace (Followed place) = IsOnGrid place
-IfHeardPlace heard = Unit {0}
-
-of_answer : (answer : Result Place PlaceFault) → IfPlace answer → IfHeardPlace (heard_of_pair answer)
-of_answer (Ok place) h = h
-of_answer (Err faults.NotPosition) h = tt
-of_answer (Err faults.OtherAddress) h = tt
-of_answer (Err faults.OtherKind) h = tt
-of_answer (Err faults.SameParity) h = tt
-of_answer (Err faults.NoSite) h = tt
-of_answer (Err faults.OutOfRange) h = tt
-of_answer (Err (faults.ZoneCounts even odd)) h = tt
-
-alone_on_grid : (m : Me) → IfHeardPlace (heard_alone m)
-alone_on_grid (kinds.Airborne a) = tt
-alone_on_grid (kinds.Surface s) = tt
-alone_on_grid (kinds.Other o) = tt
-
-of_pair_on_grid : (site : Option Position) (older : Option Squitter) (q : Squitter) (heard : Heard)
-    → IsHeardOfPair site older q heard → IfHeardPlace heard
-of_pair_on_grid site None q heard is = subst IfHeardPlace (sym is) (alone_on_grid (squitter_parts q).me)
-of_pair_on_grid site (Some older) q heard (answer, h, is) =
-    subst IfHeardPlace (sym is) (of_answer answer
-    (pair_on_grid (squitter_parts older) (squitter_parts q) site answer h))
-
-of_near : (of_pair : Heard) (answer : Result Place PlaceFault) → IfHeardPlace of_pair → IfPlace answer
-    → IfHeardPlace (heard_near of_pair answer)
-of_near of_pair (Ok place) h k = k
-of_near of_pair (Err fault) h k = h
-
-near_on_grid : (fix : Option Place) (q : Squitter) (of_pair heard : Heard) → IfHeardPlace of_pair
-    → IsHeardNear fix q of_pair heard → IfHeardPlace heard
-near_on_grid None q of_pair heard h is = subst IfHeardPlace (sym is) h
-near_on_grid (Some fix) q of_pair heard h (answer, (r, at, local), is) =
-    subst IfHeardPlace (sym is) (of_near of_pair answer h (local_on_grid (squitter_parts q).me r answer local))
-
-after_on_grid : (fix : Option Place) (q : Squitter) (of_pair heard : Heard) → IfHeardPlace of_pair
-    → IsHeardAfter fix q of_pair heard → IfHeardPlace heard
-after_on_grid fix q Waiting heard h is = near_on_grid fix q Waiting heard h is
-after_on_grid fix q (Split even odd) heard h is = near_on_grid fix q (Split even odd) heard h is
-after_on_grid fix q of_pair heard h is = subst IfHeardPlace (sym is) h
-
-each_on_grid : (s : Settings) (history : History) → IsHistory s history
-    → AllByRecursion (λ entry. IfHeardPlace entry.heard) history
-each_on_grid s [] h = tt
-each_on_grid s (entry ∷ earlier) h = (
-  after_on_grid (last_fix s.window earlier entry.moment entry.squitter) entry.squitter h.0.1.of_pair entry.heard
-      (of_pair_on_grid s.site (counterpart s.window earlier entry.moment entry.squitter) entry.squitter h.0.1.of_pair
+each_own : (s : Settings) (history : History) → IsHistory s history
+    → AllByRecursion (λ entry. IfHeardPlace (squitter_parts entry.squitter).me entry.heard) history
+each_own s [] h = tt
+each_own s (entry ∷ earlier) h = (
+  after_own (last_fix s.window earlier entry.moment entry.squitter) entry.squitter h.0.1.of_pair entry.heard
+      (of_pair_own s.site (counterpart s.window earlier entry.moment entry.squitter) entry.squitter h.0.1.of_pair
       h.0.1.pair) h.0.1.after,
-  each_on_grid s earlier h.1,
+  each_own s earlier h.1,
 )
-
-heard_on_grid : (heard : Heard) (place : Place) → place_heard heard ≡ Some place → IfHeardPlace heard → IsOnGrid place
-heard_on_grid (Fix p) place e h = subst IsOnGrid (cc e) h
-heard_on_grid (Followed p) place e h = subst IsOnGrid (cc e) h
-heard_on_grid heard place e h = none_is_some place e
 
 last_on_grid : (s : Settings) (history : History) (moment : ℕ) (q : Squitter) (place : Place) → IsHistory s history
     → last_fix s.window history moment q ≡ Some place → IsOnGrid place
@@ -173,9 +79,10 @@ last_on_grid s history moment q place accepted = by (if_recent s.window moment (
     by None e f = none_is_some place f
     by (Some c) e f =
         let here = recent_is s.window moment (find (is_fix_of q) history) c e in
-        heard_on_grid c.heard place f
-        (found (is_fix_of q) (λ entry. IfHeardPlace entry.heard) history c here.0
-        (each_on_grid s history accepted)).0
+        let me = (squitter_parts c.squitter).me in
+        own_on_grid me place (place_own me c.heard place f
+        (found (is_fix_of q) (λ entry. IfHeardPlace (squitter_parts entry.squitter).me entry.heard) history c here.0
+        (each_own s history accepted)).0)
 
 -- the position of fractions within their limits
 made : (lat lon : Fraction) → IsAngle lat.num lat.den → IsAngle lon.num lon.den → IsOnGlobe lat lon
@@ -231,7 +138,7 @@ position_of_place (Ground p) h =
 
 -- ---- the result
 
-some_of_pair : (site : Option Position) (older : Option Squitter) (q : Squitter)
+pub some_of_pair : (site : Option Position) (older : Option Squitter) (q : Squitter)
     → (heard : Heard) × IsHeardOfPair site older q heard
 some_of_pair site None q = (heard_alone (squitter_parts q).me, refl)
 some_of_pair site (Some older) q =
@@ -262,7 +169,7 @@ some_answer s history moment q accepted =
 -- ---- the reply
 
 -- a timestamp is in time, or before the last one
-in_time_or_back : (o : Option ℕ) (moment : ℕ)
+pub in_time_or_back : (o : Option ℕ) (moment : ℕ)
     → IfSome o (λ last. last ≤ moment) ⊎ ((last : ℕ) × (o ≡ Some last) × (moment < last))
 in_time_or_back None moment = inl tt
 in_time_or_back (Some last) moment = elim (cases_lt moment last) [

@@ -93,8 +93,10 @@ module _ (t : Held) (a : ℕ) (c : Contact) (can : CanFollow t a c) where
     ordered = IsOrdered-to 0 c.moment (unwrap_or t.last 0) more (no_later t.window c.moment t.last can.present)
         (IsOrdered-push 0 c.moment t.contacts (a, c) (omega arith) can.later);
     few = omega (arith, can.room, length-append t.contacts ((a, c) ∷ []));
-    within = each_pushed (λ (e : ℕ × Contact). IsWithin e.1) t.contacts (a, c) sound.within (own_within a c can.own);
-    owned = each_pushed (IsOwned t.window t.last) t.contacts (a, c) sound.owned (can.own, can.present);
+    within = each_pushed (λ (e : ℕ × Contact). IsWithin e.1) t.contacts (a, c) sound.within
+        (own_within a c can.own can.placed);
+    owned = each_pushed (IsOwned t.window t.last) t.contacts (a, c) sound.owned
+        (can.own, can.present, can.placed);
   }
 
 pub none_of : (o : Option Contact) → is_some o ≡ false → o ≡ None
@@ -135,6 +137,7 @@ restored_each t sound d front back a c is =
       room = omega (arith, sound.few, ap length is, length-append front ((a, c) ∷ back), longer back);
       absent = absent_front front back (a, c) (subst (λ (es : Entries). IsDistinct eqb (keys_of es)) is d);
       own = owned.0;
+      placed = owned.2;
       present = owned.1;
       later = ordered_front 0 (unwrap_or t.last 0) front back (a, c)
           (subst (IsOrdered 0 (unwrap_or t.last 0)) is sound.ordered);

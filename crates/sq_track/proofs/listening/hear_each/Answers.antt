@@ -2,6 +2,8 @@ use Rattle.std.proofs.Common.{◌≡◌, ◌∙◌, ◌+◌, ◌<◌, ◌≤◌,
 use Rattle.std.proofs.lemmas.List.{take_all, take_more, take_more_set}
 use Rattle.sq_track.specs.Held.{settings}
 use Rattle.sq_track.specs.Replies.{Settings, AreReplies, IsReply, history_after_all}
+use Rattle.sq_track.specs.ByEntries.{AreHeardByEntries}
+use Rattle.sq_track.proofs.Table.EnteredLemmas.{entries_next}
 use Rattle.sq_track.proofs.Table.Sequences.{replies_next, stands_next, true_in_slow_worlds}
 use Rattle.sq_track.proofs.listening.hear_each.Goals as goal
 
@@ -30,6 +32,8 @@ loop-at-preserved g c =
             stands_next s c.hear_into.new.tracker h (take at xs) _ (take at rs) _ x r one_more one_reply before.0
                 (c.hear_into.ensures.after H before.1),
           ),
+      entries_next c.args.tracker.now c.loop-at.tracker c.hear_into.new.tracker (take at xs) _ (take at rs) _ x r
+          one_more one_reply i.4 c.hear_into.ensures.entries,
     )
 
 pub returns-clause-placed : goal.returns-clause-placed
@@ -42,3 +46,14 @@ returns-clause-placed g c =
     true_in_slow_worlds c.args.tracker.now c.args.received.now c.loop-at.heard (λ h st.
     subst (λ xs. AreReplies s h xs c.loop-at.heard) whole_received
     (subst (λ rs. AreReplies s h (take c.loop-at.at c.args.received.now) rs) whole_heard (i.3 h st).0))
+
+pub returns-clause-entries : goal.returns-clause-entries
+returns-clause-entries g c =
+    let i = c.loop-at.invariant in
+    let old = c.args.tracker.now in
+    let new = c.loop-at.tracker in
+    let ended : length c.args.received.now ≤ c.loop-at.at = search rules in
+    let whole_received = take_all c.loop-at.at c.args.received.now ended in
+    let whole_heard = take_all c.loop-at.at c.loop-at.heard (omega (arith, ended, i.1)) in
+    subst (λ xs. AreHeardByEntries xs old new c.loop-at.heard) whole_received
+    (subst (λ rs. AreHeardByEntries (take c.loop-at.at c.args.received.now) old new rs) whole_heard i.4)

@@ -1,4 +1,4 @@
-use Rattle.std.proofs.Common.{eqb, arith, sym, subst, ◌∙◌}
+use Rattle.std.proofs.Common.{eqb, arith, refl, sym, subst, ◌∙◌}
 use Rattle.std.proofs.lemmas.Bool.{false≢true, leb-true, le-leb}
 use Rattle.std.specs.Map.{lookup}
 use Rattle.sq_track.specs.Held.{Held}
@@ -15,6 +15,7 @@ returns-clause-yes g c = λ le.
       room = omega (arith, c.if-len-self.false, c.len.ensures.len);
       absent = none_of (lookup (eqb c.args.address) t.contacts) (sym c.contains.ensures ∙ c.if-contains.false);
       own = sym c.is_contact_of.ensures ∙ c.if-not-is_contact_of.false;
+      placed = c.if-not-are_fixes_placed.ensures.yes refl;
       present = sym c.is_present_at.ensures ∙ c.if-not-is_present_at.false;
       later = ordered_to_newest 0 _ c.args.contact.now.moment c.newest_moment.result t.contacts
           c.self.invariant.0.ordered c.newest_moment.ensures.last
