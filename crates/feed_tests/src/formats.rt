@@ -1,5 +1,6 @@
 //! Feeds that find the format of their source, however it is cut.
 use crate::RECORDED;
+use crate::fed::push_lines;
 use sq_digits::TextBuffer;
 use sq_feed::{Feed, Format, Stranger};
 
@@ -27,11 +28,11 @@ fn lines(source: &[u8], size: usize) -> (TextBuffer<1024>, usize, u64) {
     let mut text = TextBuffer::new();
     let mut feed = Feed::new(None, &RECORDED);
     for piece in source.chunks(size.max(1)) {
-        feed.take(piece, 0, &mut text);
+        push_lines(&mut feed, piece, 0, &mut text);
     }
     let shown = number(&feed);
     feed.close();
-    feed.take(b"", 0, &mut text);
+    push_lines(&mut feed, b"", 0, &mut text);
     let shown = if shown == 4 { number(&feed) } else { shown };
     let damaged = feed.counts().damaged();
     (text, shown, damaged)
@@ -56,14 +57,48 @@ const TWO: &str = "1000 8D4840D6202CC371C32CE0576098\n2000 8D4840D6202CC371C32CE
 #[test]
 fn beast_is_found(rt: HostRuntime) {
     assert!(rt; holds(BEAST, TWO, 0, 1));
-    // Two messages show nothing before the source ends.
-    assert!(rt; holds(&BEAST[..40], "1000 8D4840D6202CC371C32CE0576098\n", 4, 1));
-    // Damage between messages begins the count again, and hides those before it.
-    assert!(rt; holds(b"\x1a1\0\0\0\0\0\x01\x80\x20\x40y", "", 10, 1));
+    // After other bytes, one message shows nothing before the source ends. A second one shows Beast.
+    assert!(rt; holds(&BEAST[..24], "1000 8D4840D6202CC371C32CE0576098\n", 4, 1));
+    assert!(rt; holds(&BEAST[..40], "1000 8D4840D6202CC371C32CE0576098\n", 0, 1));
+    // Damage between messages begins the count again.
+    assert!(rt; holds(b"x\x1a1\0\0\0\0\0\x01\x80\x20\x40y", "", 10, 1));
+    // The messages before it are read once the format is known.
+    let after_damage =
+        b"x\x1a3\0\0\0\xb7\x1b\0\x80\x8d\x48\x40\xd6\x20\x2c\xc3\x71\xc3\x2c\xe0\x57\x60\x98y\x1a1\0\0\0\0\0\x01\x80\x20\x40\x1a1\0\0\0\0\0\x01\x80\x20\x40\x1a1\0\0\0\0\0\x01\x80\x20\x40";
+    assert!(rt; holds(after_damage, "1000 8D4840D6202CC371C32CE0576098\n", 0, 2));
+}
+
+#[test]
+fn a_start_shows_beast(rt: HostRuntime) {
+    // The clock has a line feed and a brace, as a line of JSON: 0A 7B 00 00 00 00, 0A 7B 00 00 2E E0.
+    let brace =
+        b"\x1a3\x0a{\0\0\0\0\x80\x8d\x48\x40\xd6\x20\x2c\xc3\x71\xc3\x2c\xe0\x57\x60\x98\x1a3\x0a{\0\0\x2e\xe0\x80\x8d\x48\x40\xd6\x20\x2c\xc3\x71\xc3\x2c\xe0\x57\x60\x98";
+    assert!(rt;
+        holds(
+            brace,
+            "960283104 8D4840D6202CC371C32CE0576098\n960283105 8D4840D6202CC371C32CE0576098\n",
+            0,
+            0
+        )
+    );
+    // One message that is cut off, and each known type byte.
+    assert!(rt; holds(&brace[..10], "", 0, 1));
+    assert!(rt; holds(b"\x1a1", "", 0, 1));
+    assert!(rt; holds(b"\x1a2", "", 0, 1));
+    assert!(rt; holds(b"\x1a4", "", 0, 0));
+    assert!(rt; holds(b"\x1a\xe3", "", 0, 0));
+    assert!(rt; holds(b"\x1a0", "", 10, 1));
+    assert!(rt; holds(b"\x1a5", "", 10, 1));
+    assert!(rt; holds(b"\x1a", "", 10, 1));
+    // Damage at each other message takes nothing with it.
+    let damaged =
+        b"\x1a3\0\0\0\xb7\x1b\0\x80\x8d\x48\x40\xd6\x20\x2c\xc3\x71\xc3\x2c\xe0\x57\x60\x98\x1a3\0\0\x1a9\0\x1a3\0\0\x01\x6e\x36\0\x80\x8d\x48\x40\xd6\x20\x2c\xc3\x71\xc3\x2c\xe0\x57\x60\x98\x1a3";
+    assert!(rt; holds(damaged, TWO, 0, 3));
 }
 
 #[test]
 fn text_is_found(rt: HostRuntime) {
+    // The line before the first frame is read too: a word that is no frame, and its semicolon.
     let marked =
         b"4D6;\n*2040;\n@000000B71B008D4840D6202CC371C32CE0576098;@0000016E36008D4840D6202CC371C32CE0576098;";
     assert!(rt; holds(marked, TWO, 1, 1));
@@ -71,6 +106,14 @@ fn text_is_found(rt: HostRuntime) {
         holds(
             b"8D4840D6202CC371C32CE0576098\r\n8D4840D6202CC371C32CE0576098",
             "0 8D4840D6202CC371C32CE0576098\n0 8D4840D6202CC371C32CE0576098\n",
+            1,
+            0
+        )
+    );
+    assert!(rt;
+        holds(
+            b"\xEF\xBB\xBF8D4840D6202CC371C32CE0576098\n",
+            "0 8D4840D6202CC371C32CE0576098\n",
             1,
             0
         )
@@ -95,20 +138,32 @@ fn text_is_found(rt: HostRuntime) {
 #[test]
 fn other_sources_are_told(rt: HostRuntime) {
     assert!(rt; holds(b"", "", 4, 0));
-    assert!(rt;
-        holds(
-            b"MSG,3,1,1,4840D6\n7 8D4840D6202CC371C32CE0576098\n",
-            "",
-            5,
-            1
-        )
-    );
-    assert!(rt; holds(b"\x1f\x8b\x08\n7 8D4840D6202CC371C32CE0576098\n", "", 7, 1));
+    assert!(rt; holds(b"MSG,3,1,1,4840D6\n{\"now\":1}\n", "", 5, 1));
     assert!(rt; holds(b"BZh91AY", "", 7, 1));
     assert!(rt; holds(b"\xff\xfe7\0 \0", "", 8, 1));
     assert!(rt; holds(b"{\"now\":1}\n", "", 9, 1));
+    assert!(rt; holds(b"{\"now\":1}", "", 9, 1));
     assert!(rt; holds(b"2040\n", "", 10, 1));
     assert!(rt; holds(b"\nBZh", "", 10, 1));
+    // A frame outweighs each of them.
+    let line = "7 8D4840D6202CC371C32CE0576098\n";
+    assert!(rt;
+        holds(
+            b"MSG,3,1,1,4840D6\n7 8D4840D6202CC371C32CE0576098\n",
+            line,
+            3,
+            1
+        )
+    );
+    assert!(rt; holds(b"{\"now\":1}\n7 8D4840D6202CC371C32CE0576098\n", line, 3, 1));
+    assert!(rt;
+        holds(
+            b"\x1f\x8b\x08\n7 8D4840D6202CC371C32CE0576098\n",
+            line,
+            3,
+            1
+        )
+    );
 }
 
 #[test]
@@ -125,10 +180,10 @@ fn a_source_shows_its_format_soon(rt: HostRuntime) {
         let mut feed = Feed::new(None, &RECORDED);
         let mut text = TextBuffer::<1024>::new();
         for _ in 0..blanks {
-            feed.take(b"\n", 0, &mut text);
+            push_lines(&mut feed, b"\n", 0, &mut text);
         }
         // The 16,384th byte is the last that may show the format.
-        feed.take(b"1 *2040;\n", 0, &mut text);
+        push_lines(&mut feed, b"1 *2040;\n", 0, &mut text);
         assert!(rt; number(&feed) == shown);
     }
 }
@@ -137,21 +192,28 @@ fn a_source_shows_its_format_soon(rt: HostRuntime) {
 fn sources_follow_each_other(rt: HostRuntime) {
     let mut feed = Feed::new(None, &RECORDED);
     let mut text = TextBuffer::<1024>::new();
-    feed.take(b"1000 8D4840D6202CC371C32CE0576098", 0, &mut text);
-    feed.close();
-    feed.close();
-    let mut moments = [9u64; 2];
-    let mut frames = [[0u8; 14]; 2];
-    let (taken, given) = feed.take_frames(b"", 0, &mut moments, &mut frames);
-    assert!(rt;
-        taken == 0 && given == 1 && moments[0] == 1000 && moments[1] == 9 && text.is_empty()
+    push_lines(
+        &mut feed,
+        b"1000 8D4840D6202CC371C32CE0576098",
+        0,
+        &mut text,
     );
-    feed.take(b"2.0,x,8D4840D6202CC371C32CE0576098\n3,x", 0, &mut text);
+    feed.close();
+    feed.close();
+    let mut last = TextBuffer::<1024>::new();
+    push_lines(&mut feed, b"", 0, &mut last);
+    assert!(rt; last.as_str() == "1000 8D4840D6202CC371C32CE0576098\n" && text.is_empty());
+    push_lines(
+        &mut feed,
+        b"2.0,x,8D4840D6202CC371C32CE0576098\n3,x",
+        0,
+        &mut text,
+    );
     assert!(rt; text.as_str() == "2000 8D4840D6202CC371C32CE0576098\n" && number(&feed) == 2);
     feed.disconnected();
     assert!(rt;
         feed.counts().damaged() == 1 && feed.format().is_none() && feed.stranger().is_none()
     );
-    feed.take(BEAST, 0, &mut text);
+    push_lines(&mut feed, BEAST, 0, &mut text);
     assert!(rt; feed.counts().written() == 4 && feed.counts().damaged() == 2);
 }

@@ -1,6 +1,7 @@
 //! Tests of feeds: machines, clocks, times, counts, formats that are found, orders, and feeds of each format.
 #![tactic(auto)]
 
+mod fed;
 #[cfg(test)]
 mod feeds;
 #[cfg(test)]

@@ -18,6 +18,7 @@ fn item(found: Option<Found>) -> Option<(usize, u64)> {
             Some((size, time))
         }
         Some(Found::Foreign(_)) => Some((9, 9)),
+        Some(Found::ReceiverId) => Some((8, 8)),
         Some(Found::Damage) => Some((0, 0)),
         None => None,
     }

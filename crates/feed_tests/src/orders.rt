@@ -1,7 +1,7 @@
 //! Squitters in the order of their timestamps.
-use sq_feed::Order;
+use sq_feed::{Order, Timed};
 
-// What a call stored: timestamps, frames by the number that fills them, and the count.
+// What an order gave: timestamps, frames by the number that fills them, and the count, at most four.
 #[derive(Drop)]
 struct Given {
     moments: [u64; 4],
@@ -9,33 +9,42 @@ struct Given {
     count: usize,
 }
 
-// Takes one squitter, with a frame of one number, and returns what is due.
+// Puts one squitter, with a frame of one number, and returns what is due.
 fn push(order: &mut Order, moment: u64, number: u8) -> Given {
-    let mut moments = [0; 4];
-    let mut frames = [[0; 14]; 4];
-    let (_, count) = order.take(&[moment], &[[number; 14]], &mut moments, &mut frames);
-    stored(moments, &frames, count)
+    if !order.is_due() {
+        order.put(&timed(moment, number));
+    }
+    pull(order, false)
 }
 
 // Returns what is due, or what is held.
 fn pull(order: &mut Order, is_end: bool) -> Given {
-    let mut moments = [0; 4];
-    let mut frames = [[0; 14]; 4];
-    let count = if is_end {
-        order.flush(&mut moments, &mut frames)
-    } else {
-        order.take(&[], &[], &mut moments, &mut frames).1
+    let mut given = Given {
+        moments: [0; 4],
+        numbers: [0; 4],
+        count: 0,
     };
-    stored(moments, &frames, count)
+    let mut slot = Timed::default();
+    for at in 0..4 {
+        let is_filled = if is_end {
+            order.flush_into(&mut slot)
+        } else {
+            order.give_into(&mut slot)
+        };
+        if is_filled {
+            given.moments[at] = slot.moment;
+            given.numbers[at] = slot.frame[13];
+            given.count = at + 1;
+        }
+    }
+    given
 }
 
-// Returns what a call stored.
-fn stored(moments: [u64; 4], frames: &[[u8; 14]; 4], count: usize) -> Given {
-    let numbers = [frames[0][13], frames[1][13], frames[2][13], frames[3][13]];
-    Given {
-        moments,
-        numbers,
-        count,
+// Returns a squitter with a frame of one number.
+fn timed(moment: u64, number: u8) -> Timed {
+    Timed {
+        moment,
+        frame: [number; 14],
     }
 }
 
@@ -99,26 +108,20 @@ fn a_full_order_gives_the_first(rt: HostRuntime) {
 }
 
 #[test]
-fn arrays_without_room(rt: HostRuntime) {
+fn a_slot_is_kept(rt: HostRuntime) {
     let mut order = Order::new(10);
-    let mut moments = [0; 2];
-    let mut frames = [[0; 14]; 2];
-    let came = [[1; 14], [2; 14], [3; 14], [4; 14]];
-    assert!(rt; order.take(&[1, 2], &came, &mut [], &mut frames) == (0, 0));
-    assert!(rt; order.take(&[1, 2], &came, &mut moments, &mut []) == (0, 0));
-    assert!(rt; order.held() == 0);
-    // as many as there are of both timestamps and frames
-    assert!(rt; order.take(&[1, 2, 3], &came[..1], &mut moments, &mut frames) == (1, 0));
-    assert!(rt; order.take(&[2, 3, 50], &came[1..], &mut moments, &mut frames) == (3, 2));
-    assert!(rt; moments == [1, 2] && frames == [[1; 14], [2; 14]]);
-    // due squitters come first
-    assert!(rt; order.take(&[60], &came, &mut moments[..1], &mut frames) == (0, 1));
-    assert!(rt; moments == [3, 2] && frames == [[3; 14], [2; 14]]);
-    assert!(rt; order.take(&[60], &came, &mut moments[..1], &mut frames) == (1, 1));
-    assert!(rt; moments == [50, 2] && order.held() == 1);
-    assert!(rt; order.flush(&mut moments, &mut []) == 0);
-    assert!(rt; order.flush(&mut moments, &mut frames) == 1);
-    assert!(rt; moments == [60, 2] && frames == [[1; 14], [2; 14]]);
+    let mut slot = timed(5, 9);
+    assert!(rt; !order.is_due() && !order.give_into(&mut slot) && !order.flush_into(&mut slot));
+    assert!(rt; push(&mut order, 1, 1).count == 0);
+    assert!(rt; !order.give_into(&mut slot) && slot.moment == 5 && slot.frame == [9; 14]);
+    // the first is due once a later one by the delay has come
+    order.put(&timed(11, 2));
+    assert!(rt; order.is_due() && order.give_into(&mut slot));
+    assert!(rt; slot.moment == 1 && slot.frame == [1; 14]);
+    assert!(rt; !order.is_due() && !order.give_into(&mut slot) && slot.moment == 1);
+    assert!(rt; order.held() == 1 && order.flush_into(&mut slot));
+    assert!(rt; slot.moment == 11 && slot.frame == [2; 14]);
+    assert!(rt; order.held() == 0 && !order.flush_into(&mut slot) && slot.moment == 11);
 }
 
 #[test]

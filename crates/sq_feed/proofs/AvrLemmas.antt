@@ -15,7 +15,7 @@ use Rattle.sq_feed.specs.declared.message.Found.{Found}
 use Rattle.sq_feed.specs.declared.message.Found.TheVariants.{Whole, Damage}
 use Rattle.sq_feed.specs.declared.message.Size.{Size}
 use Rattle.sq_feed.specs.declared.message.Size.TheVariants.{TwoBytes, SevenBytes, FourteenBytes}
-use Rattle.sq_feed.specs.Avr.{AreHex, BegunWord, are_hex, avr_from, avr_message, avr_to_come, bare, bytes_of, edge_of, is_hex}
+use Rattle.sq_feed.specs.Avr.{AreHex, BegunWord, are_hex, avr_from, avr_message, avr_to_come, bare, bytes_of, edge_of, is_hex, is_line_end}
 use Rattle.sq_feed.specs.Avr.{item_of, items_at, items_before, lead, opened_by, opener_after, size_of, stray_word}
 use Rattle.sq_feed.specs.Avr.{frame_of_word, framed}
 use Rattle.sq_feed.specs.Avr.{AvrSent, BareFrameIsFound, IsSent, SentFrameIsFound, avr_found, mark_of, opening, sent_item, sent_text}
@@ -243,13 +243,19 @@ mark_at byte hex =
     (ne_eqb byte 64 (clash byte 64 hex refl)) (ne_eqb byte 37 (clash byte 37 hex refl))
     ∙ ap (λ (a : Bool). if a then Some Signalled else None) (ne_eqb byte 60 (clash byte 60 hex refl))
 
+no_line_end : (byte : ℕ) → byte ≢ 10 → byte ≢ 13 → byte ≢ 0xEF → byte ≢ 0xBB → byte ≢ 0xBF → is_line_end byte ≡ false
+no_line_end byte a b c d e =
+    ap₂ (λ (s t : Bool). s || t || (byte == 0xEF) || (byte == 0xBB) || (byte == 0xBF)) (ne_eqb byte 10 a)
+    (ne_eqb byte 13 b)
+    ∙ ap₂ (λ (s t : Bool). s || t || (byte == 0xBF)) (ne_eqb byte 0xEF c) (ne_eqb byte 0xBB d) ∙ ne_eqb byte 0xBF e
+
 digit_edge : (byte : ℕ) → is_hex byte ≡ true → edge_of byte ≡ None
 digit_edge byte hex =
-    ap (λ (a : Bool). if a then Some Closing else (if byte == 10 || byte == 13 then Some LineEnd
-    else opening (mark_of byte)))
+    ap (λ (a : Bool). if a then Some Closing else (if is_line_end byte then Some LineEnd else opening (mark_of byte)))
     (ne_eqb byte 59 (clash byte 59 hex refl))
-    ∙ ap₂ (λ (a b : Bool). if a || b then Some LineEnd else opening (mark_of byte))
-    (ne_eqb byte 10 (clash byte 10 hex refl)) (ne_eqb byte 13 (clash byte 13 hex refl))
+    ∙ ap (λ (a : Bool). if a then Some LineEnd else opening (mark_of byte))
+    (no_line_end byte (clash byte 10 hex refl) (clash byte 13 hex refl) (clash byte 0xEF hex refl)
+    (clash byte 0xBB hex refl) (clash byte 0xBF hex refl))
     ∙ ap opening (mark_at byte hex)
 
 -- digits are appended to the word
@@ -272,7 +278,7 @@ size_is Signalled TwoBytes = refl
 size_is Signalled SevenBytes = refl
 size_is Signalled FourteenBytes = refl
 
-written_item : (mark : Mark) (size : Size) (digits : List ℕ) → AreHex digits
+pub written_item : (mark : Mark) (size : Size) (digits : List ℕ) → AreHex digits
     → length digits ≡ 2 * (lead mark + frame_len size)
     → item_of mark digits ≡ Whole (avr_message mark size (bytes_of digits))
 written_item mark size digits hex full =
@@ -282,11 +288,11 @@ written_item mark size digits hex full =
 
 mark_is_edge : (byte : ℕ) (mark : Mark) → mark_of byte ≡ Some mark → edge_of byte ≡ Some (Opening mark)
 mark_is_edge byte mark is =
-    ap (λ (a : Bool). if a then Some Closing else (if byte == 10 || byte == 13 then Some LineEnd
-    else opening (mark_of byte)))
+    ap (λ (a : Bool). if a then Some Closing else (if is_line_end byte then Some LineEnd else opening (mark_of byte)))
     (ne_eqb byte 59 (λ e. differ 59 refl e))
-    ∙ ap₂ (λ (a b : Bool). if a || b then Some LineEnd else opening (mark_of byte))
-    (ne_eqb byte 10 (λ e. differ 10 refl e)) (ne_eqb byte 13 (λ e. differ 13 refl e))
+    ∙ ap (λ (a : Bool). if a then Some LineEnd else opening (mark_of byte))
+    (no_line_end byte (λ e. differ 10 refl e) (λ e. differ 13 refl e) (λ e. differ 0xEF refl e)
+    (λ e. differ 0xBB refl e) (λ e. differ 0xBF refl e))
     ∙ ap opening is
   where
     differ : (other : ℕ) → mark_of other ≡ None → byte ≡ other → ⊥

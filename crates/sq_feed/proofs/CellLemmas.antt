@@ -2,22 +2,22 @@
 use Rattle.std.proofs.Common.{◌≡◌, ◌+◌, ◌-◌, ◌<◌, ◌≤◌, ◌∙◌, ℕ, zero, suc, Bool, true, false, List, length, drop, ap, arith, refl, sym}
 use Rattle.std.specs.Prelude.{Some, None, if◌then◌else◌}
 use Rattle.std.proofs.lemmas.Bool.{le-ltb, lt-ltb}
-use Rattle.sq_feed.specs.Cells.{after_cell, cell_of, first_cell, is_named, named_from, position_of}
+use Rattle.sq_feed.specs.Cells.{after_cell, cell_end, cell_of, first_cell, is_named, named_from}
 
-after_is : (row : List ℕ) → position_of 44 row < length row → after_cell row ≡ Some (drop (position_of 44 row + 1) row)
+after_is : (row : List ℕ) → cell_end row < length row → after_cell row ≡ Some (drop (cell_end row + 1) row)
 after_is row within =
-    ap (λ (t : Bool). if t then Some (drop (position_of 44 row + 1) row) else None) (lt-ltb _ _ within)
+    ap (λ (t : Bool). if t then Some (drop (cell_end row + 1) row) else None) (lt-ltb _ _ within)
 
-after_none : (row : List ℕ) → length row ≤ position_of 44 row → after_cell row ≡ None
+after_none : (row : List ℕ) → length row ≤ cell_end row → after_cell row ≡ None
 after_none row past =
-    ap (λ (t : Bool). if t then Some (drop (position_of 44 row + 1) row) else None) (le-ltb _ _ past)
+    ap (λ (t : Bool). if t then Some (drop (cell_end row + 1) row) else None) (le-ltb _ _ past)
 
 no_cell : (k : ℕ) → cell_of k None ≡ None
 no_cell zero = refl
 no_cell (suc k) = refl
 
 pub cell_next : (k step at : ℕ) (row rest : List ℕ) → step < k → cell_of k (Some row) ≡ cell_of (k - step) (Some rest)
-    → at ≡ position_of 44 rest → at < length rest
+    → at ≡ cell_end rest → at < length rest
     → cell_of k (Some row) ≡ cell_of (k - (step + 1)) (Some (drop (at + 1) rest))
 cell_next k step at row rest less so is within =
     let more : k - step ≡ suc (k - (step + 1)) = omega (arith, less) in
@@ -26,7 +26,7 @@ cell_next k step at row rest less so is within =
     ∙ ap (λ n. cell_of (k - (step + 1)) (Some (drop (n + 1) rest))) (sym is)
 
 pub cell_gone : (k step at : ℕ) (row rest : List ℕ) → step < k → cell_of k (Some row) ≡ cell_of (k - step) (Some rest)
-    → at ≡ position_of 44 rest → at ≡ length rest → cell_of k (Some row) ≡ None
+    → at ≡ cell_end rest → at ≡ length rest → cell_of k (Some row) ≡ None
 cell_gone k step at row rest less so is ends =
     let more : k - step ≡ suc (k - (step + 1)) = omega (arith, less) in
     so ∙ ap (λ n. cell_of n (Some rest)) more
@@ -38,7 +38,7 @@ no_name (suc cells) name k = refl
 
 -- the search goes on after a cell with another name
 pub named_next : (all k at : ℕ) (name row rest : List ℕ) → k < all
-    → named_from all name 0 (Some row) ≡ named_from (all - k) name k (Some rest) → at ≡ position_of 44 rest
+    → named_from all name 0 (Some row) ≡ named_from (all - k) name k (Some rest) → at ≡ cell_end rest
     → at < length rest → is_named name (first_cell rest) ≡ false
     → named_from all name 0 (Some row) ≡ named_from (all - (k + 1)) name (k + 1) (Some (drop (at + 1) rest))
 named_next all k at name row rest less so is within other =
@@ -57,7 +57,7 @@ named_here all k name row rest less so here =
     ∙ ap (λ (t : Bool). if t then Some k else named_from (all - (k + 1)) name (k + 1) (after_cell rest)) here
 
 pub named_gone : (all k at : ℕ) (name row rest : List ℕ) → k < all
-    → named_from all name 0 (Some row) ≡ named_from (all - k) name k (Some rest) → at ≡ position_of 44 rest
+    → named_from all name 0 (Some row) ≡ named_from (all - k) name k (Some rest) → at ≡ cell_end rest
     → at ≡ length rest → is_named name (first_cell rest) ≡ false → named_from all name 0 (Some row) ≡ None
 named_gone all k at name row rest less so is ends other =
     let more : all - k ≡ suc (all - (k + 1)) = omega (arith, less) in

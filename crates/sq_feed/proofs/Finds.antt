@@ -1,32 +1,24 @@
 -- Finding the format of a source.
-use Rattle.std.proofs.Common.{◌≡◌, ◌+◌, ◌<◌, ◌≤◌, ◌++◌, ◌∙◌, ℕ, Bool, true, false, List, [], ◌∷◌, if◌then◌else◌, refl, sym, ap, ap₂, arith, subst, take}
-use Rattle.std.proofs.Common.{append_assoc}
-use Rattle.std.proofs.lemmas.Bool.{le-leb, lt-leb}
-use Rattle.sq_feed.specs.declared.finder.Next.{Next}
-use Rattle.sq_feed.specs.declared.finder.Start.{Start}
-use Rattle.sq_feed.specs.declared.finder.Next.TheVariants.{Read}
+use Rattle.std.proofs.Common.{◌≡◌, ◌-◌, ◌<◌, ◌≤◌, ◌++◌, ◌∙◌, ℕ, Bool, true, false, List, [], ◌∷◌, if◌then◌else◌, zero, suc, refl, sym, ap, ap₂, arith, subst, take, drop, length}
+use Rattle.std.proofs.Common.{append_assoc, length-append}
+use Rattle.std.proofs.lemmas.Bool.{eq-eqb, le-leb, lt-leb, ne_eqb}
+use Rattle.std.proofs.lemmas.List.{drop-append-le, length-drop}
+use Rattle.std.proofs.Math.Seq.{take-append_seam}
+use Rattle.std.specs.Prelude.{◌==◌, IfNone, OnSome, Option, Some, None, option_to_list}
 use Rattle.sq_feed.specs.declared.machine.Format.TheVariants.{Beast}
 use Rattle.sq_feed.specs.declared.message.Found.{Found}
-use Rattle.sq_feed.specs.declared.message.Found.TheVariants.{Whole, Damage, Foreign}
-use Rattle.sq_feed.specs.declared.rows.Layout.TheVariants.{Log as LogLayout}
 use Rattle.sq_feed.specs.declared.signs.Sign.{Sign}
-use Rattle.sq_feed.specs.declared.signs.Sign.TheVariants.{Unclear}
-use Rattle.std.specs.Prelude.{IfNone, IfSome, OnSome, Option, Some, None, option_to_list}
+use Rattle.sq_feed.specs.declared.signs.Sign.TheVariants.{Unclear, Shows, Other}
 use Rattle.sq_feed.specs.Begun.{Begun, HoldWithRest, rest_of}
-use Rattle.sq_feed.specs.Finding.{Finds, Lines, after_sign, beast_of, finds_to_come, found_by, fresh, is_beast, last_items}
-use Rattle.sq_feed.specs.Finding.{lines_after, messages_in, recent, recent_after, text_sign}
-use Rattle.sq_feed.specs.Follows.{Follows}
+use Rattle.sq_feed.specs.Finding.{Finds, HasShown, Lines, beast_of, byte_sign, first_shown, in_turn, in_turn_after, is_beast}
+use Rattle.sq_feed.specs.declared.message.Stranger.{Stranger}
+use Rattle.sq_feed.specs.Finding.{line_sign, marked_sign, start_sign}
+use Rattle.sq_feed.specs.Finding.{last_sign, limit, lines_after, named, shown_after, shown_by, sign_within}
 use Rattle.sq_feed.specs.Stream.{found_in}
 
-pub messages_in-append : (xs ys : List Found) → messages_in (xs ++ ys) ≡ messages_in xs + messages_in ys
-messages_in-append [] ys = omega arith
-messages_in-append (Whole m ∷ xs) ys = omega (arith, messages_in-append xs ys)
-messages_in-append (Damage ∷ xs) ys = messages_in-append xs ys
-messages_in-append (Foreign s ∷ xs) ys = messages_in-append xs ys
-
-recent-append : (kept xs ys : List Found) → recent kept (xs ++ ys) ≡ recent (recent kept xs) ys
-recent-append kept [] ys = refl
-recent-append kept (x ∷ xs) ys = recent-append (recent_after kept x) xs ys
+in_turn-append : (count : ℕ) (xs ys : List Found) → in_turn count (xs ++ ys) ≡ in_turn (in_turn count xs) ys
+in_turn-append count [] ys = refl
+in_turn-append count (x ∷ xs) ys = in_turn-append (in_turn_after count x) xs ys
 
 -- a call with one byte takes it
 one_taken : (result : Option Found) (count : ℕ) → count ≤ 1 → IfNone result (count ≡ 1) → OnSome result (0 < count)
@@ -34,120 +26,142 @@ one_taken : (result : Option Found) (count : ℕ) → count ≤ 1 → IfNone res
 one_taken None count few all some = all
 one_taken (Some found) count few all some = omega (arith, few, some)
 
--- the recent items after a byte of a Beast stream
-pub recent_more : (kept found : List Found) (rest next : List ℕ) (byte : ℕ) (bytes : List ℕ)
+-- the messages in a row after a byte of a Beast stream
+turn_more : (count : ℕ) (found : List Found) (rest next : List ℕ) (byte : ℕ) (bytes : List ℕ)
     → HoldWithRest (rest ++ byte ∷ []) found next
-    → recent (recent kept found) (found_in (next ++ bytes)) ≡ recent kept (found_in (rest ++ byte ∷ bytes))
+    → in_turn (in_turn count found) (found_in (next ++ bytes)) ≡ in_turn count (found_in (rest ++ byte ∷ bytes))
 unfolding HoldWithRest
-recent_more kept found rest next byte bytes held =
-    sym (recent-append kept found (found_in (next ++ bytes))) ∙ ap (recent kept) (sym (held bytes))
-    ∙ ap (λ l. recent kept (found_in l)) (append_assoc rest (byte ∷ []) bytes)
+turn_more count found rest next byte bytes held =
+    sym (in_turn-append count found (found_in (next ++ bytes))) ∙ ap (in_turn count) (sym (held bytes))
+    ∙ ap (λ l. in_turn count (found_in l)) (append_assoc rest (byte ∷ []) bytes)
 
--- the recent items after a deframer took one byte, by its state before and after
-pub beast_more : (kept found : List Found) (old new : Begun) (byte : ℕ) (bytes : List ℕ) (result : Option Found)
-    (count : ℕ) → count ≤ 1 → IfNone result (count ≡ 1) → OnSome result (0 < count) → option_to_list result ≡ found
-    → HoldWithRest (rest_of old ++ take count (byte ∷ [])) (option_to_list result) (rest_of new)
-    → recent (recent kept found) (found_in (rest_of new ++ bytes))
-    ≡ recent kept (found_in (rest_of old ++ byte ∷ bytes))
-beast_more kept found old new byte bytes result count few all some is held =
-    let one : count ≡ 1 = one_taken result count few all some in
-    recent_more kept found (rest_of old) (rest_of new) byte bytes
+-- the messages in a row after a deframer took one byte, by its state before and after
+pub beast_more : (count : ℕ) (found : List Found) (old new : Begun) (byte : ℕ) (bytes : List ℕ) (result : Option Found)
+    (taken : ℕ) → taken ≤ 1 → IfNone result (taken ≡ 1) → OnSome result (0 < taken) → option_to_list result ≡ found
+    → HoldWithRest (rest_of old ++ take taken (byte ∷ [])) (option_to_list result) (rest_of new)
+    → in_turn (in_turn count found) (found_in (rest_of new ++ bytes))
+    ≡ in_turn count (found_in (rest_of old ++ byte ∷ bytes))
+beast_more count found old new byte bytes result taken few all some is held =
+    let one : taken ≡ 1 = one_taken result taken few all some in
+    turn_more count found (rest_of old) (rest_of new) byte bytes
     (subst (λ l. HoldWithRest (rest_of old ++ byte ∷ []) l (rest_of new)) is
     (subst (λ k. HoldWithRest (rest_of old ++ take k (byte ∷ [])) (option_to_list result) (rest_of new)) one held))
 
--- two readings of the bytes to come find the same items if they agree
-found_by-same : (f g : List ℕ → List Found) (text : Lines) (bytes : List ℕ) → ((q : List ℕ) → f q ≡ g q)
-    → found_by f text bytes ≡ found_by g text bytes
-found_by-same f g text [] same = ap (λ l. last_items l text) (same [])
-found_by-same f g text (byte ∷ more) same =
-    ap₂ (λ (x rest : List Found). if is_beast x then x ++ found_in more
-    else after_sign text.is_dirty (text_sign text byte) rest more) (same (byte ∷ []))
-    (found_by-same (λ q. f (byte ∷ q)) (λ q. g (byte ∷ q)) (lines_after text byte) more (λ q. same (byte ∷ q)))
+-- two readings of the bytes to come show the same if they agree
+pub shown_by-same : (f g : List ℕ → ℕ) (text : Lines) (bytes : List ℕ) → ((q : List ℕ) → f q ≡ g q)
+    → shown_by f text bytes ≡ shown_by g text bytes
+shown_by-same f g text [] same = ap (λ n. last_sign n text) (same [])
+shown_by-same f g text (byte ∷ more) same =
+    ap₂ (λ n (later : Sign). if is_beast n then Shows Beast
+    else first_shown (byte_sign text byte) (sign_within (lines_after text byte) later)) (same (byte ∷ []))
+    (shown_by-same (λ q. f (byte ∷ q)) (λ q. g (byte ∷ q)) (lines_after text byte) more (λ q. same (byte ∷ q)))
 
--- the items after a byte
-found_more : (old new : Finds) (byte : ℕ) (more : List ℕ) → ((q : List ℕ) → beast_of new q ≡ beast_of old (byte ∷ q))
-    → finds_to_come old (byte ∷ more)
-    ≡ (if is_beast (beast_of new []) then beast_of new [] ++ found_in more
-    else after_sign old.text.is_dirty (text_sign old.text byte)
-    (found_by (beast_of new) (lines_after old.text byte) more) more)
-found_more old new byte more same =
-    ap₂ (λ (x rest : List Found). if is_beast x then x ++ found_in more
-    else after_sign old.text.is_dirty (text_sign old.text byte) rest more) (sym (same []))
-    (found_by-same (λ q. beast_of old (byte ∷ q)) (beast_of new) (lines_after old.text byte) more
-    (λ q. sym (same q)))
-
--- a byte that shows nothing
-pub finds_more : (old mid new : Finds) (byte : ℕ) → ((q : List ℕ) → beast_of mid q ≡ beast_of old (byte ∷ q))
-    → new.beast ≡ mid.beast → new.kept ≡ mid.kept → new.text ≡ lines_after old.text byte
-    → is_beast (beast_of mid []) ≡ false → text_sign old.text byte ≡ Unclear
-    → Follows (finds_to_come old) (byte ∷ []) [] (finds_to_come new)
-unfolding Follows
-finds_more old mid new byte same beast kept text none unclear more =
-    found_more old mid byte more same
-    ∙ ap (λ (b : Bool). if b then beast_of mid [] ++ found_in more
-    else after_sign old.text.is_dirty (text_sign old.text byte)
-    (found_by (beast_of mid) (lines_after old.text byte) more) more) none
-    ∙ ap (λ (s : Sign). after_sign old.text.is_dirty s (found_by (beast_of mid) (lines_after old.text byte) more) more)
-    unclear
-    ∙ ap (λ (t : Lines). found_by (beast_of mid) t more) (sym text)
-    ∙ found_by-same (beast_of mid) (beast_of new) new.text more
-    (λ q. ap₂ (λ b k. beast_of (record { beast = b; kept = k; text = new.text }) q) (sym beast) (sym kept))
+-- what the source shows after a byte
+shown_more : (old mid : Finds) (byte : ℕ) (more : List ℕ) → ((q : List ℕ) → beast_of mid q ≡ beast_of old (byte ∷ q))
+    → shown_after old (byte ∷ more)
+    ≡ (if is_beast (beast_of mid []) then Shows Beast
+    else first_shown (byte_sign old.text byte) (sign_within (lines_after old.text byte)
+    (shown_by (beast_of mid) (lines_after old.text byte) more)))
+shown_more old mid byte more same =
+    ap₂ (λ n (later : Sign). if is_beast n then Shows Beast
+    else first_shown (byte_sign old.text byte) (sign_within (lines_after old.text byte) later)) (sym (same []))
+    (shown_by-same (λ q. beast_of old (byte ∷ q)) (beast_of mid) (lines_after old.text byte) more (λ q. sym (same q)))
 
 -- a byte that shows Beast
-pub beast_shown : (old mid : Finds) (byte : ℕ) (items : List Found)
-    → ((q : List ℕ) → beast_of mid q ≡ beast_of old (byte ∷ q))
-    → items ≡ beast_of mid [] → is_beast (beast_of mid []) ≡ true
-    → Follows (finds_to_come old) (byte ∷ []) items (fresh (Read Beast LogLayout))
-unfolding Follows
-beast_shown old mid byte items same is shown more =
-    found_more old mid byte more same
-    ∙ ap (λ (b : Bool). if b then beast_of mid [] ++ found_in more
-    else after_sign old.text.is_dirty (text_sign old.text byte)
-    (found_by (beast_of mid) (lines_after old.text byte) more) more) shown
-    ∙ ap (λ l. l ++ found_in more) (sym is)
+pub beast_shown : (old mid new : Finds) (byte messages : ℕ)
+    → ((q : List ℕ) → beast_of mid q ≡ beast_of old (byte ∷ q)) → messages ≡ beast_of mid [] → 2 ≤ messages
+    → HasShown (Shows Beast) old (byte ∷ []) new
+beast_shown old mid new byte messages same is enough = λ more.
+    shown_more old mid byte more same
+    ∙ ap (λ (b : Bool). if b then Shows Beast
+    else first_shown (byte_sign old.text byte) (sign_within (lines_after old.text byte)
+    (shown_by (beast_of mid) (lines_after old.text byte) more)))
+    (le-leb 2 (beast_of mid []) (subst (λ n. 2 ≤ n) is enough))
 
--- a byte that shows a text, or another source
-pub text_shown : (old mid : Finds) (byte : ℕ) (items : List Found) (next : Next)
-    → ((q : List ℕ) → beast_of mid q ≡ beast_of old (byte ∷ q)) → is_beast (beast_of mid []) ≡ false
-    → ((rest : List Found) (more : List ℕ)
-    → after_sign old.text.is_dirty (text_sign old.text byte) rest more ≡ items ++ fresh next more)
-    → Follows (finds_to_come old) (byte ∷ []) items (fresh next)
-unfolding Follows
-text_shown old mid byte items next same none shown more =
-    found_more old mid byte more same
-    ∙ ap (λ (b : Bool). if b then beast_of mid [] ++ found_in more
-    else after_sign old.text.is_dirty (text_sign old.text byte)
-    (found_by (beast_of mid) (lines_after old.text byte) more) more) none
-    ∙ shown (found_by (beast_of mid) (lines_after old.text byte) more) more
+-- the sign of a byte, if Beast is not shown
+text_more : (old mid : Finds) (byte messages : ℕ) (more : List ℕ)
+    → ((q : List ℕ) → beast_of mid q ≡ beast_of old (byte ∷ q)) → messages ≡ beast_of mid [] → messages < 2
+    → shown_after old (byte ∷ more) ≡ first_shown (byte_sign old.text byte) (sign_within (lines_after old.text byte)
+    (shown_by (beast_of mid) (lines_after old.text byte) more))
+text_more old mid byte messages more same is few =
+    shown_more old mid byte more same
+    ∙ ap (λ (b : Bool). if b then Shows Beast
+    else first_shown (byte_sign old.text byte) (sign_within (lines_after old.text byte)
+    (shown_by (beast_of mid) (lines_after old.text byte) more)))
+    (lt-leb 2 (beast_of mid []) (subst (λ n. n < 2) is few))
 
--- enough messages, and too few
-pub are_beast : (count : ℕ) (xs ys : List Found) → count ≡ messages_in xs → xs ≡ ys → 3 ≤ count → is_beast ys ≡ true
-are_beast count xs ys is same enough =
-    le-leb 3 (messages_in ys) (subst (λ l. 3 ≤ messages_in l) same (subst (λ n. 3 ≤ n) is enough))
+-- the sign of a byte and that of the limit, whatever they are
+by_signs : (old mid new : Finds) (byte : ℕ) (sign : Sign) (at_limit : Bool)
+    → ((more : List ℕ) → shown_after old (byte ∷ more)
+    ≡ first_shown sign (if at_limit then Other (named new.text.stranger)
+    else shown_after new more))
+    → HasShown (first_shown sign (if at_limit then Other (named new.text.stranger) else Unclear)) old (byte ∷ []) new
+by_signs old mid new byte Unclear true shows = shows
+by_signs old mid new byte Unclear false shows = shows
+by_signs old mid new byte (Shows format) at_limit shows = shows
+by_signs old mid new byte (Other stranger) true shows = shows
+by_signs old mid new byte (Other stranger) false shows = shows
 
-pub are_few : (count : ℕ) (xs ys : List Found) → count ≡ messages_in xs → xs ≡ ys → count < 3 → is_beast ys ≡ false
-are_few count xs ys is same few =
-    lt-leb 3 (messages_in ys) (subst (λ l. messages_in l < 3) same (subst (λ n. n < 3) is few))
+pub signs_shown : (old mid new : Finds) (byte messages : ℕ) (sign limit_is result : Sign)
+    → ((q : List ℕ) → beast_of mid q ≡ beast_of old (byte ∷ q)) → messages ≡ beast_of mid [] → messages < 2
+    → new.beast ≡ mid.beast → new.count ≡ mid.count → new.text ≡ lines_after old.text byte
+    → new.text.count ≡ length new.held → sign ≡ byte_sign old.text byte
+    → limit_is ≡ (if length new.held == limit then Other (named new.text.stranger) else Unclear)
+    → result ≡ first_shown sign limit_is
+    → HasShown result old (byte ∷ []) new
+signs_shown old mid new byte messages sign limit_is result same is few beast count text held sign_is at is_result =
+    subst (λ (s : Sign). HasShown s old (byte ∷ []) new)
+    (sym (is_result ∙ ap (first_shown sign) at))
+    (by_signs old mid new byte sign (length new.held == limit) (λ more.
+    text_more old mid byte messages more same is few
+    ∙ ap₂ (λ (s : Sign) (t : Lines). first_shown s (sign_within t (shown_by (beast_of mid) t more))) (sym sign_is)
+    (sym text)
+    ∙ ap (λ n. first_shown sign (if n == limit then Other (named new.text.stranger)
+    else shown_by (beast_of mid) new.text more)) held
+    ∙ ap (λ (s : Sign). first_shown sign (if length new.held == limit then Other (named new.text.stranger) else s))
+    (shown_by-same (beast_of mid) (beast_of new) new.text more
+    (λ q. ap₂ (λ (b : Begun) k. in_turn k (found_in (rest_of b ++ q))) (sym beast) (sym count)))))
 
--- the effect of a sign, whatever the result is
-pub sign_none : (result : Option Start) (sign : Sign) (old mid new : Finds) (byte : ℕ)
-    → ((q : List ℕ) → beast_of mid q ≡ beast_of old (byte ∷ q)) → new.beast ≡ mid.beast → new.kept ≡ mid.kept
-    → mid.text ≡ old.text → new.text ≡ lines_after mid.text byte → is_beast (beast_of mid []) ≡ false
-    → sign ≡ text_sign mid.text byte → IfNone result (sign ≡ Unclear)
-    → IfNone result (Follows (finds_to_come old) (byte ∷ []) [] (finds_to_come new))
-sign_none (Some start) sign old mid new byte same beast kept text after none is unclear = tt
-sign_none None sign old mid new byte same beast kept text after none is unclear =
-    finds_more old mid new byte same beast kept (after ∙ ap (λ (t : Lines). lines_after t byte) text) none
-    (ap (λ (t : Lines). text_sign t byte) (sym text) ∙ sym is ∙ unclear)
+-- ---- a loop over bytes
 
-pub sign_some : (result : Option Start) (sign : Sign) (is_dirty : Bool) (old mid : Finds) (byte : ℕ)
-    → ((q : List ℕ) → beast_of mid q ≡ beast_of old (byte ∷ q)) → mid.text ≡ old.text
-    → is_dirty ≡ old.text.is_dirty → is_beast (beast_of mid []) ≡ false → sign ≡ text_sign mid.text byte
-    → IfSome result (λ start. (rest : List Found) (more : List ℕ)
-    → after_sign is_dirty sign rest more ≡ start.items.items ++ fresh start.next more)
-    → IfSome result (λ start. Follows (finds_to_come old) (byte ∷ []) start.items.items (fresh start.next))
-sign_some None sign is_dirty old mid byte same text dirty none is shown = tt
-sign_some (Some start) sign is_dirty old mid byte same text dirty none is shown =
-    text_shown old mid byte start.items.items start.next same none
-    (λ rest more. ap₂ (λ (d : Bool) (s : Sign). after_sign d s rest more) (sym dirty)
-    (ap (λ (t : Lines). text_sign t byte) (sym text) ∙ sym is) ∙ shown rest more)
+pub shown_nothing : (finds : Finds) → HasShown Unclear finds [] finds
+shown_nothing finds = λ more. refl
+
+pub shown_on : (old mid new : Finds) (a b : List ℕ) (sign : Sign) → HasShown Unclear old a mid → HasShown sign mid b new
+    → HasShown sign old (a ++ b) new
+shown_on old mid new a b Unclear first second = λ more.
+    ap (shown_after old) (append_assoc a b more) ∙ first (b ++ more) ∙ second more
+shown_on old mid new a b (Shows format) first second = λ more.
+    ap (shown_after old) (append_assoc a b more) ∙ first (b ++ more) ∙ second more
+shown_on old mid new a b (Other stranger) first second = λ more.
+    ap (shown_after old) (append_assoc a b more) ∙ first (b ++ more) ∙ second more
+
+-- ---- the line so far
+
+front_all : (xs : List ℕ) (x : ℕ) → take (length (xs ++ x ∷ []) - 1) (xs ++ x ∷ []) ≡ xs
+front_all xs x =
+    ap (λ n. take n (xs ++ x ∷ [])) (omega (arith, length-append xs (x ∷ []))) ∙ take-append_seam xs (x ∷ [])
+
+-- the first line is as long as all bytes
+is_first_line : (line count : ℕ) → line ≤ count → (line == 0) ≡ (count - line == count)
+is_first_line zero count within = sym (eq-eqb (count - 0) count (omega arith))
+is_first_line (suc line) count within =
+    ne_eqb (suc line) 0 (λ same. absurd (omega (arith, same)))
+    ∙ sym (ne_eqb (count - suc line) count (λ same. absurd (omega (arith, within, same))))
+
+-- the sign of a byte, by the line with the byte
+pub pushed_sign : (held all line : List ℕ) (from byte : ℕ) (stranger : Option Stranger) → from ≤ length held
+    → all ≡ held ++ byte ∷ [] → line ≡ drop from all
+    → (if byte == 10 then line_sign (take (length line - 1) line)
+    else (if byte == 59 then marked_sign (take (length line - 1) line)
+    else (if from == 0 then start_sign line else Unclear)))
+    ≡ byte_sign (record { line = drop from held; count = length held; stranger = stranger }) byte
+pushed_sign held all line from byte stranger within is part =
+    let whole : line ≡ drop from held ++ byte ∷ [] =
+    part ∙ ap (drop from) is ∙ drop-append-le from held (byte ∷ []) within in
+    ap₂ (λ (l : List ℕ) (b : Bool). if byte == 10 then line_sign (take (length l - 1) l)
+    else (if byte == 59 then marked_sign (take (length l - 1) l) else (if b then start_sign l else Unclear)))
+    whole (is_first_line from (length held) within ∙ ap (λ n. n == length held) (sym (length-drop from held)))
+    ∙ ap (λ (l : List ℕ). if byte == 10 then line_sign l else (if byte == 59 then marked_sign l
+    else (if length (drop from held) == length held then start_sign (drop from held ++ byte ∷ []) else Unclear)))
+    (front_all (drop from held) byte)

@@ -5,7 +5,7 @@ use Rattle.std.specs.Prelude.{◌==◌, ◌⊎◌, Option, Some, None, if◌then
 use Rattle.std.specs.List.{flat_map}
 use Rattle.std.proofs.lemmas.Bool.{eq-eqb, eqb-true}
 use Rattle.sq_feed.specs.declared.message.Kind.{Kind}
-use Rattle.sq_feed.specs.declared.message.Kind.TheVariants.{Message, Status, Unknown}
+use Rattle.sq_feed.specs.declared.message.Kind.TheVariants.{Message, Status, ReceiverId, Unknown}
 use Rattle.sq_feed.specs.declared.message.Found.TheVariants.{Whole}
 use Rattle.sq_feed.specs.Kinds.{kind_of, message_len, message_of}
 use Rattle.sq_feed.specs.Begun.{Begun, HoldWithRest, IsUnfinished, begun_symbols, cut_off, nothing_begun, rest_of, type_byte}
@@ -162,6 +162,7 @@ cut_at_end : (kind : Option Kind) (held : List ℕ) → IsUnfinished kind held
 cut_at_end None held few = refl
 cut_at_end (Some (Message size)) held few = end_too_few size held few
 cut_at_end (Some Status) held few = refl
+cut_at_end (Some ReceiverId) held few = refl
 cut_at_end (Some Unknown) held few = refl
 
 pub rest_found : (begun : Begun) → IsUnfinished begun.kind begun.held

@@ -18,3 +18,4 @@ pub mod Finds
 pub mod Sourced
 pub mod Ordering
 pub mod Nearness
+pub mod Shown

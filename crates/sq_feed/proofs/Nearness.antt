@@ -4,7 +4,7 @@ use Rattle.std.specs.Prelude.{◌==◌, ◌||◌, ◌&&◌, Option, Some, None, 
 use Rattle.std.proofs.lemmas.Bool.Decides.{nat_tests}
 use Rattle.sq_feed.specs.declared.counts.Fate.{Fate}
 use Rattle.sq_feed.specs.declared.message.Found.{Found}
-use Rattle.sq_feed.specs.declared.message.Found.TheVariants.{Whole, Damage, Foreign}
+use Rattle.sq_feed.specs.declared.message.Found.TheVariants.{Whole, Damage, Foreign, ReceiverId}
 use Rattle.sq_feed.specs.declared.message.RawFrame.{RawFrame}
 use Rattle.sq_feed.specs.declared.message.Time.{Time}
 use Rattle.sq_feed.specs.declared.message.Time.TheVariants.{Unknown, Ticks, Millis}
@@ -104,6 +104,7 @@ item_goes : (arrival : ℕ) (ear : Hears) (item : Found)
 item_goes arrival ear (Whole message) =
     fate_goes (fate_of ear.all_formats message.time message.frame) arrival ear message.time message.frame
 item_goes arrival ear Damage = stays ear.times
+item_goes arrival ear ReceiverId = stays ear.times
 item_goes arrival ear (Foreign stranger) = stays ear.times
 
 near_append : (xs ys : List Timed) (late latest : ℕ) → AreNear late latest xs

@@ -1,9 +1,8 @@
 -- Orders, step by step.
 use Rattle.std.proofs.Common.{◌≡◌, ◌≤◌, ◌<◌, ◌++◌, ◌+◌, ◌-◌, ◌∙◌, ℕ, Bool, true, false, List, [], ◌∷◌, ap, ap₂, append_assoc, arith, drop}
-use Rattle.std.proofs.Common.{if◌then◌else◌, length, nat_lt, nat_le, refl, set, subst, sym, take, get_or, max, eqb}
-use Rattle.std.proofs.Common.{add-one, append-nil, map, take-add, length-take, true≢false}
-use Rattle.std.proofs.lemmas.List.{drop-drop, drop-set-lt, length-append, take-append-drop, take_more, take_more_set}
-use Rattle.std.proofs.lemmas.Grind.{drop_more_same}
+use Rattle.std.proofs.Common.{if◌then◌else◌, length, nat_lt, nat_le, refl, subst, sym, take, get_or, max, eqb}
+use Rattle.std.proofs.Common.{add-one, append-nil, take-add, length-take, true≢false}
+use Rattle.std.proofs.lemmas.List.{drop-drop, take-append-drop, take_more}
 use Rattle.std.proofs.lemmas.List.Elements.{filter-append}
 use Rattle.std.proofs.lemmas.Bool.Decides.{nat_tests}
 use Rattle.std.proofs.Math.Seq.{drop-append_seam}
@@ -14,7 +13,7 @@ use Rattle.sq_feed.specs.Orders.{AllUntil, ComeInTime, GivesAll, GivesAtOnce, Gi
 use Rattle.sq_feed.specs.Orders.{HasFlushed, HasSorted, InTimeIsTimely, RiseFrom, Sorting, SortsStably}
 use Rattle.sq_feed.specs.Orders.{SortsTheWhole, came_in, count_of, due_of, given_all, given_in, given_now, is_due}
 use Rattle.sq_feed.specs.Orders.{is_recent, last_sorted, latest_of, left_of, nothing_sorted, only, place_of, put_all}
-use Rattle.sq_feed.specs.Orders.{put_in, settled, sorted_all, squitters_of, with_one}
+use Rattle.sq_feed.specs.Orders.{put_in, settled, sorted_all, with_one}
 
 abbrev pub held_as : Sorting → List Timed → Sorting
 held_as s held = record { reorder = s.reorder; latest = s.latest; held = held }
@@ -141,52 +140,6 @@ put_view one old latest first at line after late held fits place is =
     ∙ ap (put_in one) held in
     λ i. record { reorder = old.reorder; latest = late i; held = puts i }
 
--- ---- squitters in arrays
-
-pub squitters-append : (ms ns : List ℕ) (fs gs : List (List ℕ)) → length ms ≡ length fs
-    → squitters_of (ms ++ ns) (fs ++ gs) ≡ squitters_of ms fs ++ squitters_of ns gs
-squitters-append [] ns [] gs long = refl
-squitters-append [] ns (f ∷ fs) gs long = absurd (omega (arith, long))
-squitters-append (m ∷ ms) ns [] gs long = absurd (omega (arith, long))
-squitters-append (m ∷ ms) ns (f ∷ fs) gs long =
-    ap (λ l. record { moment = m; frame = f } ∷ l) (squitters-append ms ns fs gs (omega (arith, long)))
-
-pub squitters_long : (ms : List ℕ) (fs : List (List ℕ)) → length ms ≡ length fs
-    → length (squitters_of ms fs) ≡ length ms
-squitters_long [] fs long = refl
-squitters_long (m ∷ ms) [] long = absurd (omega (arith, long))
-squitters_long (m ∷ ms) (f ∷ fs) long = omega (arith, squitters_long ms fs (omega (arith, long)))
-
--- squitters from their own timestamps and frames
-pub squitters_back : (told : List Timed)
-    → squitters_of (map (λ (t : Timed). t.moment) told) (map (λ (t : Timed). t.frame) told) ≡ told
-squitters_back [] = refl
-squitters_back (one ∷ more) = ap (λ l. one ∷ l) (squitters_back more)
-
-pub same_long : (ms : List ℕ) (fs : List (List ℕ)) (k : ℕ) → k < length ms → k < length fs
-    → length (take k ms) ≡ length (take k fs)
-same_long ms fs k fits fit = omega (arith, length-take k ms, length-take k fs)
-
-pub squitters_more : (ms : List ℕ) (fs : List (List ℕ)) (k any : ℕ) (other : List ℕ) → k < length ms → k < length fs
-    → squitters_of (take (k + 1) ms) (take (k + 1) fs)
-    ≡ squitters_of (take k ms) (take k fs) ++ record { moment = get_or ms k any; frame = get_or fs k other } ∷ []
-squitters_more ms fs k any other fits fit =
-    ap₂ squitters_of (take_more ms k any fits) (take_more fs k other fit)
-    ∙ squitters-append (take k ms) (get_or ms k any ∷ []) (take k fs) (get_or fs k other ∷ [])
-    (same_long ms fs k fits fit)
-
-pub squitters_set : (ms : List ℕ) (fs : List (List ℕ)) (k : ℕ) (one : Timed) → k < length ms → k < length fs
-    → squitters_of (take (k + 1) (set ms k one.moment)) (take (k + 1) (set fs k one.frame))
-    ≡ squitters_of (take k ms) (take k fs) ++ one ∷ []
-squitters_set ms fs k one fits fit =
-    ap₂ squitters_of (take_more_set ms k one.moment fits) (take_more_set fs k one.frame fit)
-    ∙ squitters-append (take k ms) (one.moment ∷ []) (take k fs) (one.frame ∷ []) (same_long ms fs k fits fit)
-
--- the elements after the one that was written are unchanged
-pub rest_set : {X : Type 0} (xs ys : List X) (k : ℕ) (x : X) → drop k xs ≡ drop k ys
-    → drop (k + 1) (set xs k x) ≡ drop (k + 1) ys
-rest_set xs ys k x same = drop-set-lt (k + 1) xs k x (omega arith) ∙ drop_more_same xs ys k same
-
 -- ---- steps of an order
 
 pub gives_the_first : GivesTheFirst
@@ -207,9 +160,6 @@ none_due room reorder latest (x ∷ xs) is = (
   ap (λ b. if b then x ∷ due_of room reorder latest xs else []) is,
   ap (λ b. if b then left_of room reorder latest xs else x ∷ xs) is,
 )
-
-pub sorted_nothing : (room : ℕ) (s : Sorting) → HasSorted room s [] [] s
-sorted_nothing room s = record { gives = λ more. refl; leaves = λ more. refl }
 
 -- no squitter is due, and one more came
 pub sorted_put : (room : ℕ) (old mid : Sorting) (came given : List Timed) (one : Timed)
@@ -265,8 +215,13 @@ sorted_give room old mid new came given one sorts is flushed =
           ∙ (first_given room new one more due).1;
     }
 
-pub flushed_nothing : (s : Sorting) → HasFlushed s [] s
-flushed_nothing s = record { held = refl; same = (refl, refl) }
+-- none was given
+pub flushed_none : (old new : Sorting) → HasFlushed old [] new → new ≡ old
+flushed_none old new flushed = λ i. record {
+  reorder = flushed.same.0 i;
+  latest = flushed.same.1 i;
+  held = flushed.held i;
+}
 
 pub flushed_more : (old mid new : Sorting) (given : List Timed) (one : Timed) → HasFlushed old given mid
     → HasFlushed mid (one ∷ []) new → HasFlushed old (given ++ one ∷ []) new
@@ -332,10 +287,6 @@ gives_all room s (one ∷ more) test =
       count_now test room s,
     )
 
-count_each : (xs : List Timed) → count_of (λ _. true) xs ≡ length xs
-count_each [] = refl
-count_each (x ∷ xs) = omega (arith, count_each xs)
-
 -- after the due squitters are given, no other squitter is due
 left_settled : (room reorder latest : ℕ) (held : List Timed)
     → (due_of room reorder latest (left_of room reorder latest held) ≡ [])
@@ -382,15 +333,6 @@ sorted_so room s (one ∷ came) =
       leaves = rest.leaves;
     }
 
--- squitters came, and then more
-pub sorted_more : (room : ℕ) (old mid new : Sorting) (a b given due : List Timed) → HasSorted room old a given mid
-    → HasSorted room mid b due new → HasSorted room old (a ++ b) (given ++ due) new
-sorted_more room old mid new a b given due x y = record {
-  gives = λ more. ap (given_all room old) (append_assoc a b more) ∙ x.gives (b ++ more)
-      ∙ ap (λ l. given ++ l) (y.gives more) ∙ sym (append_assoc given due (given_all room new more));
-  leaves = λ more. ap (sorted_all room old) (append_assoc a b more) ∙ x.leaves (b ++ more) ∙ y.leaves more;
-}
-
 -- squitters came, and no squitter is due any more
 pub sorted_end : (room : ℕ) (old new : Sorting) (came given : List Timed) → HasSorted room old came given new
     → is_due room new.reorder new.latest new.held ≡ false
@@ -400,24 +342,6 @@ sorted_end room old new came given sorts is =
       sym (append-nil given) ∙ ap (λ l. given ++ l) (sym none.0) ∙ sym (sorts.gives [])
           ∙ ap (given_all room old) (append-nil came),
       ap (held_as new) (sym none.1) ∙ sym (sorts.leaves []) ∙ ap (sorted_all room old) (append-nil came),
-    )
-
--- no squitter is lost
-pub sorted_count : (room : ℕ) (old new : Sorting) (came given : List Timed) → HasSorted room old came given new
-    → length given + length new.held ≡ length old.held + length came
-sorted_count room old new came given sorts =
-    let any : Timed → Bool = λ _. true in
-    let all : (given_all room old (came ++ []) ++ (sorted_all room old (came ++ [])).held) ≡ given ++ new.held =
-    ap₂ (λ l (s : Sorting). l ++ s.held) (sorts.gives []) (sorts.leaves [])
-    ∙ append_assoc given (given_now room new) (settled room new).held
-    ∙ ap (λ l. given ++ l) (gives_the_first room new.reorder new.latest new.held) in
-    omega (
-      arith,
-      sym (count_each (given ++ new.held)) ∙ ap (count_of any) (sym all)
-          ∙ gives_all room old (came ++ []) any ∙ count_each (old.held ++ (came ++ [])),
-      length-append given new.held,
-      length-append old.held (came ++ []),
-      length-append came [],
     )
 
 -- with a `reorder` of 0, squitters are given as they come, and none is held

@@ -1,13 +1,14 @@
 -- Rows in their usual form: seconds, a point, decimals, a comma, a cell, a comma, and a long frame.
 use Rattle.std.proofs.Common.{◌≡◌, ◌≢◌, ◌+◌, ◌-◌, ◌*◌, ◌^◌, ◌<◌, ◌≤◌, ◌++◌, ◌∙◌, ℕ, zero, suc, Bool, true, false, not, List, [], ◌∷◌, length}
-use Rattle.std.proofs.Common.{take, drop, get_or, ap, ap₂, refl, sym, arith, cond, inl, inr, append-nil, take-append-drop, length-append, append_assoc}
-use Rattle.std.specs.Prelude.{◌==◌, ◌&&◌, Some, None, nat_le, nat_lt, if◌then◌else◌}
-use Rattle.std.specs.Char.{is_ascii_digit}
-use Rattle.std.specs.List.{AllByRecursion}
+use Rattle.std.proofs.Common.{true≢false, take, drop, get_or, ap, ap₂, refl, sym, arith, cond, inl, inr, subst, append-nil, take-append-drop, length-append, append_assoc}
+use Rattle.std.specs.Prelude.{◌==◌, ◌&&◌, ◌||◌, Some, None, bytes_eq, nat_le, nat_lt, if◌then◌else◌}
+use Rattle.std.specs.Char.{is_ascii_digit, is_ascii_whitespace}
+use Rattle.std.specs.List.{AllByRecursion, prefix_len, suffix_len}
+use Rattle.std.proofs.lemmas.List.Sums.{suffix_len-take_no}
 use Rattle.std.specs.Str.Parse.{digits_value}
 use Rattle.std.proofs.Math.Seq.{take-append_seam, drop-append-add}
-use Rattle.std.proofs.lemmas.Bool.{and_parts, eq-eqb, le-ltb, lt-ltb, ne_eqb}
-use Rattle.std.proofs.lemmas.List.{get_or-take, length-drop, length-take-le}
+use Rattle.std.proofs.lemmas.Bool.{and_parts, eq-eqb, le-ltb, lt-leb, lt-ltb, ltb-false, ltb-true, ne_eqb}
+use Rattle.std.proofs.lemmas.List.{get_or-take, length-drop, length-take-le, take_all}
 use Rattle.std.proofs.lemmas.List.{drop_more, get_or-drop}
 use Rattle.sq_feed.specs.declared.message.Message.{Message}
 use Rattle.sq_feed.specs.declared.message.Found.TheVariants.{Damage, Whole}
@@ -15,8 +16,8 @@ use Rattle.sq_feed.specs.declared.message.RawFrame.TheVariants.{Long}
 use Rattle.sq_feed.specs.declared.message.Time.TheVariants.{Millis}
 use Rattle.sq_feed.specs.declared.rows.Row.TheVariants.{Blank, One}
 use Rattle.sq_feed.specs.Avr.{AreHex, bytes_of, frame_of_word, is_hex}
-use Rattle.sq_feed.specs.Cells.{after_cell, are_digits, cell_of, first_cell, millis_at, millis_of, number_of, position_of, thousandths, unquoted}
-use Rattle.sq_feed.specs.Rows.{IsLineEnd, IsRowAt, csv_message, csv_start, frame_in, message_at, millis_in, row_or_names, row_read, text_read, without_last}
+use Rattle.sq_feed.specs.Cells.{after_cell, are_digits, bare_comma, cell_end, cell_of, content_of, first_cell, millis_at, millis_of, number_of, position_of, thousandths, unquoted, without_back}
+use Rattle.sq_feed.specs.Rows.{IsLineEnd, IsRowAt, csv_message, csv_start, frame_in, message_at, millis_in, row_of_text, row_or_names, row_read, text_read, without_last, without_mark}
 use Rattle.sq_feed.proofs.AvrLemmas.{long_frame}
 use Rattle.sq_feed.proofs.Numbers.{small_value}
 
@@ -78,19 +79,30 @@ behind_seam byte xs ys lacks =
 
 -- ---- cells
 
-first_is : (xs ys : List ℕ) → Lacks 44 xs → first_cell (xs ++ 44 ∷ ys) ≡ xs
-first_is xs ys lacks = before_seam 44 xs ys lacks
+-- the first comma ends a cell that does not begin with a quote
+plain_end : (row : List ℕ) → get_or row 0 0 ≢ 34 → cell_end row ≡ position_of 44 row
+plain_end row other = by (nat_lt 0 (length row)) (get_or row 0 0 == 34) (ne_eqb (get_or row 0 0) 34 other)
+  where
+    by : (a b : Bool) → b ≡ false → (if a && b then bare_comma false row else position_of 44 row) ≡ position_of 44 row
+    by true b is = ap (λ (t : Bool). if t then bare_comma false row else position_of 44 row) is
+    by false b is = refl
 
-after_is : (xs ys : List ℕ) → Lacks 44 xs → after_cell (xs ++ 44 ∷ ys) ≡ Some ys
-after_is xs ys lacks =
+first_is : (xs ys : List ℕ) → Lacks 44 xs → get_or (xs ++ 44 ∷ ys) 0 0 ≢ 34 → first_cell (xs ++ 44 ∷ ys) ≡ xs
+first_is xs ys lacks other =
+    ap (λ n. take n (xs ++ 44 ∷ ys)) (plain_end (xs ++ 44 ∷ ys) other) ∙ before_seam 44 xs ys lacks
+
+after_is : (xs ys : List ℕ) → Lacks 44 xs → get_or (xs ++ 44 ∷ ys) 0 0 ≢ 34 → after_cell (xs ++ 44 ∷ ys) ≡ Some ys
+after_is xs ys lacks other =
     let row = xs ++ 44 ∷ ys in
     let within : position_of 44 row < length row =
     omega (arith, seam 44 xs ys lacks, length-append xs (44 ∷ ys)) in
-    ap (λ (t : Bool). if t then Some (drop (position_of 44 row + 1) row) else None) (lt-ltb _ _ within)
+    ap (λ n. if nat_lt n (length row) then Some (drop (n + 1) row) else None) (plain_end row other)
+    ∙ ap (λ (t : Bool). if t then Some (drop (position_of 44 row + 1) row) else None) (lt-ltb _ _ within)
     ∙ ap Some (behind_seam 44 xs ys lacks)
 
-last_is : (xs : List ℕ) → Lacks 44 xs → first_cell xs ≡ xs
-last_is xs lacks = ap (λ n. take n xs) (nowhere 44 xs lacks) ∙ whole xs
+last_is : (xs : List ℕ) → Lacks 44 xs → get_or xs 0 0 ≢ 34 → first_cell xs ≡ xs
+last_is xs lacks other =
+    ap (λ n. take n xs) (plain_end xs other) ∙ ap (λ n. take n xs) (nowhere 44 xs lacks) ∙ whole xs
   where
     whole : (ys : List ℕ) → take (length ys) ys ≡ ys
     whole [] = refl
@@ -105,6 +117,82 @@ bare cell other =
     ap (λ (t : Bool). if t then take (length cell - 2) (drop 1 cell) else cell)
     (middle_false (nat_le 2 (length cell)) (get_or cell 0 0 == 34) (get_or cell (length cell - 1) 0 == 34)
     (ne_eqb (get_or cell 0 0) 34 other))
+
+-- ---- the content of a cell
+
+past : (low high byte : ℕ) → high < byte → (nat_le low byte && nat_le byte high) ≡ false
+past low high byte above = by (nat_le low byte) (nat_le byte high) (lt-leb byte high above)
+  where
+    by : (a b : Bool) → b ≡ false → (a && b) ≡ false
+    by true b is = is
+    by false b is = refl
+
+-- bytes above 32 are no spaces
+no_space : (byte : ℕ) → 32 < byte → is_ascii_whitespace byte ≡ false
+no_space byte above =
+    ap (λ (b : Bool). (b || (nat_le 12 byte && nat_le byte 13)) || (nat_le 32 byte && nat_le byte 32))
+    (past 9 10 byte (omega (arith, above)))
+    ∙ ap (λ (b : Bool). b || (nat_le 32 byte && nat_le byte 32)) (past 12 13 byte (omega (arith, above)))
+    ∙ past 32 32 byte above
+
+-- a hexadecimal digit is above 32
+hex_above : (byte : ℕ) → is_hex byte ≡ true → 32 < byte
+hex_above byte is = by (nat_lt byte 48) refl
+  where
+    by : (b : Bool) → nat_lt byte 48 ≡ b → 32 < byte
+    by true small =
+        absurd (true≢false (sym is ∙ ap (λ (b : Bool). nat_lt (cond b 36 (cond (nat_lt byte 58) (byte - 48)
+        (cond (nat_lt byte 65) 36 (cond (nat_lt byte 91) (byte - 55) (cond (nat_lt byte 97) 36
+        (cond (nat_lt byte 123) (byte - 87) 36)))))) 16) small))
+    by false large = omega (arith, ltb-false byte 48 large)
+
+digit_above : (byte : ℕ) → is_ascii_digit byte ≡ true → 32 < byte
+digit_above byte is = by (nat_lt byte 48) refl
+  where
+    by : (b : Bool) → nat_lt byte 48 ≡ b → 32 < byte
+    by true small = absurd (true≢false (sym is ∙ ap (λ (b : Bool). b && nat_le byte 57) (lt-leb 48 byte
+        (omega (arith, ltb-true byte 48 small)))))
+    by false large = omega (arith, ltb-false byte 48 large)
+
+-- each byte is above 32
+abbrev pub AllAbove : List ℕ → Type 0
+AllAbove text = AllByRecursion (λ b. 32 < b) text
+
+hex_are_above : (word : List ℕ) → AreHex word → AllAbove word
+hex_are_above [] hex = tt
+hex_are_above (x ∷ word) (is, hex) = (hex_above x is, hex_are_above word hex)
+
+digits_are_above : (digits : List ℕ) → are_digits digits ≡ true → AllAbove digits
+digits_are_above [] all = tt
+digits_are_above (x ∷ digits) all =
+    let parts = and_parts (is_ascii_digit x) (are_digits digits) all in
+    (digit_above x parts.0, digits_are_above digits parts.1)
+
+both_above : (xs ys : List ℕ) → AllAbove xs → AllAbove ys → AllAbove (xs ++ ys)
+both_above [] ys a b = b
+both_above (x ∷ xs) ys (is, a) b = (is, both_above xs ys a b)
+
+above_at : (text : List ℕ) (k : ℕ) → k < length text → AllAbove text → 32 < get_or text k 0
+above_at [] k within all = absurd (omega (arith, within))
+above_at (x ∷ text) zero within all = all.0
+above_at (x ∷ text) (suc k) within all = above_at text k (omega (arith, within)) all.1
+
+-- the content of a cell without spaces and quotes is the cell
+same_content : (cell : List ℕ) → 0 < length cell → AllAbove cell → get_or cell 0 0 ≢ 34 → content_of cell ≡ cell
+same_content [] some above other = absurd (omega (arith, some))
+same_content (x ∷ cell) some above other =
+    ap (λ n. unquoted (without_back (drop n (x ∷ cell)))) none
+    ∙ ap (λ n. unquoted (take (length (x ∷ cell) - n) (x ∷ cell))) back
+    ∙ ap unquoted (take_all (length (x ∷ cell) - 0) (x ∷ cell) (omega arith)) ∙ bare (x ∷ cell) other
+  where
+    none : prefix_len is_ascii_whitespace (x ∷ cell) ≡ 0
+    none = ap (λ (b : Bool). if b then 1 + prefix_len is_ascii_whitespace cell else 0) (no_space x above.0)
+
+    back : suffix_len is_ascii_whitespace (x ∷ cell) ≡ 0
+    back =
+        ap (suffix_len is_ascii_whitespace) (sym (take_all (length (x ∷ cell)) (x ∷ cell) (omega arith)))
+        ∙ suffix_len-take_no is_ascii_whitespace (x ∷ cell) (length (x ∷ cell)) 0 some (omega arith)
+        (no_space _ (above_at (x ∷ cell) (length (x ∷ cell) - 1) (omega arith) above))
 
 -- ---- the parts of a row
 
@@ -154,23 +242,47 @@ time_lacks byte seconds decimals other point all more =
     lacks_both byte seconds (46 ∷ decimals) (digits_lack byte seconds other all)
     (point, digits_lack byte decimals other more)
 
+time_some : (seconds decimals : List ℕ) → length seconds ≡ 10 → 0 < length (time_cell seconds decimals)
+time_some seconds decimals long = omega (arith, long, length-append seconds (46 ∷ decimals))
+
+time_above : (seconds decimals : List ℕ) → are_digits seconds ≡ true → are_digits decimals ≡ true
+    → AllAbove (time_cell seconds decimals)
+time_above seconds decimals all more =
+    both_above seconds (46 ∷ decimals) (digits_are_above seconds all) (omega arith, digits_are_above decimals more)
+
+bare_row : (seconds decimals cell word : List ℕ) → length seconds ≡ 10 → are_digits seconds ≡ true
+    → get_or (row_of (time_cell seconds decimals) cell word) 0 0 ≢ 34
+bare_row seconds decimals cell word long all =
+    subst (λ l. get_or l 0 0 ≢ 34) (sym (append_assoc seconds (46 ∷ decimals) (44 ∷ (cell ++ 44 ∷ word))))
+    (first_digit seconds long all (46 ∷ (decimals ++ 44 ∷ (cell ++ 44 ∷ word))))
+
+word_some : (word : List ℕ) → length word ≡ 28 → 0 < length word
+word_some word full = omega (arith, full)
+
 -- the definition reads this message in the parts of a row
 pub message_is : (seconds decimals cell word frame : List ℕ) → length seconds ≡ 10 → are_digits seconds ≡ true
-    → are_digits decimals ≡ true → Lacks 44 cell → length word ≡ 28 → AreHex word × (frame ≡ bytes_of word)
+    → are_digits decimals ≡ true → Lacks 44 cell → get_or (cell ++ 44 ∷ word) 0 0 ≢ 34 → length word ≡ 28
+    → AreHex word × (frame ≡ bytes_of word)
     → csv_message (record { time = 0; frame = 2 }) (row_of (time_cell seconds decimals) cell word)
     ≡ Some (record { time = Millis (digits_value 10 seconds * 1000 + thousandths decimals); frame = Long frame })
-message_is seconds decimals cell word frame long all more lacks full spelled =
+message_is seconds decimals cell word frame long all more lacks bare_cell full spelled =
     let time = time_cell seconds decimals in
     let row = row_of time cell word in
+    let some : 0 < length time = time_some seconds decimals long in
     let no_comma = time_lacks 44 seconds decimals refl (λ same. absurd (cc same)) all more in
-    let first : cell_of 0 (Some row) ≡ Some time = ap Some (first_is time (cell ++ 44 ∷ word) no_comma) in
+    let bare_time : get_or row 0 0 ≢ 34 = bare_row seconds decimals cell word long all in
+    let bare_word = first_hex word full spelled.0 in
+    let first : cell_of 0 (Some row) ≡ Some time = ap Some (first_is time (cell ++ 44 ∷ word) no_comma bare_time) in
     let third : cell_of 2 (Some row) ≡ Some word =
-    ap (cell_of 1) (after_is time (cell ++ 44 ∷ word) no_comma) ∙ ap (cell_of 0) (after_is cell word lacks)
-    ∙ ap Some (last_is word (hex_lacks 44 word refl spelled.0)) in
+    ap (cell_of 1) (after_is time (cell ++ 44 ∷ word) no_comma bare_time)
+    ∙ ap (cell_of 0) (after_is cell word lacks bare_cell)
+    ∙ ap Some (last_is word (hex_lacks 44 word refl spelled.0) bare_word) in
     ap₂ (λ t f. message_at (millis_in t) (frame_in f)) first third
     ∙ ap₂ (λ t f. message_at (millis_of t) (frame_of_word f))
-    (bare time (first_digit seconds long all (46 ∷ decimals)))
-    (bare word (first_hex word full spelled.0))
+    (same_content time some
+    (time_above seconds decimals all more)
+    (first_digit seconds long all (46 ∷ decimals)))
+    (same_content word (word_some word full) (hex_are_above word spelled.0) bare_word)
     ∙ ap₂ message_at (millis_are seconds decimals long all more) (sym (long_frame word frame full spelled))
 
 -- ---- the row as a line
@@ -209,17 +321,31 @@ dropped text =
     (eq-eqb _ 13 last)
     ∙ ap (λ n. take n line) (omega (arith, size)) ∙ take-append_seam text (13 ∷ [])
 
+-- a text that does not begin with a byte order mark is unchanged
+unmarked : (text : List ℕ) → get_or text 0 0 ≢ 0xEF → without_mark text ≡ text
+unmarked [] other = refl
+unmarked (x ∷ text) other =
+    ap (λ (t : Bool). if t && bytes_eq (take 2 text) (0xBB ∷ 0xBF ∷ []) then drop 3 (x ∷ text) else x ∷ text)
+    (ne_eqb x 0xEF other)
+
 -- the reading of a line of at most 512 bytes that is not blank
-line_reads : (line row : List ℕ) (message : Message) → length line ≤ 512 → without_last 13 line ≡ row → 0 < length row
+line_reads : (line row : List ℕ) (message : Message) → length line ≤ 512 → without_last 13 line ≡ row
+    → get_or row 0 0 ≢ 0xEF → 0 < length row
     → csv_message (record { time = 0; frame = 2 }) row ≡ Some message → row_read csv_start line ≡ One (Whole message)
-line_reads line row message few bare some is =
-    ap (λ (t : Bool). if t then One Damage
-    else (if length (without_last 13 line) == 0 then Blank else text_read csv_start (without_last 13 line)))
+line_reads line row message few bare_line other some is =
+    ap (λ (t : Bool). if t then One Damage else row_of_text csv_start (without_mark (without_last 13 line)))
     (le-ltb _ _ few)
-    ∙ ap (λ text. if length text == 0 then Blank else text_read csv_start text) bare
+    ∙ ap (λ text. row_of_text csv_start (without_mark text)) bare_line
+    ∙ ap (row_of_text csv_start) (unmarked row other)
     ∙ ap (λ (t : Bool). if t then Blank else text_read csv_start row) (ne_eqb (length row) 0 (λ none.
     absurd (omega (arith, some, none))))
     ∙ ap (λ m. row_or_names m row) is
+
+-- a text that begins with a digit does not begin with a byte order mark
+digit_first : (text more : List ℕ) → 0 < length text → are_digits text ≡ true → get_or (text ++ more) 0 0 ≢ 0xEF
+digit_first [] more some all = absurd (omega (arith, some))
+digit_first (x ∷ text) more some all = λ same.
+    absurd (cc (sym (and_parts (is_ascii_digit x) (are_digits text) all).0 ∙ ap is_ascii_digit same))
 
 -- ---- the row at the front of a piece
 
@@ -287,11 +413,11 @@ row_made : (piece seconds decimals cell word frame more : List ℕ) (count momen
     → count ≡ 42 + length decimals + length cell + length (return_of returns) → length seconds ≡ 10 → length word ≡ 28
     → length decimals < 16 → length cell < 16
     → are_digits seconds ≡ true → are_digits decimals ≡ true → Lacks 44 cell → Lacks 10 cell
-    → AreHex word × (frame ≡ bytes_of word)
+    → get_or (cell ++ 44 ∷ word) 0 0 ≢ 34 → AreHex word × (frame ≡ bytes_of word)
     → moment ≡ digits_value 10 seconds * 1000 + thousandths decimals
     → IsRowAt csv_start piece (record { time = Millis moment; frame = Long frame }, count)
 row_made piece seconds decimals cell word frame more count moment returns is long ten full few short all each comma feed
-    spelled told =
+    bare_cell spelled told =
     let ends = return_of returns in
     let row = row_of (time_cell seconds decimals) cell word in
     let line = row ++ ends in
@@ -309,10 +435,17 @@ row_made piece seconds decimals cell word frame more count moment returns is lon
           )) (return_lacks returns);
       reads = line_reads line row _ (omega (arith, size, lines, few, short, return_few returns))
           (return_dropped returns row (row_last (time_cell seconds decimals) cell word (omega (arith, full)) spelled.0))
+          (subst (λ l. get_or l 0 0 ≢ 0xEF) (sym (append_assoc seconds (46 ∷ decimals) (44 ∷ (cell ++ 44 ∷ word))))
+          (digit_first seconds (46 ∷ (decimals ++ 44 ∷ (cell ++ 44 ∷ word))) (omega (arith, ten)) all))
           (omega (arith, size))
-          (message_is seconds decimals cell word frame ten all each comma full spelled
+          (message_is seconds decimals cell word frame ten all each comma bare_cell full spelled
           ∙ ap (λ m. Some (record { time = Millis m; frame = Long frame })) (sym told));
     }
+
+-- the first byte does not depend on the text after a comma
+front_same : (xs ys zs : List ℕ) (byte : ℕ) → get_or (xs ++ 44 ∷ ys) 0 0 ≢ byte → get_or (xs ++ 44 ∷ zs) 0 0 ≢ byte
+front_same [] ys zs byte other = other
+front_same (x ∷ xs) ys zs byte other = other
 
 -- the line end of a text with 28 digits
 line_end_is : (text : List ℕ) (count : ℕ) → 30 ≤ length text → IsLineEnd text 28 count
@@ -335,12 +468,12 @@ pub row_at : (piece after cell rest frame : List ℕ) (decimals comma seconds th
     → are_digits (take 10 piece) ≡ true → get_or piece 10 0 ≡ 46 → seconds ≡ digits_value 10 (take 10 piece)
     → are_digits (take decimals after) ≡ true → get_or after decimals 0 ≡ 44 → decimals < 16
     → thousand ≡ thousandths (take decimals after) → get_or cell comma 0 ≡ 44
-    → ((k : ℕ) → k < comma → (get_or cell k 0 ≢ 44) × (get_or cell k 0 ≢ 10)) → comma < 16
+    → ((k : ℕ) → k < comma → (get_or cell k 0 ≢ 44) × (get_or cell k 0 ≢ 10)) → comma < 16 → get_or cell 0 0 ≢ 34
     → AreHex (take 28 rest) × (frame ≡ bytes_of (take 28 rest)) → IsLineEnd rest 28 count
     → IsRowAt csv_start piece
     (record { time = Millis (seconds * 1000 + thousand); frame = Long frame }, 10 + decimals + comma + 28 + 3 + count)
 row_at piece after cell rest frame decimals comma seconds thousand count room a b r all point ten each ends few told at
-    other short spelled end =
+    other short bare_cell spelled end =
     let after_long : length after ≡ length piece - 11 = ap length a ∙ length-drop 11 piece in
     let cell_long : length cell ≡ length after - (decimals + 1) = ap length b ∙ length-drop (decimals + 1) after in
     let rest_long : length rest ≡ length cell - (comma + 1) = ap length r ∙ length-drop (comma + 1) cell in
@@ -364,6 +497,9 @@ row_at piece after cell rest frame decimals comma seconds thousand count room a 
     (λ j less. (other j less).0)))
     (each_lacks 10 (take comma cell) (λ k within. lane cell comma k 10 (omega (arith, within, bytes_long))
     (λ j less. (other j less).1)))
+    (front_same (take comma cell) (drop (comma + 1) cell) (take 28 rest) 34
+    (subst (λ l. get_or l 0 0 ≢ 34)
+    (split_at cell comma 44 (omega (arith, after_long, cell_long, room, few, short)) at) bare_cell))
     spelled (ap₂ (λ s t. s * 1000 + t) ten told)
   where
     lane : (text : List ℕ) (n k byte : ℕ) → k < n → ((j : ℕ) → j < n → get_or text j 0 ≢ byte)

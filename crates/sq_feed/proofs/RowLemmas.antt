@@ -10,17 +10,16 @@ use Rattle.sq_feed.specs.declared.message.Found.{Found}
 use Rattle.sq_feed.specs.declared.message.Found.TheVariants.{Damage, Whole}
 use Rattle.sq_feed.specs.declared.rows.Layout.{Layout}
 use Rattle.sq_feed.specs.declared.rows.Row.{Row}
-use Rattle.sq_feed.specs.declared.rows.Row.TheVariants.{Blank, One}
+use Rattle.sq_feed.specs.declared.rows.Row.TheVariants.{One}
 use Rattle.sq_feed.specs.Follows.{Follows}
 use Rattle.sq_feed.specs.Rows.{BegunRow, IsHeld, items_of_row, layout_after, line_of, longest, row_read, rows_from, rows_to_come}
-use Rattle.sq_feed.specs.Rows.{IsRowAt, LineIsRead, csv_start, text_read, without_last}
+use Rattle.sq_feed.specs.Rows.{IsRowAt, LineIsRead, csv_start, row_of_text, without_last, without_mark}
 
 -- ---- all lines that are too long are read the same
 
 pub long_row : (layout : Layout) (line : List ℕ) → longest < length line → row_read layout line ≡ One Damage
 long_row layout line long =
-    ap (λ (t : Bool). if t then One Damage
-    else (if length (without_last 13 line) == 0 then Blank else text_read layout (without_last 13 line)))
+    ap (λ (t : Bool). if t then One Damage else row_of_text layout (without_mark (without_last 13 line)))
     (lt-ltb _ _ long)
 
 alike_at : (test : Bool) (layout : Layout) (x y : List ℕ) (byte : ℕ) (more : List ℕ)

@@ -1,29 +1,29 @@
 -- Readers of sources of a known or an unknown format.
-use Rattle.std.proofs.Common.{◌≡◌, ◌<◌, ◌≤◌, ◌++◌, ◌∙◌, ℕ, Bool, true, false, List, [], ◌∷◌, length, take, refl, sym, ap, ap₂, append-nil, arith, subst}
-use Rattle.std.proofs.lemmas.Bool.{eqb-true, false≢true}
-use Rattle.std.specs.Prelude.{◌==◌, IfSome, Option, Some, None, remove, slice_index_or}
-use Rattle.sq_feed.specs.declared.finder.Next.{Next}
-use Rattle.sq_feed.specs.declared.finder.Next.TheVariants.{Find, Read, Nothing}
+use Rattle.std.proofs.Common.{◌≡◌, ◌⊎◌, ◌+◌, ◌-◌, ◌<◌, ◌≤◌, ◌++◌, ◌∙◌, ℕ, List, [], ◌∷◌, length, take, drop, refl, sym, ap, ap₂, arith, subst, inl, inr}
+use Rattle.std.proofs.Common.{append_assoc, append-nil}
+use Rattle.std.proofs.lemmas.List.{drop-drop, drop_all, take-append-drop}
+use Rattle.std.specs.Prelude.{IfSome, Option, Some, None}
 use Rattle.sq_feed.specs.declared.machine.Format.{Format}
 use Rattle.sq_feed.specs.declared.machine.Format.TheVariants.{Beast, Avr, Csv, Log}
 use Rattle.sq_feed.specs.declared.message.Found.{Found}
-use Rattle.sq_feed.specs.declared.message.Found.TheVariants.{Whole}
+use Rattle.sq_feed.specs.declared.message.Found.TheVariants.{Whole, Foreign}
 use Rattle.sq_feed.specs.declared.message.Message.{Message as OneMessage}
+use Rattle.sq_feed.specs.declared.message.Stranger.{Stranger}
 use Rattle.sq_feed.specs.declared.reader.Stage.{Stage}
-use Rattle.sq_feed.specs.declared.reader.Stage.TheVariants.{Finding, Reading, Giving, Over}
-use Rattle.sq_feed.specs.declared.rows.Layout.{Layout}
-use Rattle.sq_feed.specs.Finding.{finds_to_come, fresh, items_from, line_sign}
+use Rattle.sq_feed.specs.declared.reader.Stage.TheVariants.{Finding, Reading, Replaying, Ending, Naming, Over}
+use Rattle.sq_feed.specs.declared.signs.Sign.{Sign}
+use Rattle.sq_feed.specs.declared.signs.Sign.TheVariants.{Unclear, Shows, Other}
+use Rattle.sq_feed.specs.Finding.{Finds, HasShown, finds_to_come, items_from, items_shown, line_sign}
 use Rattle.sq_feed.specs.Follows.{Follows}
-use Rattle.sq_feed.specs.Machines.{Begins, machine_with, to_come}
-use Rattle.sq_feed.specs.Readers.{IsNew, Reads, awaited, new_reads, reads_at}
+use Rattle.sq_feed.specs.Machines.{Begins, new_machine, to_come}
+use Rattle.sq_feed.specs.Readers.{HasClosed, HasEnded, IsEnding, IsNew, Reads, awaited, calls_at, calls_left, items_as, new_reads, reads_at, unread}
 
 -- the machine at the start of a source gives the items of the source
-pub starts_with : (format : Format) (layout : Layout) (bytes : List ℕ)
-    → to_come (machine_with format layout) bytes ≡ items_from format layout bytes
-starts_with Beast layout bytes = refl
-starts_with Avr layout bytes = refl
-starts_with Csv layout bytes = refl
-starts_with Log layout bytes = refl
+pub starts_with : (format : Format) (bytes : List ℕ) → to_come (new_machine format) bytes ≡ items_from format bytes
+starts_with Beast bytes = refl
+starts_with Avr bytes = refl
+starts_with Csv bytes = refl
+starts_with Log bytes = refl
 
 pub new_is_new : (asked : Option Format) → IsNew asked (new_reads asked)
 new_is_new None = record { same = refl; awaits = λ bytes. refl }
@@ -33,14 +33,13 @@ new_is_new (Some Csv) = record { same = refl; awaits = λ bytes. refl }
 new_is_new (Some Log) = record { same = refl; awaits = λ bytes. refl }
 
 -- no bytes have no items
-pub fresh_nothing : (next : Next) → fresh next [] ≡ []
+pub items_nothing : (asked : Option Format) → items_as asked [] ≡ []
 unfolding line_sign
-fresh_nothing Find = refl
-fresh_nothing (Read Beast layout) = refl
-fresh_nothing (Read Avr layout) = refl
-fresh_nothing (Read Csv layout) = refl
-fresh_nothing (Read Log layout) = refl
-fresh_nothing Nothing = refl
+items_nothing None = refl
+items_nothing (Some Beast) = refl
+items_nothing (Some Avr) = refl
+items_nothing (Some Csv) = refl
+items_nothing (Some Log) = refl
 
 -- a message at the front of a piece, while a machine reads the source
 pub whole_reading : (reads : Reads) (machine : Begins) (piece : List ℕ) (result : Option (OneMessage × ℕ))
@@ -55,45 +54,115 @@ whole_reading reads machine piece result is same held =
     (subst (λ (m : Begins). IfSome result (λ p. (0 < p.1) × (p.1 ≤ length piece)
     × Follows (to_come m) (take p.1 piece) (Whole p.0 ∷ []) (to_come m))) same held)
 
--- ---- items that wait
+-- ---- bytes that are read again
 
-pub none_left : (xs : List Found) (is_empty : Bool) → is_empty ≡ (length xs == 0) → is_empty ≡ true → xs ≡ []
-none_left [] is_empty is empty = refl
-none_left (x ∷ xs) is_empty is empty = absurd (omega (arith, eqb-true (length (x ∷ xs)) 0 (sym is ∙ empty)))
+-- the bytes that were read, and the others
+split : (held : List ℕ) (from upto : ℕ) → from ≤ upto
+    → drop from held ≡ take (upto - from) (drop from held) ++ drop upto held
+split held from upto on =
+    let sum : from + (upto - from) ≡ upto = omega (arith, on) in
+    sym (take-append-drop (upto - from) (drop from held))
+    ∙ ap (λ l. take (upto - from) (drop from held) ++ l) (drop-drop (upto - from) from held ∙ ap (λ k. drop k held) sum)
 
-pub some_left : (xs : List Found) (is_empty : Bool) → is_empty ≡ (length xs == 0) → is_empty ≡ false → 0 < length xs
-some_left [] is_empty is some = absurd (false≢true (sym some ∙ is))
-some_left (x ∷ xs) is_empty is some = omega arith
-
--- the first item of a list, removed
-removed : (xs ys : List Found) (x : Found) → 0 < length xs → x ≡ slice_index_or xs 0 x → ys ≡ remove xs 0 → xs ≡ x ∷ ys
-removed [] ys x some is rest = absurd (omega (arith, some))
-removed (z ∷ zs) ys x some is rest = ap₂ (λ (f : Found) l. f ∷ l) (sym is) (sym rest)
-
-pub gives_first : (old new : Reads) (next : Next) (first : Found) → old.stage ≡ Giving next → new.stage ≡ Giving next
-    → 0 < length old.pending → first ≡ slice_index_or old.pending 0 first → new.pending ≡ remove old.pending 0
-    → Follows (awaited old) [] (first ∷ []) (awaited new)
+-- the machine read some of the bytes that showed the format
+pub replay_more : (old new : Reads) (held : List ℕ) (found : List Found) → old.stage ≡ Replaying → new.stage ≡ Replaying
+    → old.finder.held ≡ held → new.finder.held ≡ held → old.at ≤ new.at
+    → Follows (to_come old.machine) (take (new.at - old.at) (unread old)) found (to_come new.machine)
+    → Follows (awaited old) [] found (awaited new)
 unfolding Follows
-gives_first old new next first was is some value rest more =
+replay_more old new held found was is before same on follows more =
+    let after : drop new.at old.finder.held ≡ unread new = ap (drop new.at) (before ∙ sym same) in
     ap (λ (s : Stage). reads_at s old more) was
-    ∙ ap (λ l. l ++ fresh next more) (removed old.pending new.pending first some value rest)
-    ∙ ap (λ (s : Stage). first ∷ reads_at s new more) (sym is)
+    ∙ ap (λ l. to_come old.machine (l ++ more)) (split old.finder.held old.at new.at on
+    ∙ ap (λ l. take (new.at - old.at) (unread old) ++ l) after)
+    ∙ ap (to_come old.machine) (append_assoc (take (new.at - old.at) (unread old)) (unread new) more)
+    ∙ follows (unread new ++ more)
+    ∙ ap (λ (s : Stage). found ++ reads_at s new more) (sym is)
 
--- nothing waits any more, and the next source begins
-pub gives_next : (old new : Reads) (next : Next) → old.stage ≡ Giving next → old.pending ≡ []
-    → ((bytes : List ℕ) → awaited new bytes ≡ fresh next bytes) → Follows (awaited old) [] [] (awaited new)
+-- the machine has read all of them
+pub replay_done : (old new : Reads) → old.stage ≡ Replaying → new.stage ≡ Reading → new.machine ≡ old.machine
+    → length old.finder.held ≤ old.at → Follows (awaited old) [] [] (awaited new)
 unfolding Follows
-gives_next old new next was none awaits more =
-    ap (λ (s : Stage). reads_at s old more) was ∙ ap (λ l. l ++ fresh next more) none ∙ sym (awaits more)
+replay_done old new was is machine all more =
+    ap (λ (s : Stage). reads_at s old more) was
+    ∙ ap (λ l. to_come old.machine (l ++ more)) (drop_all old.at old.finder.held all)
+    ∙ ap (λ (m : Begins). to_come m more) (sym machine)
+    ∙ ap (λ (s : Stage). reads_at s new more) (sym is)
 
--- a source that shows its format
-pub finds_start : (old new : Reads) (items : List Found) (next : Next) (bytes : List ℕ) → old.stage ≡ Finding
-    → new.stage ≡ Giving next → new.pending ≡ items
-    → Follows (finds_to_come old.finder) bytes items (fresh next) → Follows (awaited old) bytes [] (awaited new)
+-- the machine read some of the bytes before the end of the source
+pub end_more : (old new : Reads) (held : List ℕ) (found : List Found) → old.stage ≡ Ending → new.stage ≡ Ending
+    → new.asked ≡ old.asked → old.finder.held ≡ held → new.finder.held ≡ held → old.at ≤ new.at
+    → Follows (to_come old.machine) (take (new.at - old.at) (unread old)) found (to_come new.machine)
+    → Follows (awaited old) [] found (awaited new)
 unfolding Follows
-finds_start old new items next bytes was is pending follows more =
-    ap (λ (s : Stage). reads_at s old (bytes ++ more)) was ∙ follows more
-    ∙ ap (λ l. l ++ fresh next more) (sym pending) ∙ ap (λ (s : Stage). reads_at s new more) (sym is)
+end_more old new held found was is asked before same on follows more =
+    let after : drop new.at old.finder.held ≡ unread new = ap (drop new.at) (before ∙ sym same) in
+    ap (λ (s : Stage). reads_at s old more) was
+    ∙ ap (λ l. to_come old.machine l ++ items_as old.asked more) (split old.finder.held old.at new.at on
+    ∙ ap (λ l. take (new.at - old.at) (unread old) ++ l) after)
+    ∙ ap (λ l. l ++ items_as old.asked more) (follows (unread new))
+    ∙ append_assoc found (to_come new.machine (unread new)) (items_as old.asked more)
+    ∙ ap (λ a. found ++ (to_come new.machine (unread new) ++ items_as a more)) (sym asked)
+    ∙ ap (λ (s : Stage). found ++ reads_at s new more) (sym is)
+
+-- the last item of a source, and the start of another one
+pub end_done : (old new : Reads) (last : List Found) → old.stage ≡ Ending → IsNew old.asked new
+    → last ≡ to_come old.machine [] → length old.finder.held ≤ old.at → Follows (awaited old) [] last (awaited new)
+unfolding Follows
+end_done old new last was anew is all more =
+    ap (λ (s : Stage). reads_at s old more) was
+    ∙ ap (λ l. to_come old.machine l ++ items_as old.asked more) (drop_all old.at old.finder.held all)
+    ∙ ap (λ l. l ++ items_as old.asked more) (sym is) ∙ ap (λ l. last ++ l) (sym (anew.awaits more))
+
+-- what a source was, and the start of another one
+pub named_done : (old new : Reads) (stranger : Stranger) → old.stage ≡ Naming stranger → IsNew old.asked new
+    → Follows (awaited old) [] (Foreign stranger ∷ []) (awaited new)
+unfolding Follows
+named_done old new stranger was anew more =
+    ap (λ (s : Stage). reads_at s old more) was ∙ ap (λ l. Foreign stranger ∷ l) (sym (anew.awaits more))
+
+-- ---- a source of unknown format
+
+-- bytes that show nothing
+pub finds_more : (old new : Reads) (finder : Finds) (bytes : List ℕ) (sign : Sign) → old.stage ≡ Finding
+    → new.stage ≡ Finding → old.finder ≡ finder → sign ≡ Unclear → HasShown sign finder bytes new.finder
+    → new.finder.held ≡ finder.held ++ bytes → Follows (awaited old) bytes [] (awaited new)
+unfolding Follows
+finds_more old new finder bytes sign was is same unclear shows held more =
+    let none = subst (λ (s : Sign). HasShown s finder bytes new.finder) unclear shows in
+    ap (λ (s : Stage). reads_at s old (bytes ++ more)) was
+    ∙ ap (λ (f : Finds). finds_to_come f (bytes ++ more)) same
+    ∙ ap₂ items_shown (none more) (sym (append_assoc finder.held bytes more) ∙ ap (λ l. l ++ more) (sym held))
+    ∙ ap (λ (s : Stage). reads_at s new more) (sym is)
+
+-- bytes that show a format
+pub finds_format : (old new : Reads) (finder after : Finds) (bytes : List ℕ) (sign : Sign) (format : Format)
+    → old.stage ≡ Finding → new.stage ≡ Replaying → new.at ≡ 0 → new.machine ≡ new_machine format
+    → new.finder ≡ after → old.finder ≡ finder → sign ≡ Shows format → HasShown sign finder bytes after
+    → after.held ≡ finder.held ++ bytes → Follows (awaited old) bytes [] (awaited new)
+unfolding Follows
+finds_format old new finder after bytes sign format was is start machine finds same shown shows held more =
+    let all = subst (λ (s : Sign). HasShown s finder bytes after) shown shows in
+    ap (λ (s : Stage). reads_at s old (bytes ++ more)) was
+    ∙ ap (λ (f : Finds). finds_to_come f (bytes ++ more)) same
+    ∙ ap₂ items_shown (all more) (sym (append_assoc finder.held bytes more) ∙ ap (λ l. l ++ more) (sym held))
+    ∙ sym (starts_with format (after.held ++ more))
+    ∙ ap (λ (m : Begins). to_come m (after.held ++ more)) (sym machine)
+    ∙ ap (λ (f : Finds). to_come new.machine (f.held ++ more)) (sym finds)
+    ∙ ap (λ k. to_come new.machine (drop k new.finder.held ++ more)) (sym start)
+    ∙ ap (λ (s : Stage). reads_at s new more) (sym is)
+
+-- bytes that show that there is no format
+pub finds_other : (old new : Reads) (finder after : Finds) (bytes : List ℕ) (sign : Sign) (stranger : Stranger)
+    → old.stage ≡ Finding → new.stage ≡ Over → old.finder ≡ finder → sign ≡ Other stranger
+    → HasShown sign finder bytes after → Follows (awaited old) bytes (Foreign stranger ∷ []) (awaited new)
+unfolding Follows
+finds_other old new finder after bytes sign stranger was is same shown shows more =
+    let all = subst (λ (s : Sign). HasShown s finder bytes after) shown shows in
+    ap (λ (s : Stage). reads_at s old (bytes ++ more)) was
+    ∙ ap (λ (f : Finds). finds_to_come f (bytes ++ more)) same
+    ∙ ap (λ (s : Sign). items_shown s (finder.held ++ (bytes ++ more))) (all more)
+    ∙ ap (λ (s : Stage). Foreign stranger ∷ reads_at s new more) (sym is)
 
 -- a source of no known format continues without items
 pub over_on : (reads : Reads) (bytes : List ℕ) → reads.stage ≡ Over → Follows (awaited reads) bytes [] (awaited reads)
@@ -101,9 +170,61 @@ unfolding Follows
 over_on reads bytes is more =
     ap (λ (s : Stage). reads_at s reads (bytes ++ more)) is ∙ ap (λ (s : Stage). reads_at s reads more) (sym is)
 
--- the items of a source that ends while items wait
-pub ends_giving : (reads : Reads) (next : Next) (items : List Found) → reads.stage ≡ Giving next
-    → items ≡ reads.pending → items ≡ awaited reads []
-ends_giving reads next items is same =
-    same ∙ sym (append-nil reads.pending) ∙ ap (λ l. reads.pending ++ l) (sym (fresh_nothing next))
-    ∙ ap (λ (s : Stage). reads_at s reads []) (sym is)
+-- ---- the end of a source
+
+-- an ended source with work left is ending
+pub still_ending : (reads : Reads) → HasEnded reads → 0 < calls_left reads → IsEnding reads.stage
+still_ending reads (inl ending) some = ending
+still_ending reads (inr (anew, none)) some = absurd (omega (arith, none, some))
+
+-- without a byte, there is work left
+pub work_left : (bytes work : ℕ) → (0 < bytes) ⊎ (0 < work) → bytes ≡ 0 → 0 < work
+work_left bytes work (inl some) none = absurd (omega (arith, none, some))
+work_left bytes work (inr some) none = some
+
+-- without work left, an ended source is followed by another one
+pub next_begins : (reads : Reads) → HasEnded reads → calls_left reads ≡ 0 → IsNew reads.asked reads
+next_begins reads (inr (anew, none)) done = anew
+next_begins reads (inl ending) done = by reads.stage refl
+  where
+    by : (s : Stage) → reads.stage ≡ s → IsNew reads.asked reads
+    by Finding is = absurd (subst IsEnding is ending)
+    by Reading is = absurd (subst IsEnding is ending)
+    by Replaying is = absurd (subst IsEnding is ending)
+    by Ending is =
+        let some : length (unread reads) + 1 ≡ 0 = ap (λ (s : Stage). calls_at s reads) (sym is) ∙ done in
+        absurd (omega (arith, some))
+    by (Naming stranger) is =
+        let some : 1 ≡ 0 = ap (λ (s : Stage). calls_at s reads) (sym is) ∙ done in absurd (omega (arith, some))
+    by Over is = absurd (subst IsEnding is ending)
+
+-- all items of an ended source were given
+pub all_given : (old new : Reads) (found : List Found) → Follows (awaited old) [] found (awaited new) → HasEnded new
+    → calls_left new ≡ 0 → found ≡ awaited old []
+unfolding Follows
+all_given old new found follows ended done =
+    sym (append-nil found)
+    ∙ ap (λ l. found ++ l) (sym (items_nothing new.asked) ∙ sym ((next_begins new ended done).awaits []))
+    ∙ sym (follows [])
+
+-- the last items of a source wait after its end
+pub closed_items : (old closed : Reads) → HasClosed old closed → awaited closed [] ≡ awaited old []
+closed_items old closed close =
+    close.awaits [] ∙ ap (λ l. awaited old [] ++ l) (items_nothing old.asked) ∙ append-nil (awaited old [])
+
+pub nothing_left : (reads : Reads) → HasEnded reads → calls_left reads ≡ 0 → awaited reads [] ≡ []
+nothing_left reads ended done = (next_begins reads ended done).awaits [] ∙ items_nothing reads.asked
+
+pub ending_works : (reads : Reads) → IsEnding reads.stage → 0 < calls_left reads
+ending_works reads ending = by reads.stage refl
+  where
+    by : (s : Stage) → reads.stage ≡ s → 0 < calls_left reads
+    by Finding is = absurd (subst IsEnding is ending)
+    by Reading is = absurd (subst IsEnding is ending)
+    by Replaying is = absurd (subst IsEnding is ending)
+    by Ending is =
+        let some : calls_left reads ≡ length (unread reads) + 1 = ap (λ (s : Stage). calls_at s reads) is in
+        omega (arith, some)
+    by (Naming stranger) is =
+        let some : calls_left reads ≡ 1 = ap (λ (s : Stage). calls_at s reads) is in omega (arith, some)
+    by Over is = absurd (subst IsEnding is ending)

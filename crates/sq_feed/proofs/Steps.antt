@@ -1,14 +1,14 @@
 -- The state of a deframer after more bytes.
 use Rattle.std.proofs.Common.{◌≡◌, ◌≢◌, ◌+◌, ◌-◌, ◌<◌, ◌≤◌, ◌++◌, ◌∙◌, ℕ, suc, Bool, true, false, List, [], ◌∷◌, length, take, drop, get_or, map, ap}
-use Rattle.std.proofs.lemmas.List.{take_more, length-take, length-drop}
-use Rattle.std.proofs.Common.{ap₂, refl, sym, subst, arith, append_assoc, append-nil}
+use Rattle.std.proofs.lemmas.List.{take_all, take_more, length-take, length-drop}
+use Rattle.std.proofs.Common.{ap₂, refl, sym, subst, arith, append_assoc, append-nil, take-add}
 use Rattle.std.specs.Prelude.{Option, Some, None, if◌then◌else◌}
 use Rattle.std.specs.List.{flat_map}
 use Rattle.std.proofs.lemmas.Bool.{ne_eqb}
 use Rattle.sq_feed.specs.declared.message.Size.{Size}
 use Rattle.sq_feed.specs.declared.message.Size.TheVariants.{TwoBytes, SevenBytes, FourteenBytes}
 use Rattle.sq_feed.specs.declared.message.Kind.{Kind}
-use Rattle.sq_feed.specs.declared.message.Kind.TheVariants.{Message, Status, Unknown}
+use Rattle.sq_feed.specs.declared.message.Kind.TheVariants.{Message, Status, ReceiverId, Unknown}
 use Rattle.sq_feed.specs.declared.message.Message.{Message as OneMessage}
 use Rattle.sq_feed.specs.declared.message.Found.{Found}
 use Rattle.sq_feed.specs.declared.message.Found.TheVariants.{Whole, Damage}
@@ -16,7 +16,7 @@ use Rattle.sq_feed.specs.Kinds.{kind_of, message_len, message_of}
 use Rattle.sq_feed.specs.Begun.{Begun, Gives, HoldWithRest, IsUnfinished, begun_symbols, cut_off, rest_of}
 use Rattle.sq_feed.specs.Begun.{type_byte}
 use Rattle.sq_feed.specs.Stream.{AreSymbols, Byte, Start, Symbol, escape, found_after, found_at, found_in}
-use Rattle.sq_feed.specs.Stream.{found_of, run, spelled, symbols_from}
+use Rattle.sq_feed.specs.Stream.{doubled, found_of, run, spelled, symbols_from}
 use Rattle.sq_feed.proofs.Readings.{enough, from_spelled, kind_of_type, too_few}
 
 -- ---- the rest as symbols
@@ -34,6 +34,7 @@ begun_are : (kind : Option Kind) (held : List ℕ) → AreSymbols (begun_symbols
 begun_are None held = tt
 begun_are (Some (Message size)) held = (type_is_none size, bytes_are held)
 begun_are (Some Status) held = (λ e. absurd (omega (arith, e)), tt)
+begun_are (Some ReceiverId) held = (λ e. absurd (omega (arith, e)), tt)
 begun_are (Some Unknown) held = (λ e. absurd (omega (arith, e)), tt)
 
 after_escape : (is_escaped : Bool) (more : List ℕ)
@@ -115,6 +116,7 @@ start_anew : (kind : Kind) (byte : ℕ) (more : List Symbol) → kind_of byte �
 start_anew (Message size) byte more e =
     ap (λ k. found_at k (run more) ++ found_after more) (e ∙ sym (kind_of_type size))
 start_anew Status byte more e = ap (λ k. found_at k (run more) ++ found_after more) e
+start_anew ReceiverId byte more e = ap (λ k. found_at k (run more) ++ found_after more) e
 start_anew Unknown byte more e = ap (λ k. found_at k (run more) ++ found_after more) e
 
 start_after : (kind : Option Kind) (held : List ℕ) (byte : ℕ) (more : List Symbol) → IsUnfinished kind held
@@ -122,6 +124,7 @@ start_after : (kind : Option Kind) (held : List ℕ) (byte : ℕ) (more : List S
 start_after None held byte more few = refl
 start_after (Some (Message size)) held byte more few = too_few size held byte more few
 start_after (Some Status) held byte more few = refl
+start_after (Some ReceiverId) held byte more few = refl
 start_after (Some Unknown) held byte more few = refl
 
 -- a start cuts off what was begun
@@ -138,6 +141,13 @@ pub more_status : (old new : Begun) (byte : ℕ) → old.kind ≡ Some Status �
     → Gives old (Byte byte) [] new
 unfolding Gives
 more_status old new byte was now more =
+    ap (λ k. found_of (begun_symbols k old.held ++ Byte byte ∷ more)) was
+    ∙ ap (λ k. found_of (begun_symbols k new.held ++ more)) (sym now)
+
+pub more_id : (old new : Begun) (byte : ℕ) → old.kind ≡ Some ReceiverId → new.kind ≡ Some ReceiverId
+    → Gives old (Byte byte) [] new
+unfolding Gives
+more_id old new byte was now more =
     ap (λ k. found_of (begun_symbols k old.held ++ Byte byte ∷ more)) was
     ∙ ap (λ k. found_of (begun_symbols k new.held ++ more)) (sym now)
 
@@ -203,6 +213,55 @@ hold_byte piece a r s at ns within first second =
     subst (λ bs. HoldWithRest bs ns s)
     (append_assoc a (take at piece) (get_or piece at 0 ∷ []) ∙ ap (λ bs. a ++ bs) (sym (take_more piece at 0 within)))
     (hold_more (a ++ take at piece) (get_or piece at 0 ∷ []) r s [] ns first second)
+
+-- more bytes of a piece
+pub hold_run : (piece a r s : List ℕ) (at count : ℕ) → HoldWithRest (a ++ take at piece) [] r
+    → HoldWithRest (r ++ take count (take (length piece - at) (drop at piece))) [] s
+    → HoldWithRest (a ++ take (at + count) piece) [] s
+hold_run piece a r s at count first second =
+    let back : take (length piece - at) (drop at piece) ≡ drop at piece =
+    take_all (length piece - at) (drop at piece) (omega (arith, length-drop at piece)) in
+    subst (λ bs. HoldWithRest bs [] s)
+    (append_assoc a (take at piece) (take count (drop at piece)) ∙ ap (λ bs. a ++ bs) (sym (take-add at count piece)))
+    (hold_more (a ++ take at piece) (take count (drop at piece)) r s [] [] first
+    (subst (λ bs. HoldWithRest (r ++ take count bs) [] s) back second))
+
+-- bytes that are no escapes are spelled as they are
+spelled_plain : (bytes : List ℕ) → ((k : ℕ) → k < length bytes → get_or bytes k 0 ≢ escape)
+    → flat_map spelled (map Byte bytes) ≡ bytes
+spelled_plain [] plain = refl
+spelled_plain (b ∷ bytes) plain =
+    ap (λ (t : Bool). (if t then escape ∷ escape ∷ [] else b ∷ []) ++ flat_map spelled (map Byte bytes))
+    (ne_eqb b escape (plain 0 (omega arith)))
+    ∙ ap (λ bs. b ∷ bs) (spelled_plain bytes (λ k within. plain (suc k) (omega (arith, within))))
+
+spelled_run : (held bytes : List ℕ) → ((k : ℕ) → k < length bytes → get_or bytes k 0 ≢ escape)
+    → flat_map spelled (map Byte (held ++ bytes)) ≡ flat_map spelled (map Byte held) ++ bytes
+spelled_run [] bytes plain = spelled_plain bytes plain
+spelled_run (h ∷ held) bytes plain =
+    ap (λ bs. doubled h ++ bs) (spelled_run held bytes plain)
+    ∙ sym (append_assoc (doubled h) (flat_map spelled (map Byte held)) bytes)
+
+-- bytes of a message, without an escape and without the message's last byte
+pub plain_run : (old new : Begun) (size : Size) (bytes : List ℕ) → old.kind ≡ Some (Message size)
+    → new.kind ≡ Some (Message size) → old.is_escaped ≡ false → new.is_escaped ≡ false → new.held ≡ old.held ++ bytes
+    → ((k : ℕ) → k < length bytes → get_or bytes k 0 ≢ escape) → HoldWithRest (rest_of old ++ bytes) [] (rest_of new)
+unfolding HoldWithRest
+plain_run old new size bytes was now calm still held plain more =
+    ap (λ bs. found_in (bs ++ more)) (sym rest_is)
+  where
+    rest_at : (begun : Begun) → begun.kind ≡ Some (Message size) → begun.is_escaped ≡ false
+        → rest_of begun ≡ escape ∷ type_byte size ∷ flat_map spelled (map Byte begun.held)
+    rest_at begun is none =
+        ap₂ (λ k (t : Bool). flat_map spelled (begun_symbols k begun.held) ++ (if t then escape ∷ [] else [])) is none
+        ∙ append-nil (escape ∷ type_byte size ∷ flat_map spelled (map Byte begun.held))
+
+    rest_is : rest_of new ≡ rest_of old ++ bytes
+    rest_is =
+        rest_at new now still
+        ∙ ap (λ l. escape ∷ type_byte size ∷ flat_map spelled (map Byte l)) held
+        ∙ ap (λ bs. escape ∷ type_byte size ∷ bs) (spelled_run old.held bytes plain)
+        ∙ ap (λ bs. bs ++ bytes) (sym (rest_at old was calm))
 
 -- ---- a whole message
 

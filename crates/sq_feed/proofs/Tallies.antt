@@ -4,9 +4,9 @@ use Rattle.std.proofs.Common.{length-append}
 use Rattle.std.specs.Prelude.{◌==◌, ◌&&◌, nat_lt, Option, Some, None, if◌then◌else◌}
 use Rattle.std.proofs.lemmas.Bool.{ne_eqb}
 use Rattle.sq_feed.specs.declared.counts.Fate.{Fate}
-use Rattle.sq_feed.specs.declared.counts.Fate.TheVariants.{Written, OtherFormat, ModeAc, Multilaterated, Damaged, Aside}
+use Rattle.sq_feed.specs.declared.counts.Fate.TheVariants.{Written, OtherFormat, ModeAc, Multilaterated, Damaged, Aside, ReceiverId as IdFate}
 use Rattle.sq_feed.specs.declared.message.Found.{Found}
-use Rattle.sq_feed.specs.declared.message.Found.TheVariants.{Whole, Damage, Foreign}
+use Rattle.sq_feed.specs.declared.message.Found.TheVariants.{Whole, Damage, Foreign, ReceiverId}
 use Rattle.sq_feed.specs.declared.message.RawFrame.{RawFrame}
 use Rattle.sq_feed.specs.declared.message.RawFrame.TheVariants.{ModeAc as ModeAcFrame, Short, Long}
 use Rattle.sq_feed.specs.declared.message.Time.{Time}
@@ -36,6 +36,7 @@ IsOther Written = ⊥
 IsOther (OtherFormat format) = Unit {0}
 IsOther ModeAc = Unit {0}
 IsOther Multilaterated = Unit {0}
+IsOther IdFate = Unit {0}
 IsOther Damaged = Unit {0}
 IsOther Aside = Unit {0}
 
@@ -44,6 +45,7 @@ other_as tally Written other = absurd other
 other_as tally (OtherFormat format) other = record { found = refl; wrote = omega arith }
 other_as tally ModeAc other = record { found = refl; wrote = omega arith }
 other_as tally Multilaterated other = record { found = refl; wrote = omega arith }
+other_as tally IdFate other = record { found = refl; wrote = omega arith }
 other_as tally Damaged other = record { found = refl; wrote = omega arith }
 other_as tally Aside other = record { found = refl; wrote = omega arith }
 
@@ -85,6 +87,7 @@ item_counts : (arrival : ℕ) (ear : Hears) (item : Found) → ear.counts.found 
     → Counts ear.counts (ear_after arrival ear item).counts (length (told_of arrival ear item))
 item_counts arrival ear (Whole message) few = frame_counts message.frame arrival ear message.time few
 item_counts arrival ear Damage few = other_counts ear.counts Damaged tt few
+item_counts arrival ear ReceiverId few = other_counts ear.counts IdFate tt few
 item_counts arrival ear (Foreign stranger) few = other_counts ear.counts Damaged tt few
 
 pub counts_each : CountsEach

@@ -1,6 +1,7 @@
 -- The items of AVR text.
 --
--- A text is a list of words between edges. An edge is a mark, a semicolon, or the end of a line (CR or LF). A frame
+-- A text is a list of words between edges. An edge is a mark, a semicolon, or the end of a line (CR, LF, or a
+-- byte of a byte order mark). A frame
 -- is a word of hexadecimal digits of either case, between a mark and a semicolon, or on a line of its own. After `*`
 -- and `:`, and on a line of its own, all digits are the frame's. After `@` and `%`, twelve digits of the clock come
 -- before them; after `<`, these and two of the signal strength. A frame has 4, 14 or 28 digits. Any other word that
@@ -87,10 +88,14 @@ abbrev pub opening : Option Mark → Option Edge
 opening (Some mark) = Some (Opening mark)
 opening None = None
 
--- the edge of a byte: a semicolon, CR or LF, or a mark
+-- CR, LF, or a byte of a byte order mark, which may begin a text
+abbrev pub is_line_end : ℕ → Bool
+is_line_end byte = (byte == 10) || (byte == 13) || (byte == 0xEF) || (byte == 0xBB) || (byte == 0xBF)
+
+-- the edge of a byte: a semicolon, the end of a line, or a mark
 abbrev pub edge_of : ℕ → Option Edge
 edge_of byte =
-    if byte == 59 then Some Closing else (if byte == 10 || byte == 13 then Some LineEnd else opening (mark_of byte))
+    if byte == 59 then Some Closing else (if is_line_end byte then Some LineEnd else opening (mark_of byte))
 
 -- a word that belongs to no frame
 abbrev pub stray_word : List ℕ → List Found

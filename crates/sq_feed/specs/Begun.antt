@@ -5,9 +5,9 @@ use Rattle.std.specs.List.{flat_map}
 use Rattle.sq_feed.specs.declared.message.Size.{Size}
 use Rattle.sq_feed.specs.declared.message.Size.TheVariants.{TwoBytes, SevenBytes, FourteenBytes}
 use Rattle.sq_feed.specs.declared.message.Kind.{Kind}
-use Rattle.sq_feed.specs.declared.message.Kind.TheVariants.{Message, Status, Unknown}
+use Rattle.sq_feed.specs.declared.message.Kind.TheVariants.{Message, Status, ReceiverId, Unknown}
 use Rattle.sq_feed.specs.declared.message.Found.{Found}
-use Rattle.sq_feed.specs.declared.message.Found.TheVariants.{Damage}
+use Rattle.sq_feed.specs.declared.message.Found.TheVariants.{Damage, ReceiverId as Id}
 use Rattle.sq_feed.specs.Kinds.{message_len}
 use Rattle.sq_feed.specs.Stream.{Symbol, Byte, Start, escape, found_in, found_of, spelled}
 
@@ -25,6 +25,7 @@ abbrev pub IsUnfinished : Option Kind → List ℕ → Type 0
 IsUnfinished None held = ⊤
 IsUnfinished (Some (Message size)) held = length held < message_len size
 IsUnfinished (Some Status) held = ⊤
+IsUnfinished (Some ReceiverId) held = ⊤
 IsUnfinished (Some Unknown) held = ⊤
 
 -- the type byte of a message
@@ -33,11 +34,13 @@ type_byte TwoBytes = 49
 type_byte SevenBytes = 50
 type_byte FourteenBytes = 51
 
--- The symbols that represent what is begun. For a status or an unknown start, this is only the start.
+-- The symbols that represent what is begun. For a status, the id of a receiver or an unknown start, this is only the
+-- start.
 abbrev pub begun_symbols : Option Kind → List ℕ → List Symbol
 begun_symbols None held = []
 begun_symbols (Some (Message size)) held = Start (type_byte size) ∷ map Byte held
 begun_symbols (Some Status) held = Start 52 ∷ []
+begun_symbols (Some ReceiverId) held = Start 0xE3 ∷ []
 begun_symbols (Some Unknown) held = Start 0 ∷ []
 
 -- the items if a start cuts off what is begun
@@ -45,6 +48,7 @@ abbrev pub cut_off : Option Kind → List Found
 cut_off None = []
 cut_off (Some (Message size)) = Damage ∷ []
 cut_off (Some Status) = []
+cut_off (Some ReceiverId) = Id ∷ []
 cut_off (Some Unknown) = Damage ∷ []
 
 -- The bytes that represent what is begun: the rest of a stream after the items that were returned.

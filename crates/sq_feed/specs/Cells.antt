@@ -1,8 +1,8 @@
 -- Positions of bytes, cells of a row, and numbers in decimal digits.
-use Rattle.std.specs.Prelude.{◌==◌, ◌++◌, ◌+◌, ◌-◌, ◌*◌, ◌^◌, ◌&&◌, ℕ, zero, suc, Bool, true, List, [], ◌∷◌, length, take, drop}
+use Rattle.std.specs.Prelude.{◌==◌, ◌++◌, ◌+◌, ◌-◌, ◌*◌, ◌^◌, ◌&&◌, ℕ, zero, suc, Bool, true, false, not, List, [], ◌∷◌, length, take, drop}
 use Rattle.std.specs.Prelude.{Option, Some, None, nat_le, nat_lt, slice_index, if◌then◌else◌}
-use Rattle.std.specs.Char.{is_ascii_digit}
-use Rattle.std.specs.List.{position_or_len}
+use Rattle.std.specs.Char.{is_ascii_digit, is_ascii_whitespace}
+use Rattle.std.specs.List.{position_or_len, prefix_len, suffix_len}
 use Rattle.std.specs.Str.{str_eq_ignore_ascii_case}
 use Rattle.std.specs.Str.Parse.{digits_value}
 
@@ -38,13 +38,25 @@ millis_of cell =
 
 -- ---- cells
 
--- the first cell of a row: the bytes before the first comma
-abbrev pub first_cell : List ℕ → List ℕ
-first_cell row = take (position_of 44 row) row
+-- the index of the first comma that is not between quotes, or the length of the text; the Boolean says whether the
+-- text begins between quotes
+abbrev pub bare_comma : Bool → List ℕ → ℕ
+bare_comma quoted [] = 0
+bare_comma quoted (byte ∷ more) =
+    if not quoted && (byte == 44) then 0 else 1 + bare_comma (if byte == 34 then not quoted else quoted) more
 
--- the cells after the first, if the row has a comma
+-- the length of the first cell: a comma ends it, but for one between the quotes of a cell that begins with a quote
+abbrev pub cell_end : List ℕ → ℕ
+cell_end row =
+    if nat_lt 0 (length row) && (slice_index row 0 == 34) then bare_comma false row else position_of 44 row
+
+-- the first cell of a row
+abbrev pub first_cell : List ℕ → List ℕ
+first_cell row = take (cell_end row) row
+
+-- the cells after the first, if a comma ends it
 abbrev pub after_cell : List ℕ → Option (List ℕ)
-after_cell row = if nat_lt (position_of 44 row) (length row) then Some (drop (position_of 44 row + 1) row) else None
+after_cell row = if nat_lt (cell_end row) (length row) then Some (drop (cell_end row + 1) row) else None
 
 -- cell `k` of a row, counted from 0
 abbrev pub cell_of : ℕ → Option (List ℕ) → Option (List ℕ)
@@ -58,9 +70,21 @@ unquoted cell =
     if nat_le 2 (length cell) && (slice_index cell 0 == 34) && (slice_index cell (length cell - 1) == 34)
     then take (length cell - 2) (drop 1 cell) else cell
 
+-- a cell without spaces before it
+abbrev pub without_front : List ℕ → List ℕ
+without_front cell = drop (prefix_len is_ascii_whitespace cell) cell
+
+-- a cell without spaces after it
+abbrev pub without_back : List ℕ → List ℕ
+without_back cell = take (length cell - suffix_len is_ascii_whitespace cell) cell
+
+-- the content of a cell: without spaces around it, and then without quotes
+abbrev pub content_of : List ℕ → List ℕ
+content_of cell = unquoted (without_back (without_front cell))
+
 -- a cell has this name, in upper or lower case
 abbrev pub is_named : List ℕ → List ℕ → Bool
-is_named name cell = str_eq_ignore_ascii_case (unquoted cell) name
+is_named name cell = str_eq_ignore_ascii_case (content_of cell) name
 
 -- the index of the first cell with this name among the next `cells` cells, which start at index `k`
 abbrev pub named_from : ℕ → List ℕ → ℕ → Option (List ℕ) → Option ℕ

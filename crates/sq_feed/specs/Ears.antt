@@ -1,10 +1,10 @@
 -- What becomes of each item: a squitter with its timestamp, or a count.
-use Rattle.std.specs.Prelude.{⊤, max, ◌≡◌, ◌≤◌, ◌+◌, ◌-◌, ◌^◌, ◌==◌, ◌++◌, ◌/◌, ℕ, Bool, false, not, ◌&&◌, List, [], ◌∷◌, length, map, nat_lt, replicate, slice_index, Option, Some, None, if◌then◌else◌}
+use Rattle.std.specs.Prelude.{⊤, max, ◌≡◌, ◌≤◌, ◌+◌, ◌-◌, ◌^◌, ◌==◌, ◌++◌, ◌/◌, ℕ, Bool, false, not, ◌&&◌, List, [], ◌∷◌, length, nat_lt, replicate, slice_index, Option, Some, None, if◌then◌else◌}
 use Rattle.sq_feed.specs.declared.counts.Fate.{Fate}
 use Rattle.sq_feed.specs.declared.counts.Fate.TheVariants.{Written, OtherFormat, Multilaterated, Damaged, Aside}
-use Rattle.sq_feed.specs.declared.counts.Fate.TheVariants.{ModeAc as FateModeAc}
+use Rattle.sq_feed.specs.declared.counts.Fate.TheVariants.{ModeAc as FateModeAc, ReceiverId as IdFate}
 use Rattle.sq_feed.specs.declared.message.Found.{Found}
-use Rattle.sq_feed.specs.declared.message.Found.TheVariants.{Whole, Damage, Foreign}
+use Rattle.sq_feed.specs.declared.message.Found.TheVariants.{Whole, Damage, ReceiverId, Foreign}
 use Rattle.sq_feed.specs.declared.message.Stranger.{Stranger}
 use Rattle.sq_feed.specs.declared.message.RawFrame.{RawFrame}
 use Rattle.sq_feed.specs.declared.message.RawFrame.TheVariants.{ModeAc, Short, Long}
@@ -92,6 +92,7 @@ whole_of (Long frame) = frame
 abbrev pub frame_in : Found → List ℕ
 frame_in (Whole message) = whole_of message.frame
 frame_in Damage = replicate 14 0
+frame_in ReceiverId = replicate 14 0
 frame_in (Foreign stranger) = replicate 14 0
 
 abbrev pub told_by : Option Fate → ℕ → Hears → Time → RawFrame → List Timed
@@ -106,6 +107,7 @@ abbrev pub ear_after : ℕ → Hears → Found → Hears
 ear_after arrival ear (Whole message) =
     ear_by (fate_of ear.all_formats message.time message.frame) arrival ear message.time
 ear_after arrival ear Damage = record ear { counts = counted ear.counts Damaged }
+ear_after arrival ear ReceiverId = record ear { counts = counted ear.counts IdFate }
 ear_after arrival ear (Foreign stranger) =
     record ear { counts = counted ear.counts Damaged; stranger = Some stranger }
 
@@ -114,6 +116,7 @@ abbrev pub told_of : ℕ → Hears → Found → List Timed
 told_of arrival ear (Whole message) =
     told_by (fate_of ear.all_formats message.time message.frame) arrival ear message.time message.frame
 told_of arrival ear Damage = []
+told_of arrival ear ReceiverId = []
 told_of arrival ear (Foreign stranger) = []
 
 -- ---- several items with one arrival
@@ -125,13 +128,6 @@ ear_after_all arrival ear (one ∷ more) = ear_after_all arrival (ear_after arri
 abbrev pub told_of_all : ℕ → Hears → List Found → List Timed
 told_of_all arrival ear [] = []
 told_of_all arrival ear (one ∷ more) = told_of arrival ear one ++ told_of_all arrival (ear_after arrival ear one) more
-
--- the timestamps of frames, and the frames
-abbrev pub moments_of : List Timed → List ℕ
-moments_of told = map (λ (t : Timed). t.moment) told
-
-abbrev pub frames_of : List Timed → List (List ℕ)
-frames_of told = map (λ (t : Timed). t.frame) told
 
 -- ---- words of the laws
 

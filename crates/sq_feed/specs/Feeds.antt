@@ -1,5 +1,5 @@
 -- A source's bytes as squitters with their timestamps.
-use Rattle.std.specs.Prelude.{◌≡◌, ◌++◌, ⊤, ℕ, List, [], ◌∷◌, map, Option}
+use Rattle.std.specs.Prelude.{◌≡◌, ◌++◌, ⊤, ℕ, Bool, List, [], ◌∷◌, Option, if◌then◌else◌}
 use Rattle.std.specs.List.{flat_map}
 use Rattle.sq_feed.specs.declared.machine.Format.{Format}
 use Rattle.sq_feed.specs.declared.manner.Manner.{Manner}
@@ -28,29 +28,19 @@ pub record HasFed (arrival : ℕ) (old : Feeding) (bytes : List ℕ) (found : Li
   pub follows : Follows (awaited old.reader) bytes found (awaited new.reader)
   pub heard : new.ear ≡ ear_after_all arrival old.ear found
 
--- A feed took these bytes, and appended the lines of the items found.
-pub record HasWritten (arrival : ℕ) (old : Feeding) (bytes before after : List ℕ) (new : Feeding) : Type 0 where
+-- A feed took these bytes, and gave the squitters of the items found.
+pub record HasTold (arrival : ℕ) (old : Feeding) (bytes : List ℕ) (told : List Timed) (new : Feeding) : Type 0 where
   pub found : List Found
   pub fed : HasFed arrival old bytes found new
-  pub text : after ≡ before ++ lines_of (told_of_all arrival old.ear found)
+  pub told_are : told ≡ told_of_all arrival old.ear found
 
--- A feed took these bytes, and gave the squitters of the items found. Their timestamps and frames follow those that
--- were given before.
-pub record HasGiven (arrival : ℕ) (old : Feeding) (bytes : List ℕ) (moments : List ℕ) (frames : List (List ℕ))
-    (all_moments : List ℕ) (all_frames : List (List ℕ)) (new : Feeding) : Type 0 where
-  pub found : List Found
-  pub fed : HasFed arrival old bytes found new
-  pub moments_are : all_moments ≡ moments ++ map (λ (t : Timed). t.moment) (told_of_all arrival old.ear found)
-  pub frames_are : all_frames ≡ frames ++ map (λ (t : Timed). t.frame) (told_of_all arrival old.ear found)
+-- the squitter in a slot, if one was stored there
+abbrev pub stored : Bool → Timed → List Timed
+stored is_filled slot = if is_filled then slot ∷ [] else []
 
 -- the squitters of the last items of a source
 abbrev pub told_at_end : ℕ → Feeding → List Timed
 told_at_end arrival old = told_of_all arrival old.ear (awaited old.reader [])
-
--- A source ended: its last items were heard, and another source may follow.
-pub record HasEnded (arrival : ℕ) (old new : Feeding) : Type 0 where
-  pub anew : IsNew old.reader.asked new.reader
-  pub heard : new.ear ≡ ear_after_all arrival old.ear (awaited old.reader [])
 
 -- A source ended: its last items wait to be heard, and another source may follow.
 pub record HasClosedFeed (old new : Feeding) : Type 0 where
@@ -68,10 +58,10 @@ format_of_source feed = format_at feed.reader.stage feed.reader
 
 -- ---- laws
 
--- A feed that takes bytes twice, both with one arrival, has taken the bytes of both.
+-- A feed that takes bytes twice, both with one arrival, has taken the bytes and given the squitters of both.
 abbrev pub FeedsGoOn : Type 0
-FeedsGoOn = (arrival : ℕ) (old mid new : Feeding) (a b t u v : List ℕ)
-    → HasWritten arrival old a t u mid → HasWritten arrival mid b u v new → HasWritten arrival old (a ++ b) t v new
+FeedsGoOn = (arrival : ℕ) (old mid new : Feeding) (a b : List ℕ) (t u : List Timed)
+    → HasTold arrival old a t mid → HasTold arrival mid b u new → HasTold arrival old (a ++ b) (t ++ u) new
 
 -- a call: its arrival, the bytes that it took, the items in them, and the state after it
 pub record Fed : Type 0 where

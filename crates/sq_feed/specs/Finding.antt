@@ -1,102 +1,105 @@
 -- A source shows its format by its first bytes.
 --
--- The bytes are read as Beast and as lines of text at the same time. Three Beast messages in a row show Beast. A line
--- shows a text: a log is tried first, then a table, then AVR text. A marked frame at the start of a line shows AVR
--- text at its semicolon. The messages that show the format are the first items of the source, and all bytes before
--- them are one damage. The bytes after them are read from the start of a source of that format.
+-- A start of a Beast message in the first two bytes shows Beast. Otherwise the bytes are read as Beast and as lines of
+-- text at the same time: two Beast messages in a row show Beast, and the first line that can be read shows a text. A
+-- log is tried first, then a table, then AVR text. A marked frame at the start of a line shows AVR text at its
+-- semicolon. All bytes of the source are then read in that format, from the first one on.
 --
--- Some other sources are known by their first bytes or by a line. A source without any sign in its first 16,384 bytes
--- has no frames. All bytes of such a source are one item, which says what the source is.
-use Rattle.std.specs.Prelude.{◌==◌, ◌++◌, ◌+◌, ◌||◌, ◌&&◌, ℕ, Bool, false, not, List, [], ◌∷◌, length, take, drop}
-use Rattle.std.specs.Prelude.{Option, Some, None, bytes_eq, codes, nat_le, nat_lt, if◌then◌else◌}
-use Rattle.sq_feed.specs.declared.finder.Next.{Next}
-use Rattle.sq_feed.specs.declared.finder.Next.TheVariants.{Find, Read, Nothing}
+-- Archives and other kinds of text are remembered, and named only if nothing shows a format within the first 16,384
+-- bytes, or up to the end of a shorter source: no sign of another kind outweighs a frame. All bytes of such a source
+-- are one item, which says what the source is.
+use Rattle.std.specs.Prelude.{◌≡◌, ◌==◌, ◌++◌, ◌+◌, ◌||◌, ◌&&◌, ℕ, Bool, true, false, List, [], ◌∷◌, length, take, drop}
+use Rattle.std.specs.Prelude.{Option, Some, None, bytes_eq, codes, nat_le, nat_lt, slice_index, if◌then◌else◌}
 use Rattle.sq_feed.specs.declared.signs.Sign.{Sign}
 use Rattle.sq_feed.specs.declared.signs.Sign.TheVariants.{Unclear, Shows, Other}
+use Rattle.sq_feed.specs.declared.message.Stranger.{Stranger}
 use Rattle.sq_feed.specs.declared.message.Stranger.TheVariants.{Sbs, Tar, Packed, Utf16, Json, NoFrame}
 use Rattle.sq_feed.specs.declared.machine.Format.{Format}
 use Rattle.sq_feed.specs.declared.machine.Format.TheVariants.{Beast, Avr, Csv, Log}
 use Rattle.sq_feed.specs.declared.message.Found.{Found}
-use Rattle.sq_feed.specs.declared.message.Found.TheVariants.{Whole, Damage, Foreign}
-use Rattle.sq_feed.specs.declared.message.Message.{Message}
+use Rattle.sq_feed.specs.declared.message.Found.TheVariants.{Whole, Damage, ReceiverId, Foreign}
+use Rattle.sq_feed.specs.declared.message.Kind.{Kind}
+use Rattle.sq_feed.specs.declared.message.Kind.TheVariants.{Message as MessageKind, Status, ReceiverId as IdKind, Unknown as UnknownKind}
 use Rattle.sq_feed.specs.declared.message.RawFrame.{RawFrame}
 use Rattle.sq_feed.specs.declared.message.RawFrame.TheVariants.{ModeAc, Short, Long}
 use Rattle.sq_feed.specs.declared.message.Time.TheVariants.{Millis, Unknown}
 use Rattle.sq_feed.specs.declared.avr.Mark.{Mark}
-use Rattle.sq_feed.specs.declared.rows.Layout.{Layout}
-use Rattle.sq_feed.specs.declared.rows.Layout.TheVariants.{Log as LogLayout, Csv as CsvLayout}
+use Rattle.sq_feed.specs.declared.rows.Layout.TheVariants.{Log as LogLayout}
 use Rattle.sq_feed.specs.declared.rows.Row.{Row}
 use Rattle.sq_feed.specs.declared.rows.Row.TheVariants.{Blank, Names, One}
 use Rattle.sq_feed.specs.Avr.{avr_found, frame_of_word, item_of, mark_of}
 use Rattle.sq_feed.specs.Begun.{Begun, nothing_begun, rest_of}
-use Rattle.sq_feed.specs.Rows.{csv_start, row_read, rows_from, without_last}
-use Rattle.sq_feed.specs.Stream.{found_in}
+use Rattle.sq_feed.specs.Kinds.{kind_of}
+use Rattle.sq_feed.specs.Rows.{csv_start, row_read, rows_from, without_last, without_mark}
+use Rattle.sq_feed.specs.Stream.{escape, found_in}
 
 -- ---- messages in a row
 
-abbrev pub messages_in : List Found → ℕ
-messages_in [] = 0
-messages_in (Whole message ∷ more) = messages_in more + 1
-messages_in (Damage ∷ more) = messages_in more
-messages_in (Foreign stranger ∷ more) = messages_in more
+-- the number of messages since the last damage, up to two
+abbrev pub in_turn_after : ℕ → Found → ℕ
+in_turn_after count (Whole message) = if nat_lt count 2 then count + 1 else count
+in_turn_after count ReceiverId = count
+in_turn_after count Damage = 0
+in_turn_after count (Foreign stranger) = 0
 
--- The last damage, and the messages after it. At most four items are kept: the first ones.
-abbrev pub recent_after : List Found → Found → List Found
-recent_after kept (Whole message) = if nat_lt (length kept) 4 then kept ++ Whole message ∷ [] else kept
-recent_after kept Damage = Damage ∷ []
-recent_after kept (Foreign stranger) = Damage ∷ []
+abbrev pub in_turn : ℕ → List Found → ℕ
+in_turn count [] = count
+in_turn count (item ∷ more) = in_turn (in_turn_after count item) more
 
-abbrev pub recent : List Found → List Found → List Found
-recent kept [] = kept
-recent kept (item ∷ more) = recent (recent_after kept item) more
-
--- three messages in a row show Beast
-abbrev pub is_beast : List Found → Bool
-is_beast items = nat_le 3 (messages_in items)
+-- two messages in a row show Beast
+abbrev pub is_beast : ℕ → Bool
+is_beast count = nat_le 2 count
 
 -- ---- a line
 
-abbrev pub first_sign : Sign → Sign → Sign
-first_sign Unclear other = other
-first_sign (Shows format layout message) other = Shows format layout message
-first_sign (Other stranger) other = Other stranger
+-- the first sign that shows a format, or the other one
+abbrev pub first_shown : Sign → Sign → Sign
+first_shown Unclear other = other
+first_shown (Shows format) other = Shows format
+first_shown (Other stranger) other = other
 
 -- a marked frame at the start of a line, by the line before its semicolon
 abbrev pub sign_of_item : Found → Sign
-sign_of_item (Whole message) = Shows Avr LogLayout (Some message)
+sign_of_item (Whole message) = Shows Avr
 sign_of_item Damage = Unclear
+sign_of_item ReceiverId = Unclear
 sign_of_item (Foreign stranger) = Unclear
 
 abbrev pub sign_by_mark : Option Mark → List ℕ → Sign
 sign_by_mark (Some mark) word = sign_of_item (item_of mark word)
 sign_by_mark None word = Unclear
 
+abbrev pub sign_of_word : List ℕ → Sign
+sign_of_word [] = Unclear
+sign_of_word (first ∷ word) = sign_by_mark (mark_of first) word
+
 abbrev pub marked_sign : List ℕ → Sign
-marked_sign [] = Unclear
-marked_sign (first ∷ word) = sign_by_mark (mark_of first) word
+marked_sign line = sign_of_word (without_mark line)
 
 -- a line of a log
 abbrev pub sign_of_line : Row → Sign
-sign_of_line (One (Whole message)) = Shows Log LogLayout (Some message)
+sign_of_line (One (Whole message)) = Shows Log
 sign_of_line (One Damage) = Unclear
+sign_of_line (One ReceiverId) = Unclear
 sign_of_line (One (Foreign stranger)) = Unclear
 sign_of_line Blank = Unclear
 sign_of_line (Names columns) = Unclear
 
 -- a row of a table, or its names
 abbrev pub sign_of_row : Row → Sign
-sign_of_row (One (Whole message)) = Shows Csv csv_start (Some message)
+sign_of_row (One (Whole message)) = Shows Csv
 sign_of_row (One Damage) = Unclear
+sign_of_row (One ReceiverId) = Unclear
 sign_of_row (One (Foreign stranger)) = Unclear
 sign_of_row Blank = Unclear
-sign_of_row (Names columns) = Shows Csv (CsvLayout columns) None
+sign_of_row (Names columns) = Shows Csv
 
 -- a bare frame shows AVR text, unless it is a reply of Mode A/C: four digits may be any number
 abbrev pub sign_of_frame : Option RawFrame → Sign
 sign_of_frame None = Unclear
 sign_of_frame (Some (ModeAc frame)) = Unclear
-sign_of_frame (Some (Short frame)) = Shows Avr LogLayout (Some (record { time = Unknown; frame = Short frame }))
-sign_of_frame (Some (Long frame)) = Shows Avr LogLayout (Some (record { time = Unknown; frame = Long frame }))
+sign_of_frame (Some (Short frame)) = Shows Avr
+sign_of_frame (Some (Long frame)) = Shows Avr
 
 -- a line of SBS (BaseStation) text
 abbrev pub is_sbs : List ℕ → Bool
@@ -113,8 +116,9 @@ other_sign line =
 -- the sign of a whole line, without its line feed
 unfoldable pub line_sign : List ℕ → Sign
 line_sign line =
-    first_sign (sign_of_line (row_read LogLayout line)) (first_sign (sign_of_row (row_read csv_start line))
-    (first_sign (sign_of_frame (frame_of_word (without_last 13 line))) (other_sign line)))
+    first_shown (sign_of_line (row_read LogLayout line)) (first_shown (sign_of_row (row_read csv_start line))
+    (first_shown (sign_of_frame (frame_of_word (without_last 13 (without_mark line))))
+    (other_sign (without_mark line))))
 
 -- ---- the first bytes
 
@@ -135,137 +139,142 @@ is_utf16 start =
 abbrev pub is_tar : List ℕ → Bool
 is_tar start = (length start == 262) && bytes_eq (take 5 (drop 257 start)) (codes "ustar")
 
+-- an escape and a type byte that is known
+abbrev pub is_known : Kind → Bool
+is_known (MessageKind size) = true
+is_known Status = true
+is_known IdKind = true
+is_known UnknownKind = false
+
+abbrev pub is_beast_start : List ℕ → Bool
+is_beast_start start =
+    (length start == 2) && (slice_index start 0 == escape) && is_known (kind_of (slice_index start 1))
+
 unfoldable pub start_sign : List ℕ → Sign
 start_sign start =
-    if is_packed start then Other Packed
-    else (if is_utf16 start then Other Utf16 else (if is_tar start then Other Tar else Unclear))
+    if is_beast_start start then Shows Beast
+    else (if is_packed start then Other Packed
+    else (if is_utf16 start then Other Utf16 else (if is_tar start then Other Tar else Unclear)))
 
 -- ---- the text so far
 
--- the unfinished line, whether an earlier line holds anything, and the number of bytes
+-- the unfinished line, the number of bytes, and the first kind of source without frames that was seen
 pub record Lines : Type 0 where
   pub line : List ℕ
-  pub is_dirty : Bool
   pub count : ℕ
+  pub stranger : Option Stranger
 
 abbrev pub no_lines : Lines
-no_lines = record { line = []; is_dirty = false; count = 0 }
+no_lines = record { line = []; count = 0; stranger = None }
 
-abbrev pub byte_order_mark : List ℕ
-byte_order_mark = 0xEF ∷ 0xBB ∷ 0xBF ∷ []
-
--- The line after a byte. A byte order mark at its start is left out, and so is anything after 513 bytes: a line of
--- more than 512 bytes shows nothing.
+-- the line after a byte
 abbrev pub line_after : List ℕ → ℕ → List ℕ
-line_after line byte =
-    if byte == 10 then []
-    else (if bytes_eq (line ++ byte ∷ []) byte_order_mark then []
-    else (if nat_lt (length line) 513 then line ++ byte ∷ [] else line))
-
-abbrev pub is_blank : List ℕ → Bool
-is_blank line = length (without_last 13 line) == 0
-
--- the number of bytes within which a source has to show its format
-abbrev pub limit : ℕ
-limit = 16384
-
-abbrev pub count_after : ℕ → ℕ
-count_after count = if nat_lt count limit then count + 1 else count
-
-abbrev pub lines_after : Lines → ℕ → Lines
-lines_after text byte = record {
-  line = line_after text.line byte;
-  is_dirty = text.is_dirty || (byte == 10) && not (is_blank text.line);
-  count = count_after text.count;
-}
+line_after line byte = if byte == 10 then [] else line ++ byte ∷ []
 
 -- the sign of a byte after the text so far
 abbrev pub byte_sign : Lines → ℕ → Sign
 byte_sign text byte =
     if byte == 10 then line_sign text.line
     else (if byte == 59 then marked_sign text.line
-    else (if length text.line == text.count then start_sign (line_after text.line byte) else Unclear))
+    else (if length text.line == text.count then start_sign (text.line ++ byte ∷ []) else Unclear))
 
-abbrev pub limit_sign : ℕ → Sign
-limit_sign count = if count_after count == limit then Other NoFrame else Unclear
+-- the first kind of source without frames
+abbrev pub remembered : Option Stranger → Sign → Option Stranger
+remembered (Some stranger) sign = Some stranger
+remembered None (Other stranger) = Some stranger
+remembered None Unclear = None
+remembered None (Shows format) = None
 
-abbrev pub text_sign : Lines → ℕ → Sign
-text_sign text byte = first_sign (byte_sign text byte) (limit_sign text.count)
+abbrev pub lines_after : Lines → ℕ → Lines
+lines_after text byte = record {
+  line = line_after text.line byte;
+  count = text.count + 1;
+  stranger = remembered text.stranger (byte_sign text byte);
+}
+
+-- what a source without a format is
+abbrev pub named : Option Stranger → Stranger
+named (Some stranger) = stranger
+named None = NoFrame
+
+-- ---- the format of a source
+
+-- the number of bytes within which a source has to show its format
+abbrev pub limit : ℕ
+limit = 16384
+
+-- the sign of a source that ends here: its last line may lack its line feed, and one message is enough for Beast
+abbrev pub last_sign : ℕ → Lines → Sign
+last_sign messages text =
+    first_shown (line_sign text.line) (if nat_le 1 messages then Shows Beast
+    else (if text.count == 0 then Unclear else Other (named (remembered text.stranger (line_sign text.line)))))
+
+-- the sign of a source that goes on, up to the limit
+abbrev pub sign_within : Lines → Sign → Sign
+sign_within text later = if text.count == limit then Other (named text.stranger) else later
+
+-- What the bytes to come show, after the text so far. The first argument maps the bytes to come to the number of
+-- messages in a row at their end, if all bytes are read as Beast.
+abbrev pub shown_by : (List ℕ → ℕ) → Lines → List ℕ → Sign
+shown_by beast text [] = last_sign (beast []) text
+shown_by beast text (byte ∷ more) =
+    if is_beast (beast (byte ∷ [])) then Shows Beast
+    else first_shown (byte_sign text byte)
+    (sign_within (lines_after text byte) (shown_by (λ bytes. beast (byte ∷ bytes)) (lines_after text byte) more))
+
+-- what a whole source shows
+abbrev pub shown : List ℕ → Sign
+shown bytes = shown_by (λ more. in_turn 0 (found_in more)) no_lines bytes
 
 -- ---- the items of a source
 
--- the items of a source of a format, with rows of this layout
-abbrev pub items_from : Format → Layout → List ℕ → List Found
-items_from Beast layout bytes = found_in bytes
-items_from Avr layout bytes = avr_found bytes
-items_from Csv layout bytes = rows_from layout [] bytes
-items_from Log layout bytes = rows_from layout [] bytes
+-- the items of a source of a format
+abbrev pub items_from : Format → List ℕ → List Found
+items_from Beast bytes = found_in bytes
+items_from Avr bytes = avr_found bytes
+items_from Csv bytes = rows_from csv_start [] bytes
+items_from Log bytes = rows_from LogLayout [] bytes
 
-abbrev pub message_item : Option Message → List Found
-message_item (Some message) = Whole message ∷ []
-message_item None = []
+-- the items of a source, by what it shows
+abbrev pub items_shown : Sign → List ℕ → List Found
+items_shown Unclear bytes = []
+items_shown (Shows format) bytes = items_from format bytes
+items_shown (Other stranger) bytes = Foreign stranger ∷ []
 
--- the first items of a text, by whether an earlier line holds anything, and the message that shows the text
-abbrev pub first_items : Bool → Option Message → List Found
-first_items is_dirty message = (if is_dirty then Damage ∷ [] else []) ++ message_item message
-
--- the items of a source after a sign; without one, the rest
-abbrev pub after_sign : Bool → Sign → List Found → List ℕ → List Found
-after_sign is_dirty Unclear rest more = rest
-after_sign is_dirty (Shows format layout message) rest more =
-    first_items is_dirty message ++ items_from format layout more
-after_sign is_dirty (Other stranger) rest more = Foreign stranger ∷ []
-
--- A source that ends without a sign has its Beast messages, even if they are fewer than three; or it has no frames.
-abbrev pub unclear_items : List Found → ℕ → List Found
-unclear_items beast count =
-    if nat_le 1 (messages_in beast) then beast else (if count == 0 then [] else Foreign NoFrame ∷ [])
-
-abbrev pub last_by : Bool → Sign → List Found → List Found
-last_by is_dirty Unclear rest = rest
-last_by is_dirty (Shows format layout message) rest = first_items is_dirty message
-last_by is_dirty (Other stranger) rest = Foreign stranger ∷ []
-
--- the items of a source that ends here: its last line may lack its line feed
-abbrev pub last_items : List Found → Lines → List Found
-last_items beast text = last_by text.is_dirty (line_sign text.line) (unclear_items beast text.count)
-
--- The items of the bytes to come, after the text so far. The first argument maps the bytes to come to the recent items
--- of all bytes, read as Beast.
-abbrev pub found_by : (List ℕ → List Found) → Lines → List ℕ → List Found
-found_by beast text [] = last_items (beast []) text
-found_by beast text (byte ∷ more) =
-    if is_beast (beast (byte ∷ [])) then beast (byte ∷ []) ++ found_in more
-    else after_sign text.is_dirty (text_sign text byte)
-    (found_by (λ bytes. beast (byte ∷ bytes)) (lines_after text byte) more) more
-
--- the items of a whole source
+-- the items of a whole source of unknown format
 abbrev pub any_found : List ℕ → List Found
-any_found bytes = found_by (λ more. recent [] (found_in more)) no_lines bytes
+any_found bytes = items_shown (shown bytes) bytes
 
 -- ---- the state
 
--- the unfinished Beast message, its recent items, and the text so far
+-- the unfinished Beast message, the number of messages in a row, the text so far, and all bytes so far
 pub record Finds : Type 0 where
   pub beast : Begun
-  pub kept : List Found
+  pub count : ℕ
   pub text : Lines
+  pub held : List ℕ
 
 abbrev pub nothing_seen : Finds
-nothing_seen = record { beast = nothing_begun; kept = []; text = no_lines }
+nothing_seen = record { beast = nothing_begun; count = 0; text = no_lines; held = [] }
 
--- the recent items of Beast, after these bytes
-abbrev pub beast_of : Finds → List ℕ → List Found
-beast_of finds bytes = recent finds.kept (found_in (rest_of finds.beast ++ bytes))
+-- the messages in a row at the end of these bytes, after those so far
+abbrev pub beast_of : Finds → List ℕ → ℕ
+beast_of finds bytes = in_turn finds.count (found_in (rest_of finds.beast ++ bytes))
 
+-- what the source shows with these bytes to come
+abbrev pub shown_after : Finds → List ℕ → Sign
+shown_after finds bytes = shown_by (beast_of finds) finds.text bytes
+
+-- the items of the source with these bytes to come
 abbrev pub finds_to_come : Finds → List ℕ → List Found
-finds_to_come finds bytes = found_by (beast_of finds) finds.text bytes
+finds_to_come finds bytes = items_shown (shown_after finds bytes) (finds.held ++ bytes)
 
--- the items of the bytes to come, from the start of a source
-abbrev pub fresh : Next → List ℕ → List Found
-fresh Find bytes = any_found bytes
-fresh (Read format layout) bytes = items_from format layout bytes
-fresh Nothing bytes = []
+-- The bytes after `old` show this, whatever follows them. If they show nothing, what the source shows is what the
+-- bytes to come show after `new`.
+abbrev pub HasShown : Sign → Finds → List ℕ → Finds → Type 0
+HasShown Unclear old bytes new = (more : List ℕ) → shown_after old (bytes ++ more) ≡ shown_after new more
+HasShown (Shows format) old bytes new = (more : List ℕ) → shown_after old (bytes ++ more) ≡ Shows format
+HasShown (Other stranger) old bytes new = (more : List ℕ) → shown_after old (bytes ++ more) ≡ Other stranger
 
 -- ---- examples
 

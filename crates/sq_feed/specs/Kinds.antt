@@ -4,19 +4,20 @@ use Rattle.std.specs.Int.Digits.{number_from_digits}
 use Rattle.sq_feed.specs.declared.message.Size.{Size}
 use Rattle.sq_feed.specs.declared.message.Size.TheVariants.{TwoBytes, SevenBytes, FourteenBytes}
 use Rattle.sq_feed.specs.declared.message.Kind.{Kind}
-use Rattle.sq_feed.specs.declared.message.Kind.TheVariants.{Message, Status, Unknown}
+use Rattle.sq_feed.specs.declared.message.Kind.TheVariants.{Message, Status, ReceiverId, Unknown}
 use Rattle.sq_feed.specs.declared.message.RawFrame.{RawFrame}
 use Rattle.sq_feed.specs.declared.message.RawFrame.TheVariants.{ModeAc, Short, Long}
 use Rattle.sq_feed.specs.declared.message.Time.TheVariants.{Ticks}
 use Rattle.sq_feed.specs.declared.message.Message.{Message as OneMessage}
 
--- The kind that a type byte starts: `1`, `2` and `3` are messages, `4` is the receiver's own status.
+-- The kind that a type byte starts: `1`, `2` and `3` are messages, `4` is the receiver's own status, and E3 is the id
+-- of a receiver.
 abbrev pub kind_of : ℕ → Kind
 kind_of byte =
     if byte == 49 then Message TwoBytes
     else (if byte == 50 then Message SevenBytes
     else (if byte == 51 then Message FourteenBytes
-    else (if byte == 52 then Status else Unknown)))
+    else (if byte == 52 then Status else (if byte == 0xE3 then ReceiverId else Unknown))))
 
 -- the bytes of a frame
 abbrev pub frame_len : Size → ℕ

@@ -12,8 +12,8 @@ pub mod Lines
 pub mod Machines
 pub mod Readers
 pub mod Rows
-pub mod Steps
 pub mod Stream
 pub mod Times
 pub mod Finding
 pub mod Orders
+pub mod Shown

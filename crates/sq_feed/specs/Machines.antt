@@ -24,13 +24,13 @@ layout_of Avr = LogLayout
 layout_of Csv = csv_start
 layout_of Log = LogLayout
 
--- the machine at the start of a source, with rows of this layout
-abbrev pub machine_with : Format → Layout → Begins
-machine_with format layout = record {
+-- the machine at the start of a source
+abbrev pub new_machine : Format → Begins
+new_machine format = record {
   format = format;
   beast = nothing_begun;
   avr = no_word_begun;
-  rows = no_row_begun layout;
+  rows = no_row_begun (layout_of format);
 }
 
 abbrev pub to_come_as : Format → Begins → List ℕ → List Found

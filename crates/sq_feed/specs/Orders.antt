@@ -13,13 +13,6 @@ pub record Sorting : Type 0 where
 abbrev pub nothing_sorted : ℕ → Sorting
 nothing_sorted reorder = record { reorder = reorder; latest = 0; held = [] }
 
--- squitters by their timestamps and frames, as many as there are of both
-abbrev pub squitters_of : List ℕ → List (List ℕ) → List Timed
-squitters_of [] frames = []
-squitters_of (moment ∷ moments) [] = []
-squitters_of (moment ∷ moments) (frame ∷ frames) =
-    record { moment = moment; frame = frame } ∷ squitters_of moments frames
-
 -- ---- a squitter comes
 
 -- the index for a squitter with this timestamp: after the last one that is not later

@@ -1,6 +1,6 @@
 -- The items of a log and of a CSV table: one a line.
 use Rattle.std.specs.Prelude.{◌≡◌, ◌≢◌, ◌⊎◌, ◌==◌, ◌++◌, ◌+◌, ◌-◌, ◌&&◌, ◌≤◌, ℕ, Bool, true, false, List, [], ◌∷◌, length, take, drop, codes}
-use Rattle.std.specs.Prelude.{Option, Some, None, nat_lt, slice_index, if◌then◌else◌}
+use Rattle.std.specs.Prelude.{Option, Some, None, bytes_eq, nat_lt, slice_index, if◌then◌else◌}
 use Rattle.std.specs.List.{AllByRecursion}
 use Rattle.sq_feed.specs.declared.message.Found.{Found}
 use Rattle.sq_feed.specs.declared.message.Found.TheVariants.{Whole, Damage}
@@ -13,7 +13,7 @@ use Rattle.sq_feed.specs.declared.rows.Layout.TheVariants.{Log, Csv}
 use Rattle.sq_feed.specs.declared.rows.Row.{Row}
 use Rattle.sq_feed.specs.declared.rows.Row.TheVariants.{Blank, Names, One}
 use Rattle.sq_feed.specs.Avr.{frame_of_word}
-use Rattle.sq_feed.specs.Cells.{cell_of, column_of, millis_of, number_of, position_of, unquoted}
+use Rattle.sq_feed.specs.Cells.{cell_of, column_of, content_of, millis_of, number_of, position_of}
 
 -- the maximum length of a line in bytes, including a carriage return
 abbrev pub longest : ℕ
@@ -29,8 +29,19 @@ abbrev pub without_last : ℕ → List ℕ → List ℕ
 without_last byte text = if last_is byte text then take (length text - 1) text else text
 
 -- a text without a first byte of this value
+abbrev pub first_is : ℕ → List ℕ → Bool
+first_is byte text = nat_lt 0 (length text) && (slice_index text 0 == byte)
+
 abbrev pub without_first : ℕ → List ℕ → List ℕ
-without_first byte text = if nat_lt 0 (length text) && (slice_index text 0 == byte) then drop 1 text else text
+without_first byte text = if first_is byte text then drop 1 text else text
+
+-- the byte order mark of UTF-8
+abbrev pub byte_order_mark : List ℕ
+byte_order_mark = 0xEF ∷ 0xBB ∷ 0xBF ∷ []
+
+-- a line without a byte order mark at its start
+abbrev pub without_mark : List ℕ → List ℕ
+without_mark line = if bytes_eq (take 3 line) byte_order_mark then drop 3 line else line
 
 -- a message with its time in milliseconds, if both are valid
 abbrev pub message_at : Option ℕ → Option RawFrame → Option Message
@@ -38,19 +49,25 @@ message_at None frame = None
 message_at (Some moment) None = None
 message_at (Some moment) (Some frame) = Some (record { time = Millis moment; frame = frame })
 
--- A line of a log: a timestamp (ms) of 1 to 20 digits and below 2^64, a space, and the hexadecimal digits of a frame.
--- `*` may come before the frame, and `;` after it.
+-- the frame of a frame text: its digits, bare or between `*` and `;`
+abbrev pub frame_of_text : List ℕ → Option RawFrame
+frame_of_text text =
+    if first_is 42 text
+    then (if last_is 59 text then frame_of_word (without_last 59 (without_first 42 text)) else None)
+    else (if last_is 59 text then None else frame_of_word text)
+
+-- A line of a log: a timestamp (ms) of 1 to 20 digits and below 2^64, a space, and a frame text.
 abbrev pub log_message : List ℕ → Option Message
 log_message line =
     message_at (number_of 20 (take (position_of 32 line) line))
-    (frame_of_word (without_last 59 (without_first 42 (drop (position_of 32 line + 1) line))))
+    (frame_of_text (drop (position_of 32 line + 1) line))
 
 abbrev pub millis_in : Option (List ℕ) → Option ℕ
-millis_in (Some cell) = millis_of (unquoted cell)
+millis_in (Some cell) = millis_of (content_of cell)
 millis_in None = None
 
 abbrev pub frame_in : Option (List ℕ) → Option RawFrame
-frame_in (Some cell) = frame_of_word (unquoted cell)
+frame_in (Some cell) = frame_of_word (content_of cell)
 frame_in None = None
 
 -- a row of a table: seconds in one column, and the hexadecimal digits of a frame in another
@@ -67,11 +84,15 @@ columns_at None frame = None
 columns_at (Some time) None = None
 columns_at (Some time) (Some frame) = Some (record { time = time; frame = frame })
 
--- A row of names has a cell `time` or `mintime`, and a cell `rawmsg`, in upper or lower case.
+-- the column of the time: `time`, else `mintime`, else `timestamp`
+abbrev pub time_column : List ℕ → Option ℕ
+time_column row =
+    first_of (column_of (codes "time") row) (first_of (column_of (codes "mintime") row)
+    (column_of (codes "timestamp") row))
+
+-- A row of names has a column of the time, and a cell `rawmsg`, in upper or lower case.
 abbrev pub columns_of : List ℕ → Option Columns
-columns_of row =
-    columns_at (first_of (column_of (codes "time") row) (column_of (codes "mintime") row)) (column_of
-    (codes "rawmsg") row)
+columns_of row = columns_at (time_column row) (column_of (codes "rawmsg") row)
 
 abbrev pub row_or_damage : Option Message → Row
 row_or_damage (Some message) = One (Whole message)
@@ -89,11 +110,14 @@ abbrev pub text_read : Layout → List ℕ → Row
 text_read Log text = row_or_damage (log_message text)
 text_read (Csv columns) text = row_or_names (csv_message columns text) text
 
--- the content of a line: nothing, column names, or an item
+-- the content of a line of at most 512 bytes: nothing, column names, or an item
+abbrev pub row_of_text : Layout → List ℕ → Row
+row_of_text layout text = if length text == 0 then Blank else text_read layout text
+
+-- The content of a line. A byte order mark at its start and a carriage return at its end are left out.
 abbrev pub row_read : Layout → List ℕ → Row
 row_read layout line =
-    if nat_lt longest (length line) then One Damage
-    else (if length (without_last 13 line) == 0 then Blank else text_read layout (without_last 13 line))
+    if nat_lt longest (length line) then One Damage else row_of_text layout (without_mark (without_last 13 line))
 
 abbrev pub items_of_row : Row → List Found
 items_of_row Blank = []

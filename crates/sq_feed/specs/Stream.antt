@@ -3,16 +3,17 @@
 -- A stream is a list of symbols, encoded as bytes. A start is an escape and a type byte. A byte between starts is
 -- itself, and an escape between starts is doubled.
 --
--- A message is its start and as many bytes as its type needs. Damage is any of these, each with all bytes up to the
+-- A message is its start and as many bytes as its type needs. The id of a receiver is its start and all bytes up to the
+-- next start. Damage is any of these, each with all bytes up to the
 -- next start: a message that is cut off, bytes after a message, bytes before the first start, and a start of unknown
 -- type.
 use Rattle.std.specs.Prelude.{◌≡◌, ◌≢◌, ◌==◌, ◌++◌, ◌&&◌, ◌⊎◌, ⊤, ℕ, Bool, true, false, not, List, [], ◌∷◌, length, drop}
 use Rattle.std.specs.Prelude.{EachIndex, nat_le, slice_index, if◌then◌else◌}
 use Rattle.std.specs.List.{flat_map}
 use Rattle.sq_feed.specs.declared.message.Kind.{Kind}
-use Rattle.sq_feed.specs.declared.message.Kind.TheVariants.{Message, Status, Unknown}
+use Rattle.sq_feed.specs.declared.message.Kind.TheVariants.{Message, Status, ReceiverId, Unknown}
 use Rattle.sq_feed.specs.declared.message.Found.{Found}
-use Rattle.sq_feed.specs.declared.message.Found.TheVariants.{Whole, Damage}
+use Rattle.sq_feed.specs.declared.message.Found.TheVariants.{Whole, Damage, ReceiverId as Id}
 use Rattle.sq_feed.specs.Kinds.{kind_of, message_len, message_of}
 
 -- the byte before a type byte
@@ -68,6 +69,7 @@ found_at (Message size) bytes =
     if nat_le (message_len size) (length bytes)
     then Whole (message_of size bytes) ∷ stray (drop (message_len size) bytes) else Damage ∷ []
 found_at Status bytes = []
+found_at ReceiverId bytes = Id ∷ []
 found_at Unknown bytes = Damage ∷ []
 
 -- the items at each start, in order

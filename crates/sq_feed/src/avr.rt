@@ -284,7 +284,7 @@ fn edge_of(byte: u8) -> Option<Edge>
 {
     match byte {
         b';' => Some(Edge::Closing),
-        b'\n' | b'\r' => Some(Edge::LineEnd),
+        b'\n' | b'\r' | 0xEF | 0xBB | 0xBF => Some(Edge::LineEnd),
         b'*' | b':' => Some(Edge::Opening(Mark::Plain)),
         b'@' | b'%' => Some(Edge::Opening(Mark::Clocked)),
         b'<' => Some(Edge::Opening(Mark::Signalled)),

@@ -4,6 +4,7 @@ ghost use Rattle.std.specs.Prelude.{IsTrue};
 ghost use Rattle.sq_feed.specs.Begun.{Gives, HoldWithRest, IsUnfinished, cut_off, nothing_begun, rest_of};
 ghost use Rattle.sq_feed.specs.Stream.{Byte, IsPlain, Start, found_in};
 
+use crate::cells::position_of;
 use crate::message::{self, Found, Kind, Message};
 use arrayvec::ArrayVec;
 use std::marker::Model;
@@ -79,7 +80,8 @@ impl Beast {
         }
     }
 
-    /// Returns the damage at the end of the stream, if it ends within a message or after an unknown start.
+    /// Returns the item at the end of the stream: damage, if it ends within a message or after an unknown start, or the
+    /// id of a receiver.
     pub fn finish(&self) -> Option<Found>
         ensures cut_off { option_to_list result ≡ cut_off self.now.kind }
         ensures rest { option_to_list result ≡ found_in (rest_of self.now ++ []) }
@@ -98,14 +100,41 @@ impl Beast {
             (rest_of self.new) }
     {
         let _ = &self.kind;
-        for (at, byte) in piece.iter().enumerate() {
-            if !self.goes_on(*byte) {
-                if let Some(found) = self.take_byte(*byte) {
+        let mut at = 0;
+        while at < piece.len() {
+            at += self.take_run(&piece[at..]);
+            if at < piece.len() {
+                if let Some(found) = self.take_byte(piece[at]) {
                     return (at + 1, Some(found));
                 }
+                at += 1;
             }
         }
         (piece.len(), None)
+    }
+
+    // Takes the bytes of a piece that go on with a message: up to an escape, or to the last byte of the message.
+    // Returns how many.
+    #[inline(always)]
+    fn take_run(&mut self, piece: &[u8]) -> usize
+        ensures fits { result ≤ length piece.now }
+        ensures unfinished { IsUnfinished self.new.kind self.new.held }
+        ensures held { HoldWithRest (rest_of self.old ++ take result piece.now) [] (rest_of self.new) }
+    {
+        let _ = &self.kind;
+        if self.is_escaped {
+            return 0;
+        }
+        let Some(Kind::Message(size)) = self.kind else {
+            return 0;
+        };
+        let room = message::message_len(size) - 1 - self.held.len();
+        let near = &piece[..piece.len().min(room)];
+        let run = &near[..position_of(ESCAPE, near)];
+        if self.held.try_extend_from_slice(run).is_err() {
+            return 0;
+        }
+        run.len()
     }
 
     // Takes one byte of the stream.
@@ -126,26 +155,6 @@ impl Beast {
             return None;
         }
         self.add(byte)
-    }
-
-    // Takes a byte within a message, if it is neither an escape nor the last byte. Returns whether it did.
-    #[inline(always)]
-    fn goes_on(&mut self, byte: u8) -> bool
-        ensures unfinished { IsUnfinished self.new.kind self.new.held }
-        ensures taken { result ≡ true → HoldWithRest (rest_of self.old ++ byte ∷ []) [] (rest_of self.new) }
-        ensures left { result ≡ false → self.new ≡ self.old }
-    {
-        if self.is_escaped || byte == ESCAPE {
-            return false;
-        }
-        let Some(Kind::Message(size)) = self.kind else {
-            return false;
-        };
-        if self.held.len() + 1 >= message::message_len(size) {
-            return false;
-        }
-        self.held.push(byte);
-        true
     }
 
     // Takes a type byte. An unfinished message before it is damage.
@@ -170,6 +179,7 @@ impl Beast {
         let size = match self.kind {
             Some(Kind::Message(size)) => size,
             Some(Kind::Status) => return None,
+            Some(Kind::ReceiverId) => return None,
             Some(Kind::Unknown) => return None,
             None => {
                 self.kind = Some(Kind::Status);
@@ -186,7 +196,8 @@ impl Beast {
     }
 }
 
-// Returns damage if a start cuts off an unfinished message, or follows an unknown start.
+// Returns what ends with the next start: the id of a receiver, or damage, if that start cuts off an unfinished
+// message or follows an unknown one.
 #[inline(always)]
 fn cut_off(kind: Option<Kind>) -> Option<Found>
     ensures { option_to_list result ≡ cut_off kind }
@@ -194,6 +205,7 @@ fn cut_off(kind: Option<Kind>) -> Option<Found>
     match kind {
         Some(Kind::Message(_)) => Some(Found::Damage),
         Some(Kind::Status) => None,
+        Some(Kind::ReceiverId) => Some(Found::ReceiverId),
         Some(Kind::Unknown) => Some(Found::Damage),
         None => None,
     }

@@ -2,7 +2,7 @@
 ghost use Rattle.std.specs.Prelude.{◌≡◌, ◌≢◌, ◌≤◌, ◌<◌, ◌+◌, ◌*◌, ◌^◌, Some, None, IfSome, MatchOption, length, slice_index, take, false, true, ℕ};
 ghost use Rattle.std.specs.Char.{IsAsciiDigit, digit_value};
 ghost use Rattle.std.specs.Str.Parse.{digits_value};
-ghost use Rattle.sq_feed.specs.Cells.{are_digits, cell_of, column_of, is_named, millis_of, number_of, position_of, thousandths, unquoted};
+ghost use Rattle.sq_feed.specs.Cells.{are_digits, bare_comma, cell_end, cell_of, column_of, content_of, is_named, millis_of, number_of, position_of, thousandths, unquoted};
 
 use std::simd::prelude::*;
 
@@ -208,18 +208,55 @@ pub(crate) fn cell_of(k: usize, row: &[u8]) -> Option<&[u8]>
 {
     let mut rest = row;
     for step in 0..k {
-        let at = position_of(b',', rest);
+        let at = cell_end(rest);
         if at >= rest.len() {
             return None;
         }
         let _ = step;
         rest = &rest[at + 1..];
     }
-    Some(&rest[..position_of(b',', rest)])
+    Some(&rest[..cell_end(rest)])
+}
+
+// Returns the length of the first cell of a row. A comma ends it, but for one between the quotes of a cell that begins
+// with a quote.
+fn cell_end(row: &[u8]) -> usize
+    ensures value { result ≡ cell_end row.now }
+    ensures within { result ≤ length row.now }
+{
+    if !row.is_empty() && row[0] == b'"' {
+        bare_comma(row)
+    } else {
+        position_of(b',', row)
+    }
+}
+
+// Returns the index of the first comma that is not between quotes, or the length of the text.
+fn bare_comma(text: &[u8]) -> usize
+    ensures value { result ≡ bare_comma false text.now }
+    ensures within { result ≤ length text.now }
+{
+    let mut quoted = false;
+    for (at, byte) in text.iter().enumerate() {
+        if !quoted && *byte == b',' {
+            return at;
+        }
+        if *byte == b'"' {
+            quoted = !quoted;
+        }
+    }
+    text.len()
+}
+
+// Returns the content of a cell, without spaces around it and then without quotes.
+pub(crate) fn content_of(cell: &[u8]) -> &[u8]
+    ensures { result.now ≡ content_of cell.now }
+{
+    unquoted(cell.trim_ascii())
 }
 
 // Drops the quotes around a cell, if there are any.
-pub(crate) fn unquoted(cell: &[u8]) -> &[u8]
+fn unquoted(cell: &[u8]) -> &[u8]
     ensures { result.now ≡ unquoted cell.now }
 {
     if cell.len() >= 2 && cell[0] == b'"' && cell[cell.len() - 1] == b'"' {
@@ -235,7 +272,7 @@ pub(crate) fn column_of(name: &[u8], row: &[u8]) -> Option<usize>
 {
     let mut rest = row;
     for k in 0..row.len() + 1 {
-        let at = position_of(b',', rest);
+        let at = cell_end(rest);
         if is_named(name, &rest[..at]) {
             return Some(k);
         }
@@ -251,5 +288,5 @@ pub(crate) fn column_of(name: &[u8], row: &[u8]) -> Option<usize>
 fn is_named(name: &[u8], cell: &[u8]) -> bool
     ensures { result ≡ is_named name.now cell.now }
 {
-    unquoted(cell).eq_ignore_ascii_case(name)
+    content_of(cell).eq_ignore_ascii_case(name)
 }

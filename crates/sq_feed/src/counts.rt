@@ -18,6 +18,8 @@ pub enum Fate {
     ModeAc,
     /// A server computed its time by multilateration.
     Multilaterated,
+    /// It is the id of a receiver, and no frame.
+    ReceiverId,
     /// It is damage, or a frame of the wrong length for its downlink format.
     Damaged,
     /// Its time was set aside.
@@ -31,6 +33,7 @@ pub struct Counts {
     written: u64,
     mode_ac: u64,
     multilaterated: u64,
+    receiver_ids: u64,
     damaged: u64,
     aside: u64,
     formats: [u64; 25],
@@ -47,6 +50,7 @@ impl Model for Counts {
       written = s.written;
       mode_ac = s.mode_ac;
       multilaterated = s.multilaterated;
+      receiver_ids = s.receiver_ids;
       damaged = s.damaged;
       aside = s.aside;
       formats = s.formats;
@@ -57,6 +61,7 @@ impl Model for Counts {
       written = s.written;
       mode_ac = s.mode_ac;
       multilaterated = s.multilaterated;
+      receiver_ids = s.receiver_ids;
       damaged = s.damaged;
       aside = s.aside;
       formats = s.formats;
@@ -67,6 +72,7 @@ impl Model for Counts {
       written = s.written;
       mode_ac = s.mode_ac;
       multilaterated = s.multilaterated;
+      receiver_ids = s.receiver_ids;
       damaged = s.damaged;
       aside = s.aside;
       formats = s.formats;
@@ -85,6 +91,7 @@ impl Counts {
             written: 0,
             mode_ac: 0,
             multilaterated: 0,
+            receiver_ids: 0,
             damaged: 0,
             aside: 0,
             formats: [0; 25],
@@ -105,6 +112,7 @@ impl Counts {
             Fate::OtherFormat(format) => self.formats[usize::from(format).min(FORMATS - 1)] += 1,
             Fate::ModeAc => self.mode_ac += 1,
             Fate::Multilaterated => self.multilaterated += 1,
+            Fate::ReceiverId => self.receiver_ids += 1,
             Fate::Damaged => self.damaged += 1,
             Fate::Aside => self.aside += 1,
         }
@@ -153,6 +161,13 @@ impl Counts {
         ensures { result ≡ self.now.multilaterated }
     {
         self.multilaterated
+    }
+
+    /// Returns how many items were ids of receivers.
+    pub fn receiver_ids(&self) -> u64
+        ensures { result ≡ self.now.receiver_ids }
+    {
+        self.receiver_ids
     }
 
     /// Returns how many items were damage, or frames of the wrong length for their downlink format.

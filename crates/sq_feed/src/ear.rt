@@ -1,5 +1,5 @@
 //! What becomes of each item: a squitter with its timestamp, or a count.
-ghost use Rattle.std.specs.Prelude.{◌≡◌, ◌≤◌, [], ◌∷◌, MatchOption, length};
+ghost use Rattle.std.specs.Prelude.{◌≡◌, ◌≤◌, [], ◌∷◌, Bool, MatchOption, None, false, length, true};
 ghost use Rattle.sq_feed.specs.Ears.{ear_after, fate_of, fate_of_long, fate_of_short, frame_in, is_multilaterated, lost};
 ghost use Rattle.sq_feed.specs.Ears.{padded, told_of, untouched, whole_of};
 
@@ -80,6 +80,10 @@ impl Ear {
                 self.counts.count(Fate::Damaged);
                 None
             }
+            Found::ReceiverId => {
+                self.counts.count(Fate::ReceiverId);
+                None
+            }
             Found::Foreign(stranger) => {
                 self.counts.count(Fate::Damaged);
                 self.stranger = Some(*stranger);
@@ -96,7 +100,7 @@ impl Ear {
         self.times.restart();
     }
 
-    // Hears a message that arrived at `arrival` (ms).
+    // Hears a message that arrived at `arrival` (ms). Most are squitters of a receiver, and take a short path.
     #[inline(always)]
     pub(crate) fn hear_message(&mut self, message: &Message, arrival: u64) -> Option<u64>
         ensures kept { self.new ≡ ear_after arrival self.old (Found.Whole message.now) }
@@ -104,10 +108,39 @@ impl Ear {
             (λ moment. told_of arrival self.old (Found.Whole message.now)
             ≡ record { moment = moment; frame = whole_of message.now.frame } ∷ []) }
     {
-        if let Some(fate) = fate_of(self.all_formats, message.time, &message.frame) {
-            self.counts.count(fate);
-            return None;
+        if is_squitter(&message.frame) && !is_multilaterated(message.time) {
+            self.hear_timed(message, arrival)
+        } else {
+            self.hear_any(message, arrival)
         }
+    }
+
+    // Does what `hear_message` does, whatever the message. Inlined, so that no message is stored for a call.
+    #[inline(always)]
+    fn hear_any(&mut self, message: &Message, arrival: u64) -> Option<u64>
+        ensures kept { self.new ≡ ear_after arrival self.old (Found.Whole message.now) }
+        ensures told { MatchOption result (told_of arrival self.old (Found.Whole message.now) ≡ [])
+            (λ moment. told_of arrival self.old (Found.Whole message.now)
+            ≡ record { moment = moment; frame = whole_of message.now.frame } ∷ []) }
+    {
+        match fate_of(self.all_formats, message.time, &message.frame) {
+            Some(fate) => {
+                self.counts.count(fate);
+                None
+            }
+            None => self.hear_timed(message, arrival),
+        }
+    }
+
+    // Hears a message whose time decides what becomes of it.
+    #[inline(always)]
+    fn hear_timed(&mut self, message: &Message, arrival: u64) -> Option<u64>
+        requires { fate_of self.old.all_formats message.now.time message.now.frame ≡ None }
+        ensures kept { self.new ≡ ear_after arrival self.old (Found.Whole message.now) }
+        ensures told { MatchOption result (told_of arrival self.old (Found.Whole message.now) ≡ [])
+            (λ moment. told_of arrival self.old (Found.Whole message.now)
+            ≡ record { moment = moment; frame = whole_of message.now.frame } ∷ []) }
+    {
         match self.times.hear(message.time, arrival) {
             Some(moment) => {
                 self.counts.count(Fate::Written);
@@ -128,6 +161,7 @@ pub(crate) fn frame_in(found: &Found) -> [u8; 14]
     match found {
         Found::Whole(message) => whole_of(&message.frame),
         Found::Damage => [0; 14],
+        Found::ReceiverId => [0; 14],
         Found::Foreign(_) => [0; 14],
     }
 }
@@ -196,6 +230,19 @@ fn fate_of_long(all_formats: bool, time: Time, frame: &[u8; 14]) -> Option<Fate>
         Some(Fate::OtherFormat(format))
     } else {
         None
+    }
+}
+
+// Returns whether a frame is an extended squitter.
+#[inline(always)]
+fn is_squitter(frame: &RawFrame) -> bool
+    ensures { result ≡ true → (all : Bool) (time : Time) → is_multilaterated time ≡ false
+        → fate_of all time frame.now ≡ None }
+{
+    match frame {
+        RawFrame::Long(frame) => frame[0] >> 3 == SQUITTER,
+        RawFrame::Short(_) => false,
+        RawFrame::ModeAc(_) => false,
     }
 }
 

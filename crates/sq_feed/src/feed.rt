@@ -1,25 +1,25 @@
 //! Squitters and their timestamps from a source's bytes, as they come.
-ghost use Rattle.std.specs.Prelude.{◌≡◌, ◌⊎◌, ◌*◌, ◌+◌, ◌≤◌, ◌<◌, ◌++◌, [], ◌∷◌, drop, false, length, take, true};
-ghost use Rattle.arrayvec.specs.ArrayVec.{array_vec_len};
-ghost use Rattle.sq_digits.specs.Buffer.{text_len};
-ghost use Rattle.sq_feed.specs.Ears.{ear_after, frames_of, moments_of, told_of};
-ghost use Rattle.sq_feed.specs.Feeds.{HasClosedFeed, HasEnded, HasGiven, HasLost, HasWritten, format_of_source, lines_of};
-ghost use Rattle.sq_feed.specs.Feeds.{nothing_fed, told_at_end};
-ghost use Rattle.sq_feed.specs.Readers.{calls_left, waiting};
-ghost use Rattle.sq_feed.specs.Steps.{HasHeardOne, HasTakenOne, arrays};
+ghost use Rattle.std.specs.Prelude.{◌≡◌, ◌⊎◌, ◌+◌, ◌≤◌, ◌<◌, false, length, take, true};
+ghost use Rattle.sq_feed.specs.Ears.{ear_after, told_of};
+ghost use Rattle.sq_feed.specs.Feeds.{HasClosedFeed, HasLost, HasTold, format_of_source, nothing_fed, stored};
+ghost use Rattle.sq_feed.specs.Readers.{HasEnded, IsEnding, calls_for, calls_left};
 
 use crate::counts::Counts;
 use crate::ear::{Ear, frame_in, whole_of};
-use crate::lines::{LINE_LIMIT, push_log_line};
 use crate::machine::Format;
 use crate::manner::Manner;
 use crate::message::{Found, Message, Stranger, Timed};
 use crate::reader::Reader;
-use arrayvec::ArrayVec;
-use sq_digits::TextBuffer;
 use std::marker::Model;
 
-/// Makes the log that `track` reads from a source's bytes, and counts what it leaves out. Allocates nothing.
+/// What a step did: how many bytes it took, and whether it stored a squitter in the slot.
+#[derive(Clone, Copy)]
+pub struct Step {
+    pub taken: usize,
+    pub is_filled: bool,
+}
+
+/// Gives the squitters in a source's bytes, one at a time, and counts what it leaves out. Allocates nothing.
 #[derive(Drop)]
 pub struct Feed {
     reader: Reader,
@@ -45,85 +45,47 @@ impl Feed {
         }
     }
 
-    /// Takes bytes of a piece that arrived at `arrival` (ms), while there is room for a line, and appends their
-    /// lines. Returns how many bytes it took. If there is still room for a line, these are all bytes. While the
-    /// format is unknown, bytes are taken without lines; the lines of the first items follow in a later call at the
-    /// latest.
-    pub fn take<const N: usize>(
+    /// Takes bytes of a piece that arrived at `arrival` (ms), up to the end of the first item, or all of them. Stores
+    /// the item's squitter in the slot, if it has one. While the format is unknown, bytes are taken without squitters.
+    /// Those of the first items follow in later steps, which may have no bytes.
+    ///
+    /// `COPY` changes nothing. LLVM inlines a step that has one caller, and each number is a copy of its own: two
+    /// loops of one program take two numbers.
+    #[inline(always)]
+    pub fn step_into<const COPY: usize>(
         &mut self,
         piece: &[u8],
         arrival: u64,
-        text: &mut TextBuffer<N>,
-    ) -> usize
-        ensures fits { result ≤ length piece.now }
-        ensures some { 0 < length piece.now → text_len text.old + 300 ≤ N → 0 < result }
-        ensures goes_on { (0 < length piece.now) ⊎ (0 < calls_left self.old.reader) → text_len text.old + 50 ≤ N
-            → calls_left self.new.reader < calls_left self.old.reader + 7 * result }
-        ensures all { text_len text.new + 50 ≤ N → (result ≡ length piece.now) × (calls_left self.new.reader ≡ 0) }
-        ensures written { HasWritten arrival self.old (take result piece.now) text.old.bytes text.new.bytes self.new }
+        into: &mut Timed,
+    ) -> Step
+        ensures fits { result.taken ≤ length piece.now }
+        ensures goes_on { (0 < length piece.now) ⊎ (0 < calls_left self.old.reader)
+            → calls_left self.new.reader < calls_left self.old.reader + calls_for result.taken }
+        ensures ended { IsEnding self.old.reader.stage → HasEnded self.new.reader }
+        ensures told { HasTold arrival self.old (take result.taken piece.now) (stored result.is_filled into.new)
+            self.new }
+        ensures kept { result.is_filled ≡ false → into.new ≡ into.old }
     {
-        // At most five lines come without a byte.
-        let _ = self.reader.waiting();
-        let mut at = 0;
-        while self.reader.goes_on(piece.len() - at) && text.len() + LINE_LIMIT <= N {
-            at += self.take_one(&piece[at..], arrival, text);
+        if let Some((message, taken)) = self.reader.whole_message(piece) {
+            let is_filled = self.store(&message, arrival, into);
+            return Step { taken, is_filled };
         }
-        at
-    }
-
-    /// Takes bytes of a piece that arrived at `arrival` (ms), while there is room for a squitter in both arrays.
-    /// Stores the timestamps and the frames of their squitters. Returns how many bytes it took, and how many
-    /// squitters it stored. Later elements are unchanged.
-    pub fn take_frames(
-        &mut self,
-        piece: &[u8],
-        arrival: u64,
-        moments: &mut [u64],
-        frames: &mut [[u8; 14]],
-    ) -> (usize, usize)
-        ensures fits { result.0 ≤ length piece.now }
-        ensures few { (result.1 ≤ length moments.old) × (result.1 ≤ length frames.old) }
-        ensures some { 0 < length piece.now → 0 < length moments.old → 0 < length frames.old
-            → (0 < result.0) ⊎ (0 < result.1) }
-        ensures goes_on { (0 < length piece.now) ⊎ (0 < calls_left self.old.reader) → 0 < length moments.old
-            → 0 < length frames.old → calls_left self.new.reader < calls_left self.old.reader + 7 * result.0 }
-        ensures all { result.1 < length moments.old → result.1 < length frames.old
-            → (result.0 ≡ length piece.now) × (calls_left self.new.reader ≡ 0) }
-        ensures given { HasGiven arrival self.old (take result.0 piece.now) [] [] (take result.1 moments.new)
-            (take result.1 frames.new) self.new }
-        ensures rest { (drop result.1 moments.new ≡ drop result.1 moments.old)
-            × (drop result.1 frames.new ≡ drop result.1 frames.old) }
-        ensures long { (length moments.new ≡ length moments.old) × (length frames.new ≡ length frames.old) }
-    {
-        let mut at = 0;
-        let mut given = 0;
-        let room = moments.len().min(frames.len());
-        while self.reader.goes_on(piece.len() - at) && given < room {
-            let (count, more) = self.give_one(&piece[at..], arrival, given, moments, frames);
-            at += count;
-            given = more;
+        if let Some((message, taken)) = self.reader.whole_row(piece) {
+            let is_filled = self.store(&message, arrival, into);
+            return Step { taken, is_filled };
         }
-        (at, given)
-    }
-
-    /// Ends the source at `arrival` (ms), and returns its last squitters. The next bytes belong to another source.
-    pub fn finish(&mut self, arrival: u64) -> ArrayVec<Timed, 5>
-        ensures ended { HasEnded arrival self.old self.new }
-        ensures squitters { result.items ≡ told_at_end arrival self.old }
-    {
-        let items = self.reader.finish();
-        self.reader.restart();
-        let mut last = ArrayVec::new();
-        for found in items.as_slice() {
-            self.keep_item(found, arrival, &mut last);
+        if let Some((message, taken)) = self.reader.whole_line(piece) {
+            let is_filled = self.store(&message, arrival, into);
+            return Step { taken, is_filled };
         }
-        last
+        self.step_other(piece, arrival, into)
     }
 
     /// Ends the source: its last squitters come with the next calls, which may have no bytes. Bytes after them belong
     /// to another source.
     pub fn close(&mut self)
-        ensures { HasClosedFeed self.old self.new }
+        ensures closed { HasClosedFeed self.old self.new }
+        ensures ended { HasEnded self.new.reader }
     {
         self.reader.close();
     }
@@ -171,198 +133,62 @@ impl Feed {
         self.reader.goes_on(bytes)
     }
 
-    // Takes bytes up to the end of the first item, or all of them, and stores its squitter, if it has one, at index
-    // `given`. Returns how many bytes it took, and the index after the last squitter.
+    // Hears a message, and stores its squitter, if it has one. Returns whether it has.
     #[inline(always)]
-    fn give_one(
-        &mut self,
-        piece: &[u8],
-        arrival: u64,
-        given: usize,
-        moments: &mut [u64],
-        frames: &mut [[u8; 14]],
-    ) -> (usize, usize)
-        requires some { (0 < length piece.now) ⊎ (0 < calls_left self.old.reader) }
-        requires room { (given < length moments.old) × (given < length frames.old) }
-        ensures { HasTakenOne arrival self.old self.new piece.now result.0 given result.1
-            (arrays moments.old frames.old) (arrays moments.new frames.new) }
-    {
-        if let Some((message, count)) = self.reader.whole_message(piece) {
-            let more = self.give(&message, arrival, given, moments, frames);
-            return (count, more);
-        }
-        if let Some((message, count)) = self.reader.whole_row(piece) {
-            let more = self.give(&message, arrival, given, moments, frames);
-            return (count, more);
-        }
-        if let Some((message, count)) = self.reader.whole_line(piece) {
-            let more = self.give_line(&message, arrival, given, moments, frames);
-            return (count, more);
-        }
-        self.give_other(piece, arrival, given, moments, frames)
-    }
-
-    // Hears a message, and stores its squitter, if it has one, at index `given`. Returns the index after the last
-    // squitter.
-    #[inline(always)]
-    fn give(
-        &mut self,
-        message: &Message,
-        arrival: u64,
-        given: usize,
-        moments: &mut [u64],
-        frames: &mut [[u8; 14]],
-    ) -> usize
-        requires room { (given < length moments.old) × (given < length frames.old) }
-        ensures { HasHeardOne arrival self.old self.new (Found.Whole message.now) given result
-            (arrays moments.old frames.old) (arrays moments.new frames.new) }
+    fn store(&mut self, message: &Message, arrival: u64, into: &mut Timed) -> bool
+        ensures reader { self.new.reader ≡ self.old.reader }
+        ensures heard { self.new.ear ≡ ear_after arrival self.old.ear (Found.Whole message.now) }
+        ensures told { stored result into.new ≡ told_of arrival self.old.ear (Found.Whole message.now) }
+        ensures kept { result ≡ false → into.new ≡ into.old }
     {
         match self.ear.hear_message(message, arrival) {
             Some(moment) => {
-                moments[given] = moment;
-                frames[given] = whole_of(&message.frame);
-                given + 1
+                into.moment = moment;
+                into.frame = whole_of(&message.frame);
+                true
             }
-            None => given,
+            None => false,
         }
     }
 
-    // Does what `give` does, in a copy of its own.
+    // Does what `step_into` does, for any piece.
     #[inline(never)]
-    fn give_line(
-        &mut self,
-        message: &Message,
-        arrival: u64,
-        given: usize,
-        moments: &mut [u64],
-        frames: &mut [[u8; 14]],
-    ) -> usize
-        requires room { (given < length moments.old) × (given < length frames.old) }
-        ensures { HasHeardOne arrival self.old self.new (Found.Whole message.now) given result
-            (arrays moments.old frames.old) (arrays moments.new frames.new) }
+    fn step_other(&mut self, piece: &[u8], arrival: u64, into: &mut Timed) -> Step
+        ensures fits { result.taken ≤ length piece.now }
+        ensures goes_on { (0 < length piece.now) ⊎ (0 < calls_left self.old.reader)
+            → calls_left self.new.reader < calls_left self.old.reader + calls_for result.taken }
+        ensures ended { IsEnding self.old.reader.stage → HasEnded self.new.reader }
+        ensures told { HasTold arrival self.old (take result.taken piece.now) (stored result.is_filled into.new)
+            self.new }
+        ensures kept { result.is_filled ≡ false → into.new ≡ into.old }
     {
-        self.give(message, arrival, given, moments, frames)
-    }
-
-    // Does what `give_one` does, for any piece.
-    #[inline(never)]
-    fn give_other(
-        &mut self,
-        piece: &[u8],
-        arrival: u64,
-        given: usize,
-        moments: &mut [u64],
-        frames: &mut [[u8; 14]],
-    ) -> (usize, usize)
-        requires some { (0 < length piece.now) ⊎ (0 < calls_left self.old.reader) }
-        requires room { (given < length moments.old) × (given < length frames.old) }
-        ensures { HasTakenOne arrival self.old self.new piece.now result.0 given result.1
-            (arrays moments.old frames.old) (arrays moments.new frames.new) }
-    {
-        let (count, found) = self.reader.take(piece);
-        if let Some(found) = found {
-            if let Some(moment) = self.ear.hear(&found, arrival) {
-                moments[given] = moment;
-                frames[given] = frame_in(&found);
-                return (count, given + 1);
+        let (taken, found) = self.reader.take(piece);
+        match found {
+            Some(found) => {
+                let is_filled = self.store_item(&found, arrival, into);
+                Step { taken, is_filled }
             }
-        }
-        (count, given)
-    }
-
-    // Takes bytes up to the end of the first item, or all of them, and appends its line, if it has one. Most messages
-    // are whole at the front of the piece, and take a short path.
-    #[inline(always)]
-    fn take_one<const N: usize>(
-        &mut self,
-        piece: &[u8],
-        arrival: u64,
-        text: &mut TextBuffer<N>,
-    ) -> usize
-        requires some { (0 < length piece.now) ⊎ (0 < calls_left self.old.reader) }
-        requires room { text_len text.old + 50 ≤ N }
-        ensures fits { result ≤ length piece.now }
-        ensures goes_on { calls_left self.new.reader < calls_left self.old.reader + 7 * result }
-        ensures first { 0 < length piece.now → result ≡ 0
-            → text_len text.new + 50 * waiting self.new.reader ≤ text_len text.old + 50 * waiting self.old.reader }
-        ensures written { HasWritten arrival self.old (take result piece.now) text.old.bytes text.new.bytes self.new }
-    {
-        if let Some((message, count)) = self.reader.whole_message(piece) {
-            self.tell(&message, arrival, text);
-            return count;
-        }
-        if let Some((message, count)) = self.reader.whole_row(piece) {
-            self.tell(&message, arrival, text);
-            return count;
-        }
-        if let Some((message, count)) = self.reader.whole_line(piece) {
-            self.tell(&message, arrival, text);
-            return count;
-        }
-        self.take_other(piece, arrival, text)
-    }
-
-    // Hears a message, and appends its line, if it has one.
-    #[inline(always)]
-    fn tell<const N: usize>(&mut self, message: &Message, arrival: u64, text: &mut TextBuffer<N>)
-        requires { text_len text.old + 50 ≤ N }
-        ensures reader { self.new.reader ≡ self.old.reader }
-        ensures heard { self.new.ear ≡ ear_after arrival self.old.ear (Found.Whole message.now) }
-        ensures text { text.new.bytes ≡ text.old.bytes
-            ++ lines_of (told_of arrival self.old.ear (Found.Whole message.now)) }
-    {
-        if let Some(moment) = self.ear.hear_message(message, arrival) {
-            push_log_line(text, moment, &whole_of(&message.frame));
+            None => Step {
+                taken,
+                is_filled: false,
+            },
         }
     }
 
-    // Hears an item, and appends its line, if it has one.
-    fn tell_item<const N: usize>(&mut self, found: &Found, arrival: u64, text: &mut TextBuffer<N>)
-        requires { text_len text.old + 50 ≤ N }
+    // Does what `store` does, for any item.
+    fn store_item(&mut self, found: &Found, arrival: u64, into: &mut Timed) -> bool
         ensures reader { self.new.reader ≡ self.old.reader }
         ensures heard { self.new.ear ≡ ear_after arrival self.old.ear found.now }
-        ensures text { text.new.bytes ≡ text.old.bytes ++ lines_of (told_of arrival self.old.ear found.now) }
-        ensures len { text_len text.new ≤ text_len text.old + 50 }
+        ensures told { stored result into.new ≡ told_of arrival self.old.ear found.now }
+        ensures kept { result ≡ false → into.new ≡ into.old }
     {
-        if let Some(moment) = self.ear.hear(found, arrival) {
-            push_log_line(text, moment, &frame_in(found));
+        match self.ear.hear(found, arrival) {
+            Some(moment) => {
+                into.moment = moment;
+                into.frame = frame_in(found);
+                true
+            }
+            None => false,
         }
-    }
-
-    // Hears an item, and appends its squitter, if it has one.
-    fn keep_item(&mut self, found: &Found, arrival: u64, kept: &mut ArrayVec<Timed, 5>)
-        requires { array_vec_len kept.old < 5 }
-        ensures reader { self.new.reader ≡ self.old.reader }
-        ensures heard { self.new.ear ≡ ear_after arrival self.old.ear found.now }
-        ensures kept { kept.new.items ≡ kept.old.items ++ told_of arrival self.old.ear found.now }
-        ensures len { array_vec_len kept.new ≤ array_vec_len kept.old + 1 }
-    {
-        if let Some(moment) = self.ear.hear(found, arrival) {
-            let frame = frame_in(found);
-            kept.push(Timed { moment, frame });
-        }
-    }
-
-    // Does what `take_one` does, for any piece.
-    #[inline(never)]
-    fn take_other<const N: usize>(
-        &mut self,
-        piece: &[u8],
-        arrival: u64,
-        text: &mut TextBuffer<N>,
-    ) -> usize
-        requires some { (0 < length piece.now) ⊎ (0 < calls_left self.old.reader) }
-        requires room { text_len text.old + 50 ≤ N }
-        ensures fits { result ≤ length piece.now }
-        ensures goes_on { calls_left self.new.reader < calls_left self.old.reader + 7 * result }
-        ensures first { 0 < length piece.now → result ≡ 0
-            → text_len text.new + 50 * waiting self.new.reader ≤ text_len text.old + 50 * waiting self.old.reader }
-        ensures written { HasWritten arrival self.old (take result piece.now) text.old.bytes text.new.bytes self.new }
-    {
-        let (count, found) = self.reader.take(piece);
-        if let Some(found) = found {
-            self.tell_item(&found, arrival, text);
-        }
-        count
     }
 }

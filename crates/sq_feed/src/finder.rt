@@ -1,68 +1,50 @@
-//! Finds the format of a source by its first bytes.
-ghost use Rattle.std.specs.Prelude.{◌≡◌, ◌==◌, ◌++◌, ◌<◌, ◌≤◌, ℕ, List, [], ◌∷◌, IfNone, IfSome, bytes_eq, if◌then◌else◌, length, take};
-ghost use Rattle.sq_feed.specs.declared.message.Found.{Found as Item};
-ghost use Rattle.sq_feed.specs.Finding.{after_sign, beast_of, finds_to_come, first_items, fresh, lines_after, messages_in, nothing_seen};
-ghost use Rattle.sq_feed.specs.Finding.{limit, recent_after, text_sign, unclear_items};
-ghost use Rattle.sq_feed.specs.Follows.{Follows};
+//! Finds the format of a source by its first bytes, and keeps them.
+ghost use Rattle.std.specs.Prelude.{◌≡◌, ◌==◌, ◌++◌, ◌+◌, ◌<◌, ◌≤◌, ℕ, List, [], ◌∷◌, if◌then◌else◌, length, nat_lt, option_to_list, take};
+ghost use Rattle.sq_feed.specs.Finding.{HasShown, beast_of, byte_sign, in_turn, in_turn_after, limit, named, nothing_seen};
+ghost use Rattle.sq_feed.specs.Finding.{remembered, shown_after};
 
 use crate::beast::Beast;
 use crate::machine::Format;
-use crate::message::{Found, Message, Stranger};
-use crate::rows::{Layout, without_last};
-use crate::signs::{Sign, edge_sign, first_sign, line_sign, start_sign};
+use crate::message::{Found, Stranger};
+use crate::signs::{Sign, first_shown, last_byte_sign, line_sign};
 use arrayvec::ArrayVec;
 use std::marker::Model;
 
-/// What comes after the first items of a source.
-#[derive(Clone, Copy)]
-pub(crate) enum Next {
-    /// The start of a source of unknown format.
-    Find,
-    /// The start of a source of this format. Its rows have this layout.
-    Read(Format, Layout),
-    /// Nothing: the source is of no known format.
-    Nothing,
-}
-
-/// The first items of a source, and what comes after them.
-#[derive(Drop)]
-pub(crate) struct Start {
-    pub(crate) items: ArrayVec<Found, 5>,
-    pub(crate) next: Next,
-}
-
-// Three messages in a row show Beast.
-const IN_TURN: usize = 3;
-
-// The most items that are kept.
-const KEPT: usize = 4;
-
-// The bytes of a line that are kept: one more than a line may have.
-const LINE: usize = 513;
+// Two messages in a row show Beast.
+const IN_TURN: u8 = 2;
 
 // The number of bytes within which a source has to show its format.
-const LIMIT: u64 = 16_384;
+const LIMIT: usize = 16_384;
 
-/// Reads a source as Beast and as text until one of them is shown. Allocates nothing.
+/// Reads a source as Beast and as text until one of them is shown, and keeps all bytes. Allocates nothing.
 #[derive(Drop)]
 pub(crate) struct Finder {
     beast: Beast,
-    kept: ArrayVec<Found, 5>,
-    line: ArrayVec<u8, 513>,
-    is_dirty: bool,
-    count: u64,
+    count: u8,
+    held: ArrayVec<u8, LIMIT>,
+    // Where the unfinished line begins.
+    line: usize,
+    stranger: Option<Stranger>,
 }
 
 impl Model for Finder {
+    ghost use Rattle.std.specs.Prelude.{◌≤◌, drop, length};
     ghost use Rattle.sq_feed.specs.Finding.{Finds};
 
     ghost Value = { Finds };
 
     ghost view = { λ s. record {
       beast = s.beast;
-      kept = s.kept.items;
-      text = record { line = s.line.items; is_dirty = s.is_dirty; count = s.count };
+      count = s.count;
+      text = record {
+        line = drop s.line s.held.items;
+        count = length s.held.items;
+        stranger = s.stranger;
+      };
+      held = s.held.items;
     } };
+
+    ghost invariant = { λ s. s.line ≤ length s.held.items };
 }
 
 impl Finder {
@@ -72,234 +54,177 @@ impl Finder {
     {
         Finder {
             beast: Beast::new(),
-            kept: ArrayVec::new(),
-            line: ArrayVec::new(),
-            is_dirty: false,
             count: 0,
+            held: ArrayVec::new(),
+            line: 0,
+            stranger: None,
         }
     }
 
-    // Takes bytes of a piece up to the first that shows the format, or all of them. Returns how many it took, and how
-    // the source starts.
-    pub(crate) fn take(&mut self, piece: &[u8]) -> (usize, Option<Start>)
+    // Takes bytes of a piece up to the first that shows what the source is, or all of them. Returns how many it took,
+    // and what they show.
+    pub(crate) fn take(&mut self, piece: &[u8]) -> (usize, Sign)
+        requires { length self.old.held < limit }
         ensures fits { result.0 ≤ length piece.now }
         ensures some { 0 < length piece.now → 0 < result.0 }
-        ensures none { IfNone result.1
-            (Follows (finds_to_come self.old) (take result.0 piece.now) [] (finds_to_come self.new)) }
-        ensures start { IfSome result.1 (λ start. Follows (finds_to_come self.old) (take result.0 piece.now)
-            start.items.items (fresh start.next)) }
+        ensures held { self.new.held ≡ self.old.held ++ take result.0 piece.now }
+        ensures room { result.1 ≡ Sign.Unclear → length self.new.held < limit }
+        ensures most { length self.new.held ≤ limit }
+        ensures shows { HasShown result.1 self.old (take result.0 piece.now) self.new }
     {
         let _ = &self.count;
         for (at, byte) in piece.iter().enumerate() {
-            if let Some(start) = self.take_byte(*byte) {
-                return (at + 1, Some(start));
+            match self.take_byte(*byte) {
+                Sign::Unclear => {}
+                Sign::Shows(format) => return (at + 1, Sign::Shows(format)),
+                Sign::Other(stranger) => return (at + 1, Sign::Other(stranger)),
             }
         }
-        (piece.len(), None)
+        (piece.len(), Sign::Unclear)
     }
 
-    // Returns the items of a source that ends here.
-    pub(crate) fn finish(&self) -> ArrayVec<Found, 5>
-        ensures { result.items ≡ finds_to_come self.now [] }
+    // Returns what a source shows that ends here.
+    pub(crate) fn finish(&self) -> Sign
+        ensures { result ≡ shown_after self.now [] }
     {
-        match line_sign(self.line.as_slice()) {
-            Sign::Shows(_, _, message) => first_items(self.is_dirty, &message),
-            Sign::Other(stranger) => one_item(Found::Foreign(stranger)),
-            Sign::Unclear => self.unclear_items(),
-        }
-    }
-
-    // Returns whether no byte came.
-    pub(crate) fn is_new(&self) -> bool
-        ensures { result ≡ (self.now.text.count == 0) }
-    {
-        self.count == 0
-    }
-
-    // Returns the items of a source that ends here without a sign.
-    fn unclear_items(&self) -> ArrayVec<Found, 5>
-        ensures { result.items ≡ unclear_items (beast_of self.now []) self.now.text.count }
-    {
-        let items = self.beast_items();
-        if messages_in(items.as_slice()) >= 1 {
-            items
-        } else if self.count == 0 {
-            ArrayVec::new()
+        let last = line_sign(&self.held.as_slice()[self.line..]);
+        let otherwise = if self.messages() >= 1 {
+            Sign::Shows(Format::Beast)
+        } else if self.held.is_empty() {
+            Sign::Unclear
         } else {
-            one_item(Found::Foreign(Stranger::NoFrame))
-        }
+            Sign::Other(named(remembered(self.stranger, last)))
+        };
+        first_shown(last, otherwise)
     }
 
-    // Takes a byte. Returns how the source starts, if the byte shows it.
-    fn take_byte(&mut self, byte: u8) -> Option<Start>
-        ensures none { IfNone result (Follows (finds_to_come self.old) (byte ∷ []) [] (finds_to_come self.new)) }
-        ensures start { IfSome result (λ start. Follows (finds_to_come self.old) (byte ∷ []) start.items.items
-            (fresh start.next)) }
+    // Returns all bytes that it has taken.
+    pub(crate) fn held(&self) -> &[u8]
+        ensures { result.now ≡ self.now.held }
+    {
+        self.held.as_slice()
+    }
+
+    // Takes a byte. Returns what it shows.
+    fn take_byte(&mut self, byte: u8) -> Sign
+        requires { length self.old.held < limit }
+        ensures held { self.new.held ≡ self.old.held ++ byte ∷ [] }
+        ensures room { result ≡ Sign.Unclear → length self.new.held < limit }
+        ensures shows { HasShown result self.old (byte ∷ []) self.new }
     {
         self.take_as_beast(byte);
-        let items = self.beast_items();
-        if messages_in(items.as_slice()) >= IN_TURN {
-            return Some(Start {
-                items,
-                next: Next::Read(Format::Beast, Layout::Log),
-            });
+        let messages = self.messages();
+        let sign = self.push(byte);
+        if messages >= IN_TURN {
+            return Sign::Shows(Format::Beast);
         }
-        let is_dirty = self.is_dirty;
-        let sign = self.take_as_text(byte);
-        start_of(is_dirty, &sign)
+        self.end_byte(byte, sign);
+        first_shown(sign, self.limit_sign())
     }
 
     // Takes a byte of a Beast stream.
     fn take_as_beast(&mut self, byte: u8)
         ensures beast { (bytes : List ℕ) → beast_of self.new bytes ≡ beast_of self.old (byte ∷ bytes) }
-        ensures text { self.new.text ≡ self.old.text }
+        ensures text { (self.new.text ≡ self.old.text) × (self.new.held ≡ self.old.held) }
     {
         let (_count, found) = self.beast.take(&[byte]);
+        self.hear(found);
+    }
+
+    // Counts an item of Beast, if there is one.
+    fn hear(&mut self, found: Option<Found>)
+        ensures { self.new ≡ record self.old { count = in_turn self.old.count (option_to_list found) } }
+    {
         if let Some(found) = found {
-            keep(&mut self.kept, found);
+            self.count = in_turn_after(self.count, &found);
         }
     }
 
-    // Returns the recent items of Beast, of a source that ends here.
-    fn beast_items(&self) -> ArrayVec<Found, 5>
-        ensures { result.items ≡ beast_of self.now [] }
+    // Returns how many messages are in a row at the end of a Beast stream that ends here.
+    fn messages(&self) -> u8
+        ensures { result ≡ beast_of self.now [] }
     {
-        let mut items = ArrayVec::new();
-        let _ = items.try_extend_from_slice(self.kept.as_slice());
-        if let Some(found) = self.beast.finish() {
-            keep(&mut items, found);
+        match self.beast.finish() {
+            Some(found) => in_turn_after(self.count, &found),
+            None => self.count,
         }
-        items
     }
 
-    // Takes a byte of a text. Returns its sign.
-    fn take_as_text(&mut self, byte: u8) -> Sign
-        ensures sign { result ≡ text_sign self.old.text byte }
-        ensures text { self.new.text ≡ lines_after self.old.text byte }
-        ensures beast { (self.new.beast ≡ self.old.beast) × (self.new.kept ≡ self.old.kept) }
+    // Adds a byte to the line. Returns its sign.
+    fn push(&mut self, byte: u8) -> Sign
+        requires { length self.old.held < limit }
+        ensures sign { result ≡ byte_sign self.old.text byte }
+        ensures beast { (self.new.beast ≡ self.old.beast) × (self.new.count ≡ self.old.count) }
+        ensures held { self.new.held ≡ self.old.held ++ byte ∷ [] }
+        ensures text { self.new.text ≡ record self.old.text {
+          line = self.old.text.line ++ byte ∷ [];
+          count = self.old.text.count + 1;
+        } }
     {
-        let is_start = self.line.len() as u64 == self.count;
-        let by_edge = edge_sign(self.line.as_slice(), byte);
-        self.add(byte);
-        let sign = if byte == b'\n' || byte == b';' {
-            by_edge
-        } else if is_start {
-            start_sign(self.line.as_slice())
+        self.held.push(byte);
+        let line = &self.held.as_slice()[self.line..];
+        last_byte_sign(line, byte, self.line == 0)
+    }
+
+    // Ends the line at a line feed, and remembers what the sign of the byte names.
+    fn end_byte(&mut self, byte: u8, sign: Sign)
+        ensures beast { (self.new.beast ≡ self.old.beast) × (self.new.count ≡ self.old.count) }
+        ensures held { self.new.held ≡ self.old.held }
+        ensures text { self.new.text ≡ record self.old.text {
+          line = if byte == 10 then [] else self.old.text.line;
+          stranger = remembered self.old.text.stranger sign;
+        } }
+        ensures count { self.new.text.count ≡ length self.new.held }
+    {
+        if byte == b'\n' {
+            self.line = self.held.len();
+        }
+        self.stranger = remembered(self.stranger, sign);
+    }
+
+    // Returns the sign of this many bytes: at the limit, that there are no frames.
+    fn limit_sign(&self) -> Sign
+        ensures { result ≡ (if length self.now.held == limit then Sign.Other (named self.now.text.stranger)
+            else Sign.Unclear) }
+    {
+        if self.held.len() == LIMIT {
+            Sign::Other(named(self.stranger))
         } else {
             Sign::Unclear
-        };
-        first_sign(sign, limit_sign(self.count))
-    }
-
-    // Adds a byte to the line, and counts it.
-    fn add(&mut self, byte: u8)
-        ensures text { self.new.text ≡ lines_after self.old.text byte }
-        ensures beast { (self.new.beast ≡ self.old.beast) × (self.new.kept ≡ self.old.kept) }
-    {
-        if self.count < LIMIT {
-            self.count += 1;
         }
-        if byte == b'\n' {
-            self.is_dirty = self.is_dirty || !without_last(b'\r', self.line.as_slice()).is_empty();
-            self.line = ArrayVec::new();
-            return;
-        }
-        if self.ends_mark(byte) {
-            self.line = ArrayVec::new();
-            return;
-        }
-        if self.line.len() < LINE {
-            self.line.push(byte);
-        }
-    }
-
-    // Returns whether the line and this byte are a byte order mark.
-    fn ends_mark(&self, byte: u8) -> bool
-        ensures { result ≡ bytes_eq (self.now.text.line ++ byte ∷ []) (0xEF ∷ 0xBB ∷ 0xBF ∷ []) }
-    {
-        self.line.len() == 2 && self.line[0] == 0xEF && self.line[1] == 0xBB && byte == 0xBF
     }
 }
 
-// Returns the sign after this many bytes: at the limit, that there are no frames.
-fn limit_sign(count: u64) -> Sign
-    ensures { result ≡ (if count == limit then Sign.Other Stranger.NoFrame else Sign.Unclear) }
-{
-    if count == LIMIT {
-        Sign::Other(Stranger::NoFrame)
-    } else {
-        Sign::Unclear
-    }
-}
-
-// Stores an item. A message is appended if fewer than four items are stored; anything else leaves only damage.
-fn keep(kept: &mut ArrayVec<Found, 5>, found: Found)
-    ensures { kept.new.items ≡ recent_after kept.old.items found }
+// Returns the number of messages since the last damage after an item, up to two.
+fn in_turn_after(count: u8, found: &Found) -> u8
+    ensures { result ≡ in_turn_after count found.now }
 {
     match found {
-        Found::Whole(_) => {
-            if kept.len() < KEPT {
-                kept.push(found);
-            }
-        }
-        Found::Damage => *kept = one_item(Found::Damage),
-        Found::Foreign(_) => *kept = one_item(Found::Damage),
+        Found::Whole(_) => { if count < IN_TURN { count + 1 } else { count } }
+        Found::ReceiverId => count,
+        Found::Damage => 0,
+        Found::Foreign(_) => 0,
     }
 }
 
-// Returns one item.
-fn one_item(item: Found) -> ArrayVec<Found, 5>
-    ensures { result.items ≡ item ∷ [] }
+// Returns the first kind of source without frames that was seen.
+fn remembered(stranger: Option<Stranger>, sign: Sign) -> Option<Stranger>
+    ensures { result ≡ remembered stranger sign }
 {
-    let mut items = ArrayVec::new();
-    items.push(item);
-    items
+    match (stranger, sign) {
+        (Some(stranger), _) => Some(stranger),
+        (None, Sign::Other(stranger)) => Some(stranger),
+        (None, Sign::Unclear) => None,
+        (None, Sign::Shows(_)) => None,
+    }
 }
 
-// Returns how many items are messages.
-fn messages_in(items: &[Found]) -> usize
-    ensures { result ≡ messages_in items.now }
+// Returns what a source without a format is.
+fn named(stranger: Option<Stranger>) -> Stranger
+    ensures { result ≡ named stranger }
 {
-    let mut count = 0;
-    for item in items {
-        match item {
-            Found::Whole(_) => count += 1,
-            Found::Damage => {}
-            Found::Foreign(_) => {}
-        }
-    }
-    count
-}
-
-// Returns the first items of a text.
-fn first_items(is_dirty: bool, message: &Option<Message>) -> ArrayVec<Found, 5>
-    ensures { result.items ≡ first_items is_dirty message.now }
-{
-    let mut items = ArrayVec::new();
-    if is_dirty {
-        items.push(Found::Damage);
-    }
-    if let Some(message) = message {
-        items.push(Found::Whole(*message));
-    }
-    items
-}
-
-// Returns how a source starts after a sign.
-fn start_of(is_dirty: bool, sign: &Sign) -> Option<Start>
-    ensures none { IfNone result (sign.now ≡ Sign.Unclear) }
-    ensures start { IfSome result (λ start. (rest : List Item) (more : List ℕ)
-        → after_sign is_dirty sign.now rest more ≡ start.items.items ++ fresh start.next more) }
-{
-    match sign {
-        Sign::Unclear => None,
-        Sign::Shows(format, layout, message) => Some(Start {
-            items: first_items(is_dirty, message),
-            next: Next::Read(*format, *layout),
-        }),
-        Sign::Other(stranger) => Some(Start {
-            items: one_item(Found::Foreign(*stranger)),
-            next: Next::Nothing,
-        }),
+    match stranger {
+        Some(stranger) => stranger,
+        None => Stranger::NoFrame,
     }
 }

@@ -2,6 +2,7 @@
 ghost use Rattle.std.specs.Prelude.{true};
 ghost use Rattle.sq_feed.specs.Laws.{GivesTheStream, Sent, SentIsFound};
 ghost use Rattle.sq_feed.specs.Laws.{SentIsFoundAnywhere, StartSplits};
+ghost use Rattle.sq_feed.specs.Shown.{BeastIsShown, LineIsShown, SentBeastIsShown, SentTextIsShown};
 ghost use Rattle.sq_feed.specs.Avr.{BareFrameIsFound, SentFrameIsFound};
 ghost use Rattle.sq_feed.specs.Ears.{CountsEach, StaysNear};
 ghost use Rattle.sq_feed.specs.Feeds.{FeedsBoth, FeedsGoOn, FeedsTheWhole};
@@ -16,6 +17,15 @@ ghost use Rattle.sq_feed.specs.Orders.{SortsTheWhole};
 pub fn sent_is_found()
     ensures alone { SentIsFound }
     ensures anywhere { SentIsFoundAnywhere }
+{}
+
+/// A source in a known format is found without `--format`: Beast with any clocks and frames, AVR text, and a log, a
+/// table or bare frames by the first line. The whole source is then read in that format.
+pub fn sent_is_shown()
+    ensures start { BeastIsShown }
+    ensures beast { SentBeastIsShown }
+    ensures text { SentTextIsShown }
+    ensures line { LineIsShown }
 {}
 
 /// The items before a start and those from it on do not depend on each other.
@@ -50,7 +60,7 @@ pub fn takes_go_on()
     ensures { FollowsMore }
 {}
 
-/// The lines of a feed, and the items in them, do not depend on how its source is cut into pieces.
+/// The squitters of a feed, and the items in its source, do not depend on how the source is cut into pieces.
 pub fn feed_gives_the_whole()
     ensures on { FeedsGoOn }
     ensures whole { FeedsTheWhole }

@@ -1,11 +1,11 @@
 //! Squitters and their timestamps from the bytes of a receiver.
 //!
-//! A [`Feed`] takes a source's bytes in pieces of any length, each with its arrival. It makes the log that `track`
-//! reads, or fills arrays for a tracker, and counts what becomes of every item ([`Counts`]). [`Beast`], [`Avr`] and
-//! [`Rows`] split bytes into items: messages, and damage between them. How the bytes are cut into pieces never
-//! matters. [`Times`] gives each squitter its timestamp: by its receiver's [`Clock`], by its arrival, or its own. A
-//! feed without a format finds it by the first bytes, and names a source without frames ([`Stranger`]). An [`Order`]
-//! sorts squitters by their timestamps. No call allocates memory.
+//! A [`Feed`] takes a source's bytes in pieces of any length, each with its arrival. It gives the squitters in them,
+//! one at a time ([`Timed`]), and counts what becomes of every item ([`Counts`]). [`push_log_line`] makes the line of a
+//! squitter that `track` reads. [`Beast`], [`Avr`] and [`Rows`] split bytes into items: messages, and damage between
+//! them. How the bytes are cut into pieces never matters. [`Times`] gives each squitter its timestamp: by its
+//! receiver's [`Clock`], by its arrival, or its own. A feed without a format finds it by the first bytes, and names a
+//! source without frames ([`Stranger`]). An [`Order`] sorts squitters by their timestamps. No call allocates memory.
 #![tactic(auto)]
 
 mod avr;
@@ -33,7 +33,7 @@ pub use avr::Avr;
 pub use beast::Beast;
 pub use clock::Clock;
 pub use counts::{Counts, Fate};
-pub use feed::Feed;
+pub use feed::{Feed, Step};
 pub use lines::{LINE_LIMIT, push_log_line};
 pub use machine::Format;
 pub use manner::Manner;

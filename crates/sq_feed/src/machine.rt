@@ -1,7 +1,7 @@
 //! The machine of each format.
 ghost use Rattle.std.specs.Prelude.{◌≡◌, ◌<◌, ◌≤◌, [], ◌∷◌, IfSome, length, take, option_to_list};
 ghost use Rattle.sq_feed.specs.Follows.{Follows};
-ghost use Rattle.sq_feed.specs.Machines.{dropped, layout_of, machine_with, to_come};
+ghost use Rattle.sq_feed.specs.Machines.{dropped, layout_of, new_machine, to_come};
 
 use crate::avr::Avr;
 use crate::beast::Beast;
@@ -41,15 +41,15 @@ impl Model for Machine {
 }
 
 impl Machine {
-    // Returns the machine of a format, at the start of a source. Its rows have this layout.
-    pub(crate) fn starting(format: Format, layout: Layout) -> Machine
-        ensures { result ≡ machine_with format layout }
+    // Returns the machine of a format, at the start of a source.
+    pub(crate) fn new(format: Format) -> Machine
+        ensures { result ≡ new_machine format }
     {
         Machine {
             format,
             beast: Beast::new(),
             avr: Avr::new(),
-            rows: Rows::new(layout),
+            rows: Rows::new(layout_of(format)),
         }
     }
 
@@ -148,7 +148,7 @@ impl Machine {
 }
 
 // Returns the layout of lines in a format.
-pub(crate) fn layout_of(format: Format) -> Layout
+fn layout_of(format: Format) -> Layout
     ensures { result ≡ layout_of format }
 {
     match format {

@@ -16,6 +16,7 @@ pub enum Size {
 pub enum Kind {
     Message(Size),
     Status,
+    ReceiverId,
     Unknown,
 }
 
@@ -69,12 +70,14 @@ pub enum Stranger {
     NoFrame,
 }
 
-/// An item of a source: a message, bytes that belong to no message, or a whole source that holds no frames.
+/// An item of a source: a message, bytes that belong to no message, the id of a receiver (readsb sends one before each
+/// message), or a whole source that holds no frames.
 #[derive(Clone, Copy, Default)]
 pub enum Found {
     Whole(Message),
     #[default]
     Damage,
+    ReceiverId,
     Foreign(Stranger),
 }
 
@@ -88,6 +91,7 @@ pub(crate) fn kind_of(byte: u8) -> Kind
         b'2' => Kind::Message(Size::SevenBytes),
         b'3' => Kind::Message(Size::FourteenBytes),
         b'4' => Kind::Status,
+        0xE3 => Kind::ReceiverId,
         _ => Kind::Unknown,
     }
 }

@@ -1,8 +1,8 @@
 //! An order of fixed size: squitters by their timestamps.
-ghost use Rattle.std.specs.Prelude.{◌≡◌, ◌⊎◌, ◌+◌, ◌<◌, ◌≤◌, [], ◌∷◌, List, drop, false, length, take};
+ghost use Rattle.std.specs.Prelude.{◌≡◌, ◌+◌, ◌<◌, ◌≤◌, [], ◌∷◌, drop, false, length};
 ghost use Rattle.arrayvec.specs.ArrayVec.{array_vec_len};
-ghost use Rattle.sq_feed.specs.Orders.{HasFlushed, HasSorted, Sorting, is_due, nothing_sorted, place_of, squitters_of};
-ghost use Rattle.sq_feed.specs.Orders.{with_one};
+ghost use Rattle.sq_feed.specs.Feeds.{stored};
+ghost use Rattle.sq_feed.specs.Orders.{HasFlushed, is_due, nothing_sorted, place_of, with_one};
 
 use crate::message::Timed;
 use arrayvec::ArrayVec;
@@ -49,64 +49,46 @@ impl Order {
         }
     }
 
-    /// Takes squitters, by their timestamps (ms) and frames. Stores those that are due, in the order of their
-    /// timestamps, while there is room for one more. Returns how many it took, and how many it stored. If there is
-    /// still room for one more, it took all, and none is due. Later elements are unchanged.
-    pub fn take(
-        &mut self,
-        moments: &[u64],
-        frames: &[[u8; 14]],
-        out_moments: &mut [u64],
-        out_frames: &mut [[u8; 14]],
-    ) -> (usize, usize)
-        ensures fits { (result.0 ≤ length moments.now) × (result.0 ≤ length frames.now) }
-        ensures few { (result.1 ≤ length out_moments.old) × (result.1 ≤ length out_frames.old) }
-        ensures some { 0 < length moments.now → 0 < length frames.now → 0 < length out_moments.old
-            → 0 < length out_frames.old → (0 < result.0) ⊎ (0 < result.1) }
-        ensures all { result.1 < length out_moments.old → result.1 < length out_frames.old
-            → ((result.0 ≡ length moments.now) ⊎ (result.0 ≡ length frames.now))
-            × (is_due 4096 self.new.reorder self.new.latest self.new.held ≡ false) }
-        ensures given { HasSorted 4096 self.old (squitters_of (take result.0 moments.now) (take result.0 frames.now))
-            (squitters_of (take result.1 out_moments.new) (take result.1 out_frames.new)) self.new }
-        ensures rest { (drop result.1 out_moments.new ≡ drop result.1 out_moments.old)
-            × (drop result.1 out_frames.new ≡ drop result.1 out_frames.old) }
-        ensures long { (length out_moments.new ≡ length out_moments.old)
-            × (length out_frames.new ≡ length out_frames.old) }
+    /// Inserts a squitter at its place. None may be due: those that are have to be given first.
+    #[inline(always)]
+    pub fn put(&mut self, one: &Timed)
+        requires { is_due 4096 self.old.reorder self.old.latest self.old.held ≡ false }
+        ensures { self.new ≡ with_one one.now self.old }
     {
-        let count = moments.len().min(frames.len());
-        let room = out_moments.len().min(out_frames.len());
-        let mut taken = 0;
-        let mut given = self.give_due(0, out_moments, out_frames);
-        while given < room && taken < count {
-            self.put(moments[taken], &frames[taken]);
-            taken += 1;
-            given = self.give_due(given, out_moments, out_frames);
-        }
-        (taken, given)
+        self.first = make_room(&mut self.line, self.first);
+        let at = self.first + place_of(&self.line[self.first..], one.moment);
+        self.line.insert(at, *one);
+        self.latest = self.latest.max(one.moment);
     }
 
-    /// Stores the squitters that are held, in the order of their timestamps, as many as there is room for. Returns
-    /// how many. If there is still room for one more, none is held any more. Later elements are unchanged.
-    pub fn flush(&mut self, out_moments: &mut [u64], out_frames: &mut [[u8; 14]]) -> usize
-        ensures few { (result ≤ length out_moments.old) × (result ≤ length out_frames.old) }
-        ensures all { result < length out_moments.old → result < length out_frames.old → self.new.held ≡ [] }
-        ensures given { HasFlushed self.old (squitters_of (take result out_moments.new) (take result out_frames.new))
-            self.new }
-        ensures rest { (drop result out_moments.new ≡ drop result out_moments.old)
-            × (drop result out_frames.new ≡ drop result out_frames.old) }
-        ensures long { (length out_moments.new ≡ length out_moments.old)
-            × (length out_frames.new ≡ length out_frames.old) }
+    /// Stores the first squitter in the slot, if it is due, and holds it no longer. Returns whether it was due.
+    #[inline(always)]
+    pub fn give_into(&mut self, into: &mut Timed) -> bool
+        ensures due { result ≡ is_due 4096 self.old.reorder self.old.latest self.old.held }
+        ensures given { HasFlushed self.old (stored result into.new) self.new }
+        ensures kept { result ≡ false → into.new ≡ into.old }
     {
-        let room = out_moments.len().min(out_frames.len());
-        let mut given = 0;
-        while given < room && self.held() > 0 {
-            let one = self.pop();
-            let frame = one.frame;
-            out_moments[given] = one.moment;
-            out_frames[given] = frame;
-            given += 1;
+        if self.is_due() {
+            *into = self.pop();
+            true
+        } else {
+            false
         }
-        given
+    }
+
+    /// Stores the first squitter in the slot, due or not, and holds it no longer. Returns whether one was held.
+    #[inline(always)]
+    pub fn flush_into(&mut self, into: &mut Timed) -> bool
+        ensures none { result ≡ false → self.old.held ≡ [] }
+        ensures given { HasFlushed self.old (stored result into.new) self.new }
+        ensures kept { result ≡ false → into.new ≡ into.old }
+    {
+        if self.held() > 0 {
+            *into = self.pop();
+            true
+        } else {
+            false
+        }
     }
 
     /// Returns how many squitters are held: at most 4096.
@@ -117,9 +99,9 @@ impl Order {
         self.line.len() - self.first
     }
 
-    // Returns whether the first squitter is due.
+    /// Returns whether the first squitter is due.
     #[inline(always)]
-    fn is_due(&self) -> bool
+    pub fn is_due(&self) -> bool
         ensures { result ≡ is_due 4096 self.now.reorder self.now.latest self.now.held }
     {
         if self.first == self.line.len() {
@@ -127,34 +109,6 @@ impl Order {
         }
         let moment = self.line[self.first].moment;
         moment <= self.latest && self.reorder <= self.latest - moment || self.held() >= LIMIT
-    }
-
-    // Stores the squitters that are due, from index `from` on, while there is room for one more. Returns the index
-    // after them.
-    #[inline(always)]
-    fn give_due(&mut self, from: usize, moments: &mut [u64], frames: &mut [[u8; 14]]) -> usize
-        requires { (from ≤ length moments.old) × (from ≤ length frames.old) }
-        ensures few { (result ≤ length moments.old) × (result ≤ length frames.old) }
-        ensures all { result < length moments.old → result < length frames.old
-            → is_due 4096 self.new.reorder self.new.latest self.new.held ≡ false }
-        ensures given { (before : Sorting) (came : List Timed) → HasSorted 4096 before came
-            (squitters_of (take from moments.old) (take from frames.old)) self.old
-            → HasSorted 4096 before came (squitters_of (take result moments.new) (take result frames.new)) self.new }
-        ensures more { from ≤ result }
-        ensures rest { (drop result moments.new ≡ drop result moments.old)
-            × (drop result frames.new ≡ drop result frames.old) }
-        ensures long { (length moments.new ≡ length moments.old) × (length frames.new ≡ length frames.old) }
-    {
-        let room = moments.len().min(frames.len());
-        let mut at = from;
-        while at < room && self.is_due() {
-            let one = self.pop();
-            let frame = one.frame;
-            moments[at] = one.moment;
-            frames[at] = frame;
-            at += 1;
-        }
-        at
     }
 
     // Removes and returns the first squitter.
@@ -166,19 +120,6 @@ impl Order {
         let one = self.line[self.first];
         self.first += 1;
         one
-    }
-
-    // Inserts a squitter at its place.
-    #[inline(always)]
-    fn put(&mut self, moment: u64, frame: &[u8; 14])
-        requires { length self.old.held < 4096 }
-        ensures { self.new ≡ with_one (record { moment = moment; frame = frame.now }) self.old }
-    {
-        self.first = make_room(&mut self.line, self.first);
-        let at = self.first + place_of(&self.line[self.first..], moment);
-        let frame = *frame;
-        self.line.insert(at, Timed { moment, frame });
-        self.latest = self.latest.max(moment);
     }
 }
 

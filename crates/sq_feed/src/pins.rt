@@ -1,17 +1,20 @@
 //! Guards of the definitions: each has one value, some value or an exact condition, so none can be weakened unnoticed.
 //! A function with an empty body does nothing: its contract is the statement.
-ghost use Rattle.std.specs.Prelude.{◌≡◌, ◌↔◌, ◌++◌, codes, ◌+◌, ◌*◌, ◌^◌, ◌%◌, ◌<◌, ◌≤◌, ℕ, List, [], ◌∷◌, length};
-ghost use Rattle.std.specs.Prelude.{take};
+ghost use Rattle.std.specs.Prelude.{◌≡◌, ◌≢◌, ◌↔◌, ◌++◌, codes, ◌+◌, ◌*◌, ◌^◌, ◌%◌, ◌<◌, ◌≤◌, ℕ, List, [], ◌∷◌, length};
+ghost use Rattle.std.specs.Prelude.{false, take};
 ghost use Rattle.std.specs.Prelude.{max, Option, Some, map, option_to_list, true};
 ghost use Rattle.sq_feed.specs.declared.message.Found.{Found as Item};
 ghost use Rattle.sq_feed.specs.Laws.{AreSent, AreTakes, IsFoundOnce, IsReadOnce, Sent};
 ghost use Rattle.sq_feed.specs.Avr.{AreHex, AvrSent, IsSent, avr_found, lead, mark_of};
 ghost use Rattle.sq_feed.specs.Ears.{AreNear, ear_after_all, lost, told_of_all};
-ghost use Rattle.sq_feed.specs.Feeds.{AreFed, Fed, Feeding, HasClosedFeed, HasEnded, HasFed};
-ghost use Rattle.sq_feed.specs.Feeds.{HasGiven, HasLost, HasWritten, lines_of};
-ghost use Rattle.sq_feed.specs.Finding.{any_found, bare_item, millis_item};
+ghost use Rattle.sq_feed.specs.Feeds.{AreFed, Fed, Feeding, HasClosedFeed, HasFed};
+ghost use Rattle.sq_feed.specs.Feeds.{HasLost, HasTold, stored};
+ghost use Rattle.sq_feed.specs.Finding.{any_found, bare_item, marked_sign, millis_item};
 ghost use Rattle.sq_feed.specs.Kinds.{frame_len, message_len};
-ghost use Rattle.sq_feed.specs.Readers.{HasClosed, IsNew, Reads, awaited, items_as, lost_items};
+ghost use Rattle.sq_feed.specs.Readers.{HasClosed, HasEnded, IsEnding, IsNew, Reads, awaited, calls_left, items_as};
+ghost use Rattle.sq_feed.specs.Readers.{lost_items};
+ghost use Rattle.sq_feed.specs.Shown.{IsTextLine};
+ghost use Rattle.std.specs.List.{AllByRecursion};
 ghost use Rattle.sq_feed.specs.Clock.{AreHeardAt, AreSoon, Counted, Hearing, IsHeard};
 ghost use Rattle.sq_feed.specs.Rows.{BegunRow, IsHeld, csv_start, rows_from};
 ghost use Rattle.sq_feed.specs.declared.message.Timed.{Timed};
@@ -25,6 +28,7 @@ use crate::beast::Beast;
 use crate::machine::Format;
 use crate::message::{Found, RawFrame, Stranger, Time};
 use crate::rows::Layout;
+use crate::signs::Sign;
 
 /// Any bytes encode exactly one list of symbols, and exactly one list of items is found in them.
 pub fn one_reading()
@@ -79,23 +83,15 @@ pub fn counts_exactly()
         × IsHeard before one.shown one.waited one.after × AreHeardAt one.after start first counts others) }
 {}
 
-/// The calls of a feed: the lines or squitters that they write, and the state that they leave.
+/// The calls of a feed: the squitters that they give, and the state that they leave.
 pub fn feeds_exactly()
     ensures none { (before : Feeding) → AreFed before [] }
     ensures more { (before : Feeding) (one : Fed) (more : List Fed) → AreFed before (one ∷ more)
         ↔ (HasFed one.arrival before one.bytes one.found one.after × AreFed one.after more) }
-    ensures written { (arrival : ℕ) (old new : Feeding) (bytes before after : List ℕ)
-        → HasWritten arrival old bytes before after new
-        ↔ ((found : List Item) × HasFed arrival old bytes found new
-        × (after ≡ before ++ lines_of (told_of_all arrival old.ear found))) }
-    ensures given { (arrival : ℕ) (old new : Feeding) (bytes moments after : List ℕ) (frames more : List (List ℕ))
-        → HasGiven arrival old bytes moments frames after more new
-        ↔ ((found : List Item) × HasFed arrival old bytes found new
-        × (after ≡ moments ++ map (λ (t : Timed). t.moment) (told_of_all arrival old.ear found))
-        × (more ≡ frames ++ map (λ (t : Timed). t.frame) (told_of_all arrival old.ear found))) }
-    ensures ended { (arrival : ℕ) (old new : Feeding) → HasEnded arrival old new
-        ↔ (IsNew old.reader.asked new.reader
-        × (new.ear ≡ ear_after_all arrival old.ear (awaited old.reader []))) }
+    ensures told { (arrival : ℕ) (old new : Feeding) (bytes : List ℕ) (told : List Timed)
+        → HasTold arrival old bytes told new ↔ ((found : List Item) × HasFed arrival old bytes found new
+        × (told ≡ told_of_all arrival old.ear found)) }
+    ensures stored { (slot : Timed) → (stored true slot ≡ slot ∷ []) × (stored false slot ≡ []) }
     ensures closed { (old new : Feeding) → HasClosedFeed old new
         ↔ (HasClosed old.reader new.reader × (new.ear ≡ old.ear)) }
     ensures lost { (old new : Feeding) → HasLost old new ↔ (IsNew old.reader.asked new.reader
@@ -108,6 +104,15 @@ pub fn readers_exactly()
         ↔ ((reads.asked ≡ asked) × ((bytes : List ℕ) → awaited reads bytes ≡ items_as asked bytes)) }
     ensures closed { (old new : Reads) → HasClosed old new ↔ ((new.asked ≡ old.asked)
         × ((bytes : List ℕ) → awaited new bytes ≡ awaited old [] ++ items_as old.asked bytes)) }
+    ensures ended { (reads : Reads) → HasEnded reads → calls_left reads ≡ 0 → awaited reads [] ≡ [] }
+    ensures ending { (reads : Reads) → IsEnding reads.stage → 0 < calls_left reads }
+{}
+
+/// A line of text can show a format.
+pub fn lines_exactly()
+    ensures { (line : List ℕ) → IsTextLine line ↔ ((length line ≤ 512) × AllByRecursion (λ byte. byte ≢ 10) line
+        × AllByRecursion (λ byte. byte ≢ 26) line
+        × ((front back : List ℕ) → line ≡ front ++ 59 ∷ back → marked_sign front ≡ Sign.Unclear)) }
 {}
 
 /// The items of short sources of unknown format.
@@ -117,10 +122,15 @@ pub fn formats_in_letters()
         ≡ Found.Damage ∷ millis_item 7 64 ∷ millis_item 8 65 ∷ [] }
     ensures table { any_found (codes "rawmsg,time" ++ 10 ∷ codes "2040,.5" ++ 10 ∷ codes "2040,1.5")
         ≡ Found.Damage ∷ millis_item 1500 64 ∷ [] }
+    ensures beast { any_found (26 ∷ 49 ∷ 10 ∷ 123 ∷ 10 ∷ 0 ∷ 0 ∷ 0 ∷ 5 ∷ 32 ∷ 64 ∷ [])
+        ≡ found_in (26 ∷ 49 ∷ 10 ∷ 123 ∷ 10 ∷ 0 ∷ 0 ∷ 0 ∷ 5 ∷ 32 ∷ 64 ∷ []) }
     ensures text { any_found (codes "*2040;*2041;") ≡ bare_item 64 ∷ bare_item 65 ∷ [] }
     ensures none { any_found (codes "2040") ≡ Found.Foreign Stranger.NoFrame ∷ [] }
     ensures nothing { any_found [] ≡ [] }
-    ensures other { any_found (codes "MSG,3" ++ 10 ∷ codes "7 2040") ≡ Found.Foreign Stranger.Sbs ∷ [] }
+    ensures other { any_found (codes "MSG,3" ++ 10 ∷ codes "{}") ≡ Found.Foreign Stranger.Sbs ∷ [] }
+    ensures last { any_found (codes "{}") ≡ Found.Foreign Stranger.Json ∷ [] }
+    ensures outweighed { any_found (codes "MSG,3" ++ 10 ∷ codes "7 2040")
+        ≡ Found.Damage ∷ millis_item 7 64 ∷ [] }
 {}
 
 /// The definitions about orders: timestamps that rise, and squitters that come in time.
@@ -179,6 +189,7 @@ pub fn streams_in_numbers()
     ensures behind { found_in (26 ∷ 49 ∷ 0 ∷ 0 ∷ 0 ∷ 0 ∷ 0 ∷ 5 ∷ 128 ∷ 32 ∷ 64 ∷ 9 ∷ 9 ∷ [])
         ≡ Found.Whole (record { time = Time.Ticks (5); frame = RawFrame.ModeAc (32 ∷ 64 ∷ []) }) ∷ Found.Damage ∷ [] }
     ensures status { found_in (26 ∷ 52 ∷ 1 ∷ 2 ∷ 3 ∷ []) ≡ [] }
+    ensures receiver { found_in (26 ∷ 0xE3 ∷ 1 ∷ 2 ∷ 3 ∷ []) ≡ Found.ReceiverId ∷ [] }
     ensures unknown { found_in (26 ∷ 57 ∷ 1 ∷ 2 ∷ 3 ∷ []) ≡ Found.Damage ∷ [] }
     ensures stray { found_in (1 ∷ 2 ∷ 3 ∷ []) ≡ Found.Damage ∷ [] }
 {}

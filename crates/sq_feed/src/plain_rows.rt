@@ -86,7 +86,8 @@ fn decimals_before_comma(text: &[u8]) -> Option<usize>
     Some(count)
 }
 
-// Returns the index of the first comma, or `None` if it is above 15 or a line feed comes first.
+// Returns the index of the first comma, or `None` if it is above 15, or a line feed comes first, or the text begins
+// with a quote.
 #[inline(always)]
 fn comma_in(text: &[u8]) -> Option<usize>
     requires { 16 ≤ length text.now }
@@ -94,7 +95,11 @@ fn comma_in(text: &[u8]) -> Option<usize>
     ensures before { IfSome result (λ at. (k : ℕ) → k < at
         → (slice_index text.now k ≢ 44) × (slice_index text.now k ≢ 10)) }
     ensures few { IfSome result (λ at. at < 16) }
+    ensures bare { IfSome result (λ _. slice_index text.now 0 ≢ 34) }
 {
+    if text[0] == b'"' {
+        return None;
+    }
     let comma = position_in_16(b',', text);
     if comma == LANES || position_in_16(b'\n', text) < comma {
         return None;

@@ -1,14 +1,14 @@
 //! Splits a source of a known or an unknown format into items.
-ghost use Rattle.std.specs.Prelude.{◌≡◌, ◌⊎◌, ◌*◌, ◌+◌, ◌-◌, ◌<◌, ◌≤◌, ℕ, List, [], ◌∷◌, IfSome, None, Some, false, if◌then◌else◌, length, nat_lt, take, true, option_to_list};
+ghost use Rattle.std.specs.Prelude.{◌≡◌, ◌⊎◌, ◌+◌, ◌-◌, ◌<◌, ◌≤◌, [], ◌∷◌, IfSome, None, false, if◌then◌else◌, length, nat_lt, take, true, option_to_list};
 ghost use Rattle.sq_feed.specs.Follows.{Follows};
-ghost use Rattle.sq_feed.specs.Finding.{fresh};
-ghost use Rattle.sq_feed.specs.Readers.{HasClosed, IsNew, awaited, calls_left, format_at, lost_items, new_reads, start_of};
-ghost use Rattle.sq_feed.specs.Readers.{waiting};
+ghost use Rattle.sq_feed.specs.Readers.{HasClosed, HasEnded, IsEnding, IsNew, awaited, calls_for, calls_left, format_at};
+ghost use Rattle.sq_feed.specs.Readers.{lost_items, new_reads, unread};
+ghost use Rattle.sq_feed.specs.Machines.{new_machine, to_come};
 
-use crate::finder::{Finder, Next};
-use crate::machine::{Format, Machine, layout_of};
-use crate::message::{Found, Message};
-use arrayvec::ArrayVec;
+use crate::finder::Finder;
+use crate::machine::{Format, Machine};
+use crate::message::{Found, Message, Stranger};
+use crate::signs::Sign;
 use std::marker::Model;
 
 /// The stage of reading a source.
@@ -18,8 +18,12 @@ pub(crate) enum Stage {
     Finding,
     /// The machine reads it.
     Reading,
-    /// Items wait to be given, and then this comes.
-    Giving(Next),
+    /// The machine reads the bytes that showed the format, before it goes on.
+    Replaying,
+    /// The source has ended: the machine reads what is left, and then another source begins.
+    Ending,
+    /// The source has ended: what it was is to be given, and then another source begins.
+    Naming(Stranger),
     /// It is of no known format: the rest is left out.
     Over,
 }
@@ -30,13 +34,14 @@ pub(crate) struct Reader {
     asked: Option<Format>,
     stage: Stage,
     finder: Finder,
-    pending: ArrayVec<Found, 5>,
+    at: usize,
     machine: Machine,
 }
 
 impl Model for Reader {
-    ghost use Rattle.sq_feed.specs.Finding.{fresh};
-    ghost use Rattle.sq_feed.specs.Readers.{Reads};
+    ghost use Rattle.std.specs.Prelude.{◌≤◌, length};
+    ghost use Rattle.sq_feed.specs.Finding.{limit};
+    ghost use Rattle.sq_feed.specs.Readers.{HasRoomAt, Reads};
 
     ghost Value = { Reads };
 
@@ -44,9 +49,12 @@ impl Model for Reader {
       asked = s.asked;
       stage = s.stage;
       finder = s.finder;
-      pending = s.pending.items;
+      at = s.at;
       machine = s.machine;
     } };
+
+    ghost invariant = { λ s. (s.at ≤ length s.finder.held) × (length s.finder.held ≤ limit)
+        × HasRoomAt s.stage s.finder };
 }
 
 impl Reader {
@@ -55,20 +63,21 @@ impl Reader {
         ensures value { result ≡ new_reads asked }
         ensures new { IsNew asked result }
     {
-        let format = match asked {
-            Some(format) => format,
-            None => Format::Log,
-        };
-        let stage = match asked {
-            Some(_) => Stage::Reading,
-            None => Stage::Finding,
-        };
-        Reader {
-            asked,
-            stage,
-            finder: Finder::new(),
-            pending: ArrayVec::new(),
-            machine: Machine::starting(format, layout_of(format)),
+        match asked {
+            Some(format) => Reader {
+                asked,
+                stage: Stage::Reading,
+                finder: Finder::new(),
+                at: 0,
+                machine: Machine::new(format),
+            },
+            None => Reader {
+                asked,
+                stage: Stage::Finding,
+                finder: Finder::new(),
+                at: 0,
+                machine: Machine::new(Format::Log),
+            },
         }
     }
 
@@ -76,13 +85,16 @@ impl Reader {
     // whole, without an escape.
     #[inline(always)]
     pub(crate) fn whole_message(&self, piece: &[u8]) -> Option<(Message, usize)>
-        ensures { IfSome result (λ p. (0 < p.1) × (p.1 ≤ length piece.now)
+        ensures reading { IfSome result (λ p. self.now.stage ≡ Stage.Reading) }
+        ensures follows { IfSome result (λ p. (0 < p.1) × (p.1 ≤ length piece.now)
             × Follows (awaited self.now) (take p.1 piece.now) (Found.Whole p.0 ∷ []) (awaited self.now)) }
     {
         match self.stage {
             Stage::Reading => self.machine.whole_message(piece),
             Stage::Finding => None,
-            Stage::Giving(_) => None,
+            Stage::Replaying => None,
+            Stage::Ending => None,
+            Stage::Naming(_) => None,
             Stage::Over => None,
         }
     }
@@ -91,13 +103,16 @@ impl Reader {
     // and the row must have the usual form.
     #[inline(always)]
     pub(crate) fn whole_row(&self, piece: &[u8]) -> Option<(Message, usize)>
-        ensures { IfSome result (λ p. (0 < p.1) × (p.1 ≤ length piece.now)
+        ensures reading { IfSome result (λ p. self.now.stage ≡ Stage.Reading) }
+        ensures follows { IfSome result (λ p. (0 < p.1) × (p.1 ≤ length piece.now)
             × Follows (awaited self.now) (take p.1 piece.now) (Found.Whole p.0 ∷ []) (awaited self.now)) }
     {
         match self.stage {
             Stage::Reading => self.machine.whole_row(piece),
             Stage::Finding => None,
-            Stage::Giving(_) => None,
+            Stage::Replaying => None,
+            Stage::Ending => None,
+            Stage::Naming(_) => None,
             Stage::Over => None,
         }
     }
@@ -106,19 +121,22 @@ impl Reader {
     // usual form.
     #[inline(always)]
     pub(crate) fn whole_line(&self, piece: &[u8]) -> Option<(Message, usize)>
-        ensures { IfSome result (λ p. (0 < p.1) × (p.1 ≤ length piece.now)
+        ensures reading { IfSome result (λ p. self.now.stage ≡ Stage.Reading) }
+        ensures follows { IfSome result (λ p. (0 < p.1) × (p.1 ≤ length piece.now)
             × Follows (awaited self.now) (take p.1 piece.now) (Found.Whole p.0 ∷ []) (awaited self.now)) }
     {
         match self.stage {
             Stage::Reading => self.machine.whole_line(piece),
             Stage::Finding => None,
-            Stage::Giving(_) => None,
+            Stage::Replaying => None,
+            Stage::Ending => None,
+            Stage::Naming(_) => None,
             Stage::Over => None,
         }
     }
 
-    // Gives the first item that waits, or takes bytes of a piece up to the end of the first item, or all of them.
-    // Returns how many bytes it took, and the item.
+    // Takes bytes of a piece up to the end of the first item, or all of them. Bytes that were taken before the format
+    // was known, or before the source ended, come first. Returns how many bytes of the piece it took, and the item.
     #[inline(always)]
     pub(crate) fn take(&mut self, piece: &[u8]) -> (usize, Option<Found>)
         ensures fits { result.0 ≤ length piece.now }
@@ -126,89 +144,79 @@ impl Reader {
         ensures follows { Follows (awaited self.old) (take result.0 piece.now) (option_to_list result.1)
             (awaited self.new) }
         ensures goes_on { (0 < length piece.now) ⊎ (0 < calls_left self.old)
-            → calls_left self.new < calls_left self.old + 7 * result.0 }
-        ensures first { 0 < length piece.now → result.0 ≡ 0
-            → waiting self.new + length (option_to_list result.1) ≤ waiting self.old }
+            → calls_left self.new < calls_left self.old + calls_for result.0 }
+        ensures ended { IsEnding self.old.stage → HasEnded self.new }
     {
         match self.stage {
             Stage::Reading => self.machine.take(piece),
             Stage::Finding => self.find(piece),
-            Stage::Giving(next) => (0, self.give(next)),
+            Stage::Replaying => (0, self.replay()),
+            Stage::Ending => (0, self.end()),
+            Stage::Naming(stranger) => (0, self.name(stranger)),
             Stage::Over => (piece.len(), None),
         }
     }
 
-    // Returns whether more calls are needed for this many bytes: there are some, or items wait.
+    // Returns whether more calls are needed for this many bytes: there are some, or bytes are to be read again.
     #[inline(always)]
     pub(crate) fn goes_on(&self, bytes: usize) -> bool
         ensures more { result ≡ true → (0 < bytes) ⊎ (0 < calls_left self.now) }
         ensures done { result ≡ false → (bytes ≡ 0) × (calls_left self.now ≡ 0) }
     {
-        bytes > 0 || self.is_giving()
+        bytes > 0 || self.is_behind()
     }
 
-    // Returns how many items wait to be given: five at most.
+    // Returns whether calls without a byte are needed.
     #[inline(always)]
-    pub(crate) fn waiting(&self) -> usize
-        ensures value { result ≡ waiting self.now }
-        ensures few { result ≤ 5 }
-    {
-        match self.stage {
-            Stage::Giving(_) => self.pending.len(),
-            Stage::Finding => 0,
-            Stage::Reading => 0,
-            Stage::Over => 0,
-        }
-    }
-
-    // Returns whether items wait to be given, or another source begins after them.
-    #[inline(always)]
-    fn is_giving(&self) -> bool
+    fn is_behind(&self) -> bool
         ensures { result ≡ nat_lt 0 (calls_left self.now) }
     {
         match self.stage {
-            Stage::Giving(_) => true,
             Stage::Finding => false,
             Stage::Reading => false,
+            Stage::Replaying => true,
+            Stage::Ending => true,
+            Stage::Naming(_) => true,
             Stage::Over => false,
-        }
-    }
-
-    // Returns the items of a source that ends here.
-    pub(crate) fn finish(&self) -> ArrayVec<Found, 5>
-        ensures { result.items ≡ awaited self.now [] }
-    {
-        match self.stage {
-            Stage::Finding => self.finder.finish(),
-            Stage::Reading => one_item(self.machine.finish()),
-            Stage::Giving(_) => items_of(self.pending.as_slice()),
-            Stage::Over => ArrayVec::new(),
         }
     }
 
     // Ends the source: its last items wait to be given, and another source comes after them.
     pub(crate) fn close(&mut self)
-        ensures { HasClosed self.old self.new }
+        ensures closed { HasClosed self.old self.new }
+        ensures ended { HasEnded self.new }
     {
-        self.pending = self.finish();
-        self.stage = Stage::Giving(start_of(self.asked));
+        match self.stage {
+            Stage::Finding => self.close_finding(),
+            Stage::Reading => {
+                self.at = self.finder.held().len();
+                self.stage = Stage::Ending;
+            }
+            Stage::Replaying => self.stage = Stage::Ending,
+            Stage::Ending => {}
+            Stage::Naming(_) => {}
+            Stage::Over => self.restart(),
+        }
     }
 
     // Goes to the start of another source.
     pub(crate) fn restart(&mut self)
-        ensures { IsNew self.old.asked self.new }
+        ensures new { IsNew self.old.asked self.new }
+        ensures done { calls_left self.new ≡ 0 }
     {
-        self.begin(start_of(self.asked));
+        *self = Reader::new(self.asked);
     }
 
-    // Returns damage if the source is lost here and anything is begun or waits.
+    // Returns damage if the source is lost here and anything is begun or not read.
     pub(crate) fn cut_off(&self) -> Option<Found>
         ensures { option_to_list result ≡ lost_items self.now }
     {
         match self.stage {
-            Stage::Finding => damage_if(!self.finder.is_new()),
+            Stage::Finding => damage_if(!self.finder.held().is_empty()),
             Stage::Reading => self.machine.cut_off(),
-            Stage::Giving(_) => damage_if(!self.pending.is_empty()),
+            Stage::Replaying => Some(Found::Damage),
+            Stage::Ending => Some(Found::Damage),
+            Stage::Naming(_) => Some(Found::Damage),
             Stage::Over => None,
         }
     }
@@ -220,9 +228,9 @@ impl Reader {
         match self.stage {
             Stage::Finding => None,
             Stage::Reading => Some(self.machine.format()),
-            Stage::Giving(Next::Find) => None,
-            Stage::Giving(Next::Read(format, _)) => Some(format),
-            Stage::Giving(Next::Nothing) => None,
+            Stage::Replaying => Some(self.machine.format()),
+            Stage::Ending => Some(self.machine.format()),
+            Stage::Naming(_) => None,
             Stage::Over => None,
         }
     }
@@ -234,83 +242,105 @@ impl Reader {
         ensures fits { result.0 ≤ length piece.now }
         ensures some { 0 < length piece.now → 0 < result.0 }
         ensures asked { self.new.asked ≡ self.old.asked }
-        ensures none { result.1 ≡ None }
-        ensures follows { Follows (awaited self.old) (take result.0 piece.now) [] (awaited self.new) }
-        ensures few { calls_left self.new ≤ 6 }
+        ensures follows { Follows (awaited self.old) (take result.0 piece.now) (option_to_list result.1)
+            (awaited self.new) }
+        ensures few { calls_left self.new ≤ 16385 }
     {
-        let (count, start) = self.finder.take(piece);
-        if let Some(start) = start {
-            self.stage = Stage::Giving(start.next);
-            self.pending = start.items;
+        let (count, sign) = self.finder.take(piece);
+        match sign {
+            Sign::Unclear => (count, None),
+            Sign::Shows(format) => {
+                self.stage = Stage::Replaying;
+                self.read_again(format);
+                (count, None)
+            }
+            Sign::Other(stranger) => {
+                self.stage = Stage::Over;
+                (count, Some(Found::Foreign(stranger)))
+            }
         }
-        (count, None)
     }
 
-    // Gives the first item that waits, or begins what comes after them.
+    // Starts the machine of this format, which is to read the first bytes of the source again.
+    fn read_again(&mut self, format: Format)
+        ensures { self.new ≡ record self.old { at = 0; machine = new_machine format } }
+    {
+        self.machine = Machine::new(format);
+        self.at = 0;
+    }
+
+    // Has the machine read the bytes that showed the format, up to the end of the first item.
     #[inline(never)]
-    fn give(&mut self, next: Next) -> Option<Found>
-        requires { self.old.stage ≡ Stage.Giving next }
+    fn replay(&mut self) -> Option<Found>
+        requires { self.old.stage ≡ Stage.Replaying }
         ensures asked { self.new.asked ≡ self.old.asked }
         ensures follows { Follows (awaited self.old) [] (option_to_list result) (awaited self.new) }
-        ensures first { waiting self.new + length (option_to_list result) ≤ waiting self.old }
         ensures fewer { calls_left self.new < calls_left self.old }
     {
-        if self.pending.is_empty() {
-            self.begin(next);
+        if self.at == self.finder.held().len() {
+            self.stage = Stage::Reading;
             return None;
         }
-        Some(self.pending.remove(0))
+        self.read_held()
     }
 
-    // Begins to read what comes next.
-    fn begin(&mut self, next: Next)
-        ensures asked { self.new.asked ≡ self.old.asked }
-        ensures awaits { (bytes : List ℕ) → awaited self.new bytes ≡ fresh next bytes }
-        ensures none { (calls_left self.new ≡ 0) × (waiting self.new ≡ 0) }
+    // Has the machine read bytes that were taken before, up to the end of the first item.
+    fn read_held(&mut self) -> Option<Found>
+        requires { self.old.at < length self.old.finder.held }
+        ensures at { (self.old.at < self.new.at) × (self.new.at ≤ length self.old.finder.held) }
+        ensures same { self.new ≡ record self.old { at = self.new.at; machine = self.new.machine } }
+        ensures follows { Follows (to_come self.old.machine) (take (self.new.at - self.old.at) (unread self.old))
+            (option_to_list result) (to_come self.new.machine) }
     {
-        match next {
-            Next::Find => {
-                self.finder = Finder::new();
-                self.stage = Stage::Finding;
+        let (count, found) = self.machine.take(&self.finder.held()[self.at..]);
+        self.at += count;
+        found
+    }
+
+    // Gives the last items of a source, one a call, and begins another source after them.
+    #[inline(never)]
+    fn end(&mut self) -> Option<Found>
+        requires { self.old.stage ≡ Stage.Ending }
+        ensures asked { self.new.asked ≡ self.old.asked }
+        ensures follows { Follows (awaited self.old) [] (option_to_list result) (awaited self.new) }
+        ensures fewer { calls_left self.new < calls_left self.old }
+        ensures ended { HasEnded self.new }
+    {
+        if self.at < self.finder.held().len() {
+            return self.read_held();
+        }
+        let last = self.machine.finish();
+        self.restart();
+        last
+    }
+
+    // Gives what a source was, and begins another one.
+    fn name(&mut self, stranger: Stranger) -> Option<Found>
+        requires { self.old.stage ≡ Stage.Naming stranger }
+        ensures asked { self.new.asked ≡ self.old.asked }
+        ensures follows { Follows (awaited self.old) [] (option_to_list result) (awaited self.new) }
+        ensures fewer { calls_left self.new < calls_left self.old }
+        ensures ended { HasEnded self.new }
+    {
+        self.restart();
+        Some(Found::Foreign(stranger))
+    }
+
+    // Ends a source before its format is known.
+    fn close_finding(&mut self)
+        requires { self.old.stage ≡ Stage.Finding }
+        ensures closed { HasClosed self.old self.new }
+        ensures ended { HasEnded self.new }
+    {
+        match self.finder.finish() {
+            Sign::Unclear => self.restart(),
+            Sign::Shows(format) => {
+                self.stage = Stage::Ending;
+                self.read_again(format);
             }
-            Next::Read(format, layout) => {
-                self.machine = Machine::starting(format, layout);
-                self.stage = Stage::Reading;
-            }
-            Next::Nothing => self.stage = Stage::Over,
+            Sign::Other(stranger) => self.stage = Stage::Naming(stranger),
         }
     }
-}
-
-// Returns the start of a source of this format. Without a format, its first bytes show one.
-fn start_of(asked: Option<Format>) -> Next
-    ensures { result ≡ start_of asked }
-{
-    match asked {
-        Some(format) => Next::Read(format, layout_of(format)),
-        None => Next::Find,
-    }
-}
-
-// Returns a list of these items.
-fn items_of(items: &[Found]) -> ArrayVec<Found, 5>
-    requires { length items.now ≤ 5 }
-    ensures { result.items ≡ items.now }
-{
-    let mut copied = ArrayVec::new();
-    let _ = copied.try_extend_from_slice(items);
-    copied
-}
-
-// Returns a list of an item, if there is one.
-fn one_item(item: Option<Found>) -> ArrayVec<Found, 5>
-    ensures { result.items ≡ option_to_list item }
-{
-    let mut items = ArrayVec::new();
-    if let Some(item) = item {
-        items.push(item);
-    }
-    items
 }
 
 // Returns damage, if there is any.

@@ -1,13 +1,13 @@
 //! Reads the lines of a log and the rows of a CSV table, one item a line. The text comes in pieces of any length.
 ghost use Rattle.std.specs.Prelude.{◌≡◌, ◌≢◌, ◌≤◌, ◌<◌, Some, [], ◌∷◌, length, take, option_to_list, IfSome, true, false};
 ghost use Rattle.sq_feed.specs.Follows.{Follows};
-ghost use Rattle.sq_feed.specs.Rows.{IsHeld, columns_of, csv_message, csv_start, cut_row, first_of, frame_in, items_of_row, line_of, log_message};
-ghost use Rattle.sq_feed.specs.Rows.{message_at, millis_in, no_row_begun, row_read, rows_to_come, text_read, without_first, without_last};
+ghost use Rattle.sq_feed.specs.Rows.{IsHeld, columns_of, csv_message, csv_start, cut_row, first_is, first_of, frame_in, frame_of_text, items_of_row};
+ghost use Rattle.sq_feed.specs.Rows.{last_is, line_of, log_message, message_at, millis_in, no_row_begun, row_read, rows_to_come, text_read, time_column, without_first, without_last, without_mark};
 ghost use Rattle.sq_feed.specs.Avr.{frame_of_word};
 ghost use Rattle.sq_feed.specs.Cells.{cell_of};
 
 use crate::avr::frame_of_word;
-use crate::cells::{cell_of, column_of, millis_of, number_of, position_of, unquoted};
+use crate::cells::{cell_of, column_of, content_of, millis_of, number_of, position_of};
 use crate::message::{Found, Message, RawFrame, Time};
 use crate::plain_rows::plain_row;
 use arrayvec::ArrayVec;
@@ -131,6 +131,7 @@ impl Rows {
         match row_read(self.layout, &near[..end]) {
             Row::One(Found::Whole(message)) => Some((message, end + 1)),
             Row::One(Found::Damage) => None,
+            Row::One(Found::ReceiverId) => None,
             Row::One(Found::Foreign(_)) => None,
             Row::Blank => None,
             Row::Names(_) => None,
@@ -258,7 +259,7 @@ pub(crate) fn row_read(layout: Layout, line: &[u8]) -> Row
     requires { length line.now ≤ 512 }
     ensures { result ≡ row_read layout line.now }
 {
-    let text = without_last(b'\r', line);
+    let text = without_mark(without_last(b'\r', line));
     if text.is_empty() {
         return Row::Blank;
     }
@@ -290,12 +291,21 @@ fn log_message(line: &[u8]) -> Option<Message>
     })
 }
 
-// Parses the frame of a log line, with or without `*` and `;` around it.
+// Parses a frame text: digits, bare or between `*` and `;`.
 fn log_frame(text: &[u8]) -> Option<RawFrame>
-    ensures { result ≡ frame_of_word (without_last 59 (without_first 42 text.now)) }
+    ensures { result ≡ frame_of_text text.now }
 {
-    let bare = without_last(b';', without_first(b'*', text));
-    frame_of_word(bare)
+    if first_is(b'*', text) {
+        if last_is(b';', text) {
+            frame_of_word(without_last(b';', without_first(b'*', text)))
+        } else {
+            None
+        }
+    } else if last_is(b';', text) {
+        None
+    } else {
+        frame_of_word(text)
+    }
 }
 
 // Parses a row of a table.
@@ -315,7 +325,7 @@ fn millis_in(column: usize, row: &[u8]) -> Option<u64>
     ensures { result ≡ millis_in (cell_of column (Some row.now)) }
 {
     match cell_of(column, row) {
-        Some(cell) => millis_of(unquoted(cell)),
+        Some(cell) => millis_of(content_of(cell)),
         None => None,
     }
 }
@@ -325,7 +335,7 @@ fn frame_in(column: usize, row: &[u8]) -> Option<RawFrame>
     ensures { result ≡ frame_in (cell_of column (Some row.now)) }
 {
     match cell_of(column, row) {
-        Some(cell) => frame_of_word(unquoted(cell)),
+        Some(cell) => frame_of_word(content_of(cell)),
         None => None,
     }
 }
@@ -334,12 +344,36 @@ fn frame_in(column: usize, row: &[u8]) -> Option<RawFrame>
 fn columns_of(row: &[u8]) -> Option<Columns>
     ensures { result ≡ columns_of row.now }
 {
-    let time = match column_of(b"time", row) {
-        Some(column) => column,
-        None => column_of(b"mintime", row)?,
-    };
+    let time = time_column(row)?;
     let frame = column_of(b"rawmsg", row)?;
     Some(Columns { time, frame })
+}
+
+// Returns the column of the time: `time`, else `mintime`, else `timestamp`.
+fn time_column(row: &[u8]) -> Option<usize>
+    ensures { result ≡ time_column row.now }
+{
+    if let Some(column) = column_of(b"time", row) {
+        return Some(column);
+    }
+    if let Some(column) = column_of(b"mintime", row) {
+        return Some(column);
+    }
+    column_of(b"timestamp", row)
+}
+
+// Returns whether a text has this first byte.
+fn first_is(byte: u8, text: &[u8]) -> bool
+    ensures { result ≡ first_is byte text.now }
+{
+    !text.is_empty() && text[0] == byte
+}
+
+// Returns whether a text has this last byte.
+fn last_is(byte: u8, text: &[u8]) -> bool
+    ensures { result ≡ last_is byte text.now }
+{
+    !text.is_empty() && text[text.len() - 1] == byte
 }
 
 // Drops this byte from the end of a text, if it is there.
@@ -347,10 +381,23 @@ pub(crate) fn without_last(byte: u8, text: &[u8]) -> &[u8]
     ensures value { result.now ≡ without_last byte text.now }
     ensures within { length result.now ≤ length text.now }
 {
-    if !text.is_empty() && text[text.len() - 1] == byte {
+    if last_is(byte, text) {
         &text[..text.len() - 1]
     } else {
         text
+    }
+}
+
+// Drops a byte order mark from the front of a line, if it is there.
+#[inline(always)]
+pub(crate) fn without_mark(line: &[u8]) -> &[u8]
+    ensures value { result.now ≡ without_mark line.now }
+    ensures within { length result.now ≤ length line.now }
+{
+    if line.len() >= 3 && line[0] == 0xEF && line[1] == 0xBB && line[2] == 0xBF {
+        &line[3..]
+    } else {
+        line
     }
 }
 
@@ -358,7 +405,7 @@ pub(crate) fn without_last(byte: u8, text: &[u8]) -> &[u8]
 fn without_first(byte: u8, text: &[u8]) -> &[u8]
     ensures { result.now ≡ without_first byte text.now }
 {
-    if !text.is_empty() && text[0] == byte {
+    if first_is(byte, text) {
         &text[1..]
     } else {
         text

@@ -1,52 +1,61 @@
 //! The signs by which a text shows its format.
 ghost use Rattle.std.specs.Prelude.{◌≡◌, ◌==◌, ◌++◌, ◌<◌, ◌≤◌, [], ◌∷◌, bytes_eq, length, take};
-ghost use Rattle.sq_feed.specs.Finding.{first_sign, is_packed, is_sbs, is_tar, is_utf16, line_sign, marked_sign, other_sign};
-ghost use Rattle.sq_feed.specs.Finding.{sign_of_frame, sign_of_line, sign_of_row, start_sign};
+ghost use Rattle.sq_feed.specs.Finding.{first_shown, is_beast_start, is_known, is_packed, is_sbs, is_tar, is_utf16};
+ghost use Rattle.sq_feed.specs.Finding.{line_sign, marked_sign, other_sign, sign_of_frame, sign_of_line, sign_of_row};
+ghost use Rattle.sq_feed.specs.Finding.{sign_of_word, start_sign};
+ghost use Rattle.sq_feed.specs.Kinds.{kind_of};
 ghost use Rattle.sq_feed.specs.Avr.{frame_of_word};
-ghost use Rattle.sq_feed.specs.Rows.{csv_start, row_read, without_last};
-ghost use Rattle.std.specs.Prelude.{if◌then◌else◌};
+ghost use Rattle.sq_feed.specs.Rows.{csv_start, row_read, without_last, without_mark};
+ghost use Rattle.std.specs.Prelude.{if◌then◌else◌, get_or, ◌-◌};
 
 use crate::avr::{frame_of_word, item_of_word, mark_of};
 use crate::machine::Format;
-use crate::message::{Found, Message, RawFrame, Stranger, Time};
-use crate::rows::{Columns, LONGEST, Layout, Row, row_read, without_last};
+use crate::message::{Found, Kind, RawFrame, Stranger, kind_of};
+use crate::rows::{Columns, LONGEST, Layout, Row, row_read, without_last, without_mark};
 
-/// What a byte or a line shows.
+/// What the first bytes of a source show.
 #[derive(Clone, Copy)]
 pub(crate) enum Sign {
     /// Nothing.
     Unclear,
-    /// A text of this format, by this message. Its rows have this layout.
-    Shows(Format, Layout, Option<Message>),
+    /// A source of this format.
+    Shows(Format),
     /// A source of another kind.
     Other(Stranger),
 }
+
+// The escape that starts a message of Beast.
+const ESCAPE: u8 = 0x1A;
 
 // The index of the name in the header of a tar archive, and the index after it.
 const TAR_AT: usize = 257;
 
 const TAR_END: usize = 262;
 
-// Returns the first sign that is clear.
-pub(crate) fn first_sign(one: Sign, other: Sign) -> Sign
-    ensures { result ≡ first_sign one other }
+// Returns the first sign that shows a format, or the other one.
+pub(crate) fn first_shown(one: Sign, other: Sign) -> Sign
+    ensures { result ≡ first_shown one other }
 {
     match one {
         Sign::Unclear => other,
-        Sign::Shows(_, _, _) => one,
-        Sign::Other(_) => one,
+        Sign::Shows(_) => one,
+        Sign::Other(_) => other,
     }
 }
 
-// Returns the sign of the end of a line, or of a semicolon, after the line so far.
-pub(crate) fn edge_sign(line: &[u8], byte: u8) -> Sign
-    ensures { result ≡ (if byte == 10 then line_sign line.now
-        else (if byte == 59 then marked_sign line.now else Sign.Unclear)) }
+// Returns the sign of the last byte of a line. `is_first` says whether the source begins with this line.
+pub(crate) fn last_byte_sign(line: &[u8], byte: u8, is_first: bool) -> Sign
+    requires { 0 < length line.now }
+    ensures { result ≡ (if byte == 10 then line_sign (take (length line.now - 1) line.now)
+        else (if byte == 59 then marked_sign (take (length line.now - 1) line.now)
+        else (if is_first then start_sign line.now else Sign.Unclear))) }
 {
     if byte == b'\n' {
-        line_sign(line)
+        line_sign(&line[..line.len() - 1])
     } else if byte == b';' {
-        marked_sign(line)
+        marked_sign(&line[..line.len() - 1])
+    } else if is_first {
+        start_sign(line)
     } else {
         Sign::Unclear
     }
@@ -57,11 +66,12 @@ pub(crate) fn edge_sign(line: &[u8], byte: u8) -> Sign
 pub(crate) fn line_sign(line: &[u8]) -> Sign
     ensures { result ≡ line_sign line.now }
 {
-    first_sign(
+    let text = without_mark(line);
+    first_shown(
         log_sign(line),
-        first_sign(
+        first_shown(
             table_sign(line),
-            first_sign(bare_sign(line), other_sign(line)),
+            first_shown(bare_sign(text), other_sign(text)),
         ),
     )
 }
@@ -71,8 +81,9 @@ fn log_sign(line: &[u8]) -> Sign
     ensures { result ≡ sign_of_line (row_read Layout.Log line.now) }
 {
     match row_of(Layout::Log, line) {
-        Row::One(Found::Whole(message)) => { Sign::Shows(Format::Log, Layout::Log, Some(message)) }
+        Row::One(Found::Whole(_)) => Sign::Shows(Format::Log),
         Row::One(Found::Damage) => Sign::Unclear,
+        Row::One(Found::ReceiverId) => Sign::Unclear,
         Row::One(Found::Foreign(_)) => Sign::Unclear,
         Row::Blank => Sign::Unclear,
         Row::Names(_) => Sign::Unclear,
@@ -85,11 +96,12 @@ fn table_sign(line: &[u8]) -> Sign
 {
     let start = Layout::Csv(Columns { time: 0, frame: 2 });
     match row_of(start, line) {
-        Row::One(Found::Whole(message)) => Sign::Shows(Format::Csv, start, Some(message)),
+        Row::One(Found::Whole(_)) => Sign::Shows(Format::Csv),
         Row::One(Found::Damage) => Sign::Unclear,
+        Row::One(Found::ReceiverId) => Sign::Unclear,
         Row::One(Found::Foreign(_)) => Sign::Unclear,
         Row::Blank => Sign::Unclear,
-        Row::Names(columns) => Sign::Shows(Format::Csv, Layout::Csv(columns), None),
+        Row::Names(_) => Sign::Shows(Format::Csv),
     }
 }
 
@@ -97,18 +109,11 @@ fn table_sign(line: &[u8]) -> Sign
 fn bare_sign(line: &[u8]) -> Sign
     ensures { result ≡ sign_of_frame (frame_of_word (without_last 13 line.now)) }
 {
-    let frame = match frame_of_word(without_last(b'\r', line)) {
-        Some(frame) => frame,
-        None => return Sign::Unclear,
-    };
-    let message = Message {
-        time: Time::Unknown,
-        frame,
-    };
-    match frame {
-        RawFrame::ModeAc(_) => Sign::Unclear,
-        RawFrame::Short(_) => Sign::Shows(Format::Avr, Layout::Log, Some(message)),
-        RawFrame::Long(_) => Sign::Shows(Format::Avr, Layout::Log, Some(message)),
+    match frame_of_word(without_last(b'\r', line)) {
+        None => Sign::Unclear,
+        Some(RawFrame::ModeAc(_)) => Sign::Unclear,
+        Some(RawFrame::Short(_)) => Sign::Shows(Format::Avr),
+        Some(RawFrame::Long(_)) => Sign::Shows(Format::Avr),
     }
 }
 
@@ -152,15 +157,23 @@ fn is_sbs(line: &[u8]) -> bool
 fn marked_sign(line: &[u8]) -> Sign
     ensures { result ≡ marked_sign line.now }
 {
-    if line.is_empty() {
+    word_sign(without_mark(line))
+}
+
+// Returns the sign of a mark and a word.
+fn word_sign(text: &[u8]) -> Sign
+    ensures { result ≡ sign_of_word text.now }
+{
+    if text.is_empty() {
         return Sign::Unclear;
     }
-    let Some(mark) = mark_of(line[0]) else {
+    let Some(mark) = mark_of(text[0]) else {
         return Sign::Unclear;
     };
-    match item_of_word(mark, &line[1..]) {
-        Found::Whole(message) => Sign::Shows(Format::Avr, Layout::Log, Some(message)),
+    match item_of_word(mark, &text[1..]) {
+        Found::Whole(_) => Sign::Shows(Format::Avr),
         Found::Damage => Sign::Unclear,
+        Found::ReceiverId => Sign::Unclear,
         Found::Foreign(_) => Sign::Unclear,
     }
 }
@@ -170,7 +183,9 @@ fn marked_sign(line: &[u8]) -> Sign
 pub(crate) fn start_sign(start: &[u8]) -> Sign
     ensures { result ≡ start_sign start.now }
 {
-    if is_packed(start) {
+    if is_beast_start(start) {
+        Sign::Shows(Format::Beast)
+    } else if is_packed(start) {
         Sign::Other(Stranger::Packed)
     } else if is_utf16(start) {
         Sign::Other(Stranger::Utf16)
@@ -178,6 +193,24 @@ pub(crate) fn start_sign(start: &[u8]) -> Sign
         Sign::Other(Stranger::Tar)
     } else {
         Sign::Unclear
+    }
+}
+
+// Returns whether these two bytes start a message of Beast.
+fn is_beast_start(start: &[u8]) -> bool
+    ensures { result ≡ is_beast_start start.now }
+{
+    start.len() == 2 && start[0] == ESCAPE && is_known(kind_of(start[1]))
+}
+
+fn is_known(kind: Kind) -> bool
+    ensures { result ≡ is_known kind }
+{
+    match kind {
+        Kind::Message(_) => true,
+        Kind::Status => true,
+        Kind::ReceiverId => true,
+        Kind::Unknown => false,
     }
 }
 

@@ -9,24 +9,24 @@ pub returns-then-is_named : goal.returns-then-is_named
 returns-then-is_named c =
     sym (named_here (length c.args.row.now + 1) c.loop-k.k c.args.name.now c.args.row.now c.loop-k.rest.now
     c.loop-k-test.true c.loop-k.invariant.0
-    (ap (λ n. is_named c.args.name.now (take n c.loop-k.rest.now)) (sym c.position_of-at.ensures.value)
+    (ap (λ n. is_named c.args.name.now (take n c.loop-k.rest.now)) (sym c.cell_end-at.ensures.value)
     ∙ sym c.is_named.ensures ∙ c.if-is_named.true))
 
 pub returns-then-at-rest : goal.returns-then-at-rest
 returns-then-at-rest c =
-    sym (named_gone (length c.args.row.now + 1) c.loop-k.k c.position_of-at.result c.args.name.now c.args.row.now
-    c.loop-k.rest.now c.loop-k-test.true c.loop-k.invariant.0 c.position_of-at.ensures.value
-    (omega (arith, c.if-at-rest.true, c.position_of-at.ensures.within))
-    (ap (λ n. is_named c.args.name.now (take n c.loop-k.rest.now)) (sym c.position_of-at.ensures.value)
+    sym (named_gone (length c.args.row.now + 1) c.loop-k.k c.cell_end-at.result c.args.name.now c.args.row.now
+    c.loop-k.rest.now c.loop-k-test.true c.loop-k.invariant.0 c.cell_end-at.ensures.value
+    (omega (arith, c.if-at-rest.true, c.cell_end-at.ensures.within))
+    (ap (λ n. is_named c.args.name.now (take n c.loop-k.rest.now)) (sym c.cell_end-at.ensures.value)
     ∙ sym c.is_named.ensures ∙ c.if-is_named.false))
 
 pub loop-k-preserved : goal.loop-k-preserved
 loop-k-preserved c =
-    let at = c.position_of-at.result in
+    let at = c.cell_end-at.result in
     let rest = c.loop-k.rest.now in (
       named_next (length c.args.row.now + 1) c.loop-k.k at c.args.name.now c.args.row.now rest c.loop-k-test.true
-          c.loop-k.invariant.0 c.position_of-at.ensures.value c.if-at-rest.false
-          (ap (λ n. is_named c.args.name.now (take n rest)) (sym c.position_of-at.ensures.value)
+          c.loop-k.invariant.0 c.cell_end-at.ensures.value c.if-at-rest.false
+          (ap (λ n. is_named c.args.name.now (take n rest)) (sym c.cell_end-at.ensures.value)
           ∙ sym c.is_named.ensures ∙ c.if-is_named.false)
           ∙ ap (λ l. named_from (length c.args.row.now + 1 - (c.loop-k.k + 1)) c.args.name.now (c.loop-k.k + 1)
           (Some l))

@@ -21,4 +21,5 @@ returns c =
     c.seconds_at.ensures.value
     c.in_ok-decimals.ensures.digits c.in_ok-decimals.ensures.comma c.in_ok-decimals.ensures.few
     c.thousandths.ensures.value c.in_ok-comma.ensures.comma c.in_ok-comma.ensures.before c.in_ok-comma.ensures.few
+    c.in_ok-comma.ensures.bare
     c.in_ok-frame.ensures c.in_ok-ends.ensures

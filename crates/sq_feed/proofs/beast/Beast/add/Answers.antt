@@ -1,10 +1,10 @@
 use Rattle.std.proofs.Common.{◌≡◌, ◌∙◌, ◌<◌, [], ◌∷◌, ◌++◌, ap, sym, subst, refl, length, rules, arith, length-append}
 use Rattle.std.specs.Prelude.{Option, Some}
 use Rattle.sq_feed.specs.declared.message.Kind.{Kind}
-use Rattle.sq_feed.specs.declared.message.Kind.TheVariants.{Message, Status, Unknown}
+use Rattle.sq_feed.specs.declared.message.Kind.TheVariants.{Message, Status, ReceiverId, Unknown}
 use Rattle.sq_feed.specs.Begun.{Begun, IsUnfinished}
 use Rattle.sq_feed.specs.Kinds.{message_len, message_of}
-use Rattle.sq_feed.proofs.Steps.{last_gives, more_gives, more_status, more_unknown, stray_gives}
+use Rattle.sq_feed.proofs.Steps.{last_gives, more_gives, more_id, more_status, more_unknown, stray_gives}
 use Rattle.sq_feed.proofs.beast.Beast.add.Goals as goal
 
 pub returns-in-Some-Status-clause-gives : goal.returns-in-Some-Status-clause-gives
@@ -12,6 +12,12 @@ returns-in-Some-Status-clause-gives c =
     let is : c.self.inside.kind ≡ Some Status = search rules in
     let was = sym (ap (λ (v : Begun). v.kind) c.self.view_is) ∙ is in
     more_status c.args.self.now c.args.self.now c.args.byte was was
+
+pub returns-in-Some-ReceiverId-clause-gives : goal.returns-in-Some-ReceiverId-clause-gives
+returns-in-Some-ReceiverId-clause-gives c =
+    let is : c.self.inside.kind ≡ Some ReceiverId = search rules in
+    let was = sym (ap (λ (v : Begun). v.kind) c.self.view_is) ∙ is in
+    more_id c.args.self.now c.args.self.now c.args.byte was was
 
 pub returns-in-Some-Unknown-clause-gives : goal.returns-in-Some-Unknown-clause-gives
 returns-in-Some-Unknown-clause-gives c =

@@ -1,29 +1,28 @@
-use Rattle.std.proofs.Common.{◌∙◌, ap}
-use Rattle.sq_feed.specs.Finding.{Finds}
-use Rattle.sq_feed.proofs.Finds.{are_beast, are_few, beast_shown, sign_none, sign_some}
+use Rattle.std.proofs.Common.{◌∙◌, [], ap, ap₂, if◌then◌else◌}
+use Rattle.std.specs.Prelude.{◌==◌}
+use Rattle.sq_feed.specs.declared.signs.Sign.{Sign}
+use Rattle.sq_feed.specs.Finding.{Lines, byte_sign, lines_after, remembered}
+use Rattle.sq_feed.proofs.Finds.{beast_shown, signs_shown}
 use Rattle.sq_feed.proofs.finder.Finder.take_byte.Goals as goal
 
-pub returns-then-messages_in-ge-IN_TURN-clause-start : goal.returns-then-messages_in-ge-IN_TURN-clause-start
-returns-then-messages_in-ge-IN_TURN-clause-start c =
-    beast_shown c.args.self.now c.take_as_beast.new.self c.args.byte c.beast_items-items.result.items
-    c.take_as_beast.ensures.beast c.beast_items-items.ensures
-    (are_beast c.messages_in.result c.as_slice.result.now _ c.messages_in.ensures
-    (c.as_slice.ensures.value ∙ c.beast_items-items.ensures) c.if-messages_in-ge-IN_TURN.true)
+pub returns-then-messages-ge-IN_TURN-clause-shows : goal.returns-then-messages-ge-IN_TURN-clause-shows
+returns-then-messages-ge-IN_TURN-clause-shows c =
+    beast_shown c.args.self.now c.take_as_beast.new.self c.push-sign.new.self c.args.byte c.messages-messages.result
+    c.take_as_beast.ensures.beast c.messages-messages.ensures c.if-messages-ge-IN_TURN.true
 
-pub returns-clause-none : goal.returns-clause-none
-returns-clause-none c =
-    sign_none c.start_of.result c.take_as_text-sign.result c.args.self.now c.take_as_beast.new.self
-    c.take_as_text-sign.new.self c.args.byte c.take_as_beast.ensures.beast c.take_as_text-sign.ensures.beast.0
-    c.take_as_text-sign.ensures.beast.1 c.take_as_beast.ensures.text c.take_as_text-sign.ensures.text
-    (are_few c.messages_in.result c.as_slice.result.now _ c.messages_in.ensures
-    (c.as_slice.ensures.value ∙ c.beast_items-items.ensures) c.if-messages_in-ge-IN_TURN.false)
-    c.take_as_text-sign.ensures.sign c.start_of.ensures.none
-
-pub returns-clause-start : goal.returns-clause-start
-returns-clause-start c =
-    sign_some c.start_of.result c.take_as_text-sign.result c.self.inside.is_dirty c.args.self.now
-    c.take_as_beast.new.self c.args.byte c.take_as_beast.ensures.beast c.take_as_beast.ensures.text
-    (ap (λ (v : Finds). v.text.is_dirty) c.self.view_is ∙ ap (λ t. t.is_dirty) c.take_as_beast.ensures.text)
-    (are_few c.messages_in.result c.as_slice.result.now _ c.messages_in.ensures
-    (c.as_slice.ensures.value ∙ c.beast_items-items.ensures) c.if-messages_in-ge-IN_TURN.false)
-    c.take_as_text-sign.ensures.sign c.start_of.ensures.start
+pub returns-clause-shows : goal.returns-clause-shows
+returns-clause-shows c =
+    signs_shown c.args.self.now c.take_as_beast.new.self c.end_byte.new.self c.args.byte c.messages-messages.result
+    c.push-sign.result c.limit_sign.result c.first_shown.result c.take_as_beast.ensures.beast
+    c.messages-messages.ensures c.if-messages-ge-IN_TURN.false
+    (c.end_byte.ensures.beast.0 ∙ c.push-sign.ensures.beast.0)
+    (c.end_byte.ensures.beast.1 ∙ c.push-sign.ensures.beast.1)
+    (c.end_byte.ensures.text
+    ∙ ap₂ (λ (t : Lines) (s : Sign). record t {
+      line = if c.args.byte == 10 then [] else t.line;
+      stranger = remembered t.stranger s;
+    }) c.push-sign.ensures.text c.push-sign.ensures.sign
+    ∙ ap (λ (t : Lines). lines_after t c.args.byte) c.take_as_beast.ensures.text.0)
+    c.end_byte.ensures.count
+    (c.push-sign.ensures.sign ∙ ap (λ t. byte_sign t c.args.byte) c.take_as_beast.ensures.text.0)
+    c.limit_sign.ensures c.first_shown.ensures

@@ -1,24 +1,35 @@
-use Rattle.std.proofs.Common.{ap, refl, subst, take}
-use Rattle.std.specs.Prelude.{IfSome, Option}
-use Rattle.sq_feed.specs.declared.finder.Start.{Start}
-use Rattle.sq_feed.specs.declared.reader.Stage.TheVariants.{Giving}
-use Rattle.sq_feed.specs.Finding.{Finds, finds_to_come, fresh}
-use Rattle.sq_feed.specs.Follows.{Follows}
+use Rattle.std.proofs.Common.{◌∙◌, ap, refl, sym, take}
+use Rattle.sq_feed.specs.declared.reader.Stage.TheVariants.{Over}
 use Rattle.sq_feed.specs.Readers.{Reads}
-use Rattle.sq_feed.proofs.Sourced.{finds_start}
+use Rattle.sq_feed.proofs.Sourced.{finds_format, finds_more, finds_other}
 use Rattle.sq_feed.proofs.reader.Reader.find.Goals as goal
 
-pub returns-in-Some-clause-follows : goal.returns-in-Some-clause-follows
-returns-in-Some-clause-follows c =
-    let piece = take c.take-count.result.0 c.args.piece.now in
-    finds_start c.args.self.now (record {
+pub returns-in-Unclear-clause-follows : goal.returns-in-Unclear-clause-follows
+returns-in-Unclear-clause-follows c =
+    finds_more c.args.self.now _ c.self.inside.finder (take c.take-count.result.0 c.args.piece.now)
+    c.take-count.result.1 c.requires (ap (λ (v : Reads). v.stage) c.self.view_is ∙ c.requires)
+    (sym (ap (λ (v : Reads). v.finder) c.self.view_is)) c.in-Unclear.is c.take-count.ensures.shows
+    c.take-count.ensures.held
+
+pub returns-in-Shows-clause-follows : goal.returns-in-Shows-clause-follows
+returns-in-Shows-clause-follows c =
+    finds_format c.args.self.now c.read_again.new.self c.self.inside.finder c.take-count.new.self
+    (take c.take-count.result.0 c.args.piece.now)
+    c.take-count.result.1 c.in-Shows.format c.requires (ap (λ (v : Reads). v.stage) c.read_again.ensures)
+    (ap (λ (v : Reads). v.at) c.read_again.ensures) (ap (λ (v : Reads). v.machine) c.read_again.ensures)
+    (ap (λ (v : Reads). v.finder) c.read_again.ensures)
+    (sym (ap (λ (v : Reads). v.finder) c.self.view_is)) c.in-Shows.is c.take-count.ensures.shows
+    c.take-count.ensures.held
+
+pub returns-in-Other-clause-follows : goal.returns-in-Other-clause-follows
+returns-in-Other-clause-follows c =
+    finds_other c.args.self.now (record {
       asked = c.self.inside.asked;
-      stage = Giving c.in-Some.start.next;
+      stage = Over;
       finder = c.take-count.new.self;
-      pending = c.in-Some.start.items.items;
+      at = c.self.inside.at;
       machine = c.self.inside.machine;
-    }) c.in-Some.start.items.items c.in-Some.start.next piece c.requires refl refl
-    (subst (λ (f : Finds). Follows (finds_to_come f) piece c.in-Some.start.items.items (fresh c.in-Some.start.next))
-    (ap (λ (v : Reads). v.finder) c.self.view_is)
-    (subst (λ (o : Option Start). IfSome o (λ start. Follows (finds_to_come c.self.inside.finder) piece
-    start.items.items (fresh start.next))) c.in-Some.is c.take-count.ensures.start))
+    }) c.self.inside.finder c.take-count.new.self
+    (take c.take-count.result.0 c.args.piece.now)
+    c.take-count.result.1 c.in-Other.stranger c.requires refl
+    (sym (ap (λ (v : Reads). v.finder) c.self.view_is)) c.in-Other.is c.take-count.ensures.shows

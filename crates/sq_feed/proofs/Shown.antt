@@ -1,0 +1,255 @@
+-- What is sent in a format is found in that format.
+use Rattle.std.proofs.Common.{◌≡◌, ◌≢◌, ◌+◌, ◌*◌, ◌<◌, ◌≤◌, ◌++◌, ◌∙◌, ℕ, Bool, true, false, List, [], ◌∷◌, length, map, take, drop, refl, sym, ap, ap₂, arith, subst}
+use Rattle.std.proofs.Common.{append_assoc, append-nil, length-append}
+use Rattle.std.proofs.lemmas.Bool.{eq-eqb, eqb-true, false≢true, ne_eqb, true≢false}
+use Rattle.std.specs.List.{AllByRecursion, flat_map}
+use Rattle.std.specs.Prelude.{◌==◌, ◌&&◌, Option, Some, None, bytes_eq, if◌then◌else◌, slice_index}
+use Rattle.sq_feed.specs.declared.avr.Mark.{Mark}
+use Rattle.sq_feed.specs.declared.avr.Mark.TheVariants.{Plain as PlainMark, Clocked, Signalled}
+use Rattle.sq_feed.specs.declared.machine.Format.{Format}
+use Rattle.sq_feed.specs.declared.machine.Format.TheVariants.{Avr, Beast}
+use Rattle.sq_feed.specs.declared.message.Found.{Found}
+use Rattle.sq_feed.specs.declared.message.Kind.TheVariants.{Message, Status, ReceiverId, Unknown}
+use Rattle.sq_feed.specs.declared.message.Size.{Size}
+use Rattle.sq_feed.specs.declared.message.Size.TheVariants.{TwoBytes, SevenBytes, FourteenBytes}
+use Rattle.sq_feed.specs.declared.message.Stranger.{Stranger}
+use Rattle.sq_feed.specs.declared.message.Stranger.TheVariants.{Packed, Tar, Utf16}
+use Rattle.sq_feed.specs.declared.signs.Sign.{Sign}
+use Rattle.sq_feed.specs.declared.signs.Sign.TheVariants.{Unclear, Shows, Other}
+use Rattle.sq_feed.specs.Avr.{AreHex, AvrSent, IsSent, avr_found, is_hex, lead, mark_of, sent_text}
+use Rattle.sq_feed.specs.Begun.{type_byte}
+use Rattle.sq_feed.specs.Finding.{Lines, any_found, byte_sign, first_shown, in_turn, is_beast, is_known}
+use Rattle.sq_feed.specs.Finding.{is_packed, is_tar, is_utf16, items_shown, line_sign, lines_after, marked_sign, named, shown_by}
+use Rattle.sq_feed.specs.Finding.{sign_by_mark, sign_of_item, sign_of_word, sign_within, start_sign}
+use Rattle.sq_feed.specs.Kinds.{frame_len, kind_of}
+use Rattle.sq_feed.specs.Laws.{sent_bytes}
+use Rattle.sq_feed.specs.Shown.{BeastIsShown, LineIsShown, SentBeastIsShown, SentTextIsShown}
+use Rattle.sq_feed.specs.Stream.{Byte, Symbol, doubled, escape, found_in, found_of, stray, symbols_from}
+use Rattle.sq_feed.proofs.Finds.{shown_by-same}
+use Rattle.sq_feed.proofs.Readings.{no_start, run_bytes}
+use Rattle.sq_feed.proofs.AvrLemmas.{written_item}
+use Rattle.sq_feed.proofs.Lawful.{sent_is_found}
+
+-- ---- Beast
+
+-- the type bytes that are known
+by_kind : (P : ℕ → Type 0) (kind : ℕ) → is_known (kind_of kind) ≡ true → P 49 → P 50 → P 51 → P 52 → P 0xE3 → P kind
+by_kind P kind known p q r s i =
+    at (kind == 49) (kind == 50) (kind == 51) (kind == 52) (kind == 0xE3) refl refl refl refl refl known
+  where
+    at : (a b c d e : Bool) → (kind == 49) ≡ a → (kind == 50) ≡ b → (kind == 51) ≡ c → (kind == 52) ≡ d
+        → (kind == 0xE3) ≡ e
+        → is_known (if a then Message TwoBytes else (if b then Message SevenBytes
+        else (if c then Message FourteenBytes else (if d then Status else (if e then ReceiverId else Unknown)))))
+        ≡ true → P kind
+    at true b c d e is _ _ _ _ _ = subst P (sym (eqb-true kind 49 is)) p
+    at false true c d e _ is _ _ _ _ = subst P (sym (eqb-true kind 50 is)) q
+    at false false true d e _ _ is _ _ _ = subst P (sym (eqb-true kind 51 is)) r
+    at false false false true e _ _ _ is _ _ = subst P (sym (eqb-true kind 52 is)) s
+    at false false false false true _ _ _ _ is _ = subst P (sym (eqb-true kind 0xE3 is)) i
+    at false false false false false _ _ _ _ _ none = absurd (false≢true none)
+
+pub beast_is_shown : BeastIsShown
+unfolding start_sign
+beast_is_shown kind more known =
+    by_kind (λ k. any_found (escape ∷ k ∷ more) ≡ found_in (escape ∷ k ∷ more)) kind known refl refl refl refl refl
+
+known_type : (size : Size) → is_known (kind_of (type_byte size)) ≡ true
+known_type TwoBytes = refl
+known_type SevenBytes = refl
+known_type FourteenBytes = refl
+
+pub sent_beast_is_shown : SentBeastIsShown
+sent_beast_is_shown first later sent =
+    beast_is_shown (type_byte first.size) (flat_map doubled first.bytes ++ flat_map sent_bytes later)
+    (known_type first.size)
+    ∙ sent_is_found (first ∷ later) sent
+
+-- ---- text without an escape
+
+abbrev Plain : List ℕ → Type 0
+Plain bytes = AllByRecursion (λ byte. byte ≢ escape) bytes
+
+plain_symbols : (bytes : List ℕ) → Plain bytes → symbols_from false bytes ≡ map Byte bytes
+plain_symbols [] plain = refl
+plain_symbols (byte ∷ bytes) (is, plain) =
+    ap (λ (t : Bool). (if t then [] else Byte byte ∷ []) ++ symbols_from t bytes) (ne_eqb byte escape is)
+    ∙ ap (λ (s : List Symbol). Byte byte ∷ s) (plain_symbols bytes plain)
+
+-- no message is in such bytes
+no_message : (bytes : List ℕ) → Plain bytes → in_turn 0 (found_in bytes) ≡ 0
+no_message bytes plain =
+    ap (λ (s : List Symbol). in_turn 0 (found_of s)) (plain_symbols bytes plain ∙ sym (append-nil (map Byte bytes)))
+    ∙ ap₂ (λ l (found : List Found). in_turn 0 (stray l ++ found)) (run_bytes bytes []) (no_start bytes [])
+    ∙ none (bytes ++ [])
+  where
+    none : (l : List ℕ) → in_turn 0 (stray l ++ []) ≡ 0
+    none [] = refl
+    none (b ∷ l) = refl
+
+plain_both : (xs ys : List ℕ) → Plain xs → Plain ys → Plain (xs ++ ys)
+plain_both [] ys a b = b
+plain_both (x ∷ xs) ys (is, a) b = (is, plain_both xs ys a b)
+
+-- the first bytes of a text show no format
+starts_nothing : (start : List ℕ) (rest : Sign) → slice_index start 0 ≢ escape
+    → first_shown (start_sign start) rest ≡ rest
+unfolding start_sign
+starts_nothing start rest other =
+    by (length start == 2) (slice_index start 0 == escape) (ne_eqb _ escape other) (is_packed start)
+    (is_utf16 start) (is_tar start)
+  where
+    by : (a b : Bool) → b ≡ false → (packed utf tar : Bool)
+        → first_shown (if a && b && is_known (kind_of (slice_index start 1)) then Shows Beast
+        else (if packed then Other Packed else (if utf then Other Utf16 else (if tar then Other Tar
+        else Unclear)))) rest ≡ rest
+    by true true e packed utf tar = absurd (true≢false e)
+    by true false e true utf tar = refl
+    by true false e false true tar = refl
+    by true false e false false true = refl
+    by true false e false false false = refl
+    by false b e true utf tar = refl
+    by false b e false true tar = refl
+    by false b e false false true = refl
+    by false b e false false false = refl
+
+-- two readings of the bytes to come show the same if they agree
+abbrev Text : List ℕ → Option Stranger → Lines
+Text line stranger = record { line = line; count = length line; stranger = stranger }
+
+-- a byte of the first line that shows nothing
+quiet_byte : (line : List ℕ) (byte : ℕ) (stranger : Option Stranger) (rest : Sign) → byte ≢ 10
+    → (byte ≡ 59 → marked_sign line ≡ Unclear) → slice_index (line ++ byte ∷ []) 0 ≢ escape
+    → first_shown (byte_sign (Text line stranger) byte) rest ≡ rest
+quiet_byte line byte stranger rest other unmarked first =
+    ap (λ (t : Bool). first_shown (if t then line_sign line else (if byte == 59 then marked_sign line
+    else (if length line == length line then start_sign (line ++ byte ∷ []) else Unclear))) rest) (ne_eqb byte 10 other)
+    ∙ by (byte == 59) refl
+  where
+    by : (t : Bool) → (byte == 59) ≡ t → first_shown (if t then marked_sign line
+        else (if length line == length line then start_sign (line ++ byte ∷ []) else Unclear)) rest ≡ rest
+    by true is = ap (λ (s : Sign). first_shown s rest) (unmarked (eqb-true byte 59 is))
+    by false is =
+        ap (λ (t : Bool). first_shown (if t then start_sign (line ++ byte ∷ []) else Unclear) rest)
+        (eq-eqb (length line) (length line) refl)
+        ∙ starts_nothing (line ++ byte ∷ []) rest first
+
+first_of : (line : List ℕ) (byte : ℕ) → Plain line → byte ≢ escape → slice_index (line ++ byte ∷ []) 0 ≢ escape
+first_of [] byte plain other = other
+first_of (x ∷ line) byte (is, plain) other = is
+
+-- what a source shows whose first line shows its format at this byte
+shown_at : (line front more : List ℕ) (byte : ℕ) (stranger : Option Stranger) (format : Format)
+    → length line + length front < 16383 → Plain (line ++ front) → byte ≢ escape
+    → AllByRecursion (λ b. b ≢ 10) front
+    → ((before back : List ℕ) → front ≡ before ++ 59 ∷ back → marked_sign (line ++ before) ≡ Unclear)
+    → ((s : Option Stranger) → byte_sign (Text (line ++ front) s) byte ≡ Shows format)
+    → shown_by (λ q. in_turn 0 (found_in (line ++ q))) (Text line stranger) (front ++ byte ∷ more) ≡ Shows format
+shown_at line [] more byte stranger format few plain other lines unmarked shows =
+    let all : Plain (line ++ byte ∷ []) =
+    plain_both line (byte ∷ []) (subst Plain (append-nil line) plain) (other, tt) in
+    ap (λ n. if is_beast n then Shows Beast
+    else first_shown (byte_sign (Text line stranger) byte) (sign_within (lines_after (Text line stranger) byte)
+    (shown_by (λ q. in_turn 0 (found_in (line ++ byte ∷ q))) (lines_after (Text line stranger) byte) more)))
+    (no_message (line ++ byte ∷ []) all)
+    ∙ ap (λ (s : Sign). first_shown s (sign_within (lines_after (Text line stranger) byte)
+    (shown_by (λ q. in_turn 0 (found_in (line ++ byte ∷ q))) (lines_after (Text line stranger) byte) more)))
+    (ap (λ l. byte_sign (Text l stranger) byte) (sym (append-nil line)) ∙ shows stranger)
+shown_at line (x ∷ front) more byte stranger format few plain other (is, lines) unmarked shows =
+    let onward : (line ++ x ∷ []) ++ front ≡ line ++ x ∷ front = append_assoc line (x ∷ []) front in
+    let parts = plain_parts line (x ∷ front) plain in
+    let all : Plain (line ++ x ∷ []) = plain_both line (x ∷ []) parts.0 (parts.1.0, tt) in
+    let after = lines_after (Text line stranger) x in
+    let size : length (line ++ x ∷ []) ≡ length line + 1 = length-append line (x ∷ []) in
+    ap (λ n. if is_beast n then Shows Beast
+    else first_shown (byte_sign (Text line stranger) x) (sign_within after
+    (shown_by (λ q. in_turn 0 (found_in (line ++ x ∷ q))) after (front ++ byte ∷ more))))
+    (no_message (line ++ x ∷ []) all)
+    ∙ quiet_byte line x stranger _ is (λ e. subst (λ l. marked_sign l ≡ Unclear) (append-nil line)
+    (unmarked [] front (ap (λ b. b ∷ front) e))) (first_of line x parts.0 parts.1.0)
+    ∙ ap (λ (t : Bool). if t then Other (named after.stranger)
+    else shown_by (λ q. in_turn 0 (found_in (line ++ x ∷ q))) after (front ++ byte ∷ more))
+    (ne_eqb (length line + 1) 16384 (λ e. absurd (omega (arith, e, few))))
+    ∙ ap₂ (λ l n. shown_by (λ q. in_turn 0 (found_in (line ++ x ∷ q)))
+    (record { line = l; count = n; stranger = after.stranger }) (front ++ byte ∷ more))
+    (ap (λ (t : Bool). if t then [] else line ++ x ∷ []) (ne_eqb x 10 is)) (sym size)
+    ∙ shown_by-same (λ q. in_turn 0 (found_in (line ++ x ∷ q))) (λ q. in_turn 0 (found_in ((line ++ x ∷ []) ++ q)))
+    (Text (line ++ x ∷ []) after.stranger) (front ++ byte ∷ more)
+    (λ q. ap (λ l. in_turn 0 (found_in l)) (sym (append_assoc line (x ∷ []) q)))
+    ∙ shown_at (line ++ x ∷ []) front more byte after.stranger format (omega (arith, few, size))
+    (subst Plain (sym onward) plain) other lines
+    (λ before back split. subst (λ l. marked_sign l ≡ Unclear) (sym (append_assoc line (x ∷ []) before))
+    (unmarked (x ∷ before) back (ap (λ l. x ∷ l) split)))
+    (λ s. subst (λ l. byte_sign (Text l s) byte ≡ Shows format) (sym onward) (shows s))
+  where
+    plain_parts : (xs ys : List ℕ) → Plain (xs ++ ys) → Plain xs × Plain ys
+    plain_parts [] ys all = (tt, all)
+    plain_parts (y ∷ xs) ys (one, all) = let rest = plain_parts xs ys all in ((one, rest.0), rest.1)
+
+pub line_is_shown : LineIsShown
+line_is_shown line more format text sign =
+    ap (λ (s : Sign). items_shown s (line ++ 10 ∷ more))
+    (shown_at [] line more 10 None format (omega (arith, text.short)) text.plain (λ e. absurd (omega (arith, e)))
+    text.one_line text.unmarked (λ s. sign))
+
+-- ---- a marked frame
+
+-- a mark is none of these bytes
+unlike : (byte other : ℕ) (mark : Mark) → mark_of byte ≡ Some mark → mark_of other ≡ None → byte ≢ other
+unlike byte other mark is none e = let both : Some mark ≡ None = sym is ∙ ap mark_of e ∙ none in cc
+
+hex_unlike : (byte other : ℕ) → is_hex byte ≡ true → is_hex other ≡ false → byte ≢ other
+hex_unlike byte other hex none e = let both : true ≡ false = sym hex ∙ ap is_hex e ∙ none in cc
+
+each_unlike : (digits : List ℕ) (other : ℕ) → AreHex digits → is_hex other ≡ false
+    → AllByRecursion (λ byte. byte ≢ other) digits
+each_unlike [] other hex none = tt
+each_unlike (d ∷ digits) other (is, hex) none = (hex_unlike d other is none, each_unlike digits other hex none)
+
+-- a byte that does not occur in a text
+occurs_not : (text before back : List ℕ) (byte : ℕ) → AllByRecursion (λ b. b ≢ byte) text
+    → text ≢ before ++ byte ∷ back
+occurs_not [] [] back byte all = λ e. absurd (cc e)
+occurs_not [] (b ∷ before) back byte all = λ e. absurd (cc e)
+occurs_not (x ∷ text) [] back byte (is, all) = λ e. is (ap (λ l. slice_index l 0) e)
+occurs_not (x ∷ text) (b ∷ before) back byte (is, all) = λ e. occurs_not text before back byte all (ap (drop 1) e)
+
+few_digits : (mark : Mark) (size : Size) → 2 * (lead mark + frame_len size) ≤ 42
+few_digits PlainMark TwoBytes = omega arith
+few_digits PlainMark SevenBytes = omega arith
+few_digits PlainMark FourteenBytes = omega arith
+few_digits Clocked TwoBytes = omega arith
+few_digits Clocked SevenBytes = omega arith
+few_digits Clocked FourteenBytes = omega arith
+few_digits Signalled TwoBytes = omega arith
+few_digits Signalled SevenBytes = omega arith
+few_digits Signalled FourteenBytes = omega arith
+
+-- the sign of a marked frame at its semicolon
+marked_is_shown : (sent : AvrSent) → IsSent sent → marked_sign (sent.first ∷ sent.digits) ≡ Shows Avr
+marked_is_shown sent is =
+    ap (λ (t : Bool). sign_of_word (if t && bytes_eq (take 2 sent.digits) (0xBB ∷ 0xBF ∷ [])
+    then drop 3 (sent.first ∷ sent.digits) else sent.first ∷ sent.digits))
+    (ne_eqb sent.first 0xEF (unlike sent.first 0xEF sent.mark is.is_mark refl))
+    ∙ ap (λ m. sign_by_mark m sent.digits) is.is_mark
+    ∙ ap sign_of_item (written_item sent.mark sent.size sent.digits is.hex is.full)
+
+pub sent_text_is_shown : SentTextIsShown
+sent_text_is_shown sent more is =
+    let word = sent.first ∷ sent.digits in
+    let semicolons : AllByRecursion (λ byte. byte ≢ 59) word = (
+      unlike sent.first 59 sent.mark is.is_mark refl,
+      each_unlike sent.digits 59 is.hex refl,
+    ) in
+    let shape : sent_text sent ++ more ≡ word ++ 59 ∷ more =
+    ap (λ l. sent.first ∷ l) (append_assoc sent.digits (59 ∷ []) more) in
+    ap any_found shape
+    ∙ ap (λ (s : Sign). items_shown s (word ++ 59 ∷ more))
+    (shown_at [] word more 59 None Avr
+    (omega (arith, is.full, few_digits sent.mark sent.size))
+    (unlike sent.first escape sent.mark is.is_mark refl, each_unlike sent.digits escape is.hex refl)
+    (λ e. absurd (omega (arith, e)))
+    (unlike sent.first 10 sent.mark is.is_mark refl, each_unlike sent.digits 10 is.hex refl)
+    (λ before back split. absurd (occurs_not word before back 59 semicolons split))
+    (λ s. marked_is_shown sent is))
+    ∙ ap avr_found (sym shape)

@@ -1,0 +1,14 @@
+use Rattle.sq_feed.proofs.Shown.{beast_is_shown, line_is_shown, sent_beast_is_shown, sent_text_is_shown}
+use Rattle.sq_feed.proofs.laws.sent_is_shown.Goals as goal
+
+pub returns-clause-start : goal.returns-clause-start
+returns-clause-start c = beast_is_shown
+
+pub returns-clause-beast : goal.returns-clause-beast
+returns-clause-beast c = sent_beast_is_shown
+
+pub returns-clause-text : goal.returns-clause-text
+returns-clause-text c = sent_text_is_shown
+
+pub returns-clause-line : goal.returns-clause-line
+returns-clause-line c = line_is_shown
